@@ -1,0 +1,176 @@
+-- Sets of atoms: what a set of a list contains, and its members in order.
+use Rattle.std.proofs.Common.{◌≡◌, ℕ, Bool, true, false, cond, not, ◌&&◌, ◌||◌, List, [], ◌∷◌, ◌++◌, map, length, refl, sym, ap, ◌∙◌, is_some, arith, Option, Some, None, suc, zero, slice_get, ◌≤◌}
+use Rattle.std.specs.List.{list_any, AllByRecursion}
+use Rattle.std.specs.List.Sorted.{IsStrictlySortedBy}
+use Rattle.std.specs.Ordering.{ordering_then, eq_by_cmp}
+use Rattle.std.specs.Cmp.{IsTotalOrder, then_total, on_total, nat_cmp_total, eq_by_cmp_equiv}
+use Rattle.std.specs.Cmp.Lexicographic.{nat_list_cmp_total}
+use Rattle.std.specs.FinMap as finite
+use Rattle.std.specs.FinMap.{IsAntisymmetric, nat_cmp-IsAntisymmetric, slice_cmp-IsAntisymmetric}
+use Rattle.std.specs.declared.cmp.Ordering.{Ordering}
+use Rattle.std.specs.declared.cmp.Ordering.TheVariants.{Less, Equal, Greater}
+use Rattle.task_model.specs.AtomOrder.{atom_cmp}
+use Rattle.task_model.specs.State.{Atoms, empty, contains, insert, remove, len, items, from_list, with_atoms, without_atoms}
+use Rattle.task_model.specs.declared.fact.Atom.{Atom}
+
+pub atoms_total : IsTotalOrder atom_cmp
+atoms_total = then_total (on_total (λ (a : Atom). a.pred) nat_cmp_total) (on_total (λ (a : Atom). a.args) nat_list_cmp_total)
+
+both_equal : (r s : Ordering) → ordering_then r s ≡ Equal → (r ≡ Equal) × (s ≡ Equal)
+both_equal Less s e = absurd (cc)
+both_equal Equal s e = (refl, e)
+both_equal Greater s e = absurd (cc)
+
+pub atoms_tied : IsAntisymmetric atom_cmp
+atoms_tied a b e =
+    let parts = both_equal _ _ e in
+    λ i. record { pred = nat_cmp-IsAntisymmetric a.pred b.pred parts.0 i; args = slice_cmp-IsAntisymmetric nat_cmp-IsAntisymmetric a.args b.args parts.1 i }
+
+-- ---- members
+
+pub contains-empty : (q : Atom) → contains empty q ≡ false
+contains-empty q = ap is_some (finite.get-empty atom_cmp q)
+
+or_else : (b : Bool) (x : Option (Unit {0})) → is_some (cond b (Some tt) x) ≡ (b || is_some x)
+or_else true x = refl
+or_else false x = refl
+
+unless : (b : Bool) (x : Option (Unit {0})) → is_some (cond b None x) ≡ (not b && is_some x)
+unless true x = refl
+unless false x = refl
+
+abbrev mark : Bool → Option (Unit {0})
+mark true = Some tt
+mark false = None
+
+marked : (x : Option (Unit {0})) → x ≡ mark (is_some x)
+marked None = refl
+marked (Some u) = refl
+
+pub contains-insert : (s : Atoms) (k q : Atom) → contains (insert s k) q ≡ (eq_by_cmp atom_cmp q k || contains s q)
+contains-insert s k q = ap is_some (finite.get-insert atoms_total s k tt q) ∙ or_else _ _
+
+pub contains-remove : (s : Atoms) (k q : Atom) → contains (remove s k) q ≡ (not (eq_by_cmp atom_cmp q k) && contains s q)
+contains-remove s k q = ap is_some (finite.get-remove atoms_total s k q) ∙ unless _ _
+
+pub contains-from_list : (ks : List Atom) (q : Atom) → contains (from_list ks) q ≡ list_any (eq_by_cmp atom_cmp q) ks
+contains-from_list [] q = contains-empty q
+contains-from_list (k ∷ ks) q = contains-insert (from_list ks) k q ∙ ap (λ b. eq_by_cmp atom_cmp q k || b) (contains-from_list ks q)
+
+-- two sets with the same members are equal
+pub same_atoms : (s t : Atoms) → ((q : Atom) → contains s q ≡ contains t q) → s ≡ t
+same_atoms s t same = finite.same_map atoms_total atoms_tied s t (λ q. marked _ ∙ ap mark (same q) ∙ sym (marked _))
+
+turn : (k q : Atom) → eq_by_cmp atom_cmp k q ≡ eq_by_cmp atom_cmp q k
+turn k q = (eq_by_cmp_equiv atoms_total).symm k q
+
+cond_or : (b x : Bool) → cond b true x ≡ (b || x)
+cond_or true x = refl
+cond_or false x = refl
+
+cond_and : (b x : Bool) → cond b false x ≡ (not b && x)
+cond_and true x = refl
+cond_and false x = refl
+
+-- a list that gains an atom is the set with that atom
+pub set_inserted : (old new : List Atom) (k : Atom) → ((q : Atom) → list_any (eq_by_cmp atom_cmp q) new ≡ cond (eq_by_cmp atom_cmp k q) true (list_any (eq_by_cmp atom_cmp q) old)) → from_list new ≡ insert (from_list old) k
+set_inserted old new k gains =
+    same_atoms (from_list new) (insert (from_list old) k) (λ q.
+    contains-from_list new q ∙ gains q ∙ cond_or (eq_by_cmp atom_cmp k q) (list_any (eq_by_cmp atom_cmp q) old) ∙ (λ i. turn k q i || sym (contains-from_list old q) i) ∙ sym (contains-insert (from_list old) k q))
+
+-- a list that loses an atom is the set without that atom
+pub set_removed : (old new : List Atom) (k : Atom) → ((q : Atom) → list_any (eq_by_cmp atom_cmp q) new ≡ cond (eq_by_cmp atom_cmp k q) false (list_any (eq_by_cmp atom_cmp q) old)) → from_list new ≡ remove (from_list old) k
+set_removed old new k loses =
+    same_atoms (from_list new) (remove (from_list old) k) (λ q.
+    contains-from_list new q ∙ loses q ∙ cond_and (eq_by_cmp atom_cmp k q) (list_any (eq_by_cmp atom_cmp q) old) ∙ (λ i. not (turn k q i) && sym (contains-from_list old q) i) ∙ sym (contains-remove (from_list old) k q))
+
+-- ---- members in order
+
+abbrev pair : Atom → Atom × Unit {0}
+pair a = (a, tt)
+
+put_first : (k : Atom) (es : List Atom) → AllByRecursion (λ q. atom_cmp k q ≡ Less) es → finite.put atom_cmp k tt (map pair es) ≡ map pair (k ∷ es)
+put_first k [] below = refl
+put_first k (e ∷ es) below = rw below.0
+
+pub entries-from_list : (ks : List Atom) → IsStrictlySortedBy atom_cmp ks → finite.entries (from_list ks) ≡ map pair ks
+unfolding IsStrictlySortedBy
+entries-from_list [] sorted = empty_entries
+  where
+    empty_entries : finite.entries empty ≡ []
+    empty_entries = none_of_len _ (sym (finite.len-entries empty) ∙ finite.len-empty atom_cmp (Unit {0}))
+      where
+        none_of_len : {A : Type 0} (xs : List A) → length xs ≡ 0 → xs ≡ []
+        none_of_len [] e = refl
+        none_of_len (x ∷ xs) e = absurd (omega arith)
+entries-from_list (k ∷ ks) sorted = finite.entries-insert atoms_total (from_list ks) k tt ∙ ap (finite.put atom_cmp k tt) (entries-from_list ks sorted.1) ∙ put_first k ks sorted.0
+
+firsts : (ks : List Atom) → map (λ (e : Atom × Unit {0}). e.0) (map pair ks) ≡ ks
+firsts [] = refl
+firsts (k ∷ ks) = ap (λ xs. k ∷ xs) (firsts ks)
+
+pairs_length : (ks : List Atom) → length (map pair ks) ≡ length ks
+pairs_length [] = refl
+pairs_length (k ∷ ks) = ap suc (pairs_length ks)
+
+pub items-from_list : (ks : List Atom) → IsStrictlySortedBy atom_cmp ks → items (from_list ks) ≡ ks
+items-from_list ks sorted = ap (map (λ e. e.0)) (entries-from_list ks sorted) ∙ firsts ks
+
+pub len-from_list : (ks : List Atom) → IsStrictlySortedBy atom_cmp ks → len (from_list ks) ≡ length ks
+len-from_list ks sorted = finite.len-entries (from_list ks) ∙ ap length (entries-from_list ks sorted) ∙ pairs_length ks
+
+-- where a list has nothing, it has ended
+pub missing_past_end : {A : Type 0} (xs : List A) (i : ℕ) → slice_get xs i ≡ None → length xs ≤ i
+missing_past_end [] i e = omega arith
+missing_past_end (x ∷ xs) zero e = absurd (cc)
+missing_past_end (x ∷ xs) (suc i) e = omega (arith, missing_past_end xs i e)
+
+-- ---- one atom after another
+
+pub with_atoms-push : (s : Atoms) (ks : List Atom) (k : Atom) → with_atoms s (ks ++ k ∷ []) ≡ insert (with_atoms s ks) k
+with_atoms-push s [] k = refl
+with_atoms-push s (x ∷ ks) k = with_atoms-push (insert s x) ks k
+
+or_swap : (a b c : Bool) → (a || (b || c)) ≡ (b || (a || c))
+or_swap true true c = refl
+or_swap true false c = refl
+or_swap false b c = refl
+
+pub contains-with_atoms : (s : Atoms) (ks : List Atom) (q : Atom) → contains (with_atoms s ks) q ≡ (list_any (eq_by_cmp atom_cmp q) ks || contains s q)
+contains-with_atoms s [] q = refl
+contains-with_atoms s (k ∷ ks) q =
+    contains-with_atoms (insert s k) ks q ∙ ap (λ b. list_any (eq_by_cmp atom_cmp q) ks || b) (contains-insert s k q)
+    ∙ or_swap (list_any (eq_by_cmp atom_cmp q) ks) (eq_by_cmp atom_cmp q k) (contains s q) ∙ or_assoc (eq_by_cmp atom_cmp q k) (list_any (eq_by_cmp atom_cmp q) ks) (contains s q)
+  where
+    or_assoc : (a b c : Bool) → (a || (b || c)) ≡ ((a || b) || c)
+    or_assoc true b c = refl
+    or_assoc false b c = refl
+
+or-false : (a : Bool) → (a || false) ≡ a
+or-false true = refl
+or-false false = refl
+
+-- the set of a list, put together from its front
+pub with_atoms-empty : (ks : List Atom) → with_atoms empty ks ≡ from_list ks
+with_atoms-empty ks =
+    same_atoms (with_atoms empty ks) (from_list ks) (λ q.
+    contains-with_atoms empty ks q ∙ ap (λ b. list_any (eq_by_cmp atom_cmp q) ks || b) (contains-empty q) ∙ or-false _ ∙ sym (contains-from_list ks q))
+
+pub map-push : {A B : Type 0} (f : A → B) (xs : List A) (x : A) → map f (xs ++ x ∷ []) ≡ map f xs ++ f x ∷ []
+map-push f [] x = refl
+map-push f (y ∷ ys) x = ap (λ zs. f y ∷ zs) (map-push f ys x)
+
+not_or : (a b c : Bool) → (not b && (not a && c)) ≡ (not (a || b) && c)
+not_or true true c = refl
+not_or true false c = refl
+not_or false b c = refl
+
+pub contains-without_atoms : (s : Atoms) (ks : List Atom) (q : Atom) → contains (without_atoms s ks) q ≡ (not (list_any (eq_by_cmp atom_cmp q) ks) && contains s q)
+contains-without_atoms s [] q = refl
+contains-without_atoms s (k ∷ ks) q =
+    contains-without_atoms (remove s k) ks q ∙ ap (λ b. not (list_any (eq_by_cmp atom_cmp q) ks) && b) (contains-remove s k q)
+    ∙ not_or (eq_by_cmp atom_cmp q k) (list_any (eq_by_cmp atom_cmp q) ks) (contains s q)
+
+-- an atom is there afterwards where it is put in, or was there and isn't taken out
+pub contains-changed : (s : Atoms) (outs ins : List Atom) (q : Atom) → contains (with_atoms (without_atoms s outs) ins) q ≡ (list_any (eq_by_cmp atom_cmp q) ins || (not (list_any (eq_by_cmp atom_cmp q) outs) && contains s q))
+contains-changed s outs ins q = contains-with_atoms (without_atoms s outs) ins q ∙ ap (λ b. list_any (eq_by_cmp atom_cmp q) ins || b) (contains-without_atoms s outs q)

@@ -1,0 +1,5 @@
+pub mod Atoms
+pub mod Executions
+pub mod FactLists
+pub mod Members
+pub mod Slots

@@ -1,0 +1,5 @@
+use Rattle.task_model.proofs.Atoms.{contains-changed}
+use Rattle.task_model.proofs.laws.effects_are_exact.Goals as goal
+
+pub returns : goal.returns
+returns c = λ action args state q. contains-changed state _ _ q

@@ -1,0 +1,5 @@
+use Rattle.task_model.proofs.Executions.{execution_determined}
+use Rattle.task_model.proofs.laws.execution_is_determined.Goals as goal
+
+pub returns : goal.returns
+returns c = execution_determined

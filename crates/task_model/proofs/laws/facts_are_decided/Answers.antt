@@ -1,0 +1,5 @@
+use Rattle.task_model.proofs.FactLists.{fact_member}
+use Rattle.task_model.proofs.laws.facts_are_decided.Goals as goal
+
+pub returns : goal.returns
+returns c = fact_member

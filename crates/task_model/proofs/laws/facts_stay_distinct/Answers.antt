@@ -1,0 +1,5 @@
+use Rattle.task_model.proofs.FactLists.{with_facts-is}
+use Rattle.task_model.proofs.laws.facts_stay_distinct.Goals as goal
+
+pub returns : goal.returns
+returns c = with_facts-is
