@@ -1,0 +1,12 @@
+pub mod Lexed
+pub mod Words
+pub mod Rows
+pub mod Found
+pub mod Only
+pub mod Sizes
+pub mod Places
+pub mod Closing
+pub mod Stages
+pub mod Least
+pub mod Blamed
+pub mod Answered

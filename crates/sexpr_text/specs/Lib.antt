@@ -1,0 +1,9 @@
+pub mod Tokens
+pub mod Lexing
+pub mod Trees
+pub mod Spelling
+pub mod Reading
+pub mod Faults
+pub mod Front
+pub mod Scanning
+pub mod Nesting

@@ -1,0 +1,43 @@
+//! What a byte does in a text.
+ghost use Rattle.std.specs.Prelude.{◌≡◌};
+ghost use Rattle.sexpr_text.specs.Tokens as specs;
+
+/// What a byte outside comments does.
+#[derive(Clone, Copy, Debug, PartialEq, Eq)]
+pub enum Class {
+    /// White space: a tab, a line feed, a CR or a space.
+    Blank,
+    /// A `;`, which begins a comment.
+    Semicolon,
+    /// A `(`.
+    Left,
+    /// A `)`.
+    Right,
+    /// Any other byte of `!` to `~`, which belongs to a word.
+    Letter,
+    /// A byte that may not stand.
+    Bad,
+}
+
+/// What this byte does outside comments.
+#[tactic(auto, unfolding(crate::specs::Tokens::class_of))]
+pub fn class_of(byte: u8) -> Class
+    ensures { result ≡ specs.class_of byte }
+{
+    match byte {
+        b'\t' | b'\n' | b'\r' | b' ' => Class::Blank,
+        b';' => Class::Semicolon,
+        b'(' => Class::Left,
+        b')' => Class::Right,
+        b'!'..=b'~' => Class::Letter,
+        _ => Class::Bad,
+    }
+}
+
+/// The byte, and in place of `A` to `Z` the letter in lower case.
+#[tactic(auto, unfolding(crate::specs::Tokens::folded))]
+pub fn folded(byte: u8) -> u8
+    ensures { result ≡ specs.folded byte }
+{
+    byte.to_ascii_lowercase()
+}
