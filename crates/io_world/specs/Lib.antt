@@ -1,0 +1,12 @@
+pub mod Faults
+pub mod Plans
+pub mod FileMap
+pub mod Talks
+pub mod MemSinkState
+pub mod MemSourceState
+pub mod MemFilesState
+pub mod Calls
+pub mod Logs
+pub mod ScriptHostState
+pub mod Replies
+pub mod SureHostState

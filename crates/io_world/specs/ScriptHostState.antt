@@ -1,0 +1,81 @@
+-- What a host that plays scripts is seen as.
+use Rattle.std.specs.Prelude.{ℕ, Bool, true, false, not, ◌||◌, ◌==◌, List, [], ◌∷◌, length, take, drop, count_by, min, ◌+◌, ◌-◌, nat_lt, if◌then◌else◌, Option, slice_get, unwrap_or, Result, Ok, Err}
+use Rattle.io_world.specs.Faults.{last_call}
+use Rattle.io_world.specs.Logs.{Calls, said_of}
+use Rattle.io_world.specs.Plans.{Plan, fails_next, cut_or}
+use Rattle.io_world.specs.Talks.{Talk}
+use Rattle.io_world.specs.declared.progress.Progress.{Progress}
+
+-- the bytes that a child gives, the most that each read gives, and the needs: from a place on bytes
+-- are given only after so many line feeds were written to a child
+pub record Scripted : Type 0 where
+  pub bytes : List ℕ
+  pub cuts : List ℕ
+  pub needs : List (ℕ × ℕ × ℕ)
+
+pub record ScriptHostState : Type 0 where
+  pub scripts : List Scripted
+  pub progress : List Progress
+  pub calls : Calls
+  pub plan : Plan
+  pub faults : ℕ
+
+-- a child that wasn't started
+abbrev pub idle : Progress
+idle = record { running = false; position = 0; reads = 0; lines = 0 }
+
+-- a child that was just started
+abbrev pub begun : Progress
+begun = record { running = true; position = 0; reads = 0; lines = 0 }
+
+abbrev pub progress_of : List Progress → ℕ → Progress
+progress_of progress child = unwrap_or (slice_get progress child) idle
+
+abbrev pub no_script : Scripted
+no_script = record { bytes = []; cuts = []; needs = [] }
+
+abbrev pub script_of : List Scripted → ℕ → Scripted
+script_of scripts child = unwrap_or (slice_get scripts child) no_script
+
+-- the place before which bytes may be given, `end` or less: each need that isn't met lowers it
+abbrev pub open_to : List Progress → List (ℕ × ℕ × ℕ) → ℕ → ℕ
+open_to progress [] end = end
+open_to progress (need ∷ needs) end = open_to progress needs (if nat_lt (progress_of progress need.1).lines need.2 then min end need.0 else end)
+
+-- the bytes of a script from a position on, up to the first place that isn't open
+abbrev pub open_bytes : Scripted → List Progress → ℕ → List ℕ
+open_bytes script progress position = take (open_to progress script.needs (length script.bytes) - position) (drop position script.bytes)
+
+-- the bytes that the child may be heard to say now
+abbrev pub ready : ScriptHostState → ℕ → List ℕ
+ready host child = open_bytes (script_of host.scripts child) host.progress (progress_of host.progress child).position
+
+-- how many bytes the next read of the child gives, where it gives any
+abbrev pub most_given : ScriptHostState → ℕ → ℕ → ℕ
+most_given host child room = min (length (ready host child)) (min room (cut_or (script_of host.scripts child).cuts (progress_of host.progress child).reads room))
+
+abbrev pub is_running : ScriptHostState → ℕ → Bool
+is_running host child = (progress_of host.progress child).running
+
+abbrev pub talk_with : ScriptHostState → ℕ → Option Talk
+talk_with host child = said_of host.calls child
+
+-- the next start of this child fails
+abbrev pub start_fails : ScriptHostState → ℕ → Bool
+start_fails host child = fails_next host.plan || not (nat_lt child (length host.scripts))
+
+-- the next read of this child fails
+abbrev pub read_fails : ScriptHostState → ℕ → Bool
+read_fails host child = fails_next host.plan || (length (ready host child) == 0)
+
+-- a number that stops
+abbrev pub more : ℕ → ℕ → ℕ
+more n by = min (n + by) last_call
+
+-- how many bytes a read gave
+abbrev pub given_count : {E : Type 0} → Result ℕ E → ℕ
+given_count (Ok n) = n
+given_count (Err fault) = 0
+
+abbrev pub line_feeds : List ℕ → ℕ
+line_feeds bytes = count_by (λ byte. byte == 10) bytes

@@ -1,0 +1,4 @@
+// What the forms answer, on examples.
+mod children;
+mod devices;
+mod memory;
