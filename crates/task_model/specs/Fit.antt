@@ -186,13 +186,14 @@ is_fit_cost domain filled (Value func args) = is_fit_application domain.function
 abbrev pub are_fit_effects : Domain → List ℕ → List Pattern → Bool
 are_fit_effects domain filled patterns = are_fit_patterns domain (length domain.constants) filled patterns && list_all (λ (p : Pattern). not (is_derived_role (role_of domain p.pred))) patterns
 
+-- the slots of an action's parameters
+abbrev pub param_slots : Action → List ℕ
+param_slots a = numbers_from 0 (length a.params)
+
 abbrev pub is_fit_action : Domain → Action → Bool
 is_fit_action domain a =
-    are_fit_params domain a.params && is_fit_condition domain (length domain.constants) slots a.condition && are_fit_effects domain slots a.adds && are_fit_effects domain slots a.deletes
-    && nat_le (length a.costs) 262144 && list_all (is_fit_cost domain slots) a.costs
-  where
-    slots : List ℕ
-    slots = numbers_from 0 (length a.params)
+    are_fit_params domain a.params && is_fit_condition domain (length domain.constants) (param_slots a) a.condition && are_fit_effects domain (param_slots a) a.adds && are_fit_effects domain (param_slots a) a.deletes
+    && nat_le (length a.costs) 262144 && list_all (is_fit_cost domain (param_slots a)) a.costs
 
 pub record IsFitDomain (domain : Domain) : Type 0 where
   pub name : is_name domain.name ≡ true
@@ -209,12 +210,13 @@ pub record IsFitDomain (domain : Domain) : Type 0 where
 
 -- ---- problems
 
+abbrev pub is_predicate : Kind → Bool
+is_predicate Predicate = true
+is_predicate Sort = false
+
 abbrev pub is_fit_fact : Domain → ℕ → Fact → Bool
-is_fit_fact domain objects fact = of fact.kind && has_arity domain.predicates fact.name (length fact.args) && list_all (λ o. nat_lt o objects) fact.args && not (is_derived_role (role_of domain fact.name))
-  where
-    of : Kind → Bool
-    of Predicate = true
-    of Sort = false
+is_fit_fact domain objects fact =
+    is_predicate fact.kind && has_arity domain.predicates fact.name (length fact.args) && list_all (λ o. nat_lt o objects) fact.args && not (is_derived_role (role_of domain fact.name))
 
 abbrev pub is_fit_value : Domain → ℕ → Valued → Bool
 is_fit_value domain objects v = has_arity domain.functions v.func (length v.args) && list_all (λ o. nat_lt o objects) v.args && nat_le v.value 1000000

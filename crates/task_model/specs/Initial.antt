@@ -32,25 +32,25 @@ declared_types domain object (d ∷ ds) = flat_map (λ sort. type_facts domain s
 
 -- ---- atoms in `:init`
 
+abbrev pub is_static_by : Kind → Role → Bool
+is_static_by Predicate Static = true
+is_static_by Predicate Fluent = false
+is_static_by Predicate Derived = false
+is_static_by Sort role = false
+
 -- an atom of a static predicate
 abbrev pub is_static : Domain → Fact → Bool
-is_static domain fact = by fact.kind (role_of domain fact.name)
-  where
-    by : Kind → Role → Bool
-    by Predicate Static = true
-    by Predicate Fluent = false
-    by Predicate Derived = false
-    by Sort role = false
+is_static domain fact = is_static_by fact.kind (role_of domain fact.name)
+
+abbrev pub fluent_by : Fact → Kind → Role → Option Atom
+fluent_by fact Predicate Fluent = Some (record { pred = fact.name; args = fact.args })
+fluent_by fact Predicate Static = None
+fluent_by fact Predicate Derived = None
+fluent_by fact Sort role = None
 
 -- the atom, if it is one of a fluent
 abbrev pub fluent_atom : Domain → Fact → Option Atom
-fluent_atom domain fact = by fact.kind (role_of domain fact.name)
-  where
-    by : Kind → Role → Option Atom
-    by Predicate Fluent = Some (record { pred = fact.name; args = fact.args })
-    by Predicate Static = None
-    by Predicate Derived = None
-    by Sort role = None
+fluent_atom domain fact = fluent_by fact fact.kind (role_of domain fact.name)
 
 -- ---- the task at first
 

@@ -86,14 +86,15 @@ abbrev pub with_values : List Valued → List Valued → List Valued
 with_values values [] = values
 with_values values (value ∷ more) = with_values (with_value values value) more
 
+-- the least of a number and those of a list
+abbrev pub least_from : ℕ → List ℕ → ℕ
+least_from m [] = m
+least_from m (k ∷ ks) = least_from (min m k) ks
+
 -- the least number of a list
 abbrev pub least : List ℕ → Option ℕ
 least [] = None
-least (n ∷ ns) = Some (from n ns)
-  where
-    from : ℕ → List ℕ → ℕ
-    from m [] = m
-    from m (k ∷ ks) = from (min m k) ks
+least (n ∷ ns) = Some (least_from n ns)
 
 abbrev pub is_value_of : ℕ → List ℕ → Valued → Bool
 is_value_of func args v = (v.func == func) && same_numbers v.args args

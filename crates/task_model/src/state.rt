@@ -35,6 +35,11 @@ impl State {
         }
     }
 
+    /// The allocator that the state was made with.
+    pub fn allocator(&self) -> Global {
+        self.alloc
+    }
+
     /// An equal state. Fails only where memory is wanting.
     pub fn copy(&self) -> Result<State, AllocError>
         ensures { IfOk result (λ state. state ≡ self.now) }

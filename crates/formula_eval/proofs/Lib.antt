@@ -1,0 +1,4 @@
+pub mod Parts
+pub mod Readers
+pub mod Rows
+pub mod Weights

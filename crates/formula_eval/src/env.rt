@@ -1,0 +1,49 @@
+//! The slots of variables.
+ghost use Rattle.std.specs.Prelude.{◌≡◌, ◌<◌, ◌≤◌, length, slice_index, slice_set};
+ghost use Rattle.task_model.specs.Truth.{slots_of};
+
+use std::marker::Model;
+use task_model::Obj;
+
+/// Sixteen slots, which hold the objects of variables.
+#[derive(Drop)]
+pub struct Env {
+    slots: [Obj; 16],
+}
+
+impl Model for Env {
+    ghost use Rattle.std.specs.Prelude.{ℕ, List};
+
+    ghost Value = { List ℕ };
+
+    ghost view = { λ e. e.slots };
+}
+
+impl Env {
+    /// Slots of which the first have these objects; there are at most sixteen.
+    pub fn new(args: &[Obj]) -> Env
+        requires { length args.now ≤ 16 }
+        ensures { result ≡ slots_of args.now }
+    {
+        let mut slots = [Obj::new(0); 16];
+        let (front, _) = slots.split_at_mut(args.len());
+        front.copy_from_slice(args);
+        Env { slots }
+    }
+
+    /// The object in this slot, which is below sixteen.
+    pub fn get(&self, slot: u8) -> Obj
+        requires { slot < 16 }
+        ensures { result ≡ slice_index self.now slot }
+    {
+        self.slots[slot as usize]
+    }
+
+    /// Puts an object into this slot, which is below sixteen.
+    pub fn set(&mut self, slot: u8, object: Obj)
+        requires { slot < 16 }
+        ensures { self.new ≡ slice_set self.old slot object }
+    {
+        self.slots[slot as usize] = object;
+    }
+}

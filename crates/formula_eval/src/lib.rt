@@ -1,0 +1,10 @@
+//! When conditions are true: PDDL conditions with derived predicates, over what is known and a state.
+#![tactic(auto)]
+
+pub mod env;
+pub mod lookup;
+pub mod truth;
+
+pub use env::Env;
+pub use lookup::{have_types, object_of, objects_at};
+pub use truth::holds;

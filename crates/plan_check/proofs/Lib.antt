@@ -1,0 +1,4 @@
+pub mod Actions
+pub mod Costs
+pub mod Init
+pub mod Runs
