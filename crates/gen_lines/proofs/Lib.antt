@@ -1,0 +1,11 @@
+pub mod Cutting
+pub mod Digits
+pub mod FieldLemmas
+pub mod Marks
+pub mod Pieces
+pub mod Positions
+pub mod ReadBack
+pub mod Replies
+pub mod Requests
+pub mod Tuples
+pub mod Words

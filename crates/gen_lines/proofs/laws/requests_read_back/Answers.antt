@@ -1,0 +1,5 @@
+use Rattle.gen_lines.proofs.ReadBack.{requests_read_back}
+use Rattle.gen_lines.proofs.laws.requests_read_back.Goals as goal
+
+pub returns : goal.returns
+returns c = requests_read_back

@@ -1,0 +1,5 @@
+use Rattle.gen_lines.proofs.Replies.{yields_are_right}
+use Rattle.gen_lines.proofs.laws.yields_are_right.Goals as goal
+
+pub returns : goal.returns
+returns c = yields_are_right

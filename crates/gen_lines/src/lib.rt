@@ -1,0 +1,18 @@
+//! The lines that a generator answers, and the requests that it is sent.
+#![tactic(auto)]
+
+mod answer;
+mod fields;
+pub mod laws;
+mod line_buf;
+mod request;
+mod spans;
+mod values;
+
+pub use answer::{Answer, Wanted, Why, answer_of};
+pub use line_buf::{LINE_BYTES, LineBuf, Seen};
+pub use request::request_text;
+pub use spans::Spans;
+
+#[cfg(test)]
+mod tests;
