@@ -1,0 +1,177 @@
+//! The store, and the calls by which it grows.
+ghost use Rattle.task_model.specs.Known.{IsCoherent};
+ghost use Rattle.fact_store.specs.Store.{coherent_prop};
+
+use crate::initial::{add_names, add_objects, add_static, add_values};
+use crate::scan::{is_match, least_value, nth_match, nth_object, object_with};
+use indexmap::IndexSet;
+use std::alloc::{AllocError, Global};
+use std::marker::Model;
+use task_model::{Fact, Look, Name, Obj, Row, Task, Valued};
+
+/// The objects' names, the facts and the values of functions that are known, in the order in which
+/// they came. An object is the place of its name.
+#[derive(Drop)]
+pub struct Facts {
+    names: Vec<Name>,
+    places: IndexSet<Vec<u8>>,
+    facts: IndexSet<Fact>,
+    values: IndexSet<Valued>,
+    alloc: Global,
+    ghost coherent: { IsCoherent (record { names = names.items; facts = facts.keys; values = values.keys }) } by { coherent_prop (record { names = names.items; facts = facts.keys; values = values.keys }) },
+}
+
+impl Model for Facts {
+    ghost use Rattle.std.specs.Prelude.{map};
+    ghost use Rattle.fact_store.specs.Store.{Store, coded_store, IsIndexed};
+
+    ghost Value = { Store };
+
+    ghost coded = { coded_store };
+
+    ghost view = { λ f. record { known = record { names = f.names.items; facts = f.facts.keys; values = f.values.keys }; coherent = f.coherent } };
+
+    ghost invariant = { λ f. IsIndexed f.names.items (map (λ v. v.items) f.places.keys) };
+}
+
+impl Facts {
+    ghost use Rattle.std.specs.Prelude.{◌≡◌, ◌<◌, ◌≤◌, ◌++◌, ◌∷◌, [], not, length, slice_get, All, Contains, Some, IfSome, IfNone, IfOk, OnOk, OnErr};
+    ghost use Rattle.std.specs.List.{list_any};
+    ghost use Rattle.task_model.specs.Known.{IsIn, is_fact, with_fact, same_value, with_value};
+    ghost use Rattle.fact_store.specs.Store.{with_name};
+    ghost use Rattle.task_model.specs.Fit.{IsFit};
+    ghost use Rattle.task_model.specs.Initial.{initial_known};
+
+    /// What is known at first of a task: the declared objects with their types and all supertypes, the
+    /// atoms of static predicates in `:init`, and the values of functions. Fails only where memory is wanting.
+    pub fn new(alloc: Global, task: &Task) -> Result<Facts, AllocError>
+        requires { IsFit task.now }
+        ensures { IfOk result (λ facts. facts.known ≡ initial_known task.now) }
+    {
+        let mut facts = Facts::empty(alloc);
+        let problem = &task.problem;
+        add_names(&mut facts, alloc, problem.objects.as_slice())?;
+        add_objects(&mut facts, alloc, &task.domain, problem.objects.as_slice())?;
+        add_static(&mut facts, &task.domain, problem.init.as_slice())?;
+        add_values(&mut facts, &task.domain, problem.values.as_slice())?;
+        Ok(facts)
+    }
+
+    /// The store that knows nothing, which takes no memory.
+    pub(crate) fn empty(alloc: Global) -> Facts
+        ensures { result.known ≡ record { names = []; facts = []; values = [] } }
+    {
+        Facts {
+            names: Vec::new(alloc),
+            places: IndexSet::new(alloc),
+            facts: IndexSet::new(alloc),
+            values: IndexSet::new(alloc),
+            alloc,
+        }
+    }
+
+    /// The object with this name, or None exactly where no object has it. It takes no memory.
+    pub fn object_of(&self, name: &[u8]) -> Option<Obj>
+        ensures found { IfSome result (λ object. slice_get self.now.known.names object ≡ Some name.now) }
+        ensures none { IfNone result (¬ (Contains self.now.known.names name.now)) }
+    {
+        let (place, _) = self.places.get_full(name)?;
+        Some(Obj::new(place as u32))
+    }
+
+    /// The number of a name, which is put behind the others where it is new. Fails only where memory
+    /// is wanting, and leaves all as it was then.
+    pub fn add_name(&mut self, name: Name) -> Result<Obj, AllocError>
+        requires { length self.old.known.names < 4294705152 }
+        ensures object { IfOk result (λ object. slice_get self.new.known.names object ≡ Some name) }
+        ensures names { OnOk result (self.new.known.names ≡ with_name self.old.known.names name) }
+        ensures facts { self.new.known.facts ≡ self.old.known.facts }
+        ensures values { self.new.known.values ≡ self.old.known.values }
+        ensures err { OnErr result (self.new ≡ self.old) }
+    {
+        if let Some(object) = self.object_of(name.bytes()) {
+            return Ok(object);
+        }
+        let object = Obj::new(self.names.len() as u32);
+        let bytes = Vec::from_slice(self.alloc, name.bytes())?;
+        self.names.reserve(1)?;
+        self.places.insert(bytes)?;
+        self.names.push(name)?;
+        Ok(object)
+    }
+
+    /// Puts a fact behind the others, and answers true, or answers false where it is there. Fails only
+    /// where memory is wanting, and leaves all as it was then.
+    pub fn add(&mut self, fact: Fact) -> Result<bool, AllocError>
+        requires { All (IsIn self.old.known.names) fact.args }
+        ensures fresh { IfOk result (λ fresh. fresh ≡ not (is_fact self.old.known.facts fact)) }
+        ensures facts { OnOk result (self.new.known.facts ≡ with_fact self.old.known.facts fact) }
+        ensures names { self.new.known.names ≡ self.old.known.names }
+        ensures values { self.new.known.values ≡ self.old.known.values }
+        ensures err { OnErr result (self.new ≡ self.old) }
+    {
+        Ok(self.facts.insert(fact)?)
+    }
+
+    /// Puts the value of a function's term behind the others, and answers true, or answers false where
+    /// this value of this term is there. Fails only where memory is wanting, and leaves all as it was then.
+    pub fn add_value(&mut self, func: u32, args: Row, value: u32) -> Result<bool, AllocError>
+        requires objects { All (IsIn self.old.known.names) args }
+        requires cost { value ≤ 1000000 }
+        ensures fresh { IfOk result (λ fresh. fresh ≡ not (list_any (same_value (record { func = func; args = args; value = value })) self.old.known.values)) }
+        ensures values { OnOk result (self.new.known.values ≡ with_value self.old.known.values (record { func = func; args = args; value = value })) }
+        ensures names { self.new.known.names ≡ self.old.known.names }
+        ensures facts { self.new.known.facts ≡ self.old.known.facts }
+        ensures err { OnErr result (self.new ≡ self.old) }
+    {
+        Ok(self.values.insert(Valued { func, args, value })?)
+    }
+}
+
+impl Look for Facts {
+    ghost known = { λ f. f.known };
+
+    ghost coherent = { λ f. f.coherent };
+
+    fn has(&self, fact: &Fact) -> bool {
+        self.facts.contains(fact)
+    }
+
+    fn count(&self, sort: u32) -> usize {
+        self.facts
+            .as_slice()
+            .iter()
+            .filter_map(|fact| object_with(fact, sort))
+            .count()
+    }
+
+    fn object(&self, sort: u32, place: usize) -> Obj {
+        match nth_object(self.facts.as_slice(), sort, place) {
+            Some(object) => object,
+            None => unreachable!(),
+        }
+    }
+
+    fn value(&self, func: u32, args: &[Obj]) -> Option<u32> {
+        least_value(self.values.as_slice(), func, args)
+    }
+
+    fn name(&self, object: Obj) -> &Name {
+        &self.names.as_slice()[object.place() as usize]
+    }
+
+    fn matches(&self, pred: u32, place: usize, object: Obj) -> usize {
+        self.facts
+            .as_slice()
+            .iter()
+            .filter(|fact| is_match(*fact, pred, place, object))
+            .count()
+    }
+
+    fn matched(&self, pred: u32, place: usize, object: Obj, number: usize) -> &Fact {
+        match nth_match(self.facts.as_slice(), pred, place, object, number) {
+            Some(fact) => fact,
+            None => unreachable!(),
+        }
+    }
+}

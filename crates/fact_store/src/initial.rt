@@ -1,0 +1,188 @@
+//! What is known at first: the declared objects with their types, the static atoms and the values of functions.
+ghost use Rattle.std.specs.Prelude.{◌≡◌, ◌≤◌, ◌<◌, ◌++◌, ◌∷◌, [], map, filter, length, true, slice_get, option_map, unwrap_or, OnOk};
+ghost use Rattle.std.specs.List.{flat_map, list_all};
+ghost use Rattle.task_model.specs.Fit.{is_fit_fact, is_fit_value};
+ghost use Rattle.task_model.specs.Initial.{type_facts, declared_types, is_static};
+ghost use Rattle.task_model.specs.Known.{IsIn, type_fact, with_fact, with_facts, with_values};
+ghost use Rattle.task_model.specs.Lists.{AreDistinct, numbers_from};
+ghost use Rattle.task_model.specs.Roles.{role_of};
+
+use crate::facts::Facts;
+use std::alloc::{AllocError, Global};
+use task_model::{Declared, Domain, Fact, Kind, Obj, Role, Row, Valued};
+
+/// Gives the declared objects their numbers, in a store that has no names.
+pub(crate) fn add_names(
+    facts: &mut Facts,
+    alloc: Global,
+    objects: &[Declared],
+) -> Result<(), AllocError>
+    requires empty { facts.old.known.names ≡ [] }
+    requires distinct { AreDistinct (map (λ d. d.name) objects.now) }
+    requires few { length objects.now ≤ 8388608 }
+    ensures names { OnOk result (facts.new.known.names ≡ map (λ d. d.name) objects.now) }
+    ensures facts { OnOk result (facts.new.known.facts ≡ facts.old.known.facts) }
+    ensures values { OnOk result (facts.new.known.values ≡ facts.old.known.values) }
+{
+    for declared in objects {
+        let name = declared.name.copy(alloc)?;
+        facts.add_name(name)?;
+    }
+    Ok(())
+}
+
+/// That the object has the type.
+fn add_type(facts: &mut Facts, alloc: Global, sort: u32, object: Obj) -> Result<(), AllocError>
+    requires { IsIn facts.old.known.names object }
+    ensures facts { OnOk result (facts.new.known.facts ≡ with_fact facts.old.known.facts (type_fact sort object)) }
+    ensures names { OnOk result (facts.new.known.names ≡ facts.old.known.names) }
+    ensures values { OnOk result (facts.new.known.values ≡ facts.old.known.values) }
+{
+    let args = Row::new(alloc, &[object])?;
+    facts.add(Fact {
+        kind: Kind::Sort,
+        name: sort,
+        args,
+    })?;
+    Ok(())
+}
+
+/// That the object has each of these types.
+fn add_types(facts: &mut Facts, alloc: Global, sorts: &[u32], object: Obj) -> Result<(), AllocError>
+    requires { IsIn facts.old.known.names object }
+    ensures facts { OnOk result (facts.new.known.facts ≡ with_facts facts.old.known.facts (map (λ s. type_fact s object) sorts.now)) }
+    ensures names { OnOk result (facts.new.known.names ≡ facts.old.known.names) }
+    ensures values { OnOk result (facts.new.known.values ≡ facts.old.known.values) }
+{
+    for sort in sorts {
+        add_type(facts, alloc, *sort, object)?;
+    }
+    Ok(())
+}
+
+/// The proper supertypes of the type, and none where there is no such type.
+fn supertypes(domain: &Domain, sort: u32) -> &[u32]
+    ensures { result.now ≡ unwrap_or (option_map (λ s. s.above) (slice_get domain.now.sorts sort)) [] }
+{
+    match domain.sorts.as_slice().get(sort as usize) {
+        Some(declared) => declared.above.as_slice(),
+        None => &[],
+    }
+}
+
+/// That the object has the type, with all supertypes.
+fn add_supertypes(
+    facts: &mut Facts,
+    alloc: Global,
+    domain: &Domain,
+    sort: u32,
+    object: Obj,
+) -> Result<(), AllocError>
+    requires { IsIn facts.old.known.names object }
+    ensures facts { OnOk result (facts.new.known.facts ≡ with_facts facts.old.known.facts (type_facts domain.now sort object)) }
+    ensures names { OnOk result (facts.new.known.names ≡ facts.old.known.names) }
+    ensures values { OnOk result (facts.new.known.values ≡ facts.old.known.values) }
+{
+    add_type(facts, alloc, sort, object)?;
+    add_types(facts, alloc, supertypes(domain, sort), object)?;
+    add_type(facts, alloc, 0, object)
+}
+
+/// The types of a declared object.
+fn add_object(
+    facts: &mut Facts,
+    alloc: Global,
+    domain: &Domain,
+    declared: &Declared,
+    object: Obj,
+) -> Result<(), AllocError>
+    requires { IsIn facts.old.known.names object }
+    ensures facts { OnOk result (facts.new.known.facts ≡ with_facts facts.old.known.facts (flat_map (λ sort. type_facts domain.now sort object) (declared.now.sorts ++ 0 ∷ []))) }
+    ensures names { OnOk result (facts.new.known.names ≡ facts.old.known.names) }
+    ensures values { OnOk result (facts.new.known.values ≡ facts.old.known.values) }
+{
+    for sort in declared.sorts.as_slice() {
+        add_supertypes(facts, alloc, domain, *sort, object)?;
+    }
+    add_supertypes(facts, alloc, domain, 0, object)
+}
+
+/// The types of the declared objects, which are the first of the table of names.
+pub(crate) fn add_objects(
+    facts: &mut Facts,
+    alloc: Global,
+    domain: &Domain,
+    objects: &[Declared],
+) -> Result<(), AllocError>
+    requires named { length objects.now ≤ length facts.old.known.names }
+    requires few { length objects.now ≤ 8388608 }
+    ensures facts { OnOk result (facts.new.known.facts ≡ with_facts facts.old.known.facts (declared_types domain.now 0 objects.now)) }
+    ensures names { OnOk result (facts.new.known.names ≡ facts.old.known.names) }
+    ensures values { OnOk result (facts.new.known.values ≡ facts.old.known.values) }
+{
+    for (place, declared) in objects.iter().enumerate() {
+        add_object(facts, alloc, domain, declared, Obj::new(place as u32))?;
+    }
+    Ok(())
+}
+
+/// What changes the predicate's atoms.
+fn role_at(domain: &Domain, pred: u32) -> Role
+    requires roles { domain.now.roles ≡ map (role_of domain.now) (numbers_from 0 (length domain.now.predicates)) }
+    requires place { pred < length domain.now.predicates }
+    ensures { result ≡ role_of domain.now pred }
+{
+    domain.roles.as_slice()[pred as usize]
+}
+
+/// Whether the fact is an atom of a static predicate.
+fn is_static_fact(domain: &Domain, fact: &Fact) -> bool
+    requires roles { domain.now.roles ≡ map (role_of domain.now) (numbers_from 0 (length domain.now.predicates)) }
+    requires place { fact.now.name < length domain.now.predicates }
+    ensures { result ≡ is_static domain.now fact.now }
+{
+    match fact.kind {
+        Kind::Predicate => match role_at(domain, fact.name) {
+            Role::Static => true,
+            Role::Fluent | Role::Derived => false,
+        },
+        Kind::Sort => false,
+    }
+}
+
+/// The atoms of static predicates among these.
+pub(crate) fn add_static(
+    facts: &mut Facts,
+    domain: &Domain,
+    init: &[Fact],
+) -> Result<(), AllocError>
+    requires roles { domain.now.roles ≡ map (role_of domain.now) (numbers_from 0 (length domain.now.predicates)) }
+    requires fit { list_all (is_fit_fact domain.now (length facts.old.known.names)) init.now ≡ true }
+    ensures facts { OnOk result (facts.new.known.facts ≡ with_facts facts.old.known.facts (filter (is_static domain.now) init.now)) }
+    ensures names { OnOk result (facts.new.known.names ≡ facts.old.known.names) }
+    ensures values { OnOk result (facts.new.known.values ≡ facts.old.known.values) }
+{
+    for fact in init {
+        if is_static_fact(domain, fact) {
+            facts.add(fact.copy()?)?;
+        }
+    }
+    Ok(())
+}
+
+/// The values of functions.
+pub(crate) fn add_values(
+    facts: &mut Facts,
+    domain: &Domain,
+    values: &[Valued],
+) -> Result<(), AllocError>
+    requires { list_all (is_fit_value domain.now (length facts.old.known.names)) values.now ≡ true }
+    ensures values { OnOk result (facts.new.known.values ≡ with_values facts.old.known.values values.now) }
+    ensures names { OnOk result (facts.new.known.names ≡ facts.old.known.names) }
+    ensures facts { OnOk result (facts.new.known.facts ≡ facts.old.known.facts) }
+{
+    for valued in values {
+        facts.add_value(valued.func, valued.args.copy()?, valued.value)?;
+    }
+    Ok(())
+}

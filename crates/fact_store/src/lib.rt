@@ -1,0 +1,11 @@
+//! A store of what is known: the objects' names, the facts about them, and the values of functions.
+#![tactic(auto)]
+
+mod facts;
+mod initial;
+mod scan;
+
+pub use facts::Facts;
+
+#[cfg(test)]
+mod tests;
