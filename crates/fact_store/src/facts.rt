@@ -70,6 +70,13 @@ impl Facts {
         }
     }
 
+    /// The names of the objects, each at its object's place.
+    pub fn names(&self) -> &[Name]
+        ensures { result.now ≡ self.now.known.names }
+    {
+        self.names.as_slice()
+    }
+
     /// The object with this name, or None exactly where no object has it. It takes no memory.
     pub fn object_of(&self, name: &[u8]) -> Option<Obj>
         ensures found { IfSome result (λ object. slice_get self.now.known.names object ≡ Some name.now) }

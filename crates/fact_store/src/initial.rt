@@ -70,8 +70,9 @@ fn supertypes(domain: &Domain, sort: u32) -> &[u32]
     }
 }
 
-/// That the object has the type, with all supertypes.
-fn add_supertypes(
+/// Puts behind the facts that the object has the type, with all supertypes and `object`. The object has a name.
+/// Fails only where memory is wanting; then some of it may be known.
+pub fn add_supertypes(
     facts: &mut Facts,
     alloc: Global,
     domain: &Domain,

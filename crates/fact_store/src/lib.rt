@@ -6,6 +6,7 @@ mod initial;
 mod scan;
 
 pub use facts::Facts;
+pub use initial::add_supertypes;
 
 #[cfg(test)]
 mod tests;

@@ -11,4 +11,4 @@ pub mod step;
 pub use fault::{CheckFault, StepFault};
 pub use plan::check;
 pub use start::initial;
-pub use step::{Applied, apply};
+pub use step::{Applied, apply, cost as step_cost};

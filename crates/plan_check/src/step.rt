@@ -27,8 +27,14 @@ fn action_of<'a>(task: &'a Task, step: &GroundAction) -> Option<&'a Action>
     task.domain.actions.as_slice().get(step.action as usize)
 }
 
-/// What the action costs where the slots have its arguments, if that has a value.
-fn cost<L: Look>(task: &Task, look: &L, state: &State, action: &Action, args: &[Obj]) -> Option<u64>
+/// What the action costs with these arguments, or None where a term has no value. It takes no memory.
+pub fn cost<L: Look>(
+    task: &Task,
+    look: &L,
+    state: &State,
+    action: &Action,
+    args: &[Obj],
+) -> Option<u64>
     requires fit { IsFit task.now }
     requires action { is_fit_action task.now.domain action.now ≡ true }
     requires few { length args.now ≤ 16 }

@@ -1,1 +1,15 @@
+pub mod Calls
+pub mod Dreaming
+pub mod Examples
+pub mod Faults
+pub mod Forms
+pub mod Laws
+pub mod Legal
+pub mod Names
+pub mod Outcomes
+pub mod Places
+pub mod Plain
+pub mod Rounds
 pub mod Texts
+pub mod Transcript
+pub mod Turns

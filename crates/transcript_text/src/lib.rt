@@ -2,7 +2,9 @@
 #![tactic(auto)]
 
 pub mod entry;
+pub mod fault;
 pub mod head;
+pub mod laws;
 mod lines;
 pub mod outcome;
 pub mod report;
@@ -11,6 +13,7 @@ mod write_head;
 mod write_outcome;
 
 pub use entry::{Call, DreamUse, Entry};
+pub use fault::ReportFault;
 pub use head::{Head, Mode, Pool, PoolLine};
 pub use outcome::{LimitKind, Origin, Outcome};
 pub use report::Report;
@@ -18,5 +21,9 @@ pub use write_entry::entry_text;
 pub use write_head::head_text;
 pub use write_outcome::outcome_text;
 
+#[cfg(test)]
+mod dream_tests;
+#[cfg(test)]
+mod report_tests;
 #[cfg(test)]
 mod tests;

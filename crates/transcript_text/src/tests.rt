@@ -9,7 +9,7 @@ use std::alloc::{AllocError, Global};
 use std::test::Fail;
 use task_model::{Domain, Formula, FormulaNode, Name, Problem, Seq, Stream, Task};
 
-fn name(alloc: Global, text: &str) -> Result<Name, AllocError> {
+pub(crate) fn name(alloc: Global, text: &str) -> Result<Name, AllocError> {
     Ok(Name::new(Vec::from_slice(alloc, text.as_bytes())?))
 }
 
@@ -28,7 +28,7 @@ fn call(alloc: Global, head: &str, args: &[&str]) -> Result<Call, AllocError> {
     })
 }
 
-fn none<T>(alloc: Global) -> Seq<T> {
+pub(crate) fn none<T>(alloc: Global) -> Seq<T> {
     Seq::from_vec(Vec::new(alloc))
 }
 
@@ -45,11 +45,11 @@ fn two<T: Drop>(alloc: Global, first: T, second: T) -> Result<Seq<T>, AllocError
     Ok(Seq::from_vec(members))
 }
 
-fn empty_name(alloc: Global) -> Name {
+pub(crate) fn empty_name(alloc: Global) -> Name {
     Name::new(Vec::new(alloc))
 }
 
-fn domain(alloc: Global) -> Domain {
+pub(crate) fn domain(alloc: Global) -> Domain {
     Domain {
         name: empty_name(alloc),
         sorts: none(alloc),
@@ -62,7 +62,7 @@ fn domain(alloc: Global) -> Domain {
     }
 }
 
-fn problem(alloc: Global) -> Problem {
+pub(crate) fn problem(alloc: Global) -> Problem {
     Problem {
         name: empty_name(alloc),
         objects: none(alloc),

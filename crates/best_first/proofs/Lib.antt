@@ -1,0 +1,4 @@
+pub mod Growing
+pub mod Pigeons
+pub mod Reaching
+pub mod Ways

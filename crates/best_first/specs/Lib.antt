@@ -1,0 +1,4 @@
+pub mod Answer
+pub mod Explored
+pub mod Links
+pub mod Outcome

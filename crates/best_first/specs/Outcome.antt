@@ -1,0 +1,18 @@
+-- What an exploration comes to.
+use Rattle.std.specs.Prelude.{◌≡◌, ℕ, Bool, true}
+use Rattle.task_model.specs.Known.{Known}
+use Rattle.task_model.specs.Plans.{IsReached, IsSolvable, MoreThan}
+use Rattle.task_model.specs.declared.task.Task.{Task}
+use Rattle.best_first.specs.Explored.{IsMet, IsBeyond}
+use Rattle.best_first.specs.declared.explore.Explored as found
+use Rattle.best_first.specs.declared.explore.Explored.TheVariants.{Goal, All, More}
+
+-- At most so many states are reached, and, where the goal is sought, there is no plan.
+pub record IsAll (task : Task) (known : Known) (seeks : Bool) (limit : ℕ) : Type 0 where
+  pub few : ¬ (MoreThan limit (IsReached task known))
+  pub none : seeks ≡ true → ¬ (IsSolvable task known)
+
+abbrev pub ComesTo : Task → Known → Bool → ℕ → found.Explored → Type 0
+ComesTo task known seeks limit (Goal tree) = IsMet task known seeks limit tree.store tree.links.items
+ComesTo task known seeks limit All = IsAll task known seeks limit
+ComesTo task known seeks limit More = IsBeyond task known seeks limit

@@ -1,0 +1,173 @@
+//! One state's successors.
+ghost use Rattle.std.specs.Prelude.{◌≡◌, ◌+◌, ◌<◌, ◌≤◌, ◌↔◌, ◌++◌, ℕ, List, length, Contains, IsTrue, IfOk, OnOk, Some, slice_get};
+ghost use Rattle.grounder.specs.Applicable.{IsApplicable, AreApplicable};
+ghost use Rattle.task_model.specs.Fit.{IsFit};
+ghost use Rattle.task_model.specs.State.{Atoms};
+ghost use Rattle.task_model.specs.Steps.{IsStep};
+ghost use Rattle.best_first.specs.Explored.{Ends, IsExplored, IsGrown, Comes};
+
+use crate::tree::{Link, Tree};
+use formula_eval::{Env, holds};
+use grounder::applicable;
+use plan_check::{Applied, StepFault, apply};
+use state_store::StateStore;
+use std::alloc::{AllocError, Global};
+use task_model::{GroundAction, Look, State, Task};
+
+/// What is explored: a task, up to a number of states, and whether a state that meets the goal ends it.
+#[derive(Drop)]
+pub(crate) struct Scene<'a, L: Look> {
+    pub(crate) task: &'a Task,
+    pub(crate) look: &'a L,
+    pub(crate) limit: u32,
+    pub(crate) seeks_goal: bool,
+}
+
+/// How it goes on.
+#[derive(Clone, Copy, PartialEq, Eq, Debug)]
+pub(crate) enum Turn {
+    /// Nothing ends it so far.
+    On,
+    /// The last state meets the goal.
+    Goal,
+    /// More states are reached than the limit allows.
+    More,
+}
+
+/// Whether the state at this place ends the search.
+pub(crate) fn ends<L: Look>(
+    scene: &Scene<'_, L>,
+    store: &StateStore,
+    id: u32,
+) -> Result<bool, AllocError>
+    requires fit { IsFit scene.now.task.now }
+    requires there { id < length store.now }
+    ensures { IfOk result (λ ends. (s : Atoms) → slice_get store.now id ≡ Some s → IsTrue ends ↔ Ends scene.now.task.now (L.known scene.now.look.now) scene.now.seeks_goal s) }
+{
+    if !scene.seeks_goal {
+        return Ok(false);
+    }
+    let state = store.get(id)?;
+    let mut env = Env::new(&[]);
+    Ok(holds(
+        scene.task,
+        scene.look,
+        &state,
+        &scene.task.problem.goal,
+        &mut env,
+    ))
+}
+
+/// What a step does that can be taken. Fails only where memory is wanting.
+fn take_step<L: Look>(
+    scene: &Scene<'_, L>,
+    state: &State,
+    step: &GroundAction,
+) -> Result<Applied, AllocError>
+    requires fit { IsFit scene.now.task.now }
+    requires can { IsApplicable scene.now.task.now (L.known scene.now.look.now) state.now step.now }
+    ensures step { IfOk result (λ applied. IsStep scene.now.task.now (L.known scene.now.look.now) state.now step.now applied.state applied.cost) }
+    ensures small { IfOk result (λ applied. applied.cost ≤ 262144000000) }
+{
+    match apply(scene.task, scene.look, state, step) {
+        Ok(applied) => Ok(applied),
+        Err(StepFault::Memory) => Err(AllocError),
+        Err(_) => unreachable!(),
+    }
+}
+
+/// How it goes on after the last state was added.
+fn settle<L: Look>(
+    scene: &Scene<'_, L>,
+    tree: &Tree,
+    from: u32,
+    id: u32,
+) -> Result<Turn, AllocError>
+    requires fit { IsFit scene.now.task.now }
+    requires grown { IsGrown scene.now.task.now (L.known scene.now.look.now) scene.now.seeks_goal scene.now.limit tree.now.store tree.now.links.items from id }
+    ensures { IfOk result (Comes scene.now.task.now (L.known scene.now.look.now) scene.now.seeks_goal scene.now.limit tree.now.store tree.now.links.items from) }
+{
+    if ends(scene, &tree.store, id)? {
+        return Ok(Turn::Goal);
+    }
+    if id < scene.limit {
+        Ok(Turn::On)
+    } else {
+        Ok(Turn::More)
+    }
+}
+
+/// Takes a step from the state at `from`, and adds the state to which it leads, if that is new.
+fn visit<L: Look>(
+    scene: &Scene<'_, L>,
+    tree: &mut Tree,
+    from: u32,
+    state: &State,
+    step: &GroundAction,
+) -> Result<Turn, AllocError>
+    requires fit { IsFit scene.now.task.now }
+    requires limit { scene.now.limit ≤ 200000 }
+    requires explored { IsExplored scene.now.task.now (L.known scene.now.look.now) scene.now.seeks_goal scene.now.limit tree.old.store tree.old.links.items from }
+    requires here { slice_get tree.old.store from ≡ Some state.now }
+    requires can { IsApplicable scene.now.task.now (L.known scene.now.look.now) state.now step.now }
+    ensures comes { IfOk result (Comes scene.now.task.now (L.known scene.now.look.now) scene.now.seeks_goal scene.now.limit tree.new.store tree.new.links.items from) }
+    ensures grows { OnOk result ((more : List Atoms) × (tree.new.store ≡ tree.old.store ++ more)) }
+    ensures kept { OnOk result ((after : Atoms) × (cost : ℕ) × IsStep scene.now.task.now (L.known scene.now.look.now) state.now step.now after cost × Contains tree.new.store after) }
+{
+    let applied = take_step(scene, state, step)?;
+    let (id, fresh) = tree.store.intern(applied.state)?;
+    if !fresh {
+        return Ok(Turn::On);
+    }
+    let step = step.copy()?;
+    tree.links.push(Link {
+        parent: from,
+        step,
+        cost: applied.cost,
+    })?;
+    settle(scene, tree, from, id)
+}
+
+/// Takes all the steps from the state at `from`, as long as nothing ends it. They are all that can be taken.
+fn visit_all<L: Look>(
+    scene: &Scene<'_, L>,
+    tree: &mut Tree,
+    from: u32,
+    state: &State,
+    steps: &[GroundAction],
+) -> Result<Turn, AllocError>
+    requires fit { IsFit scene.now.task.now }
+    requires limit { scene.now.limit ≤ 200000 }
+    requires explored { IsExplored scene.now.task.now (L.known scene.now.look.now) scene.now.seeks_goal scene.now.limit tree.old.store tree.old.links.items from }
+    requires here { slice_get tree.old.store from ≡ Some state.now }
+    requires steps { AreApplicable scene.now.task.now (L.known scene.now.look.now) state.now steps.now }
+    ensures { IfOk result (Comes scene.now.task.now (L.known scene.now.look.now) scene.now.seeks_goal scene.now.limit tree.new.store tree.new.links.items (from + 1)) }
+{
+    for step in steps {
+        match visit(scene, tree, from, state, step)? {
+            Turn::On => {}
+            Turn::Goal => return Ok(Turn::Goal),
+            Turn::More => return Ok(Turn::More),
+        }
+    }
+    Ok(Turn::On)
+}
+
+/// Takes all steps from the state at `from`, and adds the states to which they lead, as long as nothing
+/// ends it. Fails only where memory is wanting.
+pub(crate) fn expand<L: Look>(
+    alloc: Global,
+    scene: &Scene<'_, L>,
+    tree: &mut Tree,
+    from: u32,
+) -> Result<Turn, AllocError>
+    requires fit { IsFit scene.now.task.now }
+    requires limit { scene.now.limit ≤ 200000 }
+    requires explored { IsExplored scene.now.task.now (L.known scene.now.look.now) scene.now.seeks_goal scene.now.limit tree.old.store tree.old.links.items from }
+    requires there { from < length tree.old.store }
+    ensures { IfOk result (Comes scene.now.task.now (L.known scene.now.look.now) scene.now.seeks_goal scene.now.limit tree.new.store tree.new.links.items (from + 1)) }
+{
+    let state = tree.store.get(from)?;
+    let steps = applicable(alloc, scene.task, scene.look, &state)?;
+    visit_all(scene, tree, from, &state, steps.as_slice())
+}

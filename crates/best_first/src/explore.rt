@@ -1,0 +1,43 @@
+//! All states that are reached.
+ghost use Rattle.std.specs.Prelude.{◌≤◌, IfOk};
+ghost use Rattle.task_model.specs.Fit.{IsFit};
+ghost use Rattle.best_first.specs.Outcome.{ComesTo};
+
+use crate::expand::{Scene, Turn, ends, expand};
+use crate::tree::Tree;
+use std::alloc::{AllocError, Global};
+use task_model::Look;
+
+/// What an exploration comes to.
+#[derive(Drop)]
+pub(crate) enum Explored {
+    /// The last state of the tree meets the goal.
+    Goal(Tree),
+    /// All states that are reached were seen.
+    All,
+    /// More states are reached than the limit allows.
+    More,
+}
+
+/// Goes through the states that are reached, nearest first, until one ends it, or there are more than the
+/// limit allows, or all were seen. Fails only where memory is wanting.
+pub(crate) fn explore<L: Look>(alloc: Global, scene: &Scene<'_, L>) -> Result<Explored, AllocError>
+    requires fit { IsFit scene.now.task.now }
+    requires some { 1 ≤ scene.now.limit }
+    requires limit { scene.now.limit ≤ 200000 }
+    ensures { IfOk result (ComesTo scene.now.task.now (L.known scene.now.look.now) scene.now.seeks_goal scene.now.limit) }
+{
+    let mut tree = Tree::new(alloc, scene.task)?;
+    if ends(scene, &tree.store, 0)? {
+        return Ok(Explored::Goal(tree));
+    }
+    let mut next: u32 = 0;
+    while next as usize <= tree.links.len() {
+        match expand(alloc, scene, &mut tree, next)? {
+            Turn::On => next += 1,
+            Turn::Goal => return Ok(Explored::Goal(tree)),
+            Turn::More => return Ok(Explored::More),
+        }
+    }
+    Ok(Explored::All)
+}

@@ -1,0 +1,75 @@
+//! Search for plans.
+ghost use Rattle.std.specs.Prelude.{◌≤◌, ◌↔◌, IfOk, IsTrue};
+ghost use Rattle.task_model.specs.Fit.{IsFit};
+ghost use Rattle.task_model.specs.Plans.{IsFar, IsReached, IsSolvable, MoreThan};
+ghost use Rattle.best_first.specs.Answer.{HasPlan, IsNothing, IsLimit};
+
+use crate::estimate::Estimate;
+use crate::expand::Scene;
+use crate::explore::{Explored, explore};
+use crate::found::Found;
+use crate::path::path;
+use std::alloc::{AllocError, Global};
+use task_model::{Look, Task};
+
+/// Looks for a valid plan among the states that are reached, at most `limit` of them, from 1 to 200,000.
+///
+/// A plan that is found has at most `limit` steps; its states are distinct, and only the last of them meets
+/// the goal. `Nothing` comes exactly where there is no valid plan and at most `limit` states are reached.
+/// `Limit` comes only where more than `limit` states are reached, and so many also within the number of
+/// steps of each valid plan. All this holds whatever the estimate answers. Today the search goes by the
+/// number of steps and asks no estimate. Fails only where memory is wanting.
+pub fn search<L: Look, E: Estimate>(
+    alloc: Global,
+    task: &Task,
+    look: &L,
+    limit: u32,
+    _estimate: &mut E,
+) -> Result<Found, AllocError>
+    requires fit { IsFit task.now }
+    requires some { 1 ≤ limit }
+    requires few { limit ≤ 200000 }
+    ensures plan { IfOk result (HasPlan task.now (L.known look.now) limit) }
+    ensures nothing { IfOk result (λ found. IsNothing found ↔ ((¬ (IsSolvable task.now (L.known look.now))) × (¬ (MoreThan limit (IsReached task.now (L.known look.now)))))) }
+    ensures limit { IfOk result (λ found. IsLimit found → IsFar task.now (L.known look.now) limit) }
+{
+    let scene = Scene {
+        task,
+        look,
+        limit,
+        seeks_goal: true,
+    };
+    match explore(alloc, &scene)? {
+        Explored::Goal(tree) => {
+            let (plan, cost) = path(alloc, tree.links.as_slice())?;
+            Ok(Found::Plan(plan, cost))
+        }
+        Explored::All => Ok(Found::Nothing),
+        Explored::More => Ok(Found::Limit),
+    }
+}
+
+/// Whether more than `limit` states are reached, whatever the goal; `limit` is from 1 to 200,000. Fails
+/// only where memory is wanting.
+pub fn exceeds<L: Look>(
+    alloc: Global,
+    task: &Task,
+    look: &L,
+    limit: u32,
+) -> Result<bool, AllocError>
+    requires fit { IsFit task.now }
+    requires some { 1 ≤ limit }
+    requires few { limit ≤ 200000 }
+    ensures { IfOk result (λ more. IsTrue more ↔ MoreThan limit (IsReached task.now (L.known look.now))) }
+{
+    let scene = Scene {
+        task,
+        look,
+        limit,
+        seeks_goal: false,
+    };
+    match explore(alloc, &scene)? {
+        Explored::More => Ok(true),
+        Explored::Goal(_) | Explored::All => Ok(false),
+    }
+}

@@ -1,0 +1,40 @@
+//! What the answer of a cost stream certifies.
+ghost use Rattle.std.specs.Prelude.{◌≡◌, ◌≤◌, length, true, All, OnOk};
+ghost use Rattle.task_model.specs.Fit.{IsFitDomain, is_fit_stream};
+ghost use Rattle.task_model.specs.Known.{IsIn, with_values};
+ghost use Rattle.task_model.specs.Streams.{worth_by};
+
+use fact_store::Facts;
+use formula_eval::{Env, objects_at};
+use std::alloc::{AllocError, Global};
+use task_model::{Domain, Obj, Stream};
+
+/// Puts the value that the answer of a cost stream's instance certifies behind what is known (this project). The stream
+/// is one of a fit task, and there are as many inputs as it says. For other streams nothing is learnt.
+///
+/// Fails only where memory is wanting, and leaves all as it was then.
+pub fn learn_value(
+    facts: &mut Facts,
+    alloc: Global,
+    domain: &Domain,
+    stream: &Stream,
+    inputs: &[Obj],
+    value: u32,
+) -> Result<(), AllocError>
+    requires domain { IsFitDomain domain.now }
+    requires stream { is_fit_stream domain.now stream.now ≡ true }
+    requires inputs { length inputs.now ≡ length stream.now.inputs }
+    requires named { All (IsIn facts.old.known.names) inputs.now }
+    requires constants { length domain.now.constants ≤ length facts.old.known.names }
+    requires cost { value ≤ 1000000 }
+    ensures values { OnOk result (facts.new.known.values ≡ with_values facts.old.known.values (worth_by stream.now inputs.now value)) }
+    ensures names { facts.new.known.names ≡ facts.old.known.names }
+    ensures facts { facts.new.known.facts ≡ facts.old.known.facts }
+{
+    let Some(worth) = &stream.worth else {
+        return Ok(());
+    };
+    let row = objects_at(alloc, worth.args.as_slice(), &Env::new(inputs));
+    facts.add_value(worth.func, row, value)?;
+    Ok(())
+}

@@ -1,0 +1,12 @@
+pub mod Distinct
+pub mod Firsts
+pub mod FitLemmas
+pub mod Flags
+pub mod Parts
+pub mod RoleLemmas
+pub mod RuleLemmas
+pub mod Seen
+pub mod Settled
+pub mod SortLemmas
+pub mod ValueLemmas
+pub mod Walks

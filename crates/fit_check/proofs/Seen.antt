@@ -1,0 +1,70 @@
+-- Members of lists, and tests of all or some.
+use Rattle.std.proofs.Common.{◌≡◌, ℕ, zero, suc, ◌+◌, add-one, ◌<◌, ◌≤◌, Bool, true, false, ◌&&◌, ◌||◌, List, [], ◌∷◌, map, drop, length, get_or, refl, sym, ap, ◌∙◌, subst, arith, Some, slice_get}
+use Rattle.std.specs.Cmp.{first_so, second_so}
+use Rattle.std.specs.List.{list_any, list_all}
+use Rattle.std.proofs.lemmas.Bool.{or_left, or_right, and_from}
+
+some_same : {A : Type 0} (a b : A) → Some a ≡ Some b → a ≡ b
+some_same a b e = cc
+
+-- some member passes
+pub any_found : {A : Type 0} (p : A → Bool) (xs : List A) → list_any p xs ≡ true → (i : ℕ) × (x : A) × (slice_get xs i ≡ Some x) × (p x ≡ true)
+any_found p [] e = absurd (cc)
+any_found p (x ∷ xs) e =
+    elim (p x) as (λ b. p x ≡ b → (b || list_any p xs) ≡ true → (i : ℕ) × (y : _) × (slice_get (x ∷ xs) i ≡ Some y) × (p y ≡ true)) [
+      | true ↦ λ t _. (0, x, refl, t)
+      | false ↦ λ _ rest. let found = any_found p xs rest in (suc found.0, found.1, found.2, found.3)
+    ] refl e
+
+pub any_at : {A : Type 0} (p : A → Bool) (xs : List A) (i : ℕ) (x : A) → slice_get xs i ≡ Some x → p x ≡ true → list_any p xs ≡ true
+any_at p [] i x e t = absurd (cc)
+any_at p (y ∷ ys) zero x e t = or_left (p y) (list_any p ys) (subst (λ z. p z ≡ true) (sym (some_same y x e)) t)
+any_at p (y ∷ ys) (suc i) x e t = or_right (p y) (list_any p ys) (any_at p ys i x e t)
+
+-- each member passes
+pub all_at : {A : Type 0} (p : A → Bool) (xs : List A) (i : ℕ) (x : A) → list_all p xs ≡ true → slice_get xs i ≡ Some x → p x ≡ true
+all_at p [] i x all e = absurd (cc)
+all_at p (y ∷ ys) zero x all e = subst (λ z. p z ≡ true) (some_same y x e) (first_so (p y) (list_all p ys) all)
+all_at p (y ∷ ys) (suc i) x all e = all_at p ys i x (second_so (p y) (list_all p ys) all) e
+
+pub all_from : {A : Type 0} (p : A → Bool) (xs : List A) → ((i : ℕ) (x : A) → slice_get xs i ≡ Some x → p x ≡ true) → list_all p xs ≡ true
+all_from p [] each = refl
+all_from p (x ∷ xs) each = and_from (p x) (list_all p xs) (each 0 x refl) (all_from p xs (λ i y e. each (suc i) y e))
+
+pub any_mapped : {A B : Type 0} (f : A → B) (p : B → Bool) (xs : List A) → list_any p (map f xs) ≡ list_any (λ x. p (f x)) xs
+any_mapped f p [] = refl
+any_mapped f p (x ∷ xs) = ap (λ b. p (f x) || b) (any_mapped f p xs)
+
+pub all_mapped : {A B : Type 0} (f : A → B) (p : B → Bool) (xs : List A) → list_all p (map f xs) ≡ list_all (λ x. p (f x)) xs
+all_mapped f p [] = refl
+all_mapped f p (x ∷ xs) = ap (λ b. p (f x) && b) (all_mapped f p xs)
+
+-- ---- members by their places
+
+pub get_some : {A : Type 0} (xs : List A) (i : ℕ) (x : A) → i < length xs → x ≡ get_or xs i x → slice_get xs i ≡ Some x
+get_some [] i x h e = absurd (omega arith)
+get_some (y ∷ ys) zero x h e = ap Some (sym e)
+get_some (y ∷ ys) (suc i) x h e = get_some ys i x (omega arith) e
+
+pub get_there : {A : Type 0} (xs : List A) (i : ℕ) → i < length xs → (x : A) × (slice_get xs i ≡ Some x)
+get_there [] i h = absurd (omega arith)
+get_there (y ∷ ys) zero h = (y, refl)
+get_there (y ∷ ys) (suc i) h = get_there ys i (omega arith)
+
+pub one_there : {A : Type 0} (xs : List A) (i : ℕ) (x y : A) → slice_get xs i ≡ Some x → slice_get xs i ≡ Some y → x ≡ y
+one_there xs i x y e f = some_same x y (sym e ∙ f)
+
+-- what is left to see from a place on
+pub any_from : {A : Type 0} (p : A → Bool) (xs : List A) (i : ℕ) (x : A) → slice_get xs i ≡ Some x → list_any p (drop i xs) ≡ (p x || list_any p (drop (i + 1) xs))
+any_from p xs i x e = from xs i e ∙ ap (λ n. p x || list_any p (drop n xs)) (sym (add-one i))
+  where
+    from : (xs : List _) (i : ℕ) → slice_get xs i ≡ Some x → list_any p (drop i xs) ≡ (p x || list_any p (drop (suc i) xs))
+    from [] i e = absurd (cc)
+    from (y ∷ ys) zero e = ap (λ z. p z || list_any p ys) (some_same y x e)
+    from (y ∷ ys) (suc i) e = from ys i e
+
+pub none_left : {A : Type 0} (xs : List A) (i : ℕ) → length xs ≤ i → drop i xs ≡ []
+none_left [] zero h = refl
+none_left [] (suc i) h = refl
+none_left (x ∷ xs) zero h = absurd (omega arith)
+none_left (x ∷ xs) (suc i) h = none_left xs i (omega arith)

@@ -1,0 +1,4 @@
+pub mod Cycles
+pub mod Edges
+pub mod Filled
+pub mod Tests

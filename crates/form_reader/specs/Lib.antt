@@ -1,0 +1,10 @@
+pub mod Faults
+pub mod Words
+pub mod Rows
+pub mod Conditions
+pub mod Effects
+pub mod Refused
+pub mod Atoms
+pub mod Keys
+pub mod Items
+pub mod Texts

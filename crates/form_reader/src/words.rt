@@ -1,0 +1,290 @@
+//! What words there are, and what a list's first word makes of the list.
+ghost use Rattle.std.specs.Prelude.{◌≡◌, Some, None, if◌then◌else◌};
+ghost use Rattle.std.specs.Char.{is_ascii_digit};
+ghost use Rattle.std.specs.List.{list_all};
+ghost use Rattle.std.specs.Str.{bytes_eq};
+ghost use Rattle.std.specs.Str.Parse.{digits_value};
+ghost use Rattle.task_model.specs.Fit as fit;
+ghost use Rattle.form_reader.specs.Words as specs;
+
+/// The longest name, in bytes.
+const NAME_BYTES: usize = 255;
+
+/// The largest number.
+const LARGEST: u32 = 1_000_000;
+
+/// What kind of word has to stand in a place.
+#[derive(Clone, Copy, Debug, PartialEq, Eq)]
+pub enum WordSort {
+    /// Any word.
+    Any,
+    /// A name: a letter and then letters, digits, `-` and `_`, at most 255 bytes.
+    Name,
+    /// A name that a predicate may have.
+    Predicate,
+    /// `?` and a name.
+    Variable,
+    /// A name or a variable.
+    Term,
+}
+
+impl WordSort {
+    /// Whether the word, which is in lower case, is of this sort.
+    pub fn has(self, word: &[u8]) -> bool
+        ensures { result ≡ specs.is_of self word.now }
+    {
+        match self {
+            WordSort::Any => true,
+            WordSort::Name => is_name(word),
+            WordSort::Predicate => is_predicate_name(word),
+            WordSort::Variable => is_variable(word),
+            WordSort::Term => is_name(word) || is_variable(word),
+        }
+    }
+}
+
+/// Whether the word is a name, in lower case: a letter and then letters, digits, `-` and `_`, at most 255 bytes
+/// (PDDL 2.1; the length is this project's).
+pub fn is_name(word: &[u8]) -> bool
+    ensures { result ≡ fit.is_name word.now }
+{
+    match word {
+        [] => false,
+        [first, rest @ ..] => {
+            is_letter(*first) && are_name_bytes(rest) && rest.len() < NAME_BYTES
+        }
+    }
+}
+
+fn are_name_bytes(bytes: &[u8]) -> bool
+    ensures { result ≡ list_all fit.is_name_byte bytes.now }
+{
+    bytes.iter().all(|b| is_name_byte(*b))
+}
+
+fn is_name_byte(byte: u8) -> bool
+    ensures { result ≡ fit.is_name_byte byte }
+{
+    is_letter(byte) || byte.is_ascii_digit() || byte == b'-' || byte == b'_'
+}
+
+fn is_letter(byte: u8) -> bool
+    ensures { result ≡ fit.is_letter byte }
+{
+    byte.is_ascii_lowercase()
+}
+
+/// Whether the word is `?` and a name (PDDL 2.1).
+pub fn is_variable(word: &[u8]) -> bool
+    ensures { result ≡ specs.is_variable word.now }
+{
+    match word {
+        [] => false,
+        [first, rest @ ..] => *first == b'?' && is_name(rest),
+    }
+}
+
+/// Whether the word is a name that a predicate may have: none of the words that head conditions and effects in PDDL.
+pub fn is_predicate_name(word: &[u8]) -> bool
+    ensures { result ≡ specs.is_predicate_name word.now }
+{
+    is_name(word) && !is_connective(word) && !is_change(word)
+}
+
+#[tactic(auto, unfolding(crate::specs::Words::is_connective))]
+fn is_connective(word: &[u8]) -> bool
+    ensures { result ≡ specs.is_connective word.now }
+{
+    word == b"and".as_slice()
+        || word == b"or".as_slice()
+        || word == b"not".as_slice()
+        || word == b"exists".as_slice()
+        || word == b"forall".as_slice()
+        || word == b"imply".as_slice()
+        || word == b"when".as_slice()
+        || word == b"preference".as_slice()
+}
+
+#[tactic(auto, unfolding(crate::specs::Words::is_change))]
+fn is_change(word: &[u8]) -> bool
+    ensures { result ≡ specs.is_change word.now }
+{
+    word == b"increase".as_slice()
+        || word == b"decrease".as_slice()
+        || word == b"assign".as_slice()
+        || word == b"scale-up".as_slice()
+        || word == b"scale-down".as_slice()
+        || word == b"either".as_slice()
+}
+
+/// Whether the word begins with `:`.
+pub fn is_keyword(word: &[u8]) -> bool
+    ensures { result ≡ specs.is_keyword word.now }
+{
+    match word {
+        [] => false,
+        [first, ..] => *first == b':',
+    }
+}
+
+/// Whether the word begins with a digit.
+pub(crate) fn begins_with_digit(word: &[u8]) -> bool
+    ensures { result ≡ specs.begins_with_digit word.now }
+{
+    match word {
+        [] => false,
+        [first, ..] => first.is_ascii_digit(),
+    }
+}
+
+/// The number that the word writes, if it is digits alone and the number is at most 1,000,000. Leading zeros may stand.
+#[tactic(auto, unfolding(crate::specs::Words::is_number))]
+pub fn number_of(word: &[u8]) -> Option<u32>
+    ensures { result ≡ (if specs.is_number word.now then Some (digits_value 10 word.now) else None) }
+{
+    if !are_digits(word) {
+        return None;
+    }
+    let Ok(text) = str::from_utf8(word) else {
+        return None;
+    };
+    let Ok(number) = text.parse::<u32>() else {
+        return None;
+    };
+    if number <= LARGEST {
+        Some(number)
+    } else {
+        None
+    }
+}
+
+fn are_digits(word: &[u8]) -> bool
+    ensures { result ≡ list_all is_ascii_digit word.now }
+{
+    word.iter().all(|b| b.is_ascii_digit())
+}
+
+/// Whether the word is a number of at most 1,000,000.
+pub fn is_number(word: &[u8]) -> bool
+    ensures { result ≡ specs.is_number word.now }
+{
+    number_of(word).is_some()
+}
+
+/// What a list is in the place of a condition, by its first word (PDDL 2.1).
+#[derive(Clone, Copy, Debug, PartialEq, Eq)]
+pub enum ConditionHead {
+    /// `and`, which takes conditions.
+    And,
+    /// `or`, which takes conditions.
+    Or,
+    /// `not`, which takes one condition.
+    Not,
+    /// `exists`, which takes variables and a condition.
+    Exists,
+    /// `=`, which takes two terms.
+    Equal,
+    /// A head that this project leaves out.
+    Refused,
+    /// Any other word, as the name of a predicate.
+    Atom,
+}
+
+/// What the first word makes of a condition.
+#[tactic(auto, unfolding(crate::specs::Words::condition_head_of))]
+pub fn condition_head_of(word: &[u8]) -> ConditionHead
+    ensures { result ≡ specs.condition_head_of word.now }
+{
+    if word == b"and".as_slice() {
+        return ConditionHead::And;
+    }
+    if word == b"or".as_slice() {
+        return ConditionHead::Or;
+    }
+    if word == b"not".as_slice() {
+        return ConditionHead::Not;
+    }
+    if word == b"exists".as_slice() {
+        return ConditionHead::Exists;
+    }
+    if word == b"=".as_slice() {
+        return ConditionHead::Equal;
+    }
+    if is_refused_condition(word) {
+        return ConditionHead::Refused;
+    }
+    ConditionHead::Atom
+}
+
+#[tactic(auto, unfolding(crate::specs::Words::is_refused_condition))]
+fn is_refused_condition(word: &[u8]) -> bool
+    ensures { result ≡ specs.is_refused_condition word.now }
+{
+    word == b"forall".as_slice()
+        || word == b"imply".as_slice()
+        || word == b"when".as_slice()
+        || word == b"preference".as_slice()
+        || word == b"<".as_slice()
+        || word == b">".as_slice()
+        || word == b"<=".as_slice()
+        || word == b">=".as_slice()
+}
+
+/// What a list is in the place of an effect, by its first word (PDDL 2.1, IPC 2008).
+#[derive(Clone, Copy, Debug, PartialEq, Eq)]
+pub enum EffectHead {
+    /// `and`, which takes effects.
+    And,
+    /// `not`, which takes an atom.
+    Not,
+    /// `increase`, which takes `(total-cost)` and a cost.
+    Increase,
+    /// A head that this project leaves out.
+    Refused,
+    /// Any other word, as the name of a predicate.
+    Atom,
+}
+
+/// What the first word makes of an effect.
+#[tactic(auto, unfolding(crate::specs::Words::effect_head_of))]
+pub fn effect_head_of(word: &[u8]) -> EffectHead
+    ensures { result ≡ specs.effect_head_of word.now }
+{
+    if word == b"and".as_slice() {
+        return EffectHead::And;
+    }
+    if word == b"not".as_slice() {
+        return EffectHead::Not;
+    }
+    if word == b"increase".as_slice() {
+        return EffectHead::Increase;
+    }
+    if is_refused_effect(word) {
+        return EffectHead::Refused;
+    }
+    EffectHead::Atom
+}
+
+#[tactic(auto, unfolding(crate::specs::Words::is_refused_effect))]
+fn is_refused_effect(word: &[u8]) -> bool
+    ensures { result ≡ specs.is_refused_effect word.now }
+{
+    word == b"forall".as_slice()
+        || word == b"when".as_slice()
+        || word == b"assign".as_slice()
+        || word == b"decrease".as_slice()
+        || word == b"scale-up".as_slice()
+        || word == b"scale-down".as_slice()
+}
+
+/// Whether no list in a stream's atoms may have this head (this project's profile).
+#[tactic(auto, unfolding(crate::specs::Words::is_refused_in_atoms))]
+pub(crate) fn is_refused_in_atoms(word: &[u8]) -> bool
+    ensures { result ≡ specs.is_refused_in_atoms word.now }
+{
+    word == b"not".as_slice()
+        || word == b"or".as_slice()
+        || word == b"exists".as_slice()
+        || word == b"forall".as_slice()
+        || word == b"=".as_slice()
+}

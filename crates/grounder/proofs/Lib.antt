@@ -1,0 +1,3 @@
+pub mod Listed
+pub mod Rising
+pub mod Typed

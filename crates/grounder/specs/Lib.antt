@@ -1,0 +1,2 @@
+pub mod Applicable
+pub mod Listing

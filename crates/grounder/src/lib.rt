@@ -1,0 +1,8 @@
+//! The actions that are applicable in a state, with their arguments.
+#![tactic(auto)]
+
+pub mod actions;
+mod choices;
+mod steps;
+
+pub use actions::applicable;

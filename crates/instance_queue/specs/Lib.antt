@@ -1,0 +1,5 @@
+pub mod Found
+pub mod Level
+pub mod Notes
+pub mod Readable
+pub mod Tallies

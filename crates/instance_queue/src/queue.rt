@@ -1,0 +1,184 @@
+//! The notes of what was answered, and what they say of an instance.
+use crate::due::{Due, QueueFault};
+use crate::level::level;
+use crate::reach::{is_reachable, is_test, stream_of};
+use fact_store::Facts;
+use indexmap::IndexMap;
+use std::alloc::{AllocError, Global};
+use std::marker::Model;
+use task_model::{Instance, Stream, Task};
+
+/// What an instance was told: a tuple, or that nothing more comes.
+#[derive(Drop)]
+struct Noted {
+    instance: Instance,
+    ended: bool,
+}
+
+/// What the notes say of one instance.
+#[derive(Clone, Copy)]
+struct Tally {
+    yields: u32,
+    ended: bool,
+}
+
+/// The answers that were noted, one after another. It is seen as the list of these notes.
+#[derive(Drop)]
+pub struct Queue {
+    notes: Vec<Noted>,
+    tallies: IndexMap<Instance, Tally>,
+    alloc: Global,
+}
+
+impl Model for Queue {
+    ghost use Rattle.std.specs.Prelude.{List};
+    ghost use Rattle.task_model.specs.Streams.{Note};
+    ghost use Rattle.instance_queue.specs.Tallies.{coded_notes};
+
+    ghost Value = { List Note };
+
+    ghost coded = { coded_notes };
+
+    ghost use Rattle.instance_queue.specs.Notes.{notes_in, AreTallied};
+
+    ghost view = { λ q. notes_in q.notes.items };
+
+    ghost invariant = { λ q. AreTallied q.tallies (notes_in q.notes.items) };
+}
+
+impl Queue {
+    ghost use Rattle.std.specs.Prelude.{◌≡◌, ◌<◌, ◌++◌, ◌∷◌, [], IfOk, IfErr, OnOk, OnErr};
+    ghost use Rattle.task_model.specs.Fit.{IsFit};
+    ghost use Rattle.task_model.specs.Streams.{Note, Yielded, Ended, yields_of, is_finished};
+    ghost use Rattle.instance_queue.specs.Notes.{tally_of, note_of};
+    ghost use Rattle.instance_queue.specs.Level.{AreDueInTurn, ComesOf, is_finished_in, is_reachable_in};
+
+    /// The queue in which nothing is noted, with room for an instance of each stream. Fails only where
+    /// memory is wanting.
+    pub fn new(alloc: Global, task: &Task) -> Result<Queue, AllocError>
+        ensures { IfOk result (λ queue. queue ≡ []) }
+    {
+        let tallies = IndexMap::with_capacity(alloc, task.streams.len())?;
+        Ok(Queue {
+            notes: Vec::new(alloc),
+            tallies,
+            alloc,
+        })
+    }
+
+    /// What the notes say of an instance.
+    fn tally(&self, instance: &Instance) -> Tally
+        ensures { result ≡ tally_of self.now instance.now }
+    {
+        match self.tallies.get(instance) {
+            Some(tally) => *tally,
+            None => Tally {
+                yields: 0,
+                ended: false,
+            },
+        }
+    }
+
+    /// Puts a note behind the others, after which the instance has this tally.
+    fn note(&mut self, noted: Noted, tally: Tally) -> Result<(), AllocError>
+        requires { tally ≡ tally_of (self.old ++ note_of noted ∷ []) noted.instance }
+        ensures ok { OnOk result (self.new ≡ self.old ++ note_of noted ∷ []) }
+        ensures err { OnErr result (self.new ≡ self.old) }
+    {
+        let key = noted.instance.copy()?;
+        self.notes.reserve(1)?;
+        self.tallies.insert(key, tally)?;
+        self.notes.push(noted)?;
+        Ok(())
+    }
+
+    /// Notes that an instance gave a tuple; it has given fewer than 2^32 - 1 before. Fails only where
+    /// memory is wanting, and leaves all as it was then.
+    pub fn note_got(&mut self, instance: &Instance) -> Result<(), AllocError>
+        requires { yields_of self.old instance.now < 4294967295 }
+        ensures ok { OnOk result (self.new ≡ self.old ++ Yielded instance.now ∷ []) }
+        ensures err { OnErr result (self.new ≡ self.old) }
+    {
+        let tally = self.tally(instance);
+        let noted = Noted {
+            instance: instance.copy()?,
+            ended: false,
+        };
+        self.note(
+            noted,
+            Tally {
+                yields: tally.yields + 1,
+                ended: tally.ended,
+            },
+        )
+    }
+
+    /// Notes that an instance ended, or, of a cost stream, that it gave its value. Fails only where memory
+    /// is wanting, and leaves all as it was then.
+    pub fn note_end(&mut self, instance: &Instance) -> Result<(), AllocError>
+        ensures ok { OnOk result (self.new ≡ self.old ++ Ended instance.now ∷ []) }
+        ensures err { OnErr result (self.new ≡ self.old) }
+    {
+        let tally = self.tally(instance);
+        let noted = Noted {
+            instance: instance.copy()?,
+            ended: true,
+        };
+        self.note(
+            noted,
+            Tally {
+                yields: tally.yields,
+                ended: true,
+            },
+        )
+    }
+
+    /// How many tuples the instance has given.
+    pub fn yields(&self, instance: &Instance) -> u32
+        ensures { result ≡ yields_of self.now instance.now }
+    {
+        self.tally(instance).yields
+    }
+
+    /// Whether the instance, which is one of this stream, has finished.
+    pub(crate) fn is_finished(&self, stream: &Stream, instance: &Instance) -> bool
+        ensures { result ≡ is_finished stream.now self.now instance.now }
+    {
+        let tally = self.tally(instance);
+        tally.ended || is_test(stream) && tally.yields > 0
+    }
+
+    /// Whether nothing more comes of the instance: it has ended, or it is one of a test, a stream without
+    /// outputs or a value, and has yielded. Of a stream that the task hasn't nothing has finished.
+    pub fn finished(&self, task: &Task, instance: &Instance) -> bool
+        ensures { result ≡ is_finished_in task.now self.now instance.now }
+    {
+        match stream_of(task, instance.stream) {
+            Some(stream) => self.is_finished(stream, instance),
+            None => false,
+        }
+    }
+
+    /// Whether the instance's stream is one of the task's, its inputs have their types, and its domain
+    /// facts are known (PDDLStream 2020). It takes no memory.
+    pub fn reachable(&self, task: &Task, facts: &Facts, instance: &Instance) -> bool
+        requires { IsFit task.now }
+        ensures { result ≡ is_reachable_in task.now facts.now.known instance.now }
+    {
+        match stream_of(task, instance.stream) {
+            Some(stream) => is_reachable(self.alloc, stream, facts, instance),
+            None => false,
+        }
+    }
+
+    /// The asks that are due: the instances that are reachable and unfinished, in the order of the stream's
+    /// place and then of the inputs, name by name and byte by byte, each with its turn. Fails where there are
+    /// more than 1,000,000, and where memory is wanting.
+    pub fn next_level(&self, task: &Task, facts: &Facts) -> Result<Vec<Due>, QueueFault>
+        requires { IsFit task.now }
+        ensures due { IfOk result (λ dues. AreDueInTurn task.now facts.now.known self.now dues.items) }
+        ensures fault { IfErr result (ComesOf task.now facts.now.known self.now) }
+    {
+        level(self.alloc, self, task, facts)
+    }
+}

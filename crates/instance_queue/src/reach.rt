@@ -1,0 +1,66 @@
+//! Whether the domain facts of an instance are known.
+ghost use Rattle.std.specs.Prelude.{◌≡◌, ◌≤◌, length, true, option_copied, slice_get};
+ghost use Rattle.std.specs.List.{list_all};
+ghost use Rattle.task_model.specs.Known.{is_fact};
+ghost use Rattle.task_model.specs.Streams.{fact_of as fact_at, is_reachable as reaches, is_test as tests};
+ghost use Rattle.task_model.specs.Truth.{slots_of};
+ghost use Rattle.instance_queue.specs.Readable.{is_readable_pattern, IsReadableStream};
+
+use fact_store::Facts;
+use formula_eval::{Env, have_types, objects_at};
+use std::alloc::Global;
+use task_model::{Fact, Instance, Kind, Look, Pattern, Stream, Task};
+
+/// The task's stream at this place, if there is one.
+pub(crate) fn stream_of(task: &Task, place: u32) -> Option<&Stream>
+    ensures { option_copied result ≡ slice_get task.now.streams place }
+{
+    task.streams.as_slice().get(place as usize)
+}
+
+/// Whether the stream can only say yes, and that once.
+pub(crate) fn is_test(stream: &Stream) -> bool
+    ensures { result ≡ tests stream.now }
+{
+    stream.outputs.is_empty() && stream.worth.is_none()
+}
+
+/// The pattern's atom, as a fact, where the slots have these objects.
+fn fact_of(alloc: Global, pattern: &Pattern, env: &Env) -> Fact
+    requires { is_readable_pattern pattern.now ≡ true }
+    ensures { result ≡ fact_at env.now pattern.now }
+{
+    Fact {
+        kind: Kind::Predicate,
+        name: pattern.pred,
+        args: objects_at(alloc, pattern.args.as_slice(), env),
+    }
+}
+
+/// Whether all of these atoms are known, where the slots have these objects.
+fn are_known(alloc: Global, facts: &Facts, patterns: &[Pattern], env: &Env) -> bool
+    requires { list_all is_readable_pattern patterns.now ≡ true }
+    ensures { result ≡ list_all (λ p. is_fact facts.now.known.facts (fact_at env.now p)) patterns.now }
+{
+    for pattern in patterns {
+        if !facts.has(&fact_of(alloc, pattern, env)) {
+            return false;
+        }
+    }
+    true
+}
+
+/// Whether the inputs have their types and the domain facts are known. It takes no memory.
+pub(crate) fn is_reachable(
+    alloc: Global,
+    stream: &Stream,
+    facts: &Facts,
+    instance: &Instance,
+) -> bool
+    requires { IsReadableStream stream.now }
+    ensures { result ≡ reaches stream.now facts.now.known instance.now }
+{
+    let inputs = instance.inputs.as_slice();
+    have_types(alloc, facts, inputs, stream.inputs.as_slice())
+        && are_known(alloc, facts, stream.domain.as_slice(), &Env::new(inputs))
+}

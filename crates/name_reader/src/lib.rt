@@ -1,0 +1,30 @@
+//! What the names in a text stand for.
+#![tactic(auto)]
+
+mod conditions;
+mod declarations;
+mod formulas;
+mod graph;
+mod names;
+mod scope;
+mod signatures;
+mod terms;
+mod variables;
+mod vocabulary;
+
+pub use conditions::{check_condition, check_conditions};
+pub use declarations::{TypedNames, declare_groups, put_number};
+pub use formulas::{condition_of, single_of};
+pub use graph::{add_ascending, ascending, is_cyclic, reached_from};
+pub use names::NameTable;
+pub use scope::Scope;
+pub use signatures::Signatures;
+pub use terms::{
+    check_application, check_terms, check_use, declared_place, small_number, term_of, terms_of,
+    width,
+};
+pub use variables::{
+    check_doubles, check_scope, check_types, check_variables, enter, is_named, is_type,
+    named_sorts, next, number, sort_of, unless,
+};
+pub use vocabulary::Vocabulary;
