@@ -93,7 +93,8 @@ fn a_program_that_is_not_there_does_not_start(rt: HostRuntime) -> Result<(), Fai
 fn a_write_to_a_program_that_is_gone_fails(rt: HostRuntime) -> Result<(), Fail> {
     let alloc = rt.alloc();
     let mut child = ChildGen::new(alloc, &rt);
-    begin(&rt, &mut child, &shell(alloc, "exit 0")?);
+    // The program closes its input first: no program reads it once its output has ended.
+    begin(&rt, &mut child, &shell(alloc, "exec <&-; exit 0")?);
     miss(&rt, &mut child);
     assert_eq!(rt; child.send(b"next 0 grip cup\n"), Err(HostFault::Failed));
     assert_eq!(rt; child.faults(), 2);

@@ -1,0 +1,8 @@
+use Rattle.std.proofs.Common.{arith}
+use Rattle.formula_eval.proofs.Readers.{fit_readable}
+use Rattle.planning_tests.proofs.generated.is_true.Goals as goal
+
+pub holds-requires-clause-readable : goal.holds-requires-clause-readable
+holds-requires-clause-readable c =
+    let task = c.args.task.now in
+    fit_readable task.domain c.requires.domain _ 0 (omega arith) task.problem.goal c.requires.problem.goal

@@ -1,0 +1,10 @@
+//! Tests that cross crates: truth, steps, plans, facts and requests over tasks that are built by hand.
+#![tactic(auto)]
+
+pub mod build;
+#[cfg(test)]
+mod generated;
+#[cfg(test)]
+mod keep;
+#[cfg(test)]
+mod unfit;

@@ -1,0 +1,5 @@
+use Rattle.session_core.proofs.Orders.{each_says_one}
+use Rattle.session_core.proofs.laws.each_says_one.Goals as goal
+
+pub returns : goal.returns
+returns c = each_says_one

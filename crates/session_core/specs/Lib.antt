@@ -1,0 +1,8 @@
+pub mod Events
+pub mod Pools
+pub mod Room
+pub mod Heard
+pub mod Session
+pub mod Shown
+pub mod Slots
+pub mod State

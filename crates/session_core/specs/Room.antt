@@ -1,0 +1,21 @@
+-- Memory that is taken before an answer is heard.
+use Rattle.std.specs.Prelude.{ℕ, ◌*◌, ◌≤◌, Option, None, Some, if◌then◌else◌}
+use Rattle.gen_lines.specs.Told.{IsNarrow}
+use Rattle.gen_lines.specs.declared.answer.Wanted.{Wanted}
+use Rattle.gen_lines.specs.declared.answer.Wanted.TheVariants.{Outputs, Number}
+use Rattle.transcript_text.specs.declared.entry.Entry.{Entry}
+
+-- the most values that an answer may have
+abbrev pub most_values : Wanted → ℕ
+most_values (Outputs width several) = if several then 16 * width else width
+most_values Number = 0
+
+-- there is room for so many values, unless an answer was heard
+abbrev pub HasRoom : Option Entry → Wanted → Option ℕ → Type 0
+HasRoom (Some e) wanted room = Unit {0}
+HasRoom None wanted (Some n) = most_values wanted ≤ n
+HasRoom None wanted None = ⊥
+
+pub record IsReady (answer : Option Entry) (wanted : Wanted) (room : Option ℕ) : Type 0 where
+  pub narrow : IsNarrow wanted
+  pub enough : HasRoom answer wanted room

@@ -1,0 +1,126 @@
+-- What holds of a session of a task, and what its calls ask for.
+use Rattle.std.specs.Prelude.{◌≡◌, ℕ, ◌+◌, ◌≤◌, List, [], ◌∷◌, map, length, take, All, Bool, true, false, Some, slice_get, count_by, Contains}
+use Rattle.gen_lines.specs.Reply.{reply_of}
+use Rattle.instance_queue.specs.Level.{instances_of}
+use Rattle.instance_queue.specs.declared.due.Due.{Due}
+use Rattle.task_model.specs.Fit.{IsFit}
+use Rattle.task_model.specs.Lists.{AreDistinct}
+use Rattle.task_model.specs.Streams.{IsDue, yields_of}
+use Rattle.task_model.specs.declared.stream.Instance.{Instance}
+use Rattle.task_model.specs.declared.stream.Stream.{Stream}
+use Rattle.task_model.specs.declared.task.Task.{Task}
+use Rattle.transcript_text.specs.Legal.{IsLegal, HasNoneOpen, asks_of}
+use Rattle.transcript_text.specs.Transcript.{asked, names_of, known_of, notes_of}
+use Rattle.transcript_text.specs.declared.entry.Entry.{Entry}
+use Rattle.transcript_text.specs.declared.entry.Entry.TheVariants as entry
+use Rattle.transcript_text.specs.declared.head.Head.{Head}
+use Rattle.session_core.specs.Pools.{workers_of, AreFitPools, FitWorkers}
+use Rattle.session_core.specs.Slots.{Slot, wanted_at, streams_of, asks_from, slots_from, entry_of}
+use Rattle.session_core.specs.State.{State, with_round}
+use Rattle.session_core.specs.declared.fault.CoreFault.{CoreFault}
+use Rattle.session_core.specs.declared.fault.CoreFault.TheVariants.{Failed, Memory}
+
+-- ---- heads
+
+-- the version of the protocol is 1 or 2, there are from 1 to 100,000 calls, and the pools serve the task's streams
+pub record IsFitHead (task : Task) (head : Head) : Type 0 where
+  pub some_version : 1 ≤ head.version
+  pub version : head.version ≤ 2
+  pub some_calls : 1 ≤ head.calls
+  pub calls : head.calls ≤ 100000
+  pub pools : AreFitPools task (map workers_of head.pools)
+
+-- ---- sessions
+
+abbrev pub is_answer : Entry → Bool
+is_answer (entry.Got number tuples values) = true
+is_answer (entry.Value number value) = true
+is_answer (entry.End number) = true
+is_answer e = false
+
+-- The slot has this number, it wants what its instance's stream may answer, and its answer is what some line says.
+pub record IsSlotFor (task : Task) (version number : ℕ) (due : Due) (slot : Slot) : Type 0 where
+  pub numbered : slot.number ≡ number
+  pub wanted : slot.wanted ≡ wanted_at task version due.instance.stream
+  pub right : (e : Entry) → slot.answer ≡ Some e → (line : List ℕ) × (entry_of slot.number (reply_of line slot.wanted) ≡ Some e)
+
+abbrev pub AreSlotsFor : Task → ℕ → ℕ → List Due → List Slot → Type 0
+AreSlotsFor task version number [] [] = Unit {0}
+AreSlotsFor task version number (due ∷ dues) (slot ∷ slots) = IsSlotFor task version number due slot × AreSlotsFor task version (number + 1) dues slots
+AreSlotsFor task version number [] (slot ∷ slots) = ⊥
+AreSlotsFor task version number (due ∷ dues) [] = ⊥
+
+-- The open round is one of asks that are due after the transcript, each with its turn, of different instances.
+pub record IsRoundOf (task : Task) (s : State) : Type 0 where
+  pub dues : List Due
+  pub due : (i : Instance) → Contains (instances_of dues) i → IsDue task (known_of task s.entries) (notes_of task s.entries) i
+  pub turns : All (λ (d : Due). d.turn ≡ yields_of (notes_of task s.entries) d.instance) dues
+  pub distinct : AreDistinct (instances_of dues)
+  pub instances : s.instances ≡ instances_of dues
+  pub asks : s.asks ≡ asks_from task (names_of task s.entries) (length s.asked + 1) dues
+  pub slots : AreSlotsFor task s.version (length s.asked + 1) dues s.slots
+
+-- The number asks this instance.
+pub record Asks (task : Task) (entries : List Entry) (number : ℕ) (i : Instance) : Type 0 where
+  pub stream : Stream
+  pub streamed : slice_get task.streams i.stream ≡ Some stream
+  pub asks : asked task entries number ≡ Some (record { stream = stream; instance = i })
+
+-- The transcript is legal, and nothing is open. What is known and noted is what the learnt front of it certifies and tells, unless
+-- the session has failed.
+pub record IsSession (task : Task) (s : State) : Type 0 where
+  pub fit : IsFit task
+  pub version : s.version ≤ 2
+  pub some_version : 1 ≤ s.version
+  pub calls : s.calls ≤ 100000
+  pub pools : AreFitPools task s.pools
+  pub legal : IsLegal s.version task s.entries
+  pub none_open : HasNoneOpen s.entries
+  pub counted : length s.asked ≡ asks_of s.entries
+  pub asked : (k : ℕ) (i : Instance) → slice_get s.asked k ≡ Some i → Asks task s.entries (k + 1) i
+  pub answered : count_by is_answer s.entries ≤ asks_of s.entries
+  pub learnt : s.learnt ≤ length s.entries
+  pub known : s.failed ≡ false → s.known ≡ known_of task (take s.learnt s.entries)
+  pub notes : s.failed ≡ false → s.notes ≡ notes_of task (take s.learnt s.entries)
+  pub round : s.is_open ≡ true → IsRoundOf task s
+
+-- The session is one of the head: it has its version, its calls and its pools.
+pub record IsOf (head : Head) (s : State) : Type 0 where
+  pub version : s.version ≡ head.version
+  pub calls : s.calls ≡ head.calls
+  pub pools : s.pools ≡ map workers_of head.pools
+
+-- nothing was asked or known but what is known at first
+pub record IsNew (task : Task) (s : State) : Type 0 where
+  pub entries : s.entries ≡ []
+  pub closed : s.is_open ≡ false
+  pub failed : s.failed ≡ false
+  pub learnt : s.learnt ≡ 0
+
+-- no round is open, and what the transcript certifies is known
+pub record IsLearnt (s : State) : Type 0 where
+  pub closed : s.is_open ≡ false
+  pub all : s.learnt ≡ length s.entries
+
+-- ---- rounds
+
+-- The asks are due, each with its turn, and of different instances; they fit the workers, and so many calls are left.
+pub record MayBegin (task : Task) (s : State) (dues : List Due) : Type 0 where
+  pub ready : IsLearnt s
+  pub due : (i : Instance) → Contains (instances_of dues) i → IsDue task s.known s.notes i
+  pub turns : All (λ (d : Due). d.turn ≡ yields_of s.notes d.instance) dues
+  pub distinct : AreDistinct (instances_of dues)
+  pub fit : FitWorkers s.pools (streams_of dues)
+  pub left : length s.asked + length dues ≤ s.calls
+
+-- a round of these asks is open, of which nothing was sent
+abbrev pub begun : Task → State → List Due → State
+begun task s dues =
+    with_round s true (asks_from task s.known.names (length s.asked + 1) dues) (instances_of dues) (slots_from task s.known.names s.version s.pools (length s.asked + 1) [] dues)
+
+-- ---- faults
+
+-- the session had failed before, or memory is wanting
+abbrev pub ComesOf : State → CoreFault → Type 0
+ComesOf s Failed = s.failed ≡ true
+ComesOf s Memory = s.failed ≡ false

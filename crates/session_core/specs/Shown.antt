@@ -1,0 +1,21 @@
+-- What the fields of a session show.
+use Rattle.session_core.specs.State.{State}
+use Rattle.session_core.specs.declared.session.Session.TheInside.{Inside}
+
+abbrev pub shown : Inside → State
+shown s =
+    record {
+      version = s.version;
+      calls = s.calls;
+      pools = s.pools.items;
+      entries = s.entries.items;
+      asked = s.asked.items;
+      known = s.facts.known;
+      notes = s.queue;
+      learnt = s.learnt;
+      is_open = s.is_open;
+      asks = s.round.asks.items;
+      instances = s.round.instances.items;
+      slots = s.round.cells.items;
+      failed = s.failed;
+    }

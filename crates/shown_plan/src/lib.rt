@@ -1,0 +1,11 @@
+//! How a plan is shown as the outcome of a run: its steps by name, and the calls from which its generated objects came.
+#![tactic(auto)]
+
+pub mod laws;
+mod names;
+mod origins;
+mod plan;
+mod source;
+mod steps;
+
+pub use plan::plan_outcome;
