@@ -15,3 +15,4 @@ mod sorts;
 mod streams;
 
 pub use check::is_fit;
+pub use streams::stream_leads;

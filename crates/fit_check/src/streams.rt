@@ -178,8 +178,9 @@ fn gives_to(domain: &Domain, first: &Stream, second: &Stream) -> bool
         .any(|output| is_fed(domain, second, *output))
 }
 
-/// Whether the first stream may feed the second.
-fn stream_leads(domain: &Domain, first: &Stream, second: &Stream) -> bool
+/// Whether the first stream leads to the second in one step: it certifies a predicate for which the second asks, or
+/// an output may be an input of the second, by their types.
+pub fn stream_leads(domain: &Domain, first: &Stream, second: &Stream) -> bool
     ensures { result ≡ fit.stream_leads domain.now first.now second.now }
 {
     certifies_for(first, second) || gives_to(domain, first, second)

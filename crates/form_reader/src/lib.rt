@@ -11,6 +11,8 @@ mod keys;
 pub mod laws;
 mod refused;
 #[cfg(test)]
+mod refused_domains;
+#[cfg(test)]
 mod tests;
 mod texts;
 mod words;

@@ -1,0 +1,4 @@
+pub mod Edges
+pub mod Leasts
+pub mod Roles
+pub mod Rounds

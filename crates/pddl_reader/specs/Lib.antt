@@ -1,0 +1,5 @@
+pub mod Tables
+pub mod Effects
+pub mod Names
+pub mod Cycles
+pub mod Domains

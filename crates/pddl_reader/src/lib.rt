@@ -1,0 +1,19 @@
+//! Domains, from trees.
+#![tactic(auto)]
+
+mod changes;
+mod cycles;
+mod domain;
+mod effects;
+mod items;
+mod once;
+mod reader;
+#[cfg(test)]
+mod refused_domains;
+mod tables;
+#[cfg(test)]
+mod tests;
+
+pub use once::check_second_items;
+pub use reader::read_domain;
+pub use tables::{add_named, body_of, name_of};

@@ -1,0 +1,5 @@
+pub mod Tables
+pub mod Names
+pub mod Values
+pub mod Problems
+pub mod Laws

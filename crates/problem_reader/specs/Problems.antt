@@ -1,0 +1,168 @@
+-- What problems are, and all their name faults.
+use Rattle.std.specs.Prelude.{◌≡◌, ℕ, Bool, true, false, if◌then◌else◌, List, [], ◌∷◌, ◌++◌, Option, Some, None, Result, Ok, Err, unwrap_or}
+use Rattle.sexpr_text.specs.Trees.{Trees, nothing, word, list}
+use Rattle.task_model.specs.Condition.{Condition}
+use Rattle.task_model.specs.declared.domain.Declared as declared
+use Rattle.task_model.specs.declared.domain.Domain.{Domain}
+use Rattle.task_model.specs.declared.fact.Fact.{Fact}
+use Rattle.task_model.specs.declared.fact.Kind.TheVariants.{Predicate}
+use Rattle.task_model.specs.declared.task.Problem.{Problem}
+use Rattle.task_model.specs.declared.task.Valued.{Valued}
+use Rattle.form_reader.specs.declared.fault.Fault as faults
+use Rattle.form_reader.specs.declared.fault.InputFault.{InputFault}
+use Rattle.form_reader.specs.declared.fault.InputFault.TheVariants as input
+use Rattle.form_reader.specs.declared.groups.Spot.TheVariants.{Start}
+use Rattle.form_reader.specs.declared.items.Item.{Item}
+use Rattle.form_reader.specs.declared.items.Item.TheVariants as item
+use Rattle.form_reader.specs.declared.items.TextKind.TheVariants as text
+use Rattle.form_reader.specs.Faults.{least}
+use Rattle.form_reader.specs.Items.{item_of}
+use Rattle.form_reader.specs.Rows.{head_of, tail_of}
+use Rattle.form_reader.specs.Texts.{form_faults}
+use Rattle.name_reader.specs.Conditions.{single_of}
+use Rattle.name_reader.specs.Declarations.{Typed, declare, declare_each, declared_list}
+use Rattle.name_reader.specs.Names.{place_of}
+use Rattle.name_reader.specs.Terms.{declared_place}
+use Rattle.name_reader.specs.Variables.{named_sorts, named_words}
+use Rattle.name_reader.specs.declared.vocabulary.Vocabulary.{Vocabulary}
+use Rattle.pddl_reader.specs.Names.{second_items}
+use Rattle.pddl_reader.specs.Tables.{body_of, name_of}
+use Rattle.problem_reader.specs.Names.{is_worth, items_names}
+use Rattle.problem_reader.specs.Tables.{is_objects, names_of}
+use Rattle.problem_reader.specs.Values.{is_init, nothing_given, term_in, value_in, values_names}
+
+-- ---- name faults
+
+-- all of a problem of this domain with these items, whose names these are
+abbrev pub names_faults : Domain → Vocabulary → Trees → List faults.Fault
+names_faults d v body = items_names v d body ++ second_items text.Problem [] body ++ values_names nothing_given body
+
+-- all of a text that is this row of one tree, as a problem of this domain
+abbrev pub name_faults : Domain → Trees → List faults.Fault
+name_faults d t = names_faults d (names_of d (body_of t)) (body_of t)
+
+-- ---- objects
+
+-- a name with each of these types
+abbrev pub declare_all : Typed → List ℕ → List ℕ → Typed
+declare_all t name [] = t
+declare_all t name (s ∷ ss) = declare_all (declare t name s) name ss
+
+-- the domain's constants with their types
+abbrev pub constants_typed : Typed → List declared.Declared → Typed
+constants_typed t [] = t
+constants_typed t (d ∷ ds) = constants_typed (declare_all t d.name d.sorts) ds
+
+-- and the objects that items declare; a constant that is declared again has the types of both
+abbrev pub objects_typed : List (List ℕ) → Typed → Trees → Typed
+objects_typed sorts t nothing = t
+objects_typed sorts t (word w at rest) = objects_typed sorts t rest
+objects_typed sorts t (list items at rest) =
+    objects_typed sorts (if is_objects (item_of text.Problem (head_of items)) then declare_each t (named_words Start (tail_of items)) (named_sorts sorts Start 0 (tail_of items)) else t) rest
+
+abbrev pub no_typed : Typed
+no_typed = record { names = []; sorts = [] }
+
+abbrev pub all_typed : Domain → List (List ℕ) → Trees → Typed
+all_typed d sorts body = objects_typed sorts (constants_typed no_typed d.constants) body
+
+abbrev pub objects_of : Domain → List (List ℕ) → Trees → List declared.Declared
+objects_of d sorts body = declared_list (all_typed d sorts body).names (all_typed d sorts body).sorts
+
+-- ---- facts and values, in the order of the text
+
+-- the objects that the words of a row name
+abbrev pub places_of : List (List ℕ) → Trees → List ℕ
+places_of objects nothing = []
+places_of objects (word w at rest) = unwrap_or (place_of w objects) 0 ∷ places_of objects rest
+places_of objects (list items at rest) = places_of objects rest
+
+-- (NAME NAME*)
+abbrev pub fact_of : Vocabulary → Trees → Fact
+fact_of v items = record { kind = Predicate; name = declared_place v.predicates (head_of items); args = places_of v.objects (tail_of items) }
+
+-- (= (NAME NAME*) NUMBER)
+abbrev pub valued_of : Vocabulary → Trees → Valued
+valued_of v items =
+    record { func = declared_place v.functions (head_of (term_in items)); args = places_of v.objects (tail_of (term_in items)); value = value_in items }
+
+abbrev pub facts_of : Vocabulary → Trees → List Fact
+facts_of v nothing = []
+facts_of v (word w at rest) = facts_of v rest
+facts_of v (list items at rest) = (if is_worth items then [] else fact_of v items ∷ []) ++ facts_of v rest
+
+abbrev pub valueds_of : Vocabulary → Trees → List Valued
+valueds_of v nothing = []
+valueds_of v (word w at rest) = valueds_of v rest
+valueds_of v (list items at rest) = (if is_worth items then valued_of v items ∷ [] else []) ++ valueds_of v rest
+
+-- ---- the problem
+
+-- what stands behind the word `:init` of the first such item
+abbrev pub init_of : Trees → Trees
+init_of nothing = nothing
+init_of (word w at rest) = init_of rest
+init_of (list items at rest) = if is_init (item_of text.Problem (head_of items)) then tail_of items else init_of rest
+
+abbrev pub is_goal : Item → Bool
+is_goal item.Goal = true
+is_goal _ = false
+
+-- what stands behind the word `:goal` of the first such item
+abbrev pub goal_of : Trees → Trees
+goal_of nothing = nothing
+goal_of (word w at rest) = goal_of rest
+goal_of (list items at rest) = if is_goal (item_of text.Problem (head_of items)) then tail_of items else goal_of rest
+
+abbrev pub is_metric : Item → Bool
+is_metric item.Metric = true
+is_metric _ = false
+
+-- whether there is a `:metric`, which can only be the total cost
+abbrev pub has_metric : Trees → Bool
+has_metric nothing = false
+has_metric (word w at rest) = has_metric rest
+has_metric (list items at rest) = if is_metric (item_of text.Problem (head_of items)) then true else has_metric rest
+
+-- the condition of a goal, in which no variable is in scope from outside
+abbrev pub condition_of : Vocabulary → Trees → Condition
+condition_of v rest = single_of v [] rest
+
+-- the problem of this domain with these names that a text spells
+abbrev pub problem_by : Domain → Vocabulary → Trees → Problem
+problem_by d v t =
+    record {
+      name = name_of t;
+      objects = objects_of d v.sorts (body_of t);
+      init = facts_of v (init_of (body_of t));
+      values = valueds_of v (init_of (body_of t));
+      goal = condition_of v (goal_of (body_of t));
+      metric = has_metric (body_of t);
+    }
+
+abbrev pub problem_of : Domain → Trees → Problem
+problem_of d t = problem_by d (names_of d (body_of t)) t
+
+-- ---- reading
+
+-- the problem that the names give, or the name fault that is answered
+abbrev pub ReadsNamed : Domain → Trees → Result Problem faults.Fault → Type 0
+ReadsNamed d t (Ok p) = (least (name_faults d t) ≡ None) × (p ≡ problem_of d t)
+ReadsNamed d t (Err f) = least (name_faults d t) ≡ Some f
+
+-- The fault is answered: of form faults the least, and where there is none, of name faults the least.
+pub data IsAnswered (d : Domain) (t : Trees) (f : faults.Fault) : Type 0 where
+  of_form : least (form_faults text.Problem t) ≡ Some f → IsAnswered d t f
+  of_names : form_faults text.Problem t ≡ [] → least (name_faults d t) ≡ Some f → IsAnswered d t f
+
+-- there is no fault, and this is the problem
+pub record IsRead (d : Domain) (t : Trees) (p : Problem) : Type 0 where
+  pub formed : form_faults text.Problem t ≡ []
+  pub named : name_faults d t ≡ []
+  pub problem : p ≡ problem_of d t
+
+-- A problem is read where there is no fault, and a fault is the answered one. Memory is free.
+abbrev pub Reads : Domain → Trees → Result Problem InputFault → Type 0
+Reads d t (Ok p) = IsRead d t p
+Reads d t (Err (input.At place kind)) = IsAnswered d t (record { place = place; kind = kind })
+Reads d t (Err input.Memory) = Unit {0}

@@ -1,0 +1,74 @@
+//! Problems, from trees.
+ghost use Rattle.std.specs.Prelude.{◌≡◌, IfOk};
+ghost use Rattle.sexpr_text.specs.Trees.{tree, trees};
+ghost use Rattle.form_reader.specs.Faults.{least};
+ghost use Rattle.problem_reader.specs.Problems as specs;
+
+use crate::items::check_items;
+use crate::problem::problem_of;
+use crate::tables::names_of;
+use crate::values::check_values;
+use form_reader::{Fault, InputFault, TextKind, check_form};
+use name_reader::Vocabulary;
+use pddl_reader::{body_of, check_second_items};
+use sexpr_text::Tree;
+use std::alloc::{AllocError, Global};
+use task_model::{Domain, Problem};
+
+/// The name fault that is answered of a problem with these names and items, if it has one. Fails only where memory is
+/// wanting.
+#[tactic(auto, using(form_reader::proofs::Firsts::first_append))]
+fn check_names(
+    alloc: Global,
+    domain: &Domain,
+    names: &Vocabulary,
+    body: &[Tree],
+) -> Result<Option<Fault>, AllocError>
+    ensures { IfOk result (λ f. f ≡ least (specs.names_faults domain.now names.now (trees body.now))) }
+{
+    let used = check_items(alloc, names, domain, body, None)?;
+    let single = check_second_items(alloc, TextKind::Problem, body, used)?;
+    check_values(alloc, body, single)
+}
+
+/// The problem, or its name fault that is answered. Fails only where memory is wanting.
+fn read_named(
+    alloc: Global,
+    text: &Tree,
+    domain: &Domain,
+) -> Result<Result<Problem, Fault>, AllocError>
+    ensures { IfOk result (λ r. specs.ReadsNamed domain.now (tree text.now) r) }
+{
+    let body = body_of(text);
+    let names = names_of(alloc, domain, body)?;
+    match check_names(alloc, domain, &names, body)? {
+        Some(fault) => Ok(Err(fault)),
+        None => {
+            let problem = problem_of(alloc, domain, &names, text)?;
+            Ok(Ok(problem))
+        }
+    }
+}
+
+/// Reads a problem of this domain from its tree.
+///
+/// The forms are those of this project's profile of PDDL 2.1, with the total cost as the metric (IPC 2008). The domain is
+/// one that `pddl_reader::read_domain` gave.
+///
+/// # Errors
+///
+/// - `At`: the text has a fault. Of its form faults the one with the least place is answered, and at one place `Shape`
+///   last; where it has none, of its name faults the one with the least place, and at one place the one of the smallest
+///   number.
+/// - `Memory`: memory ran out, which says nothing of the text.
+pub fn read_problem(alloc: Global, text: &Tree, domain: &Domain) -> Result<Problem, InputFault>
+    ensures { specs.Reads domain.now (tree text.now) result }
+{
+    if let Some(Fault { place, kind }) = check_form(TextKind::Problem, text) {
+        return Err(InputFault::At { place, kind });
+    }
+    match read_named(alloc, text, domain)? {
+        Ok(problem) => Ok(problem),
+        Err(Fault { place, kind }) => Err(InputFault::At { place, kind }),
+    }
+}

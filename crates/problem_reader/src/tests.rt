@@ -1,0 +1,268 @@
+//! Which problems are refused, and where, and what a problem holds. In each refused text the byte `@` marks the place of
+//! the fault and is no part of it.
+use crate::read_problem;
+use crate::refused_problems::{DOMAIN, REFUSED};
+use form_reader::{InputFault, InputKind};
+use pddl_reader::read_domain;
+use sexpr_text::read_tree;
+use std::alloc::{AllocError, Global};
+use std::fmt::Write;
+use std::str;
+use std::test::Fail;
+use task_model::{Domain, Fact, Formula, FormulaNode, Name, Obj, Problem, Term, Valued};
+
+/// The text without its mark, and the place of the mark, if it has one.
+fn unmarked(alloc: Global, marked: &[u8]) -> Result<(Vec<u8>, Option<usize>), AllocError> {
+    let mut text = Vec::new(alloc);
+    let mut place = None;
+    for byte in marked {
+        if *byte == b'@' {
+            place = Some(text.len());
+        } else {
+            text.push(*byte)?;
+        }
+    }
+    Ok((text, place))
+}
+
+/// The domain of a text.
+fn domain_of(alloc: Global, text: &[u8]) -> Result<Domain, Fail> {
+    let tree = read_tree(alloc, text)?;
+    Ok(read_domain(alloc, &tree)?)
+}
+
+/// The fault of a problem, and the marked one.
+fn faults_of(
+    alloc: Global,
+    domain: &Domain,
+    kind: InputKind,
+    marked: &[u8],
+) -> Result<(Option<InputFault>, Option<InputFault>), Fail> {
+    let (bytes, place) = unmarked(alloc, marked)?;
+    let tree = read_tree(alloc, bytes.as_slice())?;
+    let wanted = place.map(|place| InputFault::At { place, kind });
+    Ok((read_problem(alloc, &tree, domain).err(), wanted))
+}
+
+#[test]
+fn problems_have_the_marked_fault(rt: HostRuntime) -> Result<(), Fail> {
+    let domain = domain_of(rt.alloc(), DOMAIN)?;
+    for (kind, marked) in REFUSED {
+        let (fault, wanted) = faults_of(rt.alloc(), &domain, kind, marked)?;
+        assert_eq!(rt; fault, wanted);
+    }
+    Ok(())
+}
+
+/// Writes a name.
+fn write_name(out: &mut String, name: &Name) -> Result<(), AllocError> {
+    let letters = str::from_utf8(name.bytes()).unwrap_or("?");
+    write!(out, " {letters}")
+}
+
+/// Writes terms, a slot as `?N` and an object as `N`.
+fn write_terms(out: &mut String, terms: &[Term]) -> Result<(), AllocError> {
+    for term in terms {
+        match term {
+            Term::Slot(slot) => write!(out, " ?{slot}")?,
+            Term::Object(object) => write!(out, " {}", object.place())?,
+        }
+    }
+    Ok(())
+}
+
+/// Writes a condition, as deep as `depth` says.
+fn write_formula(out: &mut String, formula: &Formula, depth: usize) -> Result<(), AllocError> {
+    if depth == 0 {
+        return Ok(());
+    }
+    match &formula.node {
+        FormulaNode::Atom { pred, args } => {
+            write!(out, " [{pred}")?;
+            write_terms(out, args.as_slice())?;
+        }
+        FormulaNode::Equal(first, second) => {
+            write!(out, " [=")?;
+            write_terms(out, &[*first, *second])?;
+        }
+        FormulaNode::All(parts) => {
+            write!(out, " [and")?;
+            for part in parts {
+                write_formula(out, part, depth - 1)?;
+            }
+        }
+        FormulaNode::Any(parts) => {
+            write!(out, " [or")?;
+            for part in parts {
+                write_formula(out, part, depth - 1)?;
+            }
+        }
+        FormulaNode::Not(part) => {
+            write!(out, " [not")?;
+            write_formula(out, part, depth - 1)?;
+        }
+        FormulaNode::Exists { first, sorts, body } => {
+            write!(out, " [exists {first}:")?;
+            write_numbers(out, sorts.as_slice())?;
+            write_formula(out, body, depth - 1)?;
+        }
+    }
+    write!(out, "]")
+}
+
+/// Writes numbers.
+fn write_numbers(out: &mut String, numbers: &[u32]) -> Result<(), AllocError> {
+    for number in numbers {
+        write!(out, " {number}")?;
+    }
+    Ok(())
+}
+
+/// Writes objects as numbers.
+fn write_objects(out: &mut String, objects: &[Obj]) -> Result<(), AllocError> {
+    for object in objects {
+        write!(out, " {}", object.place())?;
+    }
+    Ok(())
+}
+
+/// Writes facts as `[PRED OBJECTS]`.
+fn write_facts(out: &mut String, facts: &[Fact]) -> Result<(), AllocError> {
+    for fact in facts {
+        write!(out, " [{}", fact.name)?;
+        write_objects(out, fact.args.as_slice())?;
+        write!(out, "]")?;
+    }
+    Ok(())
+}
+
+/// Writes values as `[FUNCTION OBJECTS = VALUE]`.
+fn write_values(out: &mut String, values: &[Valued]) -> Result<(), AllocError> {
+    for valued in values {
+        write!(out, " [{}", valued.func)?;
+        write_objects(out, valued.args.as_slice())?;
+        write!(out, " = {}]", valued.value)?;
+    }
+    Ok(())
+}
+
+/// Writes all that a problem holds.
+fn write_problem(out: &mut String, problem: &Problem) -> Result<(), AllocError> {
+    write!(out, "problem")?;
+    write_name(out, &problem.name)?;
+    for object in problem.objects.as_slice() {
+        write!(out, "\nobject")?;
+        write_name(out, &object.name)?;
+        write_numbers(out, object.sorts.as_slice())?;
+    }
+    write!(out, "\ninit")?;
+    write_facts(out, problem.init.as_slice())?;
+    write!(out, "\nvalues")?;
+    write_values(out, problem.values.as_slice())?;
+    write!(out, "\ngoal")?;
+    write_formula(out, &problem.goal, 9)?;
+    write!(out, "\nmetric {}", problem.metric)
+}
+
+/// A domain, a problem of it, and what the problem holds.
+type Example = (&'static [u8], &'static [u8], &'static str);
+
+const FETCH: Example = (
+    b"(define (domain fetch)
+  (:predicates (item ?x) (hold ?x ?g) (grip ?x ?g) (free) (done ?x))
+  (:action take :parameters (?x ?g)
+    :precondition (and (free) (grip ?x ?g))
+    :effect (and (hold ?x ?g) (not (free))))
+  (:action drop :parameters (?x ?g) :precondition (hold ?x ?g)
+    :effect (and (done ?x) (free) (not (hold ?x ?g)))))",
+    b"(define (problem one) (:domain fetch) (:objects cup)
+  (:init (item cup) (free)) (:goal (done cup)))",
+    "problem one
+object cup 0
+init [0 0] [3]
+values
+goal [4 0]
+metric false",
+);
+
+const KEEP: Example = (
+    b"(define (domain keep) (:predicates (p) (q))
+  (:functions (f) - number (total-cost) - number)
+  (:action a1 :parameters () :precondition (p)
+    :effect (and (p) (not (p)) (q) (increase (total-cost) (f)))))",
+    b"(define (problem k) (:domain keep)
+  (:init (p) (= (total-cost) 0) (= (f) 7))
+  (:goal (and (p) (q))) (:metric minimize (total-cost)))",
+    "problem k
+init [0]
+values [1 = 0] [0 = 7]
+goal [and [0] [1]]
+metric true",
+);
+
+const TYPED: Example = (
+    DOMAIN,
+    b"(DEFINE (problem One) (:goal (and (r k a) (exists (?x - u) (q ?x)) (h)))
+  (:objects a b - t k c - u a) (:domain D)
+  (:init (r a K) (= (g b) 007) (p) (= (f) 0) (p) (= (g b) 7)) (:metric minimize total-cost))",
+    "problem one
+object k 1 2
+object a 0 1
+object b 1
+object c 2
+init [2 1 0] [0] [0]
+values [1 2 = 7] [0 = 0] [1 2 = 7]
+goal [and [2 0 1] [exists 0: 2 [1 ?0]] [3]]
+metric true",
+);
+
+const SMALLEST: Example = (
+    DOMAIN,
+    b"(define (problem p) (:goal ()) (:domain d))",
+    "problem p
+object k 1
+init
+values
+goal [and]
+metric false",
+);
+
+#[test]
+fn problems_are_read_whole(rt: HostRuntime) -> Result<(), Fail> {
+    for (domain, text, wanted) in [FETCH, KEEP, TYPED, SMALLEST] {
+        let domain = domain_of(rt.alloc(), domain)?;
+        let tree = read_tree(rt.alloc(), text)?;
+        let problem = read_problem(rt.alloc(), &tree, &domain)?;
+        let mut out = String::new(rt.alloc());
+        write_problem(&mut out, &problem)?;
+        assert_eq!(rt; out.as_str(), wanted);
+    }
+    Ok(())
+}
+
+/// A problem with this many objects, each with a fact and a value.
+fn large_problem(alloc: Global, count: usize) -> Result<String, AllocError> {
+    let mut text = String::new(alloc);
+    write!(text, "(define (problem large) (:domain d) (:objects")?;
+    for number in 0..count {
+        write!(text, " o{number}")?;
+    }
+    write!(text, " - t) (:init")?;
+    for number in 0..count {
+        write!(text, " (q o{number}) (= (g o{number}) {number})")?;
+    }
+    write!(text, ") (:goal (q o0)))")?;
+    Ok(text)
+}
+
+#[test]
+fn a_large_problem_is_read(rt: HostRuntime) -> Result<(), Fail> {
+    let domain = domain_of(rt.alloc(), DOMAIN)?;
+    let text = large_problem(rt.alloc(), 10_000)?;
+    let tree = read_tree(rt.alloc(), text.as_bytes())?;
+    let problem = read_problem(rt.alloc(), &tree, &domain)?;
+    assert_eq!(rt; problem.objects.len(), 10_001);
+    assert_eq!(rt; problem.init.len(), 10_000);
+    assert_eq!(rt; problem.values.len(), 10_000);
+    Ok(())
+}

@@ -1,0 +1,60 @@
+-- The atoms of streams: their name faults, and what they are (PDDLStream 2020).
+use Rattle.std.specs.Prelude.{ℕ, Bool, true, false, not, if◌then◌else◌, List, [], ◌∷◌, ◌++◌, codes, Option, Some, None, slice_get}
+use Rattle.std.specs.Str.{bytes_eq}
+use Rattle.sexpr_text.specs.Trees.{Trees, nothing, word, list}
+use Rattle.task_model.specs.declared.domain.Pattern.{Pattern}
+use Rattle.task_model.specs.declared.domain.Role.{Role}
+use Rattle.task_model.specs.declared.domain.Role.TheVariants.{Static, Fluent, Derived}
+use Rattle.form_reader.specs.declared.fault.Fault.{Fault}
+use Rattle.form_reader.specs.declared.fault.InputKind.TheVariants.{EffectOnStatic}
+use Rattle.form_reader.specs.Rows.{head_of, tail_of}
+use Rattle.name_reader.specs.Names.{place_of}
+use Rattle.name_reader.specs.Terms.{application_names, declared_place, terms_of}
+use Rattle.name_reader.specs.Variables.{unless}
+use Rattle.name_reader.specs.declared.vocabulary.Vocabulary.{Vocabulary}
+
+-- whether actions or rules change the atoms of a predicate with this role, if it is there
+abbrev pub is_changing : Option Role → Bool
+is_changing None = false
+is_changing (Some Static) = false
+is_changing (Some Fluent) = true
+is_changing (Some Derived) = true
+
+abbrev pub role_at : List Role → Option ℕ → Option Role
+role_at roles None = None
+role_at roles (Some place) = slice_get roles place
+
+module _ (v : Vocabulary) (roles : List Role) (scope : List (List ℕ)) where
+  -- an atom, as the list at this place
+  abbrev pub atom_names : ℕ → Trees → List Fault
+  atom_names place items =
+      application_names v.predicates v.objects scope place items ++ unless (not (is_changing (role_at roles (place_of (head_of items) v.predicates.names)))) EffectOnStatic place
+
+  abbrev mutual
+    -- atoms in a row
+    pub atom_rows_names : Trees → List Fault
+    atom_rows_names nothing = []
+    atom_rows_names (word text at rest) = atom_rows_names rest
+    atom_rows_names (list items at rest) = atoms_names at items ++ atom_rows_names rest
+
+    -- the atoms that the list at a place is
+    pub atoms_names : ℕ → Trees → List Fault
+    atoms_names place nothing = []
+    atoms_names place (word text at rest) = if bytes_eq text (codes "and") then atom_rows_names rest else atom_names place (word text at rest)
+    atoms_names place (list items at rest) = []
+
+module _ (v : Vocabulary) (scope : List (List ℕ)) where
+  abbrev pub pattern_of : Trees → Pattern
+  pattern_of items = record { pred = declared_place v.predicates (head_of items); args = terms_of v.objects scope (tail_of items) }
+
+  -- the atoms in the order of the text
+  abbrev mutual
+    pub row_patterns : Trees → List Pattern
+    row_patterns nothing = []
+    row_patterns (word text at rest) = row_patterns rest
+    row_patterns (list items at rest) = patterns_of items ++ row_patterns rest
+
+    pub patterns_of : Trees → List Pattern
+    patterns_of nothing = []
+    patterns_of (word text at rest) = if bytes_eq text (codes "and") then row_patterns rest else pattern_of (word text at rest) ∷ []
+    patterns_of (list items at rest) = []

@@ -1,0 +1,72 @@
+-- The streams that lead to themselves.
+use Rattle.std.specs.Prelude.{◌≡◌, ℕ, ◌+◌, Bool, true, false, if◌then◌else◌, List, [], ◌∷◌, ◌++◌, Option, Some, None}
+use Rattle.sexpr_text.specs.Trees.{Trees, nothing, word, list}
+use Rattle.task_model.specs.Fit.{stream_leads}
+use Rattle.task_model.specs.declared.domain.Domain.{Domain}
+use Rattle.task_model.specs.declared.stream.Stream as stream
+use Rattle.form_reader.specs.declared.fault.Fault.{Fault}
+use Rattle.form_reader.specs.declared.fault.InputKind.TheVariants.{StreamCycle}
+use Rattle.form_reader.specs.declared.keys.Keyed.{Keyed}
+use Rattle.form_reader.specs.Faults.{first, sooner}
+use Rattle.name_reader.specs.Graphs.{HasWay, IsCyclic}
+use Rattle.stream_reader.specs.Tables.{kind_of}
+use Rattle.stream_reader.specs.declared.cycles.Candidate.{Candidate}
+
+-- ---- what leads where
+
+-- the number of the second stream, if the first leads to it in one step
+abbrev pub next_one : Domain → stream.Stream → stream.Stream → ℕ → List ℕ
+next_one d s t number = if stream_leads d s t then number ∷ [] else []
+
+-- the numbers of those of these streams to which a stream leads in one step; the first of them has this number
+abbrev pub next_of : Domain → stream.Stream → ℕ → List stream.Stream → List ℕ
+next_of d s number [] = []
+next_of d s number (t ∷ ts) = next_one d s t number ++ next_of d s (number + 1) ts
+
+-- of each of some streams, where these are all
+abbrev pub edges_from : Domain → List stream.Stream → List stream.Stream → List (List ℕ)
+edges_from d all [] = []
+edges_from d all (s ∷ ss) = next_of d s 0 all ∷ edges_from d all ss
+
+-- to which streams each stream leads in one step, all by their numbers
+abbrev pub edges_of : Domain → List stream.Stream → List (List ℕ)
+edges_of d all = edges_from d all all
+
+-- ---- the streams of a text by their numbers, with their places
+
+abbrev pub is_there : Option Keyed → Bool
+is_there None = false
+is_there (Some keyed) = true
+
+-- the first one has this number
+abbrev pub candidates_of : ℕ → Trees → List Candidate
+candidates_of number nothing = []
+candidates_of number (word text at rest) = candidates_of number rest
+candidates_of number (list items at rest) =
+    if is_there (kind_of items) then record { node = number; place = at } ∷ candidates_of (number + 1) rest else candidates_of number rest
+
+-- ---- the faults
+
+abbrev pub cycle_at : ℕ → Fault
+cycle_at place = record { place = place; kind = StreamCycle }
+
+-- Those of the candidates have the fault from which a way leads back to themselves.
+pub data CycleFaults (edges : List (List ℕ)) : List Candidate → List Fault → Type 0 where
+  no_more : CycleFaults edges [] []
+  cyclic : {c : Candidate} {cs : List Candidate} {fs : List Fault} → HasWay edges c.node c.node → CycleFaults edges cs fs → CycleFaults edges (c ∷ cs) (cycle_at c.place ∷ fs)
+  free : {c : Candidate} {cs : List Candidate} {fs : List Fault} → ¬ (HasWay edges c.node c.node) → CycleFaults edges cs fs → CycleFaults edges (c ∷ cs) fs
+
+abbrev pub with_fault : Bool → Fault → Option Fault → Option Fault
+with_fault there f so_far = if there then sooner so_far f else so_far
+
+-- the answered one of a fault so far and of that of one candidate
+pub record AnswersCycle (edges : List (List ℕ)) (c : Candidate) (so_far answered : Option Fault) : Type 0 where
+  pub there : Bool
+  pub right : IsCyclic edges c.node there
+  pub least : answered ≡ with_fault there (cycle_at c.place) so_far
+
+-- the answered one of a fault so far and of those of candidates
+pub record AnswersCycles (edges : List (List ℕ)) (cs : List Candidate) (so_far answered : Option Fault) : Type 0 where
+  pub faults : List Fault
+  pub right : CycleFaults edges cs faults
+  pub least : answered ≡ first so_far faults

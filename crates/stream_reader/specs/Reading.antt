@@ -1,0 +1,65 @@
+-- What reading a stream file gives.
+use Rattle.std.specs.Prelude.{◌≡◌, ℕ, List, [], Option, Some, None, Result, Ok, Err}
+use Rattle.sexpr_text.specs.Trees.{Trees}
+use Rattle.task_model.specs.declared.domain.Domain.{Domain}
+use Rattle.task_model.specs.declared.stream.Stream as stream
+use Rattle.form_reader.specs.declared.fault.Fault.{Fault}
+use Rattle.form_reader.specs.declared.fault.InputFault.{InputFault}
+use Rattle.form_reader.specs.declared.fault.InputFault.TheVariants as input
+use Rattle.form_reader.specs.declared.items.TextKind.TheVariants.{Streams}
+use Rattle.form_reader.specs.Faults.{least}
+use Rattle.form_reader.specs.Texts.{form_faults}
+use Rattle.stream_reader.specs.Cycles.{AnswersCycles, CycleFaults, candidates_of, edges_of}
+use Rattle.stream_reader.specs.Names.{plain_names}
+use Rattle.stream_reader.specs.Streams.{streams_of}
+use Rattle.stream_reader.specs.Tables.{body_of, vocabulary_of}
+
+-- over a domain, of a text that is this row of one tree
+
+-- the name faults but for those of cycles
+abbrev pub names_of : Domain → Trees → List Fault
+names_of d t = plain_names (vocabulary_of d) d.roles (body_of t)
+
+-- the streams that the text spells
+abbrev pub spelled : Domain → Trees → List stream.Stream
+spelled d t = streams_of (vocabulary_of d) (body_of t)
+
+-- these are all faults of streams that lead to themselves
+abbrev pub AreCycleFaults : Domain → Trees → List Fault → Type 0
+AreCycleFaults d t faults = CycleFaults (edges_of d (spelled d t)) (candidates_of 0 (body_of t)) faults
+
+-- The name fault is answered: the least but for cycles, and where there is none of them, the least of cycles.
+pub data IsNameFault (d : Domain) (t : Trees) (f : Fault) : Type 0 where
+  of_names : least (names_of d t) ≡ Some f → IsNameFault d t f
+  of_cycles : {faults : List Fault} → names_of d t ≡ [] → AreCycleFaults d t faults → least faults ≡ Some f → IsNameFault d t f
+
+-- there is no name fault, and these are the streams
+pub record AreNamed (d : Domain) (t : Trees) (ss : List stream.Stream) : Type 0 where
+  pub named : names_of d t ≡ []
+  pub acyclic : AreCycleFaults d t []
+  pub streams : ss ≡ spelled d t
+
+-- of a text without form faults
+abbrev pub ReadsNamed : Domain → Trees → Result (List stream.Stream) Fault → Type 0
+ReadsNamed d t (Ok ss) = AreNamed d t ss
+ReadsNamed d t (Err f) = IsNameFault d t f
+
+-- The fault is answered: of form faults the least, and where there is none, the name fault.
+pub data IsAnswered (d : Domain) (t : Trees) (f : Fault) : Type 0 where
+  of_form : least (form_faults Streams t) ≡ Some f → IsAnswered d t f
+  of_text : form_faults Streams t ≡ [] → IsNameFault d t f → IsAnswered d t f
+
+-- there is no fault, and these are the streams
+pub record AreRead (d : Domain) (t : Trees) (ss : List stream.Stream) : Type 0 where
+  pub formed : form_faults Streams t ≡ []
+  pub named : AreNamed d t ss
+
+-- Streams are read where there is no fault, and a fault is the answered one. Memory is free.
+abbrev pub Reads : Domain → Trees → Result (List stream.Stream) InputFault → Type 0
+Reads d t (Ok ss) = AreRead d t ss
+Reads d t (Err (input.At place kind)) = IsAnswered d t (record { place = place; kind = kind })
+Reads d t (Err input.Memory) = Unit {0}
+
+-- the answered one of the faults of cycles, where these are the streams
+abbrev pub AnswersAcyclic : Domain → List stream.Stream → Trees → Option Fault → Type 0
+AnswersAcyclic d ss body answered = AnswersCycles (edges_of d ss) (candidates_of 0 body) None answered

@@ -1,0 +1,81 @@
+-- The names that a domain has, and the parts of a stream file.
+use Rattle.std.specs.Prelude.{ℕ, Bool, true, false, if◌then◌else◌, List, [], ◌∷◌, ◌++◌, codes, Option, Some, None}
+use Rattle.std.specs.Str.{bytes_eq}
+use Rattle.sexpr_text.specs.Trees.{Trees, nothing, word, list}
+use Rattle.task_model.specs.declared.domain.Declared as declared
+use Rattle.task_model.specs.declared.domain.Domain.{Domain}
+use Rattle.task_model.specs.declared.domain.Signature.{Signature}
+use Rattle.task_model.specs.declared.domain.Sort as sort
+use Rattle.form_reader.specs.declared.groups.Spot.TheVariants.{Start}
+use Rattle.form_reader.specs.declared.items.Item.{Item}
+use Rattle.form_reader.specs.declared.items.Item.TheVariants as item
+use Rattle.form_reader.specs.declared.items.TextKind.TheVariants.{Streams}
+use Rattle.form_reader.specs.declared.keys.Keyed.{Keyed}
+use Rattle.form_reader.specs.declared.keys.Keyed.TheVariants as keyed
+use Rattle.form_reader.specs.Items.{item_of}
+use Rattle.form_reader.specs.Rows.{head_of, inner_of, tail_of}
+use Rattle.name_reader.specs.Names.{Signed, with_name, with_signature}
+use Rattle.name_reader.specs.Variables.{named_words}
+use Rattle.name_reader.specs.declared.vocabulary.Vocabulary.{Vocabulary}
+use Rattle.stream_reader.specs.declared.tables.Scopes.{Scopes}
+
+-- ---- the names of a domain, each once
+
+abbrev pub sorts_from : List (List ℕ) → List sort.Sort → List (List ℕ)
+sorts_from names [] = names
+sorts_from names (s ∷ ss) = sorts_from (with_name names s.name) ss
+
+abbrev pub constants_from : List (List ℕ) → List declared.Declared → List (List ℕ)
+constants_from names [] = names
+constants_from names (d ∷ ds) = constants_from (with_name names d.name) ds
+
+abbrev pub signatures_from : Signed → List Signature → Signed
+signatures_from s [] = s
+signatures_from s (g ∷ gs) = signatures_from (with_signature s g.name g.arity) gs
+
+abbrev pub no_signatures : Signed
+no_signatures = record { names = []; arities = [] }
+
+-- The total cost is a function without arguments, declared or not.
+abbrev pub vocabulary_of : Domain → Vocabulary
+vocabulary_of d =
+    record {
+      sorts = sorts_from [] d.sorts;
+      predicates = signatures_from no_signatures d.predicates;
+      functions = with_signature (signatures_from no_signatures d.functions) (codes "total-cost") 0;
+      objects = constants_from [] d.constants;
+    }
+
+-- ---- the parts of a stream file
+
+-- the items of a text that is this row of one tree
+abbrev pub body_of : Trees → Trees
+body_of t = tail_of (tail_of (inner_of t))
+
+-- the kind of a stream with this item, if it is one
+abbrev pub stream_kind : Item → Option Keyed
+stream_kind item.Stream = Some keyed.Stream
+stream_kind item.CostStream = Some keyed.CostStream
+stream_kind _ = None
+
+-- the kind of a stream that a list is, if it is one
+abbrev pub kind_of : Trees → Option Keyed
+kind_of items = stream_kind (item_of Streams (head_of items))
+
+-- the keys behind the name
+abbrev pub keys_of : Trees → Trees
+keys_of items = tail_of (tail_of items)
+
+-- the value of the first key that is this word, nothing where there is none
+abbrev pub value_at : List ℕ → Trees → Trees
+value_at key nothing = nothing
+value_at key (word text at rest) = if bytes_eq text key then inner_of rest else value_at key rest
+value_at key (list items at rest) = value_at key rest
+
+-- The variables of a stream with these keys: its inputs, and its inputs and outputs.
+abbrev pub scopes_of : Trees → Scopes
+scopes_of keys =
+    record {
+      inputs = named_words Start (value_at (codes ":inputs") keys);
+      all = named_words Start (value_at (codes ":inputs") keys) ++ named_words Start (value_at (codes ":outputs") keys);
+    }
