@@ -7,4 +7,6 @@ mod generated;
 #[cfg(test)]
 mod keep;
 #[cfg(test)]
+mod requests;
+#[cfg(test)]
 mod unfit;
