@@ -1,5 +1,5 @@
 -- A round that is begun.
-use Rattle.std.proofs.Common.{◌≡◌, ℕ, zero, suc, ◌+◌, ◌*◌, ◌≤◌, ◌<◌, Bool, true, false, cond, List, [], ◌∷◌, ◌++◌, length, take, get_or, refl, sym, ap, subst, ◌∙◌, inl, inr, Option, Some, slice_get, option_map, arith, count_by, append_assoc, All}
+use Rattle.std.proofs.Common.{◌≡◌, ℕ, zero, suc, ◌+◌, ◌*◌, ◌≤◌, ◌<◌, Bool, true, false, cond, List, [], ◌∷◌, ◌++◌, length, take, get_or, refl, sym, ap, subst, ◌∙◌, inl, inr, Option, None, Some, slice_get, option_map, arith, count_by, append_assoc, All}
 use Rattle.std.proofs.Math.Seq.{take-length}
 use Rattle.std.proofs.lemmas.Bool.{cases_lt}
 use Rattle.std.proofs.lemmas.List.{append-nil, length-map}
@@ -15,10 +15,12 @@ use Rattle.task_model.specs.Streams.{IsDue, yields_of}
 use Rattle.task_model.specs.declared.stream.Instance.{Instance}
 use Rattle.task_model.specs.declared.task.Task.{Task}
 use Rattle.transcript_text.proofs.Coherent.{coherent}
+use Rattle.transcript_text.proofs.Named.{all_nil, all_cons}
 use Rattle.transcript_text.specs.Transcript.{known_of, notes_of}
 use Rattle.transcript_text.specs.declared.entry.Entry.{Entry}
 use Rattle.session_core.proofs.Kept.{count_joined, count_one}
 use Rattle.session_core.proofs.Slotted.{children_of}
+use Rattle.session_core.specs.Events.{IsFresh}
 use Rattle.session_core.specs.Pools.{serves, server, child_for, HasChild, AreFitPools, FitWorkers}
 use Rattle.session_core.specs.Session.{IsSession, AreSlotsFor, MayBegin, begun}
 use Rattle.session_core.specs.Slots.{Slot, streams_of, ask_for, asks_from, slot_for, slots_from}
@@ -173,6 +175,14 @@ module _ (task : Task) (s : State) (dues : List Due) (works : s.failed ≡ false
   pub children_fit : (k : ℕ) (d : Due) → slice_get dues k ≡ Some d → child_for s.pools (streams_of (take k dues)) d.instance.stream ≤ 16
   children_fit k d at = let p = served k d at in omega (arith, p.child, p.inside, h.pools.few p.place p.pool p.at)
 
+  -- each slot's child is one of a pool
+  pub child_served : (names : List (List ℕ)) (version n k c : ℕ) → slice_get (children_of (slots_from task names version s.pools n [] dues)) k ≡ Some c → (j : ℕ) × (p : Workers) × (slice_get s.pools j ≡ Some p) × HasChild p c
+  child_served names version n k c at_k =
+      let x = child_at task names version s.pools n [] dues k c at_k in
+      let p = served k x.0 x.1 in
+      let is : c ≡ p.pool.first + count_by (serves p.pool) (take k (streams_of dues)) = x.2 ∙ p.child in
+      (p.place, p.pool, p.at, record { from = omega (arith, is); to = omega (arith, is, p.inside) })
+
   children_apart : (names : List (List ℕ)) (version n j k c : ℕ) → j < k → slice_get (children_of (slots_from task names version s.pools n [] dues)) j ≡ Some c → slice_get (children_of (slots_from task names version s.pools n [] dues)) k ≡ Some c → ⊥
   children_apart names version n j k c below at_j at_k =
       let x = child_at task names version s.pools n [] dues j c at_j in
@@ -217,6 +227,14 @@ module _ (task : Task) (s : State) (dues : List Due) (works : s.failed ≡ false
         apart = children_distinct names s.version first;
         closed = λ e. absurd (cc);
       }
+
+  -- nothing is sent, and each request has a child of its own
+  unsent : (names : List (List ℕ)) (n : ℕ) (before : List ℕ) (us : List Due) → All (λ (t : Slot). (t.sent ≡ false) × (t.answer ≡ None)) (slots_from task names s.version s.pools n before us)
+  unsent names n before [] = all_nil (λ (t : Slot). (t.sent ≡ false) × (t.answer ≡ None))
+  unsent names n before (u ∷ us) = all_cons (λ (t : Slot). (t.sent ≡ false) × (t.answer ≡ None)) (slot_for task names s.version s.pools n before u) (slots_from task names s.version s.pools (n + 1) (before ++ u.instance.stream ∷ []) us) (refl, refl) (unsent names (n + 1) (before ++ u.instance.stream ∷ []) us)
+
+  pub begun_fresh : IsFresh (begun task s dues).slots
+  begun_fresh = record { unsent = unsent s.known.names (length s.asked + 1) [] dues; apart = children_distinct s.known.names s.version (length s.asked + 1) }
 
   pub begin_kept : IsSession task (begun task s dues)
   begin_kept =

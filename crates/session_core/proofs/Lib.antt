@@ -1,7 +1,12 @@
+pub mod Answered
 pub mod Begins
 pub mod Closes
 pub mod Kept
+pub mod Learns
+pub mod Learnt
 pub mod Orders
+pub mod Rounds
 pub mod Slotted
 pub mod Sound
 pub mod Values
+pub mod Waiting

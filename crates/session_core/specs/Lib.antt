@@ -1,7 +1,9 @@
 pub mod Events
 pub mod Pools
+pub mod Ready
 pub mod Room
 pub mod Heard
+pub mod Learning
 pub mod Session
 pub mod Shown
 pub mod Slots

@@ -16,7 +16,7 @@ use Rattle.transcript_text.specs.declared.entry.Entry.TheVariants as entry
 use Rattle.transcript_text.specs.declared.head.Head.{Head}
 use Rattle.session_core.specs.Pools.{workers_of, AreFitPools, FitWorkers}
 use Rattle.session_core.specs.Slots.{Slot, wanted_at, streams_of, asks_from, slots_from, entry_of}
-use Rattle.session_core.specs.State.{State, with_round}
+use Rattle.session_core.specs.State.{State, with_round, with_learnt}
 use Rattle.session_core.specs.declared.fault.CoreFault.{CoreFault}
 use Rattle.session_core.specs.declared.fault.CoreFault.TheVariants.{Failed, Memory}
 
@@ -117,6 +117,12 @@ pub record MayBegin (task : Task) (s : State) (dues : List Due) : Type 0 where
 abbrev pub begun : Task → State → List Due → State
 begun task s dues =
     with_round s true (asks_from task s.known.names (length s.asked + 1) dues) (instances_of dues) (slots_from task s.known.names s.version s.pools (length s.asked + 1) [] dues)
+
+-- ---- learning
+
+-- what the whole transcript certifies and tells is known and noted
+abbrev pub after_learn : Task → State → State
+after_learn task s = with_learnt s (known_of task s.entries) (notes_of task s.entries) (length s.entries) false
 
 -- ---- faults
 

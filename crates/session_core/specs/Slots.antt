@@ -125,6 +125,14 @@ pub record IsAwaited (slots : List Slot) (child : ℕ) : Type 0 where
   pub sent : slot.sent ≡ true
   pub open_still : slot.answer ≡ None
 
+-- whether its request wasn't sent
+abbrev pub is_unsent_slot : Slot → Bool
+is_unsent_slot slot = not slot.sent && is_none slot.answer
+
+-- whether its request was sent and isn't answered
+abbrev pub is_awaited_slot : Slot → Bool
+is_awaited_slot slot = slot.sent && is_none slot.answer
+
 -- the answers, in the order of the slots
 abbrev pub answers_of : List Slot → List Entry
 answers_of = filter_map (λ (s : Slot). s.answer)

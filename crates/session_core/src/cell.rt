@@ -65,8 +65,8 @@ fn got(number: u32, wanted: Wanted, room: Option<Room>, line: &[u8], spans: &Spa
 }
 
 impl Cell {
-    ghost use Rattle.std.specs.Prelude.{IfOk, Some};
-    ghost use Rattle.session_core.specs.Slots.{Slot, sent_slot, heard_slot, fault_of, reply_to};
+    ghost use Rattle.std.specs.Prelude.{IfOk, Some, not, is_none, option_copied};
+    ghost use Rattle.session_core.specs.Slots.{Slot, is_unsent_slot, is_awaited_slot, sent_slot, heard_slot, fault_of, reply_to};
 
     /// The cell of a request that isn't sent yet, with memory for whatever it is answered.
     pub(crate) fn new(
@@ -112,6 +112,27 @@ impl Cell {
         self.request.as_slice()
     }
 
+    /// Whether its request wasn't sent.
+    pub(crate) fn is_unsent(&self) -> bool
+        ensures { result ≡ is_unsent_slot self.now }
+    {
+        !self.sent && self.answer.is_none()
+    }
+
+    /// Whether its request was sent and isn't answered.
+    pub(crate) fn is_awaited(&self) -> bool
+        ensures { result ≡ is_awaited_slot self.now }
+    {
+        self.sent && self.answer.is_none()
+    }
+
+    /// Whether it has its answer.
+    pub(crate) fn is_answered(&self) -> bool
+        ensures { result ≡ not (is_none self.now.answer) }
+    {
+        self.answer.is_some()
+    }
+
     /// Its request was written whole.
     pub(crate) fn send(&mut self)
         ensures { self.new ≡ sent_slot self.old }
@@ -137,6 +158,13 @@ impl Cell {
             Answer::Bad(why) => return Some(why),
         }
         None
+    }
+
+    /// Its answer, if one was heard.
+    pub(crate) fn answer(&self) -> Option<&Entry>
+        ensures { option_copied result ≡ self.now.answer }
+    {
+        self.answer.as_ref()
     }
 
     /// Its answer, if one was heard.

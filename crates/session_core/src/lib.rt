@@ -5,6 +5,7 @@
 mod cell;
 mod fault;
 pub mod laws;
+mod learn;
 mod pools;
 mod room;
 mod round;

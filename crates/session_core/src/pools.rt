@@ -1,7 +1,8 @@
 //! The workers of pools, and which of them is asked.
 ghost use Rattle.std.specs.Prelude.{◌≡◌, ◌≤◌, IfOk, length, option_copied, count_by, map};
 ghost use Rattle.std.specs.List.{list_any};
-ghost use Rattle.session_core.specs.Pools.{workers_of, serves as serves_stream, server as server_of, child_for};
+ghost use Rattle.session_core.specs.Pools.{workers_of, serves as serves_stream, server as server_of, child_for, fits_workers};
+ghost use Rattle.session_core.specs.Ready.{IsLongestFront};
 ghost use Rattle.session_core.specs.Slots.{streams_of};
 
 use instance_queue::Due;
@@ -63,6 +64,30 @@ fn served(pool: &Workers, dues: &[Due]) -> usize
     dues.iter()
         .filter(|due| serves(pool, due.instance.stream))
         .count()
+}
+
+/// Whether no pool has more of these dues than workers.
+fn fits(pools: &[Workers], dues: &[Due]) -> bool
+    ensures { result ≡ fits_workers pools.now (streams_of dues.now) }
+{
+    for pool in pools {
+        if served(pool, dues) > pool.workers as usize {
+            return false;
+        }
+    }
+    true
+}
+
+/// How many dues the longest front has that fits the workers.
+pub(crate) fn longest_front(pools: &[Workers], dues: &[Due]) -> usize
+    ensures { IsLongestFront pools.now dues.now result }
+{
+    for count in 0..dues.len() {
+        if !fits(pools, &dues[..count + 1]) {
+            return count;
+        }
+    }
+    dues.len()
 }
 
 /// The child for an ask of this stream, after these dues of the same round.

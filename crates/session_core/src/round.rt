@@ -1,12 +1,12 @@
 //! A round, before anything was sent.
-ghost use Rattle.std.specs.Prelude.{◌≡◌, ◌≤◌, ◌+◌, ◌^◌, ◌<◌, ◌++◌, [], ℕ, IfOk, IfSome, IfNone, None, length, map, take, All, Some, slice_get, vec_capacity};
+ghost use Rattle.std.specs.Prelude.{◌≡◌, ◌≤◌, ◌+◌, ◌^◌, ◌<◌, ◌++◌, [], ℕ, IfOk, IfSome, IfNone, None, length, map, take, All, Some, slice_get, vec_capacity, option_copied};
 ghost use Rattle.gen_lines.specs.Request.{IsNamed};
 ghost use Rattle.gen_lines.specs.Told.{IsNarrow};
 ghost use Rattle.instance_queue.specs.Level.{instances_of};
 ghost use Rattle.task_model.specs.Fit.{IsFit};
 ghost use Rattle.transcript_text.specs.Names.{call_of_instance};
 ghost use Rattle.session_core.specs.Pools.{child_for};
-ghost use Rattle.session_core.specs.Slots.{wanted_at, ask_for as ask_of, asks_from, slots_from, slot_for, streams_of, answers_of, slot_of};
+ghost use Rattle.session_core.specs.Slots.{wanted_at, ask_for as ask_of, asks_from, slots_from, slot_for, streams_of, answers_of, slot_of, all_answered};
 ghost use Rattle.session_core.specs.Slots.{AreFitChildren};
 ghost use Rattle.task_model.specs.Streams.{name_at};
 
@@ -159,6 +159,30 @@ pub(crate) fn place_of(cells: &[Cell], child: u8) -> Option<usize>
         }
     }
     None
+}
+
+/// The cell of the child.
+pub(crate) fn cell_of(cells: &[Cell], child: u8) -> Option<&Cell>
+    ensures { option_copied result ≡ slot_of cells.now child }
+{
+    for cell in cells {
+        if cell.child() == child {
+            return Some(cell);
+        }
+    }
+    None
+}
+
+/// Whether each of the cells has its answer.
+pub(crate) fn are_answered(cells: &[Cell]) -> bool
+    ensures { result ≡ all_answered cells.now }
+{
+    for cell in cells {
+        if !cell.is_answered() {
+            return false;
+        }
+    }
+    true
 }
 
 /// Puts the answers behind these entries, for which there is room.

@@ -1,7 +1,8 @@
 //! The session.
 use crate::fault::{CoreFault, Heard};
-use crate::pools::{Workers, workers_in};
-use crate::round::{Round, Scene, place_of, put_answers, round_of};
+use crate::learn::learn_from;
+use crate::pools::{Workers, longest_front, workers_in};
+use crate::round::{Round, Scene, are_answered, cell_of, place_of, put_answers, round_of};
 use fact_store::Facts;
 use instance_queue::{Due, Queue, QueueFault};
 use std::alloc::{AllocError, Global};
@@ -46,15 +47,20 @@ impl Model for Session {
 }
 
 impl Session {
-    ghost use Rattle.std.specs.Prelude.{◌≡◌, ◌+◌, ◌<◌, ◌≤◌, ◌==◌, [], true, false, length, slice_get, IfSome, IfOk, IfErr, OnOk, OnErr, if◌then◌else◌};
+    ghost use Rattle.std.specs.Prelude.{◌≡◌, ◌+◌, ◌<◌, ◌≤◌, ◌==◌, ℕ, List, [], true, false, length, take, drop, slice_get, Some, option_copied, IfSome, IfOk, IfErr, OnOk, OnErr, if◌then◌else◌};
     ghost use Rattle.instance_queue.specs.Level as level;
+    ghost use Rattle.instance_queue.specs.Level.{instances_of};
+    ghost use Rattle.instance_queue.specs.declared.due.Due.{Due as AnyDue};
     ghost use Rattle.task_model.specs.Fit.{IsFit};
     ghost use Rattle.task_model.specs.declared.task.Task.{Task as AnyTask};
     ghost use Rattle.transcript_text.specs.Laws.{is_mark};
     ghost use Rattle.transcript_text.specs.Legal.{asks_of};
     ghost use Rattle.transcript_text.specs.Transcript.{known_of, notes_of};
+    ghost use Rattle.session_core.specs.Events.{IsFresh};
     ghost use Rattle.session_core.specs.Heard.{heard_at, is_bad_at, number_at};
-    ghost use Rattle.session_core.specs.Session.{IsFitHead, IsSession, IsOf, IsNew, IsLearnt, MayBegin, begun, ComesOf};
+    ghost use Rattle.session_core.specs.Ready.{AreReady, IsNextRound};
+    ghost use Rattle.session_core.specs.Session.{IsFitHead, IsSession, IsOf, IsNew, IsLearnt, MayBegin, begun, after_learn, ComesOf};
+    ghost use Rattle.session_core.specs.declared.fault.CoreFault.TheVariants.{Failed};
     ghost use Rattle.session_core.specs.Slots.{IsUnsent, IsAwaited, all_answered};
     ghost use Rattle.session_core.specs.State.{after_sent, after_line, after_failure, after_close, after_mark, with_learnt};
 
@@ -85,15 +91,29 @@ impl Session {
         })
     }
 
+    /// How many of these asks, from the front on, make the next round: as many as there are such that no pool has more of them than
+    /// workers, and no more than calls are left. Where a call is left and there is an ask, there is one at least. Where all
+    /// that was answered is learnt, and the asks are due, that front of them may begin.
+    pub fn next_round(&self, dues: &[Due]) -> usize
+        ensures cut { IsNextRound self.now dues.now result }
+        ensures some { (task : AnyTask) → IsSession task self.now → 0 < length dues.now → length self.now.asked < self.now.calls → 0 < result }
+        ensures may { (task : AnyTask) → IsSession task self.now → self.now.failed ≡ false → IsLearnt self.now → AreReady task self.now.entries dues.now → MayBegin task self.now (take result dues.now) }
+    {
+        let left = self.calls as usize - self.asked.len();
+        let most = dues.len().min(left);
+        longest_front(self.pools.as_slice(), &dues[..most])
+    }
+
     /// Begins a round of these asks, and answers how many there are. They are due, each with its turn, and of different
     /// instances; no pool has more of them than workers; so many calls are left; no round is open, and all that was answered is
-    /// learnt. It takes all memory of the round. Fails where the session has failed and where memory is wanting, and leaves all
-    /// as it was then.
+    /// learnt. It takes all memory of the round, of which nothing is sent; each request has a child of its own. Fails where the
+    /// session has failed and where memory is wanting, and leaves all as it was then.
     pub fn begin_round(&mut self, task: &Task, dues: &[Due]) -> Result<usize, CoreFault>
         requires session { IsSession task.now self.old }
         requires round { self.old.failed ≡ false → MayBegin task.now self.old dues.now }
         ensures begun { OnOk result (self.new ≡ begun task.now self.old dues.now) }
         ensures count { IfOk result (λ count. count ≡ length dues.now) }
+        ensures fresh { OnOk result (IsFresh self.new.slots) }
         ensures working { OnOk result (self.old.failed ≡ false) }
         ensures err { OnErr result (self.new ≡ self.old) }
         ensures fault { IfErr result (ComesOf self.old) }
@@ -125,6 +145,51 @@ impl Session {
     {
         let cell = &self.round.cells[number];
         (cell.child(), cell.request())
+    }
+
+    /// Whether the open round has a request for the child that wasn't sent.
+    pub fn is_unsent(&self, child: u8) -> bool
+        ensures yes { result ≡ true → IsUnsent self.now.slots child }
+        ensures no { IsUnsent self.now.slots child → result ≡ true }
+    {
+        match cell_of(self.round.cells.as_slice(), child) {
+            Some(cell) => cell.is_unsent(),
+            None => false,
+        }
+    }
+
+    /// Whether the open round has a request for the child that was sent and isn't answered.
+    pub fn is_awaited(&self, child: u8) -> bool
+        ensures yes { result ≡ true → IsAwaited self.now.slots child }
+        ensures no { IsAwaited self.now.slots child → result ≡ true }
+    {
+        match cell_of(self.round.cells.as_slice(), child) {
+            Some(cell) => cell.is_awaited(),
+            None => false,
+        }
+    }
+
+    /// Whether each request of the open round is answered.
+    pub fn is_answered(&self) -> bool
+        ensures { result ≡ all_answered self.now.slots }
+    {
+        are_answered(self.round.cells.as_slice())
+    }
+
+    /// The request for the due at this place, from 0, of the open round as an entry.
+    pub fn ask(&self, number: usize) -> &Entry
+        requires number { number < length self.now.asks }
+        ensures { slice_get self.now.asks number ≡ Some result.now }
+    {
+        &self.round.asks[number]
+    }
+
+    /// What was heard for the due at this place, from 0, of the open round, if it is answered.
+    pub fn answer(&self, number: usize) -> Option<&Entry>
+        requires number { number < length self.now.slots }
+        ensures { IfSome (slice_get self.now.slots number) (λ slot. option_copied result ≡ slot.answer) }
+    {
+        self.round.cells[number].answer()
     }
 
     /// The request of the child was written whole. It was not before.
@@ -181,13 +246,14 @@ impl Session {
     }
 
     /// Closes the round, each request of which is answered: its requests are put behind the transcript, and then their answers
-    /// in the same order.
+    /// in the same order. Of a list of asks whose front was the round, those behind it are due still, with the same turns.
     pub fn close_round(&mut self)
         requires working { self.old.failed ≡ false }
         requires open { self.old.is_open ≡ true }
         requires answered { all_answered self.old.slots ≡ true }
         ensures after { self.new ≡ after_close self.old }
         ensures kept { (task : AnyTask) → IsSession task self.old → IsSession task self.new }
+        ensures rest { (task : AnyTask) (dues : List AnyDue) (count : ℕ) → IsSession task self.old → self.old.instances ≡ instances_of (take count dues) → AreReady task self.old.entries dues → AreReady task self.new.entries (drop count dues) }
     {
         let round = mem::replace(&mut self.round, Round::empty(self.alloc));
         let Round {
@@ -199,6 +265,42 @@ impl Session {
         let _ = self.asked.append(&mut instances);
         put_answers(&mut self.entries, cells);
         self.is_open = false;
+    }
+
+    /// Learns what the answers of the closed rounds certify and tell: what is known and noted is then what the whole transcript
+    /// certifies and tells. Fails where the session has failed, and leaves all as it was then, and where memory is wanting:
+    /// then the session has failed, and some of what the answers certify may be known.
+    pub fn learn(&mut self, task: &Task) -> Result<(), CoreFault>
+        requires session { IsSession task.now self.old }
+        ensures learnt { OnOk result (self.new ≡ after_learn task.now self.old) }
+        ensures working { OnOk result (self.old.failed ≡ false) }
+        ensures err { OnErr result (self.new ≡ with_learnt self.old self.new.known self.new.notes self.old.learnt true) }
+        ensures failed { IfErr result (λ fault. fault ≡ Failed → self.new ≡ self.old) }
+        ensures fault { IfErr result (ComesOf self.old) }
+        ensures kept { IsSession task.now self.new }
+    {
+        if self.failed {
+            return Err(CoreFault::Failed);
+        }
+        let learnt = learn_from(
+            self.alloc,
+            task,
+            &mut self.facts,
+            &mut self.queue,
+            self.asked.as_slice(),
+            self.entries.as_slice(),
+            self.learnt,
+        );
+        match learnt {
+            Ok(()) => {
+                self.learnt = self.entries.len();
+                Ok(())
+            }
+            Err(_) => {
+                self.failed = true;
+                Err(CoreFault::Memory)
+            }
+        }
     }
 
     /// Puts an entry behind the transcript that is neither a request nor an answer. No round is open. Fails only where memory is
@@ -225,6 +327,7 @@ impl Session {
         requires working { self.now.failed ≡ false }
         requires learnt { IsLearnt self.now }
         ensures due { IfOk result (λ dues. level.AreDueInTurn task.now (known_of task.now self.now.entries) (notes_of task.now self.now.entries) dues.items) }
+        ensures ready { IfOk result (λ dues. AreReady task.now self.now.entries dues.items) }
         ensures fault { IfErr result (level.ComesOf task.now (known_of task.now self.now.entries) (notes_of task.now self.now.entries)) }
     {
         self.queue.next_level(task, &self.facts)

@@ -1,5 +1,6 @@
 use Rattle.std.proofs.Common.{◌≡◌, ap, sym, subst, ◌∙◌, ◌+◌, ◌≤◌, false, length, [], take, vec_len, vec_capacity, arith}
-use Rattle.session_core.proofs.Begins.{the_state, named_all, children_fit, begun_sound, begin_kept}
+use Rattle.session_core.proofs.Begins.{the_state, named_all, children_fit, begun_sound, begun_fresh, begin_kept}
+use Rattle.session_core.specs.Events.{IsFresh}
 use Rattle.session_core.specs.Pools.{child_for}
 use Rattle.session_core.specs.Session.{IsSession, MayBegin}
 use Rattle.session_core.specs.Shown.{shown}
@@ -54,3 +55,15 @@ returns-clause-kept c =
     let slots = c.in_ok-round.ensures.cells ∙ (λ k. slots_from task s.known.names s.version (c.as_slice.ensures.value k) (first k) [] dues) in
     subst (IsSession task) (sym (the_state s c.reserve.new.self.items c.reserve-2.new.self.items c.in_ok-round.round.asks.items c.in_ok-round.round.instances.items c.in_ok-round.round.cells.items task dues c.reserve.ensures.items c.reserve-2.ensures.items asks c.in_ok-round.ensures.instances slots))
     (begin_kept task s dues c.if-self.false may was)
+
+pub returns-clause-fresh : goal.returns-clause-fresh
+returns-clause-fresh c =
+    let task = c.args.task.now in
+    let dues = c.args.dues.now in
+    let s = shown c.self.inside in
+    let may = subst (λ (t : State). t.failed ≡ false → MayBegin task t dues) (sym c.self.view_is) c.requires.round c.if-self.false in
+    let was = subst (IsSession task) (sym c.self.view_is) c.requires.session in
+    let asked_long : c.len.result ≡ length s.asked = c.len.ensures ∙ c.reserve-2.new.self.ok.0 ∙ ap length c.reserve-2.ensures.items in
+    let first : c.len.result + 1 ≡ length s.asked + 1 = ap (λ n. n + 1) asked_long in
+    let slots = c.in_ok-round.ensures.cells ∙ (λ k. slots_from task s.known.names s.version (c.as_slice.ensures.value k) (first k) [] dues) in
+    subst IsFresh (sym slots) (begun_fresh task s dues c.if-self.false may was)

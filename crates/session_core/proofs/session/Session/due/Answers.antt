@@ -1,7 +1,10 @@
 use Rattle.std.proofs.Common.{ap, subst, ◌∙◌, take, IfOk, IfErr}
 use Rattle.std.proofs.Math.Seq.{take-length}
+use Rattle.std.proofs.lemmas.Result.{IfOk-weaker}
 use Rattle.instance_queue.specs.Level.{AreDueInTurn, ComesOf}
 use Rattle.transcript_text.specs.Transcript.{known_of, notes_of}
+use Rattle.session_core.proofs.Waiting.{level_ready}
+use Rattle.session_core.specs.Ready.{AreReady}
 use Rattle.session_core.specs.State.{State}
 use Rattle.session_core.proofs.session.Session.due.Goals as goal
 
@@ -24,3 +27,9 @@ returns-clause-fault c =
     let notes = ap (λ (t : State). t.notes) c.self.view_is ∙ c.requires.session.notes c.requires.working ∙ ap (notes_of task) all in
     subst (λ ns. IfErr c.next_level.result (ComesOf task (known_of task s.entries) ns)) notes
     (subst (λ k. IfErr c.next_level.result (ComesOf task k c.self.inside.queue)) known c.next_level.ensures.fault)
+
+pub returns-clause-ready : goal.returns-clause-ready
+returns-clause-ready c =
+    let task = c.args.task.now in
+    let s = c.args.self.now in
+    IfOk-weaker c.next_level.result (λ dues. AreDueInTurn task (known_of task s.entries) (notes_of task s.entries) dues.items) (λ dues. AreReady task s.entries dues.items) (λ dues level. level_ready task s.entries dues.items level) (returns-clause-due c)

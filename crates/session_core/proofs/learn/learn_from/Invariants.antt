@@ -1,0 +1,10 @@
+use Rattle.std.proofs.Common.{◌≡◌, take}
+use Rattle.transcript_text.specs.Transcript.{known_of, notes_of}
+use Rattle.session_core.proofs.learn.learn_from.Given as goal
+
+-- the entries that were passed are learnt
+abbrev pub invariant-loop-place : goal.invariant-loop-place
+invariant-loop-place l = record {
+  known : l.facts.known ≡ known_of l.task (take l.place l.entries);
+  notes : l.queue ≡ notes_of l.task (take l.place l.entries);
+}

@@ -1,0 +1,51 @@
+-- What is learnt from the answers of a transcript, one after another.
+use Rattle.std.specs.Prelude.{◌≡◌, ℕ, ◌+◌, ◌*◌, ◌≤◌, ◌<◌, List, length, All, Option, None, Some, slice_get, count_by}
+use Rattle.task_model.specs.Fit.{IsFit}
+use Rattle.task_model.specs.Known.{Known, IsIn}
+use Rattle.task_model.specs.Streams.{Note}
+use Rattle.task_model.specs.declared.stream.Instance.{Instance}
+use Rattle.task_model.specs.declared.stream.Stream.{Stream}
+use Rattle.task_model.specs.declared.task.Task.{Task}
+use Rattle.transcript_text.specs.Legal.{IsLegal, asks_of}
+use Rattle.transcript_text.specs.Transcript.{Asked}
+use Rattle.transcript_text.specs.declared.entry.Entry.{Entry}
+use Rattle.transcript_text.specs.declared.entry.Entry.TheVariants as entry
+use Rattle.session_core.specs.Session.{Asks, is_answer}
+
+-- the number of the request that an entry answers, if it is an answer
+abbrev pub number_of : Entry → Option ℕ
+number_of (entry.Got n tuples values) = Some n
+number_of (entry.Value n value) = Some n
+number_of (entry.End n) = Some n
+number_of e = None
+
+-- there is room for so many tuples of so many values, each as wide as the stream says
+pub record IsRoomFor (known : Known) (notes : List Note) (stream : Stream) (tuples : ℕ) (values : List (List ℕ)) : Type 0 where
+  pub count : length values ≡ tuples * length stream.outputs
+  pub few_names : length known.names + length values < 4294705152
+  pub few_notes : length notes + tuples < 4294967295
+
+abbrev pub IsRoomAfter : Known → List Note → Stream → Entry → Type 0
+IsRoomAfter known notes stream (entry.Got n tuples values) = IsRoomFor known notes stream tuples values
+IsRoomAfter known notes stream (entry.Value n value) = value ≤ 1000000
+IsRoomAfter known notes stream e = Unit {0}
+
+-- What was asked is an instance of a stream of the fit task, its inputs and the task's constants have names, and there is room
+-- for what the entry certifies.
+pub record MayLearn (task : Task) (known : Known) (notes : List Note) (a : Asked) (e : Entry) : Type 0 where
+  pub fit : IsFit task
+  pub streamed : slice_get task.streams a.instance.stream ≡ Some a.stream
+  pub many : length a.instance.inputs ≡ length a.stream.inputs
+  pub named : All (IsIn known.names) a.instance.inputs
+  pub constants : length task.domain.constants ≤ length known.names
+  pub room : IsRoomAfter known notes a.stream e
+
+-- The transcript is legal, these instances were asked in it, and they are few.
+pub record CanLearn (task : Task) (asked : List Instance) (entries : List Entry) : Type 0 where
+  pub version : ℕ
+  pub fit : IsFit task
+  pub legal : IsLegal version task entries
+  pub counted : length asked ≡ asks_of entries
+  pub asks : (k : ℕ) (i : Instance) → slice_get asked k ≡ Some i → Asks task entries (k + 1) i
+  pub answered : count_by is_answer entries ≤ asks_of entries
+  pub few : length asked ≤ 100000
