@@ -1,0 +1,9 @@
+pub mod Batching
+pub mod Counting
+pub mod Deciding
+pub mod Levelling
+pub mod Reporting
+pub mod Rounding
+pub mod Standing
+pub mod Starting
+pub mod Stopping

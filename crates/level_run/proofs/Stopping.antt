@@ -1,0 +1,181 @@
+-- How runs go on and stop, one entry after another.
+use Rattle.std.proofs.Common.{◌≡◌, ℕ, ◌+◌, ◌<◌, ◌≤◌, arith, Bool, true, false, Result, Ok, Err, List, [], ◌∷◌, ◌++◌, length, take, Option, Some, None, refl, sym, subst, ap, ◌∙◌, append_assoc, ◌⊎◌, inl, inr}
+use Rattle.std.proofs.Math.Seq.{take-append-add}
+use Rattle.std.proofs.lemmas.List.{append-nil, length-append}
+use Rattle.std.proofs.lemmas.Grind.{flat_map-append}
+use Rattle.std.proofs.lemmas.Result.{err_from_is_err_and}
+use Rattle.std.specs.Io.KnownBytes.{Appends}
+use Rattle.std.specs.List.{flat_map}
+use Rattle.std.specs.Result.{IsErrAnd, IfErr, OnOk}
+use Rattle.io_world.specs.Faults.{Rose, HasCause}
+use Rattle.task_model.specs.declared.task.Task.{Task}
+use Rattle.transcript_text.proofs.Legals.{grows}
+use Rattle.gen_lines.specs.declared.answer.Why.{Why}
+use Rattle.transcript_text.specs.Legal.{IsLegal, MayFollow, is_open}
+use Rattle.transcript_text.specs.Texts.{text_of_entry}
+use Rattle.transcript_text.specs.declared.entry.Entry.{Entry}
+use Rattle.level_run.specs.Rolling.{Goes, Stopped, Blames, IsBlamed}
+use Rattle.level_run.specs.Stops.{StopsAt, Misses, MayHear, MayWrite}
+use Rattle.level_run.specs.declared.fault.RunFault.{RunFault}
+use Rattle.level_run.specs.declared.fault.RunFault.TheVariants.{Answer, Generator, Write, Memory}
+
+-- ---- bytes
+
+pub appends_none : (old : Option (List ℕ)) → Appends old old []
+appends_none None = tt
+appends_none (Some xs) = sym (append-nil xs)
+
+pub appends_then : (old mid new : Option (List ℕ)) (xs ys : List ℕ) → Appends old mid xs → Appends mid new ys → Appends old new (xs ++ ys)
+appends_then None mid new xs ys first second = tt
+appends_then (Some a) None new xs ys first second = absurd first
+appends_then (Some a) (Some b) None xs ys first second = absurd second
+appends_then (Some a) (Some b) (Some c) xs ys first second = second ∙ ap (λ front. front ++ ys) first ∙ append_assoc a xs ys
+
+-- the lines of one entry
+pub lines_of_one : (e : Entry) → flat_map text_of_entry (e ∷ []) ≡ text_of_entry e
+lines_of_one e = append-nil (text_of_entry e)
+
+-- ---- entries
+
+pub goes_none : (before : List Entry) (old : Option (List ℕ)) → Goes before before old old
+goes_none before old = record { more = []; pushed = sym (append-nil before); told = appends_none old }
+
+pub goes_one : (before after : List Entry) (e : Entry) (old new : Option (List ℕ)) → after ≡ before ++ e ∷ [] → Appends old new (text_of_entry e) → Goes before after old new
+goes_one before after e old new pushed told = record { more = e ∷ []; pushed = pushed; told = subst (Appends old new) (sym (lines_of_one e)) told }
+
+pub goes_then : (a b c : List Entry) (old mid new : Option (List ℕ)) → Goes a b old mid → Goes b c mid new → Goes a c old new
+goes_then a b c old mid new first second = record {
+  more = first.more ++ second.more;
+  pushed = second.pushed ∙ ap (λ front. front ++ second.more) first.pushed ∙ append_assoc a first.more second.more;
+  told = subst (Appends old new) (sym (flat_map-append text_of_entry first.more second.more)) (appends_then old mid new _ _ first.told second.told);
+}
+
+-- ---- stops
+
+module _ (version : ℕ) (task : Task) where
+  pub legal_none : (before : List Entry) → IsLegal version task before → IsLegal version task (before ++ [])
+  legal_none before legal = subst (IsLegal version task) (sym (append-nil before)) legal
+
+  -- nothing was written
+  pub stopped_hearing : (before : List Entry) (fault : RunFault) (sink : Option (List ℕ)) → IsLegal version task before → MayHear fault → Stopped version task before fault sink sink
+  stopped_hearing before Generator sink legal may = record { more = []; legal = legal_none before legal; told = appends_none sink; blamed = tt }
+  stopped_hearing before Memory sink legal may = record { more = []; legal = legal_none before legal; told = appends_none sink; blamed = tt }
+  stopped_hearing before Write sink legal may = absurd may
+  stopped_hearing before (Answer number why) sink legal may = absurd may
+
+  -- memory is wanting, and nothing was written
+  pub stopped_memory : (before : List Entry) (fault : RunFault) (sink : Option (List ℕ)) → IsLegal version task before → fault ≡ Memory → Stopped version task before fault sink sink
+  stopped_memory before fault sink legal is = subst (λ f. Stopped version task before f sink sink) (sym is) (stopped_hearing before Memory sink legal tt)
+
+  -- a child failed, or its line is no answer to the open request
+  pub stopped_blamed : (before : List Entry) (n : ℕ) (fault : RunFault) (sink : Option (List ℕ)) → IsLegal version task before → is_open before n ≡ true → IsBlamed n fault → Stopped version task before fault sink sink
+  stopped_blamed before n Generator sink legal waiting is = stopped_hearing before Generator sink legal tt
+  stopped_blamed before n Memory sink legal waiting is = stopped_hearing before Memory sink legal tt
+  stopped_blamed before n Write sink legal waiting is = absurd is
+  stopped_blamed before n (Answer number why) sink legal waiting is = record {
+    more = [];
+    legal = legal_none before legal;
+    told = appends_none sink;
+    blamed = subst (λ es. is_open es number ≡ true) (sym (append-nil before)) (ap (is_open before) is ∙ waiting);
+  }
+
+  -- an entry was to be written
+  pub stopped_at : (before : List Entry) (e : Entry) (fault : RunFault) (old new : Option (List ℕ)) → IsLegal version task (before ++ e ∷ []) → Misses fault old new (text_of_entry e) → Stopped version task before fault old new
+  stopped_at before e Generator old new legal misses = absurd misses
+  stopped_at before e Memory old new legal misses = record { more = []; legal = legal_none before ((grows version task before).front (e ∷ []) legal); told = misses; blamed = tt }
+  stopped_at before e Write old new legal (n, less, told) = record {
+    more = e ∷ [];
+    legal = legal;
+    told = subst (λ bytes. (m : ℕ) × (m < length bytes) × Appends old new (take m bytes)) (sym (lines_of_one e)) (n, less, told);
+    blamed = tt;
+  }
+  stopped_at before e (Answer number why) old new legal misses = absurd misses
+
+  pub stops_then : (fault : RunFault) (old mid new : Option (List ℕ)) (xs ys : List ℕ) → Appends old mid xs → StopsAt fault mid new ys → StopsAt fault old new (xs ++ ys)
+  stops_then Generator old mid new xs ys first second = appends_then old mid new xs ys first second
+  stops_then Memory old mid new xs ys first second = appends_then old mid new xs ys first second
+  stops_then (Answer number why) old mid new xs ys first second = appends_then old mid new xs ys first second
+  stops_then Write old mid new xs ys first (n, less, told) = (
+    length xs + n,
+    omega (arith, length-append xs ys),
+    subst (Appends old new) (sym (take-append-add xs ys n)) (appends_then old mid new xs (take n ys) first told),
+  )
+
+  -- it went on and stopped then
+  pub stopped_then : (a b : List Entry) (fault : RunFault) (old mid new : Option (List ℕ)) → Goes a b old mid → Stopped version task b fault mid new → Stopped version task a fault old new
+  stopped_then a b fault old mid new goes stopped =
+      let all : b ++ stopped.more ≡ a ++ (goes.more ++ stopped.more) = ap (λ front. front ++ stopped.more) goes.pushed ∙ append_assoc a goes.more stopped.more in
+      record {
+        more = goes.more ++ stopped.more;
+        legal = subst (IsLegal version task) all stopped.legal;
+        told = subst (StopsAt fault old new) (sym (flat_map-append text_of_entry goes.more stopped.more)) (stops_then fault old mid new _ _ goes.told stopped.told);
+        blamed = subst (Blames fault) all stopped.blamed;
+      }
+
+-- ---- faults that are handed on
+
+-- the fault that is handed on is this one
+pub handed : {T E : Type 0} (r : Result T E) (e : E) (P : E → Type 0) → IsErrAnd r (λ y. y ≡ e) → P e → IfErr r P
+handed r e P is here =
+    let p = err_from_is_err_and r is in
+    rw p.1 (subst P (sym p.2) here)
+
+-- the error that is handed on
+pub handed_err : {T E : Type 0} (r : Result T E) (e : E) → IsErrAnd r (λ y. y ≡ e) → r ≡ Err e
+handed_err r e is = let p = err_from_is_err_and r is in p.1 ∙ ap Err p.2
+
+-- ---- causes
+
+-- a fault has its cause after an earlier call too
+pub cause_then : {T U E : Type 0} (failed : E) (last before mid now : ℕ) (first : Result T E) (second : Result U E) → HasCause failed last before mid first → HasCause failed last mid now second → HasCause failed last before now second
+cause_then failed last before mid now first second a b = record {
+  later = omega (arith, a.later, b.later);
+  cause = λ is. later_rise last before mid now a.later (b.cause is);
+}
+  where
+    later_rise : (last before mid now : ℕ) → before ≤ mid → Rose last mid now → Rose last before now
+    later_rise last before mid now later rose = omega (arith, later, rose)
+
+-- another fault needs none
+pub no_cause : {T U : Type 0} (failed : RunFault) (last before mid : ℕ) (first : Result T RunFault) (fault : RunFault) (r : Result U RunFault) → HasCause failed last before mid first → (fault ≡ failed → ⊥) → r ≡ Err fault → HasCause failed last before mid r
+no_cause failed last before mid first fault r a never is = record {
+  later = a.later;
+  cause = λ same. absurd (never (same_err fault failed (sym is ∙ same)));
+}
+  where
+    same_err : {V : Type 0} (x y : RunFault) → (let r : Result V RunFault = Err x in r) ≡ Err y → x ≡ y
+    same_err x y e = cc
+
+-- nothing failed
+pub same_cause : {U : Type 0} (failed : RunFault) (last before : ℕ) (fault : RunFault) (r : Result U RunFault) → (fault ≡ failed → ⊥) → r ≡ Err fault → HasCause failed last before before r
+same_cause failed last before fault r never is = record { later = omega arith; cause = λ same. absurd (never (faults_same fault failed (sym is ∙ same))) }
+  where
+    faults_same : {V : Type 0} (x y : RunFault) → (let r : Result V RunFault = Err x in r) ≡ Err y → x ≡ y
+    faults_same x y e = cc
+
+pub heard_no_write : (fault : RunFault) → MayHear fault → fault ≡ Write → ⊥
+heard_no_write fault may is = subst MayHear is may
+
+pub blamed_no_write : (n : ℕ) (fault : RunFault) → IsBlamed n fault → fault ≡ Write → ⊥
+blamed_no_write n fault may is = subst (IsBlamed n) is may
+
+pub written_no_generator : (fault : RunFault) → MayWrite fault → fault ≡ Generator → ⊥
+written_no_generator fault may is = subst MayWrite is may
+
+-- ---- answers that are handed on
+
+pub on_ok : {T E : Type 0} (r : Result T E) (P : Type 0) → P → OnOk r P
+on_ok (Ok x) P p = p
+on_ok (Err e) P p = tt
+
+pub ok_map : {T E : Type 0} (r : Result T E) (P Q : Type 0) → (P → Q) → OnOk r P → OnOk r Q
+ok_map (Ok x) P Q f p = f p
+ok_map (Err e) P Q f p = tt
+
+pub err_map : {T E : Type 0} (r : Result T E) (P Q : E → Type 0) → ((e : E) → P e → Q e) → IfErr r P → IfErr r Q
+err_map (Ok x) P Q f p = tt
+err_map (Err e) P Q f p = f e p
+
+-- all went well
+pub written_cause : {T : Type 0} (last first second third now : ℕ) (value : T) → first ≤ second → second ≤ third → third ≤ now → HasCause Write last first now (let r : Result T RunFault = Ok value in r)
+written_cause last first second third now value a b c = record { later = omega (arith, a, b, c); cause = λ is. absurd (cc) }

@@ -1,0 +1,12 @@
+use Rattle.std.proofs.Common.{◌≡◌, ◌∙◌, sym, length, ap}
+use Rattle.level_run.proofs.Starting.{all_ok, startable, started_after}
+use Rattle.level_run.proofs.batches.batch.Goals as goal
+
+pub start_workers-requires-clause-pools : goal.start_workers-requires-clause-pools
+start_workers-requires-clause-pools g c = startable c.args.task.now c.args.head.now c.requires.runnable
+
+pub returns-clause-started : goal.returns-clause-started
+returns-clause-started g c =
+    all_ok c.run_rounds.result _ _ _ _ (λ b ends grows of.
+    started_after c.args.task.now c.run_rounds.new.session.entries (length c.args.session.now.asked) (length c.run_rounds.new.session.asked) c.args.head.now.calls (length c.args.dues.now) b c.args.session.now.pools c.run_rounds.new.session.pools (g.H.Host.running c.args.host.now) (g.H.Host.running c.start_workers.new.host) (g.H.Host.running c.run_rounds.new.host) ends grows c.requires.runnable.fit.some_calls c.requires.started c.in_ok-start_workers.ensures.ready c.in_ok-start_workers.ensures.idle c.run_rounds.ensures.running (of.pools ∙ sym c.requires.head.pools))
+    c.run_rounds.ensures.ends c.run_rounds.ensures.grows c.run_rounds.ensures.head

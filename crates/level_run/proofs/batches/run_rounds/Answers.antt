@@ -1,0 +1,101 @@
+use Rattle.std.proofs.Common.{◌≡◌, ◌+◌, ◌++◌, ◌<◌, ◌≤◌, ℕ, List, length, take, drop, ap, sym, subst, ◌∙◌, arith, refl, slice_get, ◌==◌}
+use Rattle.std.proofs.lemmas.List.{length-take-le, length-drop}
+use Rattle.instance_queue.specs.Level.{instances_of}
+use Rattle.session_core.specs.Ready.{AreReady}
+use Rattle.session_core.specs.Session.{IsOf}
+use Rattle.transcript_text.specs.Legal.{asks_of}
+use Rattle.transcript_text.specs.Rounds.{IsRound}
+use Rattle.transcript_text.specs.declared.entry.Entry.{Entry}
+use Rattle.level_run.proofs.Batching.{SoFar, none_of_none, none_left, so_far_end, so_far_none, so_far_step, spent}
+use Rattle.level_run.proofs.Deciding.{empty_of, filled_of, first_of}
+use Rattle.level_run.proofs.Stopping.{goes_none, goes_then, handed, stopped_then}
+use Rattle.level_run.specs.Rolling.{Stopped}
+use Rattle.level_run.proofs.batches.run_rounds.Goals as goal
+
+pub rounds-init : goal.rounds-init
+rounds-init g c = record {
+  session = c.requires.session;
+  head = c.requires.head;
+  working = c.requires.working;
+  learnt = c.requires.learnt;
+  ready = c.requires.ready;
+  all_run = c.requires.all_run;
+  so_far = so_far_none c.args.head.now c.args.task.now c.args.session.now.entries (instances_of c.args.dues.now);
+  counts = refl;
+  grows = omega arith;
+  goes = goes_none c.args.session.now.entries (g.O.Sink.taken c.args.out.now);
+  started = refl;
+  running = λ k. refl;
+  host = omega arith;
+  sink = omega arith;
+}
+
+pub returns-then-is_empty-clause-batch : goal.returns-then-is_empty-clause-batch
+returns-then-is_empty-clause-batch g c =
+    let now = c.rounds.session in
+    let none = empty_of c.rounds.rest.now (sym c.is_empty.ensures ∙ c.if-is_empty.true) in
+    so_far_end c.args.head.now c.args.task.now c.args.session.now.entries (instances_of c.args.dues.now) now.entries (instances_of c.rounds.rest.now) (none_of_none c.args.head.now now.entries c.rounds.rest.now none) c.rounds.invariant.so_far
+
+pub returns-then-is_empty-clause-ends : goal.returns-then-is_empty-clause-ends
+returns-then-is_empty-clause-ends g c =
+    let none = ap length (empty_of c.rounds.rest.now (sym c.is_empty.ensures ∙ c.if-is_empty.true)) in
+    (omega (arith, none, c.rounds.invariant.counts), omega (arith, c.next_round-count.ensures.cut.left, c.rounds.invariant.head.calls))
+
+pub returns-then-count-eq0-clause-batch : goal.returns-then-count-eq0-clause-batch
+returns-then-count-eq0-clause-batch g c =
+    let now = c.rounds.session in
+    let i = c.rounds.invariant in
+    let some = filled_of c.rounds.rest.now (sym c.is_empty.ensures ∙ c.if-is_empty.false) in
+    let all = spent c.args.head.now c.args.task.now now c.rounds.rest.now c.next_round-count.result i.head i.session c.next_round-count.ensures.cut (c.next_round-count.ensures.some c.args.task.now i.session) some c.if-count-eq0.true in
+    so_far_end c.args.head.now c.args.task.now c.args.session.now.entries (instances_of c.args.dues.now) now.entries (instances_of c.rounds.rest.now) (none_left c.args.head.now c.args.task.now now (instances_of c.rounds.rest.now) i.session all) i.so_far
+
+pub returns-then-count-eq0-clause-ends : goal.returns-then-count-eq0-clause-ends
+returns-then-count-eq0-clause-ends g c =
+    let now = c.rounds.session in
+    let i = c.rounds.invariant in
+    let some = filled_of c.rounds.rest.now (sym c.is_empty.ensures ∙ c.if-is_empty.false) in
+    let all = spent c.args.head.now c.args.task.now now c.rounds.rest.now c.next_round-count.result i.head i.session c.next_round-count.ensures.cut (c.next_round-count.ensures.some c.args.task.now i.session) some c.if-count-eq0.true in
+    (all, omega (arith, all, some, i.counts), first_of c.args.task.now now.entries c.rounds.rest.now i.ready some)
+
+pub returns-in_err-run_round-clause-stopped : goal.returns-in_err-run_round-clause-stopped
+returns-in_err-run_round-clause-stopped g c =
+    let now = c.rounds.session in
+    let fault = c.in_err-run_round.field-0.0 in
+    let stopped = subst (λ v. Stopped v c.args.task.now now.entries fault (g.O.Sink.taken c.rounds.out) (g.O.Sink.taken c.run_round.new.out)) c.rounds.invariant.head.version c.in_err-run_round.ensures.stopped in
+    handed c.from_residual.result fault _ c.from_residual.ensures.1
+    (stopped_then c.args.head.now.version c.args.task.now c.args.session.now.entries now.entries fault (g.O.Sink.taken c.args.out.now) (g.O.Sink.taken c.rounds.out) (g.O.Sink.taken c.run_round.new.out) c.rounds.invariant.goes stopped)
+
+pub rounds-preserved : goal.rounds-preserved
+rounds-preserved g c =
+    let now = c.rounds.session in
+    let new = c.run_round.new.session in
+    let i = c.rounds.invariant in
+    let done = c.in_ok-run_round.ensures in
+    let count = c.next_round-count.result in
+    let rest = c.rounds.rest.now in
+    let front = c.split_at.ensures.front in
+    let back = c.split_at.ensures.back in
+    let long : length c.split_at.result.0.now ≡ count = ap length front ∙ length-take-le count rest c.next_round-count.ensures.cut.within in
+    let some : 0 < length rest = filled_of rest (sym c.is_empty.ensures ∙ c.if-is_empty.false) in
+    let round = subst (λ ds. (more : List Entry) × (new.entries ≡ now.entries ++ more) × IsRound c.args.task.now now.entries (instances_of ds) more) front done.round in
+    let counted : asks_of new.entries ≡ asks_of now.entries + count = omega (arith, done.session.counted, done.asked, i.session.counted, long) in
+    record {
+      session = done.session;
+      head = record { version = done.version ∙ i.head.version; calls = done.calls ∙ i.head.calls; pools = done.pools ∙ i.head.pools };
+      working = done.working;
+      learnt = done.learnt;
+      ready = subst (AreReady c.args.task.now new.entries) (sym back) (done.rest rest count front i.ready);
+      all_run = λ later k child p at in_p. done.running child ∙ i.all_run some k child p (ap (λ ps. slice_get ps k) (sym done.pools) ∙ at) in_p;
+      so_far = subst (λ ds. SoFar c.args.head.now c.args.task.now c.args.session.now.entries (instances_of c.args.dues.now) new.entries (instances_of ds)) (sym back)
+          (so_far_step c.args.head.now c.args.task.now c.args.session.now.entries (instances_of c.args.dues.now) now rest count new.entries i.head i.session c.next_round-count.ensures.cut (omega (arith, c.if-count-eq0.false)) round counted i.so_far);
+      counts = omega (arith, done.asked, long, ap length back, length-drop count rest, c.next_round-count.ensures.cut.within, i.counts);
+      grows = omega (arith, done.asked, i.grows);
+      goes = goes_then c.args.session.now.entries now.entries new.entries (g.O.Sink.taken c.args.out.now) (g.O.Sink.taken c.rounds.out) (g.O.Sink.taken c.run_round.new.out) i.goes done.goes;
+      started = done.started ∙ i.started;
+      running = λ k. done.running k ∙ i.running k;
+      host = omega (arith, done.host.later, i.host);
+      sink = omega (arith, done.sink.later, i.sink);
+    }
+
+pub rounds-smaller : goal.rounds-smaller
+rounds-smaller g c = omega (arith, ap length c.split_at.ensures.back, length-drop c.next_round-count.result c.rounds.rest.now, c.if-count-eq0.false, filled_of c.rounds.rest.now (sym c.is_empty.ensures ∙ c.if-is_empty.false))

@@ -1,0 +1,10 @@
+use Rattle.std.proofs.Common.{◌≡◌, length, ap, sym, ◌∙◌, ◌==◌, subst, ◌<◌}
+use Rattle.session_core.specs.Ready.{AreReady}
+use Rattle.level_run.proofs.Deciding.{calls_sure, filled_of, first_of}
+use Rattle.level_run.proofs.decide.decide_dues.Goals as goal
+
+pub returns-then-asks-head-clause-decided : goal.returns-then-asks-head-clause-decided
+returns-then-asks-head-clause-decided c =
+    let some : 0 < length c.in-Ok.dues.items = filled_of c.in-Ok.dues.items (ap (λ ds. length ds == 0) (sym c.as_slice.ensures.value) ∙ sym c.is_empty.ensures ∙ c.if-is_empty.false) in
+    let first = first_of c.args.task.now c.args.session.now.entries c.in-Ok.dues.items c.in-Ok.ensures.ready some in
+    calls_sure c.args.task.now c.args.session.now c.requires.working c.requires.learnt c.requires.session c.args.head.now c.requires.head (sym c.asks.ensures ∙ c.if-asks-head.true) first.0 first.1

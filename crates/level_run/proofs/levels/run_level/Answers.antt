@@ -1,0 +1,38 @@
+use Rattle.std.proofs.Common.{◌≡◌, ◌++◌, ◌∷◌, [], ap, sym, subst, ◌∙◌, length}
+use Rattle.session_core.specs.Ready.{AreReady}
+use Rattle.transcript_text.specs.declared.entry.Entry.TheVariants as entry
+use Rattle.level_run.proofs.Levelling.{level_of, ready_marked}
+use Rattle.level_run.proofs.Starting.{level_ok}
+use Rattle.level_run.proofs.Stopping.{err_map, goes_then, ok_map, stopped_then}
+use Rattle.level_run.specs.Rolling.{Goes, Stopped}
+use Rattle.level_run.specs.Turns.{EndsBatch}
+use Rattle.level_run.proofs.levels.run_level.Goals as goal
+
+pub batch-requires-clause-ready : goal.batch-requires-clause-ready
+batch-requires-clause-ready g c =
+    let s = c.args.session.now in
+    subst (λ es. AreReady c.args.task.now es c.args.dues.now) (sym c.in_ok-mark_level.ensures.marked.entries) (ready_marked s.version c.args.task.now s.entries c.args.dues.now c.requires.session.fit c.requires.session.legal c.requires.turn.ready)
+
+pub returns-clause-level : goal.returns-clause-level
+returns-clause-level g c =
+    let s = c.args.session.now in
+    let m = c.mark_level.new.session in
+    let new = c.batch.new.session in
+    level_ok c.batch.result _ _ _ (λ b ends more.
+    let here = subst (λ asked. EndsBatch c.args.task.now new.entries (length asked) (length new.asked) c.args.head.now.calls (length c.args.dues.now) b) c.in_ok-mark_level.ensures.marked.asked ends in
+    level_of c.args.head.now c.args.task.now s.entries m.entries new.entries (length s.asked) (length new.asked) c.args.dues.now b c.requires.session.counted c.requires.turn c.in_ok-mark_level.ensures.marked.entries more here)
+    c.batch.ensures.ends c.batch.ensures.batch
+
+pub returns-clause-goes : goal.returns-clause-goes
+returns-clause-goes g c =
+    let s = c.args.session.now in
+    let m = c.mark_level.new.session in
+    let first = subst (λ es. Goes s.entries es (g.O.Sink.taken c.args.out.now) (g.O.Sink.taken c.mark_level.new.out)) (sym c.in_ok-mark_level.ensures.marked.entries) c.in_ok-mark_level.ensures.goes in
+    ok_map c.batch.result _ _ (λ second. goes_then s.entries m.entries c.batch.new.session.entries (g.O.Sink.taken c.args.out.now) (g.O.Sink.taken c.mark_level.new.out) (g.O.Sink.taken c.batch.new.out) first second) c.batch.ensures.goes
+
+pub returns-clause-stopped : goal.returns-clause-stopped
+returns-clause-stopped g c =
+    let s = c.args.session.now in
+    let m = c.mark_level.new.session in
+    let first = subst (λ es. Goes s.entries es (g.O.Sink.taken c.args.out.now) (g.O.Sink.taken c.mark_level.new.out)) (sym c.in_ok-mark_level.ensures.marked.entries) c.in_ok-mark_level.ensures.goes in
+    err_map c.batch.result _ _ (λ fault stopped. stopped_then c.args.head.now.version c.args.task.now s.entries m.entries fault (g.O.Sink.taken c.args.out.now) (g.O.Sink.taken c.mark_level.new.out) (g.O.Sink.taken c.batch.new.out) first stopped) c.batch.ensures.stopped

@@ -1,0 +1,70 @@
+use Rattle.std.proofs.Common.{◌≡◌, ◌<◌, ◌≤◌, ◌+◌, ◌-◌, [], ℕ, length, count_by, sym, subst, ap, refl, ◌∙◌, arith}
+use Rattle.transcript_text.specs.Legal.{IsLegal}
+use Rattle.level_run.proofs.Counting.{level_counts}
+use Rattle.level_run.proofs.Deciding.{all_asked, decided_dues, decided_outcome, done_of, spent_sure}
+use Rattle.level_run.proofs.Standing.{run_at, run_cut, standing_first, standing_next}
+use Rattle.level_run.proofs.Stopping.{goes_none, goes_then, handed, stopped_then}
+use Rattle.level_run.specs.Reports.{is_level}
+use Rattle.level_run.specs.Turns.{IsTurn, RunsLevel}
+use Rattle.level_run.specs.declared.ending.Batch.TheVariants.{Done, CallsSpent}
+use Rattle.level_run.proofs.levels.run_levels.Goals as goal
+
+pub returns-in-Ends-clause-run : goal.returns-in-Ends-clause-run
+returns-in-Ends-clause-run g c =
+    let s = c.levels.session in
+    let i = c.levels.invariant in
+    let sure = decided_outcome c.args.head.now c.args.task.now s.entries (length s.asked) c.in_ok-decision.decision c.in-Ends.outcome c.in-Ends.is c.in_ok-decision.ensures.decided in
+    run_at c.args.head.now c.args.task.now s.entries c.in-Ends.outcome (subst (λ v. IsLegal v c.args.task.now s.entries) i.head.version i.session.legal) sure i.standing
+
+pub returns-in-Ends-clause-levels : goal.returns-in-Ends-clause-levels
+returns-in-Ends-clause-levels g c = c.levels.invariant.counted
+
+pub returns-in_err-ended-clause-stopped : goal.returns-in_err-ended-clause-stopped
+returns-in_err-ended-clause-stopped g c =
+    handed c.from_residual-in_err-ended.result c.in_err-ended.field-0.0 _ c.from_residual-in_err-ended.ensures.1
+    (stopped_then c.args.head.now.version c.args.task.now [] c.levels.session.entries c.in_err-ended.field-0.0 (g.O.Sink.taken c.args.out.now) (g.O.Sink.taken c.levels.out) (g.O.Sink.taken c.run_level.new.out) c.levels.invariant.goes c.in_err-ended.ensures.stopped)
+
+pub overflow_add-levels : goal.overflow_add-levels
+overflow_add-levels g c = omega (arith, c.levels.invariant.fewer, c.levels.invariant.within, c.requires.runnable.fit.calls)
+
+pub returns-in-CallsSpent-clause-run : goal.returns-in-CallsSpent-clause-run
+returns-in-CallsSpent-clause-run g c =
+    let s = c.levels.session in
+    let new = c.run_level.new.session in
+    let i = c.levels.invariant in
+    let e = c.in_ok-ended.ensures in
+    let turn = decided_dues c.args.head.now c.args.task.now s.entries (length s.asked) c.in_ok-decision.decision c.in-Asks.dues c.in-Asks.is c.in_ok-decision.ensures.decided in
+    let sure = spent_sure c.args.head.now c.args.task.now new (length s.asked) (length c.as_slice-asks.result.now) c.in_ok-ended.ended e.working e.learnt e.session e.head c.in-CallsSpent.is e.ends in
+    run_cut c.args.head.now c.args.task.now s.entries new.entries (length s.asked) c.in-Asks.dues.items i.session.counted turn (subst (RunsLevel c.args.head.now c.args.task.now s.entries new.entries) c.in-CallsSpent.is e.level) (subst (λ v. IsLegal v c.args.task.now new.entries) e.head.version e.session.legal) sure i.standing
+
+pub returns-in-CallsSpent-clause-levels : goal.returns-in-CallsSpent-clause-levels
+returns-in-CallsSpent-clause-levels g c =
+    ap (λ n. n + 1) c.levels.invariant.counted ∙ sym (level_counts c.args.head.now c.args.task.now c.levels.session.entries c.run_level.new.session.entries c.in_ok-ended.ended c.in_ok-ended.ensures.level)
+
+pub returns-in-CallsSpent-clause-goes : goal.returns-in-CallsSpent-clause-goes
+returns-in-CallsSpent-clause-goes g c = goes_then [] c.levels.session.entries c.run_level.new.session.entries (g.O.Sink.taken c.args.out.now) (g.O.Sink.taken c.levels.out) (g.O.Sink.taken c.run_level.new.out) c.levels.invariant.goes c.in_ok-ended.ensures.goes
+
+pub levels-preserved : goal.levels-preserved
+levels-preserved g c =
+    let s = c.levels.session in
+    let new = c.run_level.new.session in
+    let i = c.levels.invariant in
+    let e = c.in_ok-ended.ensures in
+    let done = done_of c.in_ok-ended.ended c.in_default.not-CallsSpent in
+    let all = all_asked c.args.task.now new.entries (length s.asked) (length new.asked) c.args.head.now.calls (length c.as_slice-asks.result.now) c.in_ok-ended.ended done e.ends in
+    let turn = decided_dues c.args.head.now c.args.task.now s.entries (length s.asked) c.in_ok-decision.decision c.in-Asks.dues c.in-Asks.is c.in_ok-decision.ensures.decided in
+    record {
+      session = e.session;
+      head = e.head;
+      working = e.working;
+      learnt = e.learnt;
+      standing = standing_next c.args.head.now c.args.task.now s.entries new.entries (length s.asked) c.in-Asks.dues.items i.session.counted turn (subst (RunsLevel c.args.head.now c.args.task.now s.entries new.entries) done e.level) i.standing;
+      counted = ap (λ n. n + 1) i.counted ∙ sym (level_counts c.args.head.now c.args.task.now s.entries new.entries c.in_ok-ended.ended e.level);
+      fewer = omega (arith, i.fewer, all.0, turn.some, ap length c.as_slice-asks.ensures.value);
+      within = all.1;
+      started = e.started;
+      state = e.state;
+      goes = goes_then [] s.entries new.entries (g.O.Sink.taken c.args.out.now) (g.O.Sink.taken c.levels.out) (g.O.Sink.taken c.run_level.new.out) i.goes e.goes;
+      host = omega (arith, e.host.later, i.host);
+      sink = omega (arith, e.sink.later, i.sink);
+    }

@@ -1,0 +1,31 @@
+use Rattle.std.proofs.Common.{◌≡◌, ◌-◌, ◌≤◌, [], false, length, count_by}
+use Rattle.io_world.specs.Talks.{Same}
+use Rattle.session_core.specs.Session.{IsLearnt, IsOf, IsSession}
+use Rattle.level_run.proofs.Standing.{Standing}
+use Rattle.level_run.proofs.levels.run_levels.Given as goal
+use Rattle.level_run.specs.Held.{is_running}
+use Rattle.level_run.specs.Reports.{is_level}
+use Rattle.level_run.specs.Rolling.{Goes}
+use Rattle.level_run.specs.Turns.{AreStarted}
+
+-- the run stands between two levels, and its words were written
+abbrev pub invariant-levels : goal.invariant-levels
+invariant-levels g l = record {
+  session : IsSession l.task l.session;
+  head : IsOf l.head l.session;
+  working : l.session.failed ≡ false;
+  learnt : IsLearnt l.session;
+  standing : Standing l.head l.task l.session.entries;
+  counted : l.levels ≡ count_by is_level l.session.entries;
+  fewer : l.levels ≤ length l.session.asked;
+  within : length l.session.asked ≤ l.head.calls;
+  started : AreStarted l.session.pools (length l.session.asked) (g.H.Host.running l.host);
+  state : Same (g.H.Host.running l.host) (is_running l.lines);
+  goes : Goes [] l.session.entries (g.O.Sink.taken l.initial.out) (g.O.Sink.taken l.out);
+  host : g.H.Host.faults l.initial.host ≤ g.H.Host.faults l.host;
+  sink : g.O.Sink.faults l.initial.out ≤ g.O.Sink.faults l.out;
+}
+
+-- each level spends calls
+abbrev pub decreases-levels : goal.decreases-levels
+decreases-levels g l = l.head.calls - length l.session.asked

@@ -1,0 +1,21 @@
+use Rattle.std.proofs.Common.{◌≡◌, ◌∙◌, ◌<◌, ◌+◌, arith, ap, sym, Some, slice_get}
+use Rattle.std.proofs.lemmas.Option.{slice_get-get_or, slice_get_within}
+use Rattle.level_run.proofs.Starting.{pools_done, pools_left}
+use Rattle.level_run.specs.Held.{is_running}
+use Rattle.level_run.proofs.lines.Lines.start_all.Goals as goal
+
+pub loop-pool-preserved : goal.loop-pool-preserved
+loop-pool-preserved g c =
+    let pools = c.args.pools.now in
+    let i = c.loop-pool.pool-index in
+    let at : slice_get pools i ≡ Some c.pool-item.result = slice_get-get_or pools i c.pool-item.result c.loop-pool-test.true ∙ ap Some (sym c.pool-item.is) in
+    let done = c.in_ok-start_pool.ensures in
+    record {
+      state = done.state;
+      done = pools_done pools c.requires.pools i c.pool-item.result at (is_running c.loop-pool.self) (is_running c.start_pool.new.self) done.running done.others c.loop-pool.invariant.done;
+      left = pools_left pools c.requires.pools i c.pool-item.result at (is_running c.loop-pool.self) (is_running c.start_pool.new.self) done.running done.others c.loop-pool.invariant.left;
+      host = omega (arith, done.cause.later, c.loop-pool.invariant.host);
+    }
+
+pub returns-clause-running : goal.returns-clause-running
+returns-clause-running g c = λ k child p at is. c.loop-pool.invariant.done k child p (omega (arith, slice_get_within c.args.pools.now k p at, c.loop-pool-test.false)) at is

@@ -1,0 +1,12 @@
+use Rattle.std.proofs.Common.{◌≡◌, ◌<◌, ◌≤◌, ℕ, false}
+use Rattle.level_run.proofs.lines.Lines.stop_all.Given as goal
+use Rattle.level_run.specs.Held.{is_running}
+
+-- the first children don't run, and the others run as they did
+abbrev pub invariant-loop-child : goal.invariant-loop-child
+invariant-loop-child g l = record {
+  stopped : (k : ℕ) → k < l.child → g.H.Host.running l.host k ≡ false;
+  others : (k : ℕ) → l.child ≤ k → g.H.Host.running l.host k ≡ is_running l.self k;
+  most : l.child ≤ 17;
+  host : g.H.Host.faults l.initial.host ≤ g.H.Host.faults l.host;
+}

@@ -1,0 +1,65 @@
+use Rattle.std.proofs.Common.{◌≡◌, ◌+◌, ◌++◌, ap, sym, subst, ◌∙◌, length}
+use Rattle.session_core.specs.Session.{begun}
+use Rattle.session_core.specs.State.{State}
+use Rattle.transcript_text.specs.Legal.{IsLegal}
+use Rattle.level_run.proofs.Rounding.{all_heard, count_is, rolling_begun, round_end}
+use Rattle.level_run.proofs.Stopping.{handed, stopped_memory, stopped_then}
+use Rattle.level_run.specs.Rolling.{Goes, IsRolling, Stopped}
+use Rattle.level_run.proofs.round.run_round.Goals as goal
+
+pub send_all-requires-clause-rolling : goal.send_all-requires-clause-rolling
+send_all-requires-clause-rolling g c =
+    let s = c.args.session.now in
+    subst (λ (x : State). IsRolling x (g.H.Host.running c.args.host.now) 0 0) (sym c.in-Ok.ensures.begun) (rolling_begun c.args.task.now s c.args.dues.now (g.H.Host.running c.args.host.now) c.requires.working c.requires.round c.requires.session c.requires.all_run)
+
+pub send_all-requires-clause-count : goal.send_all-requires-clause-count
+send_all-requires-clause-count g c = count_is c.args.task.now c.args.session.now c.begin_round.new.self c.args.dues.now c.in-Ok.count c.in-Ok.ensures.count c.in-Ok.ensures.begun
+
+pub hear_all-requires-clause-count : goal.hear_all-requires-clause-count
+hear_all-requires-clause-count g c = count_is c.args.task.now c.args.session.now c.begin_round.new.self c.args.dues.now c.in-Ok.count c.in-Ok.ensures.count c.in-Ok.ensures.begun ∙ sym c.in_ok-send_all.ensures.many
+
+pub returns-in_err-hear_all-clause-stopped : goal.returns-in_err-hear_all-clause-stopped
+returns-in_err-hear_all-clause-stopped g c =
+    let s = c.args.session.now in
+    let task = c.args.task.now in
+    let x = begun task s c.args.dues.now in
+    let fault = c.in_err-hear_all.field-0.0 in
+    let first = subst (λ (y : State). Stopped y.version task (y.entries ++ y.asks) fault (g.O.Sink.taken c.send_all.new.out) (g.O.Sink.taken c.hear_all.new.out)) c.in_ok-send_all.ensures.same (c.in_err-hear_all.ensures.stopped task (c.in_ok-send_all.ensures.kept task c.in-Ok.ensures.kept)) in
+    let second = subst (λ (y : State). Stopped y.version task (y.entries ++ y.asks) fault (g.O.Sink.taken c.send_all.new.out) (g.O.Sink.taken c.hear_all.new.out)) c.in-Ok.ensures.begun first in
+    let goes = subst (λ (y : State). Goes y.entries (y.entries ++ y.asks) (g.O.Sink.taken c.args.out.now) (g.O.Sink.taken c.send_all.new.out)) c.in-Ok.ensures.begun c.in_ok-send_all.ensures.goes in
+    handed c.from_residual-in_err-hear_all.result fault _ c.from_residual-in_err-hear_all.ensures.1
+    (stopped_then s.version task s.entries (x.entries ++ x.asks) fault (g.O.Sink.taken c.args.out.now) (g.O.Sink.taken c.send_all.new.out) (g.O.Sink.taken c.hear_all.new.out) goes second)
+
+pub close_round-requires-clause-answered : goal.close_round-requires-clause-answered
+close_round-requires-clause-answered g c =
+    (all_heard c.hear_all.new.session (g.H.Host.running c.hear_all.new.host) c.in-Ok.count (count_is c.args.task.now c.args.session.now c.begin_round.new.self c.args.dues.now c.in-Ok.count c.in-Ok.ensures.count c.in-Ok.ensures.begun ∙ sym c.in_ok-send_all.ensures.many ∙ sym c.in_ok-hear_all.ensures.many) c.in_ok-hear_all.ensures.rolling).0
+
+pub returns-in-Ok-learn-clause-round : goal.returns-in-Ok-learn-clause-round
+returns-in-Ok-learn-clause-round g c =
+    let x = c.hear_all.new.session in
+    let all = all_heard x (g.H.Host.running c.hear_all.new.host) c.in-Ok.count (count_is c.args.task.now c.args.session.now c.begin_round.new.self c.args.dues.now c.in-Ok.count c.in-Ok.ensures.count c.in-Ok.ensures.begun ∙ sym c.in_ok-send_all.ensures.many ∙ sym c.in_ok-hear_all.ensures.many) c.in_ok-hear_all.ensures.rolling in
+    let kept = c.in_ok-hear_all.ensures.kept c.args.task.now (c.in_ok-send_all.ensures.kept c.args.task.now c.in-Ok.ensures.kept) in
+    let end = round_end c.args.task.now c.args.session.now c.begin_round.new.self c.send_all.new.session x c.args.dues.now (g.O.Sink.taken c.args.out.now) (g.O.Sink.taken c.send_all.new.out) (g.O.Sink.taken c.hear_all.new.out) c.in-Ok.ensures.begun c.in_ok-send_all.ensures.same c.in_ok-hear_all.ensures.same c.in_ok-hear_all.ensures.rolling.begun kept all.1 c.in_ok-send_all.ensures.goes c.in_ok-hear_all.ensures.goes in
+    (end.more, ap (λ (y : State). y.entries) c.in-Ok-learn.ensures.learnt ∙ ap (λ (y : State). y.entries) c.close_round.ensures.after ∙ end.entries, end.round)
+
+pub returns-in-Ok-learn-clause-goes : goal.returns-in-Ok-learn-clause-goes
+returns-in-Ok-learn-clause-goes g c =
+    let x = c.hear_all.new.session in
+    let all = all_heard x (g.H.Host.running c.hear_all.new.host) c.in-Ok.count (count_is c.args.task.now c.args.session.now c.begin_round.new.self c.args.dues.now c.in-Ok.count c.in-Ok.ensures.count c.in-Ok.ensures.begun ∙ sym c.in_ok-send_all.ensures.many ∙ sym c.in_ok-hear_all.ensures.many) c.in_ok-hear_all.ensures.rolling in
+    let kept = c.in_ok-hear_all.ensures.kept c.args.task.now (c.in_ok-send_all.ensures.kept c.args.task.now c.in-Ok.ensures.kept) in
+    let end = round_end c.args.task.now c.args.session.now c.begin_round.new.self c.send_all.new.session x c.args.dues.now (g.O.Sink.taken c.args.out.now) (g.O.Sink.taken c.send_all.new.out) (g.O.Sink.taken c.hear_all.new.out) c.in-Ok.ensures.begun c.in_ok-send_all.ensures.same c.in_ok-hear_all.ensures.same c.in_ok-hear_all.ensures.rolling.begun kept all.1 c.in_ok-send_all.ensures.goes c.in_ok-hear_all.ensures.goes in
+    subst (λ es. Goes c.args.session.now.entries es (g.O.Sink.taken c.args.out.now) (g.O.Sink.taken c.hear_all.new.out)) (sym (ap (λ (y : State). y.entries) c.in-Ok-learn.ensures.learnt ∙ ap (λ (y : State). y.entries) c.close_round.ensures.after)) end.goes
+
+pub returns-in-Err-learn-clause-stopped : goal.returns-in-Err-learn-clause-stopped
+returns-in-Err-learn-clause-stopped g c =
+    let s = c.args.session.now in
+    let task = c.args.task.now in
+    let x = c.hear_all.new.session in
+    let closed = c.close_round.new.self in
+    let all = all_heard x (g.H.Host.running c.hear_all.new.host) c.in-Ok.count (count_is c.args.task.now c.args.session.now c.begin_round.new.self c.args.dues.now c.in-Ok.count c.in-Ok.ensures.count c.in-Ok.ensures.begun ∙ sym c.in_ok-send_all.ensures.many ∙ sym c.in_ok-hear_all.ensures.many) c.in_ok-hear_all.ensures.rolling in
+    let kept = c.in_ok-hear_all.ensures.kept task (c.in_ok-send_all.ensures.kept task c.in-Ok.ensures.kept) in
+    let end = round_end task s c.begin_round.new.self c.send_all.new.session x c.args.dues.now (g.O.Sink.taken c.args.out.now) (g.O.Sink.taken c.send_all.new.out) (g.O.Sink.taken c.hear_all.new.out) c.in-Ok.ensures.begun c.in_ok-send_all.ensures.same c.in_ok-hear_all.ensures.same c.in_ok-hear_all.ensures.rolling.begun kept all.1 c.in_ok-send_all.ensures.goes c.in_ok-hear_all.ensures.goes in
+    let goes = subst (λ es. Goes s.entries es (g.O.Sink.taken c.args.out.now) (g.O.Sink.taken c.hear_all.new.out)) (sym (ap (λ (y : State). y.entries) c.close_round.ensures.after)) end.goes in
+    let legal = subst (λ v. IsLegal v task closed.entries) (ap (λ (y : State). y.version) c.close_round.ensures.after ∙ end.version) (c.close_round.ensures.kept task kept).legal in
+    stopped_then s.version task s.entries closed.entries c.fault_of-in-Err-learn.result (g.O.Sink.taken c.args.out.now) (g.O.Sink.taken c.hear_all.new.out) (g.O.Sink.taken c.hear_all.new.out) goes
+    (stopped_memory s.version task closed.entries c.fault_of-in-Err-learn.result (g.O.Sink.taken c.hear_all.new.out) legal c.fault_of-in-Err-learn.ensures)

@@ -1,0 +1,19 @@
+use Rattle.std.proofs.Common.{◌≡◌, ◌+◌, ◌++◌, ◌≤◌, length, take}
+use Rattle.io_world.specs.Talks.{Same}
+use Rattle.session_core.specs.Session.{IsSession}
+use Rattle.task_model.specs.declared.task.Task.{Task}
+use Rattle.level_run.proofs.round.send_all.Given as goal
+use Rattle.level_run.specs.Rolling.{Goes, IsRolling, IsSameRound}
+
+-- so many requests are sent and written
+abbrev pub invariant-loop-place : goal.invariant-loop-place
+invariant-loop-place g l = record {
+  same : IsSameRound l.initial.session l.session;
+  rolling : IsRolling l.session (g.H.Host.running l.host) l.place 0;
+  many : length l.session.slots ≡ length l.initial.session.slots;
+  goes : Goes l.initial.session.entries (l.initial.session.entries ++ take l.place l.initial.session.asks) (g.O.Sink.taken l.initial.out) (g.O.Sink.taken l.out);
+  kept : (task : Task) → IsSession task l.initial.session → IsSession task l.session;
+  running : Same (g.H.Host.running l.initial.host) (g.H.Host.running l.host);
+  host : g.H.Host.faults l.initial.host ≤ g.H.Host.faults l.host;
+  sink : g.O.Sink.faults l.initial.out ≤ g.O.Sink.faults l.out;
+}

@@ -1,0 +1,6 @@
+pub mod Held
+pub mod Reports
+pub mod Rolling
+pub mod Starts
+pub mod Stops
+pub mod Turns

@@ -1,0 +1,89 @@
+-- What a run over a task writes.
+use Rattle.std.specs.Prelude.{◌≡◌, ◌⊎◌, ℕ, ◌<◌, List, [], ◌++◌, length, All, Option, count_by, Bool, true, false}
+use Rattle.std.specs.Io.KnownBytes.{Appends}
+use Rattle.std.specs.List.{flat_map}
+use Rattle.task_model.specs.declared.task.Task.{Task}
+use Rattle.transcript_text.specs.Legal.{IsLegal, asks_of}
+use Rattle.transcript_text.specs.Outcomes.{MayStand}
+use Rattle.transcript_text.specs.Rounds.{limits_of}
+use Rattle.transcript_text.specs.Texts.{done_line, line_text, text_of_entry, text_of_head, text_of_outcome}
+use Rattle.transcript_text.specs.Turns.{AreTurnsOf, Stage}
+use Rattle.transcript_text.specs.declared.entry.Entry.{Entry}
+use Rattle.transcript_text.specs.declared.entry.Entry.TheVariants as entry
+use Rattle.transcript_text.specs.declared.head.Head.{Head}
+use Rattle.transcript_text.specs.declared.head.Mode.TheVariants.{Incremental}
+use Rattle.transcript_text.specs.declared.head.Pool.{Pool}
+use Rattle.transcript_text.specs.declared.outcome.Outcome.{Outcome}
+use Rattle.level_run.specs.Rolling.{Blames}
+use Rattle.level_run.specs.Stops.{StopsAt}
+use Rattle.level_run.specs.Turns.{AreNeededTurns, IsSure}
+use Rattle.level_run.specs.declared.fault.RunFault.{RunFault}
+use Rattle.level_run.specs.declared.fault.RunFault.TheVariants.{Write, Memory}
+use Rattle.level_run.specs.declared.incremental_mode.Ran.{Ran}
+
+-- the streams of the head's pools are the task's
+abbrev pub AreStreamsOf : Task → Head → Type 0
+AreStreamsOf task head = All (λ (pool : Pool). All (λ stream. stream < length task.streams) pool.streams) head.pools
+
+-- ---- texts
+
+-- the outcome's lines, and `done`
+abbrev pub text_of_end : ℕ → Outcome → List ℕ
+text_of_end version o = text_of_outcome version o ++ line_text done_line
+
+-- the lines of the head and of the entries
+abbrev pub text_so_far : Task → Head → List Entry → List ℕ
+text_so_far task head entries = text_of_head task head ++ flat_map text_of_entry entries
+
+-- a whole report
+abbrev pub whole_text : Task → Head → List Entry → Outcome → List ℕ
+whole_text task head entries o = text_so_far task head entries ++ text_of_end head.version o
+
+abbrev pub is_level : Entry → Bool
+is_level entry.Level = true
+is_level e = false
+
+-- ---- what was written
+
+-- A legal transcript that is a list of whole turns of incremental mode, or one after a batch that was cut, each of which begins
+-- where no plan exists; an outcome that may stand there and is true of it.
+pub record IsRun (task : Task) (head : Head) (entries : List Entry) (o : Outcome) : Type 0 where
+  pub stage : Stage
+  pub legal : IsLegal head.version task entries
+  pub turns : AreTurnsOf Incremental (limits_of head) task entries stage
+  pub needed : AreNeededTurns (limits_of head) task entries stage
+  pub stands : MayStand stage o
+  pub sure : IsSure head task entries o
+
+-- A whole report was written, of a run; the levels and the requests are counted.
+pub record IsReported (task : Task) (head : Head) (old new : Option (List ℕ)) (ran : Ran) : Type 0 where
+  pub entries : List Entry
+  pub run : IsRun task head entries ran.outcome
+  pub told : Appends old new (whole_text task head entries ran.outcome)
+  pub levels : ran.levels ≡ count_by is_level entries
+  pub asks : ran.asks ≡ asks_of entries
+
+-- The lines of the head and of a legal transcript, in which the request that is blamed is open, if one is.
+pub record IsPart (task : Task) (head : Head) (fault : RunFault) (text : List ℕ) : Type 0 where
+  pub entries : List Entry
+  pub legal : IsLegal head.version task entries
+  pub blamed : Blames fault entries
+  pub is : text ≡ text_so_far task head entries
+
+-- The text of a report.
+pub record IsWhole (task : Task) (head : Head) (text : List ℕ) : Type 0 where
+  pub entries : List Entry
+  pub outcome : Outcome
+  pub run : IsRun task head entries outcome
+  pub is : text ≡ whole_text task head entries outcome
+
+-- What was to be written before the fault: nothing, for want of memory; or the head and a legal transcript; or, where the sink
+-- failed, a whole report.
+abbrev pub WasToWrite : Task → Head → RunFault → List ℕ → Type 0
+WasToWrite task head fault text = ((fault ≡ Memory) × (text ≡ [])) ⊎ IsPart task head fault text ⊎ ((fault ≡ Write) × IsWhole task head text)
+
+-- A run had no outcome. All that was to be written was written; but a fault of the sink left some of it out at the end.
+pub record IsBroken (task : Task) (head : Head) (old new : Option (List ℕ)) (fault : RunFault) : Type 0 where
+  pub text : List ℕ
+  pub form : WasToWrite task head fault text
+  pub told : StopsAt fault old new text

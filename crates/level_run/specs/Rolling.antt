@@ -1,0 +1,82 @@
+-- An open round: whose requests are sent, whose answers are heard, and what was printed of it.
+use Rattle.std.specs.Prelude.{◌≡◌, ℕ, ◌≤◌, ◌++◌, List, map, length, Bool, true, false, not, Option, None, Some, slice_get, is_none, nat_lt, unwrap_or}
+use Rattle.std.specs.Io.KnownBytes.{Appends}
+use Rattle.std.specs.List.{flat_map}
+use Rattle.io_world.specs.declared.host.HostFault.{HostFault}
+use Rattle.io_world.specs.declared.host.HostFault.TheVariants as host
+use Rattle.task_model.specs.Lists.{AreDistinct}
+use Rattle.task_model.specs.declared.task.Task.{Task}
+use Rattle.transcript_text.specs.Legal.{IsLegal, is_open}
+use Rattle.transcript_text.specs.Texts.{text_of_entry}
+use Rattle.transcript_text.specs.declared.entry.Entry.{Entry}
+use Rattle.transcript_text.specs.declared.entry.Entry.TheVariants as entry
+use Rattle.session_core.specs.Heard.{is_bad_at}
+use Rattle.session_core.specs.Slots.{Slot}
+use Rattle.session_core.specs.State.{State, after_line, with_slots}
+use Rattle.level_run.specs.Stops.{StopsAt}
+use Rattle.level_run.specs.declared.fault.RunFault.{RunFault}
+use Rattle.level_run.specs.declared.fault.RunFault.TheVariants.{Answer, Generator, Write, Memory}
+
+-- ---- faults
+
+-- a host's fault as a fault of the run
+abbrev pub IsHostFault : HostFault → RunFault → Type 0
+IsHostFault host.Failed fault = fault ≡ Generator
+IsHostFault host.Memory fault = fault ≡ Memory
+
+-- a child failed, or memory is wanting, or the request of this number is blamed
+abbrev pub IsBlamed : ℕ → RunFault → Type 0
+IsBlamed n (Answer number why) = number ≡ n
+IsBlamed n Generator = Unit {0}
+IsBlamed n Memory = Unit {0}
+IsBlamed n Write = ⊥
+
+-- a line of the child was taken, and it is an answer
+pub record Takes (old : State) (child : ℕ) (new : State) : Type 0 where
+  pub line : List ℕ
+  pub few : length line ≤ 1024
+  pub good : is_bad_at old.slots child line ≡ false
+  pub after : new ≡ after_line old child line false
+
+-- ---- an open round
+
+-- The first `sent` requests are sent, and the first `answered` of these are answered. Each slot has a child of its own, that runs.
+pub record IsRolling (s : State) (running : ℕ → Bool) (sent answered : ℕ) : Type 0 where
+  pub working : s.failed ≡ false
+  pub begun : s.is_open ≡ true
+  pub asks : length s.asks ≡ length s.slots
+  pub apart : AreDistinct (map (λ (t : Slot). t.child) s.slots)
+  pub each_sent : (k : ℕ) (t : Slot) → slice_get s.slots k ≡ Some t → t.sent ≡ nat_lt k sent
+  pub each_open : (k : ℕ) (t : Slot) → slice_get s.slots k ≡ Some t → is_none t.answer ≡ not (nat_lt k answered)
+  pub low : (k : ℕ) (t : Slot) → slice_get s.slots k ≡ Some t → t.child ≤ 16
+  pub runs : (k : ℕ) (t : Slot) → slice_get s.slots k ≡ Some t → running t.child ≡ true
+
+-- nothing but the slots of the round has changed
+abbrev pub IsSameRound : State → State → Type 0
+IsSameRound old new = new ≡ with_slots old new.slots new.failed
+
+-- the answers of the round, where a request that isn't answered is taken to end
+abbrev pub finished : List Slot → List Entry
+finished = map (λ (t : Slot). unwrap_or t.answer (entry.End t.number))
+
+-- ---- how a run goes on and stops
+
+-- Entries came behind the others, and their lines were written.
+pub record Goes (before after : List Entry) (old new : Option (List ℕ)) : Type 0 where
+  pub more : List Entry
+  pub pushed : after ≡ before ++ more
+  pub told : Appends old new (flat_map text_of_entry more)
+
+-- the request that is blamed is open
+abbrev pub Blames : RunFault → List Entry → Type 0
+Blames (Answer number why) entries = is_open entries number ≡ true
+Blames Generator entries = Unit {0}
+Blames Write entries = Unit {0}
+Blames Memory entries = Unit {0}
+
+-- The entries that were to be written behind those before, what the sink took of them, and the request that is blamed, if one is.
+pub record Stopped (version : ℕ) (task : Task) (before : List Entry) (fault : RunFault) (old new : Option (List ℕ)) : Type 0 where
+  pub more : List Entry
+  pub legal : IsLegal version task (before ++ more)
+  pub told : StopsAt fault old new (flat_map text_of_entry more)
+  pub blamed : Blames fault (before ++ more)

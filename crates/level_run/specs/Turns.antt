@@ -1,0 +1,107 @@
+-- How the turns of incremental mode go.
+use Rattle.std.specs.Prelude.{◌≡◌, ℕ, ◌+◌, ◌<◌, ◌≤◌, List, [], ◌∷◌, ◌++◌, length, map, All, Bool, true, false, Some, slice_get}
+use Rattle.instance_queue.specs.Level.{AreDueInTurn, instances_of}
+use Rattle.instance_queue.specs.declared.due.Due.{Due}
+use Rattle.session_core.specs.Pools.{HasChild, workers_of}
+use Rattle.session_core.specs.Ready.{AreReady}
+use Rattle.session_core.specs.Session.{IsFitHead, IsLearnt}
+use Rattle.session_core.specs.State.{State}
+use Rattle.session_core.specs.declared.pools.Workers.{Workers}
+use Rattle.task_model.specs.Plans.{IsFar, IsSolvable, IsReached, MoreThan}
+use Rattle.task_model.specs.Streams.{IsDue}
+use Rattle.task_model.specs.declared.stream.Instance.{Instance}
+use Rattle.task_model.specs.declared.task.Task.{Task}
+use Rattle.transcript_text.specs.Outcomes.{IsTrueOutcome}
+use Rattle.transcript_text.specs.Rounds.{Limits, limits_of, IsBatch}
+use Rattle.transcript_text.specs.Transcript.{known_of, notes_of}
+use Rattle.transcript_text.specs.Turns.{AreTurns, IsLevel, Stage}
+use Rattle.transcript_text.specs.declared.entry.Entry.{Entry}
+use Rattle.transcript_text.specs.declared.entry.Entry.TheVariants as entry
+use Rattle.transcript_text.specs.declared.head.Head.{Head}
+use Rattle.transcript_text.specs.declared.head.Pool.{Pool}
+use Rattle.transcript_text.specs.declared.head.Mode.TheVariants.{Incremental}
+use Rattle.transcript_text.specs.declared.outcome.LimitKind.TheVariants.{States}
+use Rattle.transcript_text.specs.declared.outcome.Outcome.{Outcome}
+use Rattle.transcript_text.specs.declared.outcome.Outcome.TheVariants as outcome
+use Rattle.level_run.specs.declared.ending.Batch.{Batch}
+use Rattle.level_run.specs.declared.ending.Batch.TheVariants.{Done, CallsSpent}
+use Rattle.level_run.specs.declared.decide.Decision.{Decision}
+use Rattle.level_run.specs.declared.decide.Decision.TheVariants.{Ends, Asks}
+
+-- ---- what is asked for
+
+-- the head's pools serve the task's streams, its limits are in their ranges, and each pool has words that start its children
+pub record IsRunnable (task : Task) (head : Head) : Type 0 where
+  pub fit : IsFitHead task head
+  pub words : All (λ (p : Pool). 0 < length p.argv) head.pools
+  pub streams : All (λ (p : Pool). All (λ stream. stream < length task.streams) p.streams) head.pools
+  pub some_states : 1 ≤ head.states
+  pub few_states : head.states ≤ 200000
+
+-- all workers run
+abbrev pub AllRun : List Workers → (ℕ → Bool) → Type 0
+AllRun pools running = (k child : ℕ) (p : Workers) → slice_get pools k ≡ Some p → HasChild p child → running child ≡ true
+
+-- Where nothing was asked no child runs, and else all workers do.
+pub record AreStarted (pools : List Workers) (asks : ℕ) (running : ℕ → Bool) : Type 0 where
+  pub none : asks ≡ 0 → (child : ℕ) → running child ≡ false
+  pub all : 0 < asks → AllRun pools running
+
+-- ---- batches
+
+-- All was asked; or as many calls were made as the limit allows, and an instance that was to be asked is still due.
+abbrev pub EndsBatch : Task → List Entry → (before after calls many : ℕ) → Batch → Type 0
+EndsBatch task entries before after calls many Done = (after ≡ before + many) × (after ≤ calls)
+EndsBatch task entries before after calls many CallsSpent = (after ≡ calls) × (calls < before + many) × ((i : Instance) × IsDue task (known_of task entries) (notes_of task entries) i)
+
+-- ---- turns
+
+-- An outcome is true; the limit of states stands only where so many states are within the steps of each plan, and `no plan` only
+-- where no more are reached.
+pub record IsSure (head : Head) (task : Task) (entries : List Entry) (o : Outcome) : Type 0 where
+  pub holds : IsTrueOutcome (limits_of head) task entries o
+  pub far : o ≡ outcome.Limit States → IsFar task (known_of task entries) head.states
+  pub within : o ≡ outcome.NoPlan → ¬ (MoreThan head.states (IsReached task (known_of task entries)))
+
+-- The run ends with a true outcome; or no plan exists, these instances are due, one at least, and a call is left.
+pub record IsTurn (head : Head) (task : Task) (entries : List Entry) (asks : ℕ) (dues : List Due) : Type 0 where
+  pub due : AreDueInTurn task (known_of task entries) (notes_of task entries) dues
+  pub ready : AreReady task entries dues
+  pub some : 0 < length dues
+  pub left : asks < head.calls
+  pub unsolvable : ¬ (IsSolvable task (known_of task entries))
+
+abbrev pub IsDecided : Head → Task → List Entry → ℕ → Decision → Type 0
+IsDecided head task entries asks (Ends o) = IsSure head task entries o
+IsDecided head task entries asks (Asks dues) = IsTurn head task entries asks dues.items
+
+-- a whole level, that begins where no plan exists
+pub record IsNeededLevel (limits : Limits) (task : Task) (before now : List Entry) (cut : Bool) : Type 0 where
+  pub level : IsLevel limits task before now cut
+  pub unsolvable : ¬ (IsSolvable task (known_of task before))
+
+abbrev pub NeededTurn : Limits → Task → Unit {0} → List Entry → List Entry → Unit {0} → Bool → Type 0
+NeededTurn limits task kept before now next cut = IsNeededLevel limits task before now cut
+
+-- turns from the empty transcript, each of which begins where no plan exists
+abbrev pub AreNeededTurns : Limits → Task → List Entry → Stage → Type 0
+AreNeededTurns limits task entries stage = AreTurns limits task (NeededTurn limits task) tt [] entries stage
+
+-- the line of a level is put behind the transcript
+pub record IsMarked (old new : State) : Type 0 where
+  pub entries : new.entries ≡ old.entries ++ entry.Level ∷ []
+  pub asked : new.asked ≡ old.asked
+  pub version : new.version ≡ old.version
+  pub calls : new.calls ≡ old.calls
+  pub pools : new.pools ≡ old.pools
+  pub working : new.failed ≡ false
+  pub learnt : IsLearnt new
+
+-- whether calls were wanting
+abbrev pub cut_by : Batch → Bool
+cut_by Done = false
+cut_by CallsSpent = true
+
+-- a level was run that begins where no plan exists
+abbrev pub RunsLevel : Head → Task → List Entry → List Entry → Batch → Type 0
+RunsLevel head task before after b = (now : List Entry) × (after ≡ before ++ now) × IsNeededLevel (limits_of head) task before now (cut_by b)

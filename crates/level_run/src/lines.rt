@@ -1,0 +1,137 @@
+//! What was read from children and not yet taken as lines, and which were started.
+ghost use Rattle.std.specs.Prelude.{◌≡◌, ◌<◌, ◌≤◌, ◌+◌, ℕ, true, false, length, IfErr, IfOk, OnOk};
+ghost use Rattle.io_world.specs.Faults.{HasCause};
+ghost use Rattle.io_world.specs.Talks.{Becomes, Same};
+ghost use Rattle.level_run.specs.Held.{is_running};
+ghost use Rattle.level_run.specs.Starts.{AllWork, AreStartable, IsWorker, NoneWorks};
+ghost use Rattle.level_run.specs.Stops.{MayHear};
+ghost use Rattle.level_run.specs.declared.fault.RunFault.TheVariants.{Generator};
+
+use crate::child::start;
+use crate::fault::RunFault;
+use gen_lines::LineBuf;
+use io_world::Host;
+use std::alloc::{AllocError, Global};
+use std::marker::Model;
+use transcript_text::Pool;
+
+/// How many children there may be.
+const CHILDREN: usize = 17;
+
+/// For each child the bytes that were read and not yet taken as lines, and whether it was started. All batches of a session
+/// take the same lines.
+#[derive(Drop)]
+pub struct Lines {
+    pub(crate) buffers: Vec<LineBuf>,
+    pub(crate) started: [bool; CHILDREN],
+}
+
+impl Model for Lines {
+    ghost use Rattle.std.specs.Prelude.{◌≡◌, length};
+    ghost use Rattle.level_run.specs.Held.{Held};
+
+    ghost Value = { Held };
+
+    ghost view = { λ l. record { buffers = l.buffers.items; started = l.started } };
+
+    ghost invariant = { λ l. (length l.buffers.items ≡ 17) × (length l.started ≡ 17) };
+}
+
+impl Lines {
+    /// Nothing was read, and no child was started. Fails only where memory is wanting.
+    pub fn new(alloc: Global) -> Result<Lines, AllocError>
+        ensures { IfOk result (λ lines. (child : ℕ) → is_running lines child ≡ false) }
+    {
+        let mut buffers = Vec::new(alloc);
+        for _ in 0..CHILDREN {
+            buffers.push(LineBuf::new(alloc)?)?;
+        }
+        Ok(Lines {
+            buffers,
+            started: [false; CHILDREN],
+        })
+    }
+
+    /// Whether the child was started.
+    pub fn running(&self, child: u8) -> bool
+        ensures { result ≡ is_running self.now child }
+    {
+        match self.started.get(child as usize) {
+            Some(started) => *started,
+            None => false,
+        }
+    }
+
+    /// Starts a child that doesn't run.
+    fn start_child<H: Host>(
+        &mut self,
+        host: &mut H,
+        child: u8,
+        argv: &[String],
+    ) -> Result<(), RunFault>
+        requires number { child < 17 }
+        requires words { 0 < length argv.now }
+        requires idle { is_running self.old child ≡ false }
+        requires state { Same (H.running host.old) (is_running self.old) }
+        ensures state { Same (H.running host.new) (is_running self.new) }
+        ensures running { OnOk result (Becomes child true (is_running self.old) (is_running self.new)) }
+        ensures only { IfErr result MayHear }
+        ensures cause { HasCause Generator H.last (H.faults host.old) (H.faults host.new) result }
+    {
+        start(host, child, argv)?;
+        self.started[child as usize] = true;
+        Ok(())
+    }
+
+    /// Starts all workers of a pool, none of which runs, in the order of their numbers.
+    fn start_pool<H: Host>(&mut self, host: &mut H, pool: &Pool) -> Result<(), RunFault>
+        requires low { pool.now.first + pool.now.workers ≤ 17 }
+        requires words { 0 < length pool.now.argv }
+        requires idle { (child : ℕ) → IsWorker pool.now child → is_running self.old child ≡ false }
+        requires state { Same (H.running host.old) (is_running self.old) }
+        ensures state { Same (H.running host.new) (is_running self.new) }
+        ensures running { OnOk result ((child : ℕ) → IsWorker pool.now child → is_running self.new child ≡ true) }
+        ensures others { OnOk result ((child : ℕ) → ¬ (IsWorker pool.now child) → is_running self.new child ≡ is_running self.old child) }
+        ensures only { IfErr result MayHear }
+        ensures cause { HasCause Generator H.last (H.faults host.old) (H.faults host.new) result }
+    {
+        for worker in 0..pool.workers {
+            self.start_child(host, pool.first + worker, pool.argv.as_slice())?;
+        }
+        Ok(())
+    }
+
+    /// Starts all workers of all pools, none of which runs, in the order of the pools.
+    pub(crate) fn start_all<H: Host>(
+        &mut self,
+        host: &mut H,
+        pools: &[Pool],
+    ) -> Result<(), RunFault>
+        requires pools { AreStartable pools.now }
+        requires idle { NoneWorks pools.now (is_running self.old) }
+        requires state { Same (H.running host.old) (is_running self.old) }
+        ensures state { Same (H.running host.new) (is_running self.new) }
+        ensures running { OnOk result (AllWork pools.now (is_running self.new)) }
+        ensures only { IfErr result MayHear }
+        ensures cause { HasCause Generator H.last (H.faults host.old) (H.faults host.new) result }
+    {
+        for pool in pools {
+            self.start_pool(host, pool)?;
+        }
+        Ok(())
+    }
+
+    /// Stops all children that were started. That one fails changes nothing.
+    pub(crate) fn stop_all<H: Host>(&self, host: &mut H)
+        requires state { Same (H.running host.old) (is_running self.now) }
+        ensures idle { (child : ℕ) → H.running host.new child ≡ false }
+        ensures later { H.faults host.old ≤ H.faults host.new }
+    {
+        let _ = &self.buffers;
+        for child in 0..CHILDREN as u8 {
+            if self.running(child) {
+                let _ = host.stop(child);
+            }
+        }
+    }
+}

@@ -1,0 +1,213 @@
+//! One round: all its requests are written, and then its answers are heard, in the order of the requests.
+ghost use Rattle.std.specs.Prelude.{◌≡◌, ◌<◌, ◌≤◌, ◌+◌, ◌++◌, ℕ, List, true, false, drop, length, take, IfErr, OnOk};
+ghost use Rattle.instance_queue.specs.Level.{instances_of};
+ghost use Rattle.instance_queue.specs.declared.due.Due.{Due as AnyDue};
+ghost use Rattle.io_world.specs.Faults.{last_count, HasCause};
+ghost use Rattle.io_world.specs.Talks.{Same};
+ghost use Rattle.level_run.specs.Held.{is_running};
+ghost use Rattle.level_run.specs.Rolling.{Goes, IsBlamed, IsRolling, IsSameRound, Stopped, Takes, finished};
+ghost use Rattle.level_run.specs.Turns.{AllRun};
+ghost use Rattle.level_run.specs.declared.fault.RunFault.TheVariants.{Generator, Memory, Write};
+ghost use Rattle.session_core.specs.Heard.{number_at};
+ghost use Rattle.session_core.specs.Ready.{AreReady};
+ghost use Rattle.session_core.specs.Session.{IsLearnt, IsSession, MayBegin};
+ghost use Rattle.session_core.specs.Slots.{IsAwaited};
+ghost use Rattle.task_model.specs.declared.task.Task.{Task as AnyTask};
+ghost use Rattle.transcript_text.specs.Rounds.{IsRound};
+ghost use Rattle.transcript_text.specs.declared.entry.Entry.{Entry as AnyEntry};
+
+use crate::child::{hear, send};
+use crate::fault::RunFault;
+use crate::lines::Lines;
+use crate::print::print_entry;
+use instance_queue::Due;
+use io_world::{Host, Sink};
+use session_core::{CoreFault, Session};
+use std::alloc::Global;
+use task_model::Task;
+
+/// Why a session does nothing, as a fault of a run whose session works.
+fn fault_of(_fault: CoreFault) -> RunFault
+    ensures { result ≡ Memory }
+{
+    RunFault::Memory
+}
+
+/// Writes the request at this place of the round whole to its child, and its line.
+fn send_one<H: Host, O: Sink>(
+    alloc: Global,
+    session: &mut Session,
+    host: &mut H,
+    out: &mut O,
+    place: usize,
+) -> Result<(), RunFault>
+    requires rolling { IsRolling session.old (H.running host.old) place 0 }
+    requires within { place < length session.old.slots }
+    ensures same { OnOk result (IsSameRound session.old session.new) }
+    ensures rolling { OnOk result (IsRolling session.new (H.running host.new) (place + 1) 0) }
+    ensures many { OnOk result (length session.new.slots ≡ length session.old.slots) }
+    ensures goes { OnOk result (Goes (session.old.entries ++ take place session.old.asks) (session.old.entries ++ take (place + 1) session.old.asks) (O.taken out.old) (O.taken out.new)) }
+    ensures stopped { (task : AnyTask) → IsSession task session.old → IfErr result (λ fault. Stopped session.old.version task (session.old.entries ++ take place session.old.asks) fault (O.taken out.old) (O.taken out.new)) }
+    ensures kept { (task : AnyTask) → IsSession task session.old → IsSession task session.new }
+    ensures running { Same (H.running host.old) (H.running host.new) }
+    ensures host { HasCause Generator H.last (H.faults host.old) (H.faults host.new) result }
+    ensures sink { HasCause Write last_count (O.faults out.old) (O.faults out.new) result }
+{
+    let (child, request) = session.request(place);
+    send(host, child, request)?;
+    session.sent(child);
+    print_entry(alloc, out, session.ask(place))
+}
+
+/// Writes all requests of the round, each whole to its child.
+fn send_all<H: Host, O: Sink>(
+    alloc: Global,
+    session: &mut Session,
+    host: &mut H,
+    out: &mut O,
+    count: usize,
+) -> Result<(), RunFault>
+    requires rolling { IsRolling session.old (H.running host.old) 0 0 }
+    requires count { count ≡ length session.old.slots }
+    ensures same { OnOk result (IsSameRound session.old session.new) }
+    ensures rolling { OnOk result (IsRolling session.new (H.running host.new) count 0) }
+    ensures many { OnOk result (length session.new.slots ≡ length session.old.slots) }
+    ensures goes { OnOk result (Goes session.old.entries (session.old.entries ++ session.old.asks) (O.taken out.old) (O.taken out.new)) }
+    ensures stopped { (task : AnyTask) → IsSession task session.old → IfErr result (λ fault. Stopped session.old.version task session.old.entries fault (O.taken out.old) (O.taken out.new)) }
+    ensures kept { (task : AnyTask) → IsSession task session.old → IsSession task session.new }
+    ensures running { Same (H.running host.old) (H.running host.new) }
+    ensures host { HasCause Generator H.last (H.faults host.old) (H.faults host.new) result }
+    ensures sink { HasCause Write last_count (O.faults out.old) (O.faults out.new) result }
+{
+    for place in 0..count {
+        send_one(alloc, session, host, out, place)?;
+    }
+    Ok(())
+}
+
+/// Hears the next line of a child that was started.
+fn hear_child<H: Host>(
+    session: &mut Session,
+    lines: &mut Lines,
+    host: &mut H,
+    child: u8,
+) -> Result<(), RunFault>
+    requires there { child < length lines.old.started }
+    requires number { child < 17 }
+    requires runs { H.running host.old child ≡ true }
+    requires working { session.old.failed ≡ false }
+    requires awaited { IsAwaited session.old.slots child }
+    ensures taken { OnOk result (Takes session.old child session.new) }
+    ensures blamed { IfErr result (IsBlamed (number_at session.old.slots child)) }
+    ensures kept { (task : AnyTask) → IsSession task session.old → IsSession task session.new }
+    ensures started { lines.new.started ≡ lines.old.started }
+    ensures running { Same (H.running host.old) (H.running host.new) }
+    ensures cause { HasCause Generator H.last (H.faults host.old) (H.faults host.new) result }
+{
+    hear(session, &mut lines.buffers[child as usize], host, child)
+}
+
+/// Hears the answer to the request at this place of the round, and writes its line.
+fn hear_one<H: Host, O: Sink>(
+    alloc: Global,
+    session: &mut Session,
+    lines: &mut Lines,
+    host: &mut H,
+    out: &mut O,
+    place: usize,
+) -> Result<(), RunFault>
+    requires rolling { IsRolling session.old (H.running host.old) (length session.old.slots) place }
+    requires within { place < length session.old.slots }
+    requires state { Same (H.running host.old) (is_running lines.old) }
+    ensures same { OnOk result (IsSameRound session.old session.new) }
+    ensures rolling { OnOk result (IsRolling session.new (H.running host.new) (length session.new.slots) (place + 1)) }
+    ensures many { OnOk result (length session.new.slots ≡ length session.old.slots) }
+    ensures front { OnOk result (take place (finished session.new.slots) ≡ take place (finished session.old.slots)) }
+    ensures goes { OnOk result (Goes (session.old.entries ++ session.old.asks ++ take place (finished session.new.slots)) (session.old.entries ++ session.old.asks ++ take (place + 1) (finished session.new.slots)) (O.taken out.old) (O.taken out.new)) }
+    ensures stopped { (task : AnyTask) → IsSession task session.old → IfErr result (λ fault. Stopped session.old.version task (session.old.entries ++ session.old.asks ++ take place (finished session.old.slots)) fault (O.taken out.old) (O.taken out.new)) }
+    ensures kept { (task : AnyTask) → IsSession task session.old → IsSession task session.new }
+    ensures started { lines.new.started ≡ lines.old.started }
+    ensures running { Same (H.running host.old) (H.running host.new) }
+    ensures host { HasCause Generator H.last (H.faults host.old) (H.faults host.new) result }
+    ensures sink { HasCause Write last_count (O.faults out.old) (O.faults out.new) result }
+{
+    let (child, _) = session.request(place);
+    hear_child(session, lines, host, child)?;
+    match session.answer(place) {
+        Some(answer) => print_entry(alloc, out, answer),
+        None => unreachable!(),
+    }
+}
+
+/// Hears all answers of the round, in the order of its requests.
+fn hear_all<H: Host, O: Sink>(
+    alloc: Global,
+    session: &mut Session,
+    lines: &mut Lines,
+    host: &mut H,
+    out: &mut O,
+    count: usize,
+) -> Result<(), RunFault>
+    requires rolling { IsRolling session.old (H.running host.old) count 0 }
+    requires count { count ≡ length session.old.slots }
+    requires state { Same (H.running host.old) (is_running lines.old) }
+    ensures same { OnOk result (IsSameRound session.old session.new) }
+    ensures rolling { OnOk result (IsRolling session.new (H.running host.new) count count) }
+    ensures many { OnOk result (length session.new.slots ≡ length session.old.slots) }
+    ensures goes { OnOk result (Goes (session.old.entries ++ session.old.asks) (session.old.entries ++ session.old.asks ++ finished session.new.slots) (O.taken out.old) (O.taken out.new)) }
+    ensures stopped { (task : AnyTask) → IsSession task session.old → IfErr result (λ fault. Stopped session.old.version task (session.old.entries ++ session.old.asks) fault (O.taken out.old) (O.taken out.new)) }
+    ensures kept { (task : AnyTask) → IsSession task session.old → IsSession task session.new }
+    ensures started { lines.new.started ≡ lines.old.started }
+    ensures running { Same (H.running host.old) (H.running host.new) }
+    ensures host { HasCause Generator H.last (H.faults host.old) (H.faults host.new) result }
+    ensures sink { HasCause Write last_count (O.faults out.old) (O.faults out.new) result }
+{
+    for place in 0..count {
+        hear_one(alloc, session, lines, host, out, place)?;
+    }
+    Ok(())
+}
+
+/// Runs a round of these asks, and learns what was answered.
+pub(crate) fn run_round<H: Host, O: Sink>(
+    alloc: Global,
+    task: &Task,
+    session: &mut Session,
+    lines: &mut Lines,
+    host: &mut H,
+    out: &mut O,
+    dues: &[Due],
+) -> Result<(), RunFault>
+    requires session { IsSession task.now session.old }
+    requires working { session.old.failed ≡ false }
+    requires round { MayBegin task.now session.old dues.now }
+    requires all_run { AllRun session.old.pools (H.running host.old) }
+    requires state { Same (H.running host.old) (is_running lines.old) }
+    ensures session { IsSession task.now session.new }
+    ensures working { OnOk result (session.new.failed ≡ false) }
+    ensures learnt { OnOk result (IsLearnt session.new) }
+    ensures calls { OnOk result (session.new.calls ≡ session.old.calls) }
+    ensures version { OnOk result (session.new.version ≡ session.old.version) }
+    ensures pools { OnOk result (session.new.pools ≡ session.old.pools) }
+    ensures asked { OnOk result (length session.new.asked ≡ length session.old.asked + length dues.now) }
+    ensures round { OnOk result ((more : List AnyEntry) × (session.new.entries ≡ session.old.entries ++ more) × IsRound task.now session.old.entries (instances_of dues.now) more) }
+    ensures rest { (rest : List AnyDue) (count : ℕ) → dues.now ≡ take count rest → AreReady task.now session.old.entries rest → OnOk result (AreReady task.now session.new.entries (drop count rest)) }
+    ensures goes { OnOk result (Goes session.old.entries session.new.entries (O.taken out.old) (O.taken out.new)) }
+    ensures stopped { IfErr result (λ fault. Stopped session.old.version task.now session.old.entries fault (O.taken out.old) (O.taken out.new)) }
+    ensures started { lines.new.started ≡ lines.old.started }
+    ensures running { Same (H.running host.old) (H.running host.new) }
+    ensures host { HasCause Generator H.last (H.faults host.old) (H.faults host.new) result }
+    ensures sink { HasCause Write last_count (O.faults out.old) (O.faults out.new) result }
+{
+    let count = match session.begin_round(task, dues) {
+        Ok(count) => count,
+        Err(fault) => return Err(fault_of(fault)),
+    };
+    send_all(alloc, session, host, out, count)?;
+    hear_all(alloc, session, lines, host, out, count)?;
+    session.close_round();
+    match session.learn(task) {
+        Ok(()) => Ok(()),
+        Err(fault) => Err(fault_of(fault)),
+    }
+}
