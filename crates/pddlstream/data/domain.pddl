@@ -1,0 +1,7 @@
+(define (domain fetch)
+  (:predicates (item ?x) (hold ?x ?g) (grip ?x ?g) (free) (done ?x))
+  (:action take :parameters (?x ?g)
+    :precondition (and (free) (grip ?x ?g))
+    :effect (and (hold ?x ?g) (not (free))))
+  (:action drop :parameters (?x ?g) :precondition (hold ?x ?g)
+    :effect (and (done ?x) (free) (not (hold ?x ?g)))))

@@ -1,0 +1,6 @@
+pub mod Codes
+pub mod Heads
+pub mod Inputs
+pub mod Runs
+pub mod Stop
+pub mod Words

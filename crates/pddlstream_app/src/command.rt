@@ -1,0 +1,115 @@
+//! The program's call.
+ghost use Rattle.std.specs.Prelude.{◌≡◌, ◌≤◌, ◌⊎◌, ◌≢◌, ℕ, false, map, string_bytes, IfOk, IfErr};
+ghost use Rattle.io_world.specs.Faults.{last_count, HasCause, Rose};
+ghost use Rattle.pddlstream_app.specs.Runs.{Caused, Ends, IsClosed, IsCompleted, IsStopped, IsTold, kind_of};
+ghost use Rattle.level_run.specs.declared.fault.RunFault.TheVariants as fault;
+ghost use Rattle.pddlstream_app.specs.declared.status.Status.TheVariants.{GeneratorFault, WriteFault};
+ghost use Rattle.pddlstream_app.specs.declared.stop.Stop.TheVariants.{Run};
+
+use crate::head::head_of;
+use crate::status::Status;
+use crate::stop::{MEMORY, Stop};
+use crate::texts::read_input;
+use crate::words::solve_words;
+use io_world::{Files, Host, Sink, write_all};
+use level_run::incremental;
+use std::alloc::Global;
+use transcript_text::Outcome;
+
+/// How a run ends that has this outcome.
+fn status_of(outcome: &Outcome) -> Status
+    ensures { result ≡ kind_of outcome.now }
+{
+    match outcome {
+        Outcome::Plan { .. } => Status::Plan,
+        Outcome::NoPlan => Status::NoPlan,
+        Outcome::Limit(_) => Status::Limit,
+    }
+}
+
+/// Writes the last line of a run that ends so.
+fn tell<O: Sink>(out: &mut O, text: &[u8], status: Status) -> Status
+    ensures told { IsTold status text.now (O.taken out.old) (O.taken out.new) result }
+    ensures later { O.faults out.old ≤ O.faults out.new }
+    ensures cause { (result ≡ status) ⊎ Rose last_count (O.faults out.old) (O.faults out.new) }
+{
+    match write_all(out, text) {
+        Ok(()) => status,
+        Err(_) => Status::WriteFault,
+    }
+}
+
+/// Writes the last line of a run that has no outcome, and answers how it ends.
+fn close<O: Sink>(alloc: Global, out: &mut O, stop: &Stop) -> Status
+    ensures closed { IsClosed stop.now (O.taken out.old) (O.taken out.new) result }
+    ensures later { O.faults out.old ≤ O.faults out.new }
+    ensures cause { result ≡ WriteFault → (stop.now ≡ Run fault.Write) ⊎ Rose last_count (O.faults out.old) (O.faults out.new) }
+{
+    match stop.last_text(alloc) {
+        Ok(text) => tell(out, text.as_slice(), stop.status()),
+        Err(_) => tell(out, MEMORY, Status::Memory),
+    }
+}
+
+/// Reads the words and the files, and writes the report.
+fn attempt<F: Files, H: Host, O: Sink>(
+    alloc: Global,
+    words: &[String],
+    files: &mut F,
+    host: &mut H,
+    out: &mut O,
+) -> Result<Status, Stop>
+    requires idle { (k : ℕ) → H.running host.old k ≡ false }
+    ensures completed { IfOk result (IsCompleted (map string_bytes words.now) (F.told files.old) (O.taken out.old) (O.taken out.new)) }
+    ensures stopped { IfErr result (IsStopped (map string_bytes words.now) (F.told files.old) (Rose last_count (F.faults files.old) (F.faults files.new)) (O.taken out.old) (O.taken out.new)) }
+    ensures idle { (k : ℕ) → H.running host.new k ≡ false }
+    ensures files { F.faults files.old ≤ F.faults files.new }
+    ensures host { HasCause (Run fault.Generator) H.last (H.faults host.old) (H.faults host.new) result }
+    ensures sink { HasCause (Run fault.Write) last_count (O.faults out.old) (O.faults out.new) result }
+{
+    let Some(words) = solve_words(words) else {
+        return Err(Stop::Usage);
+    };
+    let task = read_input(alloc, files, &words)?;
+    let head = head_of(alloc, &task, &words)?;
+    match incremental(alloc, &task, &head, host, out) {
+        Ok(ran) => Ok(status_of(&ran.outcome)),
+        Err(fault) => Err(Stop::Run(fault)),
+    }
+}
+
+/// Does what the words ask for: `solve DOMAIN PROBLEM STREAMS [--calls N] [--states N] [--workers N] -- PROGRAM WORDS`.
+///
+/// It reads the domain's file and the domain, then the problem's and the problem, then the streams' and the streams. Where
+/// something is to be asked it starts the program once for each worker, from child 0 on. It works level by level, in rounds
+/// of as many requests as there are workers, and writes a report: its head, each request and answer, and the outcome. A
+/// fault's line is the last: for a refused text it names the text, the kind of the fault and its place, in bytes from the
+/// text's beginning. N is from 1 to 100,000 calls (10,000 where none is given), from 1 to 200,000 states of a search
+/// (100,000), and from 1 to 16 workers (1).
+pub fn run<F: Files, H: Host, O: Sink>(
+    alloc: Global,
+    words: &[String],
+    files: &mut F,
+    host: &mut H,
+    out: &mut O,
+) -> Status
+    // No child runs before and after it.
+    requires idle { (k : ℕ) → H.running host.old k ≡ false }
+    ensures idle { (k : ℕ) → H.running host.new k ≡ false }
+    // What the sink took is what a run writes that ends so, or a part of it where the sink failed.
+    ensures ends { Ends (map string_bytes words.now) (F.told files.old) (Rose last_count (F.faults files.old) (F.faults files.new)) (O.taken out.old) (O.taken out.new) result }
+    // A fault of the generator or of the sink is answered only where its count rose.
+    ensures host { Caused GeneratorFault H.last (H.faults host.old) (H.faults host.new) result }
+    ensures sink { Caused WriteFault last_count (O.faults out.old) (O.faults out.new) result }
+{
+    match attempt(alloc, words, files, host, out) {
+        Ok(status) => status,
+        Err(stop) => {
+            if stop.is_write() {
+                Status::WriteFault
+            } else {
+                close(alloc, out, &stop)
+            }
+        }
+    }
+}

@@ -1,0 +1,15 @@
+//! The planner's commands over files, generators and a sink that are handed in.
+#![tactic(auto)]
+
+mod command;
+mod head;
+mod status;
+mod stop;
+mod texts;
+mod words;
+
+pub use command::run;
+pub use status::Status;
+
+#[cfg(test)]
+mod tests;
