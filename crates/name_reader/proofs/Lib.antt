@@ -1,3 +1,9 @@
+pub mod Fresh
+pub mod Parted
+pub mod Titles
+pub mod Usable
+pub mod Vocabularies
+pub mod Widths
 pub mod Copies
 pub mod Cyclic
 pub mod Ways
@@ -5,3 +11,12 @@ pub mod Parts
 pub mod Scopes
 pub mod SideBySide
 pub mod Tables
+pub mod Members
+pub mod NoFaults
+pub mod Places
+pub mod FitGroups
+pub mod FitTerms
+pub mod FitConditions
+pub mod Ascents
+pub mod FitDeclared
+pub mod OneTree

@@ -1,9 +1,8 @@
 -- Conditions: their name faults, and what they are (PDDL 2.1).
-use Rattle.std.specs.Prelude.{ℕ, ◌+◌, List, [], ◌∷◌, ◌++◌, length}
+use Rattle.std.specs.Prelude.{ℕ, List, [], ◌∷◌, ◌++◌, length}
 use Rattle.sexpr_text.specs.Trees.{Trees, nothing, word, list}
 use Rattle.task_model.specs.Condition.{Condition, Conditions, Atom, Equal, All as every, Any, Not, Exists, none, more}
 use Rattle.task_model.specs.declared.condition.Term.{Term}
-use Rattle.task_model.specs.declared.condition.Term.TheVariants.{Object}
 use Rattle.form_reader.specs.declared.fault.Fault.{Fault}
 use Rattle.form_reader.specs.declared.groups.Spot.TheVariants.{Start}
 use Rattle.form_reader.specs.declared.words.ConditionHead.{ConditionHead}

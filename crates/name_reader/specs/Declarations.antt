@@ -3,7 +3,7 @@ use Rattle.std.specs.Prelude.{ℕ, List, [], ◌∷◌, ◌++◌, Option, Some, 
 use Rattle.task_model.specs.declared.domain.Declared as declared
 use Rattle.task_model.specs.declared.domain.Signature.{Signature}
 use Rattle.name_reader.specs.Graphs.{ascending_with}
-use Rattle.name_reader.specs.Names.{Signed, place_of, with_name}
+use Rattle.name_reader.specs.Names.{place_of, with_name}
 
 -- names, and at the same place in the other list the ascending numbers of their types
 pub record Typed : Type 0 where

@@ -5,3 +5,4 @@ pub mod Terms
 pub mod Conditions
 pub mod Graphs
 pub mod Declarations
+pub mod Sizes

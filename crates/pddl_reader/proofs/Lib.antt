@@ -2,3 +2,14 @@ pub mod Edges
 pub mod Leasts
 pub mod Roles
 pub mod Rounds
+pub mod FitDomain
+pub mod CleanItems
+pub mod FitNames
+pub mod FitEdges
+pub mod FitSorts
+pub mod FitLists
+pub mod FitRules
+pub mod FitRoles
+pub mod FitEffects
+pub mod FitActions
+pub mod FitCycles

@@ -1,6 +1,8 @@
 //! Domains, from trees.
 ghost use Rattle.std.specs.Prelude.{IfOk};
 ghost use Rattle.sexpr_text.specs.Trees.{tree, trees};
+ghost use Rattle.task_model.specs.Fit.{IsFitDomain};
+ghost use Rattle.name_reader.specs.Sizes.{IsBounded};
 ghost use Rattle.pddl_reader.specs.Domains as specs;
 
 use crate::domain::{check_derived, check_plain, check_types, domain_of};
@@ -40,6 +42,19 @@ fn read_named(alloc: Global, text: &Tree) -> Result<Result<Domain, Fault>, Alloc
     }
 }
 
+/// The domain, or the fault that is answered.
+fn read(alloc: Global, text: &Tree) -> Result<Domain, InputFault>
+    ensures { specs.Reads (tree text.now) result }
+{
+    if let Some(Fault { place, kind }) = check_form(TextKind::Domain, text) {
+        return Err(InputFault::At { place, kind });
+    }
+    match read_named(alloc, text)? {
+        Ok(domain) => Ok(domain),
+        Err(Fault { place, kind }) => Err(InputFault::At { place, kind }),
+    }
+}
+
 /// Reads a domain from its tree.
 ///
 /// The forms are those of this project's profile of PDDL 2.1, with derived predicates (PDDL 2.2) and the total cost
@@ -52,13 +67,9 @@ fn read_named(alloc: Global, text: &Tree) -> Result<Result<Domain, Fault>, Alloc
 ///   number.
 /// - `Memory`: memory ran out, which says nothing of the text.
 pub fn read_domain(alloc: Global, text: &Tree) -> Result<Domain, InputFault>
-    ensures { specs.Reads (tree text.now) result }
+    ensures reads { specs.Reads (tree text.now) result }
+    // Of a tree as texts of at most 4 MiB give it, the domain is fit.
+    ensures fit { IfOk result (λ d. IsBounded (tree text.now) → IsFitDomain d) }
 {
-    if let Some(Fault { place, kind }) = check_form(TextKind::Domain, text) {
-        return Err(InputFault::At { place, kind });
-    }
-    match read_named(alloc, text)? {
-        Ok(domain) => Ok(domain),
-        Err(Fault { place, kind }) => Err(InputFault::At { place, kind }),
-    }
+    read(alloc, text)
 }

@@ -40,7 +40,6 @@ module _ (words : List (List ℕ)) (told : Option FileMap) (rose : Type 0) where
     pub stopped_reading : (sink : Option (List ℕ)) (why : Stop) → MayRefuse told asked rose why → IsStopped words told rose sink sink why
     stopped_reading sink stop.Usage r = absurd r
     stopped_reading sink (stop.Input which kind place) r = record { text = []; cause = (record { asked = asked; meant = meant; refused = r }, refl); took = appends_none sink }
-    stopped_reading sink stop.Unfit r = record { text = []; cause = (record { asked = asked; meant = meant; refused = r }, refl); took = appends_none sink }
     stopped_reading sink (stop.Failed which) r = record { text = []; cause = (record { asked = asked; meant = meant; refused = r }, refl); took = appends_none sink }
     stopped_reading sink (stop.TooLong which) r = record { text = []; cause = (record { asked = asked; meant = meant; refused = r }, refl); took = appends_none sink }
     stopped_reading sink (stop.Run (fault.Answer number why)) r = absurd r
@@ -119,7 +118,6 @@ module _ (words : List (List ℕ)) (told : Option FileMap) (rose : Type 0) where
     writes_fault : (why : Stop) (b : IsBeforeLast words told rose old mid why) → Writes words told rose (status_at why) (b.text ++ last_text why)
     writes_fault stop.Usage b = faulty stop.Usage b
     writes_fault (stop.Input which kind place) b = faulty (stop.Input which kind place) b
-    writes_fault stop.Unfit b = faulty stop.Unfit b
     writes_fault (stop.Failed which) b = faulty (stop.Failed which) b
     writes_fault (stop.TooLong which) b = faulty (stop.TooLong which) b
     writes_fault (stop.Run (fault.Answer number why)) b = faulty (stop.Run (fault.Answer number why)) b
@@ -130,7 +128,6 @@ module _ (words : List (List ℕ)) (told : Option FileMap) (rose : Type 0) where
     ends_whole : (why : Stop) → IsBeforeLast words told rose old mid why → Appends mid new (last_text why) → Ends words told rose old new (status_at why)
     ends_whole stop.Usage b app = all_taken stop.Usage b app (writes_fault stop.Usage b)
     ends_whole (stop.Input which kind place) b app = all_taken (stop.Input which kind place) b app (writes_fault (stop.Input which kind place) b)
-    ends_whole stop.Unfit b app = all_taken stop.Unfit b app (writes_fault stop.Unfit b)
     ends_whole (stop.Failed which) b app = all_taken (stop.Failed which) b app (writes_fault (stop.Failed which) b)
     ends_whole (stop.TooLong which) b app = all_taken (stop.TooLong which) b app (writes_fault (stop.TooLong which) b)
     ends_whole (stop.Run (fault.Answer number why)) b app = all_taken (stop.Run (fault.Answer number why)) b app (writes_fault (stop.Run (fault.Answer number why)) b)
@@ -152,7 +149,6 @@ module _ (words : List (List ℕ)) (told : Option FileMap) (rose : Type 0) where
     before_last : (why : Stop) → IsStopped words told rose old mid why → (why ≡ stop.Run fault.Write → ⊥) → IsBeforeLast words told rose old mid why
     before_last stop.Usage s other = s
     before_last (stop.Input which kind place) s other = s
-    before_last stop.Unfit s other = s
     before_last (stop.Failed which) s other = s
     before_last (stop.TooLong which) s other = s
     before_last (stop.Run (fault.Answer number why)) s other = s
@@ -164,7 +160,6 @@ module _ (words : List (List ℕ)) (told : Option FileMap) (rose : Type 0) where
     for_memory : (why : Stop) (text : List ℕ) → IsBefore words told rose why text → IsBefore words told rose (stop.Run fault.Memory) text
     for_memory stop.Usage text b = inl b.1
     for_memory (stop.Input which kind place) text b = inl b.1
-    for_memory stop.Unfit text b = inl b.1
     for_memory (stop.Failed which) text b = inl b.1
     for_memory (stop.TooLong which) text b = inl b.1
     for_memory (stop.Run (fault.Answer number why)) text b = inr (b.0, b.2)
@@ -182,7 +177,6 @@ module _ (words : List (List ℕ)) (told : Option FileMap) (rose : Type 0) where
   pub ends_written : (old new : Option (List ℕ)) (why : Stop) → is_write why ≡ true → IsStopped words told rose old new why → Ends words told rose old new WriteFault
   ends_written old new stop.Usage e s = absurd (cc)
   ends_written old new (stop.Input which kind place) e s = absurd (cc)
-  ends_written old new stop.Unfit e s = absurd (cc)
   ends_written old new (stop.Failed which) e s = absurd (cc)
   ends_written old new (stop.TooLong which) e s = absurd (cc)
   ends_written old new (stop.Run (fault.Answer number why)) e s = absurd (cc)
@@ -204,7 +198,6 @@ module _ (words : List (List ℕ)) (told : Option FileMap) (rose : Type 0) where
 pub write_stop : (why : Stop) → is_write why ≡ true → why ≡ stop.Run fault.Write
 write_stop stop.Usage e = absurd (cc)
 write_stop (stop.Input which kind place) e = absurd (cc)
-write_stop stop.Unfit e = absurd (cc)
 write_stop (stop.Failed which) e = absurd (cc)
 write_stop (stop.TooLong which) e = absurd (cc)
 write_stop (stop.Run (fault.Answer number why)) e = absurd (cc)
@@ -228,7 +221,6 @@ no_write (outcome.Limit kind) e = absurd (cc)
 generator_stop : (why : Stop) → status_at why ≡ GeneratorFault → why ≡ stop.Run fault.Generator
 generator_stop stop.Usage e = absurd (cc)
 generator_stop (stop.Input which kind place) e = absurd (cc)
-generator_stop stop.Unfit e = absurd (cc)
 generator_stop (stop.Failed which) e = absurd (cc)
 generator_stop (stop.TooLong which) e = absurd (cc)
 generator_stop (stop.Run (fault.Answer number why)) e = absurd (cc)

@@ -1,11 +1,11 @@
 -- The texts of a task, and why none was read.
 use Rattle.std.specs.Prelude.{◌≡◌, ℕ, List, Option, Some, IfSome}
 use Rattle.io_world.specs.FileMap.{FileMap, HasMore}
-use Rattle.task_model.specs.Fit.{IsFit}
 use Rattle.task_model.specs.declared.domain.Domain as domains
 use Rattle.task_model.specs.declared.stream.Stream as streams
 use Rattle.task_model.specs.declared.task.Problem as problems
 use Rattle.task_model.specs.declared.task.Task.{Task}
+use Rattle.task_reader.specs.Fitness.{IsShort}
 use Rattle.task_reader.specs.Tasks.{Spells, RefusesSecond, RefusesThird}
 use Rattle.task_reader.specs.Texts.{SpellsDomain, SpellsProblem, SpellsStreams, RefusesDomain}
 use Rattle.task_reader.specs.declared.refusal.FaultKind.{FaultKind}
@@ -14,7 +14,7 @@ use Rattle.task_reader.specs.declared.refusal.InputRefusal.TheVariants as refusa
 use Rattle.pddlstream_app.specs.Words.{SolveWords}
 use Rattle.level_run.specs.declared.fault.RunFault.TheVariants as fault
 use Rattle.pddlstream_app.specs.declared.stop.Stop.{Stop}
-use Rattle.pddlstream_app.specs.declared.stop.Stop.TheVariants.{Usage, Input, Unfit, Failed, TooLong, Run}
+use Rattle.pddlstream_app.specs.declared.stop.Stop.TheVariants.{Usage, Input, Failed, TooLong, Run}
 use Rattle.pddlstream_app.specs.declared.stop.Text.{Text}
 use Rattle.pddlstream_app.specs.declared.stop.Text.TheVariants.{Domain, Problem, Streams}
 
@@ -30,10 +30,11 @@ path_of words Streams = words.streams
 abbrev pub Holds : Option FileMap → List ℕ → List ℕ → Type 0
 Holds told path bytes = IfSome told (λ files. files path ≡ Some bytes)
 
--- The file of this path has bytes of which this is so.
+-- The file of this path has at most 4 MiB, and of its bytes this is so.
 pub record HoldsText (told : Option FileMap) (path : List ℕ) (IsSo : List ℕ → Type 0) : Type 0 where
   pub bytes : List ℕ
   pub held : Holds told path bytes
+  pub short : IsShort bytes
   pub so : IsSo bytes
 
 -- the first file is this domain
@@ -66,10 +67,6 @@ IsRefused told words Domain kind place = HoldsText told words.domain (λ d. Refu
 IsRefused told words Problem kind place = HoldsText told words.domain (λ d. HoldsText told words.problem (λ p. RefusesSecond d p kind place))
 IsRefused told words Streams kind place = HoldsText told words.domain (λ d. HoldsText told words.problem (λ p. HoldsText told words.streams (λ s. RefusesThird d p s kind place)))
 
--- the texts spell a task that isn't fit
-abbrev pub IsUnfit : Option FileMap → SolveWords → Type 0
-IsUnfit told words = (task : Task) × IsTaskOf told words task × (¬ (IsFit task))
-
 -- the file of this path has more bytes than a text may have, where files are told
 abbrev pub IsTooLong : Option FileMap → List ℕ → Type 0
 IsTooLong told path = IfSome told (λ files. HasMore (files path) 4194304)
@@ -78,7 +75,6 @@ IsTooLong told path = IfSome told (λ files. HasMore (files path) 4194304)
 abbrev pub MayNotRead : Option FileMap → Text → List ℕ → Type 0 → Stop → Type 0
 MayNotRead told text path rose Usage = ⊥
 MayNotRead told text path rose (Input which kind place) = ⊥
-MayNotRead told text path rose Unfit = ⊥
 MayNotRead told text path rose (Failed which) = (which ≡ text) × rose
 MayNotRead told text path rose (TooLong which) = (which ≡ text) × IsTooLong told path
 MayNotRead told text path rose (Run (fault.Answer number why)) = ⊥
@@ -90,7 +86,6 @@ MayNotRead told text path rose (Run fault.Memory) = Unit {0}
 abbrev pub MayRefuse : Option FileMap → SolveWords → Type 0 → Stop → Type 0
 MayRefuse told words rose Usage = ⊥
 MayRefuse told words rose (Input which kind place) = IsRefused told words which kind place
-MayRefuse told words rose Unfit = IsUnfit told words
 MayRefuse told words rose (Failed which) = rose × IsAccepted told words which
 MayRefuse told words rose (TooLong which) = IsTooLong told (path_of words which) × IsAccepted told words which
 MayRefuse told words rose (Run (fault.Answer number why)) = ⊥

@@ -81,7 +81,6 @@ IsPartOfRun words told text = (run : IsRun words told) × (text ≡ lines_so_far
 abbrev pub IsBefore : List (List ℕ) → Option FileMap → Type 0 → Stop → List ℕ → Type 0
 IsBefore words told rose stop.Usage text = (words_of words ≡ None) × (text ≡ [])
 IsBefore words told rose (stop.Input which kind place) text = HasNoTask words told rose (stop.Input which kind place) × (text ≡ [])
-IsBefore words told rose stop.Unfit text = HasNoTask words told rose stop.Unfit × (text ≡ [])
 IsBefore words told rose (stop.Failed which) text = HasNoTask words told rose (stop.Failed which) × (text ≡ [])
 IsBefore words told rose (stop.TooLong which) text = HasNoTask words told rose (stop.TooLong which) × (text ≡ [])
 IsBefore words told rose (stop.Run (fault.Answer number why)) text = (run : IsRun words told) × (is_open run.entries number ≡ true) × (text ≡ lines_so_far words told run)
@@ -170,7 +169,6 @@ IsStopped words told rose old new (stop.Run fault.Memory) = IsBeforeLast words t
 IsStopped words told rose old new (stop.Run (fault.Answer number why)) = IsBeforeLast words told rose old new (stop.Run (fault.Answer number why))
 IsStopped words told rose old new stop.Usage = IsBeforeLast words told rose old new stop.Usage
 IsStopped words told rose old new (stop.Input which kind place) = IsBeforeLast words told rose old new (stop.Input which kind place)
-IsStopped words told rose old new stop.Unfit = IsBeforeLast words told rose old new stop.Unfit
 IsStopped words told rose old new (stop.Failed which) = IsBeforeLast words told rose old new (stop.Failed which)
 IsStopped words told rose old new (stop.TooLong which) = IsBeforeLast words told rose old new (stop.TooLong which)
 

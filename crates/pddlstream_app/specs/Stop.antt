@@ -8,14 +8,13 @@ use Rattle.level_run.specs.declared.fault.RunFault.TheVariants as fault
 use Rattle.pddlstream_app.specs.declared.status.Status.{Status}
 use Rattle.pddlstream_app.specs.declared.status.Status.TheVariants as status
 use Rattle.pddlstream_app.specs.declared.stop.Stop.{Stop}
-use Rattle.pddlstream_app.specs.declared.stop.Stop.TheVariants.{Usage, Input, Unfit, Failed, TooLong, Run}
+use Rattle.pddlstream_app.specs.declared.stop.Stop.TheVariants.{Usage, Input, Failed, TooLong, Run}
 use Rattle.pddlstream_app.specs.declared.stop.Text.{Text}
 use Rattle.pddlstream_app.specs.declared.stop.Text.TheVariants as text
 
 abbrev pub status_at : Stop → Status
 status_at Usage = status.Usage
 status_at (Input which kind place) = status.Input
-status_at Unfit = status.Input
 status_at (Failed which) = status.ReadFault
 status_at (TooLong which) = status.ReadFault
 status_at (Run (fault.Answer number why)) = status.BadAnswer
@@ -31,7 +30,6 @@ is_write (Run fault.Memory) = false
 is_write (Run (fault.Answer number why)) = false
 is_write Usage = false
 is_write (Input which kind place) = false
-is_write Unfit = false
 is_write (Failed which) = false
 is_write (TooLong which) = false
 
@@ -53,7 +51,6 @@ memory_line = codes "fault memory\n"
 abbrev pub last_text : Stop → List ℕ
 last_text Usage = codes "fault usage\nusage: pddlstream solve DOMAIN PROBLEM STREAMS [OPTIONS] [-- PROGRAM WORDS]\n"
 last_text (Input which kind place) = codes "fault input " ++ text_word which ++ codes " " ++ kind_word kind ++ codes " " ++ decimal place ++ codes "\n"
-last_text Unfit = codes "fault input task unfit\n"
 last_text (Failed which) = codes "fault read " ++ text_word which ++ codes " failed\n"
 last_text (TooLong which) = codes "fault read " ++ text_word which ++ codes " too-long\n"
 last_text (Run (fault.Answer number why)) = codes "fault answer " ++ decimal number ++ codes " " ++ why_word why ++ codes "\n"

@@ -34,8 +34,6 @@ pub(crate) enum Stop {
         kind: FaultKind,
         place: usize,
     },
-    /// No text was refused, and the task that they spell isn't fit.
-    Unfit,
     /// The file of the text could not be read.
     Failed(Text),
     /// The file of the text is too long.
@@ -66,7 +64,7 @@ impl Stop {
     {
         match self {
             Stop::Usage => Status::Usage,
-            Stop::Input { .. } | Stop::Unfit => Status::Input,
+            Stop::Input { .. } => Status::Input,
             Stop::Failed(_) | Stop::TooLong(_) => Status::ReadFault,
             Stop::Run(RunFault::Answer { .. }) => Status::BadAnswer,
             Stop::Run(RunFault::Generator) => Status::GeneratorFault,
@@ -83,7 +81,6 @@ impl Stop {
         match self {
             Stop::Usage => Vec::from_slice(alloc, USAGE),
             Stop::Input { text, kind, place } => input_line(alloc, *text, *kind, *place),
-            Stop::Unfit => Vec::from_slice(alloc, b"fault input task unfit\n"),
             Stop::Failed(text) => parts(alloc, b"fault read ", text.word(), b" failed\n"),
             Stop::TooLong(text) => parts(alloc, b"fault read ", text.word(), b" too-long\n"),
             Stop::Run(RunFault::Answer { number, why }) => answer_line(alloc, *number, *why),

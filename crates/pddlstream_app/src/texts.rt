@@ -5,10 +5,10 @@ ghost use Rattle.pddlstream_app.specs.Inputs.{HasDomain, HasProblem, HasStreams,
 ghost use Rattle.pddlstream_app.specs.Words.{held};
 ghost use Rattle.task_model.specs.Fit.{IsFit};
 ghost use Rattle.task_model.specs.declared.task.Problem.{Problem};
+ghost use Rattle.task_reader.specs.Fitness.{IsShort};
 
 use crate::stop::{Stop, Text};
 use crate::words::SolveWords;
-use fit_check::is_fit;
 use io_world::{FileFault, Files};
 use level_run::RunFault;
 use std::alloc::Global;
@@ -21,6 +21,7 @@ const TEXT_BYTES: usize = 4_194_304;
 /// Reads the file of a text.
 fn read_text<F: Files>(files: &mut F, path: &str, text: Text) -> Result<Vec<u8>, Stop>
     ensures bytes { IfOk result (λ bytes. IfSome (F.told files.old) (λ map. map path.now ≡ Some bytes.items)) }
+    ensures short { IfOk result (λ bytes. IsShort bytes.items) }
     ensures stop { IfErr result (MayNotRead (F.told files.old) text path.now (Rose last_count (F.faults files.old) (F.faults files.new))) }
     ensures same { F.told files.new ≡ F.told files.old }
     ensures later { F.faults files.old ≤ F.faults files.new }
@@ -133,9 +134,5 @@ pub(crate) fn read_input<F: Files>(
     ensures stop { IfErr result (MayRefuse (F.told files.old) (held words.now) (Rose last_count (F.faults files.old) (F.faults files.new))) }
     ensures later { F.faults files.old ≤ F.faults files.new }
 {
-    let task = read_spelled(alloc, files, words)?;
-    if !is_fit(alloc, &task)? {
-        return Err(Stop::Unfit);
-    }
-    Ok(task)
+    read_spelled(alloc, files, words)
 }

@@ -1,3 +1,13 @@
+pub mod Behind
+pub mod FitConstants
+pub mod FitFacts
+pub mod FitItems
+pub mod FitNames
+pub mod FitObjects
+pub mod FitProblem
+pub mod FitRows
+pub mod FitValues
+pub mod Given
 pub mod Rows
 pub mod Objects
 pub mod Known

@@ -35,7 +35,7 @@ named_by : (t : Typed) (n : List ℕ) (s k : ℕ) (b : Bool) → has_name n t.na
 named_by t n s k true e = refl
 named_by t n s k false e = ap (λ b. cond b t.names (t.names ++ n ∷ [])) e
 
-names_declared : (t : Typed) (n : List ℕ) (s : ℕ) → (declare t n s).names ≡ with_name t.names n
+pub names_declared : (t : Typed) (n : List ℕ) (s : ℕ) → (declare t n s).names ≡ with_name t.names n
 names_declared t n s = ap (λ o. (declared_by t n s o).names) (placed n t.names) ∙ named_by t n s (position_or_len (bytes_eq n) t.names) (has_name n t.names) refl
 
 put_names_length : (lists : List (List ℕ)) (place n : ℕ) (o : Option (List ℕ)) → length (put_number lists place n o) ≡ length lists

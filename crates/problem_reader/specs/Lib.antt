@@ -3,3 +3,4 @@ pub mod Names
 pub mod Values
 pub mod Problems
 pub mod Laws
+pub mod Fitness

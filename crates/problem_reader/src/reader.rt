@@ -2,6 +2,8 @@
 ghost use Rattle.std.specs.Prelude.{◌≡◌, IfOk};
 ghost use Rattle.sexpr_text.specs.Trees.{tree, trees};
 ghost use Rattle.form_reader.specs.Faults.{least};
+ghost use Rattle.name_reader.specs.Sizes.{IsBounded};
+ghost use Rattle.problem_reader.specs.Fitness.{IsFitOver, IsFitRead};
 ghost use Rattle.problem_reader.specs.Problems as specs;
 
 use crate::items::check_items;
@@ -50,6 +52,19 @@ fn read_named(
     }
 }
 
+/// The problem, or the fault that is answered.
+fn read(alloc: Global, text: &Tree, domain: &Domain) -> Result<Problem, InputFault>
+    ensures { specs.Reads domain.now (tree text.now) result }
+{
+    if let Some(Fault { place, kind }) = check_form(TextKind::Problem, text) {
+        return Err(InputFault::At { place, kind });
+    }
+    match read_named(alloc, text, domain)? {
+        Ok(problem) => Ok(problem),
+        Err(Fault { place, kind }) => Err(InputFault::At { place, kind }),
+    }
+}
+
 /// Reads a problem of this domain from its tree.
 ///
 /// The forms are those of this project's profile of PDDL 2.1, with the total cost as the metric (IPC 2008). The domain is
@@ -62,13 +77,9 @@ fn read_named(
 ///   number.
 /// - `Memory`: memory ran out, which says nothing of the text.
 pub fn read_problem(alloc: Global, text: &Tree, domain: &Domain) -> Result<Problem, InputFault>
-    ensures { specs.Reads domain.now (tree text.now) result }
+    ensures reads { specs.Reads domain.now (tree text.now) result }
+    // Over a fit domain that was read, the problem of a tree as texts of at most 4 MiB give it is fit.
+    ensures fit { IfOk result (λ p. IsFitRead domain.now → IsBounded (tree text.now) → IsFitOver domain.now p) }
 {
-    if let Some(Fault { place, kind }) = check_form(TextKind::Problem, text) {
-        return Err(InputFault::At { place, kind });
-    }
-    match read_named(alloc, text, domain)? {
-        Ok(problem) => Ok(problem),
-        Err(Fault { place, kind }) => Err(InputFault::At { place, kind }),
-    }
+    read(alloc, text, domain)
 }

@@ -1,3 +1,11 @@
 pub mod Rounds
 pub mod Leasts
 pub mod Nexts
+pub mod FitKeys
+pub mod FitPatterns
+pub mod FitStream
+pub mod FitStreams
+pub mod FitWorth
+pub mod FreeWays
+pub mod KnownNames
+pub mod NewNames

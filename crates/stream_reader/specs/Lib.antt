@@ -4,3 +4,4 @@ pub mod Names
 pub mod Streams
 pub mod Cycles
 pub mod Reading
+pub mod Fitness

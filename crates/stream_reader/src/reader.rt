@@ -1,6 +1,9 @@
 //! Stream files, from trees.
 ghost use Rattle.std.specs.Prelude.{IfOk};
 ghost use Rattle.sexpr_text.specs.Trees.{tree};
+ghost use Rattle.task_model.specs.Fit.{IsFitDomain};
+ghost use Rattle.name_reader.specs.Sizes.{IsBounded};
+ghost use Rattle.stream_reader.specs.Fitness.{AreFitOver};
 ghost use Rattle.stream_reader.specs.Reading as specs;
 
 use crate::cycles::check_acyclic;
@@ -32,6 +35,19 @@ fn read_named(
     }
 }
 
+/// The streams, or the fault that is answered.
+fn read(alloc: Global, domain: &Domain, text: &Tree) -> Result<Seq<Stream>, InputFault>
+    ensures { specs.Reads domain.now (tree text.now) result }
+{
+    if let Some(Fault { place, kind }) = check_form(TextKind::Streams, text) {
+        return Err(InputFault::At { place, kind });
+    }
+    match read_named(alloc, domain, text)? {
+        Ok(streams) => Ok(streams),
+        Err(Fault { place, kind }) => Err(InputFault::At { place, kind }),
+    }
+}
+
 /// Reads the streams of a domain from the tree of their text.
 ///
 /// The forms are those of this project's profile of PDDLStream (2020), with cost streams. Names are looked up among the
@@ -44,13 +60,9 @@ fn read_named(
 ///   number. `StreamCycle` is answered only where there is no other fault.
 /// - `Memory`: memory ran out, which says nothing of the text.
 pub fn read_streams(alloc: Global, domain: &Domain, text: &Tree) -> Result<Seq<Stream>, InputFault>
-    ensures { specs.Reads domain.now (tree text.now) result }
+    ensures reads { specs.Reads domain.now (tree text.now) result }
+    // Over a fit domain, the streams of a tree as texts of at most 4 MiB give it are fit.
+    ensures fit { IfOk result (λ streams. IsFitDomain domain.now → IsBounded (tree text.now) → AreFitOver domain.now streams) }
 {
-    if let Some(Fault { place, kind }) = check_form(TextKind::Streams, text) {
-        return Err(InputFault::At { place, kind });
-    }
-    match read_named(alloc, domain, text)? {
-        Ok(streams) => Ok(streams),
-        Err(Fault { place, kind }) => Err(InputFault::At { place, kind }),
-    }
+    read(alloc, domain, text)
 }

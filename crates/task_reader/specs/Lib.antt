@@ -2,3 +2,4 @@ pub mod Kinds
 pub mod Refusals
 pub mod Texts
 pub mod Tasks
+pub mod Fitness

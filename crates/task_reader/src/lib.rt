@@ -4,6 +4,7 @@
 //! its form or its names.
 #![tactic(auto)]
 
+pub mod laws;
 mod refusal;
 #[cfg(test)]
 mod refused_texts;

@@ -1,5 +1,9 @@
 //! Domains, problems and streams, from bytes.
 ghost use Rattle.std.specs.Prelude.{IfOk, IfErr};
+ghost use Rattle.task_model.specs.Fit.{IsFitDomain};
+ghost use Rattle.problem_reader.specs.Fitness.{IsFitOver};
+ghost use Rattle.stream_reader.specs.Fitness.{AreFitOver};
+ghost use Rattle.task_reader.specs.Fitness.{HasShortText, IsShort};
 ghost use Rattle.task_reader.specs.Refusals.{Refuses};
 ghost use Rattle.task_reader.specs.Texts as specs;
 
@@ -23,6 +27,8 @@ use task_model::{Domain, Problem, Seq, Stream};
 /// - `Memory`: memory ran out, which says nothing of the text.
 pub fn domain_in(alloc: Global, bytes: &[u8]) -> Result<Domain, InputRefusal>
     ensures read { IfOk result (specs.SpellsDomain bytes.now) }
+    // The domain of a text of at most 4 MiB is fit.
+    ensures fit { IfOk result (λ d. IsShort bytes.now → IsFitDomain d) }
     ensures refused { IfErr result (Refuses (specs.RefusesDomain bytes.now)) }
 {
     let tree = read_tree(alloc, bytes)?;
@@ -41,6 +47,8 @@ pub fn domain_in(alloc: Global, bytes: &[u8]) -> Result<Domain, InputRefusal>
 /// - `Memory`: memory ran out, which says nothing of the text.
 pub fn problem_in(alloc: Global, bytes: &[u8], domain: &Domain) -> Result<Problem, InputRefusal>
     ensures read { IfOk result (specs.SpellsProblem domain.now bytes.now) }
+    // The problem of a text of at most 4 MiB, over a domain of such a text, is fit.
+    ensures fit { IfOk result (λ p. HasShortText domain.now → IsShort bytes.now → IsFitOver domain.now p) }
     ensures refused { IfErr result (Refuses (specs.RefusesProblem domain.now bytes.now)) }
 {
     let tree = read_tree(alloc, bytes)?;
@@ -60,6 +68,8 @@ pub fn problem_in(alloc: Global, bytes: &[u8], domain: &Domain) -> Result<Proble
 /// - `Memory`: memory ran out, which says nothing of the text.
 pub fn streams_in(alloc: Global, bytes: &[u8], domain: &Domain) -> Result<Seq<Stream>, InputRefusal>
     ensures read { IfOk result (specs.SpellsStreams domain.now bytes.now) }
+    // The streams of a text of at most 4 MiB, over a domain of such a text, are fit.
+    ensures fit { IfOk result (λ ss. HasShortText domain.now → IsShort bytes.now → AreFitOver domain.now ss) }
     ensures refused { IfErr result (Refuses (specs.RefusesStreams domain.now bytes.now)) }
 {
     let tree = read_tree(alloc, bytes)?;

@@ -1,6 +1,5 @@
 use Rattle.std.proofs.Common.{◌≡◌, ◌≤◌}
 use Rattle.sexpr_text.specs.Trees.{trees}
-use Rattle.form_reader.specs.Faults.{first}
 use Rattle.form_reader.specs.Rows.{count}
 use Rattle.name_reader.specs.Conditions.{conditions_of}
 use Rattle.name_reader.proofs.Parts.{parts_then}

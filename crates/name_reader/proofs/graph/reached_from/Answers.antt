@@ -1,5 +1,5 @@
-use Rattle.std.proofs.Common.{rules, ◌≡◌, ◌∙◌, sym, Some, None, [], slice_get}
-use Rattle.name_reader.specs.Graphs.{next_of, with_numbers}
+use Rattle.std.proofs.Common.{rules, ◌≡◌, ◌∙◌, Some, None, slice_get}
+use Rattle.name_reader.specs.Graphs.{with_numbers}
 use Rattle.name_reader.proofs.Ways.{explored_all, explored_first, explored_more}
 use Rattle.name_reader.proofs.graph.reached_from.Goals as goal
 

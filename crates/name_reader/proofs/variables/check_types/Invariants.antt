@@ -1,4 +1,4 @@
-use Rattle.std.proofs.Common.{◌≡◌, ◌++◌, []}
+use Rattle.std.proofs.Common.{◌≡◌}
 use Rattle.sexpr_text.specs.Trees.{trees}
 use Rattle.form_reader.specs.declared.groups.Spot.TheVariants.{Start}
 use Rattle.form_reader.specs.Faults.{first}

@@ -1,23 +1,5 @@
-use Rattle.std.proofs.Common.{◌≡◌, ◌∙◌, sym, subst, Ok, Err, None}
-use Rattle.sexpr_text.specs.Trees.{tree}
-use Rattle.form_reader.specs.declared.items.TextKind.TheVariants.{Problem}
-use Rattle.form_reader.specs.Faults.{least}
-use Rattle.form_reader.specs.Texts.{form_faults}
-use Rattle.pddl_reader.proofs.Leasts.{none_is_none}
-use Rattle.problem_reader.specs.Problems.{ReadsNamed, name_faults, of_names}
+use Rattle.problem_reader.proofs.FitProblem.{fit_if_read}
 use Rattle.problem_reader.proofs.reader.read_problem.Goals as goal
 
-pub returns-in-Ok : goal.returns-in-Ok
-returns-in-Ok c =
-    let none : least (form_faults Problem (tree c.args.text.now)) ≡ None = sym c.check_form.ensures ∙ c.in_default.is in
-    let both : ReadsNamed c.args.domain.now (tree c.args.text.now) (Ok c.in-Ok.problem) = subst (ReadsNamed c.args.domain.now (tree c.args.text.now)) c.in-Ok.is c.in_ok-problem.ensures in
-    record {
-      formed = none_is_none (form_faults Problem (tree c.args.text.now)) none;
-      named = none_is_none (name_faults c.args.domain.now (tree c.args.text.now)) both.0;
-      problem = both.1;
-    }
-
-pub returns-in-Err : goal.returns-in-Err
-returns-in-Err c =
-    let none : least (form_faults Problem (tree c.args.text.now)) ≡ None = sym c.check_form.ensures ∙ c.in_default.is in
-    of_names (none_is_none (form_faults Problem (tree c.args.text.now)) none) (subst (ReadsNamed c.args.domain.now (tree c.args.text.now)) c.in-Err.is c.in_ok-problem.ensures)
+pub returns-clause-fit : goal.returns-clause-fit
+returns-clause-fit c = fit_if_read c.args.domain.now c.args.text.now c.read.result c.read.ensures

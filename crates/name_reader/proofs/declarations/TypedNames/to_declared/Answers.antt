@@ -1,4 +1,4 @@
-use Rattle.std.proofs.Common.{rules, ◌≡◌, ◌<◌, ℕ, List, ap, sym, subst, ◌∙◌, Some, None, slice_get, length, ltb-true, arith}
+use Rattle.std.proofs.Common.{◌≡◌, ◌<◌, ap, sym, subst, ◌∙◌, Some, None, slice_get, length, ltb-true, arith}
 use Rattle.name_reader.specs.Names.{name_at}
 use Rattle.name_reader.proofs.SideBySide.{got, got_none, declared_end, declared_more}
 use Rattle.name_reader.proofs.declarations.TypedNames.to_declared.Goals as goal
