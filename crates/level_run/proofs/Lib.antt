@@ -1,9 +1,14 @@
 pub mod Batching
 pub mod Counting
 pub mod Deciding
+pub mod Filling
 pub mod Levelling
 pub mod Reporting
+pub mod Requesting
 pub mod Rounding
+pub mod Saying
 pub mod Standing
 pub mod Starting
 pub mod Stopping
+pub mod Talked
+pub mod Telling

@@ -35,7 +35,9 @@ use Rattle.session_core.specs.Slots.{Slot, IsUnsent, IsAwaited, sent_slot, heard
 use Rattle.session_core.specs.declared.pools.Workers.{Workers}
 use Rattle.session_core.specs.State.{State, with_slots, after_sent, after_line}
 use Rattle.level_run.proofs.Stopping.{goes_then}
-use Rattle.level_run.specs.Rolling.{Goes, IsRolling, IsSameRound, Takes, finished}
+use Rattle.io_world.specs.Talks.{Talk}
+use Rattle.level_run.specs.Rolling.{Goes, IsRolling, IsSameRound, finished}
+use Rattle.level_run.specs.Talking.{Takes}
 use Rattle.level_run.specs.Turns.{AllRun}
 
 -- ---- options
@@ -248,7 +250,7 @@ pub unprinted_there : (slots : List Slot) (k : ℕ) (t : Slot) → slice_get slo
 unprinted_there slots k t at is = slice_get-map (λ (v : Slot). unwrap_or v.answer (entry.End v.number)) slots k ∙ ap (option_map (λ (v : Slot). unwrap_or v.answer (entry.End v.number))) at ∙ ap (λ o. Some (unwrap_or o (entry.End t.number))) is
 
 module _ (s : State) (running : ℕ → Bool) (sent place : ℕ) (r : IsRolling s running sent place) (below : place < sent) (t : Slot) (at : slice_get s.slots place ≡ Some t) where
-  open_now : t.answer ≡ None
+  pub open_now : t.answer ≡ None
   open_now = was_none t.answer (r.each_open place t at ∙ ap not (not_less_here place))
 
   pub awaited_there : IsAwaited s.slots t.child
@@ -265,7 +267,7 @@ module _ (s : State) (running : ℕ → Bool) (sent place : ℕ) (r : IsRolling 
       ∙ open_there version task s.entries s.asks (finished s.slots) place t.number legal (unprinted_there s.slots place t at open_now)
 
   module _ (line : List ℕ) (good : is_bad_at s.slots t.child line ≡ false) where
-    answered_now : is_none (heard_slot line t).answer ≡ false
+    pub answered_now : is_none (heard_slot line t).answer ≡ false
     answered_now = reply_good t.number (reply_to line t) (sym (bad_is s.slots t.child line t (fault_of (reply_to line t)) (own_slot s.slots place t r.apart at) refl) ∙ good)
 
     pub rolling_heard : IsRolling (after_line s t.child line false) running sent (place + 1)
@@ -318,7 +320,7 @@ module _ (s : State) (running : ℕ → Bool) (sent place : ℕ) (r : IsRolling 
 
 -- ---- after a line was taken
 
-was_some : {A : Type 0} (o : Option A) → is_none o ≡ false → (x : A) × (o ≡ Some x)
+pub was_some : {A : Type 0} (o : Option A) → is_none o ≡ false → (x : A) × (o ≡ Some x)
 was_some None e = absurd (cc)
 was_some (Some x) e = (x, refl)
 
@@ -333,8 +335,8 @@ pub record HeardMore (s : State) (running : ℕ → Bool) (place : ℕ) (new : S
   pub legal : (task : Task) → IsSession task new → IsLegal s.version task ((s.entries ++ s.asks ++ take place (finished s.slots)) ++ entry ∷ [])
   pub more : s.entries ++ s.asks ++ take (place + 1) (finished new.slots) ≡ (s.entries ++ s.asks ++ take place (finished new.slots)) ++ entry ∷ []
 
-pub heard_more : (s : State) (running : ℕ → Bool) (place child : ℕ) (new : State) → IsRolling s running (length s.slots) place → place < length s.slots → (t : Slot) → slice_get s.slots place ≡ Some t → child ≡ t.child → Takes s child new → HeardMore s running place new
-heard_more s running place child new r within t at own takes =
+pub heard_more : (s : State) (running : ℕ → Bool) (place child : ℕ) (new : State) (kept left : List ℕ) (before after : ℕ → Option Talk) → IsRolling s running (length s.slots) place → place < length s.slots → (t : Slot) → slice_get s.slots place ≡ Some t → child ≡ t.child → Takes s child new kept left before after → HeardMore s running place new
+heard_more s running place child new kept left before after r within t at own takes =
     subst (HeardMore s running place) (sym (takes.after ∙ ap (λ k. after_line s k takes.line false) own)) here
   where
     good : is_bad_at s.slots t.child takes.line ≡ false
@@ -396,7 +398,7 @@ fresh_at task names version pools n before (d ∷ ds) zero t at =
     let same : slot_for task names version pools n before d ≡ t = cc in (ap (λ (v : Slot). v.sent) (sym same), ap (λ (v : Slot). v.answer) (sym same))
 fresh_at task names version pools n before (d ∷ ds) (suc k) t at = fresh_at task names version pools (n + 1) (before ++ d.instance.stream ∷ []) ds k t at
 
-as_long : (task : Task) (names : List (List ℕ)) (version : ℕ) (pools : List Workers) (n : ℕ) (before : List ℕ) (dues : List Due) → length (asks_from task names n dues) ≡ length (slots_from task names version pools n before dues)
+pub as_long : (task : Task) (names : List (List ℕ)) (version : ℕ) (pools : List Workers) (n : ℕ) (before : List ℕ) (dues : List Due) → length (asks_from task names n dues) ≡ length (slots_from task names version pools n before dues)
 as_long task names version pools n before [] = refl
 as_long task names version pools n before (d ∷ ds) = ap suc (as_long task names version pools (n + 1) (before ++ d.instance.stream ∷ []) ds)
 
@@ -456,6 +458,7 @@ round_is task s begun h =
 -- what a round leaves, once it is closed
 pub record RoundEnd (task : Task) (s x : State) (dues : List Due) (old new : Option (List ℕ)) : Type 0 where
   pub version : x.version ≡ s.version
+  pub pools : x.pools ≡ s.pools
   pub more : List Entry
   pub entries : x.entries ++ x.asks ++ answers_of x.slots ≡ s.entries ++ more
   pub round : IsRound task s.entries (instances_of dues) more
@@ -464,6 +467,7 @@ pub record RoundEnd (task : Task) (s x : State) (dues : List Due) (old new : Opt
 pub round_end : (task : Task) (s b m x : State) (dues : List Due) (old mid new : Option (List ℕ)) → b ≡ begun task s dues → IsSameRound b m → IsSameRound m x → x.is_open ≡ true → IsSession task x → finished x.slots ≡ answers_of x.slots → Goes b.entries (b.entries ++ b.asks) old mid → Goes (m.entries ++ m.asks) (m.entries ++ m.asks ++ finished x.slots) mid new → RoundEnd task s x dues old new
 round_end task s b m x dues old mid new starts first second is_open_now h all goes later = record {
   version = ap (λ (y : State). y.version) x_is;
+  pools = ap (λ (y : State). y.pools) x_is;
   more = (begun task s dues).asks ++ finished x.slots;
   entries = entries_are ∙ append_assoc s.entries (begun task s dues).asks (finished x.slots);
   round = subst (λ (y : State). IsRound task y.entries y.instances (y.asks ++ finished x.slots)) x_is (round_is task x is_open_now h);

@@ -6,7 +6,7 @@ use Rattle.std.proofs.lemmas.Grind.{flat_map-append}
 use Rattle.std.proofs.lemmas.Result.{err_from_is_err_and}
 use Rattle.std.specs.Io.KnownBytes.{Appends}
 use Rattle.std.specs.List.{flat_map}
-use Rattle.std.specs.Result.{IsErrAnd, IfErr, OnOk}
+use Rattle.std.specs.Result.{IsErrAnd, IfErr, OnErr, OnOk}
 use Rattle.io_world.specs.Faults.{Rose, HasCause}
 use Rattle.task_model.specs.declared.task.Task.{Task}
 use Rattle.transcript_text.proofs.Legals.{grows}
@@ -14,7 +14,12 @@ use Rattle.gen_lines.specs.declared.answer.Why.{Why}
 use Rattle.transcript_text.specs.Legal.{IsLegal, MayFollow, is_open}
 use Rattle.transcript_text.specs.Texts.{text_of_entry}
 use Rattle.transcript_text.specs.declared.entry.Entry.{Entry}
-use Rattle.level_run.specs.Rolling.{Goes, Stopped, Blames, IsBlamed}
+use Rattle.io_world.specs.Talks.{Talk}
+use Rattle.session_core.specs.Slots.{Slot}
+use Rattle.session_core.specs.declared.pools.Workers.{Workers}
+use Rattle.level_run.specs.Dialogue.{BrokenOff, HasBadLine}
+use Rattle.level_run.specs.Rolling.{Goes, Stopped, Blames}
+use Rattle.level_run.specs.Talking.{IsBlamed}
 use Rattle.level_run.specs.Stops.{StopsAt, Misses, MayHear, MayWrite}
 use Rattle.level_run.specs.declared.fault.RunFault.{RunFault}
 use Rattle.level_run.specs.declared.fault.RunFault.TheVariants.{Answer, Generator, Write, Memory}
@@ -52,64 +57,77 @@ goes_then a b c old mid new first second = record {
 
 -- ---- stops
 
-module _ (version : ℕ) (task : Task) where
-  pub legal_none : (before : List Entry) → IsLegal version task before → IsLegal version task (before ++ [])
+pub stops_then : (fault : RunFault) (old mid new : Option (List ℕ)) (xs ys : List ℕ) → Appends old mid xs → StopsAt fault mid new ys → StopsAt fault old new (xs ++ ys)
+stops_then Generator old mid new xs ys first second = appends_then old mid new xs ys first second
+stops_then Memory old mid new xs ys first second = appends_then old mid new xs ys first second
+stops_then (Answer number why) old mid new xs ys first second = appends_then old mid new xs ys first second
+stops_then Write old mid new xs ys first (n, less, told) = (
+  length xs + n,
+  omega (arith, length-append xs ys),
+  subst (Appends old new) (sym (take-append-add xs ys n)) (appends_then old mid new xs (take n ys) first told),
+)
+
+-- a fault that hearing may have: of the children, or the line that is blamed
+abbrev pub MayBlame : ℕ → Task → List Workers → (ℕ → Option Talk) → RunFault → List Entry → Type 0
+MayBlame version task pools spoken (Answer number why) entries = (is_open entries number ≡ true) × HasBadLine task version pools entries spoken number why
+MayBlame version task pools spoken Generator entries = Unit {0}
+MayBlame version task pools spoken Memory entries = Unit {0}
+MayBlame version task pools spoken Write entries = ⊥
+
+module _ (version : ℕ) (task : Task) (pools : List Workers) (spoken : ℕ → Option Talk) where
+  legal_none : (before : List Entry) → IsLegal version task before → IsLegal version task (before ++ [])
   legal_none before legal = subst (IsLegal version task) (sym (append-nil before)) legal
 
+  broken_same : (before : List Entry) → BrokenOff task version pools before spoken → BrokenOff task version pools (before ++ []) spoken
+  broken_same before broken = subst (λ es. BrokenOff task version pools es spoken) (sym (append-nil before)) broken
+
   -- nothing was written
-  pub stopped_hearing : (before : List Entry) (fault : RunFault) (sink : Option (List ℕ)) → IsLegal version task before → MayHear fault → Stopped version task before fault sink sink
-  stopped_hearing before Generator sink legal may = record { more = []; legal = legal_none before legal; told = appends_none sink; blamed = tt }
-  stopped_hearing before Memory sink legal may = record { more = []; legal = legal_none before legal; told = appends_none sink; blamed = tt }
-  stopped_hearing before Write sink legal may = absurd may
-  stopped_hearing before (Answer number why) sink legal may = absurd may
+  pub stopped_hearing : (before : List Entry) (fault : RunFault) (sink : Option (List ℕ)) → IsLegal version task before → BrokenOff task version pools before spoken → MayHear fault → Stopped version task pools before fault sink sink spoken
+  stopped_hearing before Generator sink legal broken may = record { more = []; legal = legal_none before legal; told = appends_none sink; blamed = tt; talks = broken_same before broken }
+  stopped_hearing before Memory sink legal broken may = record { more = []; legal = legal_none before legal; told = appends_none sink; blamed = tt; talks = broken_same before broken }
+  stopped_hearing before Write sink legal broken may = absurd may
+  stopped_hearing before (Answer number why) sink legal broken may = absurd may
 
   -- memory is wanting, and nothing was written
-  pub stopped_memory : (before : List Entry) (fault : RunFault) (sink : Option (List ℕ)) → IsLegal version task before → fault ≡ Memory → Stopped version task before fault sink sink
-  stopped_memory before fault sink legal is = subst (λ f. Stopped version task before f sink sink) (sym is) (stopped_hearing before Memory sink legal tt)
+  pub stopped_memory : (before : List Entry) (fault : RunFault) (sink : Option (List ℕ)) → IsLegal version task before → BrokenOff task version pools before spoken → fault ≡ Memory → Stopped version task pools before fault sink sink spoken
+  stopped_memory before fault sink legal broken is = subst (λ f. Stopped version task pools before f sink sink spoken) (sym is) (stopped_hearing before Memory sink legal broken tt)
 
   -- a child failed, or its line is no answer to the open request
-  pub stopped_blamed : (before : List Entry) (n : ℕ) (fault : RunFault) (sink : Option (List ℕ)) → IsLegal version task before → is_open before n ≡ true → IsBlamed n fault → Stopped version task before fault sink sink
-  stopped_blamed before n Generator sink legal waiting is = stopped_hearing before Generator sink legal tt
-  stopped_blamed before n Memory sink legal waiting is = stopped_hearing before Memory sink legal tt
-  stopped_blamed before n Write sink legal waiting is = absurd is
-  stopped_blamed before n (Answer number why) sink legal waiting is = record {
+  pub stopped_blamed : (before : List Entry) (fault : RunFault) (sink : Option (List ℕ)) → IsLegal version task before → BrokenOff task version pools before spoken → MayBlame version task pools spoken fault before → Stopped version task pools before fault sink sink spoken
+  stopped_blamed before Generator sink legal broken is = stopped_hearing before Generator sink legal broken tt
+  stopped_blamed before Memory sink legal broken is = stopped_hearing before Memory sink legal broken tt
+  stopped_blamed before Write sink legal broken is = absurd is
+  stopped_blamed before (Answer number why) sink legal broken is = record {
     more = [];
     legal = legal_none before legal;
     told = appends_none sink;
-    blamed = subst (λ es. is_open es number ≡ true) (sym (append-nil before)) (ap (is_open before) is ∙ waiting);
+    blamed = subst (λ es. (is_open es number ≡ true) × HasBadLine task version pools es spoken number why) (sym (append-nil before)) is;
+    talks = broken_same before broken;
   }
 
   -- an entry was to be written
-  pub stopped_at : (before : List Entry) (e : Entry) (fault : RunFault) (old new : Option (List ℕ)) → IsLegal version task (before ++ e ∷ []) → Misses fault old new (text_of_entry e) → Stopped version task before fault old new
-  stopped_at before e Generator old new legal misses = absurd misses
-  stopped_at before e Memory old new legal misses = record { more = []; legal = legal_none before ((grows version task before).front (e ∷ []) legal); told = misses; blamed = tt }
-  stopped_at before e Write old new legal (n, less, told) = record {
+  pub stopped_at : (before : List Entry) (e : Entry) (fault : RunFault) (old new : Option (List ℕ)) → IsLegal version task (before ++ e ∷ []) → BrokenOff task version pools before spoken → BrokenOff task version pools (before ++ e ∷ []) spoken → Misses fault old new (text_of_entry e) → Stopped version task pools before fault old new spoken
+  stopped_at before e Generator old new legal broken after misses = absurd misses
+  stopped_at before e Memory old new legal broken after misses = record { more = []; legal = legal_none before ((grows version task before).front (e ∷ []) legal); told = misses; blamed = tt; talks = broken_same before broken }
+  stopped_at before e Write old new legal broken after (n, less, told) = record {
     more = e ∷ [];
     legal = legal;
     told = subst (λ bytes. (m : ℕ) × (m < length bytes) × Appends old new (take m bytes)) (sym (lines_of_one e)) (n, less, told);
     blamed = tt;
+    talks = after;
   }
-  stopped_at before e (Answer number why) old new legal misses = absurd misses
-
-  pub stops_then : (fault : RunFault) (old mid new : Option (List ℕ)) (xs ys : List ℕ) → Appends old mid xs → StopsAt fault mid new ys → StopsAt fault old new (xs ++ ys)
-  stops_then Generator old mid new xs ys first second = appends_then old mid new xs ys first second
-  stops_then Memory old mid new xs ys first second = appends_then old mid new xs ys first second
-  stops_then (Answer number why) old mid new xs ys first second = appends_then old mid new xs ys first second
-  stops_then Write old mid new xs ys first (n, less, told) = (
-    length xs + n,
-    omega (arith, length-append xs ys),
-    subst (Appends old new) (sym (take-append-add xs ys n)) (appends_then old mid new xs (take n ys) first told),
-  )
+  stopped_at before e (Answer number why) old new legal broken after misses = absurd misses
 
   -- it went on and stopped then
-  pub stopped_then : (a b : List Entry) (fault : RunFault) (old mid new : Option (List ℕ)) → Goes a b old mid → Stopped version task b fault mid new → Stopped version task a fault old new
+  pub stopped_then : (a b : List Entry) (fault : RunFault) (old mid new : Option (List ℕ)) → Goes a b old mid → Stopped version task pools b fault mid new spoken → Stopped version task pools a fault old new spoken
   stopped_then a b fault old mid new goes stopped =
       let all : b ++ stopped.more ≡ a ++ (goes.more ++ stopped.more) = ap (λ front. front ++ stopped.more) goes.pushed ∙ append_assoc a goes.more stopped.more in
       record {
         more = goes.more ++ stopped.more;
         legal = subst (IsLegal version task) all stopped.legal;
         told = subst (StopsAt fault old new) (sym (flat_map-append text_of_entry goes.more stopped.more)) (stops_then fault old mid new _ _ goes.told stopped.told);
-        blamed = subst (Blames fault) all stopped.blamed;
+        blamed = subst (Blames version task pools spoken fault) all stopped.blamed;
+        talks = subst (λ es. BrokenOff task version pools es spoken) all stopped.talks;
       }
 
 -- ---- faults that are handed on
@@ -156,8 +174,8 @@ same_cause failed last before fault r never is = record { later = omega arith; c
 pub heard_no_write : (fault : RunFault) → MayHear fault → fault ≡ Write → ⊥
 heard_no_write fault may is = subst MayHear is may
 
-pub blamed_no_write : (n : ℕ) (fault : RunFault) → IsBlamed n fault → fault ≡ Write → ⊥
-blamed_no_write n fault may is = subst (IsBlamed n) is may
+pub blamed_no_write : (slots : List Slot) (child : ℕ) (bytes : List ℕ) (fault : RunFault) → IsBlamed slots child bytes fault → fault ≡ Write → ⊥
+blamed_no_write slots child bytes fault may is = subst (IsBlamed slots child bytes) is may
 
 pub written_no_generator : (fault : RunFault) → MayWrite fault → fault ≡ Generator → ⊥
 written_no_generator fault may is = subst MayWrite is may
@@ -167,6 +185,10 @@ written_no_generator fault may is = subst MayWrite is may
 pub on_ok : {T E : Type 0} (r : Result T E) (P : Type 0) → P → OnOk r P
 on_ok (Ok x) P p = p
 on_ok (Err e) P p = tt
+
+pub on_err : {T E : Type 0} (r : Result T E) (P : Type 0) → P → OnErr r P
+on_err (Ok x) P p = tt
+on_err (Err e) P p = p
 
 pub ok_map : {T E : Type 0} (r : Result T E) (P Q : Type 0) → (P → Q) → OnOk r P → OnOk r Q
 ok_map (Ok x) P Q f p = f p

@@ -14,6 +14,8 @@ use Rattle.transcript_text.specs.declared.head.Head.{Head}
 use Rattle.transcript_text.specs.declared.head.Mode.TheVariants.{Incremental}
 use Rattle.transcript_text.specs.declared.head.Pool.{Pool}
 use Rattle.transcript_text.specs.declared.outcome.Outcome.{Outcome}
+use Rattle.io_world.specs.Talks.{Talk}
+use Rattle.level_run.specs.Dialogue.{BrokenOff, Dialogue, workers_in}
 use Rattle.level_run.specs.Rolling.{Blames}
 use Rattle.level_run.specs.Stops.{StopsAt}
 use Rattle.level_run.specs.Turns.{AreNeededTurns, IsSure}
@@ -55,35 +57,38 @@ pub record IsRun (task : Task) (head : Head) (entries : List Entry) (o : Outcome
   pub stands : MayStand stage o
   pub sure : IsSure head task entries o
 
--- A whole report was written, of a run; the levels and the requests are counted.
-pub record IsReported (task : Task) (head : Head) (old new : Option (List ℕ)) (ran : Ran) : Type 0 where
+-- A whole report was written, of a run, whose dialogue this was; the levels and the requests are counted.
+pub record IsReported (task : Task) (head : Head) (spoken : ℕ → Option Talk) (old new : Option (List ℕ)) (ran : Ran) : Type 0 where
   pub entries : List Entry
   pub run : IsRun task head entries ran.outcome
+  pub talks : Dialogue task head.version (workers_in head) entries spoken
   pub told : Appends old new (whole_text task head entries ran.outcome)
   pub levels : ran.levels ≡ count_by is_level entries
   pub asks : ran.asks ≡ asks_of entries
 
--- The lines of the head and of a legal transcript, in which the request that is blamed is open, if one is.
-pub record IsPart (task : Task) (head : Head) (fault : RunFault) (text : List ℕ) : Type 0 where
+-- The lines of the head and of a legal transcript, in which the request that is blamed is open, if one is; and the dialogue was this.
+pub record IsPart (task : Task) (head : Head) (fault : RunFault) (spoken : ℕ → Option Talk) (text : List ℕ) : Type 0 where
   pub entries : List Entry
   pub legal : IsLegal head.version task entries
-  pub blamed : Blames fault entries
+  pub blamed : Blames head.version task (workers_in head) spoken fault entries
+  pub talks : BrokenOff task head.version (workers_in head) entries spoken
   pub is : text ≡ text_so_far task head entries
 
--- The text of a report.
-pub record IsWhole (task : Task) (head : Head) (text : List ℕ) : Type 0 where
+-- The text of a report of a run, whose dialogue this was.
+pub record IsWhole (task : Task) (head : Head) (spoken : ℕ → Option Talk) (text : List ℕ) : Type 0 where
   pub entries : List Entry
   pub outcome : Outcome
   pub run : IsRun task head entries outcome
+  pub talks : Dialogue task head.version (workers_in head) entries spoken
   pub is : text ≡ whole_text task head entries outcome
 
 -- What was to be written before the fault: nothing, for want of memory; or the head and a legal transcript; or, where the sink
 -- failed, a whole report.
-abbrev pub WasToWrite : Task → Head → RunFault → List ℕ → Type 0
-WasToWrite task head fault text = ((fault ≡ Memory) × (text ≡ [])) ⊎ IsPart task head fault text ⊎ ((fault ≡ Write) × IsWhole task head text)
+abbrev pub WasToWrite : Task → Head → RunFault → (ℕ → Option Talk) → List ℕ → Type 0
+WasToWrite task head fault spoken text = ((fault ≡ Memory) × (text ≡ [])) ⊎ IsPart task head fault spoken text ⊎ ((fault ≡ Write) × IsWhole task head spoken text)
 
 -- A run had no outcome. All that was to be written was written; but a fault of the sink left some of it out at the end.
-pub record IsBroken (task : Task) (head : Head) (old new : Option (List ℕ)) (fault : RunFault) : Type 0 where
+pub record IsBroken (task : Task) (head : Head) (spoken : ℕ → Option Talk) (old new : Option (List ℕ)) (fault : RunFault) : Type 0 where
   pub text : List ℕ
-  pub form : WasToWrite task head fault text
+  pub form : WasToWrite task head fault spoken text
   pub told : StopsAt fault old new text

@@ -2,6 +2,7 @@
 use Rattle.std.specs.Prelude.{◌≡◌, ℕ, ◌≤◌, ◌++◌, List, map, length, Bool, true, false, not, Option, None, Some, slice_get, is_none, nat_lt, unwrap_or}
 use Rattle.std.specs.Io.KnownBytes.{Appends}
 use Rattle.std.specs.List.{flat_map}
+use Rattle.io_world.specs.Talks.{Talk}
 use Rattle.io_world.specs.declared.host.HostFault.{HostFault}
 use Rattle.io_world.specs.declared.host.HostFault.TheVariants as host
 use Rattle.task_model.specs.Lists.{AreDistinct}
@@ -10,9 +11,10 @@ use Rattle.transcript_text.specs.Legal.{IsLegal, is_open}
 use Rattle.transcript_text.specs.Texts.{text_of_entry}
 use Rattle.transcript_text.specs.declared.entry.Entry.{Entry}
 use Rattle.transcript_text.specs.declared.entry.Entry.TheVariants as entry
-use Rattle.session_core.specs.Heard.{is_bad_at}
 use Rattle.session_core.specs.Slots.{Slot}
-use Rattle.session_core.specs.State.{State, after_line, with_slots}
+use Rattle.session_core.specs.State.{State, with_slots}
+use Rattle.session_core.specs.declared.pools.Workers.{Workers}
+use Rattle.level_run.specs.Dialogue.{BrokenOff, HasBadLine}
 use Rattle.level_run.specs.Stops.{StopsAt}
 use Rattle.level_run.specs.declared.fault.RunFault.{RunFault}
 use Rattle.level_run.specs.declared.fault.RunFault.TheVariants.{Answer, Generator, Write, Memory}
@@ -23,20 +25,6 @@ use Rattle.level_run.specs.declared.fault.RunFault.TheVariants.{Answer, Generato
 abbrev pub IsHostFault : HostFault → RunFault → Type 0
 IsHostFault host.Failed fault = fault ≡ Generator
 IsHostFault host.Memory fault = fault ≡ Memory
-
--- a child failed, or memory is wanting, or the request of this number is blamed
-abbrev pub IsBlamed : ℕ → RunFault → Type 0
-IsBlamed n (Answer number why) = number ≡ n
-IsBlamed n Generator = Unit {0}
-IsBlamed n Memory = Unit {0}
-IsBlamed n Write = ⊥
-
--- a line of the child was taken, and it is an answer
-pub record Takes (old : State) (child : ℕ) (new : State) : Type 0 where
-  pub line : List ℕ
-  pub few : length line ≤ 1024
-  pub good : is_bad_at old.slots child line ≡ false
-  pub after : new ≡ after_line old child line false
 
 -- ---- an open round
 
@@ -67,16 +55,18 @@ pub record Goes (before after : List Entry) (old new : Option (List ℕ)) : Type
   pub pushed : after ≡ before ++ more
   pub told : Appends old new (flat_map text_of_entry more)
 
--- the request that is blamed is open
-abbrev pub Blames : RunFault → List Entry → Type 0
-Blames (Answer number why) entries = is_open entries number ≡ true
-Blames Generator entries = Unit {0}
-Blames Write entries = Unit {0}
-Blames Memory entries = Unit {0}
+-- The request that is blamed is open, and what its child said next is no answer.
+abbrev pub Blames : ℕ → Task → List Workers → (ℕ → Option Talk) → RunFault → List Entry → Type 0
+Blames version task pools spoken (Answer number why) entries = (is_open entries number ≡ true) × HasBadLine task version pools entries spoken number why
+Blames version task pools spoken Generator entries = Unit {0}
+Blames version task pools spoken Write entries = Unit {0}
+Blames version task pools spoken Memory entries = Unit {0}
 
--- The entries that were to be written behind those before, what the sink took of them, and the request that is blamed, if one is.
-pub record Stopped (version : ℕ) (task : Task) (before : List Entry) (fault : RunFault) (old new : Option (List ℕ)) : Type 0 where
+-- The entries that were to be written behind those before, what the sink took of them, the request that is blamed, if one is, and
+-- what was said with the children.
+pub record Stopped (version : ℕ) (task : Task) (pools : List Workers) (before : List Entry) (fault : RunFault) (old new : Option (List ℕ)) (spoken : ℕ → Option Talk) : Type 0 where
   pub more : List Entry
   pub legal : IsLegal version task (before ++ more)
   pub told : StopsAt fault old new (flat_map text_of_entry more)
-  pub blamed : Blames fault (before ++ more)
+  pub blamed : Blames version task pools spoken fault (before ++ more)
+  pub talks : BrokenOff task version pools (before ++ more) spoken

@@ -1,9 +1,11 @@
 //! Batches: a list of asks, cut into rounds.
-ghost use Rattle.std.specs.Prelude.{◌≡◌, ◌<◌, ◌≤◌, ◌++◌, List, false, length, IfOk, IfErr, OnOk};
+ghost use Rattle.std.specs.Prelude.{◌≡◌, ◌<◌, ◌≤◌, ◌++◌, List, false, length, IfOk, IfErr, OnOk, OnErr};
 ghost use Rattle.instance_queue.specs.Level.{instances_of};
 ghost use Rattle.io_world.specs.Faults.{last_count, HasCause};
 ghost use Rattle.io_world.specs.Talks.{Same};
+ghost use Rattle.level_run.specs.Dialogue.{workers_in};
 ghost use Rattle.level_run.specs.Held.{is_running};
+ghost use Rattle.level_run.specs.Talking.{IsTold, held_of};
 ghost use Rattle.level_run.specs.Rolling.{Goes, Stopped};
 ghost use Rattle.level_run.specs.Starts.{AreStartable};
 ghost use Rattle.level_run.specs.Stops.{MayHear};
@@ -43,6 +45,7 @@ fn run_rounds<H: Host, O: Sink>(
     requires ready { AreReady task.now session.old.entries dues.now }
     requires all_run { 0 < length dues.now → AllRun session.old.pools (H.running host.old) }
     requires state { Same (H.running host.old) (is_running lines.old) }
+    requires told { IsTold task.now head.now.version (workers_in head.now) session.old.entries (H.running host.old) (held_of lines.old) (H.spoken host.old) }
     ensures session { IsSession task.now session.new }
     ensures head { OnOk result (IsOf head.now session.new) }
     ensures working { OnOk result (session.new.failed ≡ false) }
@@ -50,8 +53,9 @@ fn run_rounds<H: Host, O: Sink>(
     ensures batch { OnOk result ((more : List AnyEntry) × (session.new.entries ≡ session.old.entries ++ more) × IsBatch (limits_of head.now) task.now session.old.entries (instances_of dues.now) more) }
     ensures grows { OnOk result (length session.old.asked ≤ length session.new.asked) }
     ensures ends { IfOk result (EndsBatch task.now session.new.entries (length session.old.asked) (length session.new.asked) head.now.calls (length dues.now)) }
+    ensures told { OnOk result (IsTold task.now head.now.version (workers_in head.now) session.new.entries (H.running host.new) (held_of lines.new) (H.spoken host.new)) }
     ensures goes { OnOk result (Goes session.old.entries session.new.entries (O.taken out.old) (O.taken out.new)) }
-    ensures stopped { IfErr result (λ fault. Stopped head.now.version task.now session.old.entries fault (O.taken out.old) (O.taken out.new)) }
+    ensures stopped { IfErr result (λ fault. Stopped head.now.version task.now (workers_in head.now) session.old.entries fault (O.taken out.old) (O.taken out.new) (H.spoken host.new)) }
     ensures started { lines.new.started ≡ lines.old.started }
     ensures running { Same (H.running host.old) (H.running host.new) }
     ensures host { HasCause Generator H.last (H.faults host.old) (H.faults host.new) result }
@@ -74,6 +78,7 @@ fn run_rounds<H: Host, O: Sink>(
 
 /// Starts all workers of all pools, if the session's first round follows.
 fn start_workers<H: Host>(
+    task: &Task,
     head: &Head,
     session: &Session,
     lines: &mut Lines,
@@ -84,6 +89,11 @@ fn start_workers<H: Host>(
     requires head { IsOf head.now session.now }
     requires started { AreStarted session.now.pools (length session.now.asked) (H.running host.old) }
     requires state { Same (H.running host.old) (is_running lines.old) }
+    requires session { IsSession task.now session.now }
+    requires told { IsTold task.now head.now.version (workers_in head.now) session.now.entries (H.running host.old) (held_of lines.old) (H.spoken host.old) }
+    ensures told { IsTold task.now head.now.version (workers_in head.now) session.now.entries (H.running host.new) (held_of lines.new) (H.spoken host.new) }
+    ensures early { OnErr result (length session.now.asked ≡ 0) }
+    ensures kept { lines.new.buffers ≡ lines.old.buffers }
     ensures ready { OnOk result (0 < length dues.now → AllRun session.now.pools (H.running host.new)) }
     ensures idle { OnOk result (length dues.now ≡ 0 → Same (H.running host.old) (H.running host.new)) }
     ensures state { Same (H.running host.new) (is_running lines.new) }
@@ -125,6 +135,7 @@ pub fn batch<H: Host, O: Sink>(
     requires ready { AreReady task.now session.old.entries dues.now }
     requires started { AreStarted session.old.pools (length session.old.asked) (H.running host.old) }
     requires state { Same (H.running host.old) (is_running lines.old) }
+    requires told { IsTold task.now head.now.version (workers_in head.now) session.old.entries (H.running host.old) (held_of lines.old) (H.spoken host.old) }
     ensures session { IsSession task.now session.new }
     ensures head { OnOk result (IsOf head.now session.new) }
     ensures working { OnOk result (session.new.failed ≡ false) }
@@ -132,13 +143,14 @@ pub fn batch<H: Host, O: Sink>(
     ensures batch { OnOk result ((more : List AnyEntry) × (session.new.entries ≡ session.old.entries ++ more) × IsBatch (limits_of head.now) task.now session.old.entries (instances_of dues.now) more) }
     ensures grows { OnOk result (length session.old.asked ≤ length session.new.asked) }
     ensures ends { IfOk result (EndsBatch task.now session.new.entries (length session.old.asked) (length session.new.asked) head.now.calls (length dues.now)) }
+    ensures told { OnOk result (IsTold task.now head.now.version (workers_in head.now) session.new.entries (H.running host.new) (held_of lines.new) (H.spoken host.new)) }
     ensures goes { OnOk result (Goes session.old.entries session.new.entries (O.taken out.old) (O.taken out.new)) }
-    ensures stopped { IfErr result (λ fault. Stopped head.now.version task.now session.old.entries fault (O.taken out.old) (O.taken out.new)) }
+    ensures stopped { IfErr result (λ fault. Stopped head.now.version task.now (workers_in head.now) session.old.entries fault (O.taken out.old) (O.taken out.new) (H.spoken host.new)) }
     ensures started { OnOk result (AreStarted session.new.pools (length session.new.asked) (H.running host.new)) }
     ensures state { Same (H.running host.new) (is_running lines.new) }
     ensures host { HasCause Generator H.last (H.faults host.old) (H.faults host.new) result }
     ensures sink { HasCause Write last_count (O.faults out.old) (O.faults out.new) result }
 {
-    start_workers(head, session, lines, host, dues)?;
+    start_workers(task, head, session, lines, host, dues)?;
     run_rounds(alloc, task, session, lines, host, out, dues, head)
 }

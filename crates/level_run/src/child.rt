@@ -1,10 +1,12 @@
 //! What is said with one child.
-ghost use Rattle.std.specs.Prelude.{◌≡◌, ◌<◌, ◌≤◌, ℕ, List, true, false, length, IfOk, IfErr, IsErrOf, OnOk, MatchResult};
+ghost use Rattle.std.specs.Prelude.{◌≡◌, ◌<◌, ◌≤◌, ℕ, List, true, false, length, take, IfErr, IsErrOf, OnOk, OnErr, MatchResult};
 ghost use Rattle.io_world.specs.Faults.{HasCause};
-ghost use Rattle.io_world.specs.Talks.{Same, Becomes};
-ghost use Rattle.level_run.specs.Rolling.{IsHostFault, IsBlamed, Takes};
+ghost use Rattle.io_world.specs.Talks.{Same, Becomes, Empties, Writes, Hears};
+ghost use Rattle.gen_lines.specs.declared.answer.Why.TheVariants.{TooLong};
+ghost use Rattle.level_run.specs.Rolling.{IsHostFault};
+ghost use Rattle.level_run.specs.Talking.{Fills, IsRefused, Misheard, Takes};
 ghost use Rattle.level_run.specs.Stops.{MayHear};
-ghost use Rattle.level_run.specs.declared.fault.RunFault.TheVariants.{Generator};
+ghost use Rattle.level_run.specs.declared.fault.RunFault.TheVariants.{Answer, Generator};
 ghost use Rattle.session_core.specs.Heard.{is_bad_at, number_at};
 ghost use Rattle.session_core.specs.Session.{IsSession};
 ghost use Rattle.session_core.specs.Slots.{IsAwaited};
@@ -32,6 +34,7 @@ pub(crate) fn start<H: Host>(host: &mut H, child: u8, argv: &[String]) -> Result
     requires words { 0 < length argv.now }
     requires idle { H.running host.old child ≡ false }
     ensures running { MatchResult result (λ _. Becomes child true (H.running host.old) (H.running host.new)) (λ _. Same (H.running host.old) (H.running host.new)) }
+    ensures spoken { MatchResult result (λ _. Empties child (H.spoken host.old) (H.spoken host.new)) (λ _. Same (H.spoken host.old) (H.spoken host.new)) }
     ensures only { IfErr result MayHear }
     ensures cause { HasCause Generator H.last (H.faults host.old) (H.faults host.new) result }
 {
@@ -46,6 +49,8 @@ pub(crate) fn send<H: Host>(host: &mut H, child: u8, request: &[u8]) -> Result<(
     requires number { child < 17 }
     requires runs { H.running host.old child ≡ true }
     ensures running { Same (H.running host.old) (H.running host.new) }
+    ensures all { OnOk result (Writes child request.now (H.spoken host.old) (H.spoken host.new)) }
+    ensures part { OnErr result ((n : ℕ) × Writes child (take n request.now) (H.spoken host.old) (H.spoken host.new)) }
     ensures only { IfErr result MayHear }
     ensures cause { HasCause Generator H.last (H.faults host.old) (H.faults host.new) result }
 {
@@ -60,6 +65,8 @@ fn fill<H: Host>(host: &mut H, child: u8, buffer: &mut LineBuf) -> Result<(), Ru
     requires number { child < 17 }
     requires runs { H.running host.old child ≡ true }
     ensures running { Same (H.running host.old) (H.running host.new) }
+    ensures heard { OnOk result (Fills child buffer.old buffer.new (H.spoken host.old) (H.spoken host.new)) }
+    ensures lost { OnErr result ((more : List ℕ) × Hears child more (H.spoken host.old) (H.spoken host.new)) }
     ensures only { IfErr result MayHear }
     ensures cause { HasCause Generator H.last (H.faults host.old) (H.faults host.new) result }
 {
@@ -79,8 +86,9 @@ fn take_line(session: &mut Session, child: u8, line: &[u8]) -> Result<(), RunFau
     requires working { session.old.failed ≡ false }
     requires awaited { IsAwaited session.old.slots child }
     requires few { length line.now ≤ 1024 }
-    ensures taken { OnOk result (Takes session.old child session.new) }
-    ensures blamed { IfErr result (IsBlamed (number_at session.old.slots child)) }
+    ensures taken { OnOk result (session.new ≡ after_line session.old child line.now false) }
+    ensures good { OnOk result (is_bad_at session.old.slots child line.now ≡ false) }
+    ensures refused { IfErr result (IsRefused session.old.slots child line.now) }
     ensures never { ¬ (IsErrOf result Generator) }
     ensures kept { (task : AnyTask) → IsSession task session.old → IsSession task session.new }
 {
@@ -94,8 +102,7 @@ fn take_line(session: &mut Session, child: u8, line: &[u8]) -> Result<(), RunFau
 fn take_too_long(session: &mut Session, child: u8) -> RunFault
     requires working { session.old.failed ≡ false }
     requires awaited { IsAwaited session.old.slots child }
-    ensures blamed { IsBlamed (number_at session.old.slots child) result }
-    ensures never { ¬ (result ≡ Generator) }
+    ensures blamed { result ≡ Answer (number_at session.old.slots child) TooLong }
     ensures kept { (task : AnyTask) → IsSession task session.old → IsSession task session.new }
 {
     RunFault::Answer {
@@ -115,8 +122,8 @@ pub(crate) fn hear<H: Host>(
     requires runs { H.running host.old child ≡ true }
     requires working { session.old.failed ≡ false }
     requires awaited { IsAwaited session.old.slots child }
-    ensures taken { OnOk result (Takes session.old child session.new) }
-    ensures blamed { IfErr result (IsBlamed (number_at session.old.slots child)) }
+    ensures taken { OnOk result (Takes session.old child session.new buffer.old buffer.new (H.spoken host.old) (H.spoken host.new)) }
+    ensures misheard { IfErr result (Misheard session.old.slots child buffer.old (H.spoken host.old) (H.spoken host.new)) }
     ensures kept { (task : AnyTask) → IsSession task session.old → IsSession task session.new }
     ensures running { Same (H.running host.old) (H.running host.new) }
     ensures cause { HasCause Generator H.last (H.faults host.old) (H.faults host.new) result }

@@ -1,9 +1,10 @@
 //! Incremental mode.
-ghost use Rattle.std.specs.Prelude.{◌≡◌, ◌≤◌, ℕ, false, length, IfOk, IfErr, OnOk};
+ghost use Rattle.std.specs.Prelude.{◌≡◌, [], ◌≤◌, ℕ, false, length, IfOk, IfErr, OnOk};
 ghost use Rattle.io_world.specs.Faults.{last_count, HasCause};
 ghost use Rattle.io_world.specs.Talks.{Same};
 ghost use Rattle.level_run.specs.Held.{is_running};
 ghost use Rattle.level_run.specs.Reports.{IsReported, IsBroken};
+ghost use Rattle.level_run.specs.Talking.{held_of};
 ghost use Rattle.level_run.specs.Turns.{IsRunnable};
 ghost use Rattle.level_run.specs.declared.fault.RunFault.TheVariants.{Generator, Write};
 ghost use Rattle.task_model.specs.Fit.{IsFit};
@@ -44,8 +45,9 @@ fn report<H: Host, O: Sink>(
     requires mode { head.now.mode ≡ Incremental }
     requires idle { (k : ℕ) → H.running host.old k ≡ false }
     requires state { Same (H.running host.old) (is_running lines.old) }
-    ensures reported { IfOk result (IsReported task.now head.now (O.taken out.old) (O.taken out.new)) }
-    ensures broken { IfErr result (IsBroken task.now head.now (O.taken out.old) (O.taken out.new)) }
+    requires empty { (child : ℕ) → held_of lines.old child ≡ [] }
+    ensures reported { IfOk result (IsReported task.now head.now (H.spoken host.new) (O.taken out.old) (O.taken out.new)) }
+    ensures broken { IfErr result (IsBroken task.now head.now (H.spoken host.new) (O.taken out.old) (O.taken out.new)) }
     ensures state { Same (H.running host.new) (is_running lines.new) }
     ensures host { HasCause Generator H.last (H.faults host.old) (H.faults host.new) result }
     ensures sink { HasCause Write last_count (O.faults out.old) (O.faults out.new) result }
@@ -78,8 +80,8 @@ pub fn incremental<H: Host, O: Sink>(
     requires runnable { IsRunnable task.now head.now }
     requires mode { head.now.mode ≡ Incremental }
     requires idle { (k : ℕ) → H.running host.old k ≡ false }
-    ensures reported { IfOk result (IsReported task.now head.now (O.taken out.old) (O.taken out.new)) }
-    ensures broken { IfErr result (IsBroken task.now head.now (O.taken out.old) (O.taken out.new)) }
+    ensures reported { IfOk result (IsReported task.now head.now (H.spoken host.new) (O.taken out.old) (O.taken out.new)) }
+    ensures broken { IfErr result (IsBroken task.now head.now (H.spoken host.new) (O.taken out.old) (O.taken out.new)) }
     ensures idle { (k : ℕ) → H.running host.new k ≡ false }
     ensures host { HasCause Generator H.last (H.faults host.old) (H.faults host.new) result }
     ensures sink { HasCause Write last_count (O.faults out.old) (O.faults out.new) result }

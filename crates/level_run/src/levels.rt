@@ -1,8 +1,10 @@
 //! Levels, one after another.
-ghost use Rattle.std.specs.Prelude.{◌≡◌, ◌<◌, ◌≤◌, ◌+◌, ◌++◌, ◌∷◌, [], ℕ, List, false, count_by, length, IfOk, IfErr, OnOk};
+ghost use Rattle.std.specs.Prelude.{◌≡◌, ◌<◌, ◌≤◌, ◌+◌, ◌++◌, ◌∷◌, [], ℕ, Bool, List, Option, false, count_by, length, IfOk, IfErr, OnOk};
 ghost use Rattle.io_world.specs.Faults.{last_count, HasCause};
-ghost use Rattle.io_world.specs.Talks.{Same};
+ghost use Rattle.io_world.specs.Talks.{Same, Talk};
+ghost use Rattle.level_run.specs.Dialogue.{Dialogue, workers_in};
 ghost use Rattle.level_run.specs.Held.{is_running};
+ghost use Rattle.level_run.specs.Talking.{IsTold, held_of};
 ghost use Rattle.level_run.specs.Reports.{IsRun, is_level};
 ghost use Rattle.level_run.specs.Rolling.{Goes, Stopped};
 ghost use Rattle.level_run.specs.Stops.{MayWrite};
@@ -34,7 +36,7 @@ fn mark_level<O: Sink>(alloc: Global, session: &mut Session, out: &mut O) -> Res
     ensures marked { OnOk result (IsMarked session.old session.new) }
     ensures kept { (task : AnyTask) → IsSession task session.old → IsSession task session.new }
     ensures goes { OnOk result (Goes session.old.entries (session.old.entries ++ Level ∷ []) (O.taken out.old) (O.taken out.new)) }
-    ensures stopped { (task : AnyTask) → IsSession task session.old → IfErr result (λ fault. Stopped session.old.version task session.old.entries fault (O.taken out.old) (O.taken out.new)) }
+    ensures stopped { (task : AnyTask) (running : ℕ → Bool) (kept : ℕ → List ℕ) (spoken : ℕ → Option Talk) → IsSession task session.old → IsTold task session.old.version session.old.pools session.old.entries running kept spoken → AreStarted session.old.pools (length session.old.asked) running → IfErr result (λ fault. Stopped session.old.version task session.old.pools session.old.entries fault (O.taken out.old) (O.taken out.new) spoken) }
     ensures only { IfErr result MayWrite }
     ensures cause { HasCause Write last_count (O.faults out.old) (O.faults out.new) result }
 {
@@ -61,14 +63,16 @@ fn run_level<H: Host, O: Sink>(
     requires turn { IsTurn head.now task.now session.old.entries (length session.old.asked) dues.now }
     requires started { AreStarted session.old.pools (length session.old.asked) (H.running host.old) }
     requires state { Same (H.running host.old) (is_running lines.old) }
+    requires told { IsTold task.now head.now.version (workers_in head.now) session.old.entries (H.running host.old) (held_of lines.old) (H.spoken host.old) }
     ensures session { IsSession task.now session.new }
     ensures head { OnOk result (IsOf head.now session.new) }
     ensures working { OnOk result (session.new.failed ≡ false) }
     ensures learnt { OnOk result (IsLearnt session.new) }
     ensures level { IfOk result (RunsLevel head.now task.now session.old.entries session.new.entries) }
     ensures ends { IfOk result (EndsBatch task.now session.new.entries (length session.old.asked) (length session.new.asked) head.now.calls (length dues.now)) }
+    ensures told { OnOk result (IsTold task.now head.now.version (workers_in head.now) session.new.entries (H.running host.new) (held_of lines.new) (H.spoken host.new)) }
     ensures goes { OnOk result (Goes session.old.entries session.new.entries (O.taken out.old) (O.taken out.new)) }
-    ensures stopped { IfErr result (λ fault. Stopped head.now.version task.now session.old.entries fault (O.taken out.old) (O.taken out.new)) }
+    ensures stopped { IfErr result (λ fault. Stopped head.now.version task.now (workers_in head.now) session.old.entries fault (O.taken out.old) (O.taken out.new) (H.spoken host.new)) }
     ensures started { OnOk result (AreStarted session.new.pools (length session.new.asked) (H.running host.new)) }
     ensures state { Same (H.running host.new) (is_running lines.new) }
     ensures host { HasCause Generator H.last (H.faults host.old) (H.faults host.new) result }
@@ -95,11 +99,13 @@ pub(crate) fn run_levels<H: Host, O: Sink>(
     requires head { IsOf head.now session.old }
     requires started { AreStarted session.old.pools (length session.old.asked) (H.running host.old) }
     requires state { Same (H.running host.old) (is_running lines.old) }
+    requires empty { (child : ℕ) → held_of lines.old child ≡ [] }
     ensures run { IfOk result (λ ran. IsRun task.now head.now session.new.entries ran.0) }
     ensures levels { IfOk result (λ ran. ran.1 ≡ count_by is_level session.new.entries) }
     ensures asks { OnOk result (length session.new.asked ≡ asks_of session.new.entries) }
+    ensures talks { OnOk result (Dialogue task.now head.now.version (workers_in head.now) session.new.entries (H.spoken host.new)) }
     ensures goes { OnOk result (Goes [] session.new.entries (O.taken out.old) (O.taken out.new)) }
-    ensures stopped { IfErr result (λ fault. Stopped head.now.version task.now [] fault (O.taken out.old) (O.taken out.new)) }
+    ensures stopped { IfErr result (λ fault. Stopped head.now.version task.now (workers_in head.now) [] fault (O.taken out.old) (O.taken out.new) (H.spoken host.new)) }
     ensures state { Same (H.running host.new) (is_running lines.new) }
     ensures host { HasCause Generator H.last (H.faults host.old) (H.faults host.new) result }
     ensures sink { HasCause Write last_count (O.faults out.old) (O.faults out.new) result }

@@ -1,10 +1,11 @@
 //! What was read from children and not yet taken as lines, and which were started.
-ghost use Rattle.std.specs.Prelude.{◌≡◌, ◌<◌, ◌≤◌, ◌+◌, ℕ, true, false, length, IfErr, IfOk, OnOk};
+ghost use Rattle.std.specs.Prelude.{◌≡◌, [], ◌<◌, ◌≤◌, ◌+◌, ℕ, true, false, length, IfErr, IfOk, OnOk};
 ghost use Rattle.io_world.specs.Faults.{HasCause};
 ghost use Rattle.io_world.specs.Talks.{Becomes, Same};
 ghost use Rattle.level_run.specs.Held.{is_running};
 ghost use Rattle.level_run.specs.Starts.{AllWork, AreStartable, IsWorker, NoneWorks};
 ghost use Rattle.level_run.specs.Stops.{MayHear};
+ghost use Rattle.level_run.specs.Talking.{AreSilent, held_of};
 ghost use Rattle.level_run.specs.declared.fault.RunFault.TheVariants.{Generator};
 
 use crate::child::start;
@@ -40,7 +41,8 @@ impl Model for Lines {
 impl Lines {
     /// Nothing was read, and no child was started. Fails only where memory is wanting.
     pub fn new(alloc: Global) -> Result<Lines, AllocError>
-        ensures { IfOk result (λ lines. (child : ℕ) → is_running lines child ≡ false) }
+        ensures idle { IfOk result (λ lines. (child : ℕ) → is_running lines child ≡ false) }
+        ensures empty { IfOk result (λ lines. (child : ℕ) → held_of lines child ≡ []) }
     {
         let mut buffers = Vec::new(alloc);
         for _ in 0..CHILDREN {
@@ -75,6 +77,8 @@ impl Lines {
         requires state { Same (H.running host.old) (is_running self.old) }
         ensures state { Same (H.running host.new) (is_running self.new) }
         ensures running { OnOk result (Becomes child true (is_running self.old) (is_running self.new)) }
+        ensures silent { AreSilent (is_running self.old) (H.spoken host.old) → AreSilent (is_running self.new) (H.spoken host.new) }
+        ensures kept { self.new.buffers ≡ self.old.buffers }
         ensures only { IfErr result MayHear }
         ensures cause { HasCause Generator H.last (H.faults host.old) (H.faults host.new) result }
     {
@@ -91,6 +95,8 @@ impl Lines {
         requires state { Same (H.running host.old) (is_running self.old) }
         ensures state { Same (H.running host.new) (is_running self.new) }
         ensures running { OnOk result ((child : ℕ) → IsWorker pool.now child → is_running self.new child ≡ true) }
+        ensures silent { AreSilent (is_running self.old) (H.spoken host.old) → AreSilent (is_running self.new) (H.spoken host.new) }
+        ensures kept { self.new.buffers ≡ self.old.buffers }
         ensures others { OnOk result ((child : ℕ) → ¬ (IsWorker pool.now child) → is_running self.new child ≡ is_running self.old child) }
         ensures only { IfErr result MayHear }
         ensures cause { HasCause Generator H.last (H.faults host.old) (H.faults host.new) result }
@@ -112,6 +118,8 @@ impl Lines {
         requires state { Same (H.running host.old) (is_running self.old) }
         ensures state { Same (H.running host.new) (is_running self.new) }
         ensures running { OnOk result (AllWork pools.now (is_running self.new)) }
+        ensures silent { AreSilent (is_running self.old) (H.spoken host.old) → AreSilent (is_running self.new) (H.spoken host.new) }
+        ensures kept { self.new.buffers ≡ self.old.buffers }
         ensures only { IfErr result MayHear }
         ensures cause { HasCause Generator H.last (H.faults host.old) (H.faults host.new) result }
     {
@@ -125,6 +133,7 @@ impl Lines {
     pub(crate) fn stop_all<H: Host>(&self, host: &mut H)
         requires state { Same (H.running host.old) (is_running self.now) }
         ensures idle { (child : ℕ) → H.running host.new child ≡ false }
+        ensures spoken { Same (H.spoken host.old) (H.spoken host.new) }
         ensures later { H.faults host.old ≤ H.faults host.new }
     {
         let _ = &self.buffers;

@@ -1,14 +1,14 @@
 //! One round: all its requests are written, and then its answers are heard, in the order of the requests.
-ghost use Rattle.std.specs.Prelude.{◌≡◌, ◌<◌, ◌≤◌, ◌+◌, ◌++◌, ℕ, List, true, false, drop, length, take, IfErr, OnOk};
+ghost use Rattle.std.specs.Prelude.{◌≡◌, ◌≢◌, ◌<◌, ◌≤◌, ◌+◌, ◌++◌, ℕ, List, true, false, drop, length, take, IfErr, OnOk};
 ghost use Rattle.instance_queue.specs.Level.{instances_of};
 ghost use Rattle.instance_queue.specs.declared.due.Due.{Due as AnyDue};
 ghost use Rattle.io_world.specs.Faults.{last_count, HasCause};
 ghost use Rattle.io_world.specs.Talks.{Same};
 ghost use Rattle.level_run.specs.Held.{is_running};
-ghost use Rattle.level_run.specs.Rolling.{Goes, IsBlamed, IsRolling, IsSameRound, Stopped, Takes, finished};
+ghost use Rattle.level_run.specs.Rolling.{Goes, IsRolling, IsSameRound, Stopped, finished};
+ghost use Rattle.level_run.specs.Talking.{IsTalking, IsTold, Misheard, Takes, held_of};
 ghost use Rattle.level_run.specs.Turns.{AllRun};
 ghost use Rattle.level_run.specs.declared.fault.RunFault.TheVariants.{Generator, Memory, Write};
-ghost use Rattle.session_core.specs.Heard.{number_at};
 ghost use Rattle.session_core.specs.Ready.{AreReady};
 ghost use Rattle.session_core.specs.Session.{IsLearnt, IsSession, MayBegin};
 ghost use Rattle.session_core.specs.Slots.{IsAwaited};
@@ -47,7 +47,8 @@ fn send_one<H: Host, O: Sink>(
     ensures rolling { OnOk result (IsRolling session.new (H.running host.new) (place + 1) 0) }
     ensures many { OnOk result (length session.new.slots ≡ length session.old.slots) }
     ensures goes { OnOk result (Goes (session.old.entries ++ take place session.old.asks) (session.old.entries ++ take (place + 1) session.old.asks) (O.taken out.old) (O.taken out.new)) }
-    ensures stopped { (task : AnyTask) → IsSession task session.old → IfErr result (λ fault. Stopped session.old.version task (session.old.entries ++ take place session.old.asks) fault (O.taken out.old) (O.taken out.new)) }
+    ensures talking { (task : AnyTask) (kept : ℕ → List ℕ) → IsTalking task session.old place 0 kept (H.spoken host.old) → OnOk result (IsTalking task session.new (place + 1) 0 kept (H.spoken host.new)) }
+    ensures stopped { (task : AnyTask) (kept : ℕ → List ℕ) → IsSession task session.old → IsTalking task session.old place 0 kept (H.spoken host.old) → IfErr result (λ fault. Stopped session.old.version task session.old.pools (session.old.entries ++ take place session.old.asks) fault (O.taken out.old) (O.taken out.new) (H.spoken host.new)) }
     ensures kept { (task : AnyTask) → IsSession task session.old → IsSession task session.new }
     ensures running { Same (H.running host.old) (H.running host.new) }
     ensures host { HasCause Generator H.last (H.faults host.old) (H.faults host.new) result }
@@ -73,7 +74,8 @@ fn send_all<H: Host, O: Sink>(
     ensures rolling { OnOk result (IsRolling session.new (H.running host.new) count 0) }
     ensures many { OnOk result (length session.new.slots ≡ length session.old.slots) }
     ensures goes { OnOk result (Goes session.old.entries (session.old.entries ++ session.old.asks) (O.taken out.old) (O.taken out.new)) }
-    ensures stopped { (task : AnyTask) → IsSession task session.old → IfErr result (λ fault. Stopped session.old.version task session.old.entries fault (O.taken out.old) (O.taken out.new)) }
+    ensures talking { (task : AnyTask) (kept : ℕ → List ℕ) → IsTalking task session.old 0 0 kept (H.spoken host.old) → OnOk result (IsTalking task session.new count 0 kept (H.spoken host.new)) }
+    ensures stopped { (task : AnyTask) (kept : ℕ → List ℕ) → IsSession task session.old → IsTalking task session.old 0 0 kept (H.spoken host.old) → IfErr result (λ fault. Stopped session.old.version task session.old.pools session.old.entries fault (O.taken out.old) (O.taken out.new) (H.spoken host.new)) }
     ensures kept { (task : AnyTask) → IsSession task session.old → IsSession task session.new }
     ensures running { Same (H.running host.old) (H.running host.new) }
     ensures host { HasCause Generator H.last (H.faults host.old) (H.faults host.new) result }
@@ -97,8 +99,9 @@ fn hear_child<H: Host>(
     requires runs { H.running host.old child ≡ true }
     requires working { session.old.failed ≡ false }
     requires awaited { IsAwaited session.old.slots child }
-    ensures taken { OnOk result (Takes session.old child session.new) }
-    ensures blamed { IfErr result (IsBlamed (number_at session.old.slots child)) }
+    ensures taken { OnOk result (Takes session.old child session.new (held_of lines.old child) (held_of lines.new child) (H.spoken host.old) (H.spoken host.new)) }
+    ensures others { (k : ℕ) → k ≢ child → held_of lines.new k ≡ held_of lines.old k }
+    ensures misheard { IfErr result (Misheard session.old.slots child (held_of lines.old child) (H.spoken host.old) (H.spoken host.new)) }
     ensures kept { (task : AnyTask) → IsSession task session.old → IsSession task session.new }
     ensures started { lines.new.started ≡ lines.old.started }
     ensures running { Same (H.running host.old) (H.running host.new) }
@@ -124,7 +127,9 @@ fn hear_one<H: Host, O: Sink>(
     ensures many { OnOk result (length session.new.slots ≡ length session.old.slots) }
     ensures front { OnOk result (take place (finished session.new.slots) ≡ take place (finished session.old.slots)) }
     ensures goes { OnOk result (Goes (session.old.entries ++ session.old.asks ++ take place (finished session.new.slots)) (session.old.entries ++ session.old.asks ++ take (place + 1) (finished session.new.slots)) (O.taken out.old) (O.taken out.new)) }
-    ensures stopped { (task : AnyTask) → IsSession task session.old → IfErr result (λ fault. Stopped session.old.version task (session.old.entries ++ session.old.asks ++ take place (finished session.old.slots)) fault (O.taken out.old) (O.taken out.new)) }
+    ensures talking { (task : AnyTask) → IsSession task session.old → IsTalking task session.old (length session.old.slots) place (held_of lines.old) (H.spoken host.old) → OnOk result (IsTalking task session.new (length session.new.slots) (place + 1) (held_of lines.new) (H.spoken host.new)) }
+    ensures idle { (k : ℕ) → H.running host.old k ≡ false → held_of lines.new k ≡ held_of lines.old k }
+    ensures stopped { (task : AnyTask) → IsSession task session.old → IsTalking task session.old (length session.old.slots) place (held_of lines.old) (H.spoken host.old) → IfErr result (λ fault. Stopped session.old.version task session.old.pools (session.old.entries ++ session.old.asks ++ take place (finished session.old.slots)) fault (O.taken out.old) (O.taken out.new) (H.spoken host.new)) }
     ensures kept { (task : AnyTask) → IsSession task session.old → IsSession task session.new }
     ensures started { lines.new.started ≡ lines.old.started }
     ensures running { Same (H.running host.old) (H.running host.new) }
@@ -155,7 +160,9 @@ fn hear_all<H: Host, O: Sink>(
     ensures rolling { OnOk result (IsRolling session.new (H.running host.new) count count) }
     ensures many { OnOk result (length session.new.slots ≡ length session.old.slots) }
     ensures goes { OnOk result (Goes (session.old.entries ++ session.old.asks) (session.old.entries ++ session.old.asks ++ finished session.new.slots) (O.taken out.old) (O.taken out.new)) }
-    ensures stopped { (task : AnyTask) → IsSession task session.old → IfErr result (λ fault. Stopped session.old.version task (session.old.entries ++ session.old.asks) fault (O.taken out.old) (O.taken out.new)) }
+    ensures talking { (task : AnyTask) → IsSession task session.old → IsTalking task session.old count 0 (held_of lines.old) (H.spoken host.old) → OnOk result (IsTalking task session.new count count (held_of lines.new) (H.spoken host.new)) }
+    ensures idle { (k : ℕ) → H.running host.old k ≡ false → held_of lines.new k ≡ held_of lines.old k }
+    ensures stopped { (task : AnyTask) → IsSession task session.old → IsTalking task session.old count 0 (held_of lines.old) (H.spoken host.old) → IfErr result (λ fault. Stopped session.old.version task session.old.pools (session.old.entries ++ session.old.asks) fault (O.taken out.old) (O.taken out.new) (H.spoken host.new)) }
     ensures kept { (task : AnyTask) → IsSession task session.old → IsSession task session.new }
     ensures started { lines.new.started ≡ lines.old.started }
     ensures running { Same (H.running host.old) (H.running host.new) }
@@ -183,7 +190,9 @@ pub(crate) fn run_round<H: Host, O: Sink>(
     requires round { MayBegin task.now session.old dues.now }
     requires all_run { AllRun session.old.pools (H.running host.old) }
     requires state { Same (H.running host.old) (is_running lines.old) }
+    requires told { IsTold task.now session.old.version session.old.pools session.old.entries (H.running host.old) (held_of lines.old) (H.spoken host.old) }
     ensures session { IsSession task.now session.new }
+    ensures told { OnOk result (IsTold task.now session.new.version session.new.pools session.new.entries (H.running host.new) (held_of lines.new) (H.spoken host.new)) }
     ensures working { OnOk result (session.new.failed ≡ false) }
     ensures learnt { OnOk result (IsLearnt session.new) }
     ensures calls { OnOk result (session.new.calls ≡ session.old.calls) }
@@ -193,7 +202,7 @@ pub(crate) fn run_round<H: Host, O: Sink>(
     ensures round { OnOk result ((more : List AnyEntry) × (session.new.entries ≡ session.old.entries ++ more) × IsRound task.now session.old.entries (instances_of dues.now) more) }
     ensures rest { (rest : List AnyDue) (count : ℕ) → dues.now ≡ take count rest → AreReady task.now session.old.entries rest → OnOk result (AreReady task.now session.new.entries (drop count rest)) }
     ensures goes { OnOk result (Goes session.old.entries session.new.entries (O.taken out.old) (O.taken out.new)) }
-    ensures stopped { IfErr result (λ fault. Stopped session.old.version task.now session.old.entries fault (O.taken out.old) (O.taken out.new)) }
+    ensures stopped { IfErr result (λ fault. Stopped session.old.version task.now session.old.pools session.old.entries fault (O.taken out.old) (O.taken out.new) (H.spoken host.new)) }
     ensures started { lines.new.started ≡ lines.old.started }
     ensures running { Same (H.running host.old) (H.running host.new) }
     ensures host { HasCause Generator H.last (H.faults host.old) (H.faults host.new) result }

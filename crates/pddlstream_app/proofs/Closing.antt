@@ -5,7 +5,9 @@ use Rattle.std.proofs.lemmas.List.{length-append}
 use Rattle.std.specs.Io.KnownBytes.{Appends}
 use Rattle.io_world.specs.FileMap.{FileMap}
 use Rattle.io_world.specs.Faults.{Rose, HasCause}
+use Rattle.io_world.specs.Talks.{Talk}
 use Rattle.level_run.proofs.Stopping.{appends_none, appends_then}
+use Rattle.level_run.specs.Dialogue.{Dialogue, workers_in}
 use Rattle.level_run.specs.Reports as reports
 use Rattle.level_run.specs.Reports.{IsBroken, IsPart, IsReported, IsWhole, text_so_far, whole_text}
 use Rattle.level_run.specs.declared.incremental_mode.Ran.{Ran}
@@ -19,7 +21,7 @@ use Rattle.transcript_text.specs.declared.outcome.Outcome.{Outcome}
 use Rattle.transcript_text.specs.declared.outcome.Outcome.TheVariants as outcome
 use Rattle.pddlstream_app.specs.Heads.{IsHeadOf}
 use Rattle.pddlstream_app.specs.Inputs.{IsTaskOf, MayRefuse}
-use Rattle.pddlstream_app.specs.Runs.{Caused, Ends, HasFault, HasOutcome, IsBefore, IsBeforeLast, IsClosed, IsCompleted, IsRun, IsStopped, IsTold, TookAll, Writes, kind_of, report_of}
+use Rattle.pddlstream_app.specs.Runs.{Caused, Ends, HasFault, HasOutcome, IsBefore, IsBeforeLast, IsClosed, IsCompleted, IsPartOfRun, IsRun, IsStopped, IsTold, TookAll, Writes, kind_of, report_of}
 use Rattle.pddlstream_app.specs.Stop.{is_write, status_at, last_text}
 use Rattle.pddlstream_app.specs.Words.{SolveWords, words_of}
 use Rattle.level_run.specs.declared.fault.RunFault.{RunFault}
@@ -34,10 +36,10 @@ use Rattle.pddlstream_app.specs.declared.stop.Stop.TheVariants as stop
 whole_is : (task : Task) (head : Head) (entries : List Entry) (o : Outcome) → whole_text task head entries o ≡ text_of_report (report_of task head entries o)
 whole_is task head entries o = sym (append_assoc (text_so_far task head entries) (text_of_outcome head.version o) (line_text done_line))
 
-module _ (words : List (List ℕ)) (told : Option FileMap) (rose : Type 0) where
+module _ (words : List (List ℕ)) (told : Option FileMap) (rose : Type 0) (spoken : ℕ → Option Talk) where
   module _ (asked : SolveWords) (meant : words_of words ≡ Some asked) where
     -- no task was read
-    pub stopped_reading : (sink : Option (List ℕ)) (why : Stop) → MayRefuse told asked rose why → IsStopped words told rose sink sink why
+    pub stopped_reading : (sink : Option (List ℕ)) (why : Stop) → MayRefuse told asked rose why → IsStopped words told rose spoken sink sink why
     stopped_reading sink stop.Usage r = absurd r
     stopped_reading sink (stop.Input which kind place) r = record { text = []; cause = (record { asked = asked; meant = meant; refused = r }, refl); took = appends_none sink }
     stopped_reading sink (stop.Failed which) r = record { text = []; cause = (record { asked = asked; meant = meant; refused = r }, refl); took = appends_none sink }
@@ -51,71 +53,71 @@ module _ (words : List (List ℕ)) (told : Option FileMap) (rose : Type 0) where
       abbrev run_with : (entries : List Entry) → IsLegal head.version task entries → IsRun words told
       run_with entries legal = record { asked = asked; meant = meant; task = task; spelled = spelled; fit = fit; head = head; headed = headed; entries = entries; legal = legal }
 
-      outcome_with : (text : List ℕ) (entries : List Entry) (o : Outcome) → reports.IsRun task head entries o → text ≡ whole_text task head entries o → HasOutcome words told (kind_of o) text
-      outcome_with text entries o turns is = record { run = run_with entries turns.legal; outcome = o; kind = refl; turns = turns; is = is ∙ whole_is task head entries o }
+      outcome_with : (text : List ℕ) (entries : List Entry) (o : Outcome) → reports.IsRun task head entries o → Dialogue task head.version (workers_in head) entries spoken → text ≡ whole_text task head entries o → HasOutcome words told spoken (kind_of o) text
+      outcome_with text entries o turns talks is = record { run = run_with entries turns.legal; outcome = o; kind = refl; turns = turns; talks = talks; is = is ∙ whole_is task head entries o }
 
       -- the report was written
-      pub completed : (old new : Option (List ℕ)) (ran : Ran) (status : Status) → IsReported task head old new ran → status ≡ kind_of ran.outcome → IsCompleted words told old new status
-      completed old new ran status r e = subst (IsCompleted words told old new) (sym e) (record {
+      pub completed : (old new : Option (List ℕ)) (ran : Ran) (status : Status) → IsReported task head spoken old new ran → status ≡ kind_of ran.outcome → IsCompleted words told spoken old new status
+      completed old new ran status r e = subst (IsCompleted words told spoken old new) (sym e) (record {
         text = whole_text task head r.entries ran.outcome;
-        has = outcome_with (whole_text task head r.entries ran.outcome) r.entries ran.outcome r.run refl;
+        has = outcome_with (whole_text task head r.entries ran.outcome) r.entries ran.outcome r.run r.talks refl;
         took = r.told;
       })
 
-      part_with : (text : List ℕ) (f : RunFault) → IsPart task head f text → (run : IsRun words told) × (text ≡ text_so_far run.task run.head run.entries)
-      part_with text f p = (run_with p.entries p.legal, p.is)
+      part_with : (text : List ℕ) (f : RunFault) → IsPart task head f spoken text → IsPartOfRun words told spoken text
+      part_with text f p = (run_with p.entries p.legal, p.talks, p.is)
 
-      writes_outcome : (text : List ℕ) (o : Outcome) → HasOutcome words told (kind_of o) text → Writes words told rose (kind_of o) text
+      writes_outcome : (text : List ℕ) (o : Outcome) → HasOutcome words told spoken (kind_of o) text → Writes words told rose spoken (kind_of o) text
       writes_outcome text (outcome.Plan steps cost from) h = h
       writes_outcome text outcome.NoPlan h = h
       writes_outcome text (outcome.Limit kind) h = h
 
       -- the run over the task has no outcome
-      pub stopped_running : (old new : Option (List ℕ)) (f : RunFault) → IsBroken task head old new f → IsStopped words told rose old new (stop.Run f)
+      pub stopped_running : (old new : Option (List ℕ)) (f : RunFault) → IsBroken task head spoken old new f → IsStopped words told rose spoken old new (stop.Run f)
       stopped_running old new fault.Generator b = record { text = b.text; cause = of b.form; took = b.told }
         where
-          of : {text : List ℕ} → ((fault.Generator ≡ fault.Memory) × (text ≡ [])) ⊎ IsPart task head fault.Generator text ⊎ ((fault.Generator ≡ fault.Write) × IsWhole task head text) → IsBefore words told rose (stop.Run fault.Generator) text
+          of : {text : List ℕ} → ((fault.Generator ≡ fault.Memory) × (text ≡ [])) ⊎ IsPart task head fault.Generator spoken text ⊎ ((fault.Generator ≡ fault.Write) × IsWhole task head spoken text) → IsBefore words told rose spoken (stop.Run fault.Generator) text
           of (inl x) = absurd (let e = x.0 in cc)
           of {text} (inr (inl p)) = part_with text fault.Generator p
           of (inr (inr x)) = absurd (let e = x.0 in cc)
       stopped_running old new fault.Memory b = record { text = b.text; cause = of b.form; took = b.told }
         where
-          of : {text : List ℕ} → ((fault.Memory ≡ fault.Memory) × (text ≡ [])) ⊎ IsPart task head fault.Memory text ⊎ ((fault.Memory ≡ fault.Write) × IsWhole task head text) → IsBefore words told rose (stop.Run fault.Memory) text
+          of : {text : List ℕ} → ((fault.Memory ≡ fault.Memory) × (text ≡ [])) ⊎ IsPart task head fault.Memory spoken text ⊎ ((fault.Memory ≡ fault.Write) × IsWhole task head spoken text) → IsBefore words told rose spoken (stop.Run fault.Memory) text
           of (inl x) = inl x.1
           of {text} (inr (inl p)) = inr (part_with text fault.Memory p)
           of (inr (inr x)) = absurd (let e = x.0 in cc)
       stopped_running old new (fault.Answer number why) b = record { text = b.text; cause = of b.form; took = b.told }
         where
-          of : {text : List ℕ} → ((fault.Answer number why ≡ fault.Memory) × (text ≡ [])) ⊎ IsPart task head (fault.Answer number why) text ⊎ ((fault.Answer number why ≡ fault.Write) × IsWhole task head text) → IsBefore words told rose (stop.Run (fault.Answer number why)) text
+          of : {text : List ℕ} → ((fault.Answer number why ≡ fault.Memory) × (text ≡ [])) ⊎ IsPart task head (fault.Answer number why) spoken text ⊎ ((fault.Answer number why ≡ fault.Write) × IsWhole task head spoken text) → IsBefore words told rose spoken (stop.Run (fault.Answer number why)) text
           of (inl x) = absurd (let e = x.0 in cc)
-          of (inr (inl p)) = (run_with p.entries p.legal, p.blamed, p.is)
+          of (inr (inl p)) = (run_with p.entries p.legal, record { waiting = p.blamed.0; line = p.blamed.1; broken = p.talks }, p.is)
           of (inr (inr x)) = absurd (let e = x.0 in cc)
       stopped_running old new fault.Write b = record { text = b.text; was = of b.form; count = b.told.0; less = b.told.1; took = b.told.2 }
         where
-          of : {text : List ℕ} → ((fault.Write ≡ fault.Memory) × (text ≡ [])) ⊎ IsPart task head fault.Write text ⊎ ((fault.Write ≡ fault.Write) × IsWhole task head text) → ((other : Status) × Writes words told rose other text) ⊎ ((run : IsRun words told) × (text ≡ text_so_far run.task run.head run.entries))
+          of : {text : List ℕ} → ((fault.Write ≡ fault.Memory) × (text ≡ [])) ⊎ IsPart task head fault.Write spoken text ⊎ ((fault.Write ≡ fault.Write) × IsWhole task head spoken text) → ((other : Status) × Writes words told rose spoken other text) ⊎ IsPartOfRun words told spoken text
           of (inl x) = absurd (let e = x.0 in cc)
           of {text} (inr (inl p)) = inr (part_with text fault.Write p)
-          of {text} (inr (inr x)) = let w = x.1 in inl (kind_of w.outcome, writes_outcome text w.outcome (outcome_with text w.entries w.outcome w.run w.is))
+          of {text} (inr (inr x)) = let w = x.1 in inl (kind_of w.outcome, writes_outcome text w.outcome (outcome_with text w.entries w.outcome w.run w.talks w.is))
 
   -- the words are no command
-  pub stopped_words : (sink : Option (List ℕ)) → words_of words ≡ None → IsStopped words told rose sink sink stop.Usage
+  pub stopped_words : (sink : Option (List ℕ)) → words_of words ≡ None → IsStopped words told rose spoken sink sink stop.Usage
   stopped_words sink none = record { text = []; cause = (none, refl); took = appends_none sink }
 
   -- memory is wanting before anything was written
-  pub stopped_early : (sink : Option (List ℕ)) (why : Stop) → why ≡ stop.Run fault.Memory → IsStopped words told rose sink sink why
-  stopped_early sink why is = subst (IsStopped words told rose sink sink) (sym is) (record { text = []; cause = inl refl; took = appends_none sink })
+  pub stopped_early : (sink : Option (List ℕ)) (why : Stop) → why ≡ stop.Run fault.Memory → IsStopped words told rose spoken sink sink why
+  stopped_early sink why is = subst (IsStopped words told rose spoken sink sink) (sym is) (record { text = []; cause = inl refl; took = appends_none sink })
 
   -- ---- last lines
 
   module _ (old mid new : Option (List ℕ)) where
-    all_taken : (why : Stop) (b : IsBeforeLast words told rose old mid why) → Appends mid new (last_text why) → (Writes words told rose (status_at why) (b.text ++ last_text why)) → TookAll words told rose old new (status_at why)
+    all_taken : (why : Stop) (b : IsBeforeLast words told rose spoken old mid why) → Appends mid new (last_text why) → (Writes words told rose spoken (status_at why) (b.text ++ last_text why)) → TookAll words told rose spoken old new (status_at why)
     all_taken why b app writes = record { text = b.text ++ last_text why; writes = writes; took = appends_then old mid new b.text (last_text why) b.took app }
 
-    faulty : (why : Stop) (b : IsBeforeLast words told rose old mid why) → HasFault words told rose (status_at why) (b.text ++ last_text why)
+    faulty : (why : Stop) (b : IsBeforeLast words told rose spoken old mid why) → HasFault words told rose spoken (status_at why) (b.text ++ last_text why)
     faulty why b = record { stop = why; kind = refl; before = b.text; cause = b.cause; is = refl }
 
     -- what such a run writes
-    writes_fault : (why : Stop) (b : IsBeforeLast words told rose old mid why) → Writes words told rose (status_at why) (b.text ++ last_text why)
+    writes_fault : (why : Stop) (b : IsBeforeLast words told rose spoken old mid why) → Writes words told rose spoken (status_at why) (b.text ++ last_text why)
     writes_fault stop.Usage b = faulty stop.Usage b
     writes_fault (stop.Input which kind place) b = faulty (stop.Input which kind place) b
     writes_fault (stop.Failed which) b = faulty (stop.Failed which) b
@@ -125,7 +127,7 @@ module _ (words : List (List ℕ)) (told : Option FileMap) (rose : Type 0) where
     writes_fault (stop.Run fault.Write) b = absurd b.cause
     writes_fault (stop.Run fault.Memory) b = faulty (stop.Run fault.Memory) b
 
-    ends_whole : (why : Stop) → IsBeforeLast words told rose old mid why → Appends mid new (last_text why) → Ends words told rose old new (status_at why)
+    ends_whole : (why : Stop) → IsBeforeLast words told rose spoken old mid why → Appends mid new (last_text why) → Ends words told rose spoken old new (status_at why)
     ends_whole stop.Usage b app = all_taken stop.Usage b app (writes_fault stop.Usage b)
     ends_whole (stop.Input which kind place) b app = all_taken (stop.Input which kind place) b app (writes_fault (stop.Input which kind place) b)
     ends_whole (stop.Failed which) b app = all_taken (stop.Failed which) b app (writes_fault (stop.Failed which) b)
@@ -135,9 +137,9 @@ module _ (words : List (List ℕ)) (told : Option FileMap) (rose : Type 0) where
     ends_whole (stop.Run fault.Write) b app = absurd b.cause
     ends_whole (stop.Run fault.Memory) b app = all_taken (stop.Run fault.Memory) b app (writes_fault (stop.Run fault.Memory) b)
 
-    ends_told : (why : Stop) (status : Status) → IsBeforeLast words told rose old mid why → IsTold (status_at why) (last_text why) mid new status → Ends words told rose old new status
-    ends_told why status b (inl x) = subst (Ends words told rose old new) (sym x.0) (ends_whole why b x.1)
-    ends_told why status b (inr (is, n, less, app)) = subst (Ends words told rose old new) (sym is) (record {
+    ends_told : (why : Stop) (status : Status) → IsBeforeLast words told rose spoken old mid why → IsTold (status_at why) (last_text why) mid new status → Ends words told rose spoken old new status
+    ends_told why status b (inl x) = subst (Ends words told rose spoken old new) (sym x.0) (ends_whole why b x.1)
+    ends_told why status b (inr (is, n, less, app)) = subst (Ends words told rose spoken old new) (sym is) (record {
       text = b.text ++ last_text why;
       was = inl (status_at why, writes_fault why b);
       count = length b.text + n;
@@ -146,7 +148,7 @@ module _ (words : List (List ℕ)) (told : Option FileMap) (rose : Type 0) where
     })
 
     -- before the last line
-    before_last : (why : Stop) → IsStopped words told rose old mid why → (why ≡ stop.Run fault.Write → ⊥) → IsBeforeLast words told rose old mid why
+    before_last : (why : Stop) → IsStopped words told rose spoken old mid why → (why ≡ stop.Run fault.Write → ⊥) → IsBeforeLast words told rose spoken old mid why
     before_last stop.Usage s other = s
     before_last (stop.Input which kind place) s other = s
     before_last (stop.Failed which) s other = s
@@ -157,24 +159,24 @@ module _ (words : List (List ℕ)) (told : Option FileMap) (rose : Type 0) where
     before_last (stop.Run fault.Memory) s other = s
 
     -- memory may be wanting in place of another cause
-    for_memory : (why : Stop) (text : List ℕ) → IsBefore words told rose why text → IsBefore words told rose (stop.Run fault.Memory) text
+    for_memory : (why : Stop) (text : List ℕ) → IsBefore words told rose spoken why text → IsBefore words told rose spoken (stop.Run fault.Memory) text
     for_memory stop.Usage text b = inl b.1
     for_memory (stop.Input which kind place) text b = inl b.1
     for_memory (stop.Failed which) text b = inl b.1
     for_memory (stop.TooLong which) text b = inl b.1
-    for_memory (stop.Run (fault.Answer number why)) text b = inr (b.0, b.2)
+    for_memory (stop.Run (fault.Answer number why)) text b = inr (b.0, b.1.broken, b.2)
     for_memory (stop.Run fault.Generator) text b = inr b
     for_memory (stop.Run fault.Write) text b = absurd b
     for_memory (stop.Run fault.Memory) text b = b
 
-    pub ends_closed : (why : Stop) (status : Status) → IsStopped words told rose old mid why → (why ≡ stop.Run fault.Write → ⊥) → IsClosed why mid new status → Ends words told rose old new status
+    pub ends_closed : (why : Stop) (status : Status) → IsStopped words told rose spoken old mid why → (why ≡ stop.Run fault.Write → ⊥) → IsClosed why mid new status → Ends words told rose spoken old new status
     ends_closed why status s other (inl x) = ends_told why status (before_last why s other) x
     ends_closed why status s other (inr x) =
         let b = before_last why s other in
         ends_told (stop.Run fault.Memory) status (record { text = b.text; cause = for_memory why b.text b.cause; took = b.took }) x
 
   -- the sink took a part
-  pub ends_written : (old new : Option (List ℕ)) (why : Stop) → is_write why ≡ true → IsStopped words told rose old new why → Ends words told rose old new WriteFault
+  pub ends_written : (old new : Option (List ℕ)) (why : Stop) → is_write why ≡ true → IsStopped words told rose spoken old new why → Ends words told rose spoken old new WriteFault
   ends_written old new stop.Usage e s = absurd (cc)
   ends_written old new (stop.Input which kind place) e s = absurd (cc)
   ends_written old new (stop.Failed which) e s = absurd (cc)
@@ -185,10 +187,10 @@ module _ (words : List (List ℕ)) (told : Option FileMap) (rose : Type 0) where
   ends_written old new (stop.Run fault.Memory) e s = absurd (cc)
 
   -- the run has an outcome
-  pub ends_completed : (old new : Option (List ℕ)) (status : Status) → IsCompleted words told old new status → Ends words told rose old new status
-  ends_completed old new status c = subst (Ends words told rose old new) c.has.kind (of c.has.outcome (subst (IsCompleted words told old new) (sym c.has.kind) c))
+  pub ends_completed : (old new : Option (List ℕ)) (status : Status) → IsCompleted words told spoken old new status → Ends words told rose spoken old new status
+  ends_completed old new status c = subst (Ends words told rose spoken old new) c.has.kind (of c.has.outcome (subst (IsCompleted words told spoken old new) (sym c.has.kind) c))
     where
-      of : (o : Outcome) → IsCompleted words told old new (kind_of o) → Ends words told rose old new (kind_of o)
+      of : (o : Outcome) → IsCompleted words told spoken old new (kind_of o) → Ends words told rose spoken old new (kind_of o)
       of (outcome.Plan steps cost from) c = record { text = c.text; writes = c.has; took = c.took }
       of outcome.NoPlan c = record { text = c.text; writes = c.has; took = c.took }
       of (outcome.Limit kind) c = record { text = c.text; writes = c.has; took = c.took }
@@ -243,10 +245,10 @@ closed_generator why old new status (inr (inr x)) e = absurd (other_write (sym x
 
 module _ (last before now : ℕ) (r : Result Status Stop) where
   -- an outcome is no fault
-  pub host_of_outcome : {words : List (List ℕ)} {told : Option FileMap} {old new : Option (List ℕ)} (status : Status) → IsCompleted words told old new status → HasCause (stop.Run fault.Generator) last before now r → Caused GeneratorFault last before now status
+  pub host_of_outcome : {words : List (List ℕ)} {told : Option FileMap} {spoken : ℕ → Option Talk} {old new : Option (List ℕ)} (status : Status) → IsCompleted words told spoken old new status → HasCause (stop.Run fault.Generator) last before now r → Caused GeneratorFault last before now status
   host_of_outcome status c h = record { later = h.later; cause = λ e. absurd (no_generator c.has.outcome (c.has.kind ∙ e)) }
 
-  pub sink_of_outcome : {words : List (List ℕ)} {told : Option FileMap} {old new : Option (List ℕ)} (status : Status) → IsCompleted words told old new status → HasCause (stop.Run fault.Write) last before now r → Caused WriteFault last before now status
+  pub sink_of_outcome : {words : List (List ℕ)} {told : Option FileMap} {spoken : ℕ → Option Talk} {old new : Option (List ℕ)} (status : Status) → IsCompleted words told spoken old new status → HasCause (stop.Run fault.Write) last before now r → Caused WriteFault last before now status
   sink_of_outcome status c h = record { later = h.later; cause = λ e. absurd (no_write c.has.outcome (c.has.kind ∙ e)) }
 
   pub host_of_write : HasCause (stop.Run fault.Generator) last before now r → Caused GeneratorFault last before now WriteFault

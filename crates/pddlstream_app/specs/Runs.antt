@@ -3,6 +3,9 @@ use Rattle.std.specs.Prelude.{◌≡◌, ◌⊎◌, ℕ, ◌<◌, ◌≤◌, Lis
 use Rattle.std.specs.Io.KnownBytes.{Appends}
 use Rattle.io_world.specs.FileMap.{FileMap}
 use Rattle.io_world.specs.Faults.{Rose}
+use Rattle.gen_lines.specs.declared.answer.Why.{Why}
+use Rattle.io_world.specs.Talks.{Talk}
+use Rattle.level_run.specs.Dialogue.{BrokenOff, Dialogue, HasBadLine, workers_in}
 use Rattle.level_run.specs.Reports as reports
 use Rattle.level_run.specs.Reports.{text_so_far}
 use Rattle.task_model.specs.Fit.{IsFit}
@@ -57,12 +60,14 @@ kind_of outcome.NoPlan = NoPlan
 kind_of (outcome.Limit kind) = Limit
 
 -- The text is the report of a run, with an outcome of the status's kind. The run's transcript is a list of whole turns of incremental
--- mode, or one after a batch that was cut, each of which begins where no plan exists; the outcome may stand there and is sure.
-pub record HasOutcome (words : List (List ℕ)) (told : Option FileMap) (status : Status) (text : List ℕ) : Type 0 where
+-- mode, or one after a batch that was cut, each of which begins where no plan exists; the outcome may stand there and is sure. What was
+-- said with the children is the transcript's dialogue.
+pub record HasOutcome (words : List (List ℕ)) (told : Option FileMap) (spoken : ℕ → Option Talk) (status : Status) (text : List ℕ) : Type 0 where
   pub run : IsRun words told
   pub outcome : Outcome
   pub kind : kind_of outcome ≡ status
   pub turns : reports.IsRun run.task run.head run.entries outcome
+  pub talks : Dialogue run.task run.head.version (workers_in run.head) run.entries spoken
   pub is : text ≡ text_of_report (report_of run.task run.head run.entries outcome)
 
 -- ---- faults
@@ -73,74 +78,85 @@ pub record HasNoTask (words : List (List ℕ)) (told : Option FileMap) (rose : T
   pub meant : words_of words ≡ Some asked
   pub refused : MayRefuse told asked rose why
 
--- the lines of a run's head and transcript
-abbrev pub IsPartOfRun : List (List ℕ) → Option FileMap → List ℕ → Type 0
-IsPartOfRun words told text = (run : IsRun words told) × (text ≡ lines_so_far words told run)
+-- what was said with the children is the dialogue of the run's transcript, broken off behind it
+abbrev pub IsBrokenOff : (words : List (List ℕ)) (told : Option FileMap) → (ℕ → Option Talk) → IsRun words told → Type 0
+IsBrokenOff words told spoken run = BrokenOff run.task run.head.version (workers_in run.head) run.entries spoken
 
--- what was written before the last line of a run that stops so, with the cause; `rose` says that the files' count of faults rose
-abbrev pub IsBefore : List (List ℕ) → Option FileMap → Type 0 → Stop → List ℕ → Type 0
-IsBefore words told rose stop.Usage text = (words_of words ≡ None) × (text ≡ [])
-IsBefore words told rose (stop.Input which kind place) text = HasNoTask words told rose (stop.Input which kind place) × (text ≡ [])
-IsBefore words told rose (stop.Failed which) text = HasNoTask words told rose (stop.Failed which) × (text ≡ [])
-IsBefore words told rose (stop.TooLong which) text = HasNoTask words told rose (stop.TooLong which) × (text ≡ [])
-IsBefore words told rose (stop.Run (fault.Answer number why)) text = (run : IsRun words told) × (is_open run.entries number ≡ true) × (text ≡ lines_so_far words told run)
-IsBefore words told rose (stop.Run fault.Generator) text = IsPartOfRun words told text
-IsBefore words told rose (stop.Run fault.Write) text = ⊥
-IsBefore words told rose (stop.Run fault.Memory) text = (text ≡ []) ⊎ IsPartOfRun words told text
+-- the lines of a run's head and transcript, where the dialogue was broken off
+abbrev pub IsPartOfRun : List (List ℕ) → Option FileMap → (ℕ → Option Talk) → List ℕ → Type 0
+IsPartOfRun words told spoken text = (run : IsRun words told) × IsBrokenOff words told spoken run × (text ≡ lines_so_far words told run)
+
+-- the request that is blamed is open, all before it are answered, and what its child said next is no answer, for this cause
+pub record HasBadAnswer (words : List (List ℕ)) (told : Option FileMap) (spoken : ℕ → Option Talk) (number : ℕ) (why : Why) (run : IsRun words told) : Type 0 where
+  pub waiting : is_open run.entries number ≡ true
+  pub line : HasBadLine run.task run.head.version (workers_in run.head) run.entries spoken number why
+  pub broken : IsBrokenOff words told spoken run
+
+-- what was written before the last line of a run that stops so, with the cause; `rose` says that the files' count of faults rose, and
+-- `spoken` what was said with each child, where that is told
+abbrev pub IsBefore : List (List ℕ) → Option FileMap → Type 0 → (ℕ → Option Talk) → Stop → List ℕ → Type 0
+IsBefore words told rose spoken stop.Usage text = (words_of words ≡ None) × (text ≡ [])
+IsBefore words told rose spoken (stop.Input which kind place) text = HasNoTask words told rose (stop.Input which kind place) × (text ≡ [])
+IsBefore words told rose spoken (stop.Failed which) text = HasNoTask words told rose (stop.Failed which) × (text ≡ [])
+IsBefore words told rose spoken (stop.TooLong which) text = HasNoTask words told rose (stop.TooLong which) × (text ≡ [])
+IsBefore words told rose spoken (stop.Run (fault.Answer number why)) text = (run : IsRun words told) × HasBadAnswer words told spoken number why run × (text ≡ lines_so_far words told run)
+IsBefore words told rose spoken (stop.Run fault.Generator) text = IsPartOfRun words told spoken text
+IsBefore words told rose spoken (stop.Run fault.Write) text = ⊥
+IsBefore words told rose spoken (stop.Run fault.Memory) text = (text ≡ []) ⊎ IsPartOfRun words told spoken text
 
 -- The text is what a run wrote that stops so, and its last line.
-pub record HasFault (words : List (List ℕ)) (told : Option FileMap) (rose : Type 0) (status : Status) (text : List ℕ) : Type 0 where
+pub record HasFault (words : List (List ℕ)) (told : Option FileMap) (rose : Type 0) (spoken : ℕ → Option Talk) (status : Status) (text : List ℕ) : Type 0 where
   pub stop : Stop
   pub kind : status_at stop ≡ status
   pub before : List ℕ
-  pub cause : IsBefore words told rose stop before
+  pub cause : IsBefore words told rose spoken stop before
   pub is : text ≡ before ++ last_text stop
 
 -- ---- all that a run writes
 
 -- what a run writes in all that ends so
-abbrev pub Writes : List (List ℕ) → Option FileMap → Type 0 → Status → List ℕ → Type 0
-Writes words told rose Plan text = HasOutcome words told Plan text
-Writes words told rose NoPlan text = HasOutcome words told NoPlan text
-Writes words told rose Limit text = HasOutcome words told Limit text
-Writes words told rose Usage text = HasFault words told rose Usage text
-Writes words told rose Input text = HasFault words told rose Input text
-Writes words told rose BadAnswer text = HasFault words told rose BadAnswer text
-Writes words told rose ReadFault text = HasFault words told rose ReadFault text
-Writes words told rose GeneratorFault text = HasFault words told rose GeneratorFault text
-Writes words told rose Memory text = HasFault words told rose Memory text
-Writes words told rose WriteFault text = ⊥
-Writes words told rose Done text = ⊥
-Writes words told rose Invalid text = ⊥
+abbrev pub Writes : List (List ℕ) → Option FileMap → Type 0 → (ℕ → Option Talk) → Status → List ℕ → Type 0
+Writes words told rose spoken Plan text = HasOutcome words told spoken Plan text
+Writes words told rose spoken NoPlan text = HasOutcome words told spoken NoPlan text
+Writes words told rose spoken Limit text = HasOutcome words told spoken Limit text
+Writes words told rose spoken Usage text = HasFault words told rose spoken Usage text
+Writes words told rose spoken Input text = HasFault words told rose spoken Input text
+Writes words told rose spoken BadAnswer text = HasFault words told rose spoken BadAnswer text
+Writes words told rose spoken ReadFault text = HasFault words told rose spoken ReadFault text
+Writes words told rose spoken GeneratorFault text = HasFault words told rose spoken GeneratorFault text
+Writes words told rose spoken Memory text = HasFault words told rose spoken Memory text
+Writes words told rose spoken WriteFault text = ⊥
+Writes words told rose spoken Done text = ⊥
+Writes words told rose spoken Invalid text = ⊥
 
 -- The sink took all that the run writes.
-pub record TookAll (words : List (List ℕ)) (told : Option FileMap) (rose : Type 0) (old new : Option (List ℕ)) (status : Status) : Type 0 where
+pub record TookAll (words : List (List ℕ)) (told : Option FileMap) (rose : Type 0) (spoken : ℕ → Option Talk) (old new : Option (List ℕ)) (status : Status) : Type 0 where
   pub text : List ℕ
-  pub writes : Writes words told rose status text
+  pub writes : Writes words told rose spoken status text
   pub took : Appends old new text
 
 -- The sink took a part, and not all, of what was to be written: all that a run writes that ends in another way, or the lines of a run's head and transcript.
-pub record TookPart (words : List (List ℕ)) (told : Option FileMap) (rose : Type 0) (old new : Option (List ℕ)) : Type 0 where
+pub record TookPart (words : List (List ℕ)) (told : Option FileMap) (rose : Type 0) (spoken : ℕ → Option Talk) (old new : Option (List ℕ)) : Type 0 where
   pub text : List ℕ
-  pub was : ((other : Status) × Writes words told rose other text) ⊎ IsPartOfRun words told text
+  pub was : ((other : Status) × Writes words told rose spoken other text) ⊎ IsPartOfRun words told spoken text
   pub count : ℕ
   pub less : count < length text
   pub took : Appends old new (take count text)
 
 -- how a run ends
-abbrev pub Ends : List (List ℕ) → Option FileMap → Type 0 → Option (List ℕ) → Option (List ℕ) → Status → Type 0
-Ends words told rose old new WriteFault = TookPart words told rose old new
-Ends words told rose old new Plan = TookAll words told rose old new Plan
-Ends words told rose old new NoPlan = TookAll words told rose old new NoPlan
-Ends words told rose old new Limit = TookAll words told rose old new Limit
-Ends words told rose old new Usage = TookAll words told rose old new Usage
-Ends words told rose old new Input = TookAll words told rose old new Input
-Ends words told rose old new BadAnswer = TookAll words told rose old new BadAnswer
-Ends words told rose old new ReadFault = TookAll words told rose old new ReadFault
-Ends words told rose old new GeneratorFault = TookAll words told rose old new GeneratorFault
-Ends words told rose old new Memory = TookAll words told rose old new Memory
-Ends words told rose old new Done = ⊥
-Ends words told rose old new Invalid = ⊥
+abbrev pub Ends : List (List ℕ) → Option FileMap → Type 0 → (ℕ → Option Talk) → Option (List ℕ) → Option (List ℕ) → Status → Type 0
+Ends words told rose spoken old new WriteFault = TookPart words told rose spoken old new
+Ends words told rose spoken old new Plan = TookAll words told rose spoken old new Plan
+Ends words told rose spoken old new NoPlan = TookAll words told rose spoken old new NoPlan
+Ends words told rose spoken old new Limit = TookAll words told rose spoken old new Limit
+Ends words told rose spoken old new Usage = TookAll words told rose spoken old new Usage
+Ends words told rose spoken old new Input = TookAll words told rose spoken old new Input
+Ends words told rose spoken old new BadAnswer = TookAll words told rose spoken old new BadAnswer
+Ends words told rose spoken old new ReadFault = TookAll words told rose spoken old new ReadFault
+Ends words told rose spoken old new GeneratorFault = TookAll words told rose spoken old new GeneratorFault
+Ends words told rose spoken old new Memory = TookAll words told rose spoken old new Memory
+Ends words told rose spoken old new Done = ⊥
+Ends words told rose spoken old new Invalid = ⊥
 
 -- the count has not fallen, and it rose where the run ended so
 pub record Caused (failed : Status) (last before now : ℕ) (status : Status) : Type 0 where
@@ -150,27 +166,27 @@ pub record Caused (failed : Status) (last before now : ℕ) (status : Status) : 
 -- ---- the parts of a run
 
 -- The run has an outcome, and its report was written.
-pub record IsCompleted (words : List (List ℕ)) (told : Option FileMap) (old new : Option (List ℕ)) (status : Status) : Type 0 where
+pub record IsCompleted (words : List (List ℕ)) (told : Option FileMap) (spoken : ℕ → Option Talk) (old new : Option (List ℕ)) (status : Status) : Type 0 where
   pub text : List ℕ
-  pub has : HasOutcome words told status text
+  pub has : HasOutcome words told spoken status text
   pub took : Appends old new text
 
 -- all that was to be written before the last line was written
-pub record IsBeforeLast (words : List (List ℕ)) (told : Option FileMap) (rose : Type 0) (old new : Option (List ℕ)) (why : Stop) : Type 0 where
+pub record IsBeforeLast (words : List (List ℕ)) (told : Option FileMap) (rose : Type 0) (spoken : ℕ → Option Talk) (old new : Option (List ℕ)) (why : Stop) : Type 0 where
   pub text : List ℕ
-  pub cause : IsBefore words told rose why text
+  pub cause : IsBefore words told rose spoken why text
   pub took : Appends old new text
 
 -- how a run stands that has no outcome
-abbrev pub IsStopped : List (List ℕ) → Option FileMap → Type 0 → Option (List ℕ) → Option (List ℕ) → Stop → Type 0
-IsStopped words told rose old new (stop.Run fault.Write) = TookPart words told rose old new
-IsStopped words told rose old new (stop.Run fault.Generator) = IsBeforeLast words told rose old new (stop.Run fault.Generator)
-IsStopped words told rose old new (stop.Run fault.Memory) = IsBeforeLast words told rose old new (stop.Run fault.Memory)
-IsStopped words told rose old new (stop.Run (fault.Answer number why)) = IsBeforeLast words told rose old new (stop.Run (fault.Answer number why))
-IsStopped words told rose old new stop.Usage = IsBeforeLast words told rose old new stop.Usage
-IsStopped words told rose old new (stop.Input which kind place) = IsBeforeLast words told rose old new (stop.Input which kind place)
-IsStopped words told rose old new (stop.Failed which) = IsBeforeLast words told rose old new (stop.Failed which)
-IsStopped words told rose old new (stop.TooLong which) = IsBeforeLast words told rose old new (stop.TooLong which)
+abbrev pub IsStopped : List (List ℕ) → Option FileMap → Type 0 → (ℕ → Option Talk) → Option (List ℕ) → Option (List ℕ) → Stop → Type 0
+IsStopped words told rose spoken old new (stop.Run fault.Write) = TookPart words told rose spoken old new
+IsStopped words told rose spoken old new (stop.Run fault.Generator) = IsBeforeLast words told rose spoken old new (stop.Run fault.Generator)
+IsStopped words told rose spoken old new (stop.Run fault.Memory) = IsBeforeLast words told rose spoken old new (stop.Run fault.Memory)
+IsStopped words told rose spoken old new (stop.Run (fault.Answer number why)) = IsBeforeLast words told rose spoken old new (stop.Run (fault.Answer number why))
+IsStopped words told rose spoken old new stop.Usage = IsBeforeLast words told rose spoken old new stop.Usage
+IsStopped words told rose spoken old new (stop.Input which kind place) = IsBeforeLast words told rose spoken old new (stop.Input which kind place)
+IsStopped words told rose spoken old new (stop.Failed which) = IsBeforeLast words told rose spoken old new (stop.Failed which)
+IsStopped words told rose spoken old new (stop.TooLong which) = IsBeforeLast words told rose spoken old new (stop.TooLong which)
 
 -- the text was written, and the status is this; or the sink failed and took a part
 abbrev pub IsTold : Status → List ℕ → Option (List ℕ) → Option (List ℕ) → Status → Type 0

@@ -9,7 +9,9 @@ use Rattle.transcript_text.specs.declared.entry.Entry.{Entry}
 use Rattle.level_run.proofs.Batching.{SoFar, none_of_none, none_left, so_far_end, so_far_none, so_far_step, spent}
 use Rattle.level_run.proofs.Deciding.{empty_of, filled_of, first_of}
 use Rattle.level_run.proofs.Stopping.{goes_none, goes_then, handed, stopped_then}
+use Rattle.level_run.specs.Dialogue.{workers_in}
 use Rattle.level_run.specs.Rolling.{Stopped}
+use Rattle.level_run.specs.Talking.{IsTold, held_of}
 use Rattle.level_run.proofs.batches.run_rounds.Goals as goal
 
 pub rounds-init : goal.rounds-init
@@ -19,6 +21,7 @@ rounds-init g c = record {
   working = c.requires.working;
   learnt = c.requires.learnt;
   ready = c.requires.ready;
+  told = c.requires.told;
   all_run = c.requires.all_run;
   so_far = so_far_none c.args.head.now c.args.task.now c.args.session.now.entries (instances_of c.args.dues.now);
   counts = refl;
@@ -61,9 +64,11 @@ pub returns-in_err-run_round-clause-stopped : goal.returns-in_err-run_round-clau
 returns-in_err-run_round-clause-stopped g c =
     let now = c.rounds.session in
     let fault = c.in_err-run_round.field-0.0 in
-    let stopped = subst (λ v. Stopped v c.args.task.now now.entries fault (g.O.Sink.taken c.rounds.out) (g.O.Sink.taken c.run_round.new.out)) c.rounds.invariant.head.version c.in_err-run_round.ensures.stopped in
+    let spoken = g.H.Host.spoken c.run_round.new.host in
+    let first = subst (λ v. Stopped v c.args.task.now now.pools now.entries fault (g.O.Sink.taken c.rounds.out) (g.O.Sink.taken c.run_round.new.out) spoken) c.rounds.invariant.head.version c.in_err-run_round.ensures.stopped in
+    let stopped = subst (λ ps. Stopped c.args.head.now.version c.args.task.now ps now.entries fault (g.O.Sink.taken c.rounds.out) (g.O.Sink.taken c.run_round.new.out) spoken) c.rounds.invariant.head.pools first in
     handed c.from_residual.result fault _ c.from_residual.ensures.1
-    (stopped_then c.args.head.now.version c.args.task.now c.args.session.now.entries now.entries fault (g.O.Sink.taken c.args.out.now) (g.O.Sink.taken c.rounds.out) (g.O.Sink.taken c.run_round.new.out) c.rounds.invariant.goes stopped)
+    (stopped_then c.args.head.now.version c.args.task.now (workers_in c.args.head.now) spoken c.args.session.now.entries now.entries fault (g.O.Sink.taken c.args.out.now) (g.O.Sink.taken c.rounds.out) (g.O.Sink.taken c.run_round.new.out) c.rounds.invariant.goes stopped)
 
 pub rounds-preserved : goal.rounds-preserved
 rounds-preserved g c =
@@ -84,6 +89,8 @@ rounds-preserved g c =
       head = record { version = done.version ∙ i.head.version; calls = done.calls ∙ i.head.calls; pools = done.pools ∙ i.head.pools };
       working = done.working;
       learnt = done.learnt;
+      told = subst (λ v. IsTold c.args.task.now v (workers_in c.args.head.now) new.entries (g.H.Host.running c.run_round.new.host) (held_of c.run_round.new.lines) (g.H.Host.spoken c.run_round.new.host)) (done.version ∙ i.head.version)
+          (subst (λ ps. IsTold c.args.task.now new.version ps new.entries (g.H.Host.running c.run_round.new.host) (held_of c.run_round.new.lines) (g.H.Host.spoken c.run_round.new.host)) (done.pools ∙ i.head.pools) done.told);
       ready = subst (AreReady c.args.task.now new.entries) (sym back) (done.rest rest count front i.ready);
       all_run = λ later k child p at in_p. done.running child ∙ i.all_run some k child p (ap (λ ps. slice_get ps k) (sym done.pools) ∙ at) in_p;
       so_far = subst (λ ds. SoFar c.args.head.now c.args.task.now c.args.session.now.entries (instances_of c.args.dues.now) new.entries (instances_of ds)) (sym back)
@@ -99,3 +106,10 @@ rounds-preserved g c =
 
 pub rounds-smaller : goal.rounds-smaller
 rounds-smaller g c = omega (arith, ap length c.split_at.ensures.back, length-drop c.next_round-count.result c.rounds.rest.now, c.if-count-eq0.false, filled_of c.rounds.rest.now (sym c.is_empty.ensures ∙ c.if-is_empty.false))
+
+pub run_round-requires-clause-told : goal.run_round-requires-clause-told
+run_round-requires-clause-told g c =
+    let now = c.rounds.session in
+    let i = c.rounds.invariant in
+    subst (λ v. IsTold c.args.task.now v now.pools now.entries (g.H.Host.running c.rounds.host) (held_of c.rounds.lines) (g.H.Host.spoken c.rounds.host)) (sym i.head.version)
+    (subst (λ ps. IsTold c.args.task.now c.args.head.now.version ps now.entries (g.H.Host.running c.rounds.host) (held_of c.rounds.lines) (g.H.Host.spoken c.rounds.host)) (sym i.head.pools) i.told)

@@ -5,7 +5,9 @@ use Rattle.session_core.specs.Ready.{AreReady}
 use Rattle.session_core.specs.Session.{IsLearnt, IsOf, IsSession}
 use Rattle.level_run.proofs.Batching.{SoFar}
 use Rattle.level_run.proofs.batches.run_rounds.Given as goal
+use Rattle.level_run.specs.Dialogue.{workers_in}
 use Rattle.level_run.specs.Rolling.{Goes}
+use Rattle.level_run.specs.Talking.{IsTold, held_of}
 use Rattle.level_run.specs.Turns.{AllRun}
 
 -- the asks that are left are still due, and the rounds that were run are the first of the batch
@@ -16,6 +18,7 @@ invariant-rounds g l = record {
   working : l.session.failed ≡ false;
   learnt : IsLearnt l.session;
   ready : AreReady l.task l.session.entries l.rest;
+  told : IsTold l.task l.head.version (workers_in l.head) l.session.entries (g.H.Host.running l.host) (held_of l.lines) (g.H.Host.spoken l.host);
   all_run : 0 < length l.rest → AllRun l.session.pools (g.H.Host.running l.host);
   so_far : SoFar l.head l.task l.initial.session.entries (instances_of l.initial.rest) l.session.entries (instances_of l.rest);
   counts : length l.session.asked + length l.rest ≡ length l.initial.session.asked + length l.initial.rest;

@@ -1,6 +1,9 @@
-use Rattle.std.proofs.Common.{◌≡◌, ◌∙◌, ◌<◌, subst, sym, length}
+use Rattle.std.proofs.Common.{◌≡◌, ◌∙◌, ◌<◌, ℕ, true, false, [], ap, slice_get, subst, sym, length, unwrap_or}
 use Rattle.level_run.proofs.Starting.{all_run}
 use Rattle.level_run.proofs.Stopping.{ok_map}
+use Rattle.level_run.proofs.Telling.{told_started}
+use Rattle.level_run.specs.Dialogue.{workers_in}
+use Rattle.level_run.specs.Talking.{held_of}
 use Rattle.level_run.specs.Held.{is_running}
 use Rattle.level_run.specs.Starts.{AllWork}
 use Rattle.level_run.proofs.batches.start_workers.Goals as goal
@@ -11,3 +14,13 @@ returns-then-asks-eq0-clause-ready g c =
     let there = subst (λ ps. AllWork ps (is_running c.start_all.new.self)) c.as_slice.ensures works in
     all_run c.args.head.now.pools c.args.session.now.pools (g.H.Host.running c.start_all.new.host) c.requires.head.pools (λ k child p at is. sym (c.start_all.ensures.state child) ∙ there k child p at is))
     c.start_all.ensures.running
+
+pub returns-then-asks-eq0-clause-told : goal.returns-then-asks-eq0-clause-told
+returns-then-asks-eq0-clause-told g c =
+    let s = c.args.session.now in
+    let head = c.args.head.now in
+    let asked = sym c.asks-asks.ensures ∙ c.if-asks-eq0.true in
+    let idle : (k : ℕ) → g.H.Host.running c.args.host.now k ≡ false = λ k. c.requires.started.none asked k in
+    let silent = c.start_all.ensures.silent (λ child runs. absurd (let bad : true ≡ false = sym runs ∙ c.requires.state child ∙ idle child in cc)) in
+    told_started c.args.task.now head.version (workers_in head) s.entries (g.H.Host.running c.args.host.now) (g.H.Host.running c.start_all.new.host) (held_of c.args.lines.now) (held_of c.start_all.new.self) (g.H.Host.spoken c.args.host.now) (g.H.Host.spoken c.start_all.new.host)
+    (sym c.requires.session.counted ∙ asked) idle (λ k. ap (λ bs. unwrap_or (slice_get bs k) []) c.start_all.ensures.kept) (λ child runs. silent child (c.start_all.ensures.state child ∙ runs)) c.requires.told

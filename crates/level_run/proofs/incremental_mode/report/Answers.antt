@@ -7,31 +7,31 @@ use Rattle.level_run.proofs.incremental_mode.report.Goals as goal
 pub returns-in_err-print_head-clause-broken : goal.returns-in_err-print_head-clause-broken
 returns-in_err-print_head-clause-broken g c =
     handed c.from_residual.result c.in_err-print_head.field-0.0 _ c.from_residual.ensures.1
-    (broken_head c.args.task.now c.args.head.now c.in_err-print_head.field-0.0 (g.O.Sink.taken c.args.out.now) (g.O.Sink.taken c.print_head.new.out) c.in_err-print_head.ensures.part)
+    (broken_head c.args.task.now c.args.head.now (g.H.Host.spoken c.args.host.now) c.in_err-print_head.field-0.0 (g.O.Sink.taken c.args.out.now) (g.O.Sink.taken c.print_head.new.out) c.in_err-print_head.ensures.part)
 
 pub returns-in_err-session-clause-broken : goal.returns-in_err-session-clause-broken
 returns-in_err-session-clause-broken g c =
     handed c.from_residual-in_err-session.result Memory _ c.from_residual-in_err-session.ensures.1
-    (broken_behind c.args.task.now c.args.head.now Memory (g.O.Sink.taken c.args.out.now) (g.O.Sink.taken c.print_head.new.out) c.in_ok-print_head.ensures.all refl)
+    (broken_behind c.args.task.now c.args.head.now (g.H.Host.spoken c.args.host.now) Memory (g.O.Sink.taken c.args.out.now) (g.O.Sink.taken c.print_head.new.out) c.in_ok-print_head.ensures.all refl)
 
 pub returns-in_err-outcome-clause-broken : goal.returns-in_err-outcome-clause-broken
 returns-in_err-outcome-clause-broken g c =
     handed c.from_residual-in_err-outcome.result c.in_err-outcome.field-0.0 _ c.from_residual-in_err-outcome.ensures.1
-    (broken_levels c.args.task.now c.args.head.now c.in_err-outcome.field-0.0 (g.O.Sink.taken c.args.out.now) (g.O.Sink.taken c.print_head.new.out) (g.O.Sink.taken c.run_levels.new.out) c.in_ok-print_head.ensures.all c.in_err-outcome.ensures.stopped)
+    (broken_levels c.args.task.now c.args.head.now (g.H.Host.spoken c.run_levels.new.host) c.in_err-outcome.field-0.0 (g.O.Sink.taken c.args.out.now) (g.O.Sink.taken c.print_head.new.out) (g.O.Sink.taken c.run_levels.new.out) c.in_ok-print_head.ensures.all c.in_err-outcome.ensures.stopped)
 
 pub returns-in_err-print_end-clause-broken : goal.returns-in_err-print_end-clause-broken
 returns-in_err-print_end-clause-broken g c =
     let entries = c.run_levels.new.session.entries in
     handed c.from_residual-in_err-print_end.result c.in_err-print_end.field-0.0 _ c.from_residual-in_err-print_end.ensures.1
-    (broken_end c.args.task.now c.args.head.now entries c.in_ok-outcome.outcome c.in_err-print_end.field-0.0 (g.O.Sink.taken c.args.out.now) (g.O.Sink.taken c.run_levels.new.out) (g.O.Sink.taken c.print_end.new.out) c.in_ok-outcome.ensures.run
-    (told_so_far c.args.task.now c.args.head.now entries (g.O.Sink.taken c.args.out.now) (g.O.Sink.taken c.print_head.new.out) (g.O.Sink.taken c.run_levels.new.out) c.in_ok-print_head.ensures.all c.in_ok-outcome.ensures.goes)
+    (broken_end c.args.task.now c.args.head.now (g.H.Host.spoken c.run_levels.new.host) entries c.in_ok-outcome.outcome c.in_err-print_end.field-0.0 (g.O.Sink.taken c.args.out.now) (g.O.Sink.taken c.run_levels.new.out) (g.O.Sink.taken c.print_end.new.out) c.in_ok-outcome.ensures.run c.in_ok-outcome.ensures.talks
+    (told_so_far c.args.task.now c.args.head.now (g.H.Host.spoken c.run_levels.new.host) entries (g.O.Sink.taken c.args.out.now) (g.O.Sink.taken c.print_head.new.out) (g.O.Sink.taken c.run_levels.new.out) c.in_ok-print_head.ensures.all c.in_ok-outcome.ensures.goes)
     c.in_err-print_end.ensures.part)
 
 pub returns-clause-reported : goal.returns-clause-reported
 returns-clause-reported g c =
     let entries = c.run_levels.new.session.entries in
-    reported c.args.task.now c.args.head.now entries c.in_ok-outcome.outcome c.in_ok-outcome.levels c.asks.result (g.O.Sink.taken c.args.out.now) (g.O.Sink.taken c.run_levels.new.out) (g.O.Sink.taken c.print_end.new.out) c.in_ok-outcome.ensures.run c.in_ok-outcome.ensures.levels (c.asks.ensures ∙ c.in_ok-outcome.ensures.asks)
-    (told_so_far c.args.task.now c.args.head.now entries (g.O.Sink.taken c.args.out.now) (g.O.Sink.taken c.print_head.new.out) (g.O.Sink.taken c.run_levels.new.out) c.in_ok-print_head.ensures.all c.in_ok-outcome.ensures.goes)
+    reported c.args.task.now c.args.head.now (g.H.Host.spoken c.run_levels.new.host) entries c.in_ok-outcome.outcome c.in_ok-outcome.levels c.asks.result (g.O.Sink.taken c.args.out.now) (g.O.Sink.taken c.run_levels.new.out) (g.O.Sink.taken c.print_end.new.out) c.in_ok-outcome.ensures.run c.in_ok-outcome.ensures.talks c.in_ok-outcome.ensures.levels (c.asks.ensures ∙ c.in_ok-outcome.ensures.asks)
+    (told_so_far c.args.task.now c.args.head.now (g.H.Host.spoken c.run_levels.new.host) entries (g.O.Sink.taken c.args.out.now) (g.O.Sink.taken c.print_head.new.out) (g.O.Sink.taken c.run_levels.new.out) c.in_ok-print_head.ensures.all c.in_ok-outcome.ensures.goes)
     c.in_ok-print_end.ensures.all
 
 pub returns-clause-sink : goal.returns-clause-sink

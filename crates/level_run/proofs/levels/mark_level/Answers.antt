@@ -1,10 +1,22 @@
-use Rattle.std.proofs.Common.{◌≡◌}
+use Rattle.std.proofs.Common.{◌≡◌, length, refl}
 use Rattle.transcript_text.specs.declared.entry.Entry.TheVariants as entry
 use Rattle.level_run.proofs.Levelling.{level_legal}
-use Rattle.level_run.proofs.Stopping.{err_map, stopped_at}
+use Rattle.level_run.proofs.Stopping.{err_map, handed, stopped_at, stopped_memory}
+use Rattle.level_run.proofs.Telling.{broken_marked, broken_told}
+use Rattle.level_run.specs.declared.fault.RunFault.TheVariants.{Memory}
 use Rattle.level_run.proofs.levels.mark_level.Goals as goal
 
 pub returns-clause-stopped : goal.returns-clause-stopped
-returns-clause-stopped g c = λ task h.
+returns-clause-stopped g c = λ task running kept spoken h told started.
     let s = c.args.session.now in
-    err_map c.print_entry.result _ _ (λ fault misses. stopped_at s.version task s.entries entry.Level fault (g.O.Sink.taken c.args.out.now) (g.O.Sink.taken c.print_entry.new.out) (level_legal s.version task s.entries h.legal) misses) c.print_entry.ensures.part
+    let legal = level_legal s.version task s.entries h.legal in
+    err_map c.print_entry.result _ _ (λ fault misses. stopped_at s.version task s.pools spoken s.entries entry.Level fault (g.O.Sink.taken c.args.out.now) (g.O.Sink.taken c.print_entry.new.out) legal
+    (broken_told task s.version s.pools s.entries (length s.asked) running kept spoken h.counted started told h.legal)
+    (broken_marked task s.version s.pools s.entries (length s.asked) running kept spoken h.counted started told legal)
+    misses) c.print_entry.ensures.part
+
+pub returns-in_err-mark-clause-stopped : goal.returns-in_err-mark-clause-stopped
+returns-in_err-mark-clause-stopped g c = λ task running kept spoken h told started.
+    let s = c.args.session.now in
+    handed c.from_residual.result Memory _ c.from_residual.ensures.1
+    (stopped_memory s.version task s.pools spoken s.entries Memory (g.O.Sink.taken c.args.out.now) h.legal (broken_told task s.version s.pools s.entries (length s.asked) running kept spoken h.counted started told h.legal) refl)

@@ -3,9 +3,12 @@ use Rattle.session_core.specs.Ready.{AreReady}
 use Rattle.transcript_text.specs.declared.entry.Entry.TheVariants as entry
 use Rattle.level_run.proofs.Levelling.{level_of, ready_marked}
 use Rattle.level_run.proofs.Starting.{level_ok}
-use Rattle.level_run.proofs.Stopping.{err_map, goes_then, ok_map, stopped_then}
+use Rattle.level_run.proofs.Stopping.{err_map, goes_then, handed, ok_map, stopped_then}
 use Rattle.level_run.specs.Rolling.{Goes, Stopped}
 use Rattle.level_run.specs.Turns.{EndsBatch}
+use Rattle.level_run.specs.Dialogue.{workers_in}
+use Rattle.level_run.specs.Talking.{IsTold, held_of}
+use Rattle.level_run.proofs.Telling.{told_marked}
 use Rattle.level_run.proofs.levels.run_level.Goals as goal
 
 pub batch-requires-clause-ready : goal.batch-requires-clause-ready
@@ -35,4 +38,23 @@ returns-clause-stopped g c =
     let s = c.args.session.now in
     let m = c.mark_level.new.session in
     let first = subst (λ es. Goes s.entries es (g.O.Sink.taken c.args.out.now) (g.O.Sink.taken c.mark_level.new.out)) (sym c.in_ok-mark_level.ensures.marked.entries) c.in_ok-mark_level.ensures.goes in
-    err_map c.batch.result _ _ (λ fault stopped. stopped_then c.args.head.now.version c.args.task.now s.entries m.entries fault (g.O.Sink.taken c.args.out.now) (g.O.Sink.taken c.mark_level.new.out) (g.O.Sink.taken c.batch.new.out) first stopped) c.batch.ensures.stopped
+    err_map c.batch.result _ _ (λ fault stopped. stopped_then c.args.head.now.version c.args.task.now (workers_in c.args.head.now) (g.H.Host.spoken c.batch.new.host) s.entries m.entries fault (g.O.Sink.taken c.args.out.now) (g.O.Sink.taken c.mark_level.new.out) (g.O.Sink.taken c.batch.new.out) first stopped) c.batch.ensures.stopped
+
+pub batch-requires-clause-told : goal.batch-requires-clause-told
+batch-requires-clause-told g c =
+    let s = c.args.session.now in
+    subst (λ es. IsTold c.args.task.now c.args.head.now.version (workers_in c.args.head.now) es (g.H.Host.running c.args.host.now) (held_of c.args.lines.now) (g.H.Host.spoken c.args.host.now)) (sym c.in_ok-mark_level.ensures.marked.entries)
+    (told_marked c.args.task.now c.args.head.now.version (workers_in c.args.head.now) s.entries (g.H.Host.running c.args.host.now) (held_of c.args.lines.now) (g.H.Host.spoken c.args.host.now) c.requires.told)
+
+pub returns-in_err-mark_level-clause-stopped : goal.returns-in_err-mark_level-clause-stopped
+returns-in_err-mark_level-clause-stopped g c =
+    let s = c.args.session.now in
+    let head = c.args.head.now in
+    let fault = c.in_err-mark_level.field-0.0 in
+    let spoken = g.H.Host.spoken c.args.host.now in
+    let own = subst (λ v. IsTold c.args.task.now v s.pools s.entries (g.H.Host.running c.args.host.now) (held_of c.args.lines.now) spoken) (sym c.requires.head.version)
+    (subst (λ ps. IsTold c.args.task.now head.version ps s.entries (g.H.Host.running c.args.host.now) (held_of c.args.lines.now) spoken) (sym c.requires.head.pools) c.requires.told) in
+    let stopped = c.in_err-mark_level.ensures.stopped c.args.task.now (g.H.Host.running c.args.host.now) (held_of c.args.lines.now) spoken c.requires.session own c.requires.started in
+    handed c.from_residual.result fault _ c.from_residual.ensures.1
+    (subst (λ v. Stopped v c.args.task.now (workers_in head) s.entries fault (g.O.Sink.taken c.args.out.now) (g.O.Sink.taken c.mark_level.new.out) spoken) c.requires.head.version
+    (subst (λ ps. Stopped s.version c.args.task.now ps s.entries fault (g.O.Sink.taken c.args.out.now) (g.O.Sink.taken c.mark_level.new.out) spoken) c.requires.head.pools stopped))

@@ -3,9 +3,12 @@ use Rattle.transcript_text.specs.Legal.{IsLegal}
 use Rattle.level_run.proofs.Counting.{level_counts}
 use Rattle.level_run.proofs.Deciding.{all_asked, decided_dues, decided_outcome, done_of, spent_sure}
 use Rattle.level_run.proofs.Standing.{run_at, run_cut, standing_first, standing_next}
-use Rattle.level_run.proofs.Stopping.{goes_none, goes_then, handed, stopped_then}
+use Rattle.level_run.proofs.Stopping.{goes_none, goes_then, handed, stopped_memory, stopped_then}
+use Rattle.level_run.proofs.Telling.{broken_told, dialogue_told, told_first}
+use Rattle.level_run.specs.Dialogue.{workers_in}
+use Rattle.level_run.specs.Talking.{held_of}
 use Rattle.level_run.specs.Reports.{is_level}
-use Rattle.level_run.specs.Turns.{IsTurn, RunsLevel}
+use Rattle.level_run.specs.Turns.{AreStarted, IsTurn, RunsLevel}
 use Rattle.level_run.specs.declared.ending.Batch.TheVariants.{Done, CallsSpent}
 use Rattle.level_run.proofs.levels.run_levels.Goals as goal
 
@@ -22,7 +25,7 @@ returns-in-Ends-clause-levels g c = c.levels.invariant.counted
 pub returns-in_err-ended-clause-stopped : goal.returns-in_err-ended-clause-stopped
 returns-in_err-ended-clause-stopped g c =
     handed c.from_residual-in_err-ended.result c.in_err-ended.field-0.0 _ c.from_residual-in_err-ended.ensures.1
-    (stopped_then c.args.head.now.version c.args.task.now [] c.levels.session.entries c.in_err-ended.field-0.0 (g.O.Sink.taken c.args.out.now) (g.O.Sink.taken c.levels.out) (g.O.Sink.taken c.run_level.new.out) c.levels.invariant.goes c.in_err-ended.ensures.stopped)
+    (stopped_then c.args.head.now.version c.args.task.now (workers_in c.args.head.now) (g.H.Host.spoken c.run_level.new.host) [] c.levels.session.entries c.in_err-ended.field-0.0 (g.O.Sink.taken c.args.out.now) (g.O.Sink.taken c.levels.out) (g.O.Sink.taken c.run_level.new.out) c.levels.invariant.goes c.in_err-ended.ensures.stopped)
 
 pub overflow_add-levels : goal.overflow_add-levels
 overflow_add-levels g c = omega (arith, c.levels.invariant.fewer, c.levels.invariant.within, c.requires.runnable.fit.calls)
@@ -62,9 +65,36 @@ levels-preserved g c =
       counted = ap (λ n. n + 1) i.counted ∙ sym (level_counts c.args.head.now c.args.task.now s.entries new.entries c.in_ok-ended.ended e.level);
       fewer = omega (arith, i.fewer, all.0, turn.some, ap length c.as_slice-asks.ensures.value);
       within = all.1;
+      told = e.told;
       started = e.started;
       state = e.state;
       goes = goes_then [] s.entries new.entries (g.O.Sink.taken c.args.out.now) (g.O.Sink.taken c.levels.out) (g.O.Sink.taken c.run_level.new.out) i.goes e.goes;
       host = omega (arith, e.host.later, i.host);
       sink = omega (arith, e.sink.later, i.sink);
     }
+
+pub returns-in_err-decision-clause-stopped : goal.returns-in_err-decision-clause-stopped
+returns-in_err-decision-clause-stopped g c =
+    let s = c.levels.session in
+    let i = c.levels.invariant in
+    let head = c.args.head.now in
+    let spoken = g.H.Host.spoken c.levels.host in
+    let legal = subst (λ v. IsLegal v c.args.task.now s.entries) i.head.version i.session.legal in
+    let broken = broken_told c.args.task.now head.version (workers_in head) s.entries (length s.asked) (g.H.Host.running c.levels.host) (held_of c.levels.lines) spoken i.session.counted (subst (λ ps. AreStarted ps (length s.asked) (g.H.Host.running c.levels.host)) i.head.pools i.started) i.told legal in
+    handed c.from_residual.result c.in_err-decision.field-0.0 _ c.from_residual.ensures.1
+    (stopped_then head.version c.args.task.now (workers_in head) spoken [] s.entries c.in_err-decision.field-0.0 (g.O.Sink.taken c.args.out.now) (g.O.Sink.taken c.levels.out) (g.O.Sink.taken c.levels.out) i.goes
+    (stopped_memory head.version c.args.task.now (workers_in head) spoken s.entries c.in_err-decision.field-0.0 (g.O.Sink.taken c.levels.out) legal broken c.in_err-decision.ensures.only))
+
+pub returns-in-Ends-clause-talks : goal.returns-in-Ends-clause-talks
+returns-in-Ends-clause-talks g c =
+    let s = c.levels.session in
+    let i = c.levels.invariant in
+    let head = c.args.head.now in
+    dialogue_told c.args.task.now head.version (workers_in head) s.entries (length s.asked) (g.H.Host.running c.levels.host) (held_of c.levels.lines) (g.H.Host.spoken c.levels.host) i.session.counted (subst (λ ps. AreStarted ps (length s.asked) (g.H.Host.running c.levels.host)) i.head.pools i.started) i.told
+
+pub returns-in-CallsSpent-clause-talks : goal.returns-in-CallsSpent-clause-talks
+returns-in-CallsSpent-clause-talks g c =
+    let s = c.run_level.new.session in
+    let e = c.in_ok-ended.ensures in
+    let head = c.args.head.now in
+    dialogue_told c.args.task.now head.version (workers_in head) s.entries (length s.asked) (g.H.Host.running c.run_level.new.host) (held_of c.run_level.new.lines) (g.H.Host.spoken c.run_level.new.host) e.session.counted (subst (λ ps. AreStarted ps (length s.asked) (g.H.Host.running c.run_level.new.host)) e.head.pools e.started) e.told

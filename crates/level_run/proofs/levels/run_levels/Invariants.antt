@@ -6,6 +6,8 @@ use Rattle.level_run.proofs.levels.run_levels.Given as goal
 use Rattle.level_run.specs.Held.{is_running}
 use Rattle.level_run.specs.Reports.{is_level}
 use Rattle.level_run.specs.Rolling.{Goes}
+use Rattle.level_run.specs.Dialogue.{workers_in}
+use Rattle.level_run.specs.Talking.{IsTold, held_of}
 use Rattle.level_run.specs.Turns.{AreStarted}
 
 -- the run stands between two levels, and its words were written
@@ -19,6 +21,7 @@ invariant-levels g l = record {
   counted : l.levels ≡ count_by is_level l.session.entries;
   fewer : l.levels ≤ length l.session.asked;
   within : length l.session.asked ≤ l.head.calls;
+  told : IsTold l.task l.head.version (workers_in l.head) l.session.entries (g.H.Host.running l.host) (held_of l.lines) (g.H.Host.spoken l.host);
   started : AreStarted l.session.pools (length l.session.asked) (g.H.Host.running l.host);
   state : Same (g.H.Host.running l.host) (is_running l.lines);
   goes : Goes [] l.session.entries (g.O.Sink.taken l.initial.out) (g.O.Sink.taken l.out);

@@ -1,13 +1,14 @@
 use Rattle.std.proofs.Common.{◌≡◌, ◌+◌, ◌++◌, ◌∷◌, ◌<◌, [], List, ap, sym, subst, ◌∙◌, slice_get, Some, None, Option, IfSome, take, OnOk, IfErr, arith, length, true}
 use Rattle.std.specs.Option.{option_copied}
 use Rattle.session_core.proofs.Answered.{there_at}
-use Rattle.session_core.specs.Heard.{number_at}
 use Rattle.session_core.specs.Slots.{IsAwaited}
 use Rattle.session_core.specs.State.{State}
-use Rattle.transcript_text.specs.Legal.{IsLegal, is_open}
-use Rattle.level_run.proofs.Rounding.{answers_legal, awaited_there, blamed_there, heard_more, printed_there, rolling_same, round_legal, started_within}
+use Rattle.transcript_text.specs.Legal.{IsLegal}
+use Rattle.level_run.proofs.Rounding.{answers_legal, awaited_there, front_legal, heard_more, rolling_same, round_legal, started_within}
 use Rattle.level_run.proofs.Stopping.{err_map, goes_one, handed, ok_map, on_ok, stopped_at, stopped_blamed}
+use Rattle.level_run.proofs.Talked.{broken_answered, broken_hearing, may_blame, talking_heard}
 use Rattle.level_run.specs.Rolling.{IsRolling, finished}
+use Rattle.level_run.specs.Talking.{Misheard, held_of}
 use Rattle.level_run.proofs.round.hear_one.Goals as goal
 
 pub hear_child-requires-clause-there : goal.hear_child-requires-clause-there
@@ -39,23 +40,29 @@ hear_child-requires-clause-awaited g c =
     subst (IsAwaited s.slots) (sym is.0) (awaited_there s (g.H.Host.running c.args.host.now) (length s.slots) c.args.place c.requires.rolling c.requires.within there.0 there.1)
 
 pub returns-in_err-hear_child-clause-stopped : goal.returns-in_err-hear_child-clause-stopped
-returns-in_err-hear_child-clause-stopped g c = λ task h.
+returns-in_err-hear_child-clause-stopped g c = λ task h talking.
     let s = c.args.session.now in
     let there = there_at s.slots c.args.place c.requires.within in
     let is = subst (λ o. IfSome o (λ slot. (c.request-child.result.0 ≡ slot.child) × (c.request-child.result.1.now ≡ slot.request))) there.1 c.request-child.ensures in
     let legal = round_legal task s c.requires.rolling.begun h in
     let before = s.entries ++ s.asks ++ take c.args.place (finished s.slots) in
-    let waiting : is_open before (number_at s.slots c.request-child.result.0) ≡ true =
-    ap (λ k. is_open before (number_at s.slots k)) is.0 ∙ blamed_there s (g.H.Host.running c.args.host.now) (length s.slots) c.args.place c.requires.rolling c.requires.within there.0 there.1 s.version task legal in
-    handed c.from_residual.result c.in_err-hear_child.field-0.0 _ c.from_residual.ensures.1
-    (stopped_blamed s.version task before (number_at s.slots c.request-child.result.0) c.in_err-hear_child.field-0.0 (g.O.Sink.taken c.args.out.now) (answers_legal s.version task s.entries s.asks (finished s.slots) c.args.place legal) waiting c.in_err-hear_child.ensures.blamed)
+    let kept = held_of c.args.lines.now in
+    let old = g.H.Host.spoken c.args.host.now in
+    let now = g.H.Host.spoken c.hear_child.new.host in
+    let fault = c.in_err-hear_child.field-0.0 in
+    let misheard = subst (λ d. Misheard s.slots d (kept d) old now fault) is.0 c.in_err-hear_child.ensures.misheard in
+    let front = answers_legal s.version task s.entries s.asks (finished s.slots) c.args.place legal in
+    handed c.from_residual.result fault _ c.from_residual.ensures.1
+    (stopped_blamed s.version task s.pools now before fault (g.O.Sink.taken c.args.out.now) front
+    (broken_hearing task s (g.H.Host.running c.args.host.now) c.args.place c.requires.rolling c.requires.within there.0 there.1 kept old now there.0.child misheard.more c.requires.rolling.begun h front talking misheard.heard)
+    (may_blame task s (g.H.Host.running c.args.host.now) c.args.place c.requires.rolling c.requires.within there.0 there.1 kept old now fault c.requires.rolling.begun h legal talking misheard))
 
 pub unreachable-requires : goal.unreachable-requires
 unreachable-requires g c =
     let s = c.args.session.now in
     let there = there_at s.slots c.args.place c.requires.within in
     let is = subst (λ o. IfSome o (λ slot. (c.request-child.result.0 ≡ slot.child) × (c.request-child.result.1.now ≡ slot.request))) there.1 c.request-child.ensures in
-    let more = heard_more s (g.H.Host.running c.args.host.now) c.args.place c.request-child.result.0 c.hear_child.new.session c.requires.rolling c.requires.within there.0 there.1 is.0 c.in_ok-hear_child.ensures.taken in
+    let more = heard_more s (g.H.Host.running c.args.host.now) c.args.place c.request-child.result.0 c.hear_child.new.session _ _ _ _ c.requires.rolling c.requires.within there.0 there.1 is.0 c.in_ok-hear_child.ensures.taken in
     let copied = subst (λ o. IfSome o (λ slot. option_copied c.answer.result ≡ slot.answer)) more.at c.answer.ensures in
     let bad : option_copied c.answer.result ≡ Some more.entry = copied ∙ more.said in
     let none = ap option_copied c.in-None.is in
@@ -66,7 +73,7 @@ returns-clause-rolling g c =
     let s = c.args.session.now in
     let there = there_at s.slots c.args.place c.requires.within in
     let is = subst (λ o. IfSome o (λ slot. (c.request-child.result.0 ≡ slot.child) × (c.request-child.result.1.now ≡ slot.request))) there.1 c.request-child.ensures in
-    let more = heard_more s (g.H.Host.running c.args.host.now) c.args.place c.request-child.result.0 c.hear_child.new.session c.requires.rolling c.requires.within there.0 there.1 is.0 c.in_ok-hear_child.ensures.taken in
+    let more = heard_more s (g.H.Host.running c.args.host.now) c.args.place c.request-child.result.0 c.hear_child.new.session _ _ _ _ c.requires.rolling c.requires.within there.0 there.1 is.0 c.in_ok-hear_child.ensures.taken in
     on_ok c.print_entry.result _ (rolling_same c.hear_child.new.session (g.H.Host.running c.args.host.now) (g.H.Host.running c.hear_child.new.host) (length c.hear_child.new.session.slots) (c.args.place + 1) c.in_ok-hear_child.ensures.running more.rolling)
 
 pub returns-clause-front : goal.returns-clause-front
@@ -74,7 +81,7 @@ returns-clause-front g c =
     let s = c.args.session.now in
     let there = there_at s.slots c.args.place c.requires.within in
     let is = subst (λ o. IfSome o (λ slot. (c.request-child.result.0 ≡ slot.child) × (c.request-child.result.1.now ≡ slot.request))) there.1 c.request-child.ensures in
-    let more = heard_more s (g.H.Host.running c.args.host.now) c.args.place c.request-child.result.0 c.hear_child.new.session c.requires.rolling c.requires.within there.0 there.1 is.0 c.in_ok-hear_child.ensures.taken in
+    let more = heard_more s (g.H.Host.running c.args.host.now) c.args.place c.request-child.result.0 c.hear_child.new.session _ _ _ _ c.requires.rolling c.requires.within there.0 there.1 is.0 c.in_ok-hear_child.ensures.taken in
     on_ok c.print_entry.result _ more.front
 
 pub returns-clause-goes : goal.returns-clause-goes
@@ -82,19 +89,36 @@ returns-clause-goes g c =
     let s = c.args.session.now in
     let there = there_at s.slots c.args.place c.requires.within in
     let is = subst (λ o. IfSome o (λ slot. (c.request-child.result.0 ≡ slot.child) × (c.request-child.result.1.now ≡ slot.request))) there.1 c.request-child.ensures in
-    let more = heard_more s (g.H.Host.running c.args.host.now) c.args.place c.request-child.result.0 c.hear_child.new.session c.requires.rolling c.requires.within there.0 there.1 is.0 c.in_ok-hear_child.ensures.taken in
+    let more = heard_more s (g.H.Host.running c.args.host.now) c.args.place c.request-child.result.0 c.hear_child.new.session _ _ _ _ c.requires.rolling c.requires.within there.0 there.1 is.0 c.in_ok-hear_child.ensures.taken in
     let copied = subst (λ o. IfSome o (λ slot. option_copied c.answer.result ≡ slot.answer)) more.at c.answer.ensures in
     let is_it : c.in-Some.answer.now ≡ more.entry = let both = sym (ap option_copied c.in-Some.is) ∙ copied ∙ more.said in cc in
     ok_map c.print_entry.result _ _ (λ told. goes_one (s.entries ++ s.asks ++ take c.args.place (finished c.hear_child.new.session.slots)) (s.entries ++ s.asks ++ take (c.args.place + 1) (finished c.hear_child.new.session.slots)) c.in-Some.answer.now (g.O.Sink.taken c.args.out.now) (g.O.Sink.taken c.print_entry.new.out) (more.more ∙ ap (λ e. (s.entries ++ s.asks ++ take c.args.place (finished c.hear_child.new.session.slots)) ++ e ∷ []) (sym is_it)) told) c.print_entry.ensures.all
 
-pub returns-clause-stopped : goal.returns-clause-stopped
-returns-clause-stopped g c = λ task h.
+pub returns-clause-talking : goal.returns-clause-talking
+returns-clause-talking g c = λ task h talking.
     let s = c.args.session.now in
     let there = there_at s.slots c.args.place c.requires.within in
     let is = subst (λ o. IfSome o (λ slot. (c.request-child.result.0 ≡ slot.child) × (c.request-child.result.1.now ≡ slot.request))) there.1 c.request-child.ensures in
-    let more = heard_more s (g.H.Host.running c.args.host.now) c.args.place c.request-child.result.0 c.hear_child.new.session c.requires.rolling c.requires.within there.0 there.1 is.0 c.in_ok-hear_child.ensures.taken in
+    on_ok c.print_entry.result _ (talking_heard task s (g.H.Host.running c.args.host.now) c.args.place c.requires.rolling c.requires.within there.0 there.1 c.request-child.result.0 c.hear_child.new.session (held_of c.args.lines.now) (held_of c.hear_child.new.lines) (g.H.Host.spoken c.args.host.now) (g.H.Host.spoken c.hear_child.new.host) is.0 c.in_ok-hear_child.ensures.taken c.hear_child.ensures.others talking)
+
+pub returns-clause-stopped : goal.returns-clause-stopped
+returns-clause-stopped g c = λ task h talking.
+    let s = c.args.session.now in
+    let there = there_at s.slots c.args.place c.requires.within in
+    let is = subst (λ o. IfSome o (λ slot. (c.request-child.result.0 ≡ slot.child) × (c.request-child.result.1.now ≡ slot.request))) there.1 c.request-child.ensures in
+    let running = g.H.Host.running c.args.host.now in
+    let old = g.H.Host.spoken c.args.host.now in
+    let now = g.H.Host.spoken c.hear_child.new.host in
+    let new = c.hear_child.new.session in
+    let takes = c.in_ok-hear_child.ensures.taken in
+    let more = heard_more s running c.args.place c.request-child.result.0 new _ _ _ _ c.requires.rolling c.requires.within there.0 there.1 is.0 takes in
     let copied = subst (λ o. IfSome o (λ slot. option_copied c.answer.result ≡ slot.answer)) more.at c.answer.ensures in
     let is_it : c.in-Some.answer.now ≡ more.entry = let both = sym (ap option_copied c.in-Some.is) ∙ copied ∙ more.said in cc in
     let before = s.entries ++ s.asks ++ take c.args.place (finished s.slots) in
     let legal = subst (λ e. IsLegal s.version task (before ++ e ∷ [])) (sym is_it) (more.legal task (c.in_ok-hear_child.ensures.kept task h)) in
-    err_map c.print_entry.result _ _ (λ fault misses. stopped_at s.version task before c.in-Some.answer.now fault (g.O.Sink.taken c.args.out.now) (g.O.Sink.taken c.print_entry.new.out) legal misses) c.print_entry.ensures.part
+    let later = talking_heard task s running c.args.place c.requires.rolling c.requires.within there.0 there.1 c.request-child.result.0 new (held_of c.args.lines.now) (held_of c.hear_child.new.lines) old now is.0 takes c.hear_child.ensures.others talking in
+    err_map c.print_entry.result _ _ (λ fault misses. stopped_at s.version task s.pools now before c.in-Some.answer.now fault (g.O.Sink.taken c.args.out.now) (g.O.Sink.taken c.print_entry.new.out) legal
+    (broken_hearing task s running c.args.place c.requires.rolling c.requires.within there.0 there.1 (held_of c.args.lines.now) old now c.request-child.result.0 takes.more c.requires.rolling.begun h (front_legal s.version task before (c.in-Some.answer.now ∷ []) legal) talking takes.heard)
+    (broken_answered task s new c.args.place (held_of c.hear_child.new.lines) now c.in-Some.answer.now c.requires.rolling.begun (c.in_ok-hear_child.ensures.kept task h) _ _ takes.after
+    (more.more ∙ ap (λ es. (s.entries ++ s.asks ++ es) ++ more.entry ∷ []) more.front ∙ ap (λ e. before ++ e ∷ []) (sym is_it)) legal later)
+    misses) c.print_entry.ensures.part

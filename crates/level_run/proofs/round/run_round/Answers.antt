@@ -1,10 +1,13 @@
-use Rattle.std.proofs.Common.{◌≡◌, ◌+◌, ◌++◌, ap, sym, subst, ◌∙◌, length}
+use Rattle.std.proofs.Common.{◌≡◌, ℕ, ◌+◌, ◌++◌, ap, sym, subst, ◌∙◌, length}
 use Rattle.session_core.specs.Session.{begun}
 use Rattle.session_core.specs.State.{State}
 use Rattle.transcript_text.specs.Legal.{IsLegal}
 use Rattle.level_run.proofs.Rounding.{all_heard, count_is, rolling_begun, round_end}
 use Rattle.level_run.proofs.Stopping.{handed, stopped_memory, stopped_then}
+use Rattle.level_run.proofs.Talked.{round_told, talking_begun}
+use Rattle.level_run.proofs.Telling.{broken_run}
 use Rattle.level_run.specs.Rolling.{Goes, IsRolling, Stopped}
+use Rattle.level_run.specs.Talking.{IsTalking, IsTold, held_of}
 use Rattle.level_run.proofs.round.run_round.Goals as goal
 
 pub send_all-requires-clause-rolling : goal.send_all-requires-clause-rolling
@@ -18,17 +21,29 @@ send_all-requires-clause-count g c = count_is c.args.task.now c.args.session.now
 pub hear_all-requires-clause-count : goal.hear_all-requires-clause-count
 hear_all-requires-clause-count g c = count_is c.args.task.now c.args.session.now c.begin_round.new.self c.args.dues.now c.in-Ok.count c.in-Ok.ensures.count c.in-Ok.ensures.begun ∙ sym c.in_ok-send_all.ensures.many
 
+pub returns-in_err-send_all-clause-stopped : goal.returns-in_err-send_all-clause-stopped
+returns-in_err-send_all-clause-stopped g c =
+    let s = c.args.session.now in
+    let task = c.args.task.now in
+    let fault = c.in_err-send_all.field-0.0 in
+    let talking = subst (λ (y : State). IsTalking task y 0 0 (held_of c.args.lines.now) (g.H.Host.spoken c.args.host.now)) (sym c.in-Ok.ensures.begun) (talking_begun task s c.args.dues.now (g.H.Host.running c.args.host.now) (held_of c.args.lines.now) (g.H.Host.spoken c.args.host.now) c.requires.working c.requires.round c.requires.session c.requires.all_run c.requires.told) in
+    handed c.from_residual.result fault _ c.from_residual.ensures.1
+    (subst (λ (y : State). Stopped y.version task y.pools y.entries fault (g.O.Sink.taken c.args.out.now) (g.O.Sink.taken c.send_all.new.out) (g.H.Host.spoken c.send_all.new.host)) c.in-Ok.ensures.begun (c.in_err-send_all.ensures.stopped task (held_of c.args.lines.now) c.in-Ok.ensures.kept talking))
+
 pub returns-in_err-hear_all-clause-stopped : goal.returns-in_err-hear_all-clause-stopped
 returns-in_err-hear_all-clause-stopped g c =
     let s = c.args.session.now in
     let task = c.args.task.now in
     let x = begun task s c.args.dues.now in
     let fault = c.in_err-hear_all.field-0.0 in
-    let first = subst (λ (y : State). Stopped y.version task (y.entries ++ y.asks) fault (g.O.Sink.taken c.send_all.new.out) (g.O.Sink.taken c.hear_all.new.out)) c.in_ok-send_all.ensures.same (c.in_err-hear_all.ensures.stopped task (c.in_ok-send_all.ensures.kept task c.in-Ok.ensures.kept)) in
-    let second = subst (λ (y : State). Stopped y.version task (y.entries ++ y.asks) fault (g.O.Sink.taken c.send_all.new.out) (g.O.Sink.taken c.hear_all.new.out)) c.in-Ok.ensures.begun first in
+    let spoken = g.H.Host.spoken c.hear_all.new.host in
+    let talking = subst (λ (y : State). IsTalking task y 0 0 (held_of c.args.lines.now) (g.H.Host.spoken c.args.host.now)) (sym c.in-Ok.ensures.begun) (talking_begun task s c.args.dues.now (g.H.Host.running c.args.host.now) (held_of c.args.lines.now) (g.H.Host.spoken c.args.host.now) c.requires.working c.requires.round c.requires.session c.requires.all_run c.requires.told) in
+    let sent = c.in_ok-send_all.ensures.talking task (held_of c.args.lines.now) talking in
+    let first = subst (λ (y : State). Stopped y.version task y.pools (y.entries ++ y.asks) fault (g.O.Sink.taken c.send_all.new.out) (g.O.Sink.taken c.hear_all.new.out) spoken) c.in_ok-send_all.ensures.same (c.in_err-hear_all.ensures.stopped task (c.in_ok-send_all.ensures.kept task c.in-Ok.ensures.kept) sent) in
+    let second = subst (λ (y : State). Stopped y.version task y.pools (y.entries ++ y.asks) fault (g.O.Sink.taken c.send_all.new.out) (g.O.Sink.taken c.hear_all.new.out) spoken) c.in-Ok.ensures.begun first in
     let goes = subst (λ (y : State). Goes y.entries (y.entries ++ y.asks) (g.O.Sink.taken c.args.out.now) (g.O.Sink.taken c.send_all.new.out)) c.in-Ok.ensures.begun c.in_ok-send_all.ensures.goes in
     handed c.from_residual-in_err-hear_all.result fault _ c.from_residual-in_err-hear_all.ensures.1
-    (stopped_then s.version task s.entries (x.entries ++ x.asks) fault (g.O.Sink.taken c.args.out.now) (g.O.Sink.taken c.send_all.new.out) (g.O.Sink.taken c.hear_all.new.out) goes second)
+    (stopped_then s.version task s.pools spoken s.entries (x.entries ++ x.asks) fault (g.O.Sink.taken c.args.out.now) (g.O.Sink.taken c.send_all.new.out) (g.O.Sink.taken c.hear_all.new.out) goes second)
 
 pub close_round-requires-clause-answered : goal.close_round-requires-clause-answered
 close_round-requires-clause-answered g c =
@@ -50,16 +65,52 @@ returns-in-Ok-learn-clause-goes g c =
     let end = round_end c.args.task.now c.args.session.now c.begin_round.new.self c.send_all.new.session x c.args.dues.now (g.O.Sink.taken c.args.out.now) (g.O.Sink.taken c.send_all.new.out) (g.O.Sink.taken c.hear_all.new.out) c.in-Ok.ensures.begun c.in_ok-send_all.ensures.same c.in_ok-hear_all.ensures.same c.in_ok-hear_all.ensures.rolling.begun kept all.1 c.in_ok-send_all.ensures.goes c.in_ok-hear_all.ensures.goes in
     subst (λ es. Goes c.args.session.now.entries es (g.O.Sink.taken c.args.out.now) (g.O.Sink.taken c.hear_all.new.out)) (sym (ap (λ (y : State). y.entries) c.in-Ok-learn.ensures.learnt ∙ ap (λ (y : State). y.entries) c.close_round.ensures.after)) end.goes
 
+pub returns-in-Ok-learn-clause-told : goal.returns-in-Ok-learn-clause-told
+returns-in-Ok-learn-clause-told g c =
+    let s = c.args.session.now in
+    let task = c.args.task.now in
+    let x = c.hear_all.new.session in
+    let count = count_is task s c.begin_round.new.self c.args.dues.now c.in-Ok.count c.in-Ok.ensures.count c.in-Ok.ensures.begun ∙ sym c.in_ok-send_all.ensures.many ∙ sym c.in_ok-hear_all.ensures.many in
+    let all = all_heard x (g.H.Host.running c.hear_all.new.host) c.in-Ok.count count c.in_ok-hear_all.ensures.rolling in
+    let talking = subst (λ (y : State). IsTalking task y 0 0 (held_of c.args.lines.now) (g.H.Host.spoken c.args.host.now)) (sym c.in-Ok.ensures.begun) (talking_begun task s c.args.dues.now (g.H.Host.running c.args.host.now) (held_of c.args.lines.now) (g.H.Host.spoken c.args.host.now) c.requires.working c.requires.round c.requires.session c.requires.all_run c.requires.told) in
+    let h = c.in_ok-send_all.ensures.kept task c.in-Ok.ensures.kept in
+    let kept = c.in_ok-hear_all.ensures.kept task h in
+    let answered = c.in_ok-hear_all.ensures.talking task h (c.in_ok-send_all.ensures.talking task (held_of c.args.lines.now) talking) in
+    let ran : (k : ℕ) → g.H.Host.running c.hear_all.new.host k ≡ g.H.Host.running c.args.host.now k = λ k. c.in_ok-hear_all.ensures.running k ∙ c.in_ok-send_all.ensures.running k in
+    let told = round_told task x c.in-Ok.count (g.H.Host.running c.args.host.now) (g.H.Host.running c.hear_all.new.host) (held_of c.args.lines.now) (held_of c.hear_all.new.lines) (g.H.Host.spoken c.hear_all.new.host) c.in_ok-hear_all.ensures.rolling.begun kept count c.in_ok-hear_all.ensures.rolling.asks all.1 ran (λ k off. c.in_ok-hear_all.ensures.idle k (c.in_ok-send_all.ensures.running k ∙ off)) (λ k off. c.requires.told.idle k off) answered in
+    subst (λ (y : State). IsTold task y.version y.pools y.entries (g.H.Host.running c.hear_all.new.host) (held_of c.hear_all.new.lines) (g.H.Host.spoken c.hear_all.new.host)) (sym c.in-Ok-learn.ensures.learnt)
+    (subst (λ (y : State). IsTold task y.version y.pools y.entries (g.H.Host.running c.hear_all.new.host) (held_of c.hear_all.new.lines) (g.H.Host.spoken c.hear_all.new.host)) (sym c.close_round.ensures.after) told)
+
 pub returns-in-Err-learn-clause-stopped : goal.returns-in-Err-learn-clause-stopped
 returns-in-Err-learn-clause-stopped g c =
     let s = c.args.session.now in
     let task = c.args.task.now in
     let x = c.hear_all.new.session in
     let closed = c.close_round.new.self in
-    let all = all_heard x (g.H.Host.running c.hear_all.new.host) c.in-Ok.count (count_is c.args.task.now c.args.session.now c.begin_round.new.self c.args.dues.now c.in-Ok.count c.in-Ok.ensures.count c.in-Ok.ensures.begun ∙ sym c.in_ok-send_all.ensures.many ∙ sym c.in_ok-hear_all.ensures.many) c.in_ok-hear_all.ensures.rolling in
-    let kept = c.in_ok-hear_all.ensures.kept task (c.in_ok-send_all.ensures.kept task c.in-Ok.ensures.kept) in
+    let spoken = g.H.Host.spoken c.hear_all.new.host in
+    let count = count_is task s c.begin_round.new.self c.args.dues.now c.in-Ok.count c.in-Ok.ensures.count c.in-Ok.ensures.begun ∙ sym c.in_ok-send_all.ensures.many ∙ sym c.in_ok-hear_all.ensures.many in
+    let all = all_heard x (g.H.Host.running c.hear_all.new.host) c.in-Ok.count count c.in_ok-hear_all.ensures.rolling in
+    let talking = subst (λ (y : State). IsTalking task y 0 0 (held_of c.args.lines.now) (g.H.Host.spoken c.args.host.now)) (sym c.in-Ok.ensures.begun) (talking_begun task s c.args.dues.now (g.H.Host.running c.args.host.now) (held_of c.args.lines.now) (g.H.Host.spoken c.args.host.now) c.requires.working c.requires.round c.requires.session c.requires.all_run c.requires.told) in
+    let h = c.in_ok-send_all.ensures.kept task c.in-Ok.ensures.kept in
+    let kept = c.in_ok-hear_all.ensures.kept task h in
+    let answered = c.in_ok-hear_all.ensures.talking task h (c.in_ok-send_all.ensures.talking task (held_of c.args.lines.now) talking) in
+    let ran : (k : ℕ) → g.H.Host.running c.hear_all.new.host k ≡ g.H.Host.running c.args.host.now k = λ k. c.in_ok-hear_all.ensures.running k ∙ c.in_ok-send_all.ensures.running k in
+    let told = round_told task x c.in-Ok.count (g.H.Host.running c.args.host.now) (g.H.Host.running c.hear_all.new.host) (held_of c.args.lines.now) (held_of c.hear_all.new.lines) (g.H.Host.spoken c.hear_all.new.host) c.in_ok-hear_all.ensures.rolling.begun kept count c.in_ok-hear_all.ensures.rolling.asks all.1 ran (λ k off. c.in_ok-hear_all.ensures.idle k (c.in_ok-send_all.ensures.running k ∙ off)) (λ k off. c.requires.told.idle k off) answered in
     let end = round_end task s c.begin_round.new.self c.send_all.new.session x c.args.dues.now (g.O.Sink.taken c.args.out.now) (g.O.Sink.taken c.send_all.new.out) (g.O.Sink.taken c.hear_all.new.out) c.in-Ok.ensures.begun c.in_ok-send_all.ensures.same c.in_ok-hear_all.ensures.same c.in_ok-hear_all.ensures.rolling.begun kept all.1 c.in_ok-send_all.ensures.goes c.in_ok-hear_all.ensures.goes in
     let goes = subst (λ es. Goes s.entries es (g.O.Sink.taken c.args.out.now) (g.O.Sink.taken c.hear_all.new.out)) (sym (ap (λ (y : State). y.entries) c.close_round.ensures.after)) end.goes in
-    let legal = subst (λ v. IsLegal v task closed.entries) (ap (λ (y : State). y.version) c.close_round.ensures.after ∙ end.version) (c.close_round.ensures.kept task kept).legal in
-    stopped_then s.version task s.entries closed.entries c.fault_of-in-Err-learn.result (g.O.Sink.taken c.args.out.now) (g.O.Sink.taken c.hear_all.new.out) (g.O.Sink.taken c.hear_all.new.out) goes
-    (stopped_memory s.version task closed.entries c.fault_of-in-Err-learn.result (g.O.Sink.taken c.hear_all.new.out) legal c.fault_of-in-Err-learn.ensures)
+    let version : closed.version ≡ s.version = ap (λ (y : State). y.version) c.close_round.ensures.after ∙ end.version in
+    let pools : closed.pools ≡ s.pools = ap (λ (y : State). y.pools) c.close_round.ensures.after ∙ end.pools in
+    let legal = subst (λ v. IsLegal v task closed.entries) version (c.close_round.ensures.kept task kept).legal in
+    let closed_told = subst (λ (y : State). IsTold task y.version y.pools y.entries (g.H.Host.running c.hear_all.new.host) (held_of c.hear_all.new.lines) spoken) (sym c.close_round.ensures.after) told in
+    let here = subst (λ v. IsTold task v s.pools closed.entries (g.H.Host.running c.hear_all.new.host) (held_of c.hear_all.new.lines) spoken) version (subst (λ ps. IsTold task closed.version ps closed.entries (g.H.Host.running c.hear_all.new.host) (held_of c.hear_all.new.lines) spoken) pools closed_told) in
+    let broken = broken_run task s.version s.pools closed.entries (g.H.Host.running c.hear_all.new.host) (held_of c.hear_all.new.lines) spoken (λ k child p at is. ran child ∙ c.requires.all_run k child p at is) legal here in
+    stopped_then s.version task s.pools spoken s.entries closed.entries c.fault_of-in-Err-learn.result (g.O.Sink.taken c.args.out.now) (g.O.Sink.taken c.hear_all.new.out) (g.O.Sink.taken c.hear_all.new.out) goes
+    (stopped_memory s.version task s.pools spoken closed.entries c.fault_of-in-Err-learn.result (g.O.Sink.taken c.hear_all.new.out) legal broken c.fault_of-in-Err-learn.ensures)
+
+pub returns-in-Err-clause-stopped : goal.returns-in-Err-clause-stopped
+returns-in-Err-clause-stopped g c =
+    let s = c.args.session.now in
+    let task = c.args.task.now in
+    stopped_memory s.version task s.pools (g.H.Host.spoken c.args.host.now) s.entries c.fault_of.result (g.O.Sink.taken c.args.out.now) c.requires.session.legal
+    (broken_run task s.version s.pools s.entries (g.H.Host.running c.args.host.now) (held_of c.args.lines.now) (g.H.Host.spoken c.args.host.now) c.requires.all_run c.requires.session.legal c.requires.told)
+    c.fault_of.ensures

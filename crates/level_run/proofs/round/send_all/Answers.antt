@@ -1,13 +1,40 @@
-use Rattle.std.proofs.Common.{◌++◌, subst, take}
-use Rattle.session_core.specs.State.{State}
-use Rattle.level_run.proofs.Stopping.{handed, stopped_then}
-use Rattle.level_run.specs.Rolling.{Stopped}
+use Rattle.std.proofs.Common.{◌≡◌, ◌+◌, ◌++◌, ◌∙◌, ap, arith, subst, take}
+use Rattle.session_core.specs.State.{State, with_slots}
+use Rattle.level_run.proofs.Stopping.{goes_then, handed, stopped_then}
+use Rattle.level_run.specs.Rolling.{Goes, Stopped}
+use Rattle.level_run.specs.Talking.{IsTalking}
 use Rattle.level_run.proofs.round.send_all.Goals as goal
 
 pub returns-in_err-send_one-clause-stopped : goal.returns-in_err-send_one-clause-stopped
-returns-in_err-send_one-clause-stopped g c = λ task h.
+returns-in_err-send_one-clause-stopped g c = λ task kept h talking.
     let s = c.args.session.now in
     let fault = c.in_err-send_one.field-0.0 in
-    let stopped = subst (λ (x : State). Stopped x.version task (x.entries ++ take c.loop-place.place x.asks) fault (g.O.Sink.taken c.loop-place.out) (g.O.Sink.taken c.send_one.new.out)) c.loop-place.invariant.same (c.in_err-send_one.ensures.stopped task (c.loop-place.invariant.kept task h)) in
+    let spoken = g.H.Host.spoken c.send_one.new.host in
+    let stopped = subst (λ (x : State). Stopped x.version task x.pools (x.entries ++ take c.loop-place.place x.asks) fault (g.O.Sink.taken c.loop-place.out) (g.O.Sink.taken c.send_one.new.out) spoken) c.loop-place.invariant.same (c.in_err-send_one.ensures.stopped task kept (c.loop-place.invariant.kept task h) (c.loop-place.invariant.talking task kept talking)) in
     handed c.from_residual.result fault _ c.from_residual.ensures.1
-    (stopped_then s.version task s.entries (s.entries ++ take c.loop-place.place s.asks) fault (g.O.Sink.taken c.args.out.now) (g.O.Sink.taken c.loop-place.out) (g.O.Sink.taken c.send_one.new.out) c.loop-place.invariant.goes stopped)
+    (stopped_then s.version task s.pools spoken s.entries (s.entries ++ take c.loop-place.place s.asks) fault (g.O.Sink.taken c.args.out.now) (g.O.Sink.taken c.loop-place.out) (g.O.Sink.taken c.send_one.new.out) c.loop-place.invariant.goes stopped)
+
+pub loop-place-preserved : goal.loop-place-preserved
+loop-place-preserved g c =
+    let i = c.loop-place.invariant in
+    let e = c.in_ok-send_one.ensures in
+    let new = c.send_one.new.session in
+    let s = c.args.session.now in
+    let place = c.loop-place.place in
+    let more = subst (λ (x : State). Goes (x.entries ++ take place x.asks) (x.entries ++ take (place + 1) x.asks) (g.O.Sink.taken c.loop-place.out) (g.O.Sink.taken c.send_one.new.out)) i.same e.goes in
+    record {
+      same = e.same ∙ ap (λ (x : State). with_slots x new.slots new.failed) i.same;
+      rolling = e.rolling;
+      many = e.many ∙ i.many;
+      goes = goes_then s.entries (s.entries ++ take place s.asks) (s.entries ++ take (place + 1) s.asks) (g.O.Sink.taken c.args.out.now) (g.O.Sink.taken c.loop-place.out) (g.O.Sink.taken c.send_one.new.out) i.goes more;
+      talking = λ task kept t. e.talking task kept (i.talking task kept t);
+      kept = λ task h. e.kept task (i.kept task h);
+      running = λ k. e.running k ∙ i.running k;
+      host = omega (arith, e.host.later, i.host);
+      sink = omega (arith, e.sink.later, i.sink);
+    }
+
+pub returns-clause-talking : goal.returns-clause-talking
+returns-clause-talking g c = λ task kept t.
+    let all : c.loop-place.place ≡ c.args.count = omega (arith, c.loop-place.auto.place-end, c.loop-place-test.false) in
+    subst (λ n. IsTalking task c.loop-place.session n 0 kept (g.H.Host.spoken c.loop-place.host)) all (c.loop-place.invariant.talking task kept t)

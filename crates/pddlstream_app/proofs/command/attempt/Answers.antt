@@ -10,22 +10,22 @@ use Rattle.pddlstream_app.proofs.command.attempt.Goals as goal
 pub returns-in_err-task-clause-stopped : goal.returns-in_err-task-clause-stopped
 returns-in_err-task-clause-stopped g c =
     handed c.from_residual.result c.in_err-task.field-0.0 _ c.from_residual.ensures.1
-    (stopped_reading (map string_bytes c.args.words.now) (g.F.Files.told c.args.files.now) _ (held c.in-Some.words) (sym c.in-Some.ensures.value) (g.O.Sink.taken c.args.out.now) c.in_err-task.field-0.0 c.in_err-task.ensures.stop)
+    (stopped_reading (map string_bytes c.args.words.now) (g.F.Files.told c.args.files.now) _ _ (held c.in-Some.words) (sym c.in-Some.ensures.value) (g.O.Sink.taken c.args.out.now) c.in_err-task.field-0.0 c.in_err-task.ensures.stop)
 
 pub returns-in_err-head-clause-stopped : goal.returns-in_err-head-clause-stopped
 returns-in_err-head-clause-stopped g c =
     handed c.from_residual-in_err-head.result (stop.Run fault.Memory) _ c.from_residual-in_err-head.ensures.1
-    (stopped_early (map string_bytes c.args.words.now) (g.F.Files.told c.args.files.now) _ (g.O.Sink.taken c.args.out.now) (stop.Run fault.Memory) refl)
+    (stopped_early (map string_bytes c.args.words.now) (g.F.Files.told c.args.files.now) _ _ (g.O.Sink.taken c.args.out.now) (stop.Run fault.Memory) refl)
 
 pub incremental-requires-clause-runnable : goal.incremental-requires-clause-runnable
 incremental-requires-clause-runnable g c = runnable_head c.in_ok-task.task c.in-Some.words c.in_ok-head.head c.in_ok-head.ensures.head c.in-Some.ensures.within
 
 pub returns-in-Ok-clause-completed : goal.returns-in-Ok-clause-completed
 returns-in-Ok-clause-completed g c =
-    completed (map string_bytes c.args.words.now) (g.F.Files.told c.args.files.now) (Unit {0}) (held c.in-Some.words) (sym c.in-Some.ensures.value) c.in_ok-task.task c.in_ok-task.ensures.task c.in_ok-task.ensures.fit c.in_ok-head.head c.in_ok-head.ensures.head
+    completed (map string_bytes c.args.words.now) (g.F.Files.told c.args.files.now) (Unit {0}) (g.H.Host.spoken c.incremental.new.host) (held c.in-Some.words) (sym c.in-Some.ensures.value) c.in_ok-task.task c.in_ok-task.ensures.task c.in_ok-task.ensures.fit c.in_ok-head.head c.in_ok-head.ensures.head
     (g.O.Sink.taken c.args.out.now) (g.O.Sink.taken c.incremental.new.out) c.in-Ok.ran c.status_of.result c.in-Ok.ensures.reported c.status_of.ensures
 
 pub returns-clause-stopped : goal.returns-clause-stopped
 returns-clause-stopped g c =
-    stopped_running (map string_bytes c.args.words.now) (g.F.Files.told c.args.files.now) _ (held c.in-Some.words) (sym c.in-Some.ensures.value) c.in_ok-task.task c.in_ok-task.ensures.task c.in_ok-task.ensures.fit c.in_ok-head.head c.in_ok-head.ensures.head
+    stopped_running (map string_bytes c.args.words.now) (g.F.Files.told c.args.files.now) _ _ (held c.in-Some.words) (sym c.in-Some.ensures.value) c.in_ok-task.task c.in_ok-task.ensures.task c.in_ok-task.ensures.fit c.in_ok-head.head c.in_ok-head.ensures.head
     (g.O.Sink.taken c.args.out.now) (g.O.Sink.taken c.incremental.new.out) c.in-Err.fault c.in-Err.ensures.broken

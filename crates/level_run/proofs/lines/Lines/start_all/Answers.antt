@@ -14,6 +14,8 @@ loop-pool-preserved g c =
       state = done.state;
       done = pools_done pools c.requires.pools i c.pool-item.result at (is_running c.loop-pool.self) (is_running c.start_pool.new.self) done.running done.others c.loop-pool.invariant.done;
       left = pools_left pools c.requires.pools i c.pool-item.result at (is_running c.loop-pool.self) (is_running c.start_pool.new.self) done.running done.others c.loop-pool.invariant.left;
+      silent = λ before. done.silent (c.loop-pool.invariant.silent before);
+      kept = done.kept ∙ c.loop-pool.invariant.kept;
       host = omega (arith, done.cause.later, c.loop-pool.invariant.host);
     }
 

@@ -1,5 +1,6 @@
 use Rattle.std.proofs.Common.{◌≡◌, ◌<◌, ◌≤◌, ℕ, false}
 use Rattle.level_run.proofs.lines.Lines.stop_all.Given as goal
+use Rattle.io_world.specs.Talks.{Same}
 use Rattle.level_run.specs.Held.{is_running}
 
 -- the first children don't run, and the others run as they did
@@ -8,5 +9,6 @@ invariant-loop-child g l = record {
   stopped : (k : ℕ) → k < l.child → g.H.Host.running l.host k ≡ false;
   others : (k : ℕ) → l.child ≤ k → g.H.Host.running l.host k ≡ is_running l.self k;
   most : l.child ≤ 17;
+  spoken : Same (g.H.Host.spoken l.initial.host) (g.H.Host.spoken l.host);
   host : g.H.Host.faults l.initial.host ≤ g.H.Host.faults l.host;
 }
