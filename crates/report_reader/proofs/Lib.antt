@@ -1,0 +1,11 @@
+pub mod Barred
+pub mod Clear
+pub mod Cutting
+pub mod Decimals
+pub mod Dots
+pub mod Ends
+pub mod Parts
+pub mod Reached
+pub mod Rows
+pub mod Stopping
+pub mod Worded

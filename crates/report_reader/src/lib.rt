@@ -1,0 +1,24 @@
+//! Reports that are read back from their text.
+#![tactic(auto)]
+
+mod body_line;
+mod body_reader;
+mod body_word;
+mod bytes;
+mod calls;
+mod fields;
+mod head_reader;
+mod lines;
+mod numbers;
+mod objects;
+mod outcome_reader;
+mod reader;
+mod tuples;
+mod whole;
+
+pub use reader::read_report;
+
+#[cfg(test)]
+mod form_tests;
+#[cfg(test)]
+mod tests;

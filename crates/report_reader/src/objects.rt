@@ -1,0 +1,144 @@
+//! The names, values and objects that a report may show.
+ghost use Rattle.std.specs.Prelude.{◌≡◌, ◌↔◌, true, IfOk, position};
+ghost use Rattle.std.specs.List.{list_all};
+ghost use Rattle.gen_lines.specs.Reply.{is_value, is_value_byte};
+ghost use Rattle.task_model.specs.Fit.{is_name, is_name_byte};
+ghost use Rattle.transcript_text.specs.Forms.{IsGenerated, IsNumber, IsObject, IsPlaceholder};
+ghost use Rattle.report_reader.specs.Objects.{AreTwoPlaces, IsArgument, IsPlaceNumber, is_dot};
+
+use crate::bytes::{before, behind};
+use crate::numbers::number_in;
+use std::alloc::{AllocError, Global};
+use task_model::Name;
+
+/// The longest name, in bytes.
+const NAME_BYTES: usize = 255;
+
+/// The longest value, in bytes.
+const VALUE_BYTES: usize = 64;
+
+/// The largest number.
+const LARGEST: u64 = 4_294_967_295;
+
+/// Which objects may stand in a call.
+#[derive(Clone, Copy, PartialEq, Eq, Debug)]
+pub(crate) enum Objects {
+    /// Declared and generated ones.
+    Real,
+    /// Those, and placeholders.
+    Supposed,
+}
+
+/// Whether this is a name in lower case.
+pub(crate) fn is_name(field: &[u8]) -> bool
+    ensures { result ≡ is_name field.now }
+{
+    match field.split_first() {
+        Some((first, rest)) => {
+            first.is_ascii_lowercase() && are_name_bytes(rest) && field.len() <= NAME_BYTES
+        }
+        None => false,
+    }
+}
+
+fn are_name_bytes(field: &[u8]) -> bool
+    ensures { result ≡ list_all is_name_byte field.now }
+{
+    field.iter().all(|b| is_name_byte(*b))
+}
+
+fn is_name_byte(b: u8) -> bool
+    ensures { result ≡ is_name_byte b }
+{
+    matches!(b, b'a'..=b'z' | b'0'..=b'9' | b'-' | b'_')
+}
+
+/// Whether this is a value of a generator.
+#[tactic(auto, unfolding(gen_lines::specs::Reply::is_value))]
+pub(crate) fn is_value(field: &[u8]) -> bool
+    ensures { result ≡ is_value field.now }
+{
+    !field.is_empty() && field.len() <= VALUE_BYTES && are_value_bytes(field)
+}
+
+fn are_value_bytes(field: &[u8]) -> bool
+    ensures { result ≡ list_all is_value_byte field.now }
+{
+    field.iter().all(|b| is_value_byte(*b))
+}
+
+fn is_value_byte(b: u8) -> bool
+    ensures { result ≡ is_value_byte b }
+{
+    matches!(b, b'!'..=b'~') && !matches!(b, b'(' | b')' | b';' | b'#' | b'@' | b'|')
+}
+
+/// Whether this is `#` and a value.
+fn is_generated(field: &[u8]) -> bool
+    ensures { (result ≡ true) ↔ IsGenerated field.now }
+{
+    match field.split_first() {
+        Some((first, value)) => *first == b'#' && is_value(value),
+        None => false,
+    }
+}
+
+/// Whether this is a declared or a generated object.
+pub(crate) fn is_object(field: &[u8]) -> bool
+    ensures { (result ≡ true) ↔ IsObject field.now }
+{
+    is_name(field) || is_generated(field)
+}
+
+/// Whether this is `@j.i`, both numbers from 1.
+fn is_placeholder(field: &[u8]) -> bool
+    ensures { (result ≡ true) ↔ IsPlaceholder field.now }
+{
+    match field.split_first() {
+        Some((first, rest)) => *first == b'@' && are_two_places(rest),
+        None => false,
+    }
+}
+
+/// Whether this is two numbers from 1 with a dot between them.
+fn are_two_places(field: &[u8]) -> bool
+    ensures { (result ≡ true) ↔ AreTwoPlaces field.now }
+{
+    let Some(dot) = first_dot(field) else {
+        return false;
+    };
+    is_place(before(field, dot)) && is_place(behind(field, dot + 1))
+}
+
+fn first_dot(field: &[u8]) -> Option<usize>
+    ensures { result ≡ position is_dot field.now }
+{
+    field.iter().position(|b| *b == b'.')
+}
+
+/// Whether this is a number from 1.
+fn is_place(field: &[u8]) -> bool
+    ensures { (result ≡ true) ↔ IsPlaceNumber field.now }
+{
+    match number_in(field) {
+        Some(number) => number >= 1 && number <= LARGEST,
+        None => false,
+    }
+}
+
+/// Whether this may stand for an object.
+pub(crate) fn is_argument(field: &[u8], objects: Objects) -> bool
+    ensures { (result ≡ true) ↔ IsArgument objects field.now }
+{
+    match objects {
+        Objects::Real => is_object(field),
+        Objects::Supposed => is_object(field) || is_placeholder(field),
+    }
+}
+
+/// The field as a name.
+pub(crate) fn copied(alloc: Global, field: &[u8]) -> Result<Name, AllocError>
+    ensures { IfOk result (λ name. name ≡ field.now) }
+{
+    Ok(Name::new(Vec::from_slice(alloc, field)?))
+}
