@@ -58,18 +58,20 @@ fn stream(alloc: Global, outputs: &[u32]) -> Result<Stream, AllocError> {
 }
 
 fn streams(alloc: Global) -> Result<Seq<Stream>, AllocError> {
-    let test = stream(alloc, &[])?;
-    let maker = stream(alloc, &[0])?;
-    Ok(Seq::from_vec(vec![in alloc; test, maker]?))
+    let mut streams = Vec::new(alloc);
+    streams.push(stream(alloc, &[])?)?;
+    streams.push(stream(alloc, &[0])?)?;
+    Ok(Seq::from_vec(streams))
 }
 
-fn task(alloc: Global) -> Result<Task, AllocError> {
+fn task(alloc: Global) -> Result<Box<Task>, AllocError> {
     let streams = streams(alloc)?;
-    Ok(Task {
+    let task = Task {
         domain: domain(alloc),
         problem: problem(alloc),
         streams,
-    })
+    };
+    Ok(Box::new(alloc, task)?)
 }
 
 fn instance(alloc: Global, stream: u32) -> Instance {
@@ -79,69 +81,89 @@ fn instance(alloc: Global, stream: u32) -> Instance {
     }
 }
 
-/// Notes a tuple of the instance.
-fn note(queue: &mut Queue, instance: &Instance) -> Result<(), AllocError> {
-    if queue.yields(instance) < 4_294_967_295 {
-        queue.note_got(instance)?;
+/// What the instance of a stream was told.
+#[derive(Clone, Copy)]
+enum Told {
+    Yielded(u32),
+    Ended(u32),
+}
+
+use Told::{Ended, Yielded};
+
+fn note(alloc: Global, queue: &mut Queue, told: Told) -> Result<(), AllocError> {
+    match told {
+        Yielded(stream) => {
+            let instance = instance(alloc, stream);
+            if queue.yields(&instance) < 4_294_967_295 {
+                queue.note_got(&instance)?;
+            }
+            Ok(())
+        }
+        Ended(stream) => queue.note_end(&instance(alloc, stream)),
     }
-    Ok(())
+}
+
+/// The queue in which the instances were told this.
+fn queue_of(alloc: Global, task: &Task, told: &[Told]) -> Result<Box<Queue>, AllocError> {
+    let mut queue = Box::new(alloc, Queue::new(alloc, task)?)?;
+    for each in told {
+        note(alloc, &mut queue, *each)?;
+    }
+    Ok(queue)
+}
+
+/// Whether the instance of a stream has finished once the instances were told this.
+fn is_finished(alloc: Global, told: &[Told], stream: u32) -> Result<bool, AllocError> {
+    let task = task(alloc)?;
+    let queue = queue_of(alloc, &task, told)?;
+    Ok(queue.finished(&task, &instance(alloc, stream)))
 }
 
 #[test]
 fn a_test_that_yields_is_finished(rt: HostRuntime) -> Result<(), Fail> {
-    let task = task(rt.alloc())?;
-    let test = instance(rt.alloc(), TEST);
-    let mut queue = Queue::new(rt.alloc(), &task)?;
-    assert!(rt; !queue.finished(&task, &test));
-    note(&mut queue, &test)?;
-    assert!(rt; queue.finished(&task, &test));
+    assert!(rt; !is_finished(rt.alloc(), &[], TEST)?);
+    assert!(rt; is_finished(rt.alloc(), &[Yielded(TEST)], TEST)?);
     Ok(())
 }
 
 #[test]
 fn a_stream_with_outputs_goes_on_until_it_ends(rt: HostRuntime) -> Result<(), Fail> {
-    let task = task(rt.alloc())?;
-    let maker = instance(rt.alloc(), MAKER);
-    let mut queue = Queue::new(rt.alloc(), &task)?;
-    note(&mut queue, &maker)?;
-    assert!(rt; !queue.finished(&task, &maker));
-    queue.note_end(&maker)?;
-    assert!(rt; queue.finished(&task, &maker));
+    assert!(rt; !is_finished(rt.alloc(), &[Yielded(MAKER)], MAKER)?);
+    assert!(rt; is_finished(rt.alloc(), &[Yielded(MAKER), Ended(MAKER)], MAKER)?);
     Ok(())
+}
+
+/// How many tuples the instance of a stream gave once the instances were told this.
+fn count(alloc: Global, told: &[Told], stream: u32) -> Result<u32, AllocError> {
+    let task = task(alloc)?;
+    let queue = queue_of(alloc, &task, told)?;
+    Ok(queue.yields(&instance(alloc, stream)))
 }
 
 #[test]
 fn tuples_are_counted_for_each_instance(rt: HostRuntime) -> Result<(), Fail> {
-    let task = task(rt.alloc())?;
-    let test = instance(rt.alloc(), TEST);
-    let maker = instance(rt.alloc(), MAKER);
-    let mut queue = Queue::new(rt.alloc(), &task)?;
-    note(&mut queue, &maker)?;
-    note(&mut queue, &test)?;
-    note(&mut queue, &maker)?;
-    assert_eq!(rt; queue.yields(&maker), 2);
-    assert_eq!(rt; queue.yields(&test), 1);
+    let told = [Yielded(MAKER), Yielded(TEST), Yielded(MAKER)];
+    assert_eq!(rt; count(rt.alloc(), &told, MAKER)?, 2);
+    assert_eq!(rt; count(rt.alloc(), &told, TEST)?, 1);
     Ok(())
 }
 
 #[test]
 fn of_a_stream_that_is_not_there_nothing_has_finished(rt: HostRuntime) -> Result<(), Fail> {
-    let task = task(rt.alloc())?;
-    let other = instance(rt.alloc(), 2);
-    let mut queue = Queue::new(rt.alloc(), &task)?;
-    queue.note_end(&other)?;
-    assert!(rt; !queue.finished(&task, &other));
+    assert!(rt; !is_finished(rt.alloc(), &[Ended(2)], 2)?);
     Ok(())
+}
+
+/// The turn of a copy of an ask of this turn, and whether its instance is equal.
+fn copied(alloc: Global, turn: u32) -> Result<(u32, bool), AllocError> {
+    let instance = instance(alloc, MAKER);
+    let due = Due { instance, turn };
+    let copy = due.copy()?;
+    Ok((copy.turn, copy.instance == due.instance))
 }
 
 #[test]
 fn a_copy_of_an_ask_is_equal(rt: HostRuntime) -> Result<(), Fail> {
-    let due = Due {
-        instance: instance(rt.alloc(), MAKER),
-        turn: 3,
-    };
-    let copy = due.copy()?;
-    assert_eq!(rt; copy.instance, due.instance);
-    assert_eq!(rt; copy.turn, 3);
+    assert_eq!(rt; copied(rt.alloc(), 3)?, (3, true));
     Ok(())
 }

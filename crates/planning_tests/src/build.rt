@@ -5,7 +5,7 @@ ghost use Rattle.task_model.specs.Condition as conditions;
 use std::alloc::{AllocError, Global};
 use task_model::{
     Action, Declared, Domain, Fact, Formula, FormulaNode, Kind, Name, Obj, Pattern, Problem, Row,
-    Seq, Signature, Sort, Stream, Term,
+    Seq, Signature, Sort, Stream, Task, Term,
 };
 
 /// The empty list.
@@ -177,5 +177,18 @@ pub fn empty_action(alloc: Global) -> Action
         adds: none(alloc),
         deletes: none(alloc),
         costs: none(alloc),
+    }
+}
+
+/// The task of an empty domain, an empty problem and no streams, whose fields are to be filled.
+pub fn empty_task(alloc: Global) -> Task
+    ensures domain { result.domain ≡ record { name = []; sorts = []; predicates = []; functions = []; constants = []; derived = []; actions = []; roles = [] } }
+    ensures problem { result.problem ≡ record { name = []; objects = []; init = []; values = []; goal = conditions.All conditions.none; metric = false } }
+    ensures streams { result.streams ≡ [] }
+{
+    Task {
+        domain: empty_domain(alloc),
+        problem: empty_problem(alloc),
+        streams: none(alloc),
     }
 }

@@ -3,17 +3,16 @@ ghost use Rattle.std.specs.Prelude.{◌<◌, length};
 ghost use Rattle.task_model.specs.Fit.{IsFit};
 
 use crate::build::{
-    atom, both, declared, empty_domain, empty_problem, exists, fact, name, none, not, signature,
-    sort,
+    atom, both, declared, empty_task, exists, fact, name, none, not, signature, sort,
 };
+use crate::fault::Fault;
+use crate::known::known;
 use fact_store::Facts;
-use fit_check::is_fit;
 use formula_eval::{Env, holds};
 use plan_check::initial;
 use std::alloc::{AllocError, Global};
-use std::test::Fail;
 use task_model::{
-    Declared, Derived, Domain, Formula, Kind, Obj, Problem, Role, Seq, Signature, Sort, Task, Term,
+    Derived, Domain, Formula, Kind, Obj, Problem, Role, Seq, Signature, Sort, Task, Term,
 };
 
 /// (seen ?x), which is static.
@@ -37,16 +36,15 @@ fn item(alloc: Global, pred: u32, body: Formula) -> Derived {
     }
 }
 
-fn found(alloc: Global) -> Result<Derived, AllocError> {
+/// That some object of this type is seen.
+fn some_seen(alloc: Global, sort: u32) -> Result<Formula, AllocError> {
     let seen = atom(alloc, SEEN, &[Term::Slot(0)])?;
-    let body = exists(alloc, 0, &[OBJECT], seen)?;
-    Ok(item(alloc, FOUND, body))
+    exists(alloc, 0, &[sort], seen)
 }
 
-fn hidden(alloc: Global) -> Result<Derived, AllocError> {
+fn not_found(alloc: Global) -> Result<Formula, AllocError> {
     let found = atom(alloc, FOUND, &[])?;
-    let body = not(alloc, found)?;
-    Ok(item(alloc, HIDDEN, body))
+    not(alloc, found)
 }
 
 fn first_unseen(alloc: Global) -> Result<Formula, AllocError> {
@@ -54,26 +52,30 @@ fn first_unseen(alloc: Global) -> Result<Formula, AllocError> {
     not(alloc, seen)
 }
 
-fn apart(alloc: Global) -> Result<Derived, AllocError> {
+fn only_last_seen(alloc: Global) -> Result<Formula, AllocError> {
     let first = first_unseen(alloc)?;
     let last = atom(alloc, SEEN, &[Term::Slot(15)])?;
-    let body = both(alloc, first, last)?;
-    let body = exists(alloc, 0, &[OBJECT; 16], body)?;
-    Ok(item(alloc, APART, body))
+    both(alloc, first, last)
+}
+
+fn some_apart(alloc: Global) -> Result<Formula, AllocError> {
+    let body = only_last_seen(alloc)?;
+    exists(alloc, 0, &[OBJECT; 16], body)
 }
 
 fn items(alloc: Global) -> Result<Seq<Derived>, AllocError> {
     let mut items = Vec::new(alloc);
-    items.push(found(alloc)?)?;
-    items.push(hidden(alloc)?)?;
-    items.push(apart(alloc)?)?;
+    items.push(item(alloc, FOUND, some_seen(alloc, OBJECT)?))?;
+    items.push(item(alloc, HIDDEN, not_found(alloc)?))?;
+    items.push(item(alloc, APART, some_apart(alloc)?))?;
     Ok(Seq::from_vec(items))
 }
 
 fn sorts(alloc: Global) -> Result<Seq<Sort>, AllocError> {
-    let object = sort(alloc, "object", &[])?;
-    let block = sort(alloc, "block", &[OBJECT])?;
-    Ok(Seq::from_vec(vec![in alloc; object, block]?))
+    let mut sorts = Vec::new(alloc);
+    sorts.push(sort(alloc, "object", &[])?)?;
+    sorts.push(sort(alloc, "block", &[OBJECT])?)?;
+    Ok(Seq::from_vec(sorts))
 }
 
 fn predicates(alloc: Global) -> Result<Seq<Signature>, AllocError> {
@@ -90,49 +92,49 @@ fn roles(alloc: Global) -> Result<Seq<Role>, AllocError> {
     Ok(Seq::from_vec(Vec::from_slice(alloc, &roles)?))
 }
 
-fn fill_lists(domain: &mut Domain, alloc: Global) -> Result<(), AllocError> {
+fn fill_domain(domain: &mut Domain, alloc: Global) -> Result<(), AllocError> {
     domain.name = name(alloc, "world")?;
     domain.sorts = sorts(alloc)?;
     domain.predicates = predicates(alloc)?;
-    Ok(())
-}
-
-fn fill_rules(domain: &mut Domain, alloc: Global) -> Result<(), AllocError> {
     domain.derived = items(alloc)?;
     domain.roles = roles(alloc)?;
     Ok(())
 }
 
-fn domain(alloc: Global) -> Result<Domain, AllocError> {
-    let mut domain = empty_domain(alloc);
-    fill_lists(&mut domain, alloc)?;
-    fill_rules(&mut domain, alloc)?;
-    Ok(domain)
+/// What the goal says.
+#[derive(Clone, Copy)]
+enum Goal {
+    /// The derived predicate of this number.
+    Derived(u32),
+    /// Some object of this type is seen.
+    SomeSeen(u32),
+    /// The cup is seen.
+    CupSeen,
 }
 
-fn objects(alloc: Global) -> Result<Seq<Declared>, AllocError> {
-    let cup = declared(alloc, "cup", &[BLOCK])?;
-    Ok(Seq::from_vec(vec![in alloc; cup]?))
+fn goal_of(alloc: Global, goal: Goal) -> Result<Formula, AllocError> {
+    match goal {
+        Goal::Derived(pred) => atom(alloc, pred, &[]),
+        Goal::SomeSeen(sort) => some_seen(alloc, sort),
+        Goal::CupSeen => atom(alloc, SEEN, &[Term::Object(Obj::new(0))]),
+    }
 }
 
-fn problem(alloc: Global, goal: Formula) -> Result<Problem, AllocError> {
-    let mut problem = empty_problem(alloc);
+fn fill_problem(problem: &mut Problem, alloc: Global, goal: Goal) -> Result<(), AllocError> {
     problem.name = name(alloc, "one")?;
-    problem.objects = objects(alloc)?;
-    problem.goal = goal;
-    Ok(problem)
+    let mut objects = Vec::new(alloc);
+    objects.push(declared(alloc, "cup", &[BLOCK])?)?;
+    problem.objects = Seq::from_vec(objects);
+    problem.goal = goal_of(alloc, goal)?;
+    Ok(())
 }
 
 /// A block `cup`, of which nothing is known, and this goal.
-fn task(alloc: Global, goal: Formula) -> Result<Task, AllocError> {
-    let problem = problem(alloc, goal)?;
-    let domain = domain(alloc)?;
-    let streams = none(alloc);
-    Ok(Task {
-        domain,
-        problem,
-        streams,
-    })
+fn task(alloc: Global, goal: Goal) -> Result<Box<Task>, AllocError> {
+    let mut task = Box::new(alloc, empty_task(alloc))?;
+    fill_domain(&mut task.domain, alloc)?;
+    fill_problem(&mut task.problem, alloc, goal)?;
+    Ok(task)
 }
 
 /// Makes the object `#v` known, which is seen and no block.
@@ -140,10 +142,8 @@ fn generate(facts: &mut Facts, alloc: Global) -> Result<(), AllocError>
     requires { length facts.old.known.names < 99 }
 {
     let object = facts.add_name(name(alloc, "#v")?)?;
-    let typed = fact(alloc, Kind::Sort, OBJECT, &[object])?;
-    facts.add(typed)?;
-    let seen = fact(alloc, Kind::Predicate, SEEN, &[object])?;
-    facts.add(seen)?;
+    facts.add(fact(alloc, Kind::Sort, OBJECT, &[object])?)?;
+    facts.add(fact(alloc, Kind::Predicate, SEEN, &[object])?)?;
     Ok(())
 }
 
@@ -171,45 +171,40 @@ fn before_and_after(
     Ok((before, after))
 }
 
-/// The same for what is known of the task at first; None where it isn't fit.
-fn judge(alloc: Global, task: &Task) -> Result<Option<(bool, bool)>, AllocError> {
-    if task.problem.objects.len() > 9 || !is_fit(alloc, task)? {
-        return Ok(None);
+/// The same for what is known of the task at first.
+fn judge(alloc: Global, task: &Task) -> Result<(bool, bool), Fault> {
+    if task.problem.objects.len() > 9 {
+        return Err(Fault::Unfit);
     }
-    let mut facts = Facts::new(alloc, task)?;
-    Ok(Some(before_and_after(alloc, task, &mut facts)?))
+    let mut facts = known(alloc, task)?;
+    Ok(before_and_after(alloc, task, &mut facts)?)
 }
 
-fn judged(alloc: Global, goal: Formula) -> Result<Option<(bool, bool)>, AllocError> {
+fn judged(alloc: Global, goal: Goal) -> Result<(bool, bool), Fault> {
     let task = task(alloc, goal)?;
     judge(alloc, &task)
 }
 
 #[test]
-fn derived_bodies_range_over_generated_objects(rt: HostRuntime) -> Result<(), Fail> {
-    let found = atom(rt.alloc(), FOUND, &[])?;
-    assert_eq!(rt; judged(rt.alloc(), found)?, Some((false, true)));
-    let hidden = atom(rt.alloc(), HIDDEN, &[])?;
-    assert_eq!(rt; judged(rt.alloc(), hidden)?, Some((true, false)));
-    Ok(())
+fn derived_bodies_range_over_generated_objects(rt: HostRuntime) {
+    let found = judged(rt.alloc(), Goal::Derived(FOUND));
+    assert_eq!(rt; found, Ok((false, true)));
+    let hidden = judged(rt.alloc(), Goal::Derived(HIDDEN));
+    assert_eq!(rt; hidden, Ok((true, false)));
 }
 
 #[test]
-fn sixteen_variables_are_in_scope(rt: HostRuntime) -> Result<(), Fail> {
-    let apart = atom(rt.alloc(), APART, &[])?;
-    assert_eq!(rt; judged(rt.alloc(), apart)?, Some((false, true)));
-    Ok(())
+fn sixteen_variables_are_in_scope(rt: HostRuntime) {
+    let apart = judged(rt.alloc(), Goal::Derived(APART));
+    assert_eq!(rt; apart, Ok((false, true)));
 }
 
 #[test]
-fn exists_asks_for_the_type(rt: HostRuntime) -> Result<(), Fail> {
-    let seen = atom(rt.alloc(), SEEN, &[Term::Slot(0)])?;
-    let some = exists(rt.alloc(), 0, &[OBJECT], seen)?;
-    assert_eq!(rt; judged(rt.alloc(), some)?, Some((false, true)));
-    let seen = atom(rt.alloc(), SEEN, &[Term::Slot(0)])?;
-    let block = exists(rt.alloc(), 0, &[BLOCK], seen)?;
-    assert_eq!(rt; judged(rt.alloc(), block)?, Some((false, false)));
-    let cup = atom(rt.alloc(), SEEN, &[Term::Object(Obj::new(0))])?;
-    assert_eq!(rt; judged(rt.alloc(), cup)?, Some((false, false)));
-    Ok(())
+fn exists_asks_for_the_type(rt: HostRuntime) {
+    let object = judged(rt.alloc(), Goal::SomeSeen(OBJECT));
+    assert_eq!(rt; object, Ok((false, true)));
+    let block = judged(rt.alloc(), Goal::SomeSeen(BLOCK));
+    assert_eq!(rt; block, Ok((false, false)));
+    let cup = judged(rt.alloc(), Goal::CupSeen);
+    assert_eq!(rt; cup, Ok((false, false)));
 }

@@ -3,9 +3,13 @@
 
 pub mod build;
 #[cfg(test)]
+mod fault;
+#[cfg(test)]
 mod generated;
 #[cfg(test)]
 mod keep;
+#[cfg(test)]
+mod known;
 #[cfg(test)]
 mod requests;
 #[cfg(test)]

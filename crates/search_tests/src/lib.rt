@@ -7,4 +7,4 @@ mod asked;
 mod keep;
 #[cfg(test)]
 mod lamps;
-pub mod parts;
+pub mod outcome;
