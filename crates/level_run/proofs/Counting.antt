@@ -1,5 +1,5 @@
 -- How many levels a run has.
-use Rattle.std.proofs.Common.{◌≡◌, ℕ, zero, suc, ◌+◌, Bool, true, false, cond, List, [], ◌∷◌, ◌++◌, count_by, refl, ap, ◌∙◌}
+use Rattle.std.proofs.Common.{◌≡◌, ℕ, zero, suc, ◌+◌, ◌≤◌, arith, subst, Bool, true, false, cond, List, [], ◌∷◌, ◌++◌, count_by, refl, ap, ◌∙◌}
 use Rattle.session_core.proofs.Kept.{count_joined, count_one}
 use Rattle.task_model.specs.Streams.{yields_of}
 use Rattle.task_model.specs.declared.stream.Instance.{Instance}
@@ -12,8 +12,9 @@ use Rattle.transcript_text.specs.declared.entry.Entry.{Entry}
 use Rattle.transcript_text.specs.declared.entry.Entry.TheVariants as entry
 use Rattle.transcript_text.specs.declared.head.Head.{Head}
 use Rattle.level_run.specs.Reports.{is_level}
-use Rattle.level_run.specs.Turns.{RunsLevel}
+use Rattle.level_run.specs.Turns.{EndsBatch, RunsLevel}
 use Rattle.level_run.specs.declared.ending.Batch.{Batch}
+use Rattle.level_run.specs.declared.ending.Batch.TheVariants.{CallsSpent}
 
 count_head : (e : Entry) (es : List Entry) → count_by is_level (e ∷ es) ≡ cond (is_level e) 1 0 + count_by is_level es
 count_head e es = count_joined is_level (e ∷ []) es ∙ ap (λ n. n + count_by is_level es) (count_one is_level e)
@@ -59,3 +60,8 @@ pub level_counts : (head : Head) (task : Task) (before after : List Entry) (b : 
 level_counts head task before after b (now, pushed, level) =
     let one = ap (count_by is_level) level.level.is ∙ count_head entry.Level level.level.rest ∙ ap (λ n. 1 + n) (rounds_none task _ level.level.batch.rounds level.level.rest level.level.batch.run) in
     ap (count_by is_level) pushed ∙ count_joined is_level before now ∙ ap (λ n. count_by is_level before + n) one
+
+-- where calls are wanting some were made
+pub spent_some : (task : Task) (entries : List Entry) (before after calls many : ℕ) (b : Batch) → b ≡ CallsSpent → EndsBatch task entries before after calls many b → 1 ≤ calls → after ≡ 0 → ⊥
+spent_some task entries before after calls many b is ends some none =
+    let e = subst (EndsBatch task entries before after calls many) is ends in omega (arith, e.0, some, none)

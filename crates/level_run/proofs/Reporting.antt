@@ -1,5 +1,5 @@
 -- What a run over a task writes.
-use Rattle.std.proofs.Common.{◌≡◌, ℕ, ◌+◌, ◌<◌, arith, List, [], ◌∷◌, ◌++◌, count_by, length, take, Option, Some, None, refl, sym, subst, ap, ◌∙◌, ◌⊎◌, inl, inr, slice_get}
+use Rattle.std.proofs.Common.{◌≡◌, ℕ, ◌+◌, ◌<◌, arith, List, [], ◌∷◌, ◌++◌, count_by, length, take, Option, Some, None, refl, sym, subst, ap, ◌∙◌, ◌⊎◌, inl, inr, slice_get, IfSome}
 use Rattle.std.proofs.lemmas.List.{append-nil}
 use Rattle.std.specs.Io.KnownBytes.{Appends}
 use Rattle.std.specs.List.{flat_map}
@@ -10,9 +10,9 @@ use Rattle.transcript_text.specs.declared.entry.Entry.{Entry}
 use Rattle.transcript_text.specs.declared.head.Head.{Head}
 use Rattle.transcript_text.specs.declared.outcome.Outcome.{Outcome}
 use Rattle.level_run.proofs.Stopping.{appends_none, appends_then, stops_then}
-use Rattle.io_world.specs.Talks.{Talk}
+use Rattle.io_world.specs.Talks.{Same, Talk}
 use Rattle.level_run.proofs.Telling.{broken_unasked}
-use Rattle.level_run.specs.Dialogue.{BrokenOff, Dialogue, requests_of, workers_in}
+use Rattle.level_run.specs.Dialogue.{BrokenOff, Dialogue, IsSaid, replies_of, requests_of, workers_in}
 use Rattle.level_run.specs.Reports.{IsBroken, IsPart, IsReported, IsRun, IsWhole, is_level, text_of_end, text_so_far, whole_text}
 use Rattle.level_run.specs.Rolling.{Goes, Stopped}
 use Rattle.level_run.specs.Stops.{Misses}
@@ -101,3 +101,14 @@ module _ (task : Task) (head : Head) (spoken : ℕ → Option Talk) where
     levels = of_levels;
     asks = of_asks;
   }
+
+-- what was said stays, so the report is still of it
+pub reported_behind : (task : Task) (head : Head) (spoken now : ℕ → Option Talk) (old new : Option (List ℕ)) (ran : Ran) → Same spoken now → IsReported task head spoken old new ran → IsReported task head now old new ran
+reported_behind task head spoken now old new ran same r = record {
+  entries = r.entries;
+  run = r.run;
+  talks = λ child one some. subst (λ talk. IfSome talk (IsSaid task head.version (requests_of task (workers_in head) r.entries) (replies_of r.entries) [] child)) (sym (same child)) (r.talks child one some);
+  told = r.told;
+  levels = r.levels;
+  asks = r.asks;
+}

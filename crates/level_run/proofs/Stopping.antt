@@ -6,7 +6,7 @@ use Rattle.std.proofs.lemmas.Grind.{flat_map-append}
 use Rattle.std.proofs.lemmas.Result.{err_from_is_err_and}
 use Rattle.std.specs.Io.KnownBytes.{Appends}
 use Rattle.std.specs.List.{flat_map}
-use Rattle.std.specs.Result.{IsErrAnd, IfErr, OnErr, OnOk}
+use Rattle.std.specs.Result.{IsErrAnd, IfErr, IfOk, OnErr, OnOk}
 use Rattle.io_world.specs.Faults.{Rose, HasCause}
 use Rattle.task_model.specs.declared.task.Task.{Task}
 use Rattle.transcript_text.proofs.Legals.{grows}
@@ -201,3 +201,21 @@ err_map (Err e) P Q f p = f e p
 -- all went well
 pub written_cause : {T : Type 0} (last first second third now : ℕ) (value : T) → first ≤ second → second ≤ third → third ≤ now → HasCause Write last first now (let r : Result T RunFault = Ok value in r)
 written_cause last first second third now value a b c = record { later = omega (arith, a, b, c); cause = λ is. absurd (cc) }
+
+-- a fault that is handed on has its cause after earlier calls that went well
+pub cause_handed : {T U : Type 0} (failed : RunFault) (last first second third now : ℕ) (fault : RunFault) (r : Result U RunFault) → first ≤ second → second ≤ third → HasCause failed last third now (let s : Result T RunFault = Err fault in s) → r ≡ Err fault → HasCause failed last first now r
+cause_handed {T} {U} failed last first second third now fault r a b c is = record {
+  later = omega (arith, a, b, c.later);
+  cause = λ same. rises (c.cause (ap Err (faults_same fault failed (sym is ∙ same))));
+}
+  where
+    faults_same : {V : Type 0} (x y : RunFault) → (let s : Result V RunFault = Err x in s) ≡ Err y → x ≡ y
+    faults_same x y e = cc
+
+    rises : Rose last third now → Rose last first now
+    rises rose = omega (arith, a, b, rose)
+
+-- what holds of each answer holds where there is one
+pub ok_each : {T E : Type 0} (r : Result T E) (P Q : T → Type 0) → ((x : T) → P x → Q x) → IfOk r P → IfOk r Q
+ok_each (Ok x) P Q f p = f x p
+ok_each (Err e) P Q f p = tt

@@ -103,6 +103,7 @@ pub(crate) fn run_levels<H: Host, O: Sink>(
     ensures run { IfOk result (λ ran. IsRun task.now head.now session.new.entries ran.0) }
     ensures levels { IfOk result (λ ran. ran.1 ≡ count_by is_level session.new.entries) }
     ensures asks { OnOk result (length session.new.asked ≡ asks_of session.new.entries) }
+    ensures untouched { OnOk result (length session.new.asked ≡ 0 → (H.log host.new ≡ H.log host.old) × ((k : ℕ) → H.running host.new k ≡ false)) }
     ensures talks { OnOk result (Dialogue task.now head.now.version (workers_in head.now) session.new.entries (H.spoken host.new)) }
     ensures goes { OnOk result (Goes [] session.new.entries (O.taken out.old) (O.taken out.new)) }
     ensures stopped { IfErr result (λ fault. Stopped head.now.version task.now (workers_in head.now) [] fault (O.taken out.old) (O.taken out.new) (H.spoken host.new)) }

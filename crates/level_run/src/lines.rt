@@ -133,6 +133,7 @@ impl Lines {
     pub(crate) fn stop_all<H: Host>(&self, host: &mut H)
         requires state { Same (H.running host.old) (is_running self.now) }
         ensures idle { (child : ℕ) → H.running host.new child ≡ false }
+        ensures none { ((k : ℕ) → H.running host.old k ≡ false) → H.log host.new ≡ H.log host.old }
         ensures spoken { Same (H.spoken host.old) (H.spoken host.new) }
         ensures later { H.faults host.old ≤ H.faults host.new }
     {

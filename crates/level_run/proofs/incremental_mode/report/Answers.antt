@@ -1,7 +1,8 @@
 use Rattle.std.proofs.Common.{◌≡◌, ◌≤◌, arith, refl, sym, ◌∙◌}
+use Rattle.io_world.specs.Faults.{last_count}
 use Rattle.level_run.proofs.Reporting.{broken_behind, broken_end, broken_head, broken_levels, reported, told_so_far}
-use Rattle.level_run.proofs.Stopping.{handed, written_cause}
-use Rattle.level_run.specs.declared.fault.RunFault.TheVariants.{Memory}
+use Rattle.level_run.proofs.Stopping.{cause_handed, handed, handed_err, no_cause, written_cause, written_no_generator}
+use Rattle.level_run.specs.declared.fault.RunFault.TheVariants.{Generator, Memory, Write}
 use Rattle.level_run.proofs.incremental_mode.report.Goals as goal
 
 pub returns-in_err-print_head-clause-broken : goal.returns-in_err-print_head-clause-broken
@@ -36,3 +37,18 @@ returns-clause-reported g c =
 
 pub returns-clause-sink : goal.returns-clause-sink
 returns-clause-sink g c = written_cause _ _ _ _ _ _ c.in_ok-print_head.ensures.cause.later c.in_ok-outcome.ensures.sink.later c.in_ok-print_end.ensures.cause.later
+
+pub returns-clause-untouched : goal.returns-clause-untouched
+returns-clause-untouched g c = λ none. c.in_ok-outcome.ensures.untouched (sym c.asks.ensures ∙ none)
+
+pub returns-in_err-print_end-clause-host : goal.returns-in_err-print_end-clause-host
+returns-in_err-print_end-clause-host g c =
+    let fault = c.in_err-print_end.field-0.0 in
+    let r = c.from_residual-in_err-print_end.result in
+    no_cause Generator g.H.Host.last (g.H.Host.faults c.args.host.now) (g.H.Host.faults c.run_levels.new.host) c.run_levels.result fault r c.run_levels.ensures.host (written_no_generator fault c.in_err-print_end.ensures.only) (handed_err r fault c.from_residual-in_err-print_end.ensures.1)
+
+pub returns-in_err-print_end-clause-sink : goal.returns-in_err-print_end-clause-sink
+returns-in_err-print_end-clause-sink g c =
+    let fault = c.in_err-print_end.field-0.0 in
+    let r = c.from_residual-in_err-print_end.result in
+    cause_handed Write last_count (g.O.Sink.faults c.args.out.now) (g.O.Sink.faults c.print_head.new.out) (g.O.Sink.faults c.run_levels.new.out) (g.O.Sink.faults c.print_end.new.out) fault r c.in_ok-print_head.ensures.cause.later c.in_ok-outcome.ensures.sink.later c.in_err-print_end.ensures.cause (handed_err r fault c.from_residual-in_err-print_end.ensures.1)

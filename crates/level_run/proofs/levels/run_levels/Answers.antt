@@ -1,6 +1,6 @@
 use Rattle.std.proofs.Common.{◌≡◌, ◌<◌, ◌≤◌, ◌+◌, ◌-◌, [], ℕ, length, count_by, sym, subst, ap, refl, ◌∙◌, arith}
 use Rattle.transcript_text.specs.Legal.{IsLegal}
-use Rattle.level_run.proofs.Counting.{level_counts}
+use Rattle.level_run.proofs.Counting.{level_counts, spent_some}
 use Rattle.level_run.proofs.Deciding.{all_asked, decided_dues, decided_outcome, done_of, spent_sure}
 use Rattle.level_run.proofs.Standing.{run_at, run_cut, standing_first, standing_next}
 use Rattle.level_run.proofs.Stopping.{goes_none, goes_then, handed, stopped_memory, stopped_then}
@@ -68,6 +68,7 @@ levels-preserved g c =
       told = e.told;
       started = e.started;
       state = e.state;
+      untouched = λ none. absurd (omega (arith, all.0, turn.some, ap length c.as_slice-asks.ensures.value, none));
       goes = goes_then [] s.entries new.entries (g.O.Sink.taken c.args.out.now) (g.O.Sink.taken c.levels.out) (g.O.Sink.taken c.run_level.new.out) i.goes e.goes;
       host = omega (arith, e.host.later, i.host);
       sink = omega (arith, e.sink.later, i.sink);
@@ -98,3 +99,10 @@ returns-in-CallsSpent-clause-talks g c =
     let e = c.in_ok-ended.ensures in
     let head = c.args.head.now in
     dialogue_told c.args.task.now head.version (workers_in head) s.entries (length s.asked) (g.H.Host.running c.run_level.new.host) (held_of c.run_level.new.lines) (g.H.Host.spoken c.run_level.new.host) e.session.counted (subst (λ ps. AreStarted ps (length s.asked) (g.H.Host.running c.run_level.new.host)) e.head.pools e.started) e.told
+
+pub returns-in-Ends-clause-untouched : goal.returns-in-Ends-clause-untouched
+returns-in-Ends-clause-untouched g c = λ none. (c.levels.invariant.untouched none, λ k. c.levels.invariant.started.none none k)
+
+pub returns-in-CallsSpent-clause-untouched : goal.returns-in-CallsSpent-clause-untouched
+returns-in-CallsSpent-clause-untouched g c = λ none.
+    absurd (spent_some c.args.task.now c.run_level.new.session.entries (length c.levels.session.asked) (length c.run_level.new.session.asked) c.args.head.now.calls (length c.as_slice-asks.result.now) c.in_ok-ended.ended c.in-CallsSpent.is c.in_ok-ended.ensures.ends c.requires.runnable.fit.some_calls none)

@@ -24,6 +24,7 @@ invariant-levels g l = record {
   told : IsTold l.task l.head.version (workers_in l.head) l.session.entries (g.H.Host.running l.host) (held_of l.lines) (g.H.Host.spoken l.host);
   started : AreStarted l.session.pools (length l.session.asked) (g.H.Host.running l.host);
   state : Same (g.H.Host.running l.host) (is_running l.lines);
+  untouched : length l.session.asked ≡ 0 → g.H.Host.log l.host ≡ g.H.Host.log l.initial.host;
   goes : Goes [] l.session.entries (g.O.Sink.taken l.initial.out) (g.O.Sink.taken l.out);
   host : g.H.Host.faults l.initial.host ≤ g.H.Host.faults l.host;
   sink : g.O.Sink.faults l.initial.out ≤ g.O.Sink.faults l.out;
