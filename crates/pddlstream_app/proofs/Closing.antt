@@ -13,7 +13,7 @@ use Rattle.level_run.specs.Reports.{IsBroken, IsPart, IsReported, IsWhole, text_
 use Rattle.level_run.specs.declared.incremental_mode.Ran.{Ran}
 use Rattle.task_model.specs.Fit.{IsFit}
 use Rattle.task_model.specs.declared.task.Task.{Task}
-use Rattle.transcript_text.specs.Legal.{IsLegal}
+use Rattle.transcript_text.specs.Legal.{IsLegal, asks_of}
 use Rattle.transcript_text.specs.Texts.{done_line, line_text, text_of_outcome, text_of_report}
 use Rattle.transcript_text.specs.declared.entry.Entry.{Entry}
 use Rattle.transcript_text.specs.declared.head.Head.{Head}
@@ -53,21 +53,21 @@ module _ (words : List (List ℕ)) (told : Option FileMap) (rose : Type 0) (spok
       abbrev run_with : (entries : List Entry) → IsLegal head.version task entries → IsRun words told
       run_with entries legal = record { asked = asked; meant = meant; task = task; spelled = spelled; fit = fit; head = head; headed = headed; entries = entries; legal = legal }
 
-      outcome_with : (text : List ℕ) (entries : List Entry) (o : Outcome) → reports.IsRun task head entries o → Dialogue task head.version (workers_in head) entries spoken → text ≡ whole_text task head entries o → HasOutcome words told spoken (kind_of o) text
-      outcome_with text entries o turns talks is = record { run = run_with entries turns.legal; outcome = o; kind = refl; turns = turns; talks = talks; is = is ∙ whole_is task head entries o }
+      outcome_with : (unused : Type 0) (text : List ℕ) (entries : List Entry) (o : Outcome) → reports.IsRun task head entries o → Dialogue task head.version (workers_in head) entries spoken → (asks_of entries ≡ 0 → unused) → text ≡ whole_text task head entries o → HasOutcome words told unused spoken (kind_of o) text
+      outcome_with unused text entries o turns talks unneeded is = record { run = run_with entries turns.legal; outcome = o; kind = refl; turns = turns; talks = talks; unneeded = unneeded; is = is ∙ whole_is task head entries o }
 
       -- the report was written
-      pub completed : (old new : Option (List ℕ)) (ran : Ran) (status : Status) → IsReported task head spoken old new ran → status ≡ kind_of ran.outcome → IsCompleted words told spoken old new status
-      completed old new ran status r e = subst (IsCompleted words told spoken old new) (sym e) (record {
+      pub completed : (unused : Type 0) (old new : Option (List ℕ)) (ran : Ran) (status : Status) → IsReported task head spoken old new ran → (ran.asks ≡ 0 → unused) → status ≡ kind_of ran.outcome → IsCompleted words told unused spoken old new status
+      completed unused old new ran status r none e = subst (IsCompleted words told unused spoken old new) (sym e) (record {
         text = whole_text task head r.entries ran.outcome;
-        has = outcome_with (whole_text task head r.entries ran.outcome) r.entries ran.outcome r.run r.talks refl;
+        has = outcome_with unused (whole_text task head r.entries ran.outcome) r.entries ran.outcome r.run r.talks (λ asked. none (r.asks ∙ asked)) refl;
         took = r.told;
       })
 
       part_with : (text : List ℕ) (f : RunFault) → IsPart task head f spoken text → IsPartOfRun words told spoken text
       part_with text f p = (run_with p.entries p.legal, p.talks, p.is)
 
-      writes_outcome : (text : List ℕ) (o : Outcome) → HasOutcome words told spoken (kind_of o) text → Writes words told rose spoken (kind_of o) text
+      writes_outcome : (text : List ℕ) (o : Outcome) → HasOutcome words told (Unit {0}) spoken (kind_of o) text → Writes words told rose (Unit {0}) spoken (kind_of o) text
       writes_outcome text (outcome.Plan steps cost from) h = h
       writes_outcome text outcome.NoPlan h = h
       writes_outcome text (outcome.Limit kind) h = h
@@ -94,10 +94,10 @@ module _ (words : List (List ℕ)) (told : Option FileMap) (rose : Type 0) (spok
           of (inr (inr x)) = absurd (let e = x.0 in cc)
       stopped_running old new fault.Write b = record { text = b.text; was = of b.form; count = b.told.0; less = b.told.1; took = b.told.2 }
         where
-          of : {text : List ℕ} → ((fault.Write ≡ fault.Memory) × (text ≡ [])) ⊎ IsPart task head fault.Write spoken text ⊎ ((fault.Write ≡ fault.Write) × IsWhole task head spoken text) → ((other : Status) × Writes words told rose spoken other text) ⊎ IsPartOfRun words told spoken text
+          of : {text : List ℕ} → ((fault.Write ≡ fault.Memory) × (text ≡ [])) ⊎ IsPart task head fault.Write spoken text ⊎ ((fault.Write ≡ fault.Write) × IsWhole task head spoken text) → ((other : Status) × Writes words told rose (Unit {0}) spoken other text) ⊎ IsPartOfRun words told spoken text
           of (inl x) = absurd (let e = x.0 in cc)
           of {text} (inr (inl p)) = inr (part_with text fault.Write p)
-          of {text} (inr (inr x)) = let w = x.1 in inl (kind_of w.outcome, writes_outcome text w.outcome (outcome_with text w.entries w.outcome w.run w.talks w.is))
+          of {text} (inr (inr x)) = let w = x.1 in inl (kind_of w.outcome, writes_outcome text w.outcome (outcome_with (Unit {0}) text w.entries w.outcome w.run w.talks (λ asked. tt) w.is))
 
   -- the words are no command
   pub stopped_words : (sink : Option (List ℕ)) → words_of words ≡ None → IsStopped words told rose spoken sink sink stop.Usage
@@ -109,39 +109,39 @@ module _ (words : List (List ℕ)) (told : Option FileMap) (rose : Type 0) (spok
 
   -- ---- last lines
 
-  module _ (old mid new : Option (List ℕ)) where
-    all_taken : (why : Stop) (b : IsBeforeLast words told rose spoken old mid why) → Appends mid new (last_text why) → (Writes words told rose spoken (status_at why) (b.text ++ last_text why)) → TookAll words told rose spoken old new (status_at why)
+  module _ (unused : Type 0) (old mid new : Option (List ℕ)) where
+    all_taken : (why : Stop) (b : IsBeforeLast words told rose spoken old mid why) → Appends mid new (last_text why) → (Writes words told rose unused spoken (status_at why) (b.text ++ last_text why)) → TookAll words told rose unused spoken old new (status_at why)
     all_taken why b app writes = record { text = b.text ++ last_text why; writes = writes; took = appends_then old mid new b.text (last_text why) b.took app }
 
     faulty : (why : Stop) (b : IsBeforeLast words told rose spoken old mid why) → HasFault words told rose spoken (status_at why) (b.text ++ last_text why)
     faulty why b = record { stop = why; kind = refl; before = b.text; cause = b.cause; is = refl }
 
     -- what such a run writes
-    writes_fault : (why : Stop) (b : IsBeforeLast words told rose spoken old mid why) → Writes words told rose spoken (status_at why) (b.text ++ last_text why)
-    writes_fault stop.Usage b = faulty stop.Usage b
-    writes_fault (stop.Input which kind place) b = faulty (stop.Input which kind place) b
-    writes_fault (stop.Failed which) b = faulty (stop.Failed which) b
-    writes_fault (stop.TooLong which) b = faulty (stop.TooLong which) b
-    writes_fault (stop.Run (fault.Answer number why)) b = faulty (stop.Run (fault.Answer number why)) b
-    writes_fault (stop.Run fault.Generator) b = faulty (stop.Run fault.Generator) b
-    writes_fault (stop.Run fault.Write) b = absurd b.cause
-    writes_fault (stop.Run fault.Memory) b = faulty (stop.Run fault.Memory) b
+    writes_fault : (free : Type 0) (why : Stop) (b : IsBeforeLast words told rose spoken old mid why) → Writes words told rose free spoken (status_at why) (b.text ++ last_text why)
+    writes_fault free stop.Usage b = faulty stop.Usage b
+    writes_fault free (stop.Input which kind place) b = faulty (stop.Input which kind place) b
+    writes_fault free (stop.Failed which) b = faulty (stop.Failed which) b
+    writes_fault free (stop.TooLong which) b = faulty (stop.TooLong which) b
+    writes_fault free (stop.Run (fault.Answer number why)) b = faulty (stop.Run (fault.Answer number why)) b
+    writes_fault free (stop.Run fault.Generator) b = faulty (stop.Run fault.Generator) b
+    writes_fault free (stop.Run fault.Write) b = absurd b.cause
+    writes_fault free (stop.Run fault.Memory) b = faulty (stop.Run fault.Memory) b
 
-    ends_whole : (why : Stop) → IsBeforeLast words told rose spoken old mid why → Appends mid new (last_text why) → Ends words told rose spoken old new (status_at why)
-    ends_whole stop.Usage b app = all_taken stop.Usage b app (writes_fault stop.Usage b)
-    ends_whole (stop.Input which kind place) b app = all_taken (stop.Input which kind place) b app (writes_fault (stop.Input which kind place) b)
-    ends_whole (stop.Failed which) b app = all_taken (stop.Failed which) b app (writes_fault (stop.Failed which) b)
-    ends_whole (stop.TooLong which) b app = all_taken (stop.TooLong which) b app (writes_fault (stop.TooLong which) b)
-    ends_whole (stop.Run (fault.Answer number why)) b app = all_taken (stop.Run (fault.Answer number why)) b app (writes_fault (stop.Run (fault.Answer number why)) b)
-    ends_whole (stop.Run fault.Generator) b app = all_taken (stop.Run fault.Generator) b app (writes_fault (stop.Run fault.Generator) b)
+    ends_whole : (why : Stop) → IsBeforeLast words told rose spoken old mid why → Appends mid new (last_text why) → Ends words told rose unused spoken old new (status_at why)
+    ends_whole stop.Usage b app = all_taken stop.Usage b app (writes_fault unused stop.Usage b)
+    ends_whole (stop.Input which kind place) b app = all_taken (stop.Input which kind place) b app (writes_fault unused (stop.Input which kind place) b)
+    ends_whole (stop.Failed which) b app = all_taken (stop.Failed which) b app (writes_fault unused (stop.Failed which) b)
+    ends_whole (stop.TooLong which) b app = all_taken (stop.TooLong which) b app (writes_fault unused (stop.TooLong which) b)
+    ends_whole (stop.Run (fault.Answer number why)) b app = all_taken (stop.Run (fault.Answer number why)) b app (writes_fault unused (stop.Run (fault.Answer number why)) b)
+    ends_whole (stop.Run fault.Generator) b app = all_taken (stop.Run fault.Generator) b app (writes_fault unused (stop.Run fault.Generator) b)
     ends_whole (stop.Run fault.Write) b app = absurd b.cause
-    ends_whole (stop.Run fault.Memory) b app = all_taken (stop.Run fault.Memory) b app (writes_fault (stop.Run fault.Memory) b)
+    ends_whole (stop.Run fault.Memory) b app = all_taken (stop.Run fault.Memory) b app (writes_fault unused (stop.Run fault.Memory) b)
 
-    ends_told : (why : Stop) (status : Status) → IsBeforeLast words told rose spoken old mid why → IsTold (status_at why) (last_text why) mid new status → Ends words told rose spoken old new status
-    ends_told why status b (inl x) = subst (Ends words told rose spoken old new) (sym x.0) (ends_whole why b x.1)
-    ends_told why status b (inr (is, n, less, app)) = subst (Ends words told rose spoken old new) (sym is) (record {
+    ends_told : (why : Stop) (status : Status) → IsBeforeLast words told rose spoken old mid why → IsTold (status_at why) (last_text why) mid new status → Ends words told rose unused spoken old new status
+    ends_told why status b (inl x) = subst (Ends words told rose unused spoken old new) (sym x.0) (ends_whole why b x.1)
+    ends_told why status b (inr (is, n, less, app)) = subst (Ends words told rose unused spoken old new) (sym is) (record {
       text = b.text ++ last_text why;
-      was = inl (status_at why, writes_fault why b);
+      was = inl (status_at why, writes_fault (Unit {0}) why b);
       count = length b.text + n;
       less = omega (arith, less, length-append b.text (last_text why));
       took = subst (Appends old new) (sym (take-append-add b.text (last_text why) n)) (appends_then old mid new b.text (take n (last_text why)) b.took app);
@@ -169,28 +169,28 @@ module _ (words : List (List ℕ)) (told : Option FileMap) (rose : Type 0) (spok
     for_memory (stop.Run fault.Write) text b = absurd b
     for_memory (stop.Run fault.Memory) text b = b
 
-    pub ends_closed : (why : Stop) (status : Status) → IsStopped words told rose spoken old mid why → (why ≡ stop.Run fault.Write → ⊥) → IsClosed why mid new status → Ends words told rose spoken old new status
+    pub ends_closed : (why : Stop) (status : Status) → IsStopped words told rose spoken old mid why → (why ≡ stop.Run fault.Write → ⊥) → IsClosed why mid new status → Ends words told rose unused spoken old new status
     ends_closed why status s other (inl x) = ends_told why status (before_last why s other) x
     ends_closed why status s other (inr x) =
         let b = before_last why s other in
         ends_told (stop.Run fault.Memory) status (record { text = b.text; cause = for_memory why b.text b.cause; took = b.took }) x
 
   -- the sink took a part
-  pub ends_written : (old new : Option (List ℕ)) (why : Stop) → is_write why ≡ true → IsStopped words told rose spoken old new why → Ends words told rose spoken old new WriteFault
-  ends_written old new stop.Usage e s = absurd (cc)
-  ends_written old new (stop.Input which kind place) e s = absurd (cc)
-  ends_written old new (stop.Failed which) e s = absurd (cc)
-  ends_written old new (stop.TooLong which) e s = absurd (cc)
-  ends_written old new (stop.Run (fault.Answer number why)) e s = absurd (cc)
-  ends_written old new (stop.Run fault.Generator) e s = absurd (cc)
-  ends_written old new (stop.Run fault.Write) e s = s
-  ends_written old new (stop.Run fault.Memory) e s = absurd (cc)
+  pub ends_written : (unused : Type 0) (old new : Option (List ℕ)) (why : Stop) → is_write why ≡ true → IsStopped words told rose spoken old new why → Ends words told rose unused spoken old new WriteFault
+  ends_written unused old new stop.Usage e s = absurd (cc)
+  ends_written unused old new (stop.Input which kind place) e s = absurd (cc)
+  ends_written unused old new (stop.Failed which) e s = absurd (cc)
+  ends_written unused old new (stop.TooLong which) e s = absurd (cc)
+  ends_written unused old new (stop.Run (fault.Answer number why)) e s = absurd (cc)
+  ends_written unused old new (stop.Run fault.Generator) e s = absurd (cc)
+  ends_written unused old new (stop.Run fault.Write) e s = s
+  ends_written unused old new (stop.Run fault.Memory) e s = absurd (cc)
 
   -- the run has an outcome
-  pub ends_completed : (old new : Option (List ℕ)) (status : Status) → IsCompleted words told spoken old new status → Ends words told rose spoken old new status
-  ends_completed old new status c = subst (Ends words told rose spoken old new) c.has.kind (of c.has.outcome (subst (IsCompleted words told spoken old new) (sym c.has.kind) c))
+  pub ends_completed : (unused : Type 0) (old new : Option (List ℕ)) (status : Status) → IsCompleted words told unused spoken old new status → Ends words told rose unused spoken old new status
+  ends_completed unused old new status c = subst (Ends words told rose unused spoken old new) c.has.kind (of c.has.outcome (subst (IsCompleted words told unused spoken old new) (sym c.has.kind) c))
     where
-      of : (o : Outcome) → IsCompleted words told spoken old new (kind_of o) → Ends words told rose spoken old new (kind_of o)
+      of : (o : Outcome) → IsCompleted words told unused spoken old new (kind_of o) → Ends words told rose unused spoken old new (kind_of o)
       of (outcome.Plan steps cost from) c = record { text = c.text; writes = c.has; took = c.took }
       of outcome.NoPlan c = record { text = c.text; writes = c.has; took = c.took }
       of (outcome.Limit kind) c = record { text = c.text; writes = c.has; took = c.took }
@@ -245,10 +245,10 @@ closed_generator why old new status (inr (inr x)) e = absurd (other_write (sym x
 
 module _ (last before now : ℕ) (r : Result Status Stop) where
   -- an outcome is no fault
-  pub host_of_outcome : {words : List (List ℕ)} {told : Option FileMap} {spoken : ℕ → Option Talk} {old new : Option (List ℕ)} (status : Status) → IsCompleted words told spoken old new status → HasCause (stop.Run fault.Generator) last before now r → Caused GeneratorFault last before now status
+  pub host_of_outcome : {words : List (List ℕ)} {told : Option FileMap} {unused : Type 0} {spoken : ℕ → Option Talk} {old new : Option (List ℕ)} (status : Status) → IsCompleted words told unused spoken old new status → HasCause (stop.Run fault.Generator) last before now r → Caused GeneratorFault last before now status
   host_of_outcome status c h = record { later = h.later; cause = λ e. absurd (no_generator c.has.outcome (c.has.kind ∙ e)) }
 
-  pub sink_of_outcome : {words : List (List ℕ)} {told : Option FileMap} {spoken : ℕ → Option Talk} {old new : Option (List ℕ)} (status : Status) → IsCompleted words told spoken old new status → HasCause (stop.Run fault.Write) last before now r → Caused WriteFault last before now status
+  pub sink_of_outcome : {words : List (List ℕ)} {told : Option FileMap} {unused : Type 0} {spoken : ℕ → Option Talk} {old new : Option (List ℕ)} (status : Status) → IsCompleted words told unused spoken old new status → HasCause (stop.Run fault.Write) last before now r → Caused WriteFault last before now status
   sink_of_outcome status c h = record { later = h.later; cause = λ e. absurd (no_write c.has.outcome (c.has.kind ∙ e)) }
 
   pub host_of_write : HasCause (stop.Run fault.Generator) last before now r → Caused GeneratorFault last before now WriteFault

@@ -10,7 +10,7 @@ use Rattle.level_run.specs.Reports as reports
 use Rattle.level_run.specs.Reports.{text_so_far}
 use Rattle.task_model.specs.Fit.{IsFit}
 use Rattle.task_model.specs.declared.task.Task.{Task}
-use Rattle.transcript_text.specs.Legal.{IsLegal, is_open}
+use Rattle.transcript_text.specs.Legal.{IsLegal, asks_of, is_open}
 use Rattle.transcript_text.specs.Texts.{shown_pool, text_of_report}
 use Rattle.transcript_text.specs.declared.entry.Entry.{Entry}
 use Rattle.transcript_text.specs.declared.head.Head.{Head}
@@ -61,13 +61,14 @@ kind_of (outcome.Limit kind) = Limit
 
 -- The text is the report of a run, with an outcome of the status's kind. The run's transcript is a list of whole turns of incremental
 -- mode, or one after a batch that was cut, each of which begins where no plan exists; the outcome may stand there and is sure. What was
--- said with the children is the transcript's dialogue.
-pub record HasOutcome (words : List (List ℕ)) (told : Option FileMap) (spoken : ℕ → Option Talk) (status : Status) (text : List ℕ) : Type 0 where
+-- said with the children is the transcript's dialogue; and where the transcript has no request no call was made on a child (`unused`).
+pub record HasOutcome (words : List (List ℕ)) (told : Option FileMap) (unused : Type 0) (spoken : ℕ → Option Talk) (status : Status) (text : List ℕ) : Type 0 where
   pub run : IsRun words told
   pub outcome : Outcome
   pub kind : kind_of outcome ≡ status
   pub turns : reports.IsRun run.task run.head run.entries outcome
   pub talks : Dialogue run.task run.head.version (workers_in run.head) run.entries spoken
+  pub unneeded : asks_of run.entries ≡ 0 → unused
   pub is : text ≡ text_of_report (report_of run.task run.head run.entries outcome)
 
 -- ---- faults
@@ -115,48 +116,48 @@ pub record HasFault (words : List (List ℕ)) (told : Option FileMap) (rose : Ty
 -- ---- all that a run writes
 
 -- what a run writes in all that ends so
-abbrev pub Writes : List (List ℕ) → Option FileMap → Type 0 → (ℕ → Option Talk) → Status → List ℕ → Type 0
-Writes words told rose spoken Plan text = HasOutcome words told spoken Plan text
-Writes words told rose spoken NoPlan text = HasOutcome words told spoken NoPlan text
-Writes words told rose spoken Limit text = HasOutcome words told spoken Limit text
-Writes words told rose spoken Usage text = HasFault words told rose spoken Usage text
-Writes words told rose spoken Input text = HasFault words told rose spoken Input text
-Writes words told rose spoken BadAnswer text = HasFault words told rose spoken BadAnswer text
-Writes words told rose spoken ReadFault text = HasFault words told rose spoken ReadFault text
-Writes words told rose spoken GeneratorFault text = HasFault words told rose spoken GeneratorFault text
-Writes words told rose spoken Memory text = HasFault words told rose spoken Memory text
-Writes words told rose spoken WriteFault text = ⊥
-Writes words told rose spoken Done text = ⊥
-Writes words told rose spoken Invalid text = ⊥
+abbrev pub Writes : List (List ℕ) → Option FileMap → Type 0 → Type 0 → (ℕ → Option Talk) → Status → List ℕ → Type 0
+Writes words told rose unused spoken Plan text = HasOutcome words told unused spoken Plan text
+Writes words told rose unused spoken NoPlan text = HasOutcome words told unused spoken NoPlan text
+Writes words told rose unused spoken Limit text = HasOutcome words told unused spoken Limit text
+Writes words told rose unused spoken Usage text = HasFault words told rose spoken Usage text
+Writes words told rose unused spoken Input text = HasFault words told rose spoken Input text
+Writes words told rose unused spoken BadAnswer text = HasFault words told rose spoken BadAnswer text
+Writes words told rose unused spoken ReadFault text = HasFault words told rose spoken ReadFault text
+Writes words told rose unused spoken GeneratorFault text = HasFault words told rose spoken GeneratorFault text
+Writes words told rose unused spoken Memory text = HasFault words told rose spoken Memory text
+Writes words told rose unused spoken WriteFault text = ⊥
+Writes words told rose unused spoken Done text = ⊥
+Writes words told rose unused spoken Invalid text = ⊥
 
 -- The sink took all that the run writes.
-pub record TookAll (words : List (List ℕ)) (told : Option FileMap) (rose : Type 0) (spoken : ℕ → Option Talk) (old new : Option (List ℕ)) (status : Status) : Type 0 where
+pub record TookAll (words : List (List ℕ)) (told : Option FileMap) (rose unused : Type 0) (spoken : ℕ → Option Talk) (old new : Option (List ℕ)) (status : Status) : Type 0 where
   pub text : List ℕ
-  pub writes : Writes words told rose spoken status text
+  pub writes : Writes words told rose unused spoken status text
   pub took : Appends old new text
 
 -- The sink took a part, and not all, of what was to be written: all that a run writes that ends in another way, or the lines of a run's head and transcript.
 pub record TookPart (words : List (List ℕ)) (told : Option FileMap) (rose : Type 0) (spoken : ℕ → Option Talk) (old new : Option (List ℕ)) : Type 0 where
   pub text : List ℕ
-  pub was : ((other : Status) × Writes words told rose spoken other text) ⊎ IsPartOfRun words told spoken text
+  pub was : ((other : Status) × Writes words told rose (Unit {0}) spoken other text) ⊎ IsPartOfRun words told spoken text
   pub count : ℕ
   pub less : count < length text
   pub took : Appends old new (take count text)
 
 -- how a run ends
-abbrev pub Ends : List (List ℕ) → Option FileMap → Type 0 → (ℕ → Option Talk) → Option (List ℕ) → Option (List ℕ) → Status → Type 0
-Ends words told rose spoken old new WriteFault = TookPart words told rose spoken old new
-Ends words told rose spoken old new Plan = TookAll words told rose spoken old new Plan
-Ends words told rose spoken old new NoPlan = TookAll words told rose spoken old new NoPlan
-Ends words told rose spoken old new Limit = TookAll words told rose spoken old new Limit
-Ends words told rose spoken old new Usage = TookAll words told rose spoken old new Usage
-Ends words told rose spoken old new Input = TookAll words told rose spoken old new Input
-Ends words told rose spoken old new BadAnswer = TookAll words told rose spoken old new BadAnswer
-Ends words told rose spoken old new ReadFault = TookAll words told rose spoken old new ReadFault
-Ends words told rose spoken old new GeneratorFault = TookAll words told rose spoken old new GeneratorFault
-Ends words told rose spoken old new Memory = TookAll words told rose spoken old new Memory
-Ends words told rose spoken old new Done = ⊥
-Ends words told rose spoken old new Invalid = ⊥
+abbrev pub Ends : List (List ℕ) → Option FileMap → Type 0 → Type 0 → (ℕ → Option Talk) → Option (List ℕ) → Option (List ℕ) → Status → Type 0
+Ends words told rose unused spoken old new WriteFault = TookPart words told rose spoken old new
+Ends words told rose unused spoken old new Plan = TookAll words told rose unused spoken old new Plan
+Ends words told rose unused spoken old new NoPlan = TookAll words told rose unused spoken old new NoPlan
+Ends words told rose unused spoken old new Limit = TookAll words told rose unused spoken old new Limit
+Ends words told rose unused spoken old new Usage = TookAll words told rose unused spoken old new Usage
+Ends words told rose unused spoken old new Input = TookAll words told rose unused spoken old new Input
+Ends words told rose unused spoken old new BadAnswer = TookAll words told rose unused spoken old new BadAnswer
+Ends words told rose unused spoken old new ReadFault = TookAll words told rose unused spoken old new ReadFault
+Ends words told rose unused spoken old new GeneratorFault = TookAll words told rose unused spoken old new GeneratorFault
+Ends words told rose unused spoken old new Memory = TookAll words told rose unused spoken old new Memory
+Ends words told rose unused spoken old new Done = ⊥
+Ends words told rose unused spoken old new Invalid = ⊥
 
 -- the count has not fallen, and it rose where the run ended so
 pub record Caused (failed : Status) (last before now : ℕ) (status : Status) : Type 0 where
@@ -166,9 +167,9 @@ pub record Caused (failed : Status) (last before now : ℕ) (status : Status) : 
 -- ---- the parts of a run
 
 -- The run has an outcome, and its report was written.
-pub record IsCompleted (words : List (List ℕ)) (told : Option FileMap) (spoken : ℕ → Option Talk) (old new : Option (List ℕ)) (status : Status) : Type 0 where
+pub record IsCompleted (words : List (List ℕ)) (told : Option FileMap) (unused : Type 0) (spoken : ℕ → Option Talk) (old new : Option (List ℕ)) (status : Status) : Type 0 where
   pub text : List ℕ
-  pub has : HasOutcome words told spoken status text
+  pub has : HasOutcome words told unused spoken status text
   pub took : Appends old new text
 
 -- all that was to be written before the last line was written

@@ -60,7 +60,7 @@ fn attempt<F: Files, H: Host, O: Sink>(
     out: &mut O,
 ) -> Result<Status, Stop>
     requires idle { (k : ℕ) → H.running host.old k ≡ false }
-    ensures completed { IfOk result (IsCompleted (map string_bytes words.now) (F.told files.old) (H.spoken host.new) (O.taken out.old) (O.taken out.new)) }
+    ensures completed { IfOk result (IsCompleted (map string_bytes words.now) (F.told files.old) (H.log host.new ≡ H.log host.old) (H.spoken host.new) (O.taken out.old) (O.taken out.new)) }
     ensures stopped { IfErr result (IsStopped (map string_bytes words.now) (F.told files.old) (Rose last_count (F.faults files.old) (F.faults files.new)) (H.spoken host.new) (O.taken out.old) (O.taken out.new)) }
     ensures idle { (k : ℕ) → H.running host.new k ≡ false }
     ensures files { F.faults files.old ≤ F.faults files.new }
@@ -97,8 +97,9 @@ pub fn run<F: Files, H: Host, O: Sink>(
     requires idle { (k : ℕ) → H.running host.old k ≡ false }
     ensures idle { (k : ℕ) → H.running host.new k ≡ false }
     // What the sink took is what a run writes that ends so, or a part of it where the sink failed. Where the host tells what was said
-    // with the children, that is the dialogue of the run's transcript.
-    ensures ends { Ends (map string_bytes words.now) (F.told files.old) (Rose last_count (F.faults files.old) (F.faults files.new)) (H.spoken host.new) (O.taken out.old) (O.taken out.new) result }
+    // with the children, that is the dialogue of the run's transcript. Where nothing was asked
+    // in a run with an outcome, no call was made on a child.
+    ensures ends { Ends (map string_bytes words.now) (F.told files.old) (Rose last_count (F.faults files.old) (F.faults files.new)) (H.log host.new ≡ H.log host.old) (H.spoken host.new) (O.taken out.old) (O.taken out.new) result }
     // A fault of the generator or of the sink is answered only where its count rose.
     ensures host { Caused GeneratorFault H.last (H.faults host.old) (H.faults host.new) result }
     ensures sink { Caused WriteFault last_count (O.faults out.old) (O.faults out.new) result }

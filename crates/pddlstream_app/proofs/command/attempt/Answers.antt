@@ -1,4 +1,4 @@
-use Rattle.std.proofs.Common.{map, string_bytes, refl, sym}
+use Rattle.std.proofs.Common.{◌≡◌, map, string_bytes, refl, sym}
 use Rattle.pddlstream_app.proofs.Closing.{completed, stopped_early, stopped_reading, stopped_running}
 use Rattle.level_run.proofs.Stopping.{handed}
 use Rattle.pddlstream_app.proofs.Heading.{runnable_head}
@@ -23,7 +23,7 @@ incremental-requires-clause-runnable g c = runnable_head c.in_ok-task.task c.in-
 pub returns-in-Ok-clause-completed : goal.returns-in-Ok-clause-completed
 returns-in-Ok-clause-completed g c =
     completed (map string_bytes c.args.words.now) (g.F.Files.told c.args.files.now) (Unit {0}) (g.H.Host.spoken c.incremental.new.host) (held c.in-Some.words) (sym c.in-Some.ensures.value) c.in_ok-task.task c.in_ok-task.ensures.task c.in_ok-task.ensures.fit c.in_ok-head.head c.in_ok-head.ensures.head
-    (g.O.Sink.taken c.args.out.now) (g.O.Sink.taken c.incremental.new.out) c.in-Ok.ran c.status_of.result c.in-Ok.ensures.reported c.status_of.ensures
+    (g.H.Host.log c.incremental.new.host ≡ g.H.Host.log c.args.host.now) (g.O.Sink.taken c.args.out.now) (g.O.Sink.taken c.incremental.new.out) c.in-Ok.ran c.status_of.result c.in-Ok.ensures.reported c.in-Ok.ensures.unneeded c.status_of.ensures
 
 pub returns-clause-stopped : goal.returns-clause-stopped
 returns-clause-stopped g c =
