@@ -1,5 +1,5 @@
 -- How runs end.
-use Rattle.std.proofs.Common.{◌≡◌, ℕ, ◌+◌, ◌≤◌, arith, List, [], ◌∷◌, ◌++◌, length, take, true, false, Option, Some, None, refl, sym, subst, ap, ◌∙◌, append_assoc, ◌⊎◌, inl, inr, Result, Err}
+use Rattle.std.proofs.Common.{◌≡◌, ℕ, ◌+◌, ◌≤◌, arith, List, [], ◌++◌, length, take, true, false, Option, Some, None, refl, sym, subst, ap, ◌∙◌, append_assoc, ◌⊎◌, inl, inr, Result, Err}
 use Rattle.std.proofs.Math.Seq.{take-append-add}
 use Rattle.std.proofs.lemmas.List.{length-append}
 use Rattle.std.specs.Io.KnownBytes.{Appends}
@@ -27,7 +27,7 @@ use Rattle.pddlstream_app.specs.Words.{SolveWords, words_of}
 use Rattle.level_run.specs.declared.fault.RunFault.{RunFault}
 use Rattle.level_run.specs.declared.fault.RunFault.TheVariants as fault
 use Rattle.pddlstream_app.specs.declared.status.Status.{Status}
-use Rattle.pddlstream_app.specs.declared.status.Status.TheVariants.{Plan, NoPlan, Limit, Usage, Input, GeneratorFault, WriteFault, Memory}
+use Rattle.pddlstream_app.specs.declared.status.Status.TheVariants.{GeneratorFault, WriteFault, Memory}
 use Rattle.pddlstream_app.specs.declared.stop.Stop.{Stop}
 use Rattle.pddlstream_app.specs.declared.stop.Stop.TheVariants as stop
 

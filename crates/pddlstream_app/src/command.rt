@@ -1,6 +1,7 @@
 //! The program's call.
 ghost use Rattle.std.specs.Prelude.{◌≡◌, ◌≤◌, ◌⊎◌, ◌≢◌, ℕ, false, map, string_bytes, IfOk, IfErr};
 ghost use Rattle.io_world.specs.Faults.{last_count, HasCause, Rose};
+ghost use Rattle.pddlstream_app.specs.Asked.{AsksAll, AsksBefore, AsksFiles};
 ghost use Rattle.pddlstream_app.specs.Runs.{Caused, Ends, IsClosed, IsCompleted, IsStopped, IsTold, kind_of};
 ghost use Rattle.level_run.specs.declared.fault.RunFault.TheVariants as fault;
 ghost use Rattle.pddlstream_app.specs.declared.status.Status.TheVariants.{GeneratorFault, WriteFault};
@@ -66,6 +67,8 @@ fn attempt<F: Files, H: Host, O: Sink>(
     ensures files { F.faults files.old ≤ F.faults files.new }
     ensures host { HasCause (Run fault.Generator) H.last (H.faults host.old) (H.faults host.new) result }
     ensures sink { HasCause (Run fault.Write) last_count (O.faults out.old) (O.faults out.new) result }
+    ensures asked { IfOk result (λ _. AsksAll (map string_bytes words.now) (F.asked files.old) (F.asked files.new)) }
+    ensures asked_before { IfErr result (AsksBefore (map string_bytes words.now) (F.asked files.old) (F.asked files.new)) }
 {
     let Some(words) = solve_words(words) else {
         return Err(Stop::Usage);
@@ -103,6 +106,10 @@ pub fn run<F: Files, H: Host, O: Sink>(
     // A fault of the generator or of the sink is answered only where its count rose.
     ensures host { Caused GeneratorFault H.last (H.faults host.old) (H.faults host.new) result }
     ensures sink { Caused WriteFault last_count (O.faults out.old) (O.faults out.new) result }
+    // Where the files tell which paths were asked for, those of this call are the command's files, each once and in their order: none where
+    // the words are no command, those up to the text that the last line names where it was refused or not read, and else all three. Where
+    // memory is wanting or the sink failed, they are a front of these.
+    ensures asked { AsksFiles (map string_bytes words.now) (F.told files.old) (Rose last_count (F.faults files.old) (F.faults files.new)) (F.asked files.old) (F.asked files.new) (O.taken out.old) (O.taken out.new) result }
 {
     match attempt(alloc, words, files, host, out) {
         Ok(status) => status,

@@ -1,11 +1,13 @@
 //! The three texts of a task, each read before the next one's file.
-ghost use Rattle.std.specs.Prelude.{◌≡◌, ◌≤◌, Some, IfOk, IfErr, IfSome};
-ghost use Rattle.io_world.specs.Faults.{last_count, Rose};
+ghost use Rattle.std.specs.Prelude.{◌≡◌, ◌≤◌, Some, Ok, [], ◌∷◌, IfOk, IfErr, IfSome};
+ghost use Rattle.io_world.specs.Faults.{last_count, Extends, Rose};
+ghost use Rattle.pddlstream_app.specs.Asked.{AsksOne, AsksUpTo, ask, asks_to};
 ghost use Rattle.pddlstream_app.specs.Inputs.{HasDomain, HasProblem, HasStreams, IsTaskOf, MayNotRead, MayRefuse, stop_for};
 ghost use Rattle.pddlstream_app.specs.Words.{held};
 ghost use Rattle.task_model.specs.Fit.{IsFit};
 ghost use Rattle.task_model.specs.declared.task.Problem.{Problem};
 ghost use Rattle.task_reader.specs.Fitness.{IsShort};
+ghost use Rattle.pddlstream_app.specs.declared.stop.Text.TheVariants as text;
 
 use crate::stop::{Stop, Text};
 use crate::words::SolveWords;
@@ -25,6 +27,8 @@ fn read_text<F: Files>(files: &mut F, path: &str, text: Text) -> Result<Vec<u8>,
     ensures stop { IfErr result (MayNotRead (F.told files.old) text path.now (Rose last_count (F.faults files.old) (F.faults files.new))) }
     ensures same { F.told files.new ≡ F.told files.old }
     ensures later { F.faults files.old ≤ F.faults files.new }
+    ensures asked { IfOk result (λ _. Extends (F.asked files.old) (F.asked files.new) (ask path.now (Ok tt) ∷ [])) }
+    ensures last { IfErr result (AsksOne path.now text (F.asked files.old) (F.asked files.new)) }
 {
     match files.read(path, TEXT_BYTES) {
         Ok(bytes) => Ok(bytes),
@@ -54,6 +58,8 @@ fn read_domain<F: Files>(
     ensures stop { IfErr result (MayRefuse (F.told files.old) (held words.now) (Rose last_count (F.faults files.old) (F.faults files.new))) }
     ensures same { F.told files.new ≡ F.told files.old }
     ensures later { F.faults files.old ≤ F.faults files.new }
+    ensures asked { IfOk result (λ _. Extends (F.asked files.old) (F.asked files.new) (ask words.now.domain.now (Ok tt) ∷ [])) }
+    ensures last { IfErr result (AsksOne words.now.domain.now text.Domain (F.asked files.old) (F.asked files.new)) }
 {
     let bytes = read_text(files, words.domain, Text::Domain)?;
     match domain_in(alloc, bytes.as_slice()) {
@@ -74,6 +80,8 @@ fn read_problem<F: Files>(
     ensures stop { IfErr result (MayRefuse (F.told files.old) (held words.now) (Rose last_count (F.faults files.old) (F.faults files.new))) }
     ensures same { F.told files.new ≡ F.told files.old }
     ensures later { F.faults files.old ≤ F.faults files.new }
+    ensures asked { IfOk result (λ _. Extends (F.asked files.old) (F.asked files.new) (ask words.now.problem.now (Ok tt) ∷ [])) }
+    ensures last { IfErr result (AsksOne words.now.problem.now text.Problem (F.asked files.old) (F.asked files.new)) }
 {
     let bytes = read_text(files, words.problem, Text::Problem)?;
     match problem_in(alloc, bytes.as_slice(), domain) {
@@ -95,6 +103,8 @@ fn read_streams<F: Files>(
     ensures stop { IfErr result (MayRefuse (F.told files.old) (held words.now) (Rose last_count (F.faults files.old) (F.faults files.new))) }
     ensures same { F.told files.new ≡ F.told files.old }
     ensures later { F.faults files.old ≤ F.faults files.new }
+    ensures asked { IfOk result (λ _. Extends (F.asked files.old) (F.asked files.new) (ask words.now.streams.now (Ok tt) ∷ [])) }
+    ensures last { IfErr result (AsksOne words.now.streams.now text.Streams (F.asked files.old) (F.asked files.new)) }
 {
     let bytes = read_text(files, words.streams, Text::Streams)?;
     match streams_in(alloc, bytes.as_slice(), domain) {
@@ -112,6 +122,8 @@ fn read_spelled<F: Files>(
     ensures task { IfOk result (IsTaskOf (F.told files.old) (held words.now)) }
     ensures stop { IfErr result (MayRefuse (F.told files.old) (held words.now) (Rose last_count (F.faults files.old) (F.faults files.new))) }
     ensures later { F.faults files.old ≤ F.faults files.new }
+    ensures asked { IfOk result (λ _. Extends (F.asked files.old) (F.asked files.new) (asks_to (held words.now) text.Streams (Ok tt))) }
+    ensures last { IfErr result (AsksUpTo (held words.now) (F.asked files.old) (F.asked files.new)) }
 {
     let domain = read_domain(alloc, files, words)?;
     let problem = read_problem(alloc, files, words, &domain)?;
@@ -133,6 +145,8 @@ pub(crate) fn read_input<F: Files>(
     ensures fit { IfOk result (λ task. IsFit task) }
     ensures stop { IfErr result (MayRefuse (F.told files.old) (held words.now) (Rose last_count (F.faults files.old) (F.faults files.new))) }
     ensures later { F.faults files.old ≤ F.faults files.new }
+    ensures asked { IfOk result (λ _. Extends (F.asked files.old) (F.asked files.new) (asks_to (held words.now) text.Streams (Ok tt))) }
+    ensures last { IfErr result (AsksUpTo (held words.now) (F.asked files.old) (F.asked files.new)) }
 {
     read_spelled(alloc, files, words)
 }

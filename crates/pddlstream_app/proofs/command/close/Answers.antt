@@ -1,4 +1,4 @@
-use Rattle.std.proofs.Common.{inl, inr}
+use Rattle.std.proofs.Common.{inr}
 use Rattle.pddlstream_app.proofs.command.close.Goals as goal
 
 pub returns-in-Err-clause-closed : goal.returns-in-Err-clause-closed
