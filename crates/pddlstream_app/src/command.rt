@@ -100,8 +100,8 @@ pub fn run<F: Files, H: Host, O: Sink>(
     requires idle { (k : ℕ) → H.running host.old k ≡ false }
     ensures idle { (k : ℕ) → H.running host.new k ≡ false }
     // What the sink took is what a run writes that ends so, or a part of it where the sink failed. Where the host tells what was said
-    // with the children, that is the dialogue of the run's transcript. Where nothing was asked
-    // in a run with an outcome, no call was made on a child.
+    // with the children, that is the dialogue of the run's transcript. Where nothing was asked in a run with an outcome, no call was
+    // made on a child.
     ensures ends { Ends (map string_bytes words.now) (F.told files.old) (Rose last_count (F.faults files.old) (F.faults files.new)) (H.log host.new ≡ H.log host.old) (H.spoken host.new) (O.taken out.old) (O.taken out.new) result }
     // A fault of the generator or of the sink is answered only where its count rose.
     ensures host { Caused GeneratorFault H.last (H.faults host.old) (H.faults host.new) result }
