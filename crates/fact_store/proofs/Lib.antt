@@ -1,3 +1,4 @@
+mod Passing
 pub mod AtFirst
 pub mod Derived
 pub mod Growth

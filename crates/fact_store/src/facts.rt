@@ -3,7 +3,7 @@ ghost use Rattle.task_model.specs.Known.{IsCoherent};
 ghost use Rattle.fact_store.specs.Store.{coherent_prop};
 
 use crate::initial::{add_names, add_objects, add_static, add_values};
-use crate::scan::{is_match, least_value, nth_match, nth_object, object_with};
+use crate::scan::{is_match, least_value, nth_match, nth_object, object_with, objects_with};
 use indexmap::IndexSet;
 use std::alloc::{AllocError, Global};
 use std::marker::Model;
@@ -37,7 +37,7 @@ impl Model for Facts {
 impl Facts {
     ghost use Rattle.std.specs.Prelude.{◌≡◌, ◌<◌, ◌≤◌, ◌++◌, ◌∷◌, [], not, length, slice_get, All, Contains, Some, IfSome, IfNone, IfOk, OnOk, OnErr};
     ghost use Rattle.std.specs.List.{list_any};
-    ghost use Rattle.task_model.specs.Known.{IsIn, is_fact, with_fact, same_value, with_value};
+    ghost use Rattle.task_model.specs.Known.{IsIn, is_fact, with_fact, objects_of, same_value, with_value};
     ghost use Rattle.fact_store.specs.Store.{with_name};
     ghost use Rattle.task_model.specs.Fit.{IsFit};
     ghost use Rattle.task_model.specs.Initial.{initial_known};
@@ -84,6 +84,14 @@ impl Facts {
     {
         let (place, _) = self.places.get_full(name)?;
         Some(Obj::new(place as u32))
+    }
+
+    /// The objects that have this type, each once, in the order in which that became known: those that `object` gives one by
+    /// one, found in one pass. Fails only where memory is wanting.
+    pub fn objects_with(&self, alloc: Global, sort: u32) -> Result<Vec<Obj>, AllocError>
+        ensures { IfOk result (λ objects. objects.items ≡ objects_of self.now.known.facts sort) }
+    {
+        objects_with(alloc, self.facts.as_slice(), sort)
     }
 
     /// The number of a name, which is put behind the others where it is new. Fails only where memory

@@ -1,9 +1,10 @@
 //! What look-ups ask of one fact, and of the values one after another.
-ghost use Rattle.std.specs.Prelude.{◌≡◌, slice_get};
+ghost use Rattle.std.specs.Prelude.{◌≡◌, slice_get, IfOk};
 ghost use Rattle.std.specs.Option.{option_copied};
 ghost use Rattle.task_model.specs.Known as known;
 ghost use Rattle.fact_store.specs.Least.{lesser_of};
 
+use std::alloc::{AllocError, Global};
 use task_model::{Fact, Kind, Obj, Valued};
 
 /// The object of the fact, if that says that an object has this type.
@@ -61,6 +62,19 @@ fn lesser(least: Option<u32>, value: u32) -> u32
         Some(least) => least.min(value),
         None => value,
     }
+}
+
+/// The objects that the facts say to have this type, in the facts' order. Fails only where memory is wanting.
+pub(crate) fn objects_with(alloc: Global, facts: &[Fact], sort: u32) -> Result<Vec<Obj>, AllocError>
+    ensures { IfOk result (λ objects. objects.items ≡ known.objects_of facts.now sort) }
+{
+    let mut objects = Vec::new(alloc);
+    for fact in facts {
+        if let Some(object) = object_with(fact, sort) {
+            objects.push(object)?;
+        }
+    }
+    Ok(objects)
 }
 
 /// The object of that number among those that the facts say to have this type.

@@ -11,7 +11,7 @@ use crate::queue::Queue;
 use crate::reach::is_reachable;
 use fact_store::Facts;
 use std::alloc::Global;
-use task_model::{Instance, Look, Row, Stream, Task};
+use task_model::{Instance, Row, Stream, Task};
 
 /// The most instances that may be due.
 const MOST: usize = 1_000_000;
@@ -74,10 +74,10 @@ fn add_under(
     let Some((sort, rest)) = sorts.split_first() else {
         return add_if_due(search, inputs, dues);
     };
-    let count = search.facts.count(*sort);
-    for place in 0..count {
+    let objects = search.facts.objects_with(search.alloc, *sort)?;
+    for object in objects.as_slice() {
         let mut longer = inputs.copy()?;
-        longer.push(search.facts.object(*sort, place))?;
+        longer.push(*object)?;
         add_under(search, &longer, rest, dues)?;
     }
     Ok(())

@@ -1,6 +1,5 @@
 -- Batches, one round more at a time.
-use Rattle.std.proofs.Common.{◌≡◌, true, ℕ, zero, suc, ◌+◌, ◌-◌, ◌<◌, ◌≤◌, arith, List, [], ◌∷◌, ◌++◌, map, length, take, drop, min, refl, sym, subst, ap, ◌∙◌, append_assoc, inl, inr}
-use Rattle.std.proofs.Math.ListN.{take-append-drop}
+use Rattle.std.proofs.Common.{◌≡◌, true, ℕ, zero, suc, ◌+◌, ◌-◌, ◌<◌, arith, List, [], ◌∷◌, ◌++◌, map, length, take, drop, refl, sym, subst, ap, ◌∙◌, append_assoc, inl, inr}
 use Rattle.std.proofs.lemmas.Bool.{cases_lt}
 use Rattle.std.proofs.Math.Seq.{take-add}
 use Rattle.std.proofs.lemmas.List.{append-nil, take-map, drop-take, length-take, length-map}
@@ -12,7 +11,6 @@ use Rattle.session_core.specs.Ready as ready
 use Rattle.session_core.specs.Ready.{IsNextRound, calls_left}
 use Rattle.session_core.specs.Session.{IsOf, IsSession}
 use Rattle.session_core.specs.State.{State}
-use Rattle.session_core.specs.declared.pools.Workers.{Workers}
 use Rattle.task_model.specs.declared.stream.Instance.{Instance}
 use Rattle.task_model.specs.declared.task.Task.{Task}
 use Rattle.transcript_text.specs.Legal.{asks_of}

@@ -1,12 +1,12 @@
 -- How many levels a run has.
-use Rattle.std.proofs.Common.{◌≡◌, ℕ, zero, suc, ◌+◌, ◌≤◌, arith, subst, Bool, true, false, cond, List, [], ◌∷◌, ◌++◌, count_by, refl, ap, ◌∙◌}
+use Rattle.std.proofs.Common.{◌≡◌, ℕ, zero, suc, ◌+◌, ◌≤◌, arith, subst, true, false, cond, List, [], ◌∷◌, ◌++◌, count_by, refl, ap, ◌∙◌}
 use Rattle.session_core.proofs.Kept.{count_joined, count_one}
 use Rattle.task_model.specs.Streams.{yields_of}
 use Rattle.task_model.specs.declared.stream.Instance.{Instance}
 use Rattle.task_model.specs.declared.task.Task.{Task}
 use Rattle.transcript_text.specs.Legal.{is_answer_to}
 use Rattle.transcript_text.specs.Names.{call_of_instance}
-use Rattle.transcript_text.specs.Rounds.{AreAnswers, AreRoundsRun, requests, requests_from, limits_of}
+use Rattle.transcript_text.specs.Rounds.{AreAnswers, AreRoundsRun, requests, requests_from}
 use Rattle.transcript_text.specs.Transcript.{names_of, notes_of}
 use Rattle.transcript_text.specs.declared.entry.Entry.{Entry}
 use Rattle.transcript_text.specs.declared.entry.Entry.TheVariants as entry

@@ -1,7 +1,7 @@
 -- Outcomes that are true.
-use Rattle.std.proofs.Common.{◌≡◌, ℕ, ◌<◌, ◌≤◌, arith, List, [], ◌∷◌, length, take, refl, sym, subst, ap, ◌∙◌, false, true, ◌==◌, eqb-true, Contains, ◌+◌, Vec, Global}
+use Rattle.std.proofs.Common.{◌≡◌, ℕ, ◌^◌, ◌<◌, ◌≤◌, arith, List, [], ◌∷◌, length, take, refl, sym, subst, ap, ◌∙◌, false, true, ◌==◌, eqb-true, ◌+◌, Vec, Global}
 use Rattle.std.proofs.Math.Seq.{take-length}
-use Rattle.best_first.specs.Answer.{HasPlan, IsFoundPlan, IsLimit, IsNothing}
+use Rattle.best_first.specs.Answer.{HasPlan, IsFoundPlan, IsLimit}
 use Rattle.best_first.specs.declared.found.Found.{Found}
 use Rattle.best_first.specs.declared.found.Found.TheVariants as found
 use Rattle.instance_queue.proofs.Dues.{at_head}
@@ -20,7 +20,6 @@ use Rattle.task_model.specs.declared.task.GroundAction.{GroundAction}
 use Rattle.task_model.specs.declared.task.Plan.{Plan}
 use Rattle.task_model.specs.declared.task.Task.{Task}
 use Rattle.transcript_text.specs.Legal.{IsLegal}
-use Rattle.transcript_text.specs.Outcomes.{IsTrueOutcome}
 use Rattle.transcript_text.specs.Rounds.{limits_of}
 use Rattle.transcript_text.specs.Transcript.{known_of, names_of, notes_of}
 use Rattle.transcript_text.specs.declared.entry.Entry.{Entry}
@@ -29,7 +28,7 @@ use Rattle.transcript_text.specs.declared.head.Mode.TheVariants.{Incremental}
 use Rattle.transcript_text.specs.declared.outcome.LimitKind.TheVariants.{Calls, States, Instances}
 use Rattle.transcript_text.specs.declared.outcome.Outcome.{Outcome}
 use Rattle.transcript_text.specs.declared.outcome.Outcome.TheVariants as outcome
-use Rattle.level_run.specs.Turns.{EndsBatch, IsDecided, IsSure, IsTurn}
+use Rattle.level_run.specs.Turns.{EndsBatch, HasRoom, IsDecided, IsSure, IsTurn}
 use Rattle.level_run.specs.declared.decide.Decision.{Decision}
 use Rattle.level_run.specs.declared.decide.Decision.TheVariants.{Ends, Asks}
 use Rattle.level_run.specs.declared.ending.Batch.{Batch}
@@ -66,11 +65,12 @@ module _ (task : Task) (s : State) (works : s.failed ≡ false) (learnt : IsLear
       pub legal_head : IsLegal head.version task s.entries
       legal_head = subst (λ v. IsLegal v task s.entries) of.version h.legal
 
-      pub plan_sure : (steps : List GroundAction) (cost : ℕ) (o : Outcome) → ShowsPlan head.version task s.entries steps cost o → IsValid task known steps cost → IsSure head task s.entries o
-      plan_sure steps cost o shows valid = record {
+      pub plan_sure : (steps : List GroundAction) (cost : ℕ) (o : Outcome) → ShowsPlan head.version task s.entries steps cost o → IsValid task known steps cost → cost < 2 ^ 64 → IsSure head task s.entries o
+      plan_sure steps cost o shows valid small = record {
         holds = true_outcome (limits_of head) task s.entries steps cost o shows (subst (λ k. IsValid task k steps cost) all_known valid);
         far = λ e. let both = sym e ∙ shows.is in absurd (cc);
         within = λ e. let both = sym e ∙ shows.is in absurd (cc);
+        room = subst HasRoom (sym shows.is) small;
       }
 
       pub states_sure : IsFar task known head.states → IsSure head task s.entries (outcome.Limit States)
@@ -80,6 +80,7 @@ module _ (task : Task) (s : State) (works : s.failed ≡ false) (learnt : IsLear
             holds = record { many = there.reached; closed = λ other. absurd (other mode) };
             far = λ e. there;
             within = λ e. absurd (cc);
+            room = tt;
           }
 
   module _ (head : Head) (of : IsOf head s) where
@@ -88,6 +89,7 @@ module _ (task : Task) (s : State) (works : s.failed ≡ false) (learnt : IsLear
       holds = more;
       far = λ e. absurd (cc);
       within = λ e. absurd (cc);
+      room = tt;
     }
 
     pub calls_sure : length s.asked ≡ head.calls → (i : Instance) → IsDue task (known_of task s.entries) (notes_of task s.entries) i → IsSure head task s.entries (outcome.Limit Calls)
@@ -95,6 +97,7 @@ module _ (task : Task) (s : State) (works : s.failed ≡ false) (learnt : IsLear
       holds = record { calls = sym h.counted ∙ spent; none_open = h.none_open; instance = i; due = due };
       far = λ e. absurd (cc);
       within = λ e. absurd (cc);
+      room = tt;
     }
 
     pub no_plan_sure : ¬ (IsSolvable task (known_of task s.entries)) → ¬ (MoreThan head.states (IsReached task (known_of task s.entries))) → AreDue task (known_of task s.entries) (notes_of task s.entries) [] → IsSure head task s.entries outcome.NoPlan
@@ -105,6 +108,7 @@ module _ (task : Task) (s : State) (works : s.failed ≡ false) (learnt : IsLear
       };
       far = λ e. absurd (cc);
       within = λ e. few;
+      room = tt;
     }
 
 -- ---- the list of what is due

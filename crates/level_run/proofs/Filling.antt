@@ -1,5 +1,5 @@
 -- Buffers that are filled.
-use Rattle.std.proofs.Common.{◌≡◌, ◌≢◌, ℕ, zero, suc, ◌+◌, ◌<◌, ◌≤◌, ◌==◌, arith, Bool, true, false, cond, List, [], ◌∷◌, ◌++◌, map, length, take, count_by, Option, Some, None, refl, sym, subst, ap, ◌∙◌, inl, inr, slice_get, unwrap_or, ◌||◌, append-nil, option_map, Result, Ok, Err, OnOk}
+use Rattle.std.proofs.Common.{◌≡◌, ℕ, zero, suc, ◌+◌, ◌<◌, ◌≤◌, arith, Bool, true, false, cond, List, [], ◌∷◌, ◌++◌, length, take, count_by, Option, Some, None, refl, sym, subst, ap, ◌∙◌, inl, inr, slice_get, unwrap_or, ◌||◌, append-nil, option_map, Result, Ok, Err, OnOk}
 use Rattle.std.proofs.lemmas.Bool.{cases_lt}
 use Rattle.std.proofs.lemmas.List.{length-append, length-map, length-take-le}
 use Rattle.std.proofs.lemmas.List.Folds.{list_any-append}
@@ -18,7 +18,7 @@ use Rattle.level_run.specs.Talking.{Misheard, Takes}
 use Rattle.level_run.specs.declared.fault.RunFault.{RunFault}
 use Rattle.level_run.specs.declared.fault.RunFault.TheVariants.{Answer}
 
-ended_long : (parts : List (List ℕ)) → 0 < length parts → length (ended parts) + 1 ≡ length parts
+pub ended_long : (parts : List (List ℕ)) → 0 < length parts → length (ended parts) + 1 ≡ length parts
 ended_long [] some = absurd (omega (arith, some))
 ended_long (part ∷ []) some = refl
 ended_long (part ∷ next ∷ parts) some = omega (arith, ended_long (next ∷ parts) (omega arith))

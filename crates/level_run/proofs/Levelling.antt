@@ -1,27 +1,25 @@
 -- Levels, one after another.
-use Rattle.std.proofs.Common.{◌≡◌, ℕ, zero, suc, ◌+◌, ◌<◌, ◌≤◌, ◌-◌, arith, Bool, true, false, List, [], ◌∷◌, ◌++◌, length, refl, sym, subst, ap, ◌∙◌, append_assoc, nat_lt, Contains, All, cond, ◌==◌, eq-eqb, if◌then◌else◌, length-append}
+use Rattle.std.proofs.Common.{◌≡◌, ℕ, ◌+◌, ◌-◌, arith, false, List, [], ◌∷◌, ◌++◌, length, refl, sym, subst, ap, ◌∙◌, append_assoc, All, cond, ◌==◌, eq-eqb, if◌then◌else◌, length-append}
 use Rattle.std.proofs.lemmas.Bool.{lt-ltb, le-ltb}
-use Rattle.std.proofs.lemmas.List.{append-nil, length-map}
-use Rattle.instance_queue.specs.Level.{AreDueInTurn, instances_of}
+use Rattle.std.proofs.lemmas.List.{length-map}
+use Rattle.instance_queue.specs.Level.{instances_of}
 use Rattle.instance_queue.specs.declared.due.Due.{Due}
 use Rattle.session_core.specs.Ready.{AreReady}
-use Rattle.session_core.specs.Session.{IsLearnt, IsSession}
+use Rattle.session_core.specs.Session.{IsLearnt}
 use Rattle.session_core.specs.State.{State, after_mark}
 use Rattle.task_model.specs.Fit.{IsFit}
-use Rattle.task_model.specs.Known.{Known}
 use Rattle.task_model.specs.Streams.{IsDue, yields_of}
-use Rattle.task_model.specs.declared.stream.Instance.{Instance}
 use Rattle.task_model.specs.declared.task.Task.{Task}
 use Rattle.transcript_text.proofs.Legals.{grows}
 use Rattle.transcript_text.proofs.Steps.{mark_adds}
 use Rattle.transcript_text.specs.Legal.{IsLegal, asks_of}
 use Rattle.transcript_text.specs.Rounds.{IsBatch, limits_of}
 use Rattle.transcript_text.specs.Transcript.{known_of, notes_of}
-use Rattle.transcript_text.specs.Turns.{AreTurns, IsLevel, IncrementalTurn, MayBegin, Stage, is_cut, none_left, whole, cut_off, between, after_cut}
+use Rattle.transcript_text.specs.Turns.{MayBegin, is_cut}
 use Rattle.transcript_text.specs.declared.entry.Entry.{Entry}
 use Rattle.transcript_text.specs.declared.entry.Entry.TheVariants as entry
 use Rattle.transcript_text.specs.declared.head.Head.{Head}
-use Rattle.level_run.specs.Turns.{EndsBatch, IsMarked, IsNeededLevel, IsTurn, NeededTurn, RunsLevel, cut_by}
+use Rattle.level_run.specs.Turns.{EndsBatch, IsMarked, IsTurn, RunsLevel, cut_by}
 use Rattle.level_run.specs.declared.ending.Batch.{Batch}
 use Rattle.level_run.specs.declared.ending.Batch.TheVariants.{Done, CallsSpent}
 

@@ -1,8 +1,6 @@
 -- The requests of a transcript, and those of a round.
-use Rattle.std.proofs.Common.{◌≡◌, ℕ, zero, suc, ◌+◌, ◌<◌, ◌≤◌, arith, Bool, true, false, cond, List, [], ◌∷◌, ◌++◌, map, length, take, drop, filter, count_by, Option, Some, None, refl, sym, subst, ap, ◌∙◌, append_assoc, slice_get, option_map, unwrap_or, Contains}
-use Rattle.std.proofs.lemmas.List.{append-nil, length-append}
+use Rattle.std.proofs.Common.{◌≡◌, ℕ, zero, suc, ◌+◌, ◌<◌, arith, true, cond, List, [], ◌∷◌, ◌++◌, length, take, Some, refl, sym, subst, ap, ◌∙◌, slice_get, option_map, unwrap_or}
 use Rattle.std.proofs.lemmas.List.Elements.{filter-append}
-use Rattle.std.proofs.lemmas.Option.{slice_get_within}
 use Rattle.instance_queue.specs.declared.due.Due.{Due}
 use Rattle.session_core.proofs.Kept.{count_joined, count_one}
 use Rattle.session_core.specs.Pools.{child_for}
@@ -14,11 +12,11 @@ use Rattle.task_model.specs.declared.stream.Instance.{Instance}
 use Rattle.task_model.specs.declared.task.Task.{Task}
 use Rattle.transcript_text.proofs.Calls.{call_names_instance}
 use Rattle.transcript_text.proofs.Tables.{and_then_some, map_some}
-use Rattle.transcript_text.specs.Legal.{asks_of, is_ask, is_answer_to}
+use Rattle.transcript_text.specs.Legal.{asks_of, is_ask}
 use Rattle.transcript_text.specs.Names.{call_of_instance, places_of, stream_named}
 use Rattle.transcript_text.specs.declared.entry.Entry.{Entry}
 use Rattle.transcript_text.specs.declared.entry.Entry.TheVariants as entry
-use Rattle.level_run.specs.Dialogue.{IsOneOf, Request, last_round, replies_of, requests_after, requests_of, stream_of, text_of_request, wanted_by}
+use Rattle.level_run.specs.Dialogue.{IsOneOf, Request, last_round, replies_of, requests_after, stream_of}
 use Rattle.level_run.specs.Talking.{IsSlotOf}
 
 -- ---- transcripts that go on

@@ -1,19 +1,18 @@
 -- What was said: one request more is written, one line more is heard.
-use Rattle.std.proofs.Common.{◌≡◌, ◌≢◌, ℕ, zero, suc, ◌+◌, ◌<◌, ◌≤◌, ◌==◌, arith, Bool, true, false, cond, List, [], ◌∷◌, ◌++◌, length, take, drop, count_by, Option, Some, None, refl, sym, subst, ap, ◌∙◌, append_assoc, inl, inr, ◌⊎◌, slice_get, option_map, IfSome, eqb-true, eq-eqb}
-use Rattle.std.proofs.Math.Seq.{take-length, take-append_seam}
+use Rattle.std.proofs.Common.{◌≡◌, ◌≢◌, ℕ, zero, suc, ◌+◌, ◌≤◌, ◌==◌, arith, Bool, true, false, cond, List, [], ◌∷◌, ◌++◌, length, take, drop, Option, Some, None, refl, sym, subst, ap, ◌∙◌, inl, inr, ◌⊎◌, slice_get, option_map, IfSome, eqb-true, eq-eqb}
 use Rattle.std.proofs.lemmas.Grind.{flat_map-append}
 use Rattle.std.proofs.lemmas.List.{append-nil, length-append, take-append-le}
 use Rattle.std.proofs.lemmas.Option.{slice_get_within}
 use Rattle.std.specs.List.{after_first}
 use Rattle.best_first.proofs.Pigeons.{get_append, get_pushed}
 use Rattle.gen_lines.proofs.Pieces.{whole}
-use Rattle.gen_lines.specs.Cutting.{Cut, fresh, pushed, took}
-use Rattle.gen_lines.specs.Lines.{is_feed, lines_of, unfinished}
+use Rattle.gen_lines.specs.Cutting.{pushed, took}
+use Rattle.gen_lines.specs.Lines.{is_feed, lines_of}
 use Rattle.gen_lines.specs.Reply as reply
-use Rattle.gen_lines.specs.Reply.{Reply, reply_of}
+use Rattle.gen_lines.specs.Reply.{reply_of}
 use Rattle.gen_lines.specs.declared.answer.Why.{Why}
 use Rattle.gen_lines.specs.declared.answer.Why.TheVariants.{TooLong}
-use Rattle.io_world.specs.Talks.{Talk, Becomes, Hears, Same, Writes, heard_more, silence, wrote_more}
+use Rattle.io_world.specs.Talks.{Talk, Hears, Writes, heard_more, wrote_more}
 use Rattle.session_core.proofs.Answered.{take_next}
 use Rattle.session_core.proofs.Kept.{count_joined, count_one}
 use Rattle.session_core.specs.Slots.{entry_of}
@@ -70,7 +69,7 @@ other_bytes r child other = append-nil (cond (is_to child r) (text_of_request r)
 pub bytes_more : (child : ℕ) (rs more : List Request) → bytes_to child (rs ++ more) ≡ bytes_to child rs ++ bytes_to child more
 bytes_more child rs more = flat_map-append (λ (r : Request). cond (is_to child r) (text_of_request r) []) rs more
 
-count_own : (rs : List Request) (r : Request) (child : ℕ) → r.child ≡ child → count_to child (rs ++ r ∷ []) ≡ count_to child rs + 1
+pub count_own : (rs : List Request) (r : Request) (child : ℕ) → r.child ≡ child → count_to child (rs ++ r ∷ []) ≡ count_to child rs + 1
 count_own rs r child own = count_joined (is_to child) rs (r ∷ []) ∙ ap (λ n. count_to child rs + n) (count_one (is_to child) r ∙ ap (λ b. cond b 1 0) (eq-eqb r.child child own))
 
 count_other : (rs : List Request) (r : Request) (child : ℕ) → r.child ≢ child → count_to child (rs ++ r ∷ []) ≡ count_to child rs
@@ -158,7 +157,7 @@ module _ (task : Task) (version : ℕ) (rs : List Request) (replies : List Entry
   talk_more kept more talk t = record { written = t.written; taken = t.taken; cut = pushed t.cut more; many = t.many; said = t.said }
 
   -- the lines that were taken are the first of all
-  all_lines : (kept : List ℕ) (talk : Talk) (t : IsTalk task version rs replies child kept talk) → lines_of talk.heard ≡ t.taken ++ lines_of kept
+  pub all_lines : (kept : List ℕ) (talk : Talk) (t : IsTalk task version rs replies child kept talk) → lines_of talk.heard ≡ t.taken ++ lines_of kept
   all_lines kept talk t =
       ap lines_of (sym (append-nil talk.heard)) ∙ (whole talk.heard t.taken kept t.cut).lines [] ∙ ap (λ bytes. t.taken ++ lines_of bytes) (append-nil kept)
 

@@ -1,21 +1,18 @@
 -- A run between two levels.
-use Rattle.std.proofs.Common.{◌≡◌, ℕ, zero, suc, ◌+◌, ◌<◌, ◌≤◌, arith, Bool, true, false, cond, List, [], ◌∷◌, ◌++◌, count_by, length, refl, sym, subst, ap, ◌∙◌, append_assoc, inl, inr}
+use Rattle.std.proofs.Common.{◌≡◌, ℕ, List, [], ◌++◌, refl, sym, subst, append_assoc, inl, inr}
 use Rattle.std.proofs.lemmas.List.{append-nil}
-use Rattle.session_core.proofs.Kept.{count_joined, count_one}
 use Rattle.instance_queue.specs.declared.due.Due.{Due}
-use Rattle.task_model.specs.declared.stream.Instance.{Instance}
 use Rattle.task_model.specs.declared.task.Task.{Task}
-use Rattle.transcript_text.specs.Legal.{IsLegal, asks_of, is_answer_to}
-use Rattle.transcript_text.specs.Rounds.{AreAnswers, AreRoundsRun, limits_of, requests_from}
-use Rattle.transcript_text.specs.Turns.{AreTurns, IncrementalTurn, MayBegin, Stage, none_left, whole, cut_off, between, after_cut}
+use Rattle.transcript_text.specs.Legal.{IsLegal, asks_of}
+use Rattle.transcript_text.specs.Rounds.{limits_of}
+use Rattle.transcript_text.specs.Turns.{AreTurns, IncrementalTurn, Stage, none_left, whole, cut_off, between, after_cut}
 use Rattle.transcript_text.specs.declared.entry.Entry.{Entry}
-use Rattle.transcript_text.specs.declared.entry.Entry.TheVariants as entry
 use Rattle.transcript_text.specs.declared.head.Head.{Head}
 use Rattle.transcript_text.specs.declared.outcome.LimitKind.TheVariants.{Calls}
 use Rattle.transcript_text.specs.declared.outcome.Outcome.{Outcome}
 use Rattle.transcript_text.specs.declared.outcome.Outcome.TheVariants as outcome
 use Rattle.level_run.proofs.Levelling.{may_begin}
-use Rattle.level_run.specs.Reports.{IsRun, is_level}
+use Rattle.level_run.specs.Reports.{IsRun}
 use Rattle.level_run.specs.Turns.{IsSure, IsTurn, NeededTurn, RunsLevel}
 use Rattle.level_run.specs.declared.ending.Batch.TheVariants.{Done, CallsSpent}
 

@@ -1,15 +1,15 @@
 -- Children that are started, one after another.
-use Rattle.std.proofs.Common.{◌≡◌, ◌≢◌, ℕ, zero, suc, ◌+◌, ◌<◌, ◌≤◌, arith, Bool, true, false, List, [], ◌∷◌, All, map, length, replicate, refl, sym, subst, ap, ◌∙◌, inl, inr, Option, Some, None, Result, Ok, Err, slice_get, option_map, get_or, unwrap_or}
+use Rattle.std.proofs.Common.{◌≡◌, ℕ, zero, suc, ◌+◌, ◌<◌, ◌≤◌, arith, Bool, true, false, List, map, length, replicate, refl, sym, subst, ap, ◌∙◌, inl, inr, Option, Some, None, Result, Ok, Err, slice_get, option_map, get_or, unwrap_or}
 use Rattle.std.proofs.lemmas.Bool.{cases_lt}
 use Rattle.std.proofs.lemmas.Option.{slice_get-map, slice_get-get_or, slice_get_past}
 use Rattle.std.specs.Result.{IfOk, OnOk}
 use Rattle.io_world.specs.Talks.{Becomes, Same}
-use Rattle.session_core.specs.Pools.{AreFitPools, HasChild, workers_of}
+use Rattle.session_core.specs.Pools.{workers_of}
 use Rattle.session_core.specs.declared.pools.Workers.{Workers}
 use Rattle.task_model.specs.declared.task.Task.{Task}
 use Rattle.transcript_text.specs.declared.head.Head.{Head}
 use Rattle.transcript_text.specs.declared.head.Pool.{Pool}
-use Rattle.level_run.specs.Starts.{AllWork, AreStartable, IsWorker, NoneWorks}
+use Rattle.level_run.specs.Starts.{AllWork, AreStartable, IsWorker}
 use Rattle.transcript_text.specs.declared.entry.Entry.{Entry}
 use Rattle.level_run.specs.Turns.{AllRun, AreStarted, EndsBatch, IsRunnable}
 use Rattle.level_run.specs.declared.ending.Batch.{Batch}

@@ -1,5 +1,5 @@
 -- How runs go on and stop, one entry after another.
-use Rattle.std.proofs.Common.{◌≡◌, ℕ, ◌+◌, ◌<◌, ◌≤◌, arith, Bool, true, false, Result, Ok, Err, List, [], ◌∷◌, ◌++◌, length, take, Option, Some, None, refl, sym, subst, ap, ◌∙◌, append_assoc, ◌⊎◌, inl, inr}
+use Rattle.std.proofs.Common.{◌≡◌, ℕ, ◌+◌, ◌<◌, ◌≤◌, arith, true, Result, Ok, Err, List, [], ◌∷◌, ◌++◌, length, take, Option, Some, None, sym, subst, ap, ◌∙◌, append_assoc}
 use Rattle.std.proofs.Math.Seq.{take-append-add}
 use Rattle.std.proofs.lemmas.List.{append-nil, length-append}
 use Rattle.std.proofs.lemmas.Grind.{flat_map-append}
@@ -9,18 +9,17 @@ use Rattle.std.specs.List.{flat_map}
 use Rattle.std.specs.Result.{IsErrAnd, IfErr, IfOk, OnErr, OnOk}
 use Rattle.io_world.specs.Faults.{Rose, HasCause}
 use Rattle.task_model.specs.declared.task.Task.{Task}
-use Rattle.transcript_text.proofs.Legals.{grows}
-use Rattle.gen_lines.specs.declared.answer.Why.{Why}
-use Rattle.transcript_text.specs.Legal.{IsLegal, MayFollow, is_open}
+use Rattle.transcript_text.specs.Legal.{IsLegal, is_open}
 use Rattle.transcript_text.specs.Texts.{text_of_entry}
 use Rattle.transcript_text.specs.declared.entry.Entry.{Entry}
 use Rattle.io_world.specs.Talks.{Talk}
 use Rattle.session_core.specs.Slots.{Slot}
 use Rattle.session_core.specs.declared.pools.Workers.{Workers}
 use Rattle.level_run.specs.Dialogue.{BrokenOff, HasBadLine}
+use Rattle.level_run.specs.Pieces.{CutOff}
 use Rattle.level_run.specs.Rolling.{Goes, Stopped, Blames}
 use Rattle.level_run.specs.Talking.{IsBlamed}
-use Rattle.level_run.specs.Stops.{StopsAt, Misses, MayHear, MayWrite}
+use Rattle.level_run.specs.Stops.{StopsAt, MayHear, MayWrite}
 use Rattle.level_run.specs.declared.fault.RunFault.{RunFault}
 use Rattle.level_run.specs.declared.fault.RunFault.TheVariants.{Answer, Generator, Write, Memory}
 
@@ -74,61 +73,83 @@ MayBlame version task pools spoken Generator entries = Unit {0}
 MayBlame version task pools spoken Memory entries = Unit {0}
 MayBlame version task pools spoken Write entries = ⊥
 
-module _ (version : ℕ) (task : Task) (pools : List Workers) (spoken : ℕ → Option Talk) where
+module _ (version : ℕ) (task : Task) (pools : List Workers) (spoken : ℕ → Option Talk) (Front : List Entry → Type 0) where
   legal_none : (before : List Entry) → IsLegal version task before → IsLegal version task (before ++ [])
   legal_none before legal = subst (IsLegal version task) (sym (append-nil before)) legal
+
+  front_none : (before : List Entry) → Front before → Front (before ++ [])
+  front_none before front = subst Front (sym (append-nil before)) front
 
   broken_same : (before : List Entry) → BrokenOff task version pools before spoken → BrokenOff task version pools (before ++ []) spoken
   broken_same before broken = subst (λ es. BrokenOff task version pools es spoken) (sym (append-nil before)) broken
 
   -- nothing was written
-  pub stopped_hearing : (before : List Entry) (fault : RunFault) (sink : Option (List ℕ)) → IsLegal version task before → BrokenOff task version pools before spoken → MayHear fault → Stopped version task pools before fault sink sink spoken
-  stopped_hearing before Generator sink legal broken may = record { more = []; legal = legal_none before legal; told = appends_none sink; blamed = tt; talks = broken_same before broken }
-  stopped_hearing before Memory sink legal broken may = record { more = []; legal = legal_none before legal; told = appends_none sink; blamed = tt; talks = broken_same before broken }
-  stopped_hearing before Write sink legal broken may = absurd may
-  stopped_hearing before (Answer number why) sink legal broken may = absurd may
+  pub stopped_hearing : (before : List Entry) (fault : RunFault) (sink : Option (List ℕ)) (log : List Entry → Type 0) → IsLegal version task before → Front before → BrokenOff task version pools before spoken → log [] → MayHear fault → Stopped version task pools Front before fault sink sink spoken log
+  stopped_hearing before Generator sink log legal front broken here may = record { more = []; legal = legal_none before legal; front = front_none before front; told = appends_none sink; blamed = tt; talks = broken_same before broken; logged = here }
+  stopped_hearing before Memory sink log legal front broken here may = record { more = []; legal = legal_none before legal; front = front_none before front; told = appends_none sink; blamed = tt; talks = broken_same before broken; logged = here }
+  stopped_hearing before Write sink log legal front broken here may = absurd may
+  stopped_hearing before (Answer number why) sink log legal front broken here may = absurd may
 
   -- memory is wanting, and nothing was written
-  pub stopped_memory : (before : List Entry) (fault : RunFault) (sink : Option (List ℕ)) → IsLegal version task before → BrokenOff task version pools before spoken → fault ≡ Memory → Stopped version task pools before fault sink sink spoken
-  stopped_memory before fault sink legal broken is = subst (λ f. Stopped version task pools before f sink sink spoken) (sym is) (stopped_hearing before Memory sink legal broken tt)
+  pub stopped_memory : (before : List Entry) (fault : RunFault) (sink : Option (List ℕ)) (log : List Entry → Type 0) → IsLegal version task before → Front before → BrokenOff task version pools before spoken → log [] → fault ≡ Memory → Stopped version task pools Front before fault sink sink spoken log
+  stopped_memory before fault sink log legal front broken here is = subst (λ f. Stopped version task pools Front before f sink sink spoken log) (sym is) (stopped_hearing before Memory sink log legal front broken here tt)
 
   -- a child failed, or its line is no answer to the open request
-  pub stopped_blamed : (before : List Entry) (fault : RunFault) (sink : Option (List ℕ)) → IsLegal version task before → BrokenOff task version pools before spoken → MayBlame version task pools spoken fault before → Stopped version task pools before fault sink sink spoken
-  stopped_blamed before Generator sink legal broken is = stopped_hearing before Generator sink legal broken tt
-  stopped_blamed before Memory sink legal broken is = stopped_hearing before Memory sink legal broken tt
-  stopped_blamed before Write sink legal broken is = absurd is
-  stopped_blamed before (Answer number why) sink legal broken is = record {
+  pub stopped_blamed : (before : List Entry) (fault : RunFault) (sink : Option (List ℕ)) (log : List Entry → Type 0) → IsLegal version task before → Front before → BrokenOff task version pools before spoken → log [] → MayBlame version task pools spoken fault before → Stopped version task pools Front before fault sink sink spoken log
+  stopped_blamed before Generator sink log legal front broken here is = stopped_hearing before Generator sink log legal front broken here tt
+  stopped_blamed before Memory sink log legal front broken here is = stopped_hearing before Memory sink log legal front broken here tt
+  stopped_blamed before Write sink log legal front broken here is = absurd is
+  stopped_blamed before (Answer number why) sink log legal front broken here is = record {
     more = [];
     legal = legal_none before legal;
+    front = front_none before front;
     told = appends_none sink;
     blamed = subst (λ es. (is_open es number ≡ true) × HasBadLine task version pools es spoken number why) (sym (append-nil before)) is;
     talks = broken_same before broken;
+    logged = here;
   }
 
-  -- an entry was to be written
-  pub stopped_at : (before : List Entry) (e : Entry) (fault : RunFault) (old new : Option (List ℕ)) → IsLegal version task (before ++ e ∷ []) → BrokenOff task version pools before spoken → BrokenOff task version pools (before ++ e ∷ []) spoken → Misses fault old new (text_of_entry e) → Stopped version task pools before fault old new spoken
-  stopped_at before e Generator old new legal broken after misses = absurd misses
-  stopped_at before e Memory old new legal broken after misses = record { more = []; legal = legal_none before ((grows version task before).front (e ∷ []) legal); told = misses; blamed = tt; talks = broken_same before broken }
-  stopped_at before e Write old new legal broken after (n, less, told) = record {
+  -- an entry was to be written, and the sink failed
+  pub stopped_at : (before : List Entry) (e : Entry) (fault : RunFault) (old new : Option (List ℕ)) (log : List Entry → Type 0) → IsLegal version task (before ++ e ∷ []) → Front (before ++ e ∷ []) → BrokenOff task version pools (before ++ e ∷ []) spoken → (fault ≡ Write → log (e ∷ [])) → (fault ≡ Write) × CutOff old new (text_of_entry e) → Stopped version task pools Front before fault old new spoken log
+  stopped_at before e fault old new log legal front after here (is, cut) = subst (λ f. Stopped version task pools Front before f old new spoken log) (sym is) (record {
     more = e ∷ [];
     legal = legal;
-    told = subst (λ bytes. (m : ℕ) × (m < length bytes) × Appends old new (take m bytes)) (sym (lines_of_one e)) (n, less, told);
+    front = front;
+    told = subst (λ bytes. (m : ℕ) × (m < length bytes) × Appends old new (take m bytes)) (sym (lines_of_one e)) (cut.count, cut.less, cut.took);
     blamed = tt;
     talks = after;
-  }
-  stopped_at before e (Answer number why) old new legal broken after misses = absurd misses
+    logged = here is;
+  })
 
   -- it went on and stopped then
-  pub stopped_then : (a b : List Entry) (fault : RunFault) (old mid new : Option (List ℕ)) → Goes a b old mid → Stopped version task pools b fault mid new spoken → Stopped version task pools a fault old new spoken
-  stopped_then a b fault old mid new goes stopped =
+  pub stopped_then : (a b : List Entry) (fault : RunFault) (old mid new : Option (List ℕ)) (log later : List Entry → Type 0) → (goes : Goes a b old mid) → ((more : List Entry) → later more → log (goes.more ++ more)) → Stopped version task pools Front b fault mid new spoken later → Stopped version task pools Front a fault old new spoken log
+  stopped_then a b fault old mid new log later goes both stopped =
       let all : b ++ stopped.more ≡ a ++ (goes.more ++ stopped.more) = ap (λ front. front ++ stopped.more) goes.pushed ∙ append_assoc a goes.more stopped.more in
       record {
         more = goes.more ++ stopped.more;
         legal = subst (IsLegal version task) all stopped.legal;
+        front = subst Front all stopped.front;
         told = subst (StopsAt fault old new) (sym (flat_map-append text_of_entry goes.more stopped.more)) (stops_then fault old mid new _ _ goes.told stopped.told);
         blamed = subst (Blames version task pools spoken fault) all stopped.blamed;
         talks = subst (λ es. BrokenOff task version pools es spoken) all stopped.talks;
+        logged = both stopped.more stopped.logged;
       }
+
+  -- the front of one is the front of another, and what the log tells is told otherwise
+  pub stopped_as : (Other : List Entry → Type 0) (before : List Entry) (fault : RunFault) (old new : Option (List ℕ)) (log later : List Entry → Type 0) → ((es : List Entry) → IsLegal version task es → Other es → Front es) → ((more : List Entry) → log more → later more) → Stopped version task pools Other before fault old new spoken log → Stopped version task pools Front before fault old new spoken later
+  stopped_as Other before fault old new log later turns tells stopped = record {
+    more = stopped.more;
+    legal = stopped.legal;
+    front = turns (before ++ stopped.more) stopped.legal stopped.front;
+    told = stopped.told;
+    blamed = stopped.blamed;
+    talks = stopped.talks;
+    logged = tells stopped.more stopped.logged;
+  }
+
+  -- the same with one front
+  pub stopped_map : (before : List Entry) (fault : RunFault) (old new : Option (List ℕ)) (log later : List Entry → Type 0) → ((more : List Entry) → log more → later more) → Stopped version task pools Front before fault old new spoken log → Stopped version task pools Front before fault old new spoken later
+  stopped_map before fault old new log later f s = stopped_as Front before fault old new log later (λ es legal front. front) f s
 
 -- ---- faults that are handed on
 
@@ -143,16 +164,6 @@ pub handed_err : {T E : Type 0} (r : Result T E) (e : E) → IsErrAnd r (λ y. y
 handed_err r e is = let p = err_from_is_err_and r is in p.1 ∙ ap Err p.2
 
 -- ---- causes
-
--- a fault has its cause after an earlier call too
-pub cause_then : {T U E : Type 0} (failed : E) (last before mid now : ℕ) (first : Result T E) (second : Result U E) → HasCause failed last before mid first → HasCause failed last mid now second → HasCause failed last before now second
-cause_then failed last before mid now first second a b = record {
-  later = omega (arith, a.later, b.later);
-  cause = λ is. later_rise last before mid now a.later (b.cause is);
-}
-  where
-    later_rise : (last before mid now : ℕ) → before ≤ mid → Rose last mid now → Rose last before now
-    later_rise last before mid now later rose = omega (arith, later, rose)
 
 -- another fault needs none
 pub no_cause : {T U : Type 0} (failed : RunFault) (last before mid : ℕ) (first : Result T RunFault) (fault : RunFault) (r : Result U RunFault) → HasCause failed last before mid first → (fault ≡ failed → ⊥) → r ≡ Err fault → HasCause failed last before mid r
@@ -197,6 +208,10 @@ ok_map (Err e) P Q f p = tt
 pub err_map : {T E : Type 0} (r : Result T E) (P Q : E → Type 0) → ((e : E) → P e → Q e) → IfErr r P → IfErr r Q
 err_map (Ok x) P Q f p = tt
 err_map (Err e) P Q f p = f e p
+
+pub err_both : {T E : Type 0} (r : Result T E) (P : E → Type 0) (Q : Type 0) (R : E → Type 0) → ((e : E) → P e → Q → R e) → IfErr r P → OnErr r Q → IfErr r R
+err_both (Ok x) P Q R f p q = tt
+err_both (Err e) P Q R f p q = f e p q
 
 -- all went well
 pub written_cause : {T : Type 0} (last first second third now : ℕ) (value : T) → first ≤ second → second ≤ third → third ≤ now → HasCause Write last first now (let r : Result T RunFault = Ok value in r)

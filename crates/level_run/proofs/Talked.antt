@@ -1,5 +1,5 @@
 -- What was said in a round.
-use Rattle.std.proofs.Common.{◌≡◌, ◌≢◌, ℕ, zero, suc, ◌+◌, ◌<◌, ◌≤◌, arith, Bool, true, false, cond, List, [], ◌∷◌, ◌++◌, map, length, take, drop, Option, Some, None, refl, sym, subst, ap, ◌∙◌, append_assoc, inl, inr, ◌⊎◌, slice_get, option_map, IfSome, nat_lt, is_none, unwrap_or, eq-eqb}
+use Rattle.std.proofs.Common.{◌≡◌, ◌≢◌, ℕ, zero, suc, ◌+◌, ◌<◌, arith, Bool, true, false, List, [], ◌∷◌, ◌++◌, map, length, take, Option, Some, None, refl, sym, subst, ap, ◌∙◌, append_assoc, inl, inr, ◌⊎◌, slice_get, option_map, IfSome, unwrap_or, eq-eqb}
 use Rattle.std.proofs.Math.Seq.{take-length}
 use Rattle.std.proofs.lemmas.List.{append-nil, length-append, length-map, length-take-le}
 use Rattle.std.proofs.lemmas.Option.{slice_get_within, slice_get-map}
@@ -16,26 +16,23 @@ use Rattle.session_core.proofs.Answered.{front_at, there_at, take_next}
 use Rattle.session_core.proofs.Begins.{child_served}
 use Rattle.session_core.proofs.Slotted.{at_own, at_other, own_slot}
 use Rattle.session_core.specs.Heard.{heard_at, heard_by, is_bad_at, number_at}
-use Rattle.session_core.specs.Pools.{HasChild}
 use Rattle.session_core.specs.Session.{IsSession, AreSlotsFor, MayBegin, begun, is_answer}
-use Rattle.session_core.specs.Slots.{Slot, answers_of, asks_from, at_child, entry_of, fault_of, heard_slot, is_slot_of, reply_to, sent_slot, slot_of, slots_from}
+use Rattle.session_core.specs.Slots.{Slot, answers_of, asks_from, at_child, entry_of, fault_of, heard_slot, is_slot_of, reply_to, sent_slot, slots_from}
 use Rattle.session_core.specs.State.{State, after_line, after_sent, with_slots}
-use Rattle.session_core.specs.declared.fault.Heard.{Heard}
 use Rattle.session_core.specs.declared.fault.Heard.TheVariants as heard
 use Rattle.session_core.specs.declared.pools.Workers.{Workers}
 use Rattle.task_model.proofs.Members.{member_at}
-use Rattle.task_model.specs.Streams.{IsDue}
 use Rattle.task_model.specs.declared.task.Task.{Task}
-use Rattle.transcript_text.proofs.Tables.{same_some}
 use Rattle.transcript_text.specs.Legal.{IsLegal, is_open}
 use Rattle.transcript_text.specs.declared.entry.Entry.{Entry}
 use Rattle.transcript_text.specs.declared.entry.Entry.TheVariants as entry
 use Rattle.level_run.proofs.Requesting.{AreAsks, AreReplies, all_replies, asks_are, closed_by, last_join, no_replies, no_requests, replies_join, requests_front, requests_join, requests_long, slots_ask}
-use Rattle.level_run.proofs.Rounding.{answered_now, as_long, asks_legal, blamed_there, front_same, number_is, one_more, printed_there, round_legal, was_some}
+use Rattle.level_run.proofs.Printed.{asks_legal, one_more, round_legal}
+use Rattle.level_run.proofs.Rounding.{answered_now, as_long, blamed_there, front_same, number_is, printed_there, was_some}
 use Rattle.level_run.proofs.Saying.{bad_line, broken_none, broken_one, talks_heard, talks_more, talks_sent, with_more}
 use Rattle.level_run.proofs.Stopping.{MayBlame}
 use Rattle.level_run.specs.Dialogue.{BrokenOff, HasBadLine, IsOneOf, Request, last_round, replies_of, requests_after, requests_of, text_of_request, wanted_by}
-use Rattle.level_run.specs.Rolling.{IsRolling, IsSameRound, finished}
+use Rattle.level_run.specs.Rolling.{IsRolling, finished}
 use Rattle.level_run.specs.Talking.{AreSlotsOf, IsBadFirst, IsBlamed, IsSlotOf, IsTalk, IsTalking, IsTold, Misheard, Takes, Talks}
 use Rattle.level_run.specs.Turns.{AllRun}
 use Rattle.level_run.specs.declared.fault.RunFault.{RunFault}
@@ -67,7 +64,7 @@ finished_each task version n (d ∷ ds) (t ∷ ts) h (suc k) e at = finished_eac
 pub round_replies : (task : Task) (s : State) → s.is_open ≡ true → IsSession task s → AreReplies (finished s.slots)
 round_replies task s opened h = let r = h.round opened in finished_each task s.version (length s.asked + 1) r.dues s.slots r.slots
 
-front_each : (es : List Entry) (n : ℕ) → AreReplies es → AreReplies (take n es)
+pub front_each : (es : List Entry) (n : ℕ) → AreReplies es → AreReplies (take n es)
 front_each es n each k e at = each k e (front_at es n k e at)
 
 front_asks : (es : List Entry) (n : ℕ) → AreAsks es → AreAsks (take n es)
@@ -228,7 +225,7 @@ printed_many slots place within = length-take-le place (finished slots) (omega (
 
 module _ (task : Task) (s : State) (running : ℕ → Bool) (place : ℕ) (r : IsRolling s running (length s.slots) place) (within : place < length s.slots) (t : Slot) (at : slice_get s.slots place ≡ Some t) where
   -- the request that is answered next
-  next_is : (a : List Request) (b : List Entry) (q : Request) → length b ≡ length a → slice_get (requests_of task s.pools s.asks) place ≡ Some q → slice_get (a ++ requests_of task s.pools s.asks) (length (b ++ take place (finished s.slots))) ≡ Some q
+  pub next_is : (a : List Request) (b : List Entry) (q : Request) → length b ≡ length a → slice_get (requests_of task s.pools s.asks) place ≡ Some q → slice_get (a ++ requests_of task s.pools s.asks) (length (b ++ take place (finished s.slots))) ≡ Some q
   next_is a b q even at_q =
       ap (slice_get (a ++ requests_of task s.pools s.asks)) (length-append b (take place (finished s.slots)) ∙ (λ i. even i + printed_many s.slots place within i))
       ∙ get_behind a (requests_of task s.pools s.asks) place q at_q
@@ -374,9 +371,6 @@ module _ (task : Task) (s : State) (place : ℕ) (kept : ℕ → List ℕ) (old 
   pub broken_part : (child : ℕ) (request : List ℕ) (n : ℕ) → child ≡ t.child → request ≡ t.request → Writes child (take n request) old new → BrokenOff task s.version s.pools (s.entries ++ take place s.asks) new
   broken_part child request n own same w =
       broken_sending task s place kept old new t at e n opened h at_e next_legal k (subst (λ c. Writes c (take n t.request) old new) own (subst (λ bytes. Writes child (take n bytes) old new) same w))
-
-  pub broken_whole : (child : ℕ) (request : List ℕ) → child ≡ t.child → request ≡ t.request → Writes child request old new → BrokenOff task s.version s.pools (s.entries ++ take place s.asks) new
-  broken_whole child request own same w = broken_part child request (length request) own same (subst (λ bytes. Writes child bytes old new) (sym (take-length request)) w)
 
   pub broken_after : (child : ℕ) (request : List ℕ) → child ≡ t.child → request ≡ t.request → Writes child request old new → IsSession task (after_sent s t.child) → BrokenOff task s.version s.pools ((s.entries ++ take place s.asks) ++ e ∷ []) new
   broken_after child request own same w h_after =

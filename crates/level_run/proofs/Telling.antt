@@ -1,8 +1,8 @@
 -- What was said, between two rounds.
-use Rattle.std.proofs.Common.{◌≡◌, ℕ, ◌+◌, ◌<◌, ◌≤◌, arith, Bool, true, false, List, [], ◌∷◌, ◌++◌, length, Option, Some, None, refl, sym, subst, ap, ◌∙◌, slice_get, IfSome}
-use Rattle.std.proofs.lemmas.List.{append-nil, length-append}
+use Rattle.std.proofs.Common.{◌≡◌, ℕ, ◌<◌, arith, Bool, true, false, List, [], ◌∷◌, ◌++◌, length, Option, refl, sym, subst, ap, ◌∙◌, IfSome}
+use Rattle.std.proofs.lemmas.List.{append-nil}
 use Rattle.gen_lines.specs.Cutting.{fresh}
-use Rattle.io_world.specs.Talks.{Talk, Same, silence}
+use Rattle.io_world.specs.Talks.{Talk}
 use Rattle.session_core.specs.declared.pools.Workers.{Workers}
 use Rattle.task_model.specs.declared.task.Task.{Task}
 use Rattle.transcript_text.specs.Legal.{IsLegal, asks_of}
@@ -10,7 +10,7 @@ use Rattle.transcript_text.specs.declared.entry.Entry.{Entry}
 use Rattle.transcript_text.specs.declared.entry.Entry.TheVariants as entry
 use Rattle.level_run.proofs.Requesting.{last_join, replies_join, requests_counted, requests_join}
 use Rattle.level_run.proofs.Saying.{talk_said, told_map}
-use Rattle.level_run.specs.Dialogue.{BrokenOff, Dialogue, IsOneOf, IsSaid, bytes_to, last_round, replies_of, requests_of}
+use Rattle.level_run.specs.Dialogue.{BrokenOff, Dialogue, bytes_to, replies_of, requests_of}
 use Rattle.level_run.specs.Talking.{AreSilent, IsTalk, IsTold}
 use Rattle.level_run.specs.Turns.{AllRun, AreStarted}
 
@@ -83,7 +83,7 @@ module _ (task : Task) (version : ℕ) (pools : List Workers) where
 
   -- ---- where nothing was asked
 
-  none_asked : (entries : List Entry) → asks_of entries ≡ 0 → requests_of task pools entries ≡ []
+  pub none_asked : (entries : List Entry) → asks_of entries ≡ 0 → requests_of task pools entries ≡ []
   none_asked entries none = empty (requests_of task pools entries) (requests_counted task pools [] entries ∙ none)
     where
       empty : {A : Type 0} (xs : List A) → length xs ≡ 0 → xs ≡ []

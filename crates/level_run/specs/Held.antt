@@ -1,5 +1,5 @@
 -- What is kept of children.
-use Rattle.std.specs.Prelude.{◌≡◌, ℕ, List, Bool, false, slice_get, unwrap_or}
+use Rattle.std.specs.Prelude.{ℕ, List, Bool, false, slice_get, unwrap_or}
 
 -- For each child the bytes that were read and not yet taken as lines, and whether it was started.
 pub record Held : Type 0 where

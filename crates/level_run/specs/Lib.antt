@@ -1,5 +1,8 @@
+pub mod Breaking
+pub mod Calls
 pub mod Dialogue
 pub mod Held
+pub mod Pieces
 pub mod Reports
 pub mod Rolling
 pub mod Starts

@@ -14,11 +14,13 @@ use Rattle.transcript_text.specs.declared.head.Head.{Head}
 use Rattle.transcript_text.specs.declared.head.Mode.TheVariants.{Incremental}
 use Rattle.transcript_text.specs.declared.head.Pool.{Pool}
 use Rattle.transcript_text.specs.declared.outcome.Outcome.{Outcome}
-use Rattle.io_world.specs.Talks.{Talk}
+use Rattle.io_world.specs.Talks.{Event, Talk}
+use Rattle.level_run.specs.Breaking.{HasLevel, LogBroken}
+use Rattle.level_run.specs.Calls.{LogRan, LogStops}
 use Rattle.level_run.specs.Dialogue.{BrokenOff, Dialogue, workers_in}
 use Rattle.level_run.specs.Rolling.{Blames}
 use Rattle.level_run.specs.Stops.{StopsAt}
-use Rattle.level_run.specs.Turns.{AreNeededTurns, IsSure}
+use Rattle.level_run.specs.Turns.{AreNeededTurns, IsFrontOfRun, IsSure}
 use Rattle.level_run.specs.declared.fault.RunFault.{RunFault}
 use Rattle.level_run.specs.declared.fault.RunFault.TheVariants.{Write, Memory}
 use Rattle.level_run.specs.declared.incremental_mode.Ran.{Ran}
@@ -57,38 +59,45 @@ pub record IsRun (task : Task) (head : Head) (entries : List Entry) (o : Outcome
   pub stands : MayStand stage o
   pub sure : IsSure head task entries o
 
--- A whole report was written, of a run, whose dialogue this was; the levels and the requests are counted.
-pub record IsReported (task : Task) (head : Head) (spoken : ℕ → Option Talk) (old new : Option (List ℕ)) (ran : Ran) : Type 0 where
+-- A whole report was written, of a run, whose dialogue this was, by the calls that came to the log; the levels and the requests are
+-- counted.
+pub record IsReported (task : Task) (head : Head) (spoken : ℕ → Option Talk) (was now : Option (List Event)) (old new : Option (List ℕ)) (ran : Ran) : Type 0 where
   pub entries : List Entry
   pub run : IsRun task head entries ran.outcome
   pub talks : Dialogue task head.version (workers_in head) entries spoken
+  pub calls : LogRan task head entries was now
   pub told : Appends old new (whole_text task head entries ran.outcome)
   pub levels : ran.levels ≡ count_by is_level entries
   pub asks : ran.asks ≡ asks_of entries
 
--- The lines of the head and of a legal transcript, in which the request that is blamed is open, if one is; and the dialogue was this.
-pub record IsPart (task : Task) (head : Head) (fault : RunFault) (spoken : ℕ → Option Talk) (text : List ℕ) : Type 0 where
+-- The lines of the head and of a legal transcript of whole turns, the last of which may stop at any entry. In it the request that is
+-- blamed is open, if one is; the dialogue was this, and the calls were those of the entries, up to where the run broke off. Where no line
+-- of a level stands no child was started.
+pub record IsPart (task : Task) (head : Head) (fault : RunFault) (spoken : ℕ → Option Talk) (was now : Option (List Event)) (text : List ℕ) : Type 0 where
   pub entries : List Entry
-  pub legal : IsLegal head.version task entries
+  pub front : IsFrontOfRun head task entries
   pub blamed : Blames head.version task (workers_in head) spoken fault entries
   pub talks : BrokenOff task head.version (workers_in head) entries spoken
+  pub calls : LogBroken task head entries fault was now
+  pub needed : LogStops was now ⊎ HasLevel entries
   pub is : text ≡ text_so_far task head entries
 
--- The text of a report of a run, whose dialogue this was.
-pub record IsWhole (task : Task) (head : Head) (spoken : ℕ → Option Talk) (text : List ℕ) : Type 0 where
+-- The text of a report of a run, whose dialogue this was, by the calls that came to the log.
+pub record IsWhole (task : Task) (head : Head) (spoken : ℕ → Option Talk) (was now : Option (List Event)) (text : List ℕ) : Type 0 where
   pub entries : List Entry
   pub outcome : Outcome
   pub run : IsRun task head entries outcome
   pub talks : Dialogue task head.version (workers_in head) entries spoken
+  pub calls : LogRan task head entries was now
   pub is : text ≡ whole_text task head entries outcome
 
--- What was to be written before the fault: nothing, for want of memory; or the head and a legal transcript; or, where the sink
--- failed, a whole report.
-abbrev pub WasToWrite : Task → Head → RunFault → (ℕ → Option Talk) → List ℕ → Type 0
-WasToWrite task head fault spoken text = ((fault ≡ Memory) × (text ≡ [])) ⊎ IsPart task head fault spoken text ⊎ ((fault ≡ Write) × IsWhole task head spoken text)
+-- What was to be written before the fault: nothing, for want of memory, and no child was started; or the head and whole turns,
+-- the last of which may have stopped; or, where the sink failed, a whole report.
+abbrev pub WasToWrite : Task → Head → RunFault → (ℕ → Option Talk) → (was now : Option (List Event)) → List ℕ → Type 0
+WasToWrite task head fault spoken was now text = ((fault ≡ Memory) × (text ≡ []) × LogStops was now) ⊎ IsPart task head fault spoken was now text ⊎ ((fault ≡ Write) × IsWhole task head spoken was now text)
 
 -- A run had no outcome. All that was to be written was written; but a fault of the sink left some of it out at the end.
-pub record IsBroken (task : Task) (head : Head) (spoken : ℕ → Option Talk) (old new : Option (List ℕ)) (fault : RunFault) : Type 0 where
+pub record IsBroken (task : Task) (head : Head) (spoken : ℕ → Option Talk) (was now : Option (List Event)) (old new : Option (List ℕ)) (fault : RunFault) : Type 0 where
   pub text : List ℕ
-  pub form : WasToWrite task head fault spoken text
+  pub form : WasToWrite task head fault spoken was now text
   pub told : StopsAt fault old new text

@@ -1,5 +1,5 @@
 -- An open round: whose requests are sent, whose answers are heard, and what was printed of it.
-use Rattle.std.specs.Prelude.{◌≡◌, ℕ, ◌≤◌, ◌++◌, List, map, length, Bool, true, false, not, Option, None, Some, slice_get, is_none, nat_lt, unwrap_or}
+use Rattle.std.specs.Prelude.{◌≡◌, ℕ, ◌≤◌, ◌++◌, List, map, length, Bool, true, false, not, Option, Some, slice_get, is_none, nat_lt, unwrap_or}
 use Rattle.std.specs.Io.KnownBytes.{Appends}
 use Rattle.std.specs.List.{flat_map}
 use Rattle.io_world.specs.Talks.{Talk}
@@ -62,11 +62,20 @@ Blames version task pools spoken Generator entries = Unit {0}
 Blames version task pools spoken Write entries = Unit {0}
 Blames version task pools spoken Memory entries = Unit {0}
 
--- The entries that were to be written behind those before, what the sink took of them, the request that is blamed, if one is, and
--- what was said with the children.
-pub record Stopped (version : ℕ) (task : Task) (pools : List Workers) (before : List Entry) (fault : RunFault) (old new : Option (List ℕ)) (spoken : ℕ → Option Talk) : Type 0 where
+-- These are the entries before and the first of a whole: with others behind them it would be one.
+pub record IsFront (before : List Entry) (Whole : List Entry → Type 0) (entries : List Entry) : Type 0 where
+  pub part : List Entry
+  pub rest : List Entry
+  pub is : entries ≡ before ++ part
+  pub whole : Whole (part ++ rest)
+
+-- The entries that were to be written behind those before, with which it is such a front; what the sink took of them, the request that
+-- is blamed, if one is, what was said with the children, and what the log tells of the calls.
+pub record Stopped (version : ℕ) (task : Task) (pools : List Workers) (Front : List Entry → Type 0) (before : List Entry) (fault : RunFault) (old new : Option (List ℕ)) (spoken : ℕ → Option Talk) (log : List Entry → Type 0) : Type 0 where
   pub more : List Entry
   pub legal : IsLegal version task (before ++ more)
+  pub front : Front (before ++ more)
   pub told : StopsAt fault old new (flat_map text_of_entry more)
   pub blamed : Blames version task pools spoken fault (before ++ more)
   pub talks : BrokenOff task version pools (before ++ more) spoken
+  pub logged : log more

@@ -1,5 +1,5 @@
 -- What a run leaves behind where it stops before it has an outcome.
-use Rattle.std.specs.Prelude.{◌≡◌, ℕ, ◌<◌, List, [], length, take, Option}
+use Rattle.std.specs.Prelude.{ℕ, ◌<◌, List, [], length, take, Option}
 use Rattle.std.specs.Io.KnownBytes.{Appends}
 use Rattle.level_run.specs.declared.fault.RunFault.{RunFault}
 use Rattle.level_run.specs.declared.fault.RunFault.TheVariants.{Answer, Generator, Write, Memory}

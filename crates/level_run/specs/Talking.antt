@@ -1,5 +1,5 @@
 -- What was said so far, and what is kept of it: between two rounds, and in a round.
-use Rattle.std.specs.Prelude.{◌≡◌, ℕ, ◌+◌, ◌<◌, ◌≤◌, ◌⊎◌, List, [], ◌∷◌, ◌++◌, length, take, Option, Some, slice_get, unwrap_or, IfSome, Bool, true, false}
+use Rattle.std.specs.Prelude.{◌≡◌, ℕ, ◌≤◌, ◌⊎◌, List, [], ◌∷◌, ◌++◌, length, take, Option, Some, slice_get, unwrap_or, IfSome, Bool, true, false}
 use Rattle.std.specs.List.{after_first}
 use Rattle.gen_lines.specs.Cutting.{Cut}
 use Rattle.gen_lines.specs.Lines.{is_feed, lines_of}

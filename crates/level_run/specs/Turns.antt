@@ -1,8 +1,8 @@
 -- How the turns of incremental mode go.
-use Rattle.std.specs.Prelude.{◌≡◌, ℕ, ◌+◌, ◌<◌, ◌≤◌, List, [], ◌∷◌, ◌++◌, length, map, All, Bool, true, false, Some, slice_get}
-use Rattle.instance_queue.specs.Level.{AreDueInTurn, instances_of}
+use Rattle.std.specs.Prelude.{◌≡◌, ℕ, ◌+◌, ◌^◌, ◌<◌, ◌≤◌, List, [], ◌∷◌, ◌++◌, length, All, Bool, true, false, Some, slice_get}
+use Rattle.instance_queue.specs.Level.{AreDueInTurn}
 use Rattle.instance_queue.specs.declared.due.Due.{Due}
-use Rattle.session_core.specs.Pools.{HasChild, workers_of}
+use Rattle.session_core.specs.Pools.{HasChild}
 use Rattle.session_core.specs.Ready.{AreReady}
 use Rattle.session_core.specs.Session.{IsFitHead, IsLearnt}
 use Rattle.session_core.specs.State.{State}
@@ -12,14 +12,13 @@ use Rattle.task_model.specs.Streams.{IsDue}
 use Rattle.task_model.specs.declared.stream.Instance.{Instance}
 use Rattle.task_model.specs.declared.task.Task.{Task}
 use Rattle.transcript_text.specs.Outcomes.{IsTrueOutcome}
-use Rattle.transcript_text.specs.Rounds.{Limits, limits_of, IsBatch}
+use Rattle.transcript_text.specs.Rounds.{Limits, limits_of}
 use Rattle.transcript_text.specs.Transcript.{known_of, notes_of}
-use Rattle.transcript_text.specs.Turns.{AreTurns, IsLevel, Stage}
+use Rattle.transcript_text.specs.Turns.{AreTurns, IsLevel, IsModeLegal, Stage}
 use Rattle.transcript_text.specs.declared.entry.Entry.{Entry}
 use Rattle.transcript_text.specs.declared.entry.Entry.TheVariants as entry
 use Rattle.transcript_text.specs.declared.head.Head.{Head}
 use Rattle.transcript_text.specs.declared.head.Pool.{Pool}
-use Rattle.transcript_text.specs.declared.head.Mode.TheVariants.{Incremental}
 use Rattle.transcript_text.specs.declared.outcome.LimitKind.TheVariants.{States}
 use Rattle.transcript_text.specs.declared.outcome.Outcome.{Outcome}
 use Rattle.transcript_text.specs.declared.outcome.Outcome.TheVariants as outcome
@@ -56,12 +55,19 @@ EndsBatch task entries before after calls many CallsSpent = (after ≡ calls) ×
 
 -- ---- turns
 
+-- the cost of a plan has room in 64 bits
+abbrev pub HasRoom : Outcome → Type 0
+HasRoom (outcome.Plan steps cost from) = cost < 2 ^ 64
+HasRoom outcome.NoPlan = Unit {0}
+HasRoom (outcome.Limit kind) = Unit {0}
+
 -- An outcome is true; the limit of states stands only where so many states are within the steps of each plan, and `no plan` only
--- where no more are reached.
+-- where no more are reached. What a plan costs has room in 64 bits.
 pub record IsSure (head : Head) (task : Task) (entries : List Entry) (o : Outcome) : Type 0 where
   pub holds : IsTrueOutcome (limits_of head) task entries o
   pub far : o ≡ outcome.Limit States → IsFar task (known_of task entries) head.states
   pub within : o ≡ outcome.NoPlan → ¬ (MoreThan head.states (IsReached task (known_of task entries)))
+  pub room : HasRoom o
 
 -- The run ends with a true outcome; or no plan exists, these instances are due, one at least, and a call is left.
 pub record IsTurn (head : Head) (task : Task) (entries : List Entry) (asks : ℕ) (dues : List Due) : Type 0 where
@@ -86,6 +92,16 @@ NeededTurn limits task kept before now next cut = IsNeededLevel limits task befo
 -- turns from the empty transcript, each of which begins where no plan exists
 abbrev pub AreNeededTurns : Limits → Task → List Entry → Stage → Type 0
 AreNeededTurns limits task entries stage = AreTurns limits task (NeededTurn limits task) tt [] entries stage
+
+-- a whole level that begins where no plan exists, cut or not
+abbrev pub IsSomeLevel : Head → Task → List Entry → List Entry → Type 0
+IsSomeLevel head task before now = (cut : Bool) × IsNeededLevel (limits_of head) task before now cut
+
+-- A transcript of the head's mode: whole turns, the last of which may stop at any entry; each begins where no plan exists.
+pub record IsFrontOfRun (head : Head) (task : Task) (entries : List Entry) : Type 0 where
+  pub stage : Stage
+  pub turns : IsModeLegal (limits_of head) task entries stage
+  pub needed : AreNeededTurns (limits_of head) task entries stage
 
 -- the line of a level is put behind the transcript
 pub record IsMarked (old new : State) : Type 0 where

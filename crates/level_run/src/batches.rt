@@ -1,12 +1,14 @@
 //! Batches: a list of asks, cut into rounds.
 ghost use Rattle.std.specs.Prelude.{◌≡◌, ◌<◌, ◌≤◌, ◌++◌, List, false, length, IfOk, IfErr, OnOk, OnErr};
 ghost use Rattle.instance_queue.specs.Level.{instances_of};
-ghost use Rattle.io_world.specs.Faults.{last_count, HasCause};
+ghost use Rattle.io_world.specs.Faults.{last_count, Extends, HasCause};
 ghost use Rattle.io_world.specs.Talks.{Same};
+ghost use Rattle.level_run.specs.Breaking.{LogBreaks, RunBreaks};
+ghost use Rattle.level_run.specs.Calls.{Calls, LogStartsPart, Runs, starts_before, starts_of};
 ghost use Rattle.level_run.specs.Dialogue.{workers_in};
 ghost use Rattle.level_run.specs.Held.{is_running};
 ghost use Rattle.level_run.specs.Talking.{IsTold, held_of};
-ghost use Rattle.level_run.specs.Rolling.{Goes, Stopped};
+ghost use Rattle.level_run.specs.Rolling.{Goes, IsFront, Stopped};
 ghost use Rattle.level_run.specs.Starts.{AreStartable};
 ghost use Rattle.level_run.specs.Stops.{MayHear};
 ghost use Rattle.level_run.specs.Turns.{AllRun, AreStarted, EndsBatch, IsRunnable};
@@ -23,13 +25,11 @@ use crate::round::run_round;
 use instance_queue::Due;
 use io_world::{Host, Sink};
 use session_core::Session;
-use std::alloc::Global;
 use task_model::Task;
 use transcript_text::Head;
 
 /// Runs the asks in rounds, where all workers run.
 fn run_rounds<H: Host, O: Sink>(
-    alloc: Global,
     task: &Task,
     session: &mut Session,
     lines: &mut Lines,
@@ -55,7 +55,9 @@ fn run_rounds<H: Host, O: Sink>(
     ensures ends { IfOk result (EndsBatch task.now session.new.entries (length session.old.asked) (length session.new.asked) head.now.calls (length dues.now)) }
     ensures told { OnOk result (IsTold task.now head.now.version (workers_in head.now) session.new.entries (H.running host.new) (held_of lines.new) (H.spoken host.new)) }
     ensures goes { OnOk result (Goes session.old.entries session.new.entries (O.taken out.old) (O.taken out.new)) }
-    ensures stopped { IfErr result (λ fault. Stopped head.now.version task.now (workers_in head.now) session.old.entries fault (O.taken out.old) (O.taken out.new) (H.spoken host.new)) }
+    ensures order { OnOk result (Calls task.now (workers_in head.now) session.old.entries session.new.entries (H.log host.old) (H.log host.new)) }
+    ensures stopped { IfErr result (λ fault. Stopped head.now.version task.now (workers_in head.now) (IsFront session.old.entries (IsBatch (limits_of head.now) task.now session.old.entries (instances_of dues.now))) session.old.entries fault (O.taken out.old) (O.taken out.new) (H.spoken host.new) (LogBreaks task.now head.now.version (workers_in head.now) session.old.entries fault (H.log host.old) (H.log host.new))) }
+    ensures some { OnErr result (0 < length dues.now) }
     ensures started { lines.new.started ≡ lines.old.started }
     ensures running { Same (H.running host.old) (H.running host.new) }
     ensures host { HasCause Generator H.last (H.faults host.old) (H.faults host.new) result }
@@ -71,7 +73,7 @@ fn run_rounds<H: Host, O: Sink>(
             return Ok(Batch::CallsSpent);
         }
         let (now, later) = rest.split_at(count);
-        run_round(alloc, task, session, lines, host, out, now)?;
+        run_round(task, session, lines, host, out, now)?;
         rest = later;
     }
 }
@@ -96,6 +98,8 @@ fn start_workers<H: Host>(
     ensures kept { lines.new.buffers ≡ lines.old.buffers }
     ensures ready { OnOk result (0 < length dues.now → AllRun session.now.pools (H.running host.new)) }
     ensures idle { OnOk result (length dues.now ≡ 0 → Same (H.running host.old) (H.running host.new)) }
+    ensures log { OnOk result (Extends (H.log host.old) (H.log host.new) (starts_before head.now.pools (length session.now.asked) (length dues.now))) }
+    ensures refused { IfErr result (λ fault. LogStartsPart (starts_of head.now.pools) fault (H.log host.old) (H.log host.new)) }
     ensures state { Same (H.running host.new) (is_running lines.new) }
     ensures only { IfErr result MayHear }
     ensures cause { HasCause Generator H.last (H.faults host.old) (H.faults host.new) result }
@@ -118,7 +122,6 @@ fn start_workers<H: Host>(
 /// `Answer` where the line that answers a request is no answer; `Generator` and `Write` only where the host's or the sink's
 /// count of faults rose in this call; `Memory`. Afterwards the session may only be looked at.
 pub fn batch<H: Host, O: Sink>(
-    alloc: Global,
     task: &Task,
     head: &Head,
     session: &mut Session,
@@ -145,12 +148,13 @@ pub fn batch<H: Host, O: Sink>(
     ensures ends { IfOk result (EndsBatch task.now session.new.entries (length session.old.asked) (length session.new.asked) head.now.calls (length dues.now)) }
     ensures told { OnOk result (IsTold task.now head.now.version (workers_in head.now) session.new.entries (H.running host.new) (held_of lines.new) (H.spoken host.new)) }
     ensures goes { OnOk result (Goes session.old.entries session.new.entries (O.taken out.old) (O.taken out.new)) }
-    ensures stopped { IfErr result (λ fault. Stopped head.now.version task.now (workers_in head.now) session.old.entries fault (O.taken out.old) (O.taken out.new) (H.spoken host.new)) }
+    ensures order { OnOk result (Runs task.now head.now session.old.entries session.new.entries (H.log host.old) (H.log host.new)) }
+    ensures stopped { IfErr result (λ fault. Stopped head.now.version task.now (workers_in head.now) (IsFront session.old.entries (IsBatch (limits_of head.now) task.now session.old.entries (instances_of dues.now))) session.old.entries fault (O.taken out.old) (O.taken out.new) (H.spoken host.new) (RunBreaks task.now head.now session.old.entries fault (H.log host.old) (H.log host.new))) }
     ensures started { OnOk result (AreStarted session.new.pools (length session.new.asked) (H.running host.new)) }
     ensures state { Same (H.running host.new) (is_running lines.new) }
     ensures host { HasCause Generator H.last (H.faults host.old) (H.faults host.new) result }
     ensures sink { HasCause Write last_count (O.faults out.old) (O.faults out.new) result }
 {
     start_workers(task, head, session, lines, host, dues)?;
-    run_rounds(alloc, task, session, lines, host, out, dues, head)
+    run_rounds(task, session, lines, host, out, dues, head)
 }

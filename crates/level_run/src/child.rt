@@ -1,8 +1,11 @@
 //! What is said with one child.
-ghost use Rattle.std.specs.Prelude.{◌≡◌, ◌<◌, ◌≤◌, ℕ, List, true, false, length, take, IfErr, IsErrOf, OnOk, OnErr, MatchResult};
+ghost use Rattle.std.specs.Prelude.{◌≡◌, [], ◌<◌, ◌≤◌, ℕ, List, true, false, length, map, string_bytes, take, Ok, Err, IfErr, IsErrOf, OnOk, OnErr, MatchResult};
 ghost use Rattle.io_world.specs.Faults.{HasCause};
-ghost use Rattle.io_world.specs.Talks.{Same, Becomes, Empties, Writes, Hears};
+ghost use Rattle.io_world.specs.Talks.{Same, Becomes, Empties, Writes, Hears, Logs, LogsTaken, LogsTakenPart, LogsGiven, LogsGivenPart, started};
+ghost use Rattle.io_world.specs.declared.host.HostFault.{HostFault as AnyHostFault};
 ghost use Rattle.gen_lines.specs.declared.answer.Why.TheVariants.{TooLong};
+ghost use Rattle.level_run.specs.Breaking.{LogHears};
+ghost use Rattle.level_run.specs.Calls.{LogReads};
 ghost use Rattle.level_run.specs.Rolling.{IsHostFault};
 ghost use Rattle.level_run.specs.Talking.{Fills, IsRefused, Misheard, Takes};
 ghost use Rattle.level_run.specs.Stops.{MayHear};
@@ -35,6 +38,8 @@ pub(crate) fn start<H: Host>(host: &mut H, child: u8, argv: &[String]) -> Result
     requires idle { H.running host.old child ≡ false }
     ensures running { MatchResult result (λ _. Becomes child true (H.running host.old) (H.running host.new)) (λ _. Same (H.running host.old) (H.running host.new)) }
     ensures spoken { MatchResult result (λ _. Empties child (H.spoken host.old) (H.spoken host.new)) (λ _. Same (H.spoken host.old) (H.spoken host.new)) }
+    ensures log { OnOk result (Logs (H.log host.old) (H.log host.new) (started child (map string_bytes argv.now) (Ok tt))) }
+    ensures refused { IfErr result (λ fault. (cause : AnyHostFault) × IsHostFault cause fault × Logs (H.log host.old) (H.log host.new) (started child (map string_bytes argv.now) (Err cause))) }
     ensures only { IfErr result MayHear }
     ensures cause { HasCause Generator H.last (H.faults host.old) (H.faults host.new) result }
 {
@@ -51,6 +56,8 @@ pub(crate) fn send<H: Host>(host: &mut H, child: u8, request: &[u8]) -> Result<(
     ensures running { Same (H.running host.old) (H.running host.new) }
     ensures all { OnOk result (Writes child request.now (H.spoken host.old) (H.spoken host.new)) }
     ensures part { OnErr result ((n : ℕ) × Writes child (take n request.now) (H.spoken host.old) (H.spoken host.new)) }
+    ensures log { OnOk result (LogsTaken child request.now (H.log host.old) (H.log host.new)) }
+    ensures refused { IfErr result (λ fault. (cause : AnyHostFault) × IsHostFault cause fault × LogsTakenPart child request.now cause (H.log host.old) (H.log host.new)) }
     ensures only { IfErr result MayHear }
     ensures cause { HasCause Generator H.last (H.faults host.old) (H.faults host.new) result }
 {
@@ -67,6 +74,8 @@ fn fill<H: Host>(host: &mut H, child: u8, buffer: &mut LineBuf) -> Result<(), Ru
     ensures running { Same (H.running host.old) (H.running host.new) }
     ensures heard { OnOk result (Fills child buffer.old buffer.new (H.spoken host.old) (H.spoken host.new)) }
     ensures lost { OnErr result ((more : List ℕ) × Hears child more (H.spoken host.old) (H.spoken host.new)) }
+    ensures log { OnOk result ((bytes : List ℕ) × LogsGiven child [] bytes (H.log host.old) (H.log host.new)) }
+    ensures refused { IfErr result (λ fault. (cause : AnyHostFault) × IsHostFault cause fault × LogsGivenPart child [] cause (H.log host.old) (H.log host.new)) }
     ensures only { IfErr result MayHear }
     ensures cause { HasCause Generator H.last (H.faults host.old) (H.faults host.new) result }
 {
@@ -124,6 +133,8 @@ pub(crate) fn hear<H: Host>(
     requires awaited { IsAwaited session.old.slots child }
     ensures taken { OnOk result (Takes session.old child session.new buffer.old buffer.new (H.spoken host.old) (H.spoken host.new)) }
     ensures misheard { IfErr result (Misheard session.old.slots child buffer.old (H.spoken host.old) (H.spoken host.new)) }
+    ensures log { OnOk result (LogReads child buffer.old (H.log host.old) (H.log host.new)) }
+    ensures refused { IfErr result (λ fault. LogHears child buffer.old fault (H.log host.old) (H.log host.new)) }
     ensures kept { (task : AnyTask) → IsSession task session.old → IsSession task session.new }
     ensures running { Same (H.running host.old) (H.running host.new) }
     ensures cause { HasCause Generator H.last (H.faults host.old) (H.faults host.new) result }

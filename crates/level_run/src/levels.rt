@@ -1,17 +1,19 @@
 //! Levels, one after another.
-ghost use Rattle.std.specs.Prelude.{◌≡◌, ◌<◌, ◌≤◌, ◌+◌, ◌++◌, ◌∷◌, [], ℕ, Bool, List, Option, false, count_by, length, IfOk, IfErr, OnOk};
+ghost use Rattle.std.specs.Prelude.{◌≡◌, ◌<◌, ◌≤◌, ◌+◌, ◌++◌, ◌∷◌, ◌⊎◌, [], ℕ, Bool, List, Option, false, count_by, length, IfOk, IfErr, OnOk};
 ghost use Rattle.io_world.specs.Faults.{last_count, HasCause};
 ghost use Rattle.io_world.specs.Talks.{Same, Talk};
+ghost use Rattle.level_run.specs.Breaking.{HasLevel, LevelBreaks};
+ghost use Rattle.level_run.specs.Calls.{Runs};
 ghost use Rattle.level_run.specs.Dialogue.{Dialogue, workers_in};
 ghost use Rattle.level_run.specs.Held.{is_running};
 ghost use Rattle.level_run.specs.Talking.{IsTold, held_of};
 ghost use Rattle.level_run.specs.Reports.{IsRun, is_level};
-ghost use Rattle.level_run.specs.Rolling.{Goes, Stopped};
+ghost use Rattle.level_run.specs.Rolling.{Goes, IsFront, Stopped};
 ghost use Rattle.level_run.specs.Stops.{MayWrite};
-ghost use Rattle.level_run.specs.Turns.{AreStarted, EndsBatch, IsMarked, IsRunnable, IsTurn, RunsLevel};
+ghost use Rattle.level_run.specs.Turns.{AreStarted, EndsBatch, IsFrontOfRun, IsMarked, IsRunnable, IsSomeLevel, IsTurn, RunsLevel};
 ghost use Rattle.level_run.specs.declared.fault.RunFault.TheVariants.{Generator, Write};
 ghost use Rattle.session_core.specs.Session.{IsLearnt, IsNew, IsOf, IsSession};
-ghost use Rattle.transcript_text.specs.Legal.{asks_of};
+ghost use Rattle.transcript_text.specs.Legal.{HasNoneOpen, asks_of};
 ghost use Rattle.task_model.specs.declared.task.Task.{Task as AnyTask};
 ghost use Rattle.transcript_text.specs.declared.entry.Entry.TheVariants.{Level};
 ghost use Rattle.transcript_text.specs.declared.head.Mode.TheVariants.{Incremental};
@@ -19,9 +21,9 @@ ghost use Rattle.transcript_text.specs.declared.head.Mode.TheVariants.{Increment
 use crate::batches::batch;
 use crate::decide::{Decision, decide};
 use crate::ending::Batch;
+use crate::entry_line::print_entry;
 use crate::fault::RunFault;
 use crate::lines::Lines;
-use crate::print::print_entry;
 use instance_queue::Due;
 use io_world::{Host, Sink};
 use session_core::Session;
@@ -30,23 +32,22 @@ use task_model::Task;
 use transcript_text::{Entry, Head, LimitKind, Outcome};
 
 /// Marks that a whole level follows, and writes it.
-fn mark_level<O: Sink>(alloc: Global, session: &mut Session, out: &mut O) -> Result<(), RunFault>
+fn mark_level<O: Sink>(session: &mut Session, out: &mut O) -> Result<(), RunFault>
     requires working { session.old.failed ≡ false }
     requires learnt { IsLearnt session.old }
     ensures marked { OnOk result (IsMarked session.old session.new) }
     ensures kept { (task : AnyTask) → IsSession task session.old → IsSession task session.new }
     ensures goes { OnOk result (Goes session.old.entries (session.old.entries ++ Level ∷ []) (O.taken out.old) (O.taken out.new)) }
-    ensures stopped { (task : AnyTask) (running : ℕ → Bool) (kept : ℕ → List ℕ) (spoken : ℕ → Option Talk) → IsSession task session.old → IsTold task session.old.version session.old.pools session.old.entries running kept spoken → AreStarted session.old.pools (length session.old.asked) running → IfErr result (λ fault. Stopped session.old.version task session.old.pools session.old.entries fault (O.taken out.old) (O.taken out.new) spoken) }
+    ensures stopped { (task : AnyTask) (running : ℕ → Bool) (kept : ℕ → List ℕ) (spoken : ℕ → Option Talk) → IsSession task session.old → IsTold task session.old.version session.old.pools session.old.entries running kept spoken → AreStarted session.old.pools (length session.old.asked) running → IfErr result (λ fault. Stopped session.old.version task session.old.pools (λ es. (es ≡ session.old.entries) ⊎ (es ≡ session.old.entries ++ Level ∷ [])) session.old.entries fault (O.taken out.old) (O.taken out.new) spoken (λ more. (more ≡ []) ⊎ (more ≡ Level ∷ []))) }
     ensures only { IfErr result MayWrite }
     ensures cause { HasCause Write last_count (O.faults out.old) (O.faults out.new) result }
 {
     session.mark(Entry::Level)?;
-    print_entry(alloc, out, &Entry::Level)
+    print_entry(out, &Entry::Level)
 }
 
 /// Asks a whole level: all that is due, as long as calls are left.
 fn run_level<H: Host, O: Sink>(
-    alloc: Global,
     task: &Task,
     head: &Head,
     session: &mut Session,
@@ -72,14 +73,15 @@ fn run_level<H: Host, O: Sink>(
     ensures ends { IfOk result (EndsBatch task.now session.new.entries (length session.old.asked) (length session.new.asked) head.now.calls (length dues.now)) }
     ensures told { OnOk result (IsTold task.now head.now.version (workers_in head.now) session.new.entries (H.running host.new) (held_of lines.new) (H.spoken host.new)) }
     ensures goes { OnOk result (Goes session.old.entries session.new.entries (O.taken out.old) (O.taken out.new)) }
-    ensures stopped { IfErr result (λ fault. Stopped head.now.version task.now (workers_in head.now) session.old.entries fault (O.taken out.old) (O.taken out.new) (H.spoken host.new)) }
+    ensures order { OnOk result (Runs task.now head.now session.old.entries session.new.entries (H.log host.old) (H.log host.new)) }
+    ensures stopped { IfErr result (λ fault. Stopped head.now.version task.now (workers_in head.now) (IsFront session.old.entries (IsSomeLevel head.now task.now session.old.entries)) session.old.entries fault (O.taken out.old) (O.taken out.new) (H.spoken host.new) (LevelBreaks task.now head.now session.old.entries fault (H.log host.old) (H.log host.new))) }
     ensures started { OnOk result (AreStarted session.new.pools (length session.new.asked) (H.running host.new)) }
     ensures state { Same (H.running host.new) (is_running lines.new) }
     ensures host { HasCause Generator H.last (H.faults host.old) (H.faults host.new) result }
     ensures sink { HasCause Write last_count (O.faults out.old) (O.faults out.new) result }
 {
-    mark_level(alloc, session, out)?;
-    batch(alloc, task, head, session, lines, host, out, dues)
+    mark_level(session, out)?;
+    batch(task, head, session, lines, host, out, dues)
 }
 
 /// Goes on, level by level, until the run has an outcome. Answers it with the number of levels.
@@ -106,7 +108,10 @@ pub(crate) fn run_levels<H: Host, O: Sink>(
     ensures untouched { OnOk result (length session.new.asked ≡ 0 → (H.log host.new ≡ H.log host.old) × ((k : ℕ) → H.running host.new k ≡ false)) }
     ensures talks { OnOk result (Dialogue task.now head.now.version (workers_in head.now) session.new.entries (H.spoken host.new)) }
     ensures goes { OnOk result (Goes [] session.new.entries (O.taken out.old) (O.taken out.new)) }
-    ensures stopped { IfErr result (λ fault. Stopped head.now.version task.now (workers_in head.now) [] fault (O.taken out.old) (O.taken out.new) (H.spoken host.new)) }
+    ensures order { OnOk result (Runs task.now head.now [] session.new.entries (H.log host.old) (H.log host.new)) }
+    ensures needed { OnOk result ((H.log host.new ≡ H.log host.old) ⊎ HasLevel session.new.entries) }
+    ensures closed { OnOk result (HasNoneOpen session.new.entries) }
+    ensures stopped { IfErr result (λ fault. Stopped head.now.version task.now (workers_in head.now) (IsFrontOfRun head.now task.now) [] fault (O.taken out.old) (O.taken out.new) (H.spoken host.new) (LevelBreaks task.now head.now [] fault (H.log host.old) (H.log host.new))) }
     ensures state { Same (H.running host.new) (is_running lines.new) }
     ensures host { HasCause Generator H.last (H.faults host.old) (H.faults host.new) result }
     ensures sink { HasCause Write last_count (O.faults out.old) (O.faults out.new) result }
@@ -119,7 +124,7 @@ pub(crate) fn run_levels<H: Host, O: Sink>(
             Decision::Asks(dues) => dues,
         };
         let asks = dues.as_slice();
-        let ended = run_level(alloc, task, head, session, lines, host, out, asks)?;
+        let ended = run_level(task, head, session, lines, host, out, asks)?;
         levels += 1;
         if let Batch::CallsSpent = ended {
             return Ok((Outcome::Limit(LimitKind::Calls), levels));

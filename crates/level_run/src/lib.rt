@@ -5,6 +5,7 @@ mod batches;
 mod child;
 mod decide;
 mod ending;
+mod entry_line;
 mod fault;
 mod incremental_mode;
 mod levels;

@@ -1,8 +1,11 @@
 //! What was read from children and not yet taken as lines, and which were started.
-ghost use Rattle.std.specs.Prelude.{◌≡◌, [], ◌<◌, ◌≤◌, ◌+◌, ℕ, true, false, length, IfErr, IfOk, OnOk};
-ghost use Rattle.io_world.specs.Faults.{HasCause};
-ghost use Rattle.io_world.specs.Talks.{Becomes, Same};
+ghost use Rattle.std.specs.Prelude.{◌≡◌, [], ◌<◌, ◌≤◌, ◌+◌, ℕ, true, false, length, map, string_bytes, Ok, Err, IfErr, IfOk, OnOk};
+ghost use Rattle.io_world.specs.Faults.{Extends, HasCause};
+ghost use Rattle.io_world.specs.Talks.{Becomes, Logs, Same, started};
+ghost use Rattle.io_world.specs.declared.host.HostFault.{HostFault as AnyHostFault};
+ghost use Rattle.level_run.specs.Calls.{LogStartsPart, LogStops, starts_in, starts_of};
 ghost use Rattle.level_run.specs.Held.{is_running};
+ghost use Rattle.level_run.specs.Rolling.{IsHostFault};
 ghost use Rattle.level_run.specs.Starts.{AllWork, AreStartable, IsWorker, NoneWorks};
 ghost use Rattle.level_run.specs.Stops.{MayHear};
 ghost use Rattle.level_run.specs.Talking.{AreSilent, held_of};
@@ -79,6 +82,8 @@ impl Lines {
         ensures running { OnOk result (Becomes child true (is_running self.old) (is_running self.new)) }
         ensures silent { AreSilent (is_running self.old) (H.spoken host.old) → AreSilent (is_running self.new) (H.spoken host.new) }
         ensures kept { self.new.buffers ≡ self.old.buffers }
+        ensures log { OnOk result (Logs (H.log host.old) (H.log host.new) (started child (map string_bytes argv.now) (Ok tt))) }
+        ensures refused { IfErr result (λ fault. (cause : AnyHostFault) × IsHostFault cause fault × Logs (H.log host.old) (H.log host.new) (started child (map string_bytes argv.now) (Err cause))) }
         ensures only { IfErr result MayHear }
         ensures cause { HasCause Generator H.last (H.faults host.old) (H.faults host.new) result }
     {
@@ -97,6 +102,8 @@ impl Lines {
         ensures running { OnOk result ((child : ℕ) → IsWorker pool.now child → is_running self.new child ≡ true) }
         ensures silent { AreSilent (is_running self.old) (H.spoken host.old) → AreSilent (is_running self.new) (H.spoken host.new) }
         ensures kept { self.new.buffers ≡ self.old.buffers }
+        ensures log { OnOk result (Extends (H.log host.old) (H.log host.new) (starts_in pool.now)) }
+        ensures refused { IfErr result (λ fault. LogStartsPart (starts_in pool.now) fault (H.log host.old) (H.log host.new)) }
         ensures others { OnOk result ((child : ℕ) → ¬ (IsWorker pool.now child) → is_running self.new child ≡ is_running self.old child) }
         ensures only { IfErr result MayHear }
         ensures cause { HasCause Generator H.last (H.faults host.old) (H.faults host.new) result }
@@ -120,6 +127,8 @@ impl Lines {
         ensures running { OnOk result (AllWork pools.now (is_running self.new)) }
         ensures silent { AreSilent (is_running self.old) (H.spoken host.old) → AreSilent (is_running self.new) (H.spoken host.new) }
         ensures kept { self.new.buffers ≡ self.old.buffers }
+        ensures log { OnOk result (Extends (H.log host.old) (H.log host.new) (starts_of pools.now)) }
+        ensures refused { IfErr result (λ fault. LogStartsPart (starts_of pools.now) fault (H.log host.old) (H.log host.new)) }
         ensures only { IfErr result MayHear }
         ensures cause { HasCause Generator H.last (H.faults host.old) (H.faults host.new) result }
     {
@@ -134,6 +143,7 @@ impl Lines {
         requires state { Same (H.running host.old) (is_running self.now) }
         ensures idle { (child : ℕ) → H.running host.new child ≡ false }
         ensures none { ((k : ℕ) → H.running host.old k ≡ false) → H.log host.new ≡ H.log host.old }
+        ensures stops { LogStops (H.log host.old) (H.log host.new) }
         ensures spoken { Same (H.spoken host.old) (H.spoken host.new) }
         ensures later { H.faults host.old ≤ H.faults host.new }
     {

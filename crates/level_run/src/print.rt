@@ -5,13 +5,13 @@ ghost use Rattle.io_world.specs.Faults.{last_count, HasCause};
 ghost use Rattle.level_run.specs.Reports.{AreStreamsOf, text_of_end};
 ghost use Rattle.level_run.specs.Stops.{StopsAt, Misses, MayWrite};
 ghost use Rattle.level_run.specs.declared.fault.RunFault.TheVariants.{Write};
-ghost use Rattle.transcript_text.specs.Texts.{text_of_entry, text_of_head};
+ghost use Rattle.transcript_text.specs.Texts.{text_of_head};
 
 use crate::fault::RunFault;
 use io_world::{Sink, write_all};
 use std::alloc::Global;
 use task_model::Task;
-use transcript_text::{Entry, Head, Outcome, entry_text, head_text, outcome_text};
+use transcript_text::{Head, Outcome, head_text, outcome_text};
 
 /// Writes these bytes to the sink.
 fn print<O: Sink>(out: &mut O, bytes: &[u8]) -> Result<(), RunFault>
@@ -24,21 +24,6 @@ fn print<O: Sink>(out: &mut O, bytes: &[u8]) -> Result<(), RunFault>
         Ok(()) => Ok(()),
         Err(_) => Err(RunFault::Write),
     }
-}
-
-/// Writes the lines of an entry.
-pub(crate) fn print_entry<O: Sink>(
-    alloc: Global,
-    out: &mut O,
-    entry: &Entry,
-) -> Result<(), RunFault>
-    ensures all { OnOk result (Appends (O.taken out.old) (O.taken out.new) (text_of_entry entry.now)) }
-    ensures part { IfErr result (λ fault. Misses fault (O.taken out.old) (O.taken out.new) (text_of_entry entry.now)) }
-    ensures only { IfErr result MayWrite }
-    ensures cause { HasCause Write last_count (O.faults out.old) (O.faults out.new) result }
-{
-    let text = entry_text(alloc, entry)?;
-    print(out, text.as_slice())
 }
 
 /// Writes the head.

@@ -4,8 +4,10 @@ ghost use Rattle.instance_queue.specs.Level.{instances_of};
 ghost use Rattle.instance_queue.specs.declared.due.Due.{Due as AnyDue};
 ghost use Rattle.io_world.specs.Faults.{last_count, HasCause};
 ghost use Rattle.io_world.specs.Talks.{Same};
+ghost use Rattle.level_run.specs.Breaking.{LogBreaks, LogHears};
+ghost use Rattle.level_run.specs.Calls.{Calls, LogReads};
 ghost use Rattle.level_run.specs.Held.{is_running};
-ghost use Rattle.level_run.specs.Rolling.{Goes, IsRolling, IsSameRound, Stopped, finished};
+ghost use Rattle.level_run.specs.Rolling.{Goes, IsFront, IsRolling, IsSameRound, Stopped, finished};
 ghost use Rattle.level_run.specs.Talking.{IsTalking, IsTold, Misheard, Takes, held_of};
 ghost use Rattle.level_run.specs.Turns.{AllRun};
 ghost use Rattle.level_run.specs.declared.fault.RunFault.TheVariants.{Generator, Memory, Write};
@@ -17,13 +19,12 @@ ghost use Rattle.transcript_text.specs.Rounds.{IsRound};
 ghost use Rattle.transcript_text.specs.declared.entry.Entry.{Entry as AnyEntry};
 
 use crate::child::{hear, send};
+use crate::entry_line::print_entry;
 use crate::fault::RunFault;
 use crate::lines::Lines;
-use crate::print::print_entry;
 use instance_queue::Due;
 use io_world::{Host, Sink};
 use session_core::{CoreFault, Session};
-use std::alloc::Global;
 use task_model::Task;
 
 /// Why a session does nothing, as a fault of a run whose session works.
@@ -35,7 +36,6 @@ fn fault_of(_fault: CoreFault) -> RunFault
 
 /// Writes the request at this place of the round whole to its child, and its line.
 fn send_one<H: Host, O: Sink>(
-    alloc: Global,
     session: &mut Session,
     host: &mut H,
     out: &mut O,
@@ -48,7 +48,8 @@ fn send_one<H: Host, O: Sink>(
     ensures many { OnOk result (length session.new.slots ≡ length session.old.slots) }
     ensures goes { OnOk result (Goes (session.old.entries ++ take place session.old.asks) (session.old.entries ++ take (place + 1) session.old.asks) (O.taken out.old) (O.taken out.new)) }
     ensures talking { (task : AnyTask) (kept : ℕ → List ℕ) → IsTalking task session.old place 0 kept (H.spoken host.old) → OnOk result (IsTalking task session.new (place + 1) 0 kept (H.spoken host.new)) }
-    ensures stopped { (task : AnyTask) (kept : ℕ → List ℕ) → IsSession task session.old → IsTalking task session.old place 0 kept (H.spoken host.old) → IfErr result (λ fault. Stopped session.old.version task session.old.pools (session.old.entries ++ take place session.old.asks) fault (O.taken out.old) (O.taken out.new) (H.spoken host.new)) }
+    ensures order { (task : AnyTask) (kept : ℕ → List ℕ) → IsSession task session.old → IsTalking task session.old place 0 kept (H.spoken host.old) → OnOk result (Calls task session.old.pools (session.old.entries ++ take place session.old.asks) (session.old.entries ++ take (place + 1) session.old.asks) (H.log host.old) (H.log host.new)) }
+    ensures stopped { (task : AnyTask) (kept : ℕ → List ℕ) → IsSession task session.old → IsTalking task session.old place 0 kept (H.spoken host.old) → IfErr result (λ fault. Stopped session.old.version task session.old.pools (IsFront session.old.entries (IsRound task session.old.entries session.old.instances)) (session.old.entries ++ take place session.old.asks) fault (O.taken out.old) (O.taken out.new) (H.spoken host.new) (LogBreaks task session.old.version session.old.pools (session.old.entries ++ take place session.old.asks) fault (H.log host.old) (H.log host.new))) }
     ensures kept { (task : AnyTask) → IsSession task session.old → IsSession task session.new }
     ensures running { Same (H.running host.old) (H.running host.new) }
     ensures host { HasCause Generator H.last (H.faults host.old) (H.faults host.new) result }
@@ -57,12 +58,11 @@ fn send_one<H: Host, O: Sink>(
     let (child, request) = session.request(place);
     send(host, child, request)?;
     session.sent(child);
-    print_entry(alloc, out, session.ask(place))
+    print_entry(out, session.ask(place))
 }
 
 /// Writes all requests of the round, each whole to its child.
 fn send_all<H: Host, O: Sink>(
-    alloc: Global,
     session: &mut Session,
     host: &mut H,
     out: &mut O,
@@ -75,14 +75,15 @@ fn send_all<H: Host, O: Sink>(
     ensures many { OnOk result (length session.new.slots ≡ length session.old.slots) }
     ensures goes { OnOk result (Goes session.old.entries (session.old.entries ++ session.old.asks) (O.taken out.old) (O.taken out.new)) }
     ensures talking { (task : AnyTask) (kept : ℕ → List ℕ) → IsTalking task session.old 0 0 kept (H.spoken host.old) → OnOk result (IsTalking task session.new count 0 kept (H.spoken host.new)) }
-    ensures stopped { (task : AnyTask) (kept : ℕ → List ℕ) → IsSession task session.old → IsTalking task session.old 0 0 kept (H.spoken host.old) → IfErr result (λ fault. Stopped session.old.version task session.old.pools session.old.entries fault (O.taken out.old) (O.taken out.new) (H.spoken host.new)) }
+    ensures order { (task : AnyTask) (kept : ℕ → List ℕ) → IsSession task session.old → IsTalking task session.old 0 0 kept (H.spoken host.old) → OnOk result (Calls task session.old.pools session.old.entries (session.old.entries ++ session.old.asks) (H.log host.old) (H.log host.new)) }
+    ensures stopped { (task : AnyTask) (kept : ℕ → List ℕ) → IsSession task session.old → IsTalking task session.old 0 0 kept (H.spoken host.old) → IfErr result (λ fault. Stopped session.old.version task session.old.pools (IsFront session.old.entries (IsRound task session.old.entries session.old.instances)) session.old.entries fault (O.taken out.old) (O.taken out.new) (H.spoken host.new) (LogBreaks task session.old.version session.old.pools session.old.entries fault (H.log host.old) (H.log host.new))) }
     ensures kept { (task : AnyTask) → IsSession task session.old → IsSession task session.new }
     ensures running { Same (H.running host.old) (H.running host.new) }
     ensures host { HasCause Generator H.last (H.faults host.old) (H.faults host.new) result }
     ensures sink { HasCause Write last_count (O.faults out.old) (O.faults out.new) result }
 {
     for place in 0..count {
-        send_one(alloc, session, host, out, place)?;
+        send_one(session, host, out, place)?;
     }
     Ok(())
 }
@@ -102,6 +103,8 @@ fn hear_child<H: Host>(
     ensures taken { OnOk result (Takes session.old child session.new (held_of lines.old child) (held_of lines.new child) (H.spoken host.old) (H.spoken host.new)) }
     ensures others { (k : ℕ) → k ≢ child → held_of lines.new k ≡ held_of lines.old k }
     ensures misheard { IfErr result (Misheard session.old.slots child (held_of lines.old child) (H.spoken host.old) (H.spoken host.new)) }
+    ensures log { OnOk result (LogReads child (held_of lines.old child) (H.log host.old) (H.log host.new)) }
+    ensures refused { IfErr result (λ fault. LogHears child (held_of lines.old child) fault (H.log host.old) (H.log host.new)) }
     ensures kept { (task : AnyTask) → IsSession task session.old → IsSession task session.new }
     ensures started { lines.new.started ≡ lines.old.started }
     ensures running { Same (H.running host.old) (H.running host.new) }
@@ -112,7 +115,6 @@ fn hear_child<H: Host>(
 
 /// Hears the answer to the request at this place of the round, and writes its line.
 fn hear_one<H: Host, O: Sink>(
-    alloc: Global,
     session: &mut Session,
     lines: &mut Lines,
     host: &mut H,
@@ -129,7 +131,8 @@ fn hear_one<H: Host, O: Sink>(
     ensures goes { OnOk result (Goes (session.old.entries ++ session.old.asks ++ take place (finished session.new.slots)) (session.old.entries ++ session.old.asks ++ take (place + 1) (finished session.new.slots)) (O.taken out.old) (O.taken out.new)) }
     ensures talking { (task : AnyTask) → IsSession task session.old → IsTalking task session.old (length session.old.slots) place (held_of lines.old) (H.spoken host.old) → OnOk result (IsTalking task session.new (length session.new.slots) (place + 1) (held_of lines.new) (H.spoken host.new)) }
     ensures idle { (k : ℕ) → H.running host.old k ≡ false → held_of lines.new k ≡ held_of lines.old k }
-    ensures stopped { (task : AnyTask) → IsSession task session.old → IsTalking task session.old (length session.old.slots) place (held_of lines.old) (H.spoken host.old) → IfErr result (λ fault. Stopped session.old.version task session.old.pools (session.old.entries ++ session.old.asks ++ take place (finished session.old.slots)) fault (O.taken out.old) (O.taken out.new) (H.spoken host.new)) }
+    ensures order { (task : AnyTask) → IsSession task session.old → IsTalking task session.old (length session.old.slots) place (held_of lines.old) (H.spoken host.old) → OnOk result (Calls task session.old.pools (session.old.entries ++ session.old.asks ++ take place (finished session.new.slots)) (session.old.entries ++ session.old.asks ++ take (place + 1) (finished session.new.slots)) (H.log host.old) (H.log host.new)) }
+    ensures stopped { (task : AnyTask) → IsSession task session.old → IsTalking task session.old (length session.old.slots) place (held_of lines.old) (H.spoken host.old) → IfErr result (λ fault. Stopped session.old.version task session.old.pools (IsFront session.old.entries (IsRound task session.old.entries session.old.instances)) (session.old.entries ++ session.old.asks ++ take place (finished session.old.slots)) fault (O.taken out.old) (O.taken out.new) (H.spoken host.new) (LogBreaks task session.old.version session.old.pools (session.old.entries ++ session.old.asks ++ take place (finished session.old.slots)) fault (H.log host.old) (H.log host.new))) }
     ensures kept { (task : AnyTask) → IsSession task session.old → IsSession task session.new }
     ensures started { lines.new.started ≡ lines.old.started }
     ensures running { Same (H.running host.old) (H.running host.new) }
@@ -139,14 +142,13 @@ fn hear_one<H: Host, O: Sink>(
     let (child, _) = session.request(place);
     hear_child(session, lines, host, child)?;
     match session.answer(place) {
-        Some(answer) => print_entry(alloc, out, answer),
+        Some(answer) => print_entry(out, answer),
         None => unreachable!(),
     }
 }
 
 /// Hears all answers of the round, in the order of its requests.
 fn hear_all<H: Host, O: Sink>(
-    alloc: Global,
     session: &mut Session,
     lines: &mut Lines,
     host: &mut H,
@@ -162,7 +164,8 @@ fn hear_all<H: Host, O: Sink>(
     ensures goes { OnOk result (Goes (session.old.entries ++ session.old.asks) (session.old.entries ++ session.old.asks ++ finished session.new.slots) (O.taken out.old) (O.taken out.new)) }
     ensures talking { (task : AnyTask) → IsSession task session.old → IsTalking task session.old count 0 (held_of lines.old) (H.spoken host.old) → OnOk result (IsTalking task session.new count count (held_of lines.new) (H.spoken host.new)) }
     ensures idle { (k : ℕ) → H.running host.old k ≡ false → held_of lines.new k ≡ held_of lines.old k }
-    ensures stopped { (task : AnyTask) → IsSession task session.old → IsTalking task session.old count 0 (held_of lines.old) (H.spoken host.old) → IfErr result (λ fault. Stopped session.old.version task session.old.pools (session.old.entries ++ session.old.asks) fault (O.taken out.old) (O.taken out.new) (H.spoken host.new)) }
+    ensures order { (task : AnyTask) → IsSession task session.old → IsTalking task session.old count 0 (held_of lines.old) (H.spoken host.old) → OnOk result (Calls task session.old.pools (session.old.entries ++ session.old.asks) (session.old.entries ++ session.old.asks ++ finished session.new.slots) (H.log host.old) (H.log host.new)) }
+    ensures stopped { (task : AnyTask) → IsSession task session.old → IsTalking task session.old count 0 (held_of lines.old) (H.spoken host.old) → IfErr result (λ fault. Stopped session.old.version task session.old.pools (IsFront session.old.entries (IsRound task session.old.entries session.old.instances)) (session.old.entries ++ session.old.asks) fault (O.taken out.old) (O.taken out.new) (H.spoken host.new) (LogBreaks task session.old.version session.old.pools (session.old.entries ++ session.old.asks) fault (H.log host.old) (H.log host.new))) }
     ensures kept { (task : AnyTask) → IsSession task session.old → IsSession task session.new }
     ensures started { lines.new.started ≡ lines.old.started }
     ensures running { Same (H.running host.old) (H.running host.new) }
@@ -170,14 +173,13 @@ fn hear_all<H: Host, O: Sink>(
     ensures sink { HasCause Write last_count (O.faults out.old) (O.faults out.new) result }
 {
     for place in 0..count {
-        hear_one(alloc, session, lines, host, out, place)?;
+        hear_one(session, lines, host, out, place)?;
     }
     Ok(())
 }
 
 /// Runs a round of these asks, and learns what was answered.
 pub(crate) fn run_round<H: Host, O: Sink>(
-    alloc: Global,
     task: &Task,
     session: &mut Session,
     lines: &mut Lines,
@@ -202,7 +204,8 @@ pub(crate) fn run_round<H: Host, O: Sink>(
     ensures round { OnOk result ((more : List AnyEntry) × (session.new.entries ≡ session.old.entries ++ more) × IsRound task.now session.old.entries (instances_of dues.now) more) }
     ensures rest { (rest : List AnyDue) (count : ℕ) → dues.now ≡ take count rest → AreReady task.now session.old.entries rest → OnOk result (AreReady task.now session.new.entries (drop count rest)) }
     ensures goes { OnOk result (Goes session.old.entries session.new.entries (O.taken out.old) (O.taken out.new)) }
-    ensures stopped { IfErr result (λ fault. Stopped session.old.version task.now session.old.pools session.old.entries fault (O.taken out.old) (O.taken out.new) (H.spoken host.new)) }
+    ensures order { OnOk result (Calls task.now session.old.pools session.old.entries session.new.entries (H.log host.old) (H.log host.new)) }
+    ensures stopped { IfErr result (λ fault. Stopped session.old.version task.now session.old.pools (IsFront session.old.entries (IsRound task.now session.old.entries (instances_of dues.now))) session.old.entries fault (O.taken out.old) (O.taken out.new) (H.spoken host.new) (LogBreaks task.now session.old.version session.old.pools session.old.entries fault (H.log host.old) (H.log host.new))) }
     ensures started { lines.new.started ≡ lines.old.started }
     ensures running { Same (H.running host.old) (H.running host.new) }
     ensures host { HasCause Generator H.last (H.faults host.old) (H.faults host.new) result }
@@ -212,8 +215,8 @@ pub(crate) fn run_round<H: Host, O: Sink>(
         Ok(count) => count,
         Err(fault) => return Err(fault_of(fault)),
     };
-    send_all(alloc, session, host, out, count)?;
-    hear_all(alloc, session, lines, host, out, count)?;
+    send_all(session, host, out, count)?;
+    hear_all(session, lines, host, out, count)?;
     session.close_round();
     match session.learn(task) {
         Ok(()) => Ok(()),

@@ -14,7 +14,7 @@ use Rattle.task_model.specs.declared.task.Task.{Task}
 use Rattle.transcript_text.specs.declared.head.Head.{Head}
 use Rattle.transcript_text.specs.declared.head.Pool.{Pool}
 use Rattle.pddlstream_app.specs.Heads.{ArePoolsFor, IsHeadOf, IsPoolOf, all_streams}
-use Rattle.pddlstream_app.specs.Words.{IsWithin, held}
+use Rattle.pddlstream_app.specs.Words.{IsWithin, held_solve}
 use Rattle.pddlstream_app.specs.Words as words
 use Rattle.pddlstream_app.specs.declared.words.SolveWords as code
 
@@ -118,10 +118,20 @@ module _ (task : Task) (w : words.SolveWords) (some : 1 ≤ w.workers) (few : w.
   })
   pools_run (s ∷ ss) are_some pools (pool, are, is) = subst (AreRunnable task) (sym are) (one_runs pool is)
 
--- a head of words that are in their ranges can be run
-pub runnable_head : (task : Task) (w : code.SolveWords) (head : Head) → IsHeadOf task (held w) head → IsWithin w → IsRunnable task head
-runnable_head task w head headed within =
-    let pools = pools_run task (held w) within.some_workers within.few_workers (omega (arith, within.program, length-map w.program.now string_bytes)) task.streams refl head.pools headed.pools in
+-- the numbers of the words are in their ranges, and the program has a word
+pub record AreInRange (w : words.SolveWords) : Type 0 where
+  pub some_calls : 1 ≤ w.calls
+  pub few_calls : w.calls ≤ 100000
+  pub some_states : 1 ≤ w.states
+  pub few_states : w.states ≤ 200000
+  pub some_workers : 1 ≤ w.workers
+  pub few_workers : w.workers ≤ 16
+  pub program : 1 ≤ length w.program
+
+-- a head of such words can be run
+pub head_runs : (task : Task) (w : words.SolveWords) (head : Head) → IsHeadOf task w head → AreInRange w → IsRunnable task head
+head_runs task w head headed within =
+    let pools = pools_run task w within.some_workers within.few_workers within.program task.streams refl head.pools headed.pools in
     record {
       fit = record {
         some_version = omega (arith, headed.version);
@@ -135,3 +145,15 @@ runnable_head task w head headed within =
       some_states = omega (arith, headed.states, within.some_states);
       few_states = omega (arith, headed.states, within.few_states);
     }
+
+-- the same of words as the program holds them
+pub runnable_head : (task : Task) (w : code.SolveWords) (head : Head) → IsHeadOf task (held_solve w) head → IsWithin w → IsRunnable task head
+runnable_head task w head headed within = head_runs task (held_solve w) head headed (record {
+  some_calls = within.some_calls;
+  few_calls = within.few_calls;
+  some_states = within.some_states;
+  few_states = within.few_states;
+  some_workers = within.some_workers;
+  few_workers = within.few_workers;
+  program = omega (arith, within.program, length-map w.program.now string_bytes);
+})

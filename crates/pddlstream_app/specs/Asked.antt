@@ -1,16 +1,18 @@
 -- Which files a run asks for.
-use Rattle.std.specs.Prelude.{◌≡◌, ◌⊎◌, ℕ, List, [], ◌∷◌, Result, Ok, Err, Option, Some, None}
+use Rattle.std.specs.Prelude.{◌≡◌, ◌⊎◌, ℕ, List, [], ◌∷◌, ◌++◌, Result, Ok, Err, Option, Some, None}
 use Rattle.std.specs.Io.KnownBytes.{Appends}
 use Rattle.io_world.specs.FileMap.{FileMap, Asked}
 use Rattle.io_world.specs.Faults.{Extends}
 use Rattle.io_world.specs.declared.files.FileFault.{FileFault}
 use Rattle.io_world.specs.declared.files.FileFault.TheVariants as file
 use Rattle.level_run.specs.declared.fault.RunFault.TheVariants as fault
-use Rattle.pddlstream_app.specs.Runs.{HasNoTask}
+use Rattle.pddlstream_app.specs.Runs.{HasNoInput}
 use Rattle.pddlstream_app.specs.Stop.{status_at, last_text}
-use Rattle.pddlstream_app.specs.Words.{SolveWords, words_of}
+use Rattle.pddlstream_app.specs.Words.{Command, ReplayWords, TaskFiles, command_of, files_of, replay, solve}
 use Rattle.pddlstream_app.specs.declared.status.Status.{Status}
 use Rattle.pddlstream_app.specs.declared.status.Status.TheVariants.{Plan, Done, NoPlan, Limit, Usage, Input, BadAnswer, ReadFault, GeneratorFault, WriteFault, Memory, Invalid}
+use Rattle.pddlstream_app.specs.declared.stop.FileRole.{FileRole}
+use Rattle.pddlstream_app.specs.declared.stop.FileRole.TheVariants as role
 use Rattle.pddlstream_app.specs.declared.stop.Stop.{Stop}
 use Rattle.pddlstream_app.specs.declared.stop.Stop.TheVariants as stop
 use Rattle.pddlstream_app.specs.declared.stop.Text.{Text}
@@ -18,75 +20,114 @@ use Rattle.pddlstream_app.specs.declared.stop.Text.TheVariants.{Domain, Problem,
 
 -- ---- the files of a command
 
+-- how a file was answered
+abbrev pub Reply : Type 0
+Reply = Result (Unit {0}) FileFault
+
 -- the file of this path was asked for, and this was the answer
-abbrev pub ask : List ℕ → Result (Unit {0}) FileFault → Asked
+abbrev pub ask : List ℕ → Reply → Asked
 ask path answer = record { path = path; answer = answer }
 
--- the files of a command up to this text's, in their order: those before it were read, and its own was answered so
-abbrev pub asks_to : SolveWords → Text → Result (Unit {0}) FileFault → List Asked
-asks_to words Domain answer = ask words.domain answer ∷ []
-asks_to words Problem answer = ask words.domain (Ok tt) ∷ ask words.problem answer ∷ []
-asks_to words Streams answer = ask words.domain (Ok tt) ∷ ask words.problem (Ok tt) ∷ ask words.streams answer ∷ []
+-- the files of a task up to this text's, in their order: those before it were read, and its own was answered so
+abbrev pub asks_to : TaskFiles → Text → Reply → List Asked
+asks_to paths Domain answer = ask paths.domain answer ∷ []
+asks_to paths Problem answer = ask paths.domain (Ok tt) ∷ ask paths.problem answer ∷ []
+asks_to paths Streams answer = ask paths.domain (Ok tt) ∷ ask paths.problem (Ok tt) ∷ ask paths.streams answer ∷ []
 
--- how the file of this text was answered, where the run stops so at this text
-abbrev pub IsAnswerFor : Text → Result (Unit {0}) FileFault → Stop → Type 0
-IsAnswerFor text answer stop.Usage = ⊥
-IsAnswerFor text answer (stop.Input which kind place) = (which ≡ text) × (answer ≡ Ok tt)
-IsAnswerFor text answer (stop.Failed which) = (which ≡ text) × (answer ≡ Err file.Failed)
-IsAnswerFor text answer (stop.TooLong which) = (which ≡ text) × (answer ≡ Err file.TooLong)
-IsAnswerFor text answer (stop.Run (fault.Answer number why)) = ⊥
-IsAnswerFor text answer (stop.Run fault.Generator) = ⊥
-IsAnswerFor text answer (stop.Run fault.Write) = ⊥
-IsAnswerFor text answer (stop.Run fault.Memory) = Unit {0}
+-- all files of a task, and then a report's, which was answered so
+abbrev pub asks_to_report : ReplayWords → Reply → List Asked
+asks_to_report words answer = asks_to words.files Streams (Ok tt) ++ ask words.report answer ∷ []
 
--- Of this text the file was asked for, and the run stops so at it.
-pub record AsksOne (path : List ℕ) (text : Text) (old new : Option (List Asked)) (why : Stop) : Type 0 where
-  pub answer : Result (Unit {0}) FileFault
-  pub fits : IsAnswerFor text answer why
+-- all files of a command
+abbrev pub asks_all : Command → List Asked
+asks_all (solve words) = asks_to words.files Streams (Ok tt)
+asks_all (replay words) = asks_to_report words (Ok tt)
+
+-- how a file that was read for this was answered, where the run stops so at it
+abbrev pub IsAnswerFor : FileRole → Reply → Stop → Type 0
+IsAnswerFor which answer stop.Usage = ⊥
+IsAnswerFor which answer (stop.Input text kind place) = (role.Text text ≡ which) × (answer ≡ Ok tt)
+IsAnswerFor which answer (stop.Failed other) = (other ≡ which) × (answer ≡ Err file.Failed)
+IsAnswerFor which answer (stop.TooLong other) = (other ≡ which) × (answer ≡ Err file.TooLong)
+IsAnswerFor which answer (stop.Run (fault.Answer number why)) = ⊥
+IsAnswerFor which answer (stop.Run fault.Generator) = ⊥
+IsAnswerFor which answer (stop.Run fault.Write) = ⊥
+IsAnswerFor which answer (stop.Run fault.Memory) = Unit {0}
+
+-- One file was asked for, and the run stops so at it.
+pub record AsksOne (path : List ℕ) (which : FileRole) (old new : Option (List Asked)) (why : Stop) : Type 0 where
+  pub answer : Reply
+  pub fits : IsAnswerFor which answer why
   pub asked : Extends old new (ask path answer ∷ [])
 
+-- The report was asked for, and the run stops so at it, or behind it since the sink failed.
+abbrev pub AsksReport : List ℕ → Option (List Asked) → Option (List Asked) → Stop → Type 0
+AsksReport path old new why = AsksOne path role.Report old new why ⊎ ((why ≡ stop.Run fault.Write) × Extends old new (ask path (Ok tt) ∷ []))
+
 -- The files up to a text's were asked for, and the run stops so at that text.
-pub record AsksUpTo (words : SolveWords) (old new : Option (List Asked)) (why : Stop) : Type 0 where
+pub record AsksUpTo (paths : TaskFiles) (old new : Option (List Asked)) (why : Stop) : Type 0 where
   pub text : Text
-  pub answer : Result (Unit {0}) FileFault
-  pub fits : IsAnswerFor text answer why
-  pub asked : Extends old new (asks_to words text answer)
+  pub answer : Reply
+  pub fits : IsAnswerFor (role.Text text) answer why
+  pub asked : Extends old new (asks_to paths text answer)
 
 -- ---- the files of a run
 
 -- no file was asked for, where the words mean no command
 abbrev pub AsksNone : List (List ℕ) → Option (List Asked) → Option (List Asked) → Type 0
-AsksNone words old new = (words_of words ≡ None) × Extends old new []
+AsksNone words old new = (command_of words ≡ None) × Extends old new []
 
--- The words mean a command, and its three files were asked for and read.
+-- The words mean a command, and its files were asked for and read.
 pub record AsksAll (words : List (List ℕ)) (old new : Option (List Asked)) : Type 0 where
-  pub command : SolveWords
-  pub meant : words_of words ≡ Some command
-  pub asked : Extends old new (asks_to command Streams (Ok tt))
+  pub command : Command
+  pub meant : command_of words ≡ Some command
+  pub asked : Extends old new (asks_all command)
 
--- The words mean a command, and its files up to one of the three were asked for.
-pub record AsksFront (words : List (List ℕ)) (old new : Option (List Asked)) : Type 0 where
-  pub command : SolveWords
-  pub meant : words_of words ≡ Some command
+-- The words mean a command, and its files up to one of its task's texts were asked for.
+pub record AsksTaskFront (words : List (List ℕ)) (old new : Option (List Asked)) : Type 0 where
+  pub command : Command
+  pub meant : command_of words ≡ Some command
   pub text : Text
-  pub answer : Result (Unit {0}) FileFault
-  pub asked : Extends old new (asks_to command text answer)
+  pub answer : Reply
+  pub asked : Extends old new (asks_to (files_of command) text answer)
+
+-- The words mean a replay, and all its files were asked for.
+pub record AsksReportFront (words : List (List ℕ)) (old new : Option (List Asked)) : Type 0 where
+  pub command : ReplayWords
+  pub meant : command_of words ≡ Some (replay command)
+  pub answer : Reply
+  pub asked : Extends old new (asks_to_report command answer)
+
+-- the words mean a command, and its files were asked for from the first on
+abbrev pub AsksFront : List (List ℕ) → Option (List Asked) → Option (List Asked) → Type 0
+AsksFront words old new = AsksTaskFront words old new ⊎ AsksReportFront words old new
 
 -- none was asked for, or some of the command's from the first on
 abbrev pub AsksSome : List (List ℕ) → Option (List Asked) → Option (List Asked) → Type 0
 AsksSome words old new = AsksNone words old new ⊎ AsksFront words old new
 
 -- The words mean a command, and its files were asked for up to that of the text at which the run stops so.
-pub record AsksWhileReading (words : List (List ℕ)) (old new : Option (List Asked)) (why : Stop) : Type 0 where
-  pub command : SolveWords
-  pub meant : words_of words ≡ Some command
-  pub files : AsksUpTo command old new why
+pub record AsksForTask (words : List (List ℕ)) (old new : Option (List Asked)) (why : Stop) : Type 0 where
+  pub command : Command
+  pub meant : command_of words ≡ Some command
+  pub files : AsksUpTo (files_of command) old new why
 
--- The text that the last line names is the cause that no task was read, and the files were asked for up to that text's.
+-- The words mean a replay, and the run stops so at its report, behind the files of its task.
+pub record AsksForReport (words : List (List ℕ)) (old new : Option (List Asked)) (why : Stop) : Type 0 where
+  pub command : ReplayWords
+  pub meant : command_of words ≡ Some (replay command)
+  pub answer : Reply
+  pub fits : IsAnswerFor role.Report answer why
+  pub asked : Extends old new (asks_to_report command answer)
+
+abbrev pub AsksWhileReading : List (List ℕ) → Option (List Asked) → Option (List Asked) → Stop → Type 0
+AsksWhileReading words old new why = AsksForTask words old new why ⊎ AsksForReport words old new why
+
+-- The file that the last line names is the cause of the run's end, and the files were asked for up to that one.
 pub record AsksToNamed (words : List (List ℕ)) (told : Option FileMap) (rose : Type 0) (old new : Option (List Asked)) (before now : Option (List ℕ)) (status : Status) : Type 0 where
   pub why : Stop
   pub kind : status_at why ≡ status
-  pub cause : HasNoTask words told rose why
+  pub cause : HasNoInput words told rose why
   pub took : Appends before now (last_text why)
   pub asked : AsksWhileReading words old new why
 
@@ -98,12 +139,12 @@ AsksFiles words told rose old new before now ReadFault = AsksToNamed words told 
 AsksFiles words told rose old new before now Plan = AsksAll words old new
 AsksFiles words told rose old new before now NoPlan = AsksAll words old new
 AsksFiles words told rose old new before now Limit = AsksAll words old new
+AsksFiles words told rose old new before now Done = AsksAll words old new
+AsksFiles words told rose old new before now Invalid = AsksAll words old new
 AsksFiles words told rose old new before now BadAnswer = AsksAll words old new
 AsksFiles words told rose old new before now GeneratorFault = AsksAll words old new
 AsksFiles words told rose old new before now Memory = AsksSome words old new
 AsksFiles words told rose old new before now WriteFault = AsksSome words old new
-AsksFiles words told rose old new before now Done = ⊥
-AsksFiles words told rose old new before now Invalid = ⊥
 
 -- which files were asked for where a run stops so
 abbrev pub AsksBefore : List (List ℕ) → Option (List Asked) → Option (List Asked) → Stop → Type 0

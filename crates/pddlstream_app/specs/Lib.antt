@@ -1,7 +1,9 @@
 pub mod Asked
 pub mod Codes
+pub mod Complete
 pub mod Heads
 pub mod Inputs
+pub mod Replays
 pub mod Runs
 pub mod Stop
 pub mod Words

@@ -9,6 +9,8 @@ use Rattle.pddlstream_app.specs.declared.status.Status.{Status}
 use Rattle.pddlstream_app.specs.declared.status.Status.TheVariants as status
 use Rattle.pddlstream_app.specs.declared.stop.Stop.{Stop}
 use Rattle.pddlstream_app.specs.declared.stop.Stop.TheVariants.{Usage, Input, Failed, TooLong, Run}
+use Rattle.pddlstream_app.specs.declared.stop.FileRole.{FileRole}
+use Rattle.pddlstream_app.specs.declared.stop.FileRole.TheVariants as role
 use Rattle.pddlstream_app.specs.declared.stop.Text.{Text}
 use Rattle.pddlstream_app.specs.declared.stop.Text.TheVariants as text
 
@@ -38,6 +40,10 @@ text_word text.Domain = codes "domain"
 text_word text.Problem = codes "problem"
 text_word text.Streams = codes "streams"
 
+abbrev pub role_word : FileRole → List ℕ
+role_word (role.Text which) = text_word which
+role_word role.Report = codes "report"
+
 abbrev pub why_word : Why → List ℕ
 why_word why.Word = codes "word"
 why_word why.Count = codes "count"
@@ -49,10 +55,10 @@ memory_line = codes "fault memory\n"
 
 -- the last line of the run; behind the line for wrong words stands the usage text
 abbrev pub last_text : Stop → List ℕ
-last_text Usage = codes "fault usage\nusage: pddlstream solve DOMAIN PROBLEM STREAMS [OPTIONS] [-- PROGRAM WORDS]\n"
+last_text Usage = codes "fault usage\nusage: pddlstream solve DOMAIN PROBLEM STREAMS [OPTIONS] [-- PROGRAM WORDS]\nusage: pddlstream replay DOMAIN PROBLEM STREAMS REPORT [--states N]\n"
 last_text (Input which kind place) = codes "fault input " ++ text_word which ++ codes " " ++ kind_word kind ++ codes " " ++ decimal place ++ codes "\n"
-last_text (Failed which) = codes "fault read " ++ text_word which ++ codes " failed\n"
-last_text (TooLong which) = codes "fault read " ++ text_word which ++ codes " too-long\n"
+last_text (Failed which) = codes "fault read " ++ role_word which ++ codes " failed\n"
+last_text (TooLong which) = codes "fault read " ++ role_word which ++ codes " too-long\n"
 last_text (Run (fault.Answer number why)) = codes "fault answer " ++ decimal number ++ codes " " ++ why_word why ++ codes "\n"
 last_text (Run fault.Generator) = codes "fault generator\n"
 last_text (Run fault.Write) = []

@@ -6,17 +6,41 @@ use Rattle.std.specs.Option.{option_map, option_and_then}
 use Rattle.std.specs.Str.Parse.{digits_value}
 use Rattle.gen_lines.specs.Reply.{is_filled}
 use Rattle.pddlstream_app.specs.declared.words.Counted as code_count
+use Rattle.pddlstream_app.specs.declared.words.Command as code_command
+use Rattle.pddlstream_app.specs.declared.words.Command.TheVariants as code_commands
+use Rattle.pddlstream_app.specs.declared.words.ReplayWords as code_replay
 use Rattle.pddlstream_app.specs.declared.words.SolveWords as code
+use Rattle.pddlstream_app.specs.declared.words.TaskFiles as code_files
 
--- `solve` with three files, the most calls and states, the number of workers, and the program, which has a word at least
-pub record SolveWords : Type 0 where
+-- the paths of a task's three texts
+pub record TaskFiles : Type 0 where
   pub domain : List ℕ
   pub problem : List ℕ
   pub streams : List ℕ
+
+-- `solve` with a task, the most calls and states, the number of workers, and the program, which has a word at least
+pub record SolveWords : Type 0 where
+  pub files : TaskFiles
   pub calls : ℕ
   pub states : ℕ
   pub workers : ℕ
   pub program : List (List ℕ)
+
+-- `replay` with a task, a report, and the most states
+pub record ReplayWords : Type 0 where
+  pub files : TaskFiles
+  pub report : List ℕ
+  pub states : ℕ
+
+-- what may be asked for
+pub data Command : Type 0 where
+  solve : SolveWords → Command
+  replay : ReplayWords → Command
+
+-- the texts of the task
+abbrev pub files_of : Command → TaskFiles
+files_of (solve words) = words.files
+files_of (replay words) = words.files
 
 -- ---- numbers
 
@@ -52,28 +76,61 @@ program_of (dashes ∷ []) = None
 program_of [] = None
 
 -- [--calls N] [--states N] [--workers N] -- PROGRAM WORDS, behind the three files
-abbrev pub options_of : List ℕ → List ℕ → List ℕ → List (List ℕ) → Option SolveWords
-options_of domain problem streams words =
-    option_and_then (λ (calls : Counted). option_and_then (λ (states : Counted). option_and_then (λ (workers : Counted). option_map (λ program. record { domain = domain; problem = problem; streams = streams; calls = calls.count; states = states.count; workers = workers.count; program = program }) (program_of workers.rest)) (option_of (codes "--workers") 16 1 states.rest)) (option_of (codes "--states") 200000 100000 calls.rest)) (option_of (codes "--calls") 100000 10000 words)
+abbrev pub solve_of : TaskFiles → List (List ℕ) → Option SolveWords
+solve_of files words =
+    option_and_then (λ (calls : Counted). option_and_then (λ (states : Counted). option_and_then (λ (workers : Counted). option_map (λ program. record { files = files; calls = calls.count; states = states.count; workers = workers.count; program = program }) (program_of workers.rest)) (option_of (codes "--workers") 16 1 states.rest)) (option_of (codes "--states") 200000 100000 calls.rest)) (option_of (codes "--calls") 100000 10000 words)
 
--- solve DOMAIN PROBLEM STREAMS and the options
-abbrev pub words_of : List (List ℕ) → Option SolveWords
-words_of (command ∷ domain ∷ problem ∷ streams ∷ words) = if bytes_eq command (codes "solve") then options_of domain problem streams words else None
-words_of words = None
+-- a report and its limit, with no word behind them
+abbrev pub replay_with : TaskFiles → List ℕ → ℕ → List (List ℕ) → Option ReplayWords
+replay_with files report states [] = Some (record { files = files; report = report; states = states })
+replay_with files report states (word ∷ words) = None
 
--- the words as the program holds them
-abbrev pub held : code.SolveWords → SolveWords
-held w = record { domain = w.domain.now; problem = w.problem.now; streams = w.streams.now; calls = w.calls; states = w.states; workers = w.workers; program = map string_bytes w.program.now }
+-- REPORT [--states N], behind the three files
+abbrev pub replay_of : TaskFiles → List (List ℕ) → Option ReplayWords
+replay_of files (report ∷ words) = option_and_then (λ (states : Counted). replay_with files report states.count states.rest) (option_of (codes "--states") 200000 100000 words)
+replay_of files [] = None
 
-abbrev pub shown : Option code.SolveWords → Option SolveWords
+-- what is to be done with the files, by the command's name and the words behind them
+abbrev pub named : List ℕ → TaskFiles → List (List ℕ) → Option Command
+named name files words = if bytes_eq name (codes "solve") then option_map solve (solve_of files words) else if bytes_eq name (codes "replay") then option_map replay (replay_of files words) else None
+
+-- solve DOMAIN PROBLEM STREAMS, or replay DOMAIN PROBLEM STREAMS, and the words behind
+abbrev pub command_of : List (List ℕ) → Option Command
+command_of (name ∷ domain ∷ problem ∷ streams ∷ words) = named name (record { domain = domain; problem = problem; streams = streams }) words
+command_of words = None
+
+-- ---- the words as the program holds them
+
+abbrev pub held_files : code_files.TaskFiles → TaskFiles
+held_files f = record { domain = f.domain.now; problem = f.problem.now; streams = f.streams.now }
+
+abbrev pub held_solve : code.SolveWords → SolveWords
+held_solve w = record { files = held_files w.files; calls = w.calls; states = w.states; workers = w.workers; program = map string_bytes w.program.now }
+
+abbrev pub held_replay : code_replay.ReplayWords → ReplayWords
+held_replay w = record { files = held_files w.files; report = w.report.now; states = w.states }
+
+abbrev pub held : code_command.Command → Command
+held (code_commands.Solve words) = solve (held_solve words)
+held (code_commands.Replay words) = replay (held_replay words)
+
+abbrev pub shown : Option code_command.Command → Option Command
 shown None = None
-shown (Some w) = Some (held w)
+shown (Some c) = Some (held c)
+
+abbrev pub shown_solve : Option code.SolveWords → Option SolveWords
+shown_solve None = None
+shown_solve (Some w) = Some (held_solve w)
+
+abbrev pub shown_replay : Option code_replay.ReplayWords → Option ReplayWords
+shown_replay None = None
+shown_replay (Some w) = Some (held_replay w)
 
 abbrev pub shown_count : Option code_count.Counted → Option Counted
 shown_count None = None
 shown_count (Some c) = Some (counted (map string_bytes c.rest.now) c.count)
 
--- The limits and the number of workers are in their ranges, and the program has a word.
+-- The limits and the number of workers of `solve` are in their ranges, and the program has a word.
 pub record IsWithin (w : code.SolveWords) : Type 0 where
   pub some_calls : 1 ≤ w.calls
   pub few_calls : w.calls ≤ 100000
@@ -82,3 +139,13 @@ pub record IsWithin (w : code.SolveWords) : Type 0 where
   pub some_workers : 1 ≤ w.workers
   pub few_workers : w.workers ≤ 16
   pub program : 1 ≤ length w.program.now
+
+-- The limit of states is in its range.
+pub record IsWithinReplay (w : code_replay.ReplayWords) : Type 0 where
+  pub some_states : 1 ≤ w.states
+  pub few_states : w.states ≤ 200000
+
+-- the numbers of a command are in their ranges
+abbrev pub AreWithin : code_command.Command → Type 0
+AreWithin (code_commands.Solve words) = IsWithin words
+AreWithin (code_commands.Replay words) = IsWithinReplay words

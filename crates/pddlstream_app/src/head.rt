@@ -1,7 +1,7 @@
 //! The head of a run.
 ghost use Rattle.std.specs.Prelude.{◌≡◌, map, string_bytes, IfOk};
 ghost use Rattle.pddlstream_app.specs.Heads.{ArePoolsOf, IsHeadOf, IsPoolOf, all_streams};
-ghost use Rattle.pddlstream_app.specs.Words.{held};
+ghost use Rattle.pddlstream_app.specs.Words.{held_solve};
 ghost use Rattle.task_model.specs.Fit.{IsFit};
 
 use crate::words::SolveWords;
@@ -39,7 +39,7 @@ fn copy_words(alloc: Global, words: &[String]) -> Result<Seq<String>, AllocError
 /// The workers for all streams.
 fn pool_of(alloc: Global, task: &Task, words: &SolveWords<'_>) -> Result<Pool, AllocError>
     requires fit { IsFit task.now }
-    ensures pool { IfOk result (IsPoolOf task.now (held words.now)) }
+    ensures pool { IfOk result (IsPoolOf task.now (held_solve words.now)) }
 {
     Ok(Pool {
         first: 0,
@@ -52,7 +52,7 @@ fn pool_of(alloc: Global, task: &Task, words: &SolveWords<'_>) -> Result<Pool, A
 /// One pool for all streams, where there are some.
 fn pools_of(alloc: Global, task: &Task, words: &SolveWords<'_>) -> Result<Seq<Pool>, AllocError>
     requires fit { IsFit task.now }
-    ensures pools { IfOk result (ArePoolsOf task.now (held words.now)) }
+    ensures pools { IfOk result (ArePoolsOf task.now (held_solve words.now)) }
 {
     let mut pools = Vec::new(alloc);
     if !task.streams.is_empty() {
@@ -68,7 +68,7 @@ pub(crate) fn head_of(
     words: &SolveWords<'_>,
 ) -> Result<Head, AllocError>
     requires fit { IsFit task.now }
-    ensures head { IfOk result (IsHeadOf task.now (held words.now)) }
+    ensures head { IfOk result (IsHeadOf task.now (held_solve words.now)) }
 {
     Ok(Head {
         version: 1,

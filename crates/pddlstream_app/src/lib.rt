@@ -3,6 +3,8 @@
 
 mod command;
 mod head;
+mod judge;
+mod solve;
 mod status;
 mod stop;
 mod texts;

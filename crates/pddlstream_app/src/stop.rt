@@ -2,7 +2,7 @@
 ghost use Rattle.std.specs.Prelude.{◌≡◌, ◌++◌, codes, IfOk};
 ghost use Rattle.std.specs.Fmt.{decimal};
 ghost use Rattle.task_reader.specs.Kinds.{kind_word};
-ghost use Rattle.pddlstream_app.specs.Stop.{is_write, status_at, last_text, text_word, why_word};
+ghost use Rattle.pddlstream_app.specs.Stop.{is_write, status_at, last_text, role_word, text_word, why_word};
 ghost use Rattle.level_run.specs.declared.fault.RunFault.TheVariants.{Memory};
 ghost use Rattle.pddlstream_app.specs.declared.stop.Stop.TheVariants.{Run};
 
@@ -23,6 +23,15 @@ pub(crate) enum Text {
     Streams,
 }
 
+/// What a command reads a file for.
+#[derive(Clone, Copy, Debug, PartialEq, Eq)]
+pub(crate) enum FileRole {
+    /// A text of the task.
+    Text(Text),
+    /// The report that is judged.
+    Report,
+}
+
 /// Why a run has no outcome.
 #[derive(Clone, Copy, Debug, PartialEq, Eq)]
 pub(crate) enum Stop {
@@ -34,10 +43,10 @@ pub(crate) enum Stop {
         kind: FaultKind,
         place: usize,
     },
-    /// The file of the text could not be read.
-    Failed(Text),
-    /// The file of the text is too long.
-    TooLong(Text),
+    /// The file could not be read.
+    Failed(FileRole),
+    /// The file is too long.
+    TooLong(FileRole),
     /// The run stopped.
     Run(RunFault),
 }
@@ -81,8 +90,8 @@ impl Stop {
         match self {
             Stop::Usage => Vec::from_slice(alloc, USAGE),
             Stop::Input { text, kind, place } => input_line(alloc, *text, *kind, *place),
-            Stop::Failed(text) => parts(alloc, b"fault read ", text.word(), b" failed\n"),
-            Stop::TooLong(text) => parts(alloc, b"fault read ", text.word(), b" too-long\n"),
+            Stop::Failed(role) => parts(alloc, b"fault read ", role.word(), b" failed\n"),
+            Stop::TooLong(role) => parts(alloc, b"fault read ", role.word(), b" too-long\n"),
             Stop::Run(RunFault::Answer { number, why }) => answer_line(alloc, *number, *why),
             Stop::Run(RunFault::Generator) => Vec::from_slice(alloc, b"fault generator\n"),
             Stop::Run(RunFault::Write) => Ok(Vec::new(alloc)),
@@ -92,8 +101,10 @@ impl Stop {
 }
 
 /// What is printed where the words are no command.
-const USAGE: &[u8] =
-    b"fault usage\nusage: pddlstream solve DOMAIN PROBLEM STREAMS [OPTIONS] [-- PROGRAM WORDS]\n";
+const USAGE: &[u8] = b"fault usage
+usage: pddlstream solve DOMAIN PROBLEM STREAMS [OPTIONS] [-- PROGRAM WORDS]
+usage: pddlstream replay DOMAIN PROBLEM STREAMS REPORT [--states N]
+";
 
 /// What is printed where memory is wanting.
 pub(crate) const MEMORY: &[u8] = b"fault memory\n";
@@ -107,6 +118,18 @@ impl Text {
             Text::Domain => b"domain",
             Text::Problem => b"problem",
             Text::Streams => b"streams",
+        }
+    }
+}
+
+impl FileRole {
+    /// The word that stands for the file.
+    fn word(&self) -> &'static [u8]
+        ensures { result.now ≡ role_word self.now }
+    {
+        match self {
+            FileRole::Text(text) => text.word(),
+            FileRole::Report => b"report",
         }
     }
 }

@@ -3,6 +3,7 @@ mod faults;
 mod limits;
 mod outcomes;
 mod refusals;
+mod replays;
 mod workers;
 
 use crate::{Status, run};
@@ -32,8 +33,13 @@ struct Given<'a> {
     domain: &'a str,
     problem: &'a str,
     streams: &'a str,
-    /// What child 0 says, what the others say, and what the places of child 0's bytes wait for: so many lines to a child.
+    /// The report that is judged.
+    report: &'a str,
+    /// What child 0 says.
     answers: &'a str,
+    /// The most bytes of child 0 that a read gives, or 0 where it gives all that there is room for.
+    piece: usize,
+    /// What the others say, and what the places of child 0's bytes wait for: so many lines to a child.
     others: &'a [&'a str],
     needs: &'a [(usize, u8, u64)],
     host_fails: &'a [u64],
@@ -49,7 +55,9 @@ fn cup<'a>(answers: &'a str) -> Given<'a> {
         domain: FETCH,
         problem: ONE,
         streams: GRIP,
+        report: "",
         answers,
+        piece: 0,
         others: &[],
         needs: &[],
         host_fails: &[],
@@ -91,22 +99,39 @@ fn files(alloc: Global, given: &Given<'_>) -> Result<MemFiles, AllocError> {
     list.push(file(alloc, "d", given.domain)?)?;
     list.push(file(alloc, "p", given.problem)?)?;
     list.push(file(alloc, "s", given.streams)?)?;
+    list.push(file(alloc, "r", given.report)?)?;
     Ok(MemFiles::new(alloc, list, Vec::new(alloc)))
 }
 
-fn script(alloc: Global, answers: &str, needs: &[(usize, u8, u64)]) -> Result<Script, AllocError> {
+/// Cuts of so many bytes, one for each byte of the answers; none where they are of no bytes.
+fn cuts(alloc: Global, answers: &str, piece: usize) -> Result<Vec<usize>, AllocError> {
+    let mut cuts = Vec::new(alloc);
+    if piece > 0 {
+        for _ in 0..answers.len() {
+            cuts.push(piece)?;
+        }
+    }
+    Ok(cuts)
+}
+
+fn script(
+    alloc: Global,
+    answers: &str,
+    piece: usize,
+    needs: &[(usize, u8, u64)],
+) -> Result<Script, AllocError> {
     Ok(Script {
         bytes: Vec::from_slice(alloc, answers.as_bytes())?,
-        cuts: Vec::new(alloc),
+        cuts: cuts(alloc, answers, piece)?,
         needs: Vec::from_slice(alloc, needs)?,
     })
 }
 
 fn scripts(alloc: Global, given: &Given<'_>) -> Result<Vec<Script>, AllocError> {
     let mut scripts = Vec::new(alloc);
-    scripts.push(script(alloc, given.answers, given.needs)?)?;
+    scripts.push(script(alloc, given.answers, given.piece, given.needs)?)?;
     for answers in given.others {
-        scripts.push(script(alloc, answers, &[])?)?;
+        scripts.push(script(alloc, answers, 0, &[])?)?;
     }
     Ok(scripts)
 }

@@ -3,17 +3,24 @@ ghost use Rattle.std.specs.Prelude.{◌≡◌, ◌≤◌, length, map, string_by
 ghost use Rattle.std.specs.Char.{is_ascii_digit};
 ghost use Rattle.std.specs.List.{list_all};
 ghost use Rattle.std.specs.Option.{option_map};
-ghost use Rattle.pddlstream_app.specs.Words.{IsWithin, words_of, shown, shown_count, count_of, option_of, program_of, options_of};
+ghost use Rattle.pddlstream_app.specs.Words.{AreWithin, IsWithin, IsWithinReplay, command_of, count_of, held_files, named, option_of, program_of, replay_of, shown, shown_count, shown_replay, shown_solve, solve_of};
 
-/// The words of `solve`: three files, limits, and the generator program with its words.
+/// The paths of a task's three texts.
 #[derive(Clone, Copy)]
-pub(crate) struct SolveWords<'a> {
+pub(crate) struct TaskFiles<'a> {
     /// The path of the domain.
     pub(crate) domain: &'a str,
     /// The path of the problem.
     pub(crate) problem: &'a str,
     /// The path of the streams.
     pub(crate) streams: &'a str,
+}
+
+/// The words of `solve`: a task, limits, and the generator program with its words.
+#[derive(Clone, Copy)]
+pub(crate) struct SolveWords<'a> {
+    /// The task's texts.
+    pub(crate) files: TaskFiles<'a>,
     /// The most calls, 1 to 100,000.
     pub(crate) calls: u32,
     /// The most states of a search, 1 to 200,000.
@@ -22,6 +29,26 @@ pub(crate) struct SolveWords<'a> {
     pub(crate) workers: u8,
     /// The program and its words, at least one.
     pub(crate) program: &'a [String],
+}
+
+/// The words of `replay`: a task, a report and a limit.
+#[derive(Clone, Copy)]
+pub(crate) struct ReplayWords<'a> {
+    /// The task's texts.
+    pub(crate) files: TaskFiles<'a>,
+    /// The path of the report.
+    pub(crate) report: &'a str,
+    /// The most states of a search, 1 to 200,000.
+    pub(crate) states: u32,
+}
+
+/// What the words ask for.
+#[derive(Clone, Copy)]
+pub(crate) enum Command<'a> {
+    /// A task is to be solved.
+    Solve(SolveWords<'a>),
+    /// A report is to be judged.
+    Replay(ReplayWords<'a>),
 }
 
 /// An option's number and the words behind it.
@@ -99,15 +126,10 @@ fn program_of(words: &[String]) -> Option<&[String]>
     Some(program)
 }
 
-/// The words of `solve` with the options behind its files.
-fn options_of<'a>(
-    domain: &'a str,
-    problem: &'a str,
-    streams: &'a str,
-    words: &'a [String],
-) -> Option<SolveWords<'a>>
+/// The words of `solve` behind its files: `[--calls N] [--states N] [--workers N] -- PROGRAM WORDS`.
+fn solve_of<'a>(files: TaskFiles<'a>, words: &'a [String]) -> Option<SolveWords<'a>>
     ensures within { IfSome result IsWithin }
-    ensures value { shown result ≡ options_of domain.now problem.now streams.now (map string_bytes words.now) }
+    ensures value { shown_solve result ≡ solve_of (held_files files.entry) (map string_bytes words.now) }
 {
     let Some(calls) = option_of("--calls", 100_000, 10_000, words) else {
         return None;
@@ -122,9 +144,7 @@ fn options_of<'a>(
         return None;
     };
     Some(SolveWords {
-        domain,
-        problem,
-        streams,
+        files,
         calls: calls.count,
         states: states.count,
         workers: workers.count as u8,
@@ -132,17 +152,56 @@ fn options_of<'a>(
     })
 }
 
-/// The words of `solve DOMAIN PROBLEM STREAMS [--calls N] [--states N] [--workers N] -- PROGRAM WORDS`, or None where the
-/// words aren't of this form.
-pub(crate) fn solve_words(words: &[String]) -> Option<SolveWords<'_>>
-    ensures within { IfSome result IsWithin }
-    ensures value { shown result ≡ words_of (map string_bytes words.now) }
+/// The words of `replay` behind its task's files: `REPORT [--states N]`.
+fn replay_of<'a>(files: TaskFiles<'a>, words: &'a [String]) -> Option<ReplayWords<'a>>
+    ensures within { IfSome result IsWithinReplay }
+    ensures value { shown_replay result ≡ replay_of (held_files files.entry) (map string_bytes words.now) }
 {
-    let [command, domain, problem, streams, options @ ..] = words else {
+    let [report, options @ ..] = words else {
         return None;
     };
-    if command.as_str() != "solve" {
+    let Some(states) = option_of("--states", 200_000, 100_000, options) else {
+        return None;
+    };
+    if !states.rest.is_empty() {
         return None;
     }
-    options_of(domain.as_str(), problem.as_str(), streams.as_str(), options)
+    Some(ReplayWords {
+        files,
+        report: report.as_str(),
+        states: states.count,
+    })
+}
+
+/// What is to be done with these files, by the command's name and the words behind them.
+fn named<'a>(name: &str, files: TaskFiles<'a>, words: &'a [String]) -> Option<Command<'a>>
+    ensures within { IfSome result AreWithin }
+    ensures value { shown result ≡ named name.now (held_files files.entry) (map string_bytes words.now) }
+{
+    if name == "solve" {
+        let solve = solve_of(files, words)?;
+        return Some(Command::Solve(solve));
+    }
+    if name == "replay" {
+        let replay = replay_of(files, words)?;
+        return Some(Command::Replay(replay));
+    }
+    None
+}
+
+/// What the words ask for: `solve DOMAIN PROBLEM STREAMS [--calls N] [--states N] [--workers N] -- PROGRAM WORDS` or
+/// `replay DOMAIN PROBLEM STREAMS REPORT [--states N]`; None where they have neither form.
+pub(crate) fn command_of(words: &[String]) -> Option<Command<'_>>
+    ensures within { IfSome result AreWithin }
+    ensures value { shown result ≡ command_of (map string_bytes words.now) }
+{
+    let [name, domain, problem, streams, rest @ ..] = words else {
+        return None;
+    };
+    let files = TaskFiles {
+        domain: domain.as_str(),
+        problem: problem.as_str(),
+        streams: streams.as_str(),
+    };
+    named(name.as_str(), files, rest)
 }

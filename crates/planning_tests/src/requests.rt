@@ -210,3 +210,43 @@ fn a_fact_that_is_there_is_not_new(rt: HostRuntime) {
     let cube = typed_twice(rt.alloc(), CUBE);
     assert_eq!(rt; cube, Ok([(true, 1), (false, 1)]));
 }
+
+/// Makes a plate known, which is a cube, and then says of the cup that it is a cube too.
+fn add_cubes(alloc: Global, facts: &mut Facts) -> Result<(), Fault>
+    requires few { length facts.old.known.names < 99 }
+{
+    let plate = facts.add_name(name(alloc, "plate")?)?;
+    facts.add(fact(alloc, Kind::Sort, CUBE, &[plate])?)?;
+    typed(alloc, facts, CUBE)?;
+    Ok(())
+}
+
+/// The objects that have this type at first, and once these cubes are known.
+fn listed_in(alloc: Global, task: &Task, sort: u32) -> Result<(Vec<Obj>, Vec<Obj>), Fault> {
+    if task.problem.objects.len() > 9 {
+        return Err(Fault::Unfit);
+    }
+    let mut facts = known(alloc, task)?;
+    let before = facts.objects_with(alloc, sort)?;
+    add_cubes(alloc, &mut facts)?;
+    let after = facts.objects_with(alloc, sort)?;
+    Ok((before, after))
+}
+
+/// The same over the task of this module.
+fn listed(alloc: Global, sort: u32) -> Result<(Vec<Obj>, Vec<Obj>), Fault> {
+    let task = task(alloc)?;
+    listed_in(alloc, &task, sort)
+}
+
+#[test]
+fn objects_are_listed_as_their_type_became_known(rt: HostRuntime) -> Result<(), Fail> {
+    let (cup, plate) = (Obj::new(0), Obj::new(1));
+    let (before, after) = listed(rt.alloc(), CUBE)?;
+    assert_eq!(rt; before.len(), 0);
+    assert_eq!(rt; after.as_slice(), [plate, cup].as_slice());
+    let (before, after) = listed(rt.alloc(), BLOCK)?;
+    assert_eq!(rt; before.as_slice(), [cup].as_slice());
+    assert_eq!(rt; after.as_slice(), [cup].as_slice());
+    Ok(())
+}

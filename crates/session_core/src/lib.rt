@@ -12,4 +12,5 @@ mod round;
 mod session;
 
 pub use fault::{CoreFault, Heard};
+pub use learn::learn_from;
 pub use session::Session;

@@ -6,6 +6,7 @@ use std::test::Fail;
 
 const USAGE: &str = "fault usage
 usage: pddlstream solve DOMAIN PROBLEM STREAMS [OPTIONS] [-- PROGRAM WORDS]
+usage: pddlstream replay DOMAIN PROBLEM STREAMS REPORT [--states N]
 ";
 
 const TRIES: &[&[&str]] = &[
@@ -15,7 +16,14 @@ const TRIES: &[&[&str]] = &[
     &["solve", "d", "p", "s"],
     &["solve", "d", "p", "s", "--"],
     &["solve", "d", "p", "s", "g"],
+    &["replay", "d", "p", "s"],
     &["replay", "d", "p", "s", "--", "g"],
+    &["replay", "d", "p", "s", "r", "x"],
+    &["replay", "d", "p", "s", "r", "--states"],
+    &["replay", "d", "p", "s", "r", "--states", "0"],
+    &["replay", "d", "p", "s", "r", "--states", "200001"],
+    &["replay", "d", "p", "s", "r", "--states", "5", "x"],
+    &["replay", "d", "p", "s", "r", "--calls", "5"],
     &["solve", "d", "p", "s", "--calls", "0", "--", "g"],
     &["solve", "d", "p", "s", "--calls", "100001", "--", "g"],
     &["solve", "d", "p", "s", "--calls", "00000005", "--", "g"],

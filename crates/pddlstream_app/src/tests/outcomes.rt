@@ -74,9 +74,8 @@ done
     check(&rt, rt.alloc(), &given, want, Status::NoPlan)
 }
 
-#[test]
-fn a_goal_may_ask_for_two_values_and_a_test(rt: HostRuntime) -> Result<(), Fail> {
-    let want = "pddlstream 1 incremental
+/// The report on two grips and a test.
+const TWO_GRIPS: &str = "pddlstream 1 incremental
 limits 10000 100000 3
 pool 1 grip ok
 level
@@ -91,8 +90,19 @@ plan 0
 cost 0
 done
 ";
+
+#[test]
+fn a_goal_may_ask_for_two_values_and_a_test(rt: HostRuntime) -> Result<(), Fail> {
     let given = two("yield left\nyield\nyield right\n");
-    check(&rt, rt.alloc(), &given, want, Status::Plan)
+    check(&rt, rt.alloc(), &given, TWO_GRIPS, Status::Plan)
+}
+
+#[test]
+fn spaces_and_pieces_do_not_matter(rt: HostRuntime) -> Result<(), Fail> {
+    let given = two("yield  left \r\n yield\nyield right\n");
+    check(&rt, rt.alloc(), &given, TWO_GRIPS, Status::Plan)?;
+    let given = Given { piece: 1, ..given };
+    check(&rt, rt.alloc(), &given, TWO_GRIPS, Status::Plan)
 }
 
 #[test]

@@ -1,16 +1,21 @@
-use Rattle.std.proofs.Common.{◌≡◌, ◌+◌, ◌++◌, ◌<◌, ◌≤◌, ℕ, List, length, take, drop, ap, sym, subst, ◌∙◌, arith, refl, slice_get, ◌==◌}
+use Rattle.std.proofs.Common.{◌≡◌, ◌+◌, ◌++◌, ◌<◌, ◌≤◌, ℕ, List, length, ap, sym, subst, ◌∙◌, arith, refl, slice_get, Some}
 use Rattle.std.proofs.lemmas.List.{length-take-le, length-drop}
 use Rattle.instance_queue.specs.Level.{instances_of}
 use Rattle.session_core.specs.Ready.{AreReady}
-use Rattle.session_core.specs.Session.{IsOf}
+use Rattle.session_core.specs.declared.pools.Workers.{Workers}
 use Rattle.transcript_text.specs.Legal.{asks_of}
-use Rattle.transcript_text.specs.Rounds.{IsRound}
+use Rattle.transcript_text.specs.Rounds.{IsBatch, IsRound, limits_of}
 use Rattle.transcript_text.specs.declared.entry.Entry.{Entry}
 use Rattle.level_run.proofs.Batching.{SoFar, none_of_none, none_left, so_far_end, so_far_none, so_far_step, spent}
+use Rattle.level_run.proofs.Broken.{breaks_then}
+use Rattle.level_run.specs.Breaking.{LogBreaks}
+use Rattle.level_run.proofs.Calling.{calls_none, calls_then}
 use Rattle.level_run.proofs.Deciding.{empty_of, filled_of, first_of}
-use Rattle.level_run.proofs.Stopping.{goes_none, goes_then, handed, stopped_then}
+use Rattle.level_run.proofs.Fronting.{all_work, so_far_front}
+use Rattle.level_run.proofs.Stopping.{goes_none, goes_then, handed, on_err, stopped_as, stopped_then}
+use Rattle.level_run.specs.Calls.{Calls}
 use Rattle.level_run.specs.Dialogue.{workers_in}
-use Rattle.level_run.specs.Rolling.{Stopped}
+use Rattle.level_run.specs.Rolling.{IsFront, Stopped}
 use Rattle.level_run.specs.Talking.{IsTold, held_of}
 use Rattle.level_run.proofs.batches.run_rounds.Goals as goal
 
@@ -27,6 +32,7 @@ rounds-init g c = record {
   counts = refl;
   grows = omega arith;
   goes = goes_none c.args.session.now.entries (g.O.Sink.taken c.args.out.now);
+  order = calls_none c.args.task.now (workers_in c.args.head.now) c.args.session.now.entries (g.H.Host.log c.args.host.now);
   started = refl;
   running = λ k. refl;
   host = omega arith;
@@ -62,13 +68,36 @@ returns-then-count-eq0-clause-ends g c =
 
 pub returns-in_err-run_round-clause-stopped : goal.returns-in_err-run_round-clause-stopped
 returns-in_err-run_round-clause-stopped g c =
+    let head = c.args.head.now in
+    let task = c.args.task.now in
+    let s = c.args.session.now in
     let now = c.rounds.session in
+    let i = c.rounds.invariant in
+    let list = instances_of c.args.dues.now in
+    let rest = c.rounds.rest.now in
+    let count = c.next_round-count.result in
     let fault = c.in_err-run_round.field-0.0 in
     let spoken = g.H.Host.spoken c.run_round.new.host in
-    let first = subst (λ v. Stopped v c.args.task.now now.pools now.entries fault (g.O.Sink.taken c.rounds.out) (g.O.Sink.taken c.run_round.new.out) spoken) c.rounds.invariant.head.version c.in_err-run_round.ensures.stopped in
-    let stopped = subst (λ ps. Stopped c.args.head.now.version c.args.task.now ps now.entries fault (g.O.Sink.taken c.rounds.out) (g.O.Sink.taken c.run_round.new.out) spoken) c.rounds.invariant.head.pools first in
+    let was = g.H.Host.log c.args.host.now in
+    let mid = g.H.Host.log c.rounds.host in
+    let log = g.H.Host.log c.run_round.new.host in
+    let round = IsFront now.entries (IsRound task now.entries (instances_of c.split_at.result.0.now)) in
+    let batch = IsFront s.entries (IsBatch (limits_of head) task s.entries list) in
+    let first = subst (λ v. Stopped v task now.pools round now.entries fault (g.O.Sink.taken c.rounds.out) (g.O.Sink.taken c.run_round.new.out) spoken (LogBreaks task v now.pools now.entries fault mid log)) i.head.version c.in_err-run_round.ensures.stopped in
+    let second = subst (λ ps. Stopped head.version task ps round now.entries fault (g.O.Sink.taken c.rounds.out) (g.O.Sink.taken c.run_round.new.out) spoken (LogBreaks task head.version ps now.entries fault mid log)) i.head.pools first in
+    let work = all_work head.pools (subst (λ (ps : List Workers). (k : ℕ) (p : Workers) → slice_get ps k ≡ Some p → 1 ≤ p.workers) i.head.pools i.session.pools.some) in
+    let stopped = stopped_as head.version task (workers_in head) spoken batch round now.entries fault (g.O.Sink.taken c.rounds.out) (g.O.Sink.taken c.run_round.new.out)
+    (LogBreaks task head.version (workers_in head) now.entries fault mid log) (LogBreaks task head.version (workers_in head) now.entries fault mid log)
+    (λ es legal f. so_far_front head task s.entries list now rest count es i.head i.session c.next_round-count.ensures.cut (omega (arith, c.if-count-eq0.false)) work i.so_far
+    (subst (λ ds. IsFront now.entries (IsRound task now.entries (instances_of ds)) es) c.split_at.ensures.front f)) (λ more l. l) second in
     handed c.from_residual.result fault _ c.from_residual.ensures.1
-    (stopped_then c.args.head.now.version c.args.task.now (workers_in c.args.head.now) spoken c.args.session.now.entries now.entries fault (g.O.Sink.taken c.args.out.now) (g.O.Sink.taken c.rounds.out) (g.O.Sink.taken c.run_round.new.out) c.rounds.invariant.goes stopped)
+    (stopped_then head.version task (workers_in head) spoken batch s.entries now.entries fault (g.O.Sink.taken c.args.out.now) (g.O.Sink.taken c.rounds.out) (g.O.Sink.taken c.run_round.new.out)
+    (LogBreaks task head.version (workers_in head) s.entries fault was log) (LogBreaks task head.version (workers_in head) now.entries fault mid log) i.goes
+    (breaks_then task head.version (workers_in head) s.entries now.entries fault was mid log i.order i.goes.more i.goes.pushed) stopped)
+
+pub returns-in_err-run_round-clause-some : goal.returns-in_err-run_round-clause-some
+returns-in_err-run_round-clause-some g c =
+    on_err c.from_residual.result _ (omega (arith, c.rounds.invariant.counts, c.rounds.invariant.grows, filled_of c.rounds.rest.now (sym c.is_empty.ensures ∙ c.if-is_empty.false)))
 
 pub rounds-preserved : goal.rounds-preserved
 rounds-preserved g c =
@@ -98,6 +127,8 @@ rounds-preserved g c =
       counts = omega (arith, done.asked, long, ap length back, length-drop count rest, c.next_round-count.ensures.cut.within, i.counts);
       grows = omega (arith, done.asked, i.grows);
       goes = goes_then c.args.session.now.entries now.entries new.entries (g.O.Sink.taken c.args.out.now) (g.O.Sink.taken c.rounds.out) (g.O.Sink.taken c.run_round.new.out) i.goes done.goes;
+      order = calls_then c.args.task.now (workers_in c.args.head.now) c.args.session.now.entries now.entries new.entries (g.H.Host.log c.args.host.now) (g.H.Host.log c.rounds.host) (g.H.Host.log c.run_round.new.host) i.order
+          (subst (λ ps. Calls c.args.task.now ps now.entries new.entries (g.H.Host.log c.rounds.host) (g.H.Host.log c.run_round.new.host)) i.head.pools done.order);
       started = done.started ∙ i.started;
       running = λ k. done.running k ∙ i.running k;
       host = omega (arith, done.host.later, i.host);

@@ -5,6 +5,7 @@ use Rattle.session_core.specs.Ready.{AreReady}
 use Rattle.session_core.specs.Session.{IsLearnt, IsOf, IsSession}
 use Rattle.level_run.proofs.Batching.{SoFar}
 use Rattle.level_run.proofs.batches.run_rounds.Given as goal
+use Rattle.level_run.specs.Calls.{Calls}
 use Rattle.level_run.specs.Dialogue.{workers_in}
 use Rattle.level_run.specs.Rolling.{Goes}
 use Rattle.level_run.specs.Talking.{IsTold, held_of}
@@ -24,6 +25,7 @@ invariant-rounds g l = record {
   counts : length l.session.asked + length l.rest ≡ length l.initial.session.asked + length l.initial.rest;
   grows : length l.initial.session.asked ≤ length l.session.asked;
   goes : Goes l.initial.session.entries l.session.entries (g.O.Sink.taken l.initial.out) (g.O.Sink.taken l.out);
+  order : Calls l.task (workers_in l.head) l.initial.session.entries l.session.entries (g.H.Host.log l.initial.host) (g.H.Host.log l.host);
   started : l.lines.started ≡ l.initial.lines.started;
   running : Same (g.H.Host.running l.initial.host) (g.H.Host.running l.host);
   host : g.H.Host.faults l.initial.host ≤ g.H.Host.faults l.host;

@@ -1,4 +1,9 @@
-use Rattle.std.proofs.Common.{◌≡◌, ◌∙◌, ◌<◌, ℕ, true, false, [], ap, slice_get, subst, sym, length, unwrap_or}
+use Rattle.std.proofs.Common.{◌≡◌, ◌∙◌, ℕ, true, false, [], ap, slice_get, subst, sym, length, unwrap_or}
+use Rattle.io_world.proofs.Said.{extends_none}
+use Rattle.io_world.specs.Faults.{Extends}
+use Rattle.level_run.proofs.Deciding.{empty_of}
+use Rattle.level_run.proofs.Running.{starts_idle}
+use Rattle.level_run.specs.Calls.{starts_before}
 use Rattle.level_run.proofs.Starting.{all_run}
 use Rattle.level_run.proofs.Stopping.{ok_map}
 use Rattle.level_run.proofs.Telling.{told_started}
@@ -24,3 +29,8 @@ returns-then-asks-eq0-clause-told g c =
     let silent = c.start_all.ensures.silent (λ child runs. absurd (let bad : true ≡ false = sym runs ∙ c.requires.state child ∙ idle child in cc)) in
     told_started c.args.task.now head.version (workers_in head) s.entries (g.H.Host.running c.args.host.now) (g.H.Host.running c.start_all.new.host) (held_of c.args.lines.now) (held_of c.start_all.new.self) (g.H.Host.spoken c.args.host.now) (g.H.Host.spoken c.start_all.new.host)
     (sym c.requires.session.counted ∙ asked) idle (λ k. ap (λ bs. unwrap_or (slice_get bs k) []) c.start_all.ensures.kept) (λ child runs. silent child (c.start_all.ensures.state child ∙ runs)) c.requires.told
+
+pub returns-then-is_empty-clause-log : goal.returns-then-is_empty-clause-log
+returns-then-is_empty-clause-log g c =
+    let none : length c.args.dues.now ≡ 0 = ap length (empty_of c.args.dues.now (sym c.is_empty.ensures ∙ c.if-is_empty.true)) in
+    subst (Extends (g.H.Host.log c.args.host.now) (g.H.Host.log c.args.host.now)) (sym (ap (starts_before c.args.head.now.pools (length c.args.session.now.asked)) none ∙ starts_idle c.args.head.now.pools (length c.args.session.now.asked))) (extends_none (g.H.Host.log c.args.host.now))

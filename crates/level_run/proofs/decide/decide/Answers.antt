@@ -1,4 +1,4 @@
-use Rattle.std.proofs.Common.{◌≡◌, sym, subst, ap, refl, ◌∙◌}
+use Rattle.std.proofs.Common.{◌^◌, ◌<◌, sym, subst, rules, tests}
 use Rattle.best_first.specs.Answer.{IsNothing}
 use Rattle.shown_plan.specs.Shown.{AreNamedSteps, ShowsPlan}
 use Rattle.transcript_text.specs.Transcript.{names_of}
@@ -26,7 +26,8 @@ returns-in_ok-shown-in-Plan-clause-decided c =
     let known = c.facts-facts.result.now.known in
     let found = found_plan c.args.task.now known c.args.head.now.states c.in_ok-plan.field-0 c.in-Plan.plan c.in-Plan.cost c.in-Plan.is c.in_ok-plan.ensures.plan in
     let shows = subst (λ es. ShowsPlan c.args.head.now.version c.args.task.now es c.in-Plan.plan.steps c.in-Plan.cost c.in_ok-shown-in-Plan.shown) c.entries-entries.ensures (subst (λ ss. ShowsPlan c.args.head.now.version c.args.task.now c.entries-entries.result.now ss c.in-Plan.cost c.in_ok-shown-in-Plan.shown) c.as_slice-steps.ensures c.in_ok-shown-in-Plan.ensures) in
-    plan_sure c.args.task.now c.args.session.now c.requires.working c.requires.learnt c.requires.session known c.facts-facts.ensures c.args.head.now c.requires.head c.requires.mode c.in-Plan.plan.steps c.in-Plan.cost c.in_ok-shown-in-Plan.shown shows found.valid
+    let small : c.in-Plan.cost < 2 ^ 64 = search (rules, tests) in
+    plan_sure c.args.task.now c.args.session.now c.requires.working c.requires.learnt c.requires.session known c.facts-facts.ensures c.args.head.now c.requires.head c.requires.mode c.in-Plan.plan.steps c.in-Plan.cost c.in_ok-shown-in-Plan.shown shows found.valid small
 
 pub returns-in-Limit-clause-decided : goal.returns-in-Limit-clause-decided
 returns-in-Limit-clause-decided c =

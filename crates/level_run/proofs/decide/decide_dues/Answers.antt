@@ -1,5 +1,4 @@
-use Rattle.std.proofs.Common.{◌≡◌, length, ap, sym, ◌∙◌, ◌==◌, subst, ◌<◌}
-use Rattle.session_core.specs.Ready.{AreReady}
+use Rattle.std.proofs.Common.{length, ap, sym, ◌∙◌, ◌==◌, ◌<◌}
 use Rattle.level_run.proofs.Deciding.{calls_sure, filled_of, first_of}
 use Rattle.level_run.proofs.decide.decide_dues.Goals as goal
 

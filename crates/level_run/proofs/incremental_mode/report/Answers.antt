@@ -1,5 +1,6 @@
-use Rattle.std.proofs.Common.{◌≡◌, ◌≤◌, arith, refl, sym, ◌∙◌}
+use Rattle.std.proofs.Common.{refl, sym, ◌∙◌}
 use Rattle.io_world.specs.Faults.{last_count}
+use Rattle.level_run.proofs.Running.{ran_of}
 use Rattle.level_run.proofs.Reporting.{broken_behind, broken_end, broken_head, broken_levels, reported, told_so_far}
 use Rattle.level_run.proofs.Stopping.{cause_handed, handed, handed_err, no_cause, written_cause, written_no_generator}
 use Rattle.level_run.specs.declared.fault.RunFault.TheVariants.{Generator, Memory, Write}
@@ -8,30 +9,30 @@ use Rattle.level_run.proofs.incremental_mode.report.Goals as goal
 pub returns-in_err-print_head-clause-broken : goal.returns-in_err-print_head-clause-broken
 returns-in_err-print_head-clause-broken g c =
     handed c.from_residual.result c.in_err-print_head.field-0.0 _ c.from_residual.ensures.1
-    (broken_head c.args.task.now c.args.head.now (g.H.Host.spoken c.args.host.now) c.in_err-print_head.field-0.0 (g.O.Sink.taken c.args.out.now) (g.O.Sink.taken c.print_head.new.out) c.in_err-print_head.ensures.part)
+    (broken_head c.args.task.now c.args.head.now (g.H.Host.spoken c.args.host.now) c.requires.mode c.in_err-print_head.field-0.0 (g.H.Host.log c.args.host.now) (g.O.Sink.taken c.args.out.now) (g.O.Sink.taken c.print_head.new.out) c.in_err-print_head.ensures.part)
 
 pub returns-in_err-session-clause-broken : goal.returns-in_err-session-clause-broken
 returns-in_err-session-clause-broken g c =
     handed c.from_residual-in_err-session.result Memory _ c.from_residual-in_err-session.ensures.1
-    (broken_behind c.args.task.now c.args.head.now (g.H.Host.spoken c.args.host.now) Memory (g.O.Sink.taken c.args.out.now) (g.O.Sink.taken c.print_head.new.out) c.in_ok-print_head.ensures.all refl)
+    (broken_behind c.args.task.now c.args.head.now (g.H.Host.spoken c.args.host.now) c.requires.mode Memory (g.H.Host.log c.args.host.now) (g.O.Sink.taken c.args.out.now) (g.O.Sink.taken c.print_head.new.out) c.in_ok-print_head.ensures.all refl)
 
 pub returns-in_err-outcome-clause-broken : goal.returns-in_err-outcome-clause-broken
 returns-in_err-outcome-clause-broken g c =
     handed c.from_residual-in_err-outcome.result c.in_err-outcome.field-0.0 _ c.from_residual-in_err-outcome.ensures.1
-    (broken_levels c.args.task.now c.args.head.now (g.H.Host.spoken c.run_levels.new.host) c.in_err-outcome.field-0.0 (g.O.Sink.taken c.args.out.now) (g.O.Sink.taken c.print_head.new.out) (g.O.Sink.taken c.run_levels.new.out) c.in_ok-print_head.ensures.all c.in_err-outcome.ensures.stopped)
+    (broken_levels c.args.task.now c.args.head.now (g.H.Host.spoken c.run_levels.new.host) c.in_err-outcome.field-0.0 (g.H.Host.log c.args.host.now) (g.H.Host.log c.run_levels.new.host) (g.O.Sink.taken c.args.out.now) (g.O.Sink.taken c.print_head.new.out) (g.O.Sink.taken c.run_levels.new.out) c.in_ok-print_head.ensures.all c.in_err-outcome.ensures.stopped)
 
 pub returns-in_err-print_end-clause-broken : goal.returns-in_err-print_end-clause-broken
 returns-in_err-print_end-clause-broken g c =
     let entries = c.run_levels.new.session.entries in
     handed c.from_residual-in_err-print_end.result c.in_err-print_end.field-0.0 _ c.from_residual-in_err-print_end.ensures.1
-    (broken_end c.args.task.now c.args.head.now (g.H.Host.spoken c.run_levels.new.host) entries c.in_ok-outcome.outcome c.in_err-print_end.field-0.0 (g.O.Sink.taken c.args.out.now) (g.O.Sink.taken c.run_levels.new.out) (g.O.Sink.taken c.print_end.new.out) c.in_ok-outcome.ensures.run c.in_ok-outcome.ensures.talks
+    (broken_end c.args.task.now c.args.head.now (g.H.Host.spoken c.run_levels.new.host) c.requires.mode entries c.in_ok-outcome.outcome c.in_err-print_end.field-0.0 (g.H.Host.log c.args.host.now) (g.H.Host.log c.run_levels.new.host) (g.O.Sink.taken c.args.out.now) (g.O.Sink.taken c.run_levels.new.out) (g.O.Sink.taken c.print_end.new.out) c.in_ok-outcome.ensures.run c.in_ok-outcome.ensures.talks c.in_ok-outcome.ensures.order c.in_ok-outcome.ensures.needed c.in_ok-outcome.ensures.closed
     (told_so_far c.args.task.now c.args.head.now (g.H.Host.spoken c.run_levels.new.host) entries (g.O.Sink.taken c.args.out.now) (g.O.Sink.taken c.print_head.new.out) (g.O.Sink.taken c.run_levels.new.out) c.in_ok-print_head.ensures.all c.in_ok-outcome.ensures.goes)
     c.in_err-print_end.ensures.part)
 
 pub returns-clause-reported : goal.returns-clause-reported
 returns-clause-reported g c =
     let entries = c.run_levels.new.session.entries in
-    reported c.args.task.now c.args.head.now (g.H.Host.spoken c.run_levels.new.host) entries c.in_ok-outcome.outcome c.in_ok-outcome.levels c.asks.result (g.O.Sink.taken c.args.out.now) (g.O.Sink.taken c.run_levels.new.out) (g.O.Sink.taken c.print_end.new.out) c.in_ok-outcome.ensures.run c.in_ok-outcome.ensures.talks c.in_ok-outcome.ensures.levels (c.asks.ensures ∙ c.in_ok-outcome.ensures.asks)
+    reported c.args.task.now c.args.head.now (g.H.Host.spoken c.run_levels.new.host) entries c.in_ok-outcome.outcome c.in_ok-outcome.levels c.asks.result (g.H.Host.log c.args.host.now) (g.H.Host.log c.run_levels.new.host) (g.O.Sink.taken c.args.out.now) (g.O.Sink.taken c.run_levels.new.out) (g.O.Sink.taken c.print_end.new.out) c.in_ok-outcome.ensures.run c.in_ok-outcome.ensures.talks (ran_of c.args.task.now c.args.head.now entries (g.H.Host.log c.args.host.now) (g.H.Host.log c.run_levels.new.host) c.in_ok-outcome.ensures.order) c.in_ok-outcome.ensures.levels (c.asks.ensures ∙ c.in_ok-outcome.ensures.asks)
     (told_so_far c.args.task.now c.args.head.now (g.H.Host.spoken c.run_levels.new.host) entries (g.O.Sink.taken c.args.out.now) (g.O.Sink.taken c.print_head.new.out) (g.O.Sink.taken c.run_levels.new.out) c.in_ok-print_head.ensures.all c.in_ok-outcome.ensures.goes)
     c.in_ok-print_end.ensures.all
 

@@ -1,11 +1,20 @@
-use Rattle.std.proofs.Common.{◌≡◌, ◌++◌, ◌∷◌, [], ap, sym, subst, ◌∙◌, length}
+use Rattle.std.proofs.Common.{◌≡◌, ◌⊎◌, ◌++◌, ◌∷◌, [], List, sym, subst, length}
 use Rattle.session_core.specs.Ready.{AreReady}
+use Rattle.instance_queue.specs.Level.{instances_of}
+use Rattle.transcript_text.specs.Legal.{HasNoneOpen}
+use Rattle.transcript_text.specs.Rounds.{IsBatch, limits_of}
+use Rattle.transcript_text.specs.declared.entry.Entry.{Entry}
 use Rattle.transcript_text.specs.declared.entry.Entry.TheVariants as entry
+use Rattle.level_run.proofs.Fronting.{all_work, front_level, front_marked}
 use Rattle.level_run.proofs.Levelling.{level_of, ready_marked}
+use Rattle.level_run.proofs.Running.{runs_marked}
 use Rattle.level_run.proofs.Starting.{level_ok}
-use Rattle.level_run.proofs.Stopping.{err_map, goes_then, handed, ok_map, stopped_then}
-use Rattle.level_run.specs.Rolling.{Goes, Stopped}
-use Rattle.level_run.specs.Turns.{EndsBatch}
+use Rattle.level_run.proofs.Broken.{tells_written}
+use Rattle.level_run.proofs.BrokenRuns.{marked_level, quiet_level}
+use Rattle.level_run.proofs.Stopping.{err_map, goes_then, handed, ok_map, stopped_as, stopped_then}
+use Rattle.level_run.specs.Breaking.{LevelBreaks, RunBreaks}
+use Rattle.level_run.specs.Rolling.{Goes, IsFront, Stopped}
+use Rattle.level_run.specs.Turns.{EndsBatch, IsSomeLevel}
 use Rattle.level_run.specs.Dialogue.{workers_in}
 use Rattle.level_run.specs.Talking.{IsTold, held_of}
 use Rattle.level_run.proofs.Telling.{told_marked}
@@ -37,8 +46,18 @@ pub returns-clause-stopped : goal.returns-clause-stopped
 returns-clause-stopped g c =
     let s = c.args.session.now in
     let m = c.mark_level.new.session in
+    let head = c.args.head.now in
+    let task = c.args.task.now in
+    let spoken = g.H.Host.spoken c.batch.new.host in
+    let level = IsFront s.entries (IsSomeLevel head task s.entries) in
     let first = subst (λ es. Goes s.entries es (g.O.Sink.taken c.args.out.now) (g.O.Sink.taken c.mark_level.new.out)) (sym c.in_ok-mark_level.ensures.marked.entries) c.in_ok-mark_level.ensures.goes in
-    err_map c.batch.result _ _ (λ fault stopped. stopped_then c.args.head.now.version c.args.task.now (workers_in c.args.head.now) (g.H.Host.spoken c.batch.new.host) s.entries m.entries fault (g.O.Sink.taken c.args.out.now) (g.O.Sink.taken c.mark_level.new.out) (g.O.Sink.taken c.batch.new.out) first stopped) c.batch.ensures.stopped
+    let was = g.H.Host.log c.args.host.now in
+    let log = g.H.Host.log c.batch.new.host in
+    err_map c.batch.result _ _ (λ fault stopped. stopped_then head.version task (workers_in head) spoken level s.entries m.entries fault (g.O.Sink.taken c.args.out.now) (g.O.Sink.taken c.mark_level.new.out) (g.O.Sink.taken c.batch.new.out)
+    (LevelBreaks task head s.entries fault was log) (RunBreaks task head m.entries fault was log) first (marked_level task head s.entries m.entries first.more fault was log c.in_ok-mark_level.ensures.marked.entries first.pushed)
+    (stopped_as head.version task (workers_in head) spoken level (IsFront m.entries (IsBatch (limits_of head) task m.entries (instances_of c.args.dues.now))) m.entries fault (g.O.Sink.taken c.mark_level.new.out) (g.O.Sink.taken c.batch.new.out)
+    (RunBreaks task head m.entries fault was log) (RunBreaks task head m.entries fault was log)
+    (λ es legal f. front_level head task s.entries (length s.asked) c.args.dues.now c.requires.turn m.entries es c.in_ok-mark_level.ensures.marked.entries f) (λ more l. l) stopped)) c.batch.ensures.stopped
 
 pub batch-requires-clause-told : goal.batch-requires-clause-told
 batch-requires-clause-told g c =
@@ -55,6 +74,18 @@ returns-in_err-mark_level-clause-stopped g c =
     let own = subst (λ v. IsTold c.args.task.now v s.pools s.entries (g.H.Host.running c.args.host.now) (held_of c.args.lines.now) spoken) (sym c.requires.head.version)
     (subst (λ ps. IsTold c.args.task.now head.version ps s.entries (g.H.Host.running c.args.host.now) (held_of c.args.lines.now) spoken) (sym c.requires.head.pools) c.requires.told) in
     let stopped = c.in_err-mark_level.ensures.stopped c.args.task.now (g.H.Host.running c.args.host.now) (held_of c.args.lines.now) spoken c.requires.session own c.requires.started in
+    let task = c.args.task.now in
+    let at = (λ (es : List Entry). (es ≡ s.entries) ⊎ (es ≡ s.entries ++ entry.Level ∷ [])) in
+    let level = IsFront s.entries (IsSomeLevel head task s.entries) in
+    let marked = λ (more : List Entry). (more ≡ []) ⊎ (more ≡ entry.Level ∷ []) in
+    let was = g.H.Host.log c.args.host.now in
     handed c.from_residual.result fault _ c.from_residual.ensures.1
-    (subst (λ v. Stopped v c.args.task.now (workers_in head) s.entries fault (g.O.Sink.taken c.args.out.now) (g.O.Sink.taken c.mark_level.new.out) spoken) c.requires.head.version
-    (subst (λ ps. Stopped s.version c.args.task.now ps s.entries fault (g.O.Sink.taken c.args.out.now) (g.O.Sink.taken c.mark_level.new.out) spoken) c.requires.head.pools stopped))
+    (stopped_as head.version task (workers_in head) spoken level at s.entries fault (g.O.Sink.taken c.args.out.now) (g.O.Sink.taken c.mark_level.new.out) marked (LevelBreaks task head s.entries fault was was)
+    (λ es legal there. front_marked head task s.entries (length s.asked) c.args.dues.now c.requires.turn es (all_work head.pools c.requires.runnable.fit.pools.some) there)
+    (quiet_level task head s.entries fault was (tells_written (HasNoneOpen s.entries) fault c.requires.session.none_open c.in_err-mark_level.ensures.only))
+    (subst (λ v. Stopped v task (workers_in head) at s.entries fault (g.O.Sink.taken c.args.out.now) (g.O.Sink.taken c.mark_level.new.out) spoken marked) c.requires.head.version
+    (subst (λ ps. Stopped s.version task ps at s.entries fault (g.O.Sink.taken c.args.out.now) (g.O.Sink.taken c.mark_level.new.out) spoken marked) c.requires.head.pools stopped)))
+
+pub returns-clause-order : goal.returns-clause-order
+returns-clause-order g c =
+    ok_map c.batch.result _ _ (λ runs. runs_marked c.args.task.now c.args.head.now c.args.session.now.entries c.mark_level.new.session.entries c.batch.new.session.entries (g.H.Host.log c.args.host.now) (g.H.Host.log c.batch.new.host) c.in_ok-mark_level.ensures.marked.entries runs) c.batch.ensures.order

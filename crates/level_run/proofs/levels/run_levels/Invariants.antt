@@ -1,4 +1,4 @@
-use Rattle.std.proofs.Common.{◌≡◌, ◌-◌, ◌≤◌, [], false, length, count_by}
+use Rattle.std.proofs.Common.{◌≡◌, ◌⊎◌, ◌-◌, ◌≤◌, [], false, length, count_by}
 use Rattle.io_world.specs.Talks.{Same}
 use Rattle.session_core.specs.Session.{IsLearnt, IsOf, IsSession}
 use Rattle.level_run.proofs.Standing.{Standing}
@@ -6,6 +6,8 @@ use Rattle.level_run.proofs.levels.run_levels.Given as goal
 use Rattle.level_run.specs.Held.{is_running}
 use Rattle.level_run.specs.Reports.{is_level}
 use Rattle.level_run.specs.Rolling.{Goes}
+use Rattle.level_run.specs.Breaking.{HasLevel}
+use Rattle.level_run.specs.Calls.{Runs}
 use Rattle.level_run.specs.Dialogue.{workers_in}
 use Rattle.level_run.specs.Talking.{IsTold, held_of}
 use Rattle.level_run.specs.Turns.{AreStarted}
@@ -25,6 +27,8 @@ invariant-levels g l = record {
   started : AreStarted l.session.pools (length l.session.asked) (g.H.Host.running l.host);
   state : Same (g.H.Host.running l.host) (is_running l.lines);
   untouched : length l.session.asked ≡ 0 → g.H.Host.log l.host ≡ g.H.Host.log l.initial.host;
+  order : Runs l.task l.head [] l.session.entries (g.H.Host.log l.initial.host) (g.H.Host.log l.host);
+  needed : (g.H.Host.log l.host ≡ g.H.Host.log l.initial.host) ⊎ HasLevel l.session.entries;
   goes : Goes [] l.session.entries (g.O.Sink.taken l.initial.out) (g.O.Sink.taken l.out);
   host : g.H.Host.faults l.initial.host ≤ g.H.Host.faults l.host;
   sink : g.O.Sink.faults l.initial.out ≤ g.O.Sink.faults l.out;

@@ -1,13 +1,21 @@
-use Rattle.std.proofs.Common.{◌≡◌, ◌+◌, ◌++◌, ◌∷◌, ◌<◌, [], List, ap, sym, subst, ◌∙◌, slice_get, Some, None, Option, IfSome, take, OnOk, IfErr, arith, length, true}
+use Rattle.std.proofs.Common.{◌≡◌, ◌+◌, ◌++◌, ◌∷◌, [], ap, sym, subst, ◌∙◌, Some, IfSome, take, arith, length}
 use Rattle.std.specs.Option.{option_copied}
 use Rattle.session_core.proofs.Answered.{there_at}
 use Rattle.session_core.specs.Slots.{IsAwaited}
-use Rattle.session_core.specs.State.{State}
-use Rattle.transcript_text.specs.Legal.{IsLegal}
-use Rattle.level_run.proofs.Rounding.{answers_legal, awaited_there, front_legal, heard_more, rolling_same, round_legal, started_within}
+use Rattle.transcript_text.specs.Legal.{HasNoneOpen, IsLegal}
+use Rattle.transcript_text.specs.Rounds.{IsRound}
+use Rattle.level_run.proofs.Broken.{breaks_done, tells_write}
+use Rattle.level_run.proofs.Called.{heard_calls}
+use Rattle.level_run.proofs.CalledOff.{heard_off}
+use Rattle.level_run.specs.Breaking.{LogBreaks}
+use Rattle.level_run.proofs.Calling.{calls_one}
+use Rattle.level_run.proofs.Printed.{answers_legal, front_answers, round_legal}
+use Rattle.level_run.proofs.Rounding.{awaited_there, heard_more, printed_there, rolling_same, started_within}
 use Rattle.level_run.proofs.Stopping.{err_map, goes_one, handed, ok_map, on_ok, stopped_at, stopped_blamed}
 use Rattle.level_run.proofs.Talked.{broken_answered, broken_hearing, may_blame, talking_heard}
-use Rattle.level_run.specs.Rolling.{IsRolling, finished}
+use Rattle.level_run.proofs.Pieced.{printed_all, printed_part}
+use Rattle.level_run.specs.Calls.{LogFollows}
+use Rattle.level_run.specs.Rolling.{IsFront, finished}
 use Rattle.level_run.specs.Talking.{Misheard, held_of}
 use Rattle.level_run.proofs.round.hear_one.Goals as goal
 
@@ -53,8 +61,10 @@ returns-in_err-hear_child-clause-stopped g c = λ task h talking.
     let misheard = subst (λ d. Misheard s.slots d (kept d) old now fault) is.0 c.in_err-hear_child.ensures.misheard in
     let front = answers_legal s.version task s.entries s.asks (finished s.slots) c.args.place legal in
     handed c.from_residual.result fault _ c.from_residual.ensures.1
-    (stopped_blamed s.version task s.pools now before fault (g.O.Sink.taken c.args.out.now) front
+    (stopped_blamed s.version task s.pools now (IsFront s.entries (IsRound task s.entries s.instances)) before fault (g.O.Sink.taken c.args.out.now) (LogBreaks task s.version s.pools before fault (g.H.Host.log c.args.host.now) (g.H.Host.log c.hear_child.new.host)) front (front_answers task s c.args.place c.requires.rolling.begun h)
     (broken_hearing task s (g.H.Host.running c.args.host.now) c.args.place c.requires.rolling c.requires.within there.0 there.1 kept old now there.0.child misheard.more c.requires.rolling.begun h front talking misheard.heard)
+    (heard_off task s (g.H.Host.running c.args.host.now) c.args.place c.requires.rolling c.requires.within there.0 there.1 kept old h talking c.request-child.result.0 fault (g.H.Host.log c.args.host.now) (g.H.Host.log c.hear_child.new.host) is.0
+    (g.met.H.Host.spells c.args.host.now c.request-child.result.0 (ap (g.H.Host.running c.args.host.now) is.0 ∙ c.requires.rolling.runs c.args.place there.0 there.1)) c.in_err-hear_child.ensures.refused)
     (may_blame task s (g.H.Host.running c.args.host.now) c.args.place c.requires.rolling c.requires.within there.0 there.1 kept old now fault c.requires.rolling.begun h legal talking misheard))
 
 pub unreachable-requires : goal.unreachable-requires
@@ -92,7 +102,7 @@ returns-clause-goes g c =
     let more = heard_more s (g.H.Host.running c.args.host.now) c.args.place c.request-child.result.0 c.hear_child.new.session _ _ _ _ c.requires.rolling c.requires.within there.0 there.1 is.0 c.in_ok-hear_child.ensures.taken in
     let copied = subst (λ o. IfSome o (λ slot. option_copied c.answer.result ≡ slot.answer)) more.at c.answer.ensures in
     let is_it : c.in-Some.answer.now ≡ more.entry = let both = sym (ap option_copied c.in-Some.is) ∙ copied ∙ more.said in cc in
-    ok_map c.print_entry.result _ _ (λ told. goes_one (s.entries ++ s.asks ++ take c.args.place (finished c.hear_child.new.session.slots)) (s.entries ++ s.asks ++ take (c.args.place + 1) (finished c.hear_child.new.session.slots)) c.in-Some.answer.now (g.O.Sink.taken c.args.out.now) (g.O.Sink.taken c.print_entry.new.out) (more.more ∙ ap (λ e. (s.entries ++ s.asks ++ take c.args.place (finished c.hear_child.new.session.slots)) ++ e ∷ []) (sym is_it)) told) c.print_entry.ensures.all
+    ok_map c.print_entry.result _ _ (λ told. goes_one (s.entries ++ s.asks ++ take c.args.place (finished c.hear_child.new.session.slots)) (s.entries ++ s.asks ++ take (c.args.place + 1) (finished c.hear_child.new.session.slots)) c.in-Some.answer.now (g.O.Sink.taken c.args.out.now) (g.O.Sink.taken c.print_entry.new.out) (more.more ∙ ap (λ e. (s.entries ++ s.asks ++ take c.args.place (finished c.hear_child.new.session.slots)) ++ e ∷ []) (sym is_it)) told) (printed_all c.print_entry.result _ _ _ c.print_entry.ensures.told)
 
 pub returns-clause-talking : goal.returns-clause-talking
 returns-clause-talking g c = λ task h talking.
@@ -116,9 +126,40 @@ returns-clause-stopped g c = λ task h talking.
     let is_it : c.in-Some.answer.now ≡ more.entry = let both = sym (ap option_copied c.in-Some.is) ∙ copied ∙ more.said in cc in
     let before = s.entries ++ s.asks ++ take c.args.place (finished s.slots) in
     let legal = subst (λ e. IsLegal s.version task (before ++ e ∷ [])) (sym is_it) (more.legal task (c.in_ok-hear_child.ensures.kept task h)) in
+    let front = subst (λ e. IsFront s.entries (IsRound task s.entries s.instances) (before ++ e ∷ [])) (sym is_it) (more.part task (c.in_ok-hear_child.ensures.kept task h)) in
     let later = talking_heard task s running c.args.place c.requires.rolling c.requires.within there.0 there.1 c.request-child.result.0 new (held_of c.args.lines.now) (held_of c.hear_child.new.lines) old now is.0 takes c.hear_child.ensures.others talking in
-    err_map c.print_entry.result _ _ (λ fault misses. stopped_at s.version task s.pools now before c.in-Some.answer.now fault (g.O.Sink.taken c.args.out.now) (g.O.Sink.taken c.print_entry.new.out) legal
-    (broken_hearing task s running c.args.place c.requires.rolling c.requires.within there.0 there.1 (held_of c.args.lines.now) old now c.request-child.result.0 takes.more c.requires.rolling.begun h (front_legal s.version task before (c.in-Some.answer.now ∷ []) legal) talking takes.heard)
+    let child = c.request-child.result.0 in
+    let was = g.H.Host.log c.args.host.now in
+    let came = g.H.Host.log c.hear_child.new.host in
+    let runs = ap running is.0 ∙ c.requires.rolling.runs c.args.place there.0 there.1 in
+    let spells = g.met.H.Host.spells c.args.host.now child runs in
+    let follows = heard_calls task s running c.args.place c.requires.rolling c.requires.within there.0 there.1 new _ _ (held_of c.args.lines.now) (held_of c.hear_child.new.lines) old now more.entry child was came takes.after h (c.in_ok-hear_child.ensures.kept task h) talking later (printed_there new.slots c.args.place more.slot more.entry more.at more.said) more.front is.0
+    spells (g.met.H.Host.spells c.hear_child.new.host child (c.in_ok-hear_child.ensures.running child ∙ runs)) c.in_ok-hear_child.ensures.log in
+    err_map c.print_entry.result _ _ (λ fault misses. stopped_at s.version task s.pools now (IsFront s.entries (IsRound task s.entries s.instances)) before c.in-Some.answer.now fault (g.O.Sink.taken c.args.out.now) (g.O.Sink.taken c.print_entry.new.out) (LogBreaks task s.version s.pools before fault was came) legal front
     (broken_answered task s new c.args.place (held_of c.hear_child.new.lines) now c.in-Some.answer.now c.requires.rolling.begun (c.in_ok-hear_child.ensures.kept task h) _ _ takes.after
     (more.more ∙ ap (λ es. (s.entries ++ s.asks ++ es) ++ more.entry ∷ []) more.front ∙ ap (λ e. before ++ e ∷ []) (sym is_it)) legal later)
-    misses) c.print_entry.ensures.part
+    (λ is_write. breaks_done task s.version s.pools before (c.in-Some.answer.now ∷ []) fault was came (tells_write (HasNoneOpen (before ++ c.in-Some.answer.now ∷ [])) fault is_write) (subst (λ e. LogFollows task s.pools before (e ∷ []) was came) (sym is_it) follows))
+    misses) (printed_part c.print_entry.result _ _ _ c.print_entry.ensures.told)
+
+pub returns-clause-order : goal.returns-clause-order
+returns-clause-order g c = λ task h talking.
+    let s = c.args.session.now in
+    let there = there_at s.slots c.args.place c.requires.within in
+    let is = subst (λ o. IfSome o (λ slot. (c.request-child.result.0 ≡ slot.child) × (c.request-child.result.1.now ≡ slot.request))) there.1 c.request-child.ensures in
+    let running = g.H.Host.running c.args.host.now in
+    let child = c.request-child.result.0 in
+    let new = c.hear_child.new.session in
+    let kept = held_of c.args.lines.now in
+    let left = held_of c.hear_child.new.lines in
+    let old = g.H.Host.spoken c.args.host.now in
+    let now = g.H.Host.spoken c.hear_child.new.host in
+    let was = g.H.Host.log c.args.host.now in
+    let came = g.H.Host.log c.hear_child.new.host in
+    let takes = c.in_ok-hear_child.ensures.taken in
+    let more = heard_more s running c.args.place child new _ _ _ _ c.requires.rolling c.requires.within there.0 there.1 is.0 takes in
+    let runs = ap running is.0 ∙ c.requires.rolling.runs c.args.place there.0 there.1 in
+    let later = talking_heard task s running c.args.place c.requires.rolling c.requires.within there.0 there.1 child new kept left old now is.0 takes c.hear_child.ensures.others talking in
+    let log = heard_calls task s running c.args.place c.requires.rolling c.requires.within there.0 there.1 new _ _ kept left old now more.entry child was came takes.after h (c.in_ok-hear_child.ensures.kept task h) talking later (printed_there new.slots c.args.place more.slot more.entry more.at more.said) more.front is.0
+    (g.met.H.Host.spells c.args.host.now child runs) (g.met.H.Host.spells c.hear_child.new.host child (c.in_ok-hear_child.ensures.running child ∙ runs)) c.in_ok-hear_child.ensures.log in
+    on_ok c.print_entry.result _ (calls_one task s.pools (s.entries ++ s.asks ++ take c.args.place (finished new.slots)) (s.entries ++ s.asks ++ take (c.args.place + 1) (finished new.slots)) more.entry was came more.more
+    (subst (λ es. LogFollows task s.pools (s.entries ++ s.asks ++ es) (more.entry ∷ []) was came) (sym more.front) log))

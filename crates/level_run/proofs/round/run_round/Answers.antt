@@ -1,12 +1,19 @@
-use Rattle.std.proofs.Common.{◌≡◌, ℕ, ◌+◌, ◌++◌, ap, sym, subst, ◌∙◌, length}
+use Rattle.std.proofs.Common.{◌≡◌, ℕ, ◌++◌, ap, sym, subst, ◌∙◌}
+use Rattle.instance_queue.specs.Level.{instances_of}
 use Rattle.session_core.specs.Session.{begun}
 use Rattle.session_core.specs.State.{State}
-use Rattle.transcript_text.specs.Legal.{IsLegal}
+use Rattle.transcript_text.specs.Legal.{HasNoneOpen, IsLegal}
+use Rattle.level_run.proofs.Broken.{breaks_none, breaks_then, tells_memory}
+use Rattle.level_run.specs.Breaking.{LogBreaks}
+use Rattle.level_run.proofs.Called.{round_order}
+use Rattle.transcript_text.specs.Rounds.{IsRound}
+use Rattle.level_run.proofs.Fronting.{front_first, front_whole, round_exists}
 use Rattle.level_run.proofs.Rounding.{all_heard, count_is, rolling_begun, round_end}
 use Rattle.level_run.proofs.Stopping.{handed, stopped_memory, stopped_then}
 use Rattle.level_run.proofs.Talked.{round_told, talking_begun}
 use Rattle.level_run.proofs.Telling.{broken_run}
-use Rattle.level_run.specs.Rolling.{Goes, IsRolling, Stopped}
+use Rattle.level_run.specs.Calls.{Calls}
+use Rattle.level_run.specs.Rolling.{Goes, IsFront, IsRolling, Stopped}
 use Rattle.level_run.specs.Talking.{IsTalking, IsTold, held_of}
 use Rattle.level_run.proofs.round.run_round.Goals as goal
 
@@ -28,7 +35,7 @@ returns-in_err-send_all-clause-stopped g c =
     let fault = c.in_err-send_all.field-0.0 in
     let talking = subst (λ (y : State). IsTalking task y 0 0 (held_of c.args.lines.now) (g.H.Host.spoken c.args.host.now)) (sym c.in-Ok.ensures.begun) (talking_begun task s c.args.dues.now (g.H.Host.running c.args.host.now) (held_of c.args.lines.now) (g.H.Host.spoken c.args.host.now) c.requires.working c.requires.round c.requires.session c.requires.all_run c.requires.told) in
     handed c.from_residual.result fault _ c.from_residual.ensures.1
-    (subst (λ (y : State). Stopped y.version task y.pools y.entries fault (g.O.Sink.taken c.args.out.now) (g.O.Sink.taken c.send_all.new.out) (g.H.Host.spoken c.send_all.new.host)) c.in-Ok.ensures.begun (c.in_err-send_all.ensures.stopped task (held_of c.args.lines.now) c.in-Ok.ensures.kept talking))
+    (subst (λ (y : State). Stopped y.version task y.pools (IsFront y.entries (IsRound task y.entries y.instances)) y.entries fault (g.O.Sink.taken c.args.out.now) (g.O.Sink.taken c.send_all.new.out) (g.H.Host.spoken c.send_all.new.host) (LogBreaks task y.version y.pools y.entries fault (g.H.Host.log c.args.host.now) (g.H.Host.log c.send_all.new.host))) c.in-Ok.ensures.begun (c.in_err-send_all.ensures.stopped task (held_of c.args.lines.now) c.in-Ok.ensures.kept talking))
 
 pub returns-in_err-hear_all-clause-stopped : goal.returns-in_err-hear_all-clause-stopped
 returns-in_err-hear_all-clause-stopped g c =
@@ -37,13 +44,18 @@ returns-in_err-hear_all-clause-stopped g c =
     let x = begun task s c.args.dues.now in
     let fault = c.in_err-hear_all.field-0.0 in
     let spoken = g.H.Host.spoken c.hear_all.new.host in
+    let was = g.H.Host.log c.args.host.now in
+    let mid = g.H.Host.log c.send_all.new.host in
+    let log = g.H.Host.log c.hear_all.new.host in
     let talking = subst (λ (y : State). IsTalking task y 0 0 (held_of c.args.lines.now) (g.H.Host.spoken c.args.host.now)) (sym c.in-Ok.ensures.begun) (talking_begun task s c.args.dues.now (g.H.Host.running c.args.host.now) (held_of c.args.lines.now) (g.H.Host.spoken c.args.host.now) c.requires.working c.requires.round c.requires.session c.requires.all_run c.requires.told) in
+    let calls = subst (λ (y : State). Calls task y.pools y.entries (y.entries ++ y.asks) was mid) c.in-Ok.ensures.begun (c.in_ok-send_all.ensures.order task (held_of c.args.lines.now) c.in-Ok.ensures.kept talking) in
     let sent = c.in_ok-send_all.ensures.talking task (held_of c.args.lines.now) talking in
-    let first = subst (λ (y : State). Stopped y.version task y.pools (y.entries ++ y.asks) fault (g.O.Sink.taken c.send_all.new.out) (g.O.Sink.taken c.hear_all.new.out) spoken) c.in_ok-send_all.ensures.same (c.in_err-hear_all.ensures.stopped task (c.in_ok-send_all.ensures.kept task c.in-Ok.ensures.kept) sent) in
-    let second = subst (λ (y : State). Stopped y.version task y.pools (y.entries ++ y.asks) fault (g.O.Sink.taken c.send_all.new.out) (g.O.Sink.taken c.hear_all.new.out) spoken) c.in-Ok.ensures.begun first in
+    let first = subst (λ (y : State). Stopped y.version task y.pools (IsFront y.entries (IsRound task y.entries y.instances)) (y.entries ++ y.asks) fault (g.O.Sink.taken c.send_all.new.out) (g.O.Sink.taken c.hear_all.new.out) spoken (LogBreaks task y.version y.pools (y.entries ++ y.asks) fault mid log)) c.in_ok-send_all.ensures.same (c.in_err-hear_all.ensures.stopped task (c.in_ok-send_all.ensures.kept task c.in-Ok.ensures.kept) sent) in
+    let second = subst (λ (y : State). Stopped y.version task y.pools (IsFront y.entries (IsRound task y.entries y.instances)) (y.entries ++ y.asks) fault (g.O.Sink.taken c.send_all.new.out) (g.O.Sink.taken c.hear_all.new.out) spoken (LogBreaks task y.version y.pools (y.entries ++ y.asks) fault mid log)) c.in-Ok.ensures.begun first in
     let goes = subst (λ (y : State). Goes y.entries (y.entries ++ y.asks) (g.O.Sink.taken c.args.out.now) (g.O.Sink.taken c.send_all.new.out)) c.in-Ok.ensures.begun c.in_ok-send_all.ensures.goes in
     handed c.from_residual-in_err-hear_all.result fault _ c.from_residual-in_err-hear_all.ensures.1
-    (stopped_then s.version task s.pools spoken s.entries (x.entries ++ x.asks) fault (g.O.Sink.taken c.args.out.now) (g.O.Sink.taken c.send_all.new.out) (g.O.Sink.taken c.hear_all.new.out) goes second)
+    (stopped_then s.version task s.pools spoken (IsFront s.entries (IsRound task s.entries (instances_of c.args.dues.now))) s.entries (x.entries ++ x.asks) fault (g.O.Sink.taken c.args.out.now) (g.O.Sink.taken c.send_all.new.out) (g.O.Sink.taken c.hear_all.new.out)
+    (LogBreaks task s.version s.pools s.entries fault was log) (LogBreaks task s.version s.pools (x.entries ++ x.asks) fault mid log) goes (breaks_then task s.version s.pools s.entries (x.entries ++ x.asks) fault was mid log calls goes.more goes.pushed) second)
 
 pub close_round-requires-clause-answered : goal.close_round-requires-clause-answered
 close_round-requires-clause-answered g c =
@@ -103,14 +115,44 @@ returns-in-Err-learn-clause-stopped g c =
     let legal = subst (λ v. IsLegal v task closed.entries) version (c.close_round.ensures.kept task kept).legal in
     let closed_told = subst (λ (y : State). IsTold task y.version y.pools y.entries (g.H.Host.running c.hear_all.new.host) (held_of c.hear_all.new.lines) spoken) (sym c.close_round.ensures.after) told in
     let here = subst (λ v. IsTold task v s.pools closed.entries (g.H.Host.running c.hear_all.new.host) (held_of c.hear_all.new.lines) spoken) version (subst (λ ps. IsTold task closed.version ps closed.entries (g.H.Host.running c.hear_all.new.host) (held_of c.hear_all.new.lines) spoken) pools closed_told) in
+    let front = front_whole s.entries closed.entries end.more (IsRound task s.entries (instances_of c.args.dues.now)) (ap (λ (y : State). y.entries) c.close_round.ensures.after ∙ end.entries) end.round in
     let broken = broken_run task s.version s.pools closed.entries (g.H.Host.running c.hear_all.new.host) (held_of c.hear_all.new.lines) spoken (λ k child p at is. ran child ∙ c.requires.all_run k child p at is) legal here in
-    stopped_then s.version task s.pools spoken s.entries closed.entries c.fault_of-in-Err-learn.result (g.O.Sink.taken c.args.out.now) (g.O.Sink.taken c.hear_all.new.out) (g.O.Sink.taken c.hear_all.new.out) goes
-    (stopped_memory s.version task s.pools spoken closed.entries c.fault_of-in-Err-learn.result (g.O.Sink.taken c.hear_all.new.out) legal broken c.fault_of-in-Err-learn.ensures)
+    let was = g.H.Host.log c.args.host.now in
+    let mid = g.H.Host.log c.send_all.new.host in
+    let log = g.H.Host.log c.hear_all.new.host in
+    let fault = c.fault_of-in-Err-learn.result in
+    let order = round_order task s c.begin_round.new.self c.send_all.new.session x c.args.dues.now was mid log c.in-Ok.ensures.begun c.in_ok-send_all.ensures.same c.in_ok-hear_all.ensures.same all.1
+    (c.in_ok-send_all.ensures.order task (held_of c.args.lines.now) c.in-Ok.ensures.kept talking) (c.in_ok-hear_all.ensures.order task h (c.in_ok-send_all.ensures.talking task (held_of c.args.lines.now) talking)) in
+    let calls = subst (λ es. Calls task s.pools s.entries es was log) (sym (ap (λ (y : State). y.entries) c.close_round.ensures.after)) order in
+    stopped_then s.version task s.pools spoken (IsFront s.entries (IsRound task s.entries (instances_of c.args.dues.now))) s.entries closed.entries fault (g.O.Sink.taken c.args.out.now) (g.O.Sink.taken c.hear_all.new.out) (g.O.Sink.taken c.hear_all.new.out)
+    (LogBreaks task s.version s.pools s.entries fault was log) (LogBreaks task s.version s.pools closed.entries fault log log) goes (breaks_then task s.version s.pools s.entries closed.entries fault was log log calls goes.more goes.pushed)
+    (stopped_memory s.version task s.pools spoken (IsFront s.entries (IsRound task s.entries (instances_of c.args.dues.now))) closed.entries fault (g.O.Sink.taken c.hear_all.new.out) (LogBreaks task s.version s.pools closed.entries fault log log) legal front broken
+    (breaks_none task s.version s.pools closed.entries fault log (tells_memory (HasNoneOpen closed.entries) fault (c.close_round.ensures.kept task kept).none_open c.fault_of-in-Err-learn.ensures)) c.fault_of-in-Err-learn.ensures)
 
 pub returns-in-Err-clause-stopped : goal.returns-in-Err-clause-stopped
 returns-in-Err-clause-stopped g c =
     let s = c.args.session.now in
     let task = c.args.task.now in
-    stopped_memory s.version task s.pools (g.H.Host.spoken c.args.host.now) s.entries c.fault_of.result (g.O.Sink.taken c.args.out.now) c.requires.session.legal
+    let round = round_exists task s.entries (instances_of c.args.dues.now) in
+    stopped_memory s.version task s.pools (g.H.Host.spoken c.args.host.now) (IsFront s.entries (IsRound task s.entries (instances_of c.args.dues.now))) s.entries c.fault_of.result (g.O.Sink.taken c.args.out.now) (LogBreaks task s.version s.pools s.entries c.fault_of.result (g.H.Host.log c.args.host.now) (g.H.Host.log c.args.host.now)) c.requires.session.legal
+    (front_first s.entries round.0 (IsRound task s.entries (instances_of c.args.dues.now)) round.1)
     (broken_run task s.version s.pools s.entries (g.H.Host.running c.args.host.now) (held_of c.args.lines.now) (g.H.Host.spoken c.args.host.now) c.requires.all_run c.requires.session.legal c.requires.told)
+    (breaks_none task s.version s.pools s.entries c.fault_of.result (g.H.Host.log c.args.host.now) (tells_memory (HasNoneOpen s.entries) c.fault_of.result c.requires.session.none_open c.fault_of.ensures))
     c.fault_of.ensures
+
+pub returns-in-Ok-learn-clause-order : goal.returns-in-Ok-learn-clause-order
+returns-in-Ok-learn-clause-order g c =
+    let s = c.args.session.now in
+    let task = c.args.task.now in
+    let x = c.hear_all.new.session in
+    let was = g.H.Host.log c.args.host.now in
+    let mid = g.H.Host.log c.send_all.new.host in
+    let now = g.H.Host.log c.hear_all.new.host in
+    let count = count_is task s c.begin_round.new.self c.args.dues.now c.in-Ok.count c.in-Ok.ensures.count c.in-Ok.ensures.begun ∙ sym c.in_ok-send_all.ensures.many ∙ sym c.in_ok-hear_all.ensures.many in
+    let all = all_heard x (g.H.Host.running c.hear_all.new.host) c.in-Ok.count count c.in_ok-hear_all.ensures.rolling in
+    let talking = subst (λ (y : State). IsTalking task y 0 0 (held_of c.args.lines.now) (g.H.Host.spoken c.args.host.now)) (sym c.in-Ok.ensures.begun) (talking_begun task s c.args.dues.now (g.H.Host.running c.args.host.now) (held_of c.args.lines.now) (g.H.Host.spoken c.args.host.now) c.requires.working c.requires.round c.requires.session c.requires.all_run c.requires.told) in
+    let h = c.in_ok-send_all.ensures.kept task c.in-Ok.ensures.kept in
+    let sent = c.in_ok-send_all.ensures.order task (held_of c.args.lines.now) c.in-Ok.ensures.kept talking in
+    let heard = c.in_ok-hear_all.ensures.order task h (c.in_ok-send_all.ensures.talking task (held_of c.args.lines.now) talking) in
+    let order = round_order task s c.begin_round.new.self c.send_all.new.session x c.args.dues.now was mid now c.in-Ok.ensures.begun c.in_ok-send_all.ensures.same c.in_ok-hear_all.ensures.same all.1 sent heard in
+    subst (λ es. Calls task s.pools s.entries es was now) (sym (ap (λ (y : State). y.entries) c.in-Ok-learn.ensures.learnt ∙ ap (λ (y : State). y.entries) c.close_round.ensures.after)) order

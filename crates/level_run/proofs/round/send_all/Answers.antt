@@ -1,7 +1,13 @@
 use Rattle.std.proofs.Common.{◌≡◌, ◌+◌, ◌++◌, ◌∙◌, ap, arith, subst, take}
 use Rattle.session_core.specs.State.{State, with_slots}
+use Rattle.transcript_text.specs.Rounds.{IsRound}
+use Rattle.std.proofs.lemmas.List.{take_all}
+use Rattle.level_run.proofs.Broken.{breaks_then}
+use Rattle.level_run.specs.Breaking.{LogBreaks}
+use Rattle.level_run.proofs.Calling.{calls_then}
 use Rattle.level_run.proofs.Stopping.{goes_then, handed, stopped_then}
-use Rattle.level_run.specs.Rolling.{Goes, Stopped}
+use Rattle.level_run.specs.Calls.{Calls}
+use Rattle.level_run.specs.Rolling.{Goes, IsFront, Stopped}
 use Rattle.level_run.specs.Talking.{IsTalking}
 use Rattle.level_run.proofs.round.send_all.Goals as goal
 
@@ -10,9 +16,15 @@ returns-in_err-send_one-clause-stopped g c = λ task kept h talking.
     let s = c.args.session.now in
     let fault = c.in_err-send_one.field-0.0 in
     let spoken = g.H.Host.spoken c.send_one.new.host in
-    let stopped = subst (λ (x : State). Stopped x.version task x.pools (x.entries ++ take c.loop-place.place x.asks) fault (g.O.Sink.taken c.loop-place.out) (g.O.Sink.taken c.send_one.new.out) spoken) c.loop-place.invariant.same (c.in_err-send_one.ensures.stopped task kept (c.loop-place.invariant.kept task h) (c.loop-place.invariant.talking task kept talking)) in
+    let was = g.H.Host.log c.args.host.now in
+    let mid = g.H.Host.log c.loop-place.host in
+    let log = g.H.Host.log c.send_one.new.host in
+    let stopped = subst (λ (x : State). Stopped x.version task x.pools (IsFront x.entries (IsRound task x.entries x.instances)) (x.entries ++ take c.loop-place.place x.asks) fault (g.O.Sink.taken c.loop-place.out) (g.O.Sink.taken c.send_one.new.out) spoken (LogBreaks task x.version x.pools (x.entries ++ take c.loop-place.place x.asks) fault mid log)) c.loop-place.invariant.same (c.in_err-send_one.ensures.stopped task kept (c.loop-place.invariant.kept task h) (c.loop-place.invariant.talking task kept talking)) in
+    let goes = c.loop-place.invariant.goes in
     handed c.from_residual.result fault _ c.from_residual.ensures.1
-    (stopped_then s.version task s.pools spoken s.entries (s.entries ++ take c.loop-place.place s.asks) fault (g.O.Sink.taken c.args.out.now) (g.O.Sink.taken c.loop-place.out) (g.O.Sink.taken c.send_one.new.out) c.loop-place.invariant.goes stopped)
+    (stopped_then s.version task s.pools spoken (IsFront s.entries (IsRound task s.entries s.instances)) s.entries (s.entries ++ take c.loop-place.place s.asks) fault (g.O.Sink.taken c.args.out.now) (g.O.Sink.taken c.loop-place.out) (g.O.Sink.taken c.send_one.new.out)
+    (LogBreaks task s.version s.pools s.entries fault was log) (LogBreaks task s.version s.pools (s.entries ++ take c.loop-place.place s.asks) fault mid log) goes
+    (breaks_then task s.version s.pools s.entries (s.entries ++ take c.loop-place.place s.asks) fault was mid log (c.loop-place.invariant.order task kept h talking) goes.more goes.pushed) stopped)
 
 pub loop-place-preserved : goal.loop-place-preserved
 loop-place-preserved g c =
@@ -28,6 +40,8 @@ loop-place-preserved g c =
       many = e.many ∙ i.many;
       goes = goes_then s.entries (s.entries ++ take place s.asks) (s.entries ++ take (place + 1) s.asks) (g.O.Sink.taken c.args.out.now) (g.O.Sink.taken c.loop-place.out) (g.O.Sink.taken c.send_one.new.out) i.goes more;
       talking = λ task kept t. e.talking task kept (i.talking task kept t);
+      order = λ task kept h t. calls_then task s.pools s.entries (s.entries ++ take place s.asks) (s.entries ++ take (place + 1) s.asks) (g.H.Host.log c.args.host.now) (g.H.Host.log c.loop-place.host) (g.H.Host.log c.send_one.new.host) (i.order task kept h t)
+          (subst (λ (x : State). Calls task x.pools (x.entries ++ take place x.asks) (x.entries ++ take (place + 1) x.asks) (g.H.Host.log c.loop-place.host) (g.H.Host.log c.send_one.new.host)) i.same (e.order task kept (i.kept task h) (i.talking task kept t)));
       kept = λ task h. e.kept task (i.kept task h);
       running = λ k. e.running k ∙ i.running k;
       host = omega (arith, e.host.later, i.host);
@@ -38,3 +52,9 @@ pub returns-clause-talking : goal.returns-clause-talking
 returns-clause-talking g c = λ task kept t.
     let all : c.loop-place.place ≡ c.args.count = omega (arith, c.loop-place.auto.place-end, c.loop-place-test.false) in
     subst (λ n. IsTalking task c.loop-place.session n 0 kept (g.H.Host.spoken c.loop-place.host)) all (c.loop-place.invariant.talking task kept t)
+
+pub returns-clause-order : goal.returns-clause-order
+returns-clause-order g c = λ task kept h t.
+    let s = c.args.session.now in
+    let all : take c.loop-place.place s.asks ≡ s.asks = take_all c.loop-place.place s.asks (omega (arith, c.loop-place.auto.place-end, c.loop-place-test.false, c.requires.count, c.requires.rolling.asks)) in
+    subst (λ es. Calls task s.pools s.entries (s.entries ++ es) (g.H.Host.log c.args.host.now) (g.H.Host.log c.loop-place.host)) all (c.loop-place.invariant.order task kept h t)

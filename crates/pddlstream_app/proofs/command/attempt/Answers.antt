@@ -1,31 +1,13 @@
-use Rattle.std.proofs.Common.{◌≡◌, map, string_bytes, refl, sym}
-use Rattle.pddlstream_app.proofs.Closing.{completed, stopped_early, stopped_reading, stopped_running}
-use Rattle.level_run.proofs.Stopping.{handed}
-use Rattle.pddlstream_app.proofs.Heading.{runnable_head}
-use Rattle.pddlstream_app.specs.Words.{held}
-use Rattle.level_run.specs.declared.fault.RunFault.TheVariants as fault
-use Rattle.pddlstream_app.specs.declared.stop.Stop.TheVariants as stop
+use Rattle.std.proofs.Common.{◌≡◌, map, string_bytes, Some, refl, subst, sym}
+use Rattle.pddlstream_app.proofs.Closing.{untouched_each}
+use Rattle.pddlstream_app.specs.Words.{command_of, held}
 use Rattle.pddlstream_app.proofs.command.attempt.Goals as goal
 
-pub returns-in_err-task-clause-stopped : goal.returns-in_err-task-clause-stopped
-returns-in_err-task-clause-stopped g c =
-    handed c.from_residual.result c.in_err-task.field-0.0 _ c.from_residual.ensures.1
-    (stopped_reading (map string_bytes c.args.words.now) (g.F.Files.told c.args.files.now) _ _ (held c.in-Some.words) (sym c.in-Some.ensures.value) (g.O.Sink.taken c.args.out.now) c.in_err-task.field-0.0 c.in_err-task.ensures.stop)
+pub returns-in-Replay-clause-completed : goal.returns-in-Replay-clause-completed
+returns-in-Replay-clause-completed g c =
+    untouched_each (map string_bytes c.args.words.now) (g.F.Files.told c.args.files.now) (Unit {0}) (g.H.Host.spoken c.args.host.now) (g.H.Host.log c.args.host.now) (g.H.Host.log c.args.host.now) (g.H.Host.log c.args.host.now ≡ g.H.Host.log c.args.host.now) refl (g.O.Sink.taken c.args.out.now) (g.O.Sink.taken c.judge.new.out) c.judge.result
+    (c.judge.ensures.completed (map string_bytes c.args.words.now) (g.H.Host.spoken c.args.host.now) (g.H.Host.log c.args.host.now) (subst (λ command. command_of (map string_bytes c.args.words.now) ≡ Some (held command)) c.in-Replay.is (sym c.in-Some.ensures.value)))
 
-pub returns-in_err-head-clause-stopped : goal.returns-in_err-head-clause-stopped
-returns-in_err-head-clause-stopped g c =
-    handed c.from_residual-in_err-head.result (stop.Run fault.Memory) _ c.from_residual-in_err-head.ensures.1
-    (stopped_early (map string_bytes c.args.words.now) (g.F.Files.told c.args.files.now) _ _ (g.O.Sink.taken c.args.out.now) (stop.Run fault.Memory) refl)
-
-pub incremental-requires-clause-runnable : goal.incremental-requires-clause-runnable
-incremental-requires-clause-runnable g c = runnable_head c.in_ok-task.task c.in-Some.words c.in_ok-head.head c.in_ok-head.ensures.head c.in-Some.ensures.within
-
-pub returns-in-Ok-clause-completed : goal.returns-in-Ok-clause-completed
-returns-in-Ok-clause-completed g c =
-    completed (map string_bytes c.args.words.now) (g.F.Files.told c.args.files.now) (Unit {0}) (g.H.Host.spoken c.incremental.new.host) (held c.in-Some.words) (sym c.in-Some.ensures.value) c.in_ok-task.task c.in_ok-task.ensures.task c.in_ok-task.ensures.fit c.in_ok-head.head c.in_ok-head.ensures.head
-    (g.H.Host.log c.incremental.new.host ≡ g.H.Host.log c.args.host.now) (g.O.Sink.taken c.args.out.now) (g.O.Sink.taken c.incremental.new.out) c.in-Ok.ran c.status_of.result c.in-Ok.ensures.reported c.in-Ok.ensures.unneeded c.status_of.ensures
-
-pub returns-clause-stopped : goal.returns-clause-stopped
-returns-clause-stopped g c =
-    stopped_running (map string_bytes c.args.words.now) (g.F.Files.told c.args.files.now) _ _ (held c.in-Some.words) (sym c.in-Some.ensures.value) c.in_ok-task.task c.in_ok-task.ensures.task c.in_ok-task.ensures.fit c.in_ok-head.head c.in_ok-head.ensures.head
-    (g.O.Sink.taken c.args.out.now) (g.O.Sink.taken c.incremental.new.out) c.in-Err.fault c.in-Err.ensures.broken
+pub returns-in-Replay-clause-stopped : goal.returns-in-Replay-clause-stopped
+returns-in-Replay-clause-stopped g c =
+    c.judge.ensures.stopped (map string_bytes c.args.words.now) (g.H.Host.spoken c.args.host.now) (g.H.Host.log c.args.host.now) (subst (λ command. command_of (map string_bytes c.args.words.now) ≡ Some (held command)) c.in-Replay.is (sym c.in-Some.ensures.value))

@@ -1,6 +1,7 @@
 use Rattle.std.proofs.Common.{◌≡◌, ◌<◌, ◌≤◌, ℕ, false}
 use Rattle.level_run.proofs.lines.Lines.stop_all.Given as goal
 use Rattle.io_world.specs.Talks.{Same}
+use Rattle.level_run.specs.Calls.{LogStops}
 use Rattle.level_run.specs.Held.{is_running}
 
 -- the first children don't run, and the others run as they did
@@ -10,6 +11,7 @@ invariant-loop-child g l = record {
   others : (k : ℕ) → l.child ≤ k → g.H.Host.running l.host k ≡ is_running l.self k;
   most : l.child ≤ 17;
   none : ((k : ℕ) → g.H.Host.running l.initial.host k ≡ false) → g.H.Host.log l.host ≡ g.H.Host.log l.initial.host;
+  stops : LogStops (g.H.Host.log l.initial.host) (g.H.Host.log l.host);
   spoken : Same (g.H.Host.spoken l.initial.host) (g.H.Host.spoken l.host);
   host : g.H.Host.faults l.initial.host ≤ g.H.Host.faults l.host;
 }

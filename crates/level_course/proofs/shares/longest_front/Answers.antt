@@ -1,0 +1,11 @@
+use Rattle.std.proofs.Common.{sym, ◌∙◌}
+use Rattle.level_course.proofs.Agendas.{longest}
+use Rattle.level_course.proofs.Fronts.{none_fit}
+use Rattle.level_course.specs.Pools.{shares_of}
+use Rattle.level_course.proofs.shares.longest_front.Goals as goal
+
+pub loop-count-init : goal.loop-count-init
+loop-count-init c = none_fit (shares_of c.args.shares.now)
+
+pub returns-then-not-fits : goal.returns-then-not-fits
+returns-then-not-fits c = longest (shares_of c.args.shares.now) c.args.dues.now c.loop-count.count c.loop-count-test.true c.loop-count.invariant (sym c.fits.ensures ∙ c.if-not-fits.true)

@@ -1,0 +1,4 @@
+pub mod Agendas
+pub mod Courses
+pub mod Laws
+pub mod Pools

@@ -1,0 +1,120 @@
+//! Where in a level a transcript stands.
+use crate::shares::{Share, longest_front};
+use instance_queue::Due;
+use std::alloc::Global;
+use std::marker::Model;
+use task_model::Instance;
+
+/// What the last level has still to do: a batch of asks, cut into rounds. All requests of a round are made, and then they are
+/// answered in the same order. Between two levels nothing is to do.
+#[derive(Drop)]
+pub struct Course {
+    dues: Vec<Due>,
+    asked: usize,
+    answered: usize,
+    round: usize,
+    before: u32,
+    is_cut: bool,
+}
+
+impl Model for Course {
+    ghost use Rattle.level_course.specs.Agendas.{Agenda};
+
+    ghost Value = { Agenda };
+
+    ghost use Rattle.level_course.specs.Agendas.{IsSound, shown};
+
+    ghost view = { shown };
+
+    ghost invariant = { IsSound };
+}
+
+impl Course {
+    ghost use Rattle.std.specs.Prelude.{◌≡◌, ◌+◌, ◌-◌, ◌<◌, ◌≤◌, ◌==◌, ◌&&◌, not, [], length, take, nat_lt, slice_get, option_copied, IfSome, IfNone};
+    ghost use Rattle.instance_queue.specs.Level.{instances_of};
+    ghost use Rattle.level_course.specs.Agendas.{Starts, nothing_to_do, with_answer, with_asked};
+    ghost use Rattle.level_course.specs.Pools.{shares_of};
+
+    /// Before the first level.
+    pub fn new(alloc: Global) -> Course
+        ensures { result ≡ nothing_to_do }
+    {
+        Course {
+            dues: Vec::new(alloc),
+            asked: 0,
+            answered: 0,
+            round: 0,
+            before: 0,
+            is_cut: false,
+        }
+    }
+
+    /// Whether a level may begin, or any outcome may stand: nothing is to do, and calls weren't wanting.
+    pub fn is_between(&self) -> bool
+        ensures { result ≡ ((self.now.answers == 0) && not self.now.is_cut) }
+    {
+        self.round - self.answered == 0 && !self.is_cut
+    }
+
+    /// The instance that is asked next, if a request follows.
+    pub fn next_asked(&self) -> Option<&Instance>
+        ensures { option_copied result ≡ slice_get self.now.to_ask 0 }
+    {
+        if self.asked < self.round {
+            Some(&self.dues[self.asked].instance)
+        } else {
+            None
+        }
+    }
+
+    /// The number of the request that is answered next, if an answer follows.
+    pub fn next_answered(&self) -> Option<u32>
+        ensures some { IfSome result (λ n. (n ≡ self.now.next) × (self.now.to_ask ≡ []) × (0 < self.now.answers)) }
+        ensures none { IfNone result (¬ ((self.now.to_ask ≡ []) × (0 < self.now.answers))) }
+    {
+        if self.asked == self.round && self.answered < self.round {
+            Some(self.before + self.answered as u32 + 1)
+        } else {
+            None
+        }
+    }
+
+    /// Begins a level over all that is due, after so many requests of so many.
+    pub fn begin(&mut self, shares: &[Share], mut dues: Vec<Due>, before: u32, calls: u32)
+        requires left { before ≤ calls }
+        requires few { calls ≤ 100000 }
+        ensures { Starts (shares_of shares.now) (take (calls - before) (instances_of dues.items)) (before + 1) (nat_lt (calls - before) (length dues.items)) self.new }
+    {
+        let left = (calls - before) as usize;
+        self.is_cut = left < dues.len();
+        dues.truncate(left);
+        self.round = longest_front(shares, dues.as_slice());
+        self.dues = dues;
+        self.asked = 0;
+        self.answered = 0;
+        self.before = before;
+    }
+
+    /// Goes on behind the next request.
+    pub fn ask(&mut self)
+        requires { 0 < length self.old.to_ask }
+        ensures { self.new ≡ with_asked self.old }
+    {
+        self.asked += 1;
+    }
+
+    /// Goes on behind the next answer, and to the next round where that was the last of this one.
+    pub fn answer(&mut self, shares: &[Share])
+        requires asked { self.old.to_ask ≡ [] }
+        requires some { 0 < self.old.answers }
+        ensures more { 1 < self.old.answers → self.new ≡ with_answer self.old }
+        ensures last { self.old.answers ≡ 1 → Starts (shares_of shares.now) self.old.later (self.old.next + 1) self.old.is_cut self.new }
+    {
+        self.answered += 1;
+        if self.answered == self.round {
+            let (_, later) = self.dues.as_slice().split_at(self.round);
+            let count = longest_front(shares, later);
+            self.round += count;
+        }
+    }
+}

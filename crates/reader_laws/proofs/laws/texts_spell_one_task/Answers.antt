@@ -1,0 +1,5 @@
+use Rattle.reader_laws.proofs.OneText.{one_task}
+use Rattle.reader_laws.proofs.laws.texts_spell_one_task.Goals as goal
+
+pub returns : goal.returns
+returns c = one_task

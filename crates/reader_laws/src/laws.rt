@@ -1,0 +1,12 @@
+//! Laws of what texts spell, each the contract of a function that does nothing.
+ghost use Rattle.reader_laws.specs.Spelled.{SpelledTextsAreNotRefused, TextsSpellOneTask};
+
+/// Three texts spell one task at most.
+pub fn texts_spell_one_task()
+    ensures { TextsSpellOneTask }
+{}
+
+/// Where three texts spell a task, none of them is refused.
+pub fn spelled_texts_are_not_refused()
+    ensures { SpelledTextsAreNotRefused }
+{}

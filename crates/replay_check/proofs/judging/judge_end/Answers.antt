@@ -1,0 +1,60 @@
+use Rattle.std.proofs.Common.{◌≡◌, ◌∙◌, ◌+◌, ◌<◌, ◌^◌, List, length, sym, ap, subst, arith}
+use Rattle.transcript_text.specs.declared.entry.Entry.{Entry}
+use Rattle.replay_check.proofs.Judged.{end_line_few, open_end, outcome_at, right_end, wrong_end}
+use Rattle.replay_check.specs.Findings.{IsFound}
+use Rattle.replay_check.specs.Lines.{outcome_line}
+use Rattle.replay_check.specs.Standings.{limits_by}
+use Rattle.replay_check.specs.Verdicts.{IsReportVerdict}
+use Rattle.replay_check.specs.declared.outcome.Finding.TheVariants as finding
+use Rattle.replay_check.specs.declared.verdict.Verdict.TheVariants.{Invalid}
+use Rattle.replay_check.proofs.judging.judge_end.Goals as goal
+use Rattle.replay_check.proofs.judging.judge_end.Goals.{In-Breaks}
+
+pub returns-in-Holds : goal.returns-in-Holds
+returns-in-Holds c =
+    let b = c.args.bounds.now in
+    let r = c.args.report.now in
+    let found = subst (IsFound (limits_by b) c.args.limit b.task.now c.as_slice-entries.result.now r.outcome) c.in-Holds.is c.in_ok-judge_outcome.ensures in
+    right_end b r c.args.limit c.requires.bounds c.requires.head c.requires.limits c.args.standing.now c.requires.standing (subst (λ (es : List Entry). IsFound (limits_by b) c.args.limit b.task.now es r.outcome finding.Holds) c.as_slice-entries.ensures found)
+
+pub returns-in-Open : goal.returns-in-Open
+returns-in-Open c =
+    let b = c.args.bounds.now in
+    let r = c.args.report.now in
+    let found = subst (IsFound (limits_by b) c.args.limit b.task.now c.as_slice-entries.result.now r.outcome) c.in-Open.is c.in_ok-judge_outcome.ensures in
+    open_end b r c.args.limit c.requires.bounds c.requires.head c.requires.limits c.args.standing.now c.requires.standing (subst (λ (es : List Entry). IsFound (limits_by b) c.args.limit b.task.now es r.outcome finding.Open) c.as_slice-entries.ensures found)
+
+module _ (c : In-Breaks) where
+  found : IsFound (limits_by c.args.bounds.now) c.args.limit c.args.bounds.now.task.now c.args.report.now.entries c.args.report.now.outcome (finding.Breaks c.in-Breaks.line c.in-Breaks.kind)
+  found =
+      let b = c.args.bounds.now in
+      let r = c.args.report.now in
+      let here = subst (IsFound (limits_by b) c.args.limit b.task.now c.as_slice-entries.result.now r.outcome) c.in-Breaks.is c.in_ok-judge_outcome.ensures in
+      subst (λ (es : List Entry). IsFound (limits_by b) c.args.limit b.task.now es r.outcome (finding.Breaks c.in-Breaks.line c.in-Breaks.kind)) c.as_slice-entries.ensures here
+
+  long : length c.as_slice-entries.result.now ≡ length c.args.report.now.entries
+  long = ap length c.as_slice-entries.ensures
+
+  few : c.len.result + 3 + length c.as_slice-entries.result.now + c.in-Breaks.line < 2 ^ 31
+  few =
+      let most = end_line_few c.args.bounds.now c.args.report.now c.args.limit c.requires.bounds c.requires.head c.requires.limits c.args.standing.now c.requires.standing c.in-Breaks.line c.in-Breaks.kind found c.requires.lines in
+      omega (arith, most, c.len.ensures, long)
+
+  line_is : c.len.result + 3 + length c.as_slice-entries.result.now + c.in-Breaks.line ≡ outcome_line c.args.report.now + c.in-Breaks.line
+  line_is =
+      let at = outcome_at c.args.bounds.now c.args.report.now c.args.limit c.requires.bounds c.requires.head c.requires.limits c.args.standing.now c.requires.standing in
+      omega (arith, at, c.len.ensures, long)
+
+pub invalid-requires : goal.invalid-requires
+invalid-requires c = let most = few c in omega (arith, most)
+
+pub overflow_add-first-in-Breaks : goal.overflow_add-first-in-Breaks
+overflow_add-first-in-Breaks c = let most = few c in omega (arith, most)
+
+pub returns-in-Breaks : goal.returns-in-Breaks
+returns-in-Breaks c =
+    let b = c.args.bounds.now in
+    let r = c.args.report.now in
+    let at = (goal.at.returns-in-Breaks c).In-Breaks in
+    let wrong = wrong_end b r c.args.limit c.requires.bounds c.requires.head c.requires.limits c.args.standing.now c.requires.standing c.in-Breaks.line c.in-Breaks.kind (found at) in
+    subst (IsReportVerdict c.args.limit b.task.now r) (sym (c.invalid.ensures ∙ ap (λ n. Invalid n c.in-Breaks.kind) (line_is at))) wrong

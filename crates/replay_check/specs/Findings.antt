@@ -1,0 +1,53 @@
+-- What is found of an outcome.
+use Rattle.std.specs.Prelude.{ℕ, List}
+use Rattle.task_model.specs.declared.task.Task.{Task}
+use Rattle.transcript_text.specs.Outcomes.{IsTrueOutcome, MayStand}
+use Rattle.transcript_text.specs.Rounds.{Limits}
+use Rattle.transcript_text.specs.Turns.{AreTurnsOf, Stage}
+use Rattle.transcript_text.specs.declared.entry.Entry.{Entry}
+use Rattle.transcript_text.specs.declared.outcome.Outcome.{Outcome}
+use Rattle.transcript_text.specs.declared.outcome.Outcome.TheVariants as outcome
+use Rattle.replay_check.specs.Breaches.{BreaksOutcome, IsMisplaced}
+use Rattle.replay_check.specs.Lines.{Precedes}
+use Rattle.replay_check.specs.Verdicts.{IsUndecidedClaim}
+use Rattle.replay_check.specs.declared.outcome.Finding.{Finding}
+use Rattle.replay_check.specs.declared.outcome.Finding.TheVariants.{Holds, Breaks, Open}
+use Rattle.replay_check.specs.declared.verdict.BreachKind.{BreachKind}
+use Rattle.replay_check.specs.declared.verdict.BreachKind.TheVariants as kind
+
+-- the outcome isn't a plan
+abbrev pub IsClaim : Outcome → Type 0
+IsClaim (outcome.Plan steps cost from) = ⊥
+IsClaim o = Unit {0}
+
+module _ (limits : Limits) (limit : ℕ) (task : Task) (entries : List Entry) (o : Outcome) where
+  -- it can't be decided
+  abbrev pub CannotTell : Type 0
+  CannotTell = IsUndecidedClaim limit limits.states task entries o
+
+  -- it may stand, and what it says is true
+  pub record IsRightEnd : Type 0 where
+    pub stage : Stage
+    pub turns : AreTurnsOf limits.mode limits task entries stage
+    pub stands : MayStand stage o
+    pub true : IsTrueOutcome limits task entries o
+
+  -- It isn't misplaced, and it may stand here if what it says is true. The limit of calls may be claimed inside a turn, where it is
+  -- false.
+  pub record IsPlaced : Type 0 where
+    pub right : ¬ (IsMisplaced limits task entries o)
+    pub stands : IsTrueOutcome limits task entries o → IsRightEnd
+
+  -- no line of it that precedes this one is wrong
+  abbrev pub NoneEarlier : ℕ → BreachKind → Type 0
+  NoneEarlier offset k = (other : ℕ) (than : BreachKind) → BreaksOutcome limits task entries o other than → ¬ (Precedes other than offset k)
+
+  pub record IsFirstWrong (offset : ℕ) (k : BreachKind) : Type 0 where
+    pub breaks : BreaksOutcome limits task entries o offset k
+    pub first : NoneEarlier offset k
+    pub decided : CannotTell → Precedes offset k 0 kind.Outcome
+
+  abbrev pub IsFound : Finding → Type 0
+  IsFound Holds = IsRightEnd × ¬ CannotTell
+  IsFound (Breaks offset k) = IsFirstWrong offset k
+  IsFound Open = CannotTell × NoneEarlier 0 kind.Outcome

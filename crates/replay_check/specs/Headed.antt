@@ -1,0 +1,29 @@
+-- What is found of a head.
+use Rattle.std.specs.Prelude.{◌≡◌, ℕ, ◌≤◌, ◌++◌, ◌∷◌, [], List, map, Bool, true, false}
+use Rattle.task_model.specs.declared.task.Task.{Task}
+use Rattle.transcript_text.specs.declared.head.PoolLine.{PoolLine}
+use Rattle.transcript_text.specs.declared.report.Report.{Report}
+use Rattle.level_course.specs.Pools.{shares_of}
+use Rattle.replay_check.specs.Breaches.{BreaksHead}
+use Rattle.replay_check.specs.Heads.{AreFitPoolLines, IsFitHead, is_fit_pool, served_by, share_in, workers_in}
+use Rattle.replay_check.specs.Lines.{first_line}
+use Rattle.replay_check.specs.declared.head.Before.{Before}
+use Rattle.replay_check.specs.declared.head.Headed.{Headed}
+use Rattle.replay_check.specs.declared.head.Headed.TheVariants.{Fits, Breaks}
+
+-- These pools were passed, and they fit.
+pub record IsAfter (task : Task) (pools : List PoolLine) (b : Before) : Type 0 where
+  pub shares : shares_of b.shares.items ≡ map (share_in task) pools
+  pub served : b.served.items ≡ served_by task pools
+  pub workers : b.workers ≡ workers_in pools
+  pub few : b.workers ≤ 17
+  pub fit : AreFitPoolLines task pools
+
+-- the next pool fits, and was passed; or it doesn't fit
+abbrev pub IsPassed : Task → List PoolLine → PoolLine → Before → Bool → Type 0
+IsPassed task before pool b true = (is_fit_pool task before pool ≡ true) × IsAfter task (before ++ pool ∷ []) b
+IsPassed task before pool b false = is_fit_pool task before pool ≡ false
+
+abbrev pub IsHeaded : Task → Report → Headed → Type 0
+IsHeaded task r (Fits shares) = IsFitHead task r × (shares_of shares.items ≡ map (share_in task) r.pools)
+IsHeaded task r (Breaks line) = BreaksHead task r line × (line ≤ first_line r) × ((other : ℕ) → BreaksHead task r other → line ≤ other)

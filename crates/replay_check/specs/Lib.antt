@@ -1,0 +1,13 @@
+pub mod Breaches
+pub mod Claims
+pub mod Findings
+pub mod Headed
+pub mod Heads
+pub mod Kinds
+pub mod Laws
+pub mod Lines
+pub mod Plans
+pub mod Runs
+pub mod Standings
+pub mod Verdicts
+pub mod Walks

@@ -1,0 +1,118 @@
+//! Reports, replayed.
+ghost use Rattle.std.specs.Prelude.{◌≡◌, ◌<◌, ◌≤◌, ◌^◌, length, IfOk};
+ghost use Rattle.replay_check.specs.Heads.{IsFitHead, limits_in};
+ghost use Rattle.replay_check.specs.Lines.{report_lines};
+ghost use Rattle.replay_check.specs.Standings.{AreBounds, IsStanding, limits_by};
+ghost use Rattle.replay_check.specs.Verdicts.{IsReportVerdict, IsVerdict};
+ghost use Rattle.replay_check.specs.declared.verdict.Verdict.TheVariants.{Invalid};
+ghost use Rattle.task_model.specs.Fit.{IsFit};
+ghost use Rattle.transcript_text.specs.Forms.{IsFormed};
+
+use crate::bounds::Bounds;
+use crate::entries::{Standing, Walked, walk};
+use crate::head::{Headed, judge_head};
+use crate::outcome::Finding;
+use crate::verdict::{BreachKind, Verdict};
+use report_reader::read_report;
+use std::alloc::{AllocError, Global};
+use task_model::Task;
+use transcript_text::{Report, ReportFault};
+
+/// The verdict that this is wrong.
+fn invalid(line: usize, kind: BreachKind) -> Verdict
+    requires { line < 2 ^ 32 }
+    ensures { result ≡ Invalid line kind }
+{
+    Verdict::Invalid {
+        line: line as u32,
+        kind,
+    }
+}
+
+/// Judges the outcome of a report of which nothing else is wrong.
+fn judge_end(
+    bounds: &Bounds<'_>,
+    report: &Report,
+    standing: &Standing,
+    limit: u32,
+) -> Result<Verdict, AllocError>
+    requires bounds { AreBounds bounds.now }
+    requires head { IsFitHead bounds.now.task.now report.now }
+    requires limits { limits_in bounds.now.task.now report.now ≡ limits_by bounds.now }
+    requires lines { length (report_lines report.now) < 2 ^ 31 }
+    requires standing { IsStanding bounds.now report.now.entries standing.now }
+    requires some { 1 ≤ limit }
+    requires few { limit ≤ 200000 }
+    ensures { IfOk result (IsReportVerdict limit bounds.now.task.now report.now) }
+{
+    let entries = report.entries.as_slice();
+    let first = report.pools.len() + 3 + entries.len();
+    match standing.judge_outcome(bounds, entries, &report.outcome, limit)? {
+        Finding::Holds => Ok(Verdict::Valid),
+        Finding::Open => Ok(Verdict::Limit),
+        Finding::Breaks(line, kind) => Ok(invalid(first + line, kind)),
+    }
+}
+
+/// Judges the transcript and the outcome of a report whose head fits.
+fn judge_rest(bounds: &Bounds<'_>, report: &Report, limit: u32) -> Result<Verdict, AllocError>
+    requires bounds { AreBounds bounds.now }
+    requires head { IsFitHead bounds.now.task.now report.now }
+    requires limits { limits_in bounds.now.task.now report.now ≡ limits_by bounds.now }
+    requires formed { IsFormed report.now }
+    requires lines { length (report_lines report.now) < 2 ^ 31 }
+    requires some { 1 ≤ limit }
+    requires few { limit ≤ 200000 }
+    ensures { IfOk result (IsReportVerdict limit bounds.now.task.now report.now) }
+{
+    match walk(bounds, report.entries.as_slice())? {
+        Walked::Ends(standing) => judge_end(bounds, report, &standing, limit),
+        Walked::Breaks(place, kind) => Ok(invalid(report.pools.len() + 3 + place, kind)),
+    }
+}
+
+/// Judges a report.
+fn judge(alloc: Global, task: &Task, report: &Report, limit: u32) -> Result<Verdict, AllocError>
+    requires fit { IsFit task.now }
+    requires formed { IsFormed report.now }
+    requires lines { length (report_lines report.now) < 2 ^ 31 }
+    requires some { 1 ≤ limit }
+    requires few { limit ≤ 200000 }
+    ensures { IfOk result (IsReportVerdict limit task.now report.now) }
+{
+    let shares = match judge_head(alloc, task, report)? {
+        Headed::Fits(shares) => shares,
+        Headed::Breaks(line) => return Ok(invalid(line, BreachKind::Head)),
+    };
+    let bounds = Bounds {
+        alloc,
+        task,
+        version: report.version,
+        calls: report.calls,
+        states: report.states,
+        depth: report.depth,
+        shares: shares.as_slice(),
+    };
+    judge_rest(&bounds, report, limit)
+}
+
+/// Judges the text of a report by the task, searching at most `limit` states, from 1 to 200,000; the text has fewer than 2^31 bytes.
+///
+/// `Valid` comes exactly where the text is a report of the stated forms whose head fits the task, whose transcript is legal and made
+/// of whole turns, and whose outcome may stand there and is true, and where no claim is undecided. `Invalid` has the first line that
+/// is wrong and the smallest kind of what is wrong with it; that the text isn't of the form is told before all else. `Limit` comes
+/// exactly where a claim can't be decided within the limit, and nothing is wrong before it. Reports of the modes that aren't replayed
+/// yet are wrong in line 1, kind 2. Fails only where memory is wanting.
+pub fn replay(alloc: Global, task: &Task, bytes: &[u8], limit: u32) -> Result<Verdict, AllocError>
+    requires fit { IsFit task.now }
+    requires some { 1 ≤ limit }
+    requires few { limit ≤ 200000 }
+    requires bytes { length bytes.now < 2 ^ 31 }
+    ensures { IfOk result (IsVerdict limit task.now bytes.now) }
+{
+    match read_report(alloc, bytes) {
+        Ok(report) => judge(alloc, task, &report, limit),
+        Err(ReportFault::At { line, .. }) => Ok(invalid(line as usize, BreachKind::Text)),
+        Err(ReportFault::Memory) => Err(AllocError),
+    }
+}

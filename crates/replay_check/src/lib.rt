@@ -1,0 +1,17 @@
+//! Whether a report is right: its head, each entry of its transcript, and its outcome; and if not, where and why.
+#![tactic(auto)]
+
+mod bounds;
+mod claims;
+mod entries;
+mod head;
+mod judging;
+pub mod laws;
+mod origins;
+mod outcome;
+mod plan;
+mod steps;
+pub mod verdict;
+
+pub use judging::replay;
+pub use verdict::{BreachKind, Verdict};

@@ -1,0 +1,129 @@
+//! Whether an outcome may stand, and whether what it says is true.
+ghost use Rattle.std.specs.Prelude.{◌≡◌, ◌<◌, ◌≤◌, ◌^◌, ℕ, List, IfOk, IsTrue, length};
+ghost use Rattle.replay_check.specs.Claims.{IsJudged};
+ghost use Rattle.replay_check.specs.Findings.{IsClaim, IsFound, IsPlaced};
+ghost use Rattle.replay_check.specs.Runs.{IsNear, IsPlanned};
+ghost use Rattle.replay_check.specs.Standings.{AreBounds, IsStanding, limits_by};
+ghost use Rattle.task_model.specs.declared.task.Task.{Task as AnyTask};
+ghost use Rattle.transcript_text.specs.Legal.{HasNoneOpen, IsLegal};
+ghost use Rattle.transcript_text.specs.Rounds.{Limits};
+ghost use Rattle.transcript_text.specs.declared.entry.Call.{Call as AnyCall};
+ghost use Rattle.transcript_text.specs.declared.entry.Entry.{Entry as AnyEntry};
+ghost use Rattle.transcript_text.specs.declared.outcome.LimitKind.TheVariants.{Calls};
+ghost use Rattle.transcript_text.specs.declared.outcome.Origin.{Origin as AnyOrigin};
+ghost use Rattle.transcript_text.specs.declared.outcome.Outcome.{Outcome as AnyOutcome};
+ghost use Rattle.transcript_text.specs.declared.outcome.Outcome.TheVariants as said;
+
+use crate::bounds::Bounds;
+use crate::claims::{Claim, judge_calls, judge_instances, judge_no_plan, judge_states};
+use crate::entries::Standing;
+use crate::plan::{Planned, ShownPlan, judge_plan};
+use crate::verdict::BreachKind;
+use std::alloc::AllocError;
+use transcript_text::{Entry, LimitKind, Outcome};
+
+/// What is found of an outcome.
+#[derive(Clone, Copy, PartialEq, Eq, Debug)]
+pub enum Finding {
+    /// It may stand, and what it says is true.
+    Holds,
+    /// It is wrong, first in this line, from 0 for the outcome's first.
+    Breaks(usize, BreachKind),
+    /// It may stand, and its claim can't be decided.
+    Open,
+}
+
+/// What is found of a claim in a place where it may stand.
+fn claimed(claim: Claim) -> Finding
+    ensures { (limits : Limits) (limit : ℕ) (task : AnyTask) (entries : List AnyEntry) (o : AnyOutcome) → IsClaim o → IsPlaced limits limit task entries o → IsJudged limits limit task entries o claim → IsFound limits limit task entries o result }
+{
+    match claim {
+        Claim::True => Finding::Holds,
+        Claim::False => Finding::Breaks(0, BreachKind::Outcome),
+        Claim::Open => Finding::Open,
+    }
+}
+
+/// What is found of a plan of so many steps.
+fn planned(steps: usize, planned: Planned) -> Finding
+    requires few { steps < 2 ^ 62 }
+    requires near { IsNear planned }
+    ensures { (limits : Limits) (limit : ℕ) (task : AnyTask) (entries : List AnyEntry) (calls : List AnyCall) (cost : ℕ) (from : List AnyOrigin) → length calls ≡ steps → IsLegal limits.version task entries → IsPlaced limits limit task entries (said.Plan calls cost from) → IsPlanned limits.version task entries calls cost from planned → IsFound limits limit task entries (said.Plan calls cost from) result }
+{
+    match planned {
+        Planned::Right => Finding::Holds,
+        Planned::Stuck(place) => Finding::Breaks(place + 1, BreachKind::Plan),
+        Planned::NoGoal => Finding::Breaks(steps + 1, BreachKind::Plan),
+        Planned::WrongCost => Finding::Breaks(steps + 1, BreachKind::Cost),
+        Planned::WrongOrigin(place) => Finding::Breaks(steps + 2 + place, BreachKind::From),
+    }
+}
+
+/// Whether the outcome is that the calls are spent.
+fn is_limit_of_calls(outcome: &Outcome) -> bool
+    ensures yes { IsTrue result → outcome.now ≡ said.Limit Calls }
+    ensures no { outcome.now ≡ said.Limit Calls → IsTrue result }
+{
+    match outcome {
+        Outcome::Limit(LimitKind::Calls) => true,
+        Outcome::Limit(LimitKind::States | LimitKind::Instances) => false,
+        Outcome::Plan { .. } | Outcome::NoPlan => false,
+    }
+}
+
+impl Standing {
+    /// Judges an outcome that is in its place.
+    fn judge_said(
+        &self,
+        bounds: &Bounds<'_>,
+        entries: &[Entry],
+        outcome: &Outcome,
+        limit: u32,
+    ) -> Result<Finding, AllocError>
+        requires bounds { AreBounds bounds.now }
+        requires standing { IsStanding bounds.now entries.now self.now }
+        requires placed { IsPlaced (limits_by bounds.now) limit bounds.now.task.now entries.now outcome.now }
+        requires resting { outcome.now ≡ said.NoPlan → HasNoneOpen entries.now }
+        requires some { 1 ≤ limit }
+        requires few { limit ≤ 200000 }
+        ensures { IfOk result (IsFound (limits_by bounds.now) limit bounds.now.task.now entries.now outcome.now) }
+    {
+        let claim = match outcome {
+            Outcome::Plan { steps, cost, from } => {
+                let plan = ShownPlan {
+                    entries,
+                    calls: steps.as_slice(),
+                    cost: *cost,
+                    from: from.as_slice(),
+                };
+                let found = judge_plan(bounds, &self.ledger, &plan)?;
+                return Ok(planned(steps.len(), found));
+            }
+            Outcome::NoPlan => judge_no_plan(bounds, &self.ledger, limit)?,
+            Outcome::Limit(LimitKind::Calls) => judge_calls(bounds, &self.ledger)?,
+            Outcome::Limit(LimitKind::States) => judge_states(bounds, &self.ledger, limit)?,
+            Outcome::Limit(LimitKind::Instances) => judge_instances(bounds, &self.ledger)?,
+        };
+        Ok(claimed(claim))
+    }
+
+    /// Judges the outcome behind these entries.
+    pub(crate) fn judge_outcome(
+        &self,
+        bounds: &Bounds<'_>,
+        entries: &[Entry],
+        outcome: &Outcome,
+        limit: u32,
+    ) -> Result<Finding, AllocError>
+        requires bounds { AreBounds bounds.now }
+        requires standing { IsStanding bounds.now entries.now self.now }
+        requires some { 1 ≤ limit }
+        requires few { limit ≤ 200000 }
+        ensures { IfOk result (IsFound (limits_by bounds.now) limit bounds.now.task.now entries.now outcome.now) }
+    {
+        if !is_limit_of_calls(outcome) && !self.course.is_between() {
+            return Ok(Finding::Breaks(0, BreachKind::Order));
+        }
+        self.judge_said(bounds, entries, outcome, limit)
+    }
+}

@@ -1,0 +1,96 @@
+//! Whether the plan that a report shows is valid, costs what it says, and has its origins.
+ghost use Rattle.std.specs.Prelude.{◌≡◌, List, IfOk};
+ghost use Rattle.transcript_ledger.specs.Ledgers.{IsLedger};
+ghost use Rattle.replay_check.specs.Runs.{IsNear, IsPlanOf, IsPlanned};
+ghost use Rattle.replay_check.specs.Standings.{AreBounds};
+
+use crate::bounds::Bounds;
+use crate::origins::first_difference;
+use crate::steps::{Ran, run_steps};
+use formula_eval::{Env, holds};
+use shown_plan::plan_outcome;
+use std::alloc::AllocError;
+use task_model::GroundAction;
+use transcript_ledger::Ledger;
+use transcript_text::{Call, Entry, Origin, Outcome};
+
+/// The plan of an outcome, as a report shows it.
+#[derive(Drop)]
+pub(crate) struct ShownPlan<'a> {
+    pub(crate) entries: &'a [Entry],
+    pub(crate) calls: &'a [Call],
+    pub(crate) cost: u64,
+    pub(crate) from: &'a [Origin],
+}
+
+/// What is said of a plan.
+#[derive(Clone, Copy, PartialEq, Eq, Debug)]
+pub enum Planned {
+    /// It is right.
+    Right,
+    /// The step at this place, from 0, can't be taken.
+    Stuck(usize),
+    /// It doesn't reach the goal.
+    NoGoal,
+    /// It costs another sum.
+    WrongCost,
+    /// The origin at this place, from 0, isn't the one that is due.
+    WrongOrigin(usize),
+}
+
+/// Whether the shown origins are those of the valid plan of these steps.
+fn judge_origins(
+    bounds: &Bounds<'_>,
+    ledger: &Ledger,
+    plan: &ShownPlan<'_>,
+    steps: &[GroundAction],
+) -> Result<Planned, AllocError>
+    requires bounds { AreBounds bounds.now }
+    requires ledger { IsLedger bounds.now.version bounds.now.task.now plan.now.entries.now ledger.now }
+    requires plan { IsPlanOf bounds.now.task.now plan.now.entries.now plan.now.calls.now plan.now.cost steps.now }
+    ensures said { IfOk result (IsPlanned bounds.now.version bounds.now.task.now plan.now.entries.now plan.now.calls.now plan.now.cost plan.now.from.now) }
+    ensures near { IfOk result IsNear }
+{
+    let shown = plan_outcome(
+        bounds.alloc,
+        bounds.task,
+        &ledger.facts,
+        bounds.version,
+        plan.entries,
+        steps,
+        plan.cost,
+    )?;
+    let Outcome::Plan { from, .. } = shown else {
+        unreachable!();
+    };
+    match first_difference(plan.from, from.as_slice()) {
+        Some(place) => Ok(Planned::WrongOrigin(place)),
+        None => Ok(Planned::Right),
+    }
+}
+
+/// Judges the plan over what is known.
+pub(crate) fn judge_plan(
+    bounds: &Bounds<'_>,
+    ledger: &Ledger,
+    plan: &ShownPlan<'_>,
+) -> Result<Planned, AllocError>
+    requires bounds { AreBounds bounds.now }
+    requires ledger { IsLedger bounds.now.version bounds.now.task.now plan.now.entries.now ledger.now }
+    ensures said { IfOk result (IsPlanned bounds.now.version bounds.now.task.now plan.now.entries.now plan.now.calls.now plan.now.cost plan.now.from.now) }
+    ensures near { IfOk result IsNear }
+{
+    let run = match run_steps(bounds, &ledger.facts, plan.calls)? {
+        Ran::Stops(place) => return Ok(Planned::Stuck(place)),
+        Ran::Ends(run) => run,
+    };
+    let mut env = Env::new(&[]);
+    let goal = &bounds.task.problem.goal;
+    if !holds(bounds.task, &ledger.facts, &run.state, goal, &mut env) {
+        return Ok(Planned::NoGoal);
+    }
+    if !run.costs(plan.cost) {
+        return Ok(Planned::WrongCost);
+    }
+    judge_origins(bounds, ledger, plan, run.steps.as_slice())
+}

@@ -1,0 +1,287 @@
+//! Outcomes that are changed: plans, costs, origins and claims.
+use crate::rows::{Row, check_rows};
+use crate::texts::{FETCH, FETCHED, KEEP, KEPT, PRICELESS, SAME, USED};
+use std::test::Fail;
+
+/// Steps that can't be taken, and plans that don't reach the goal.
+const STEPS: [Row<'static>; 12] = [
+    (&[(8, "do take cup @1.1")], "invalid 8 7"),
+    (&[(8, "do grab cup #left")], "invalid 8 7"),
+    (&[(8, "do take cup")], "invalid 8 7"),
+    (&[(8, "do take cup #left cup")], "invalid 8 7"),
+    (&[(8, "do take cup #right")], "invalid 8 7"),
+    (&[(8, "do take mug #left")], "invalid 8 7"),
+    (&[(8, "do take #left cup")], "invalid 8 7"),
+    (&[(8, "do drop cup #left")], "invalid 8 7"),
+    (&[(9, "do take cup #left")], "invalid 9 7"),
+    (&[(7, "plan 1"), (9, "")], "invalid 9 7"),
+    (&[(7, "plan 1"), (9, ""), (10, "cost 9")], "invalid 9 7"),
+    (&[(4, ""), (5, ""), (6, "")], "invalid 5 7"),
+];
+
+/// Wrong costs, and wrong, missing and needless origins.
+const SUMS: [Row<'static>; 10] = [
+    (&[(10, "cost 3")], "invalid 10 8"),
+    (&[(10, "cost 0")], "invalid 10 8"),
+    (&[(10, "cost 18446744073709551615")], "invalid 10 8"),
+    (&[(11, "from #left 2")], "invalid 11 9"),
+    (&[(11, "from #right 1")], "invalid 11 9"),
+    (&[(11, "from cup 1")], "invalid 11 9"),
+    (&[(11, "from cup 1\nfrom #left 1")], "invalid 11 9"),
+    (&[(11, "from #left 1\nfrom #left 1")], "invalid 12 9"),
+    (&[(11, "from #left 1\nfrom cup 1")], "invalid 12 9"),
+    (&[(11, "")], "invalid 11 9"),
+];
+
+/// Other outcomes in place of the plan.
+const CLAIMS: [Row<'static>; 16] = [
+    (
+        &[(7, "no plan"), (8, ""), (9, ""), (10, ""), (11, "")],
+        "invalid 7 10",
+    ),
+    (
+        &[(7, "limit calls"), (8, ""), (9, ""), (10, ""), (11, "")],
+        "invalid 7 10",
+    ),
+    (
+        &[(7, "limit states"), (8, ""), (9, ""), (10, ""), (11, "")],
+        "invalid 7 10",
+    ),
+    (
+        &[(7, "limit instances"), (8, ""), (9, ""), (10, ""), (11, "")],
+        "invalid 7 10",
+    ),
+    (
+        &[
+            (2, "limits 1 100000 3"),
+            (7, "limit calls"),
+            (8, ""),
+            (9, ""),
+            (10, ""),
+            (11, ""),
+        ],
+        "valid",
+    ),
+    (
+        &[
+            (6, "end 1"),
+            (7, "no plan"),
+            (8, ""),
+            (9, ""),
+            (10, ""),
+            (11, ""),
+        ],
+        "valid",
+    ),
+    (
+        &[
+            (6, "end 1"),
+            (7, "limit instances"),
+            (8, ""),
+            (9, ""),
+            (10, ""),
+            (11, ""),
+        ],
+        "invalid 7 10",
+    ),
+    (
+        &[
+            (2, "limits 1 100000 3"),
+            (6, "end 1"),
+            (7, "limit calls"),
+            (8, ""),
+            (9, ""),
+            (10, ""),
+            (11, ""),
+        ],
+        "invalid 7 10",
+    ),
+    (
+        &[
+            (6, "no plan"),
+            (7, ""),
+            (8, ""),
+            (9, ""),
+            (10, ""),
+            (11, ""),
+        ],
+        "invalid 6 5",
+    ),
+    (
+        &[
+            (6, "limit states"),
+            (7, ""),
+            (8, ""),
+            (9, ""),
+            (10, ""),
+            (11, ""),
+        ],
+        "invalid 6 5",
+    ),
+    (
+        &[
+            (6, "limit instances"),
+            (7, ""),
+            (8, ""),
+            (9, ""),
+            (10, ""),
+            (11, ""),
+        ],
+        "invalid 6 5",
+    ),
+    (
+        &[
+            (6, "limit calls"),
+            (7, ""),
+            (8, ""),
+            (9, ""),
+            (10, ""),
+            (11, ""),
+        ],
+        "invalid 6 10",
+    ),
+    (
+        &[
+            (2, "limits 1 100000 3"),
+            (6, "limit calls"),
+            (7, ""),
+            (8, ""),
+            (9, ""),
+            (10, ""),
+            (11, ""),
+        ],
+        "invalid 6 10",
+    ),
+    (&[(5, ""), (6, "")], "invalid 5 5"),
+    (
+        &[
+            (2, "limits 1 100000 3"),
+            (7, "level"),
+            (8, ""),
+            (9, ""),
+            (10, ""),
+            (11, "limit calls"),
+        ],
+        "invalid 7 5",
+    ),
+    (
+        &[
+            (2, "limits 1 100000 3"),
+            (7, "ask 2 1 grip cup"),
+            (8, ""),
+            (9, ""),
+            (10, ""),
+            (11, "limit calls"),
+        ],
+        "invalid 7 3",
+    ),
+];
+
+/// Several things are wrong: the earlier line is told, in one line the smaller kind, and before all a line of no form.
+const FIRST: [Row<'static>; 6] = [
+    (&[(2, "limits 0 100000 3"), (12, "don")], "invalid 12 1"),
+    (
+        &[(1, "pddlstream 1 binding"), (2, "limits 0 0 0")],
+        "invalid 1 2",
+    ),
+    (&[(6, "got 1"), (10, "cost 3")], "invalid 6 4"),
+    (&[(4, "none"), (5, "ask 7 0 grip cup")], "invalid 4 5"),
+    (&[(8, "do take cup @1.1"), (10, "cost 3")], "invalid 8 7"),
+    (&[(10, "cost 3"), (11, "")], "invalid 10 8"),
+];
+
+/// The same in version 2, where a yield may have several tuples.
+const SEVERAL: [Row<'static>; 6] = [
+    (
+        &[(1, "pddlstream 2 incremental"), (11, "from #left 1 1")],
+        "valid",
+    ),
+    (
+        &[(1, "pddlstream 2 incremental"), (11, "from #left 1 2")],
+        "invalid 11 9",
+    ),
+    (
+        &[
+            (1, "pddlstream 2 incremental"),
+            (6, "got 1 right | left"),
+            (11, "from #left 1 2"),
+        ],
+        "valid",
+    ),
+    (
+        &[
+            (1, "pddlstream 2 incremental"),
+            (6, "got 1 a b | c d"),
+            (11, "from #left 1 1"),
+        ],
+        "invalid 6 4",
+    ),
+    (
+        &[
+            (1, "pddlstream 2 incremental"),
+            (6, "got 1 a b | c"),
+            (11, "from #left 1 1"),
+        ],
+        "invalid 6 1",
+    ),
+    (
+        &[
+            (1, "pddlstream 2 incremental"),
+            (6, "got 1 left | right\nlevel\nask 2 2 grip cup\nend 2"),
+            (11, "from #left 1 1"),
+        ],
+        "valid",
+    ),
+];
+
+/// An object that two answers give comes from the first.
+const TWICE: [Row<'static>; 3] = [
+    (&[], "valid"),
+    (&[(12, "from #cup 2")], "invalid 12 9"),
+    (&[(10, "do use cup")], "invalid 10 7"),
+];
+
+#[test]
+fn steps_that_cannot_be_taken_are_told(rt: HostRuntime) -> Result<(), Fail> {
+    check_rows(&rt, rt.alloc(), &FETCH, 100_000, FETCHED, &STEPS)
+}
+
+#[test]
+fn wrong_costs_and_origins_are_told(rt: HostRuntime) -> Result<(), Fail> {
+    check_rows(&rt, rt.alloc(), &FETCH, 100_000, FETCHED, &SUMS)
+}
+
+#[test]
+fn claims_are_judged(rt: HostRuntime) -> Result<(), Fail> {
+    check_rows(&rt, rt.alloc(), &FETCH, 100_000, FETCHED, &CLAIMS)
+}
+
+#[test]
+fn the_first_of_several_wrong_lines_is_told(rt: HostRuntime) -> Result<(), Fail> {
+    check_rows(&rt, rt.alloc(), &FETCH, 100_000, FETCHED, &FIRST)
+}
+
+#[test]
+fn both_versions_are_read(rt: HostRuntime) -> Result<(), Fail> {
+    check_rows(&rt, rt.alloc(), &FETCH, 100_000, FETCHED, &SEVERAL)
+}
+
+#[test]
+fn an_object_comes_from_the_first_answer(rt: HostRuntime) -> Result<(), Fail> {
+    check_rows(&rt, rt.alloc(), &SAME, 100_000, USED, &TWICE)
+}
+
+#[test]
+fn a_cost_is_a_value_of_the_task(rt: HostRuntime) -> Result<(), Fail> {
+    let rows: [Row<'_>; 2] = [(&[], "valid"), (&[(5, "cost 1")], "invalid 5 8")];
+    check_rows(&rt, rt.alloc(), &KEEP, 100_000, KEPT, &rows)
+}
+
+#[test]
+fn an_action_without_a_cost_cannot_be_taken(rt: HostRuntime) -> Result<(), Fail> {
+    let rows: [Row<'_>; 2] = [
+        (&[], "invalid 4 7"),
+        (&[(3, "no plan"), (4, ""), (5, "")], "valid"),
+    ];
+    check_rows(&rt, rt.alloc(), &PRICELESS, 100_000, KEPT, &rows)
+}

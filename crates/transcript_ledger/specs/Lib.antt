@@ -1,0 +1,4 @@
+pub mod Ledgers
+pub mod Numbers
+pub mod Steps
+pub mod Talks
