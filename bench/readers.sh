@@ -10,11 +10,11 @@ work=$(mktemp -d)
 trap 'rm -rf "$work"' EXIT
 
 mkdir -p "$work/crates/readers_bench/src"
-for crate in sexpr_text task_model fit_check form_reader name_reader pddl_reader problem_reader stream_reader; do
+for crate in sexpr_text task_model fit_check form_reader name_tables domain_reader problem_reader stream_reader; do
     cp -a "$root/crates/$crate" "$work/crates/"
     grep "^$crate:" "$root/crates.txt" >> "$work/crates.txt"
 done
-printf 'readers_bench: anyhow sexpr_text task_model pddl_reader problem_reader stream_reader\n' >> "$work/crates.txt"
+printf 'readers_bench: anyhow sexpr_text task_model domain_reader problem_reader stream_reader\n' >> "$work/crates.txt"
 cat > "$work/crates/readers_bench/src/main.rt" <<'PROGRAM'
 // Writes domains, problems and stream files, and prints the milliseconds that it takes to read them.
 #![tactic(auto)]
@@ -24,7 +24,7 @@ use std::fmt::Write;
 use std::time::Instant;
 
 use anyhow::Result;
-use pddl_reader::read_domain;
+use domain_reader::read_domain;
 use problem_reader::read_problem;
 use sexpr_text::read_tree;
 use stream_reader::read_streams;

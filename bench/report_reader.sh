@@ -10,15 +10,15 @@ work=$(mktemp -d)
 trap 'rm -rf "$work"' EXIT
 
 mkdir -p "$work/crates/report_bench/src"
-for name in task_model gen_lines transcript_text report_reader; do
+for name in task_model gen_lines transcript_model report_reader; do
     cp -r "$root/crates/$name" "$work/crates/"
 done
 {
     echo 'task_model: smallvec'
     echo 'gen_lines: task_model'
-    echo 'transcript_text: gen_lines task_model'
-    echo 'report_reader: gen_lines task_model transcript_text'
-    echo 'report_bench: anyhow report_reader transcript_text'
+    echo 'transcript_model: gen_lines task_model'
+    echo 'report_reader: gen_lines task_model transcript_model'
+    echo 'report_bench: anyhow report_reader transcript_model'
 } > "$work/crates.txt"
 cat > "$work/crates/report_bench/src/main.rt" <<'PROGRAM'
 // Reads standard input as a report, and prints the microseconds that it took and the first faulty line, or 0.
@@ -28,7 +28,7 @@ use std::io::Read;
 use std::time::Instant;
 
 use anyhow::Result;
-use transcript_text::ReportFault;
+use transcript_model::ReportFault;
 
 fn main(rt: HostRuntime) -> Result<()> {
     let mut bytes = Vec::new(rt.alloc());

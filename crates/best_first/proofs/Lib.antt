@@ -1,4 +1,3 @@
-pub mod Growing
-pub mod Pigeons
-pub mod Reaching
-pub mod Ways
+pub mod ExploredLemmas
+pub mod ReachedLemmas
+pub mod LinksLemmas

@@ -1,2 +1,2 @@
-pub mod Fitting
-pub mod Learning
+pub mod FitStreamLemmas
+pub mod OutputsLemmas

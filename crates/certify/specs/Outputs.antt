@@ -1,6 +1,6 @@
 -- The objects that values from a generator stand for.
 use Rattle.std.specs.Prelude.{◌≡◌, ℕ, List, map, Some, slice_get}
-use Rattle.transcript_text.specs.Names.{generated}
+use Rattle.transcript_model.specs.Names.{generated}
 
 -- each object has the name of its value
 abbrev pub AreNamed : List (List ℕ) → List ℕ → List (List ℕ) → Type 0

@@ -1,7 +1,7 @@
 //! The objects that values stand for.
 ghost use Rattle.std.specs.Prelude.{◌≡◌, ◌+◌, ◌<◌, map, length, IfOk, OnOk};
 ghost use Rattle.certify.specs.Outputs.{AreNamed};
-ghost use Rattle.transcript_text.specs.Names.{generated, with_names};
+ghost use Rattle.transcript_model.specs.Names.{generated, with_names};
 
 use fact_store::Facts;
 use std::alloc::{AllocError, Global};

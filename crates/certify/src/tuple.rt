@@ -2,7 +2,7 @@
 ghost use Rattle.std.specs.Prelude.{◌≡◌, ◌≤◌, ◌<◌, ◌+◌, ◌++◌, map, length, true, All, IfOk, OnOk};
 ghost use Rattle.std.specs.List.{list_all};
 ghost use Rattle.certify.specs.Outputs.{AreNamed};
-ghost use Rattle.transcript_text.specs.Names.{generated, with_names};
+ghost use Rattle.transcript_model.specs.Names.{generated, with_names};
 ghost use Rattle.formula_eval.specs.Readable.{is_readable_term};
 ghost use Rattle.task_model.specs.Fit.{IsFitDomain, is_fit_stream};
 ghost use Rattle.task_model.specs.Known.{IsIn, with_facts};

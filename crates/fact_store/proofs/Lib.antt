@@ -1,7 +1,7 @@
 mod Passing
-pub mod AtFirst
-pub mod Derived
-pub mod Growth
-pub mod Places
-pub mod Scans
-pub mod Values
+pub mod InitialLemmas
+pub mod EqualityLemmas
+pub mod StoreLemmas
+pub mod NamePlaceLemmas
+pub mod ScanLemmas
+pub mod LeastLemmas

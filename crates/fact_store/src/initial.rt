@@ -4,7 +4,7 @@ ghost use Rattle.std.specs.List.{flat_map, list_all};
 ghost use Rattle.task_model.specs.Fit.{is_fit_fact, is_fit_value};
 ghost use Rattle.task_model.specs.Initial.{type_facts, declared_types, is_static};
 ghost use Rattle.task_model.specs.Known.{IsIn, type_fact, with_fact, with_facts, with_values};
-ghost use Rattle.task_model.specs.Lists.{AreDistinct, numbers_from};
+ghost use Rattle.lemmas.specs.Lists.{AreDistinct, numbers_from};
 ghost use Rattle.task_model.specs.Roles.{role_of};
 
 use crate::facts::Facts;

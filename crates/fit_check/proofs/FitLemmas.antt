@@ -10,7 +10,7 @@ use Rattle.task_model.specs.declared.domain.Domain.{Domain}
 use Rattle.task_model.specs.declared.domain.Signature.{Signature}
 use Rattle.task_model.specs.declared.stream.Stream.{Stream}
 use Rattle.task_model.specs.declared.task.Task.{Task}
-use Rattle.fit_check.proofs.Firsts.{first_if, first_from}
+use Rattle.fit_check.proofs.TestsFirstLemmas.{first_if, first_from}
 use Rattle.fit_check.proofs.RuleLemmas.{rules_acyclic, items_acyclic}
 use Rattle.fit_check.proofs.SortLemmas.{names_if, names_from, sorts_if, sorts_from}
 use Rattle.fit_check.proofs.ValueLemmas.{roles_if, roles_right, roles_long, one_value_if, one_value_from}

@@ -1,12 +1,10 @@
-pub mod Distinct
-pub mod Firsts
+pub mod TestsNameLemmas
+pub mod TestsFirstLemmas
 pub mod FitLemmas
-pub mod Flags
-pub mod Parts
+pub mod FilledLemmas
+pub mod ConditionPartLemmas
 pub mod RoleLemmas
 pub mod RuleLemmas
-pub mod Seen
-pub mod Settled
+pub mod CyclesLemmas
 pub mod SortLemmas
 pub mod ValueLemmas
-pub mod Walks

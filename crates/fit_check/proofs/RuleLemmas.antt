@@ -3,11 +3,11 @@ use Rattle.std.proofs.Common.{◌≡◌, ℕ, true, ◌&&◌, ◌==◌, List, []
 use Rattle.std.specs.Cmp.{first_so, second_so}
 use Rattle.std.proofs.lemmas.Bool.{and_from}
 use Rattle.task_model.specs.Fit.{depends, mentions}
-use Rattle.task_model.specs.Lists.{LeadsAlong}
+use Rattle.lemmas.specs.Lists.{LeadsAlong}
 use Rattle.task_model.specs.declared.domain.Derived.{Derived}
 use Rattle.task_model.specs.declared.domain.Domain.{Domain}
-use Rattle.fit_check.proofs.Seen.{any_found, any_at, one_there}
-use Rattle.fit_check.proofs.Walks.{Way}
+use Rattle.lemmas.proofs.ListTests.{any_found, any_at, one_there}
+use Rattle.lemmas.proofs.Walks.{Way}
 use Rattle.fit_check.specs.Cycles.{IsAcyclic}
 use Rattle.fit_check.specs.Tests.{item_leads, mentions_head}
 

@@ -3,13 +3,13 @@ use Rattle.std.proofs.Common.{◌≡◌, ℕ, zero, suc, ◌+◌, Bool, true, fa
 use Rattle.std.specs.Cmp.{first_so, second_so}
 use Rattle.std.specs.List.{list_any, list_all}
 use Rattle.std.proofs.lemmas.Bool.{and_from, not-true, not_from_false}
-use Rattle.task_model.proofs.FactLists.{numbers_decided}
+use Rattle.task_model.proofs.KnownLemmas.{numbers_decided}
 use Rattle.task_model.specs.Fit as fit
 use Rattle.task_model.specs.Known.{same_numbers}
 use Rattle.task_model.specs.Streams.{is_empty}
 use Rattle.task_model.specs.declared.domain.Sort.{Sort}
-use Rattle.fit_check.proofs.Seen.{any_found, any_at, all_at, all_from}
-use Rattle.fit_check.proofs.Distinct.{distinct_if, different_if}
+use Rattle.lemmas.proofs.ListTests.{any_found, any_at, all_at, all_from}
+use Rattle.fit_check.proofs.TestsNameLemmas.{distinct_if, different_if}
 use Rattle.fit_check.specs.Tests as tests
 
 -- ---- names

@@ -3,15 +3,15 @@ use Rattle.std.proofs.Common.{◌≡◌, ℕ, zero, suc, ◌+◌, true, false, n
 use Rattle.std.specs.Cmp.{first_so, second_so}
 use Rattle.std.specs.List.{list_any}
 use Rattle.std.proofs.lemmas.Bool.{and_from, not-true, not_from_false, both_ways}
-use Rattle.task_model.proofs.FactLists.{numbers_decided}
+use Rattle.task_model.proofs.KnownLemmas.{numbers_decided}
 use Rattle.task_model.specs.Known.{same_numbers}
-use Rattle.task_model.specs.Lists.{numbers_from}
+use Rattle.lemmas.specs.Lists.{numbers_from}
 use Rattle.task_model.specs.Roles.{role_of}
 use Rattle.task_model.specs.declared.domain.Domain.{Domain}
 use Rattle.task_model.specs.declared.domain.Role.{Role}
 use Rattle.task_model.specs.declared.domain.Role.TheVariants.{Static, Fluent, Derived}
 use Rattle.task_model.specs.declared.task.Valued.{Valued}
-use Rattle.fit_check.proofs.Seen.{any_found, any_at}
+use Rattle.lemmas.proofs.ListTests.{any_found, any_at}
 use Rattle.fit_check.specs.Tests as tests
 
 -- ---- roles

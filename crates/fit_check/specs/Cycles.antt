@@ -1,6 +1,6 @@
 -- Graphs without cycles, and how far a search for a cycle has come.
 use Rattle.std.specs.Prelude.{◌≡◌, ℕ, ◌+◌, ◌-◌, ◌<◌, ◌≤◌, List, [], ◌∷◌, Bool, true, length, slice_index}
-use Rattle.task_model.specs.Lists.{LeadsAlong}
+use Rattle.lemmas.specs.Lists.{LeadsAlong}
 
 -- no node is reached from itself
 abbrev pub IsAcyclic : (ℕ → ℕ → Bool) → Type 0

@@ -1,7 +1,7 @@
 //! Which slots have a value.
 ghost use Rattle.std.specs.Prelude.{◌≡◌, ◌==◌, ◌+◌, ◌≤◌, ◌++◌, ℕ};
 ghost use Rattle.std.specs.List.{list_any};
-ghost use Rattle.task_model.specs.Lists.{numbers_from};
+ghost use Rattle.lemmas.specs.Lists.{numbers_from};
 
 use std::marker::Model;
 

@@ -1,3 +1,3 @@
-pub mod Digits
-pub mod Firsts
-pub mod Leasts
+pub mod WordsLemmas
+pub mod FaultsFirstLemmas
+pub mod FaultsLeastLemmas

@@ -1,5 +1,5 @@
 //! The items of domains, problems and stream files.
-#![tactic(auto, using(crate::proofs::Firsts::first_append))]
+#![tactic(auto, using(crate::proofs::FaultsFirstLemmas::first_append))]
 
 ghost use Rattle.std.specs.Prelude.{◌≡◌};
 ghost use Rattle.sexpr_text.specs.Trees.{trees};

@@ -1,5 +1,5 @@
 //! Lists that are left out wherever they stand in `:init`, or in a stream's atoms.
-#![tactic(auto, using(crate::proofs::Firsts::first_append))]
+#![tactic(auto, using(crate::proofs::FaultsFirstLemmas::first_append))]
 
 ghost use Rattle.std.specs.Prelude.{◌≡◌};
 ghost use Rattle.sexpr_text.specs.Trees.{trees};

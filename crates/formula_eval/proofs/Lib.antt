@@ -1,4 +1,4 @@
-pub mod Parts
-pub mod Readers
-pub mod Rows
-pub mod Weights
+pub mod ConditionPartLemmas
+pub mod ReadableLemmas
+pub mod ListTestLemmas
+pub mod WeightLemmas

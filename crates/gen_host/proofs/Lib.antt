@@ -1,2 +1,2 @@
-pub mod Sums
-pub mod Resting
+pub mod MembersLemmas
+pub mod MembersIdleLemmas

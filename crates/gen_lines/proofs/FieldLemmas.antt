@@ -8,7 +8,7 @@ use Rattle.std.proofs.lemmas.List.Splits.{slice_split_first}
 use Rattle.std.proofs.lemmas.List.Sums.{prefix_len-le-length, prefix_len-drop_yes, passes_at_first}
 use Rattle.gen_lines.specs.Field.{IsFieldFrom}
 use Rattle.gen_lines.specs.Reply.{is_space, is_filled, fields}
-use Rattle.gen_lines.proofs.Positions.{found_at, not_found, split_whole}
+use Rattle.lemmas.proofs.Positions.{found_at, not_found, split_whole}
 
 abbrev pub other : ℕ → Bool
 other b = not (is_space b)

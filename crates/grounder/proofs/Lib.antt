@@ -1,3 +1,2 @@
-pub mod Listed
-pub mod Rising
-pub mod Typed
+pub mod ListingLemmas
+pub mod ListingObjectLemmas

@@ -4,7 +4,7 @@ use Rattle.std.specs.Cmp.Lexicographic.{slice_cmp}
 use Rattle.std.specs.Ordering.{ordering_then, nat_cmp}
 use Rattle.std.specs.declared.cmp.Ordering.{Ordering}
 use Rattle.task_model.specs.Known.{Known}
-use Rattle.task_model.specs.Lists.{AreAscending}
+use Rattle.lemmas.specs.Lists.{AreAscending}
 use Rattle.task_model.specs.State.{Atoms}
 use Rattle.task_model.specs.Steps.{IsStep}
 use Rattle.task_model.specs.declared.task.GroundAction.{GroundAction}

@@ -1,6 +1,6 @@
-pub mod Dues
-pub mod Finding
-pub mod Levels
-pub mod Ordered
-pub mod Readers
-pub mod Tallied
+pub mod FoundLemmas
+pub mod FoundStepLemmas
+pub mod LevelLemmas
+pub mod InstanceOrderLemmas
+pub mod ReadableLemmas
+pub mod NotesLemmas

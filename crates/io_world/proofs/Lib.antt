@@ -1,6 +1,6 @@
-pub mod GivenBytes
-pub mod Spelling
-pub mod Answering
-pub mod Grown
-pub mod Said
-pub mod Listening
+pub mod GivenLemmas
+pub mod LogsLemmas
+pub mod RepliesLemmas
+pub mod AppendsLemmas
+pub mod TalksLemmas
+pub mod TalksHeardLemmas

@@ -26,8 +26,8 @@ mod source;
 mod sure_files;
 mod sure_host;
 mod sure_sink;
-mod talk;
-mod whole;
+mod conversation;
+mod whole_writes;
 
 pub use answer_by::AnswerBy;
 pub use fault_count::FaultCount;
@@ -46,8 +46,8 @@ pub use source::{Source, SourceFault};
 pub use sure_files::SureFiles;
 pub use sure_host::SureHost;
 pub use sure_sink::SureSink;
-pub use talk::{hear_line, send_all};
-pub use whole::write_all;
+pub use conversation::{hear_line, send_all};
+pub use whole_writes::write_all;
 
 #[cfg(test)]
 mod tests;

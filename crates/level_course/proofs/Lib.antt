@@ -1,6 +1,6 @@
-pub mod Ascending
-pub mod Fronts
-pub mod Leading
-pub mod Coursing
-pub mod Turning
-pub mod Agendas
+pub mod AscendingLemmas
+pub mod PoolsLemmas
+pub mod CoursesLemmas
+pub mod CoursesStepLemmas
+pub mod CoursesTurnLemmas
+pub mod AgendasLemmas

@@ -3,9 +3,9 @@ use Rattle.std.specs.Prelude.{◌≡◌, ℕ, ◌+◌, ◌-◌, ◌<◌, ◌≤�
 use Rattle.instance_queue.specs.Level.{instances_of}
 use Rattle.task_model.specs.declared.stream.Instance.{Instance}
 use Rattle.task_model.specs.declared.task.Task.{Task}
-use Rattle.transcript_text.specs.Legal.{asks_of}
-use Rattle.transcript_text.specs.Rounds.{Share, IsFull, fits, requests_from}
-use Rattle.transcript_text.specs.declared.entry.Entry.{Entry}
+use Rattle.transcript_model.specs.Legal.{asks_of}
+use Rattle.transcript_model.specs.Rounds.{Share, IsFull, fits, requests_from}
+use Rattle.transcript_model.specs.declared.entry.Entry.{Entry}
 use Rattle.level_course.specs.Courses.{Course as Place}
 use Rattle.level_course.specs.Pools.{AllWork}
 use Rattle.level_course.specs.declared.course.Course.TheInside.{Inside}

@@ -3,11 +3,11 @@
 use Rattle.std.specs.Prelude.{◌≡◌, ◌⊎◌, ℕ, zero, suc, ◌+◌, ◌<◌, List, [], ◌∷◌, ◌++◌, length, take, Bool, true, false}
 use Rattle.task_model.specs.declared.stream.Instance.{Instance}
 use Rattle.task_model.specs.declared.task.Task.{Task}
-use Rattle.transcript_text.specs.Legal.{asks_of, is_answer_to}
-use Rattle.transcript_text.specs.Rounds.{Limits, IsFull, calls_left, fits, requests}
-use Rattle.transcript_text.specs.Turns.{MayBegin, is_cut}
-use Rattle.transcript_text.specs.declared.entry.Entry.{Entry}
-use Rattle.transcript_text.specs.declared.entry.Entry.TheVariants as entry
+use Rattle.transcript_model.specs.Legal.{asks_of, is_answer_to}
+use Rattle.transcript_model.specs.Rounds.{Limits, IsFull, calls_left, fits, requests}
+use Rattle.transcript_model.specs.Turns.{MayBegin, is_cut}
+use Rattle.transcript_model.specs.declared.entry.Entry.{Entry}
+use Rattle.transcript_model.specs.declared.entry.Entry.TheVariants as entry
 
 -- The requests of the open round that are still to come; the number of the request that is answered next, and how many of the
 -- round have no answer; the instances of later rounds; and whether calls were wanting for all that was due.

@@ -1,9 +1,9 @@
 -- Laws of courses. Each is the contract of a public function of `laws.rt`, and so is proved.
 use Rattle.std.specs.Prelude.{◌≡◌, ◌<◌, ◌≤◌, List, [], All, true, false}
 use Rattle.task_model.specs.declared.task.Task.{Task}
-use Rattle.transcript_text.specs.Rounds.{Limits, Share}
-use Rattle.transcript_text.specs.Turns.{AreTurns, IncrementalTurn, Stage, between, after_cut, inside}
-use Rattle.transcript_text.specs.declared.entry.Entry.{Entry}
+use Rattle.transcript_model.specs.Rounds.{Limits, Share}
+use Rattle.transcript_model.specs.Turns.{AreTurns, IncrementalTurn, Stage, between, after_cut, inside}
+use Rattle.transcript_model.specs.declared.entry.Entry.{Entry}
 use Rattle.level_course.specs.Courses.{Course, Leads, at_first}
 
 abbrev pub AreIncremental : Limits → Task → List Entry → Stage → Type 0

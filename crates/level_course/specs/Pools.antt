@@ -1,8 +1,8 @@
 -- The pools by which asks are cut into rounds.
 use Rattle.std.specs.Prelude.{◌≡◌, ℕ, ◌<◌, ◌≤◌, List, map, length, take, drop, true, All}
 use Rattle.task_model.specs.declared.stream.Instance.{Instance}
-use Rattle.transcript_text.specs.Rounds as rounds
-use Rattle.transcript_text.specs.Rounds.{IsFull, fits}
+use Rattle.transcript_model.specs.Rounds as rounds
+use Rattle.transcript_model.specs.Rounds.{IsFull, fits}
 use Rattle.level_course.specs.declared.shares.Share.{Share}
 
 abbrev pub share_of : Share → rounds.Share

@@ -8,11 +8,11 @@ use Rattle.io_world.specs.declared.host.HostFault.{HostFault}
 use Rattle.io_world.specs.declared.host.HostFault.TheVariants as host
 use Rattle.session_core.specs.declared.pools.Workers.{Workers}
 use Rattle.task_model.specs.declared.task.Task.{Task}
-use Rattle.transcript_text.specs.Legal.{HasNoneOpen, IsLegal, asks_of}
-use Rattle.transcript_text.specs.declared.entry.Entry.{Entry}
-use Rattle.transcript_text.specs.declared.entry.Entry.TheVariants as entry
-use Rattle.transcript_text.specs.declared.head.Head.{Head}
-use Rattle.transcript_text.specs.declared.head.Pool.{Pool}
+use Rattle.transcript_model.specs.Legal.{HasNoneOpen, IsLegal, asks_of}
+use Rattle.transcript_model.specs.declared.entry.Entry.{Entry}
+use Rattle.transcript_model.specs.declared.entry.Entry.TheVariants as entry
+use Rattle.transcript_model.specs.declared.head.Head.{Head}
+use Rattle.transcript_model.specs.declared.head.Pool.{Pool}
 use Rattle.level_run.specs.Calls.{Follows, IsStop, Reads, answers_by, lines_read, starts_of}
 use Rattle.level_run.specs.Dialogue.{Request, replies_of, requests_of, text_of_request, workers_in}
 use Rattle.level_run.specs.declared.fault.RunFault.{RunFault}

@@ -8,15 +8,15 @@ use Rattle.io_world.specs.Talks.{Event, started, stopped, silence, spelled, IsGi
 use Rattle.session_core.specs.Pools.{child_for}
 use Rattle.session_core.specs.declared.pools.Workers.{Workers}
 use Rattle.task_model.specs.declared.task.Task.{Task}
-use Rattle.transcript_text.specs.Legal.{asks_of}
-use Rattle.transcript_text.specs.declared.entry.Call.{Call}
-use Rattle.transcript_text.specs.declared.entry.Entry.{Entry}
-use Rattle.transcript_text.specs.declared.entry.Entry.TheVariants as entry
-use Rattle.transcript_text.specs.declared.head.Pool.{Pool}
+use Rattle.transcript_model.specs.Legal.{asks_of}
+use Rattle.transcript_model.specs.declared.entry.Call.{Call}
+use Rattle.transcript_model.specs.declared.entry.Entry.{Entry}
+use Rattle.transcript_model.specs.declared.entry.Entry.TheVariants as entry
+use Rattle.transcript_model.specs.declared.head.Pool.{Pool}
 use Rattle.level_run.specs.Rolling.{IsHostFault}
 use Rattle.level_run.specs.declared.fault.RunFault.{RunFault}
 use Rattle.level_run.specs.Dialogue.{Request, count_to, last_round, replies_of, requests_of, stream_of, text_of_request, workers_in}
-use Rattle.transcript_text.specs.declared.head.Head.{Head}
+use Rattle.transcript_model.specs.declared.head.Head.{Head}
 
 -- ---- reads
 

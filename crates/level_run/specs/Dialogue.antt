@@ -13,12 +13,12 @@ use Rattle.session_core.specs.Session.{is_answer}
 use Rattle.session_core.specs.Slots.{entry_of, wanted_at}
 use Rattle.session_core.specs.declared.pools.Workers.{Workers}
 use Rattle.task_model.specs.declared.task.Task.{Task}
-use Rattle.transcript_text.specs.Legal.{IsLegal}
-use Rattle.transcript_text.specs.Names.{stream_named}
-use Rattle.transcript_text.specs.declared.entry.Call.{Call}
-use Rattle.transcript_text.specs.declared.entry.Entry.{Entry}
-use Rattle.transcript_text.specs.declared.entry.Entry.TheVariants as entry
-use Rattle.transcript_text.specs.declared.head.Head.{Head}
+use Rattle.transcript_model.specs.Legal.{IsLegal}
+use Rattle.transcript_model.specs.Names.{stream_named}
+use Rattle.transcript_model.specs.declared.entry.Call.{Call}
+use Rattle.transcript_model.specs.declared.entry.Entry.{Entry}
+use Rattle.transcript_model.specs.declared.entry.Entry.TheVariants as entry
+use Rattle.transcript_model.specs.declared.head.Head.{Head}
 
 -- ---- who is asked what
 

@@ -3,17 +3,17 @@ use Rattle.std.specs.Prelude.{◌≡◌, ◌⊎◌, ℕ, ◌<◌, List, [], ◌+
 use Rattle.std.specs.Io.KnownBytes.{Appends}
 use Rattle.std.specs.List.{flat_map}
 use Rattle.task_model.specs.declared.task.Task.{Task}
-use Rattle.transcript_text.specs.Legal.{IsLegal, asks_of}
-use Rattle.transcript_text.specs.Outcomes.{MayStand}
-use Rattle.transcript_text.specs.Rounds.{limits_of}
-use Rattle.transcript_text.specs.Texts.{done_line, line_text, text_of_entry, text_of_head, text_of_outcome}
-use Rattle.transcript_text.specs.Turns.{AreTurnsOf, Stage}
-use Rattle.transcript_text.specs.declared.entry.Entry.{Entry}
-use Rattle.transcript_text.specs.declared.entry.Entry.TheVariants as entry
-use Rattle.transcript_text.specs.declared.head.Head.{Head}
-use Rattle.transcript_text.specs.declared.head.Mode.TheVariants.{Incremental}
-use Rattle.transcript_text.specs.declared.head.Pool.{Pool}
-use Rattle.transcript_text.specs.declared.outcome.Outcome.{Outcome}
+use Rattle.transcript_model.specs.Legal.{IsLegal, asks_of}
+use Rattle.transcript_model.specs.Outcomes.{MayStand}
+use Rattle.transcript_model.specs.Rounds.{limits_of}
+use Rattle.report_text.specs.Texts.{done_line, line_text, text_of_entry, text_of_head, text_of_outcome}
+use Rattle.transcript_model.specs.Turns.{AreTurnsOf, Stage}
+use Rattle.transcript_model.specs.declared.entry.Entry.{Entry}
+use Rattle.transcript_model.specs.declared.entry.Entry.TheVariants as entry
+use Rattle.transcript_model.specs.declared.head.Head.{Head}
+use Rattle.transcript_model.specs.declared.head.Mode.TheVariants.{Incremental}
+use Rattle.transcript_model.specs.declared.head.Pool.{Pool}
+use Rattle.transcript_model.specs.declared.outcome.Outcome.{Outcome}
 use Rattle.io_world.specs.Talks.{Event, Talk}
 use Rattle.level_run.specs.Breaking.{HasLevel, LogBroken}
 use Rattle.level_run.specs.Calls.{LogRan, LogStops}

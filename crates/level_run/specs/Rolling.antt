@@ -5,12 +5,12 @@ use Rattle.std.specs.List.{flat_map}
 use Rattle.io_world.specs.Talks.{Talk}
 use Rattle.io_world.specs.declared.host.HostFault.{HostFault}
 use Rattle.io_world.specs.declared.host.HostFault.TheVariants as host
-use Rattle.task_model.specs.Lists.{AreDistinct}
+use Rattle.lemmas.specs.Lists.{AreDistinct}
 use Rattle.task_model.specs.declared.task.Task.{Task}
-use Rattle.transcript_text.specs.Legal.{IsLegal, is_open}
-use Rattle.transcript_text.specs.Texts.{text_of_entry}
-use Rattle.transcript_text.specs.declared.entry.Entry.{Entry}
-use Rattle.transcript_text.specs.declared.entry.Entry.TheVariants as entry
+use Rattle.transcript_model.specs.Legal.{IsLegal, is_open}
+use Rattle.report_text.specs.Texts.{text_of_entry}
+use Rattle.transcript_model.specs.declared.entry.Entry.{Entry}
+use Rattle.transcript_model.specs.declared.entry.Entry.TheVariants as entry
 use Rattle.session_core.specs.Slots.{Slot}
 use Rattle.session_core.specs.State.{State, with_slots}
 use Rattle.session_core.specs.declared.pools.Workers.{Workers}

@@ -1,6 +1,6 @@
 -- Which children are started.
 use Rattle.std.specs.Prelude.{◌≡◌, ℕ, ◌+◌, ◌≤◌, ◌<◌, List, length, All, Bool, true, false, slice_get, Some}
-use Rattle.transcript_text.specs.declared.head.Pool.{Pool}
+use Rattle.transcript_model.specs.declared.head.Pool.{Pool}
 
 -- the pool's child of this number
 pub record IsWorker (pool : Pool) (child : ℕ) : Type 0 where

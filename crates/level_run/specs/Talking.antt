@@ -12,7 +12,7 @@ use Rattle.session_core.specs.State.{State, after_line}
 use Rattle.session_core.specs.declared.fault.Heard.TheVariants as heard
 use Rattle.session_core.specs.declared.pools.Workers.{Workers}
 use Rattle.task_model.specs.declared.task.Task.{Task}
-use Rattle.transcript_text.specs.declared.entry.Entry.{Entry}
+use Rattle.transcript_model.specs.declared.entry.Entry.{Entry}
 use Rattle.level_run.specs.Dialogue.{AreSaid, IsOneOf, Request, bytes_to, count_to, last_round, replies_of, requests_of, text_of_request, wanted_by}
 use Rattle.level_run.specs.Held.{Held}
 use Rattle.level_run.specs.Rolling.{finished}

@@ -11,17 +11,17 @@ use Rattle.task_model.specs.Plans.{IsFar, IsSolvable, IsReached, MoreThan}
 use Rattle.task_model.specs.Streams.{IsDue}
 use Rattle.task_model.specs.declared.stream.Instance.{Instance}
 use Rattle.task_model.specs.declared.task.Task.{Task}
-use Rattle.transcript_text.specs.Outcomes.{IsTrueOutcome}
-use Rattle.transcript_text.specs.Rounds.{Limits, limits_of}
-use Rattle.transcript_text.specs.Transcript.{known_of, notes_of}
-use Rattle.transcript_text.specs.Turns.{AreTurns, IsLevel, IsModeLegal, Stage}
-use Rattle.transcript_text.specs.declared.entry.Entry.{Entry}
-use Rattle.transcript_text.specs.declared.entry.Entry.TheVariants as entry
-use Rattle.transcript_text.specs.declared.head.Head.{Head}
-use Rattle.transcript_text.specs.declared.head.Pool.{Pool}
-use Rattle.transcript_text.specs.declared.outcome.LimitKind.TheVariants.{States}
-use Rattle.transcript_text.specs.declared.outcome.Outcome.{Outcome}
-use Rattle.transcript_text.specs.declared.outcome.Outcome.TheVariants as outcome
+use Rattle.transcript_model.specs.Outcomes.{IsTrueOutcome}
+use Rattle.transcript_model.specs.Rounds.{Limits, limits_of}
+use Rattle.transcript_model.specs.Transcript.{known_of, notes_of}
+use Rattle.transcript_model.specs.Turns.{AreTurns, IsLevel, IsModeLegal, Stage}
+use Rattle.transcript_model.specs.declared.entry.Entry.{Entry}
+use Rattle.transcript_model.specs.declared.entry.Entry.TheVariants as entry
+use Rattle.transcript_model.specs.declared.head.Head.{Head}
+use Rattle.transcript_model.specs.declared.head.Pool.{Pool}
+use Rattle.transcript_model.specs.declared.outcome.LimitKind.TheVariants.{States}
+use Rattle.transcript_model.specs.declared.outcome.Outcome.{Outcome}
+use Rattle.transcript_model.specs.declared.outcome.Outcome.TheVariants as outcome
 use Rattle.level_run.specs.declared.ending.Batch.{Batch}
 use Rattle.level_run.specs.declared.ending.Batch.TheVariants.{Done, CallsSpent}
 use Rattle.level_run.specs.declared.decide.Decision.{Decision}

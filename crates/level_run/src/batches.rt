@@ -15,8 +15,8 @@ ghost use Rattle.level_run.specs.Turns.{AllRun, AreStarted, EndsBatch, IsRunnabl
 ghost use Rattle.level_run.specs.declared.fault.RunFault.TheVariants.{Generator, Write};
 ghost use Rattle.session_core.specs.Ready.{AreReady};
 ghost use Rattle.session_core.specs.Session.{IsLearnt, IsOf, IsSession};
-ghost use Rattle.transcript_text.specs.Rounds.{IsBatch, limits_of};
-ghost use Rattle.transcript_text.specs.declared.entry.Entry.{Entry as AnyEntry};
+ghost use Rattle.transcript_model.specs.Rounds.{IsBatch, limits_of};
+ghost use Rattle.transcript_model.specs.declared.entry.Entry.{Entry as AnyEntry};
 
 use crate::ending::Batch;
 use crate::fault::RunFault;
@@ -26,7 +26,7 @@ use instance_queue::Due;
 use io_world::{Host, Sink};
 use session_core::Session;
 use task_model::Task;
-use transcript_text::Head;
+use transcript_model::Head;
 
 /// Runs the asks in rounds, where all workers run.
 fn run_rounds<H: Host, O: Sink>(

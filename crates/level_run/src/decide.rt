@@ -5,8 +5,8 @@ ghost use Rattle.level_run.specs.declared.fault.RunFault.TheVariants.{Memory};
 ghost use Rattle.session_core.specs.Session.{IsLearnt, IsOf, IsSession};
 ghost use Rattle.task_model.specs.Fit.{IsFit};
 ghost use Rattle.task_model.specs.Plans.{IsReached, IsSolvable, MoreThan};
-ghost use Rattle.transcript_text.specs.Transcript.{known_of};
-ghost use Rattle.transcript_text.specs.declared.head.Mode.TheVariants.{Incremental};
+ghost use Rattle.transcript_model.specs.Transcript.{known_of};
+ghost use Rattle.transcript_model.specs.declared.head.Mode.TheVariants.{Incremental};
 
 use crate::fault::RunFault;
 use best_first::{Blind, Found, search};
@@ -15,7 +15,7 @@ use session_core::Session;
 use shown_plan::plan_outcome;
 use std::alloc::Global;
 use task_model::Task;
-use transcript_text::{Head, LimitKind, Outcome};
+use transcript_model::{Head, LimitKind, Outcome};
 
 /// What is to be done next.
 #[derive(Drop)]

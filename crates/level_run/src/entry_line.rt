@@ -4,14 +4,14 @@ ghost use Rattle.std.specs.Fmt.{decimal};
 ghost use Rattle.io_world.specs.Faults.{last_count, HasCause};
 ghost use Rattle.level_run.specs.Pieces.{Prints};
 ghost use Rattle.level_run.specs.declared.fault.RunFault.TheVariants.{Write};
-ghost use Rattle.transcript_text.specs.Texts.{call_fields, fields_text, line, line_text, lines_text, step_line, text_of_entry, tuple_fields, use_line};
-ghost use Rattle.transcript_text.specs.declared.entry.Entry.TheVariants as entry;
+ghost use Rattle.report_text.specs.Texts.{call_fields, fields_text, line, line_text, lines_text, step_line, text_of_entry, tuple_fields, use_line};
+ghost use Rattle.transcript_model.specs.declared.entry.Entry.TheVariants as entry;
 
 use crate::fault::RunFault;
 use io_world::{Sink, write_all};
 use itoa::{Buffer, Integer};
 use task_model::Name;
-use transcript_text::{Call, DreamUse, Entry};
+use transcript_model::{Call, DreamUse, Entry};
 
 /// Writes the lines of an entry.
 pub(crate) fn print_entry<O: Sink>(out: &mut O, entry: &Entry) -> Result<(), RunFault>

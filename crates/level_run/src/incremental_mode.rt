@@ -8,7 +8,7 @@ ghost use Rattle.level_run.specs.Talking.{held_of};
 ghost use Rattle.level_run.specs.Turns.{IsRunnable};
 ghost use Rattle.level_run.specs.declared.fault.RunFault.TheVariants.{Generator, Write};
 ghost use Rattle.task_model.specs.Fit.{IsFit};
-ghost use Rattle.transcript_text.specs.declared.head.Mode.TheVariants.{Incremental};
+ghost use Rattle.transcript_model.specs.declared.head.Mode.TheVariants.{Incremental};
 
 use crate::fault::RunFault;
 use crate::levels::run_levels;
@@ -18,7 +18,7 @@ use io_world::{Host, Sink};
 use session_core::Session;
 use std::alloc::Global;
 use task_model::Task;
-use transcript_text::{Head, Outcome};
+use transcript_model::{Head, Outcome};
 
 /// A run that has an outcome.
 #[derive(Drop)]

@@ -13,10 +13,10 @@ ghost use Rattle.level_run.specs.Stops.{MayWrite};
 ghost use Rattle.level_run.specs.Turns.{AreStarted, EndsBatch, IsFrontOfRun, IsMarked, IsRunnable, IsSomeLevel, IsTurn, RunsLevel};
 ghost use Rattle.level_run.specs.declared.fault.RunFault.TheVariants.{Generator, Write};
 ghost use Rattle.session_core.specs.Session.{IsLearnt, IsNew, IsOf, IsSession};
-ghost use Rattle.transcript_text.specs.Legal.{HasNoneOpen, asks_of};
+ghost use Rattle.transcript_model.specs.Legal.{HasNoneOpen, asks_of};
 ghost use Rattle.task_model.specs.declared.task.Task.{Task as AnyTask};
-ghost use Rattle.transcript_text.specs.declared.entry.Entry.TheVariants.{Level};
-ghost use Rattle.transcript_text.specs.declared.head.Mode.TheVariants.{Incremental};
+ghost use Rattle.transcript_model.specs.declared.entry.Entry.TheVariants.{Level};
+ghost use Rattle.transcript_model.specs.declared.head.Mode.TheVariants.{Incremental};
 
 use crate::batches::batch;
 use crate::decide::{Decision, decide};
@@ -29,7 +29,7 @@ use io_world::{Host, Sink};
 use session_core::Session;
 use std::alloc::Global;
 use task_model::Task;
-use transcript_text::{Entry, Head, LimitKind, Outcome};
+use transcript_model::{Entry, Head, LimitKind, Outcome};
 
 /// Marks that a whole level follows, and writes it.
 fn mark_level<O: Sink>(session: &mut Session, out: &mut O) -> Result<(), RunFault>

@@ -17,7 +17,7 @@ use gen_lines::LineBuf;
 use io_world::Host;
 use std::alloc::{AllocError, Global};
 use std::marker::Model;
-use transcript_text::Pool;
+use transcript_model::Pool;
 
 /// How many children there may be.
 const CHILDREN: usize = 17;

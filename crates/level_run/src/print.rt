@@ -5,13 +5,13 @@ ghost use Rattle.io_world.specs.Faults.{last_count, HasCause};
 ghost use Rattle.level_run.specs.Reports.{AreStreamsOf, text_of_end};
 ghost use Rattle.level_run.specs.Stops.{StopsAt, Misses, MayWrite};
 ghost use Rattle.level_run.specs.declared.fault.RunFault.TheVariants.{Write};
-ghost use Rattle.transcript_text.specs.Texts.{text_of_head};
+ghost use Rattle.report_text.specs.Texts.{text_of_head};
 
 use crate::fault::RunFault;
 use io_world::{Sink, write_all};
 use std::alloc::Global;
 use task_model::Task;
-use transcript_text::{Head, Outcome, head_text, outcome_text};
+use transcript_model::{Head, Outcome, head_text, outcome_text};
 
 /// Writes these bytes to the sink.
 fn print<O: Sink>(out: &mut O, bytes: &[u8]) -> Result<(), RunFault>

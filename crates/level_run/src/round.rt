@@ -15,8 +15,8 @@ ghost use Rattle.session_core.specs.Ready.{AreReady};
 ghost use Rattle.session_core.specs.Session.{IsLearnt, IsSession, MayBegin};
 ghost use Rattle.session_core.specs.Slots.{IsAwaited};
 ghost use Rattle.task_model.specs.declared.task.Task.{Task as AnyTask};
-ghost use Rattle.transcript_text.specs.Rounds.{IsRound};
-ghost use Rattle.transcript_text.specs.declared.entry.Entry.{Entry as AnyEntry};
+ghost use Rattle.transcript_model.specs.Rounds.{IsRound};
+ghost use Rattle.transcript_model.specs.declared.entry.Entry.{Entry as AnyEntry};
 
 use crate::child::{hear, send};
 use crate::entry_line::print_entry;

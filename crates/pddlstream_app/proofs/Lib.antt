@@ -1,8 +1,8 @@
 mod Judging
-pub mod Asking
-pub mod Closing
-pub mod Completing
-pub mod Counting
-pub mod Heading
-pub mod Reading
-pub mod Ranges
+pub mod AskedLemmas
+pub mod RunsLemmas
+pub mod CompleteLemmas
+pub mod WordsDigitLemmas
+pub mod HeadsLemmas
+pub mod InputsLemmas
+pub mod WordsRangeLemmas

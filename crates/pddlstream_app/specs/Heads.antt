@@ -1,11 +1,11 @@
 -- The head of a run.
 use Rattle.std.specs.Prelude.{◌≡◌, ℕ, List, [], ◌∷◌, map, length, string_bytes}
-use Rattle.task_model.specs.Lists.{numbers_from}
+use Rattle.lemmas.specs.Lists.{numbers_from}
 use Rattle.task_model.specs.declared.stream.Stream.{Stream}
 use Rattle.task_model.specs.declared.task.Task.{Task}
-use Rattle.transcript_text.specs.declared.head.Head.{Head}
-use Rattle.transcript_text.specs.declared.head.Mode.TheVariants.{Incremental}
-use Rattle.transcript_text.specs.declared.head.Pool.{Pool}
+use Rattle.transcript_model.specs.declared.head.Head.{Head}
+use Rattle.transcript_model.specs.declared.head.Mode.TheVariants.{Incremental}
+use Rattle.transcript_model.specs.declared.head.Pool.{Pool}
 use Rattle.pddlstream_app.specs.Words.{SolveWords}
 
 -- the places of all streams

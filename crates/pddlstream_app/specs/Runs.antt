@@ -13,13 +13,13 @@ use Rattle.level_run.specs.Reports.{text_so_far}
 use Rattle.level_run.specs.Turns.{IsFrontOfRun}
 use Rattle.task_model.specs.Fit.{IsFit}
 use Rattle.task_model.specs.declared.task.Task.{Task}
-use Rattle.transcript_text.specs.Legal.{IsLegal, asks_of, is_open}
-use Rattle.transcript_text.specs.Texts.{shown_pool, text_of_report}
-use Rattle.transcript_text.specs.declared.entry.Entry.{Entry}
-use Rattle.transcript_text.specs.declared.head.Head.{Head}
-use Rattle.transcript_text.specs.declared.outcome.Outcome.{Outcome}
-use Rattle.transcript_text.specs.declared.outcome.Outcome.TheVariants as outcome
-use Rattle.transcript_text.specs.declared.report.Report.{Report}
+use Rattle.transcript_model.specs.Legal.{IsLegal, asks_of, is_open}
+use Rattle.report_text.specs.Texts.{shown_pool, text_of_report}
+use Rattle.transcript_model.specs.declared.entry.Entry.{Entry}
+use Rattle.transcript_model.specs.declared.head.Head.{Head}
+use Rattle.transcript_model.specs.declared.outcome.Outcome.{Outcome}
+use Rattle.transcript_model.specs.declared.outcome.Outcome.TheVariants as outcome
+use Rattle.transcript_model.specs.declared.report.Report.{Report}
 use Rattle.pddlstream_app.specs.Heads.{IsHeadOf}
 use Rattle.pddlstream_app.specs.Inputs.{HoldsReport, IsTaskOf, MayNotRead, MayRefuse, report_bytes}
 use Rattle.pddlstream_app.specs.Stop.{status_at, last_text}

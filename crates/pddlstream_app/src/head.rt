@@ -7,13 +7,13 @@ ghost use Rattle.task_model.specs.Fit.{IsFit};
 use crate::words::SolveWords;
 use std::alloc::{AllocError, Global};
 use task_model::{Seq, Task};
-use transcript_text::{Head, Mode, Pool};
+use transcript_model::{Head, Mode, Pool};
 
 /// How deep entries would be supposed; incremental mode supposes none.
 const DEPTH: u8 = 3;
 
 /// The numbers of all streams of a task.
-#[tactic(auto, using(crate::proofs::Heading::numbers_more, crate::proofs::Heading::few_streams))]
+#[tactic(auto, using(crate::proofs::HeadsLemmas::numbers_more, crate::proofs::HeadsLemmas::few_streams))]
 fn all_streams(alloc: Global, task: &Task) -> Result<Seq<u32>, AllocError>
     requires fit { IsFit task.now }
     ensures all { IfOk result (λ streams. streams ≡ all_streams task.now) }

@@ -15,7 +15,7 @@ use crate::words::SolveWords;
 use io_world::{Files, Host, Sink};
 use level_run::incremental;
 use std::alloc::Global;
-use transcript_text::Outcome;
+use transcript_model::Outcome;
 
 /// How a run ends that has this outcome.
 fn status_of(outcome: &Outcome) -> Status

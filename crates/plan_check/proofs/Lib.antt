@@ -1,4 +1,4 @@
-pub mod Actions
-pub mod Costs
-pub mod Init
-pub mod Runs
+pub mod ReadableLemmas
+pub mod CostLemmas
+pub mod InitialLemmas
+pub mod FaultsLemmas

@@ -11,19 +11,19 @@ use Rattle.form_reader.specs.declared.words.WordSort.TheVariants.{Name}
 use Rattle.form_reader.specs.Items.{body_faults, item_faults, item_of, items_faults}
 use Rattle.form_reader.specs.Rows.{groups_faults, head_of, inner_of, tail_of}
 use Rattle.form_reader.specs.Texts.{form_faults}
-use Rattle.name_reader.specs.Declarations.{Typed, declare, declare_each, declared_by, declared_list, put_number}
-use Rattle.name_reader.specs.Graphs.{ascending_with}
-use Rattle.name_reader.specs.Names.{place_of}
-use Rattle.name_reader.specs.Variables.{named_sorts, named_words}
-use Rattle.name_reader.proofs.Parted.{none_both}
-use Rattle.name_reader.proofs.Titles.{titled}
-use Rattle.name_reader.proofs.FitDeclared.{list_long}
-use Rattle.pddl_reader.specs.Domains.{IsRead, constants_in, is_constants, no_typed}
-use Rattle.pddl_reader.specs.Domains as domains
-use Rattle.pddl_reader.specs.Tables.{body_of}
+use Rattle.name_tables.specs.Declarations.{Typed, declare, declare_each, declared_by, declared_list, put_number}
+use Rattle.name_tables.specs.Graphs.{ascending_with}
+use Rattle.name_tables.specs.Names.{place_of}
+use Rattle.name_tables.specs.Variables.{named_sorts, named_words}
+use Rattle.name_tables.proofs.Parted.{none_both}
+use Rattle.name_tables.proofs.TitleLemmas.{titled}
+use Rattle.name_tables.proofs.FitDeclared.{list_long}
+use Rattle.domain_reader.specs.Domains.{IsRead, constants_in, is_constants, no_typed}
+use Rattle.domain_reader.specs.Domains as domains
+use Rattle.domain_reader.specs.Tables.{body_of}
 use Rattle.problem_reader.proofs.FitObjects.{AreConstants, HaveTypes}
-use Rattle.problem_reader.proofs.Objects.{even_each}
-use Rattle.problem_reader.proofs.Behind.{declared_length, tail_small}
+use Rattle.problem_reader.proofs.TablesObjectLemmas.{even_each}
+use Rattle.problem_reader.proofs.TablesAppendLemmas.{declared_length, tail_small}
 
 -- ---- each has a type
 

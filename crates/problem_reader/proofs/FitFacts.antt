@@ -12,16 +12,16 @@ use Rattle.form_reader.specs.declared.fault.InputKind.TheVariants.{Unknown, Effe
 use Rattle.form_reader.specs.Faults.{shape}
 use Rattle.form_reader.specs.Rows.{application_faults, row_faults}
 use Rattle.form_reader.specs.Words.{is_of}
-use Rattle.name_reader.specs.Names.{has_name, place_of}
-use Rattle.name_reader.specs.Terms.{application_names, declared_place, terms_names, use_names, width}
-use Rattle.name_reader.specs.Variables.{unless}
-use Rattle.name_reader.specs.Vocabulary.{arity_of}
-use Rattle.name_reader.specs.declared.vocabulary.Vocabulary.{Vocabulary}
-use Rattle.name_reader.proofs.NoFaults.{chosen, met}
-use Rattle.name_reader.proofs.Parted.{none_both}
+use Rattle.name_tables.specs.Names.{has_name, place_of}
+use Rattle.name_tables.specs.Terms.{application_names, declared_place, terms_names, use_names, width}
+use Rattle.name_tables.specs.Variables.{unless}
+use Rattle.name_tables.specs.Vocabulary.{arity_of}
+use Rattle.name_tables.specs.declared.vocabulary.Vocabulary.{Vocabulary}
+use Rattle.name_tables.proofs.NoFaultLemmas.{chosen, met}
+use Rattle.name_tables.proofs.Parted.{none_both}
 use Rattle.std.proofs.lemmas.Option.{slice_get_within}
-use Rattle.name_reader.proofs.Usable.{IsUsable, place_holds, place_some, usable}
-use Rattle.name_reader.proofs.Vocabularies.{AreNamesOf, role_at, used_arity, used_inside}
+use Rattle.name_tables.proofs.NamesUseLemmas.{IsUsable, place_holds, place_some, usable}
+use Rattle.name_tables.proofs.VocabularyLemmas.{AreNamesOf, role_at, used_arity, used_inside}
 use Rattle.problem_reader.specs.Names.{atom_names, is_derived_at}
 use Rattle.problem_reader.specs.Problems.{fact_of, places_of}
 

@@ -10,16 +10,16 @@ use Rattle.form_reader.specs.Atoms.{facts_faults}
 use Rattle.form_reader.specs.Conditions.{single_faults}
 use Rattle.form_reader.specs.Items.{body_faults, item_faults, item_of, items_faults}
 use Rattle.form_reader.specs.Rows.{head_of, tail_of}
-use Rattle.name_reader.specs.Conditions.{conditions_names}
-use Rattle.name_reader.specs.declared.vocabulary.Vocabulary.{Vocabulary}
-use Rattle.name_reader.proofs.FitConditions.{single_fits}
-use Rattle.name_reader.proofs.FitTerms.{Knows, filled_first}
-use Rattle.name_reader.proofs.NoFaults.{none_second}
-use Rattle.name_reader.proofs.Parted.{none_both}
+use Rattle.name_tables.specs.Conditions.{conditions_names}
+use Rattle.name_tables.specs.declared.vocabulary.Vocabulary.{Vocabulary}
+use Rattle.name_tables.proofs.FitConditions.{single_fits}
+use Rattle.name_tables.proofs.FitTerms.{Knows, filled_first}
+use Rattle.name_tables.proofs.NoFaultLemmas.{none_second}
+use Rattle.name_tables.proofs.Parted.{none_both}
 use Rattle.problem_reader.specs.Names.{body_names, facts_names, items_names}
 use Rattle.problem_reader.specs.Problems.{condition_of, goal_of, init_of, is_goal}
 use Rattle.problem_reader.specs.Values.{is_init, nothing_given, row_names, row_put, values_names}
-use Rattle.problem_reader.proofs.Behind.{tail_small}
+use Rattle.problem_reader.proofs.TablesAppendLemmas.{tail_small}
 
 -- a tail is no deeper
 pub tail_shallow : (ts : Trees) → depth (tail_of ts) ≤ depth ts

@@ -6,13 +6,13 @@ use Rattle.task_model.specs.Fit.{IsFitDomain}
 use Rattle.task_model.specs.declared.domain.Domain as domain
 use Rattle.task_model.specs.declared.domain.Signature.{Signature}
 use Rattle.task_model.specs.declared.domain.Sort as sort
-use Rattle.name_reader.specs.Names.{Signed}
-use Rattle.name_reader.specs.declared.vocabulary.Vocabulary.{Vocabulary}
-use Rattle.name_reader.proofs.FitTerms.{Knows}
-use Rattle.name_reader.proofs.Fresh.{AreFresh, fresh_from, name_new, signature_new}
-use Rattle.name_reader.proofs.Vocabularies.{AreNamesOf, AreSigned, knows_from}
+use Rattle.name_tables.specs.Names.{Signed}
+use Rattle.name_tables.specs.declared.vocabulary.Vocabulary.{Vocabulary}
+use Rattle.name_tables.proofs.FitTerms.{Knows}
+use Rattle.name_tables.proofs.NamesFreshLemmas.{AreFresh, fresh_from, name_new, signature_new}
+use Rattle.name_tables.proofs.VocabularyLemmas.{AreNamesOf, AreSigned, knows_from}
 use Rattle.problem_reader.specs.Tables.{names_of, nothing_signed, put_signatures, put_sorts}
-use Rattle.problem_reader.proofs.Behind.{append_none}
+use Rattle.problem_reader.proofs.TablesAppendLemmas.{append_none}
 
 -- ---- types
 

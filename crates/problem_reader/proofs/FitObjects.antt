@@ -7,7 +7,7 @@ use Rattle.std.proofs.lemmas.Option.{slice_get_within}
 use Rattle.std.proofs.lemmas.Slice.Eq.{bytes_eq-Decides}
 use Rattle.std.specs.Str.{bytes_eq}
 use Rattle.sexpr_text.specs.Trees.{Trees, nothing, word, list, size}
-use Rattle.task_model.proofs.Members.{distinct_nil}
+use Rattle.lemmas.proofs.Members.{distinct_nil}
 use Rattle.task_model.specs.Fit.{AreFitObjects, IsFitDomain, are_places, is_name, is_short}
 use Rattle.task_model.specs.declared.domain.Declared as declared
 use Rattle.task_model.specs.declared.domain.Domain.{Domain}
@@ -18,20 +18,20 @@ use Rattle.form_reader.specs.declared.items.TextKind.TheVariants as text
 use Rattle.form_reader.specs.declared.words.WordSort.TheVariants.{Name}
 use Rattle.form_reader.specs.Items.{body_faults, item_faults, item_of, items_faults}
 use Rattle.form_reader.specs.Rows.{groups_faults, head_of, tail_of}
-use Rattle.name_reader.specs.Declarations.{Typed, declare, declare_each, declared_list}
-use Rattle.name_reader.specs.Names.{has_name, with_name}
-use Rattle.name_reader.specs.Variables.{named_sorts, named_words, seen_after, types_names}
-use Rattle.name_reader.specs.declared.vocabulary.Vocabulary.{Vocabulary}
-use Rattle.name_reader.proofs.FitDeclared.{AreTyped, list_long, list_named, typed_each, typed_fit, typed_groups}
-use Rattle.name_reader.proofs.FitGroups.{sorts_as_long}
-use Rattle.name_reader.proofs.Fresh.{AreFresh, fresh_from, get_middle, name_new}
-use Rattle.name_reader.proofs.Members.{any_at}
-use Rattle.name_reader.proofs.Parted.{none_both}
+use Rattle.name_tables.specs.Declarations.{Typed, declare, declare_each, declared_list}
+use Rattle.name_tables.specs.Names.{has_name, with_name}
+use Rattle.name_tables.specs.Variables.{named_sorts, named_words, seen_after, types_names}
+use Rattle.name_tables.specs.declared.vocabulary.Vocabulary.{Vocabulary}
+use Rattle.name_tables.proofs.FitDeclared.{AreTyped, list_long, list_named, typed_each, typed_fit, typed_groups}
+use Rattle.name_tables.proofs.FitGroups.{sorts_as_long}
+use Rattle.name_tables.proofs.NamesFreshLemmas.{AreFresh, fresh_from, get_middle, name_new}
+use Rattle.name_tables.proofs.Members.{any_at}
+use Rattle.name_tables.proofs.Parted.{none_both}
 use Rattle.problem_reader.specs.Names.{body_names, items_names}
 use Rattle.problem_reader.specs.Problems.{all_typed, constants_typed, declare_all, no_typed, objects_typed}
 use Rattle.problem_reader.specs.Tables.{is_objects, objects_in, put_constants}
-use Rattle.problem_reader.proofs.Objects.{names_declared, names_each, seen_put}
-use Rattle.problem_reader.proofs.Behind.{BeginsWith, append_none, begins_each, begins_itself, begins_twice, declared_length, first_ones, tail_small}
+use Rattle.problem_reader.proofs.TablesObjectLemmas.{names_declared, names_each, seen_put}
+use Rattle.problem_reader.proofs.TablesAppendLemmas.{BeginsWith, append_none, begins_each, begins_itself, begins_twice, declared_length, first_ones, tail_small}
 
 -- ---- constants
 

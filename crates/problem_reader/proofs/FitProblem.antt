@@ -13,14 +13,14 @@ use Rattle.form_reader.specs.declared.items.TextKind.TheVariants as text
 use Rattle.form_reader.specs.Items.{items_faults}
 use Rattle.form_reader.specs.Rows.{inner_of, tail_of}
 use Rattle.form_reader.specs.Texts.{form_faults}
-use Rattle.name_reader.specs.Sizes.{IsBounded}
-use Rattle.name_reader.specs.declared.vocabulary.Vocabulary.{Vocabulary}
-use Rattle.name_reader.proofs.OneTree.{tree_there}
-use Rattle.name_reader.proofs.Parted.{none_both}
-use Rattle.name_reader.proofs.Titles.{titled}
-use Rattle.name_reader.proofs.Vocabularies.{AreNamesOf}
-use Rattle.pddl_reader.specs.Names.{second_items}
-use Rattle.pddl_reader.specs.Tables.{body_of, name_of}
+use Rattle.name_tables.specs.Sizes.{IsBounded}
+use Rattle.name_tables.specs.declared.vocabulary.Vocabulary.{Vocabulary}
+use Rattle.name_tables.proofs.OneTreeLemmas.{tree_there}
+use Rattle.name_tables.proofs.Parted.{none_both}
+use Rattle.name_tables.proofs.TitleLemmas.{titled}
+use Rattle.name_tables.proofs.VocabularyLemmas.{AreNamesOf}
+use Rattle.domain_reader.specs.Names.{second_items}
+use Rattle.domain_reader.specs.Tables.{body_of, name_of}
 use Rattle.problem_reader.specs.Fitness.{IsFitOver, IsFitRead}
 use Rattle.problem_reader.specs.Names.{items_names}
 use Rattle.problem_reader.specs.Problems.{IsRead, Reads, facts_of, init_of, problem_of, valueds_of}

@@ -10,16 +10,16 @@ use Rattle.task_model.specs.declared.task.Valued.{Valued}
 use Rattle.form_reader.specs.Atoms.{fact_faults, facts_faults, valued_faults}
 use Rattle.form_reader.specs.declared.words.WordSort.TheVariants.{Name, Predicate}
 use Rattle.form_reader.specs.Rows.{application_faults, head_of, tail_of}
-use Rattle.name_reader.specs.Terms.{declared_place}
-use Rattle.name_reader.specs.declared.vocabulary.Vocabulary.{Vocabulary}
-use Rattle.name_reader.proofs.Parted.{none_both}
-use Rattle.name_reader.proofs.Vocabularies.{AreNamesOf}
+use Rattle.name_tables.specs.Terms.{declared_place}
+use Rattle.name_tables.specs.declared.vocabulary.Vocabulary.{Vocabulary}
+use Rattle.name_tables.proofs.Parted.{none_both}
+use Rattle.name_tables.proofs.VocabularyLemmas.{AreNamesOf}
 use Rattle.problem_reader.specs.Names.{atom_names, fact_names, facts_names, is_worth, worth_names}
 use Rattle.problem_reader.specs.Problems.{fact_of, facts_of, places_of, valued_of, valueds_of}
 use Rattle.problem_reader.specs.Values.{Given, row_names, spelled, term_in, value_in, value_names, value_of, value_put}
 use Rattle.problem_reader.proofs.FitFacts.{fact_fit}
 use Rattle.problem_reader.proofs.FitValues.{IsTerm, term_same, value_good}
-use Rattle.problem_reader.proofs.Given.{IsEven, differs_not, even_put, gets, kept, value_clean}
+use Rattle.problem_reader.proofs.ValuesLemmas.{IsEven, differs_not, even_put, gets, kept, value_clean}
 
 -- ---- lengths
 

@@ -15,15 +15,15 @@ use Rattle.form_reader.specs.Atoms.{fact_faults, number_faults, valued_faults}
 use Rattle.form_reader.specs.Faults.{shape}
 use Rattle.form_reader.specs.Rows.{application_faults, head_of, row_faults, tail_of}
 use Rattle.form_reader.specs.Words.{is_number, is_of}
-use Rattle.name_reader.specs.Names.{has_name, place_of}
-use Rattle.name_reader.specs.Terms.{application_names, declared_place, terms_names, use_names, width}
-use Rattle.name_reader.specs.Variables.{unless}
-use Rattle.name_reader.specs.Vocabulary.{arity_of}
-use Rattle.name_reader.specs.declared.vocabulary.Vocabulary.{Vocabulary}
-use Rattle.name_reader.proofs.NoFaults.{chosen, met}
-use Rattle.name_reader.proofs.Parted.{none_both}
-use Rattle.name_reader.proofs.Usable.{place_holds, usable}
-use Rattle.name_reader.proofs.Vocabularies.{AreNamesOf, used_arity}
+use Rattle.name_tables.specs.Names.{has_name, place_of}
+use Rattle.name_tables.specs.Terms.{application_names, declared_place, terms_names, use_names, width}
+use Rattle.name_tables.specs.Variables.{unless}
+use Rattle.name_tables.specs.Vocabulary.{arity_of}
+use Rattle.name_tables.specs.declared.vocabulary.Vocabulary.{Vocabulary}
+use Rattle.name_tables.proofs.NoFaultLemmas.{chosen, met}
+use Rattle.name_tables.proofs.Parted.{none_both}
+use Rattle.name_tables.proofs.NamesUseLemmas.{place_holds, usable}
+use Rattle.name_tables.proofs.VocabularyLemmas.{AreNamesOf, used_arity}
 use Rattle.problem_reader.specs.Names.{atom_names, fact_names, is_worth, worth_names}
 use Rattle.problem_reader.specs.Problems.{places_of, valued_of}
 use Rattle.problem_reader.specs.Values.{number_in, spelled, term_in}

@@ -1,4 +1,4 @@
-pub mod Behind
+pub mod TablesAppendLemmas
 pub mod FitConstants
 pub mod FitFacts
 pub mod FitItems
@@ -7,7 +7,7 @@ pub mod FitObjects
 pub mod FitProblem
 pub mod FitRows
 pub mod FitValues
-pub mod Given
-pub mod Rows
-pub mod Objects
-pub mod Known
+pub mod ValuesLemmas
+pub mod TablesLemmas
+pub mod TablesObjectLemmas
+pub mod TablesDomainLemmas

@@ -5,8 +5,8 @@ use Rattle.task_model.specs.Fit.{IsFitDomain, IsFitProblem}
 use Rattle.task_model.specs.declared.domain.Domain.{Domain}
 use Rattle.task_model.specs.declared.stream.Stream.{Stream}
 use Rattle.task_model.specs.declared.task.Problem.{Problem}
-use Rattle.name_reader.specs.Sizes.{IsBounded}
-use Rattle.pddl_reader.specs.Domains as domains
+use Rattle.name_tables.specs.Sizes.{IsBounded}
+use Rattle.domain_reader.specs.Domains as domains
 
 -- The problem is fit for tasks of this domain, whatever their streams are.
 abbrev pub IsFitOver : Domain → Problem → Type 0

@@ -2,9 +2,9 @@
 use Rattle.std.specs.Prelude.{◌≡◌}
 use Rattle.sexpr_text.specs.Trees.{Trees}
 use Rattle.task_model.specs.declared.domain.Domain.{Domain}
-use Rattle.name_reader.specs.declared.vocabulary.Vocabulary.{Vocabulary}
-use Rattle.pddl_reader.specs.Domains.{IsRead}
-use Rattle.pddl_reader.specs.Domains as domains
+use Rattle.name_tables.specs.declared.vocabulary.Vocabulary.{Vocabulary}
+use Rattle.domain_reader.specs.Domains.{IsRead}
+use Rattle.domain_reader.specs.Domains as domains
 use Rattle.problem_reader.specs.Tables.{names_of, objects_in}
 
 -- names with the objects that items declare behind the others

@@ -13,11 +13,11 @@ use Rattle.form_reader.specs.declared.items.Item.TheVariants as item
 use Rattle.form_reader.specs.declared.items.TextKind.TheVariants as text
 use Rattle.form_reader.specs.Items.{item_of}
 use Rattle.form_reader.specs.Rows.{head_of, tail_of}
-use Rattle.name_reader.specs.Conditions.{conditions_names}
-use Rattle.name_reader.specs.Names.{place_of}
-use Rattle.name_reader.specs.Terms.{application_names}
-use Rattle.name_reader.specs.Variables.{types_names, unless}
-use Rattle.name_reader.specs.declared.vocabulary.Vocabulary.{Vocabulary}
+use Rattle.name_tables.specs.Conditions.{conditions_names}
+use Rattle.name_tables.specs.Names.{place_of}
+use Rattle.name_tables.specs.Terms.{application_names}
+use Rattle.name_tables.specs.Variables.{types_names, unless}
+use Rattle.name_tables.specs.declared.vocabulary.Vocabulary.{Vocabulary}
 
 -- the name behind `:domain` is the domain's
 abbrev pub domain_names : List ℕ → Trees → List Fault

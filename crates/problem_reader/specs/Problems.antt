@@ -19,14 +19,14 @@ use Rattle.form_reader.specs.Faults.{least}
 use Rattle.form_reader.specs.Items.{item_of}
 use Rattle.form_reader.specs.Rows.{head_of, tail_of}
 use Rattle.form_reader.specs.Texts.{form_faults}
-use Rattle.name_reader.specs.Conditions.{single_of}
-use Rattle.name_reader.specs.Declarations.{Typed, declare, declare_each, declared_list}
-use Rattle.name_reader.specs.Names.{place_of}
-use Rattle.name_reader.specs.Terms.{declared_place}
-use Rattle.name_reader.specs.Variables.{named_sorts, named_words}
-use Rattle.name_reader.specs.declared.vocabulary.Vocabulary.{Vocabulary}
-use Rattle.pddl_reader.specs.Names.{second_items}
-use Rattle.pddl_reader.specs.Tables.{body_of, name_of}
+use Rattle.name_tables.specs.Conditions.{single_of}
+use Rattle.name_tables.specs.Declarations.{Typed, declare, declare_each, declared_list}
+use Rattle.name_tables.specs.Names.{place_of}
+use Rattle.name_tables.specs.Terms.{declared_place}
+use Rattle.name_tables.specs.Variables.{named_sorts, named_words}
+use Rattle.name_tables.specs.declared.vocabulary.Vocabulary.{Vocabulary}
+use Rattle.domain_reader.specs.Names.{second_items}
+use Rattle.domain_reader.specs.Tables.{body_of, name_of}
 use Rattle.problem_reader.specs.Names.{is_worth, items_names}
 use Rattle.problem_reader.specs.Tables.{is_objects, names_of}
 use Rattle.problem_reader.specs.Values.{is_init, nothing_given, term_in, value_in, values_names}

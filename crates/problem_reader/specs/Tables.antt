@@ -11,9 +11,9 @@ use Rattle.form_reader.specs.declared.items.Item.TheVariants as item
 use Rattle.form_reader.specs.declared.items.TextKind.TheVariants as text
 use Rattle.form_reader.specs.Items.{item_of}
 use Rattle.form_reader.specs.Rows.{head_of, tail_of}
-use Rattle.name_reader.specs.Names.{Signed, with_name, with_signature}
-use Rattle.name_reader.specs.Variables.{seen_after}
-use Rattle.name_reader.specs.declared.vocabulary.Vocabulary.{Vocabulary}
+use Rattle.name_tables.specs.Names.{Signed, with_name, with_signature}
+use Rattle.name_tables.specs.Variables.{seen_after}
+use Rattle.name_tables.specs.declared.vocabulary.Vocabulary.{Vocabulary}
 
 -- The names of types behind those so far, each once.
 abbrev pub put_sorts : List (List ℕ) → List sort.Sort → List (List ℕ)

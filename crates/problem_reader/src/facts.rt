@@ -6,7 +6,7 @@ ghost use Rattle.problem_reader.specs.Problems as specs;
 use crate::items::is_worth;
 use crate::values::{term_in, value_in};
 use form_reader::{head_of, tail_of};
-use name_reader::{NameTable, Vocabulary, declared_place, number};
+use name_tables::{NameTable, Vocabulary, declared_place, number};
 use sexpr_text::{Front, Tree, front_of};
 use std::alloc::{AllocError, Global};
 use task_model::{Fact, Kind, Obj, Row, Valued};

@@ -1,5 +1,5 @@
 //! The name faults of a problem's items.
-#![tactic(auto, using(form_reader::proofs::Firsts::first_append))]
+#![tactic(auto, using(form_reader::proofs::FaultsFirstLemmas::first_append))]
 
 ghost use Rattle.std.specs.Prelude.{◌≡◌, IfOk};
 ghost use Rattle.sexpr_text.specs.Trees.{trees};
@@ -7,7 +7,7 @@ ghost use Rattle.form_reader.specs.Faults.{first};
 ghost use Rattle.problem_reader.specs.Names as specs;
 
 use form_reader::{Fault, InputKind, Item, TextKind, head_of, tail_of};
-use name_reader::{Scope, Vocabulary, check_application, check_conditions, check_types, unless};
+use name_tables::{Scope, Vocabulary, check_application, check_conditions, check_types, unless};
 use sexpr_text::{Front, Tree, front_of};
 use std::alloc::{AllocError, Global};
 use task_model::{Domain, Role};

@@ -2,7 +2,7 @@
 ghost use Rattle.std.specs.Prelude.{◌≡◌, IfOk};
 ghost use Rattle.sexpr_text.specs.Trees.{tree, trees};
 ghost use Rattle.form_reader.specs.Faults.{least};
-ghost use Rattle.name_reader.specs.Sizes.{IsBounded};
+ghost use Rattle.name_tables.specs.Sizes.{IsBounded};
 ghost use Rattle.problem_reader.specs.Fitness.{IsFitOver, IsFitRead};
 ghost use Rattle.problem_reader.specs.Problems as specs;
 
@@ -11,15 +11,15 @@ use crate::problem::problem_of;
 use crate::tables::names_of;
 use crate::values::check_values;
 use form_reader::{Fault, InputFault, TextKind, check_form};
-use name_reader::Vocabulary;
-use pddl_reader::{body_of, check_second_items};
+use name_tables::Vocabulary;
+use domain_reader::{body_of, check_second_items};
 use sexpr_text::Tree;
 use std::alloc::{AllocError, Global};
 use task_model::{Domain, Problem};
 
 /// The name fault that is answered of a problem with these names and items, if it has one. Fails only where memory is
 /// wanting.
-#[tactic(auto, using(form_reader::proofs::Firsts::first_append))]
+#[tactic(auto, using(form_reader::proofs::FaultsFirstLemmas::first_append))]
 fn check_names(
     alloc: Global,
     domain: &Domain,
@@ -68,7 +68,7 @@ fn read(alloc: Global, text: &Tree, domain: &Domain) -> Result<Problem, InputFau
 /// Reads a problem of this domain from its tree.
 ///
 /// The forms are those of this project's profile of PDDL 2.1, with the total cost as the metric (IPC 2008). The domain is
-/// one that `pddl_reader::read_domain` gave.
+/// one that `domain_reader::read_domain` gave.
 ///
 /// # Errors
 ///

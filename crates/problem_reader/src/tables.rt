@@ -4,8 +4,8 @@ ghost use Rattle.sexpr_text.specs.Trees.{trees};
 ghost use Rattle.problem_reader.specs.Tables as specs;
 
 use form_reader::{Item, TextKind, head_of, tail_of};
-use name_reader::{NameTable, Signatures, Vocabulary};
-use pddl_reader::add_named;
+use name_tables::{NameTable, Signatures, Vocabulary};
+use domain_reader::add_named;
 use sexpr_text::{Front, Tree, front_of};
 use std::alloc::{AllocError, Global};
 use task_model::{Declared, Domain, Signature, Sort};

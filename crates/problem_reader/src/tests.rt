@@ -3,7 +3,7 @@
 use crate::read_problem;
 use crate::refused_problems::{DOMAIN, REFUSED};
 use form_reader::{InputFault, InputKind};
-use pddl_reader::read_domain;
+use domain_reader::read_domain;
 use sexpr_text::read_tree;
 use std::alloc::{AllocError, Global};
 use std::fmt::Write;

@@ -1,5 +1,5 @@
 //! Function terms with two different values.
-#![tactic(auto, using(form_reader::proofs::Firsts::first_append))]
+#![tactic(auto, using(form_reader::proofs::FaultsFirstLemmas::first_append))]
 
 ghost use Rattle.std.specs.Prelude.{◌≡◌, [], IfOk, OnOk};
 ghost use Rattle.sexpr_text.specs.Trees.{trees};
@@ -8,7 +8,7 @@ ghost use Rattle.problem_reader.specs.Values as specs;
 
 use crate::items::is_worth;
 use form_reader::{Fault, InputKind, Item, TextKind, head_of, inner_of, number_of, tail_of};
-use name_reader::{NameTable, unless};
+use name_tables::{NameTable, unless};
 use sexpr_text::{Front, Tree, front_of};
 use std::alloc::{AllocError, Global};
 use std::marker::Model;

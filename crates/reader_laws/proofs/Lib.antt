@@ -1,2 +1,0 @@
-pub mod OneText
-pub mod Rising

@@ -1,5 +1,5 @@
 //! Laws of what texts spell, each the contract of a function that does nothing.
-ghost use Rattle.reader_laws.specs.Spelled.{SpelledTextsAreNotRefused, TextsSpellOneTask};
+ghost use Rattle.task_reader.specs.Spelled.{SpelledTextsAreNotRefused, TextsSpellOneTask};
 
 /// Three texts spell one task at most.
 pub fn texts_spell_one_task()

@@ -1,20 +1,20 @@
 -- What is wrong with a report, line by line. There is one case for each kind.
 use Rattle.std.specs.Prelude.{◌≡◌, ◌⊎◌, ℕ, ◌+◌, ◌<◌, ◌≤◌, List, [], ◌∷◌, ◌++◌, length, take, true, false, Some, slice_get}
 use Rattle.task_model.specs.declared.task.Task.{Task}
-use Rattle.transcript_text.specs.Legal.{MayFollow, is_ask}
-use Rattle.transcript_text.specs.Outcomes.{AreOrigins, IsTrueOutcome}
-use Rattle.transcript_text.specs.Rounds.{Limits}
-use Rattle.transcript_text.specs.Turns.{AreTurnsOf, Stage, between}
-use Rattle.transcript_text.specs.declared.entry.Call.{Call}
-use Rattle.transcript_text.specs.declared.entry.Entry.{Entry}
-use Rattle.transcript_text.specs.declared.entry.Entry.TheVariants as entry
-use Rattle.transcript_text.specs.declared.head.Mode.TheVariants.{Incremental}
-use Rattle.transcript_text.specs.declared.head.PoolLine.{PoolLine}
-use Rattle.transcript_text.specs.declared.outcome.LimitKind.TheVariants.{Calls}
-use Rattle.transcript_text.specs.declared.outcome.Origin.{Origin}
-use Rattle.transcript_text.specs.declared.outcome.Outcome.{Outcome}
-use Rattle.transcript_text.specs.declared.outcome.Outcome.TheVariants as outcome
-use Rattle.transcript_text.specs.declared.report.Report.{Report}
+use Rattle.transcript_model.specs.Legal.{MayFollow, is_ask}
+use Rattle.transcript_model.specs.Outcomes.{AreOrigins, IsTrueOutcome}
+use Rattle.transcript_model.specs.Rounds.{Limits}
+use Rattle.transcript_model.specs.Turns.{AreTurnsOf, Stage, between}
+use Rattle.transcript_model.specs.declared.entry.Call.{Call}
+use Rattle.transcript_model.specs.declared.entry.Entry.{Entry}
+use Rattle.transcript_model.specs.declared.entry.Entry.TheVariants as entry
+use Rattle.transcript_model.specs.declared.head.Mode.TheVariants.{Incremental}
+use Rattle.transcript_model.specs.declared.head.PoolLine.{PoolLine}
+use Rattle.transcript_model.specs.declared.outcome.LimitKind.TheVariants.{Calls}
+use Rattle.transcript_model.specs.declared.outcome.Origin.{Origin}
+use Rattle.transcript_model.specs.declared.outcome.Outcome.{Outcome}
+use Rattle.transcript_model.specs.declared.outcome.Outcome.TheVariants as outcome
+use Rattle.transcript_model.specs.declared.report.Report.{Report}
 use Rattle.session_core.specs.Session.{is_answer}
 use Rattle.replay_check.specs.Heads.{are_fit_limits, are_served, is_fit_pool, limits_in}
 use Rattle.replay_check.specs.Lines.{first_line, line_of, outcome_line}

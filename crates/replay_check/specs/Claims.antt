@@ -1,10 +1,10 @@
 -- What is found of an outcome's claim.
 use Rattle.std.specs.Prelude.{ℕ, List, Bool, true, false}
 use Rattle.task_model.specs.declared.task.Task.{Task}
-use Rattle.transcript_text.specs.Outcomes.{IsTrueOutcome}
-use Rattle.transcript_text.specs.Rounds.{Limits}
-use Rattle.transcript_text.specs.declared.entry.Entry.{Entry}
-use Rattle.transcript_text.specs.declared.outcome.Outcome.{Outcome}
+use Rattle.transcript_model.specs.Outcomes.{IsTrueOutcome}
+use Rattle.transcript_model.specs.Rounds.{Limits}
+use Rattle.transcript_model.specs.declared.entry.Entry.{Entry}
+use Rattle.transcript_model.specs.declared.outcome.Outcome.{Outcome}
 use Rattle.replay_check.specs.Verdicts.{IsUndecidedClaim}
 use Rattle.replay_check.specs.declared.claims.Claim.{Claim}
 use Rattle.replay_check.specs.declared.claims.Claim.TheVariants.{True, False, Open}

@@ -1,12 +1,12 @@
 -- What is found of an outcome.
 use Rattle.std.specs.Prelude.{ℕ, List}
 use Rattle.task_model.specs.declared.task.Task.{Task}
-use Rattle.transcript_text.specs.Outcomes.{IsTrueOutcome, MayStand}
-use Rattle.transcript_text.specs.Rounds.{Limits}
-use Rattle.transcript_text.specs.Turns.{AreTurnsOf, Stage}
-use Rattle.transcript_text.specs.declared.entry.Entry.{Entry}
-use Rattle.transcript_text.specs.declared.outcome.Outcome.{Outcome}
-use Rattle.transcript_text.specs.declared.outcome.Outcome.TheVariants as outcome
+use Rattle.transcript_model.specs.Outcomes.{IsTrueOutcome, MayStand}
+use Rattle.transcript_model.specs.Rounds.{Limits}
+use Rattle.transcript_model.specs.Turns.{AreTurnsOf, Stage}
+use Rattle.transcript_model.specs.declared.entry.Entry.{Entry}
+use Rattle.transcript_model.specs.declared.outcome.Outcome.{Outcome}
+use Rattle.transcript_model.specs.declared.outcome.Outcome.TheVariants as outcome
 use Rattle.replay_check.specs.Breaches.{BreaksOutcome, IsMisplaced}
 use Rattle.replay_check.specs.Lines.{Precedes}
 use Rattle.replay_check.specs.Verdicts.{IsUndecidedClaim}

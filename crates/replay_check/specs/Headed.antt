@@ -1,8 +1,8 @@
 -- What is found of a head.
 use Rattle.std.specs.Prelude.{◌≡◌, ℕ, ◌≤◌, ◌++◌, ◌∷◌, [], List, map, Bool, true, false}
 use Rattle.task_model.specs.declared.task.Task.{Task}
-use Rattle.transcript_text.specs.declared.head.PoolLine.{PoolLine}
-use Rattle.transcript_text.specs.declared.report.Report.{Report}
+use Rattle.transcript_model.specs.declared.head.PoolLine.{PoolLine}
+use Rattle.transcript_model.specs.declared.report.Report.{Report}
 use Rattle.level_course.specs.Pools.{shares_of}
 use Rattle.replay_check.specs.Breaches.{BreaksHead}
 use Rattle.replay_check.specs.Heads.{AreFitPoolLines, IsFitHead, is_fit_pool, served_by, share_in, workers_in}

@@ -5,11 +5,11 @@ use Rattle.std.specs.Option.{option_map}
 use Rattle.task_model.specs.Known.{same_numbers}
 use Rattle.task_model.specs.declared.stream.Stream.{Stream}
 use Rattle.task_model.specs.declared.task.Task.{Task}
-use Rattle.transcript_text.specs.Names.{stream_named}
-use Rattle.transcript_text.specs.Rounds.{Share, Limits}
-use Rattle.transcript_text.specs.declared.head.Mode.TheVariants.{Incremental}
-use Rattle.transcript_text.specs.declared.head.PoolLine.{PoolLine}
-use Rattle.transcript_text.specs.declared.report.Report.{Report}
+use Rattle.transcript_model.specs.Names.{stream_named}
+use Rattle.transcript_model.specs.Rounds.{Share, Limits}
+use Rattle.transcript_model.specs.declared.head.Mode.TheVariants.{Incremental}
+use Rattle.transcript_model.specs.declared.head.PoolLine.{PoolLine}
+use Rattle.transcript_model.specs.declared.report.Report.{Report}
 
 -- ---- what a head says
 

@@ -1,9 +1,9 @@
 -- Laws of the definitions. Each is the contract of a public function of `laws.rt`, and so is proved.
 use Rattle.std.specs.Prelude.{◌≡◌, ℕ, List}
 use Rattle.task_model.specs.declared.task.Task.{Task}
-use Rattle.transcript_text.specs.Forms.{IsFormed}
-use Rattle.transcript_text.specs.Texts.{text_of_report}
-use Rattle.transcript_text.specs.declared.report.Report.{Report}
+use Rattle.report_text.specs.Forms.{IsFormed}
+use Rattle.report_text.specs.Texts.{text_of_report}
+use Rattle.transcript_model.specs.declared.report.Report.{Report}
 use Rattle.replay_check.specs.Verdicts.{IsRightReport, IsUndecided, IsVerdict}
 use Rattle.replay_check.specs.declared.verdict.Verdict.{Verdict}
 use Rattle.replay_check.specs.declared.verdict.Verdict.TheVariants.{Valid}

@@ -1,8 +1,8 @@
 -- The lines of a report, from 1.
 use Rattle.std.specs.Prelude.{◌≡◌, ◌⊎◌, ℕ, ◌+◌, ◌<◌, List, [], ◌∷◌, ◌++◌, length, take}
 use Rattle.std.specs.List.{flat_map}
-use Rattle.transcript_text.specs.Texts.{Line, done_line, entry_lines, head_lines, outcome_lines}
-use Rattle.transcript_text.specs.declared.report.Report.{Report}
+use Rattle.report_text.specs.Texts.{Line, done_line, entry_lines, head_lines, outcome_lines}
+use Rattle.transcript_model.specs.declared.report.Report.{Report}
 use Rattle.replay_check.specs.Kinds.{number_of}
 use Rattle.replay_check.specs.declared.verdict.BreachKind.{BreachKind}
 

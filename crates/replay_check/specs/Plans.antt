@@ -5,10 +5,10 @@ use Rattle.task_model.specs.Plans.{Executes, IsValid}
 use Rattle.task_model.specs.State.{Atoms}
 use Rattle.task_model.specs.declared.task.GroundAction.{GroundAction}
 use Rattle.task_model.specs.declared.task.Task.{Task}
-use Rattle.transcript_text.specs.Calls.{call_of_step}
-use Rattle.transcript_text.specs.Transcript.{names_of, known_of}
-use Rattle.transcript_text.specs.declared.entry.Call.{Call}
-use Rattle.transcript_text.specs.declared.entry.Entry.{Entry}
+use Rattle.transcript_model.specs.Calls.{call_of_step}
+use Rattle.transcript_model.specs.Transcript.{names_of, known_of}
+use Rattle.transcript_model.specs.declared.entry.Call.{Call}
+use Rattle.transcript_model.specs.declared.entry.Entry.{Entry}
 
 module _ (task : Task) (entries : List Entry) where
   -- the calls show these steps

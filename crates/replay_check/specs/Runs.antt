@@ -4,11 +4,11 @@ use Rattle.task_model.specs.Initial.{initial_state}
 use Rattle.task_model.specs.Plans.{Executes, IsValid}
 use Rattle.task_model.specs.declared.task.GroundAction.{GroundAction}
 use Rattle.task_model.specs.declared.task.Task.{Task}
-use Rattle.transcript_text.specs.Outcomes.{AreOrigins, IsTruePlan}
-use Rattle.transcript_text.specs.Transcript.{known_of}
-use Rattle.transcript_text.specs.declared.entry.Call.{Call}
-use Rattle.transcript_text.specs.declared.entry.Entry.{Entry}
-use Rattle.transcript_text.specs.declared.outcome.Origin.{Origin}
+use Rattle.transcript_model.specs.Outcomes.{AreOrigins, IsTruePlan}
+use Rattle.transcript_model.specs.Transcript.{known_of}
+use Rattle.transcript_model.specs.declared.entry.Call.{Call}
+use Rattle.transcript_model.specs.declared.entry.Entry.{Entry}
+use Rattle.transcript_model.specs.declared.outcome.Origin.{Origin}
 use Rattle.replay_check.specs.Plans.{CanRun, IsPlan, Shows}
 use Rattle.replay_check.specs.declared.plan.Planned.{Planned}
 use Rattle.replay_check.specs.declared.plan.Planned.TheVariants.{Right, Stuck, NoGoal, WrongCost, WrongOrigin}

@@ -5,14 +5,14 @@ use Rattle.task_model.specs.Fit.{IsFit}
 use Rattle.task_model.specs.Streams.{yields_of}
 use Rattle.task_model.specs.declared.stream.Instance.{Instance}
 use Rattle.task_model.specs.declared.task.Task.{Task}
-use Rattle.transcript_text.specs.Legal.{asks_of, is_open}
-use Rattle.transcript_text.specs.Names.{call_of_instance}
-use Rattle.transcript_text.specs.Rounds.{Limits}
-use Rattle.transcript_text.specs.Texts.{entry_lines}
-use Rattle.transcript_text.specs.declared.entry.Call.{Call}
-use Rattle.transcript_text.specs.declared.entry.Entry.{Entry}
-use Rattle.transcript_text.specs.declared.entry.Entry.TheVariants as entry
-use Rattle.transcript_text.specs.declared.head.Mode.TheVariants.{Incremental}
+use Rattle.transcript_model.specs.Legal.{asks_of, is_open}
+use Rattle.transcript_model.specs.Names.{call_of_instance}
+use Rattle.transcript_model.specs.Rounds.{Limits}
+use Rattle.report_text.specs.Texts.{entry_lines}
+use Rattle.transcript_model.specs.declared.entry.Call.{Call}
+use Rattle.transcript_model.specs.declared.entry.Entry.{Entry}
+use Rattle.transcript_model.specs.declared.entry.Entry.TheVariants as entry
+use Rattle.transcript_model.specs.declared.head.Mode.TheVariants.{Incremental}
 use Rattle.level_course.specs.Agendas.{Agenda, place_in}
 use Rattle.level_course.specs.Courses.{Leads, at_first}
 use Rattle.level_course.specs.Pools.{AllWork, shares_of}

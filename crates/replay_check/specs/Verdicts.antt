@@ -3,17 +3,17 @@ use Rattle.std.specs.Prelude.{◌≡◌, ◌⊎◌, ℕ, ◌<◌, List, []}
 use Rattle.task_model.specs.Plans.{IsReached, MoreThan}
 use Rattle.task_model.specs.Streams.{AreDue}
 use Rattle.task_model.specs.declared.task.Task.{Task}
-use Rattle.transcript_text.specs.Faults.{IsFirstFault}
-use Rattle.transcript_text.specs.Forms.{IsFormed}
-use Rattle.transcript_text.specs.Outcomes.{IsTrueOutcome, MayStand}
-use Rattle.transcript_text.specs.Texts.{text_of_report}
-use Rattle.transcript_text.specs.Transcript.{known_of, notes_of}
-use Rattle.transcript_text.specs.Turns.{IsModeLegal, Stage}
-use Rattle.transcript_text.specs.declared.entry.Entry.{Entry}
-use Rattle.transcript_text.specs.declared.outcome.LimitKind.TheVariants.{States}
-use Rattle.transcript_text.specs.declared.outcome.Outcome.{Outcome}
-use Rattle.transcript_text.specs.declared.outcome.Outcome.TheVariants as outcome
-use Rattle.transcript_text.specs.declared.report.Report.{Report}
+use Rattle.report_text.specs.Faults.{IsFirstFault}
+use Rattle.report_text.specs.Forms.{IsFormed}
+use Rattle.transcript_model.specs.Outcomes.{IsTrueOutcome, MayStand}
+use Rattle.report_text.specs.Texts.{text_of_report}
+use Rattle.transcript_model.specs.Transcript.{known_of, notes_of}
+use Rattle.transcript_model.specs.Turns.{IsModeLegal, Stage}
+use Rattle.transcript_model.specs.declared.entry.Entry.{Entry}
+use Rattle.transcript_model.specs.declared.outcome.LimitKind.TheVariants.{States}
+use Rattle.transcript_model.specs.declared.outcome.Outcome.{Outcome}
+use Rattle.transcript_model.specs.declared.outcome.Outcome.TheVariants as outcome
+use Rattle.transcript_model.specs.declared.report.Report.{Report}
 use Rattle.replay_check.specs.Breaches.{IsBreach}
 use Rattle.replay_check.specs.Heads.{IsFitHead, limits_in}
 use Rattle.replay_check.specs.Lines.{Precedes, outcome_line}

@@ -1,7 +1,7 @@
 -- Entries that are taken one after another.
 use Rattle.std.specs.Prelude.{◌≡◌, ℕ, ◌+◌, ◌<◌, List, take, length, All, Option, None, Some, slice_get}
-use Rattle.transcript_text.specs.Forms.{IsFormedEntry}
-use Rattle.transcript_text.specs.declared.entry.Entry.{Entry}
+use Rattle.report_text.specs.Forms.{IsFormedEntry}
+use Rattle.transcript_model.specs.declared.entry.Entry.{Entry}
 use Rattle.replay_check.specs.Standings.{AreBounds, IsStanding, IsWrong, limits_by}
 use Rattle.replay_check.specs.declared.bounds.Bounds.{Bounds}
 use Rattle.replay_check.specs.declared.entries.Standing.{Standing}

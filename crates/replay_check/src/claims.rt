@@ -3,10 +3,10 @@ ghost use Rattle.std.specs.Prelude.{◌≡◌, ◌≤◌, ℕ, List, IfOk};
 ghost use Rattle.replay_check.specs.Claims.{IsJudged, claim_of};
 ghost use Rattle.transcript_ledger.specs.Ledgers.{IsLedger};
 ghost use Rattle.replay_check.specs.Standings.{AreBounds, limits_by};
-ghost use Rattle.transcript_text.specs.Legal.{HasNoneOpen};
-ghost use Rattle.transcript_text.specs.declared.entry.Entry.{Entry as AnyEntry};
-ghost use Rattle.transcript_text.specs.declared.outcome.LimitKind.TheVariants.{Calls, Instances, States};
-ghost use Rattle.transcript_text.specs.declared.outcome.Outcome.TheVariants as outcome;
+ghost use Rattle.transcript_model.specs.Legal.{HasNoneOpen};
+ghost use Rattle.transcript_model.specs.declared.entry.Entry.{Entry as AnyEntry};
+ghost use Rattle.transcript_model.specs.declared.outcome.LimitKind.TheVariants.{Calls, Instances, States};
+ghost use Rattle.transcript_model.specs.declared.outcome.Outcome.TheVariants as outcome;
 
 use crate::bounds::Bounds;
 use best_first::{Blind, Found, exceeds, search};

@@ -3,15 +3,15 @@ ghost use Rattle.std.specs.Prelude.{◌≡◌, ℕ, ◌<◌, ◌≤◌, ◌+◌,
 ghost use Rattle.replay_check.specs.Walks.{CanTake, IsTaken, IsWalked};
 ghost use Rattle.replay_check.specs.Standings.{AreBounds, IsNextRequest, IsStanding};
 ghost use Rattle.session_core.specs.Learning.{number_of as number_in};
-ghost use Rattle.transcript_text.specs.Forms.{IsFormedEntry};
-ghost use Rattle.transcript_text.specs.declared.entry.Entry.TheVariants as entry;
+ghost use Rattle.report_text.specs.Forms.{IsFormedEntry};
+ghost use Rattle.transcript_model.specs.declared.entry.Entry.TheVariants as entry;
 
 use crate::bounds::Bounds;
 use crate::verdict::BreachKind;
 use level_course::Course;
 use std::alloc::AllocError;
 use transcript_ledger::{Ledger, answered, asked_by, dues_of, is_request, may_answer};
-use transcript_text::{Call, Entry};
+use transcript_model::{Call, Entry};
 
 /// What the entries so far come to: what is kept of them, and what may come next.
 #[derive(Drop)]

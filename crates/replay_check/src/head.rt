@@ -6,14 +6,14 @@ ghost use Rattle.replay_check.specs.Headed.{IsAfter, IsHeaded};
 ghost use Rattle.replay_check.specs.Heads.{AreFitPoolLines, are_fit_limits as limits_fit, are_new, are_served as all_served, is_fit_pool, share_in};
 ghost use Rattle.task_model.specs.Fit.{IsFit};
 ghost use Rattle.task_model.specs.Known.{same_numbers};
-ghost use Rattle.transcript_text.specs.Names.{stream_named as stream_at};
-ghost use Rattle.transcript_text.specs.declared.head.PoolLine.{PoolLine as AnyPool};
+ghost use Rattle.transcript_model.specs.Names.{stream_named as stream_at};
+ghost use Rattle.transcript_model.specs.declared.head.PoolLine.{PoolLine as AnyPool};
 
 use level_course::Share;
 use std::alloc::{AllocError, Global};
 use task_model::{Name, Seq, Task};
 use transcript_ledger::stream_named;
-use transcript_text::{Mode, PoolLine, Report};
+use transcript_model::{Mode, PoolLine, Report};
 
 /// The most workers of a pool.
 const MOST_WORKERS: u8 = 16;

@@ -6,7 +6,7 @@ ghost use Rattle.replay_check.specs.Standings.{AreBounds, IsStanding, limits_by}
 ghost use Rattle.replay_check.specs.Verdicts.{IsReportVerdict, IsVerdict};
 ghost use Rattle.replay_check.specs.declared.verdict.Verdict.TheVariants.{Invalid};
 ghost use Rattle.task_model.specs.Fit.{IsFit};
-ghost use Rattle.transcript_text.specs.Forms.{IsFormed};
+ghost use Rattle.report_text.specs.Forms.{IsFormed};
 
 use crate::bounds::Bounds;
 use crate::entries::{Standing, Walked, walk};
@@ -16,7 +16,7 @@ use crate::verdict::{BreachKind, Verdict};
 use report_reader::read_report;
 use std::alloc::{AllocError, Global};
 use task_model::Task;
-use transcript_text::{Report, ReportFault};
+use transcript_model::{Report, ReportFault};
 
 /// The verdict that this is wrong.
 fn invalid(line: usize, kind: BreachKind) -> Verdict

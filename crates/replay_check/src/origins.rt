@@ -1,7 +1,7 @@
 //! The origins that a report shows.
 ghost use Rattle.std.specs.Prelude.{◌≡◌, ◌<◌, ◌≤◌, length, ℕ, ◌↔◌, IsTrue, IfSome, IfNone, slice_get};
 
-use transcript_text::Origin;
+use transcript_model::Origin;
 
 /// Whether two origins are the same.
 fn is_same(shown: &Origin, due: &Origin) -> bool

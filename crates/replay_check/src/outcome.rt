@@ -5,14 +5,14 @@ ghost use Rattle.replay_check.specs.Findings.{IsClaim, IsFound, IsPlaced};
 ghost use Rattle.replay_check.specs.Runs.{IsNear, IsPlanned};
 ghost use Rattle.replay_check.specs.Standings.{AreBounds, IsStanding, limits_by};
 ghost use Rattle.task_model.specs.declared.task.Task.{Task as AnyTask};
-ghost use Rattle.transcript_text.specs.Legal.{HasNoneOpen, IsLegal};
-ghost use Rattle.transcript_text.specs.Rounds.{Limits};
-ghost use Rattle.transcript_text.specs.declared.entry.Call.{Call as AnyCall};
-ghost use Rattle.transcript_text.specs.declared.entry.Entry.{Entry as AnyEntry};
-ghost use Rattle.transcript_text.specs.declared.outcome.LimitKind.TheVariants.{Calls};
-ghost use Rattle.transcript_text.specs.declared.outcome.Origin.{Origin as AnyOrigin};
-ghost use Rattle.transcript_text.specs.declared.outcome.Outcome.{Outcome as AnyOutcome};
-ghost use Rattle.transcript_text.specs.declared.outcome.Outcome.TheVariants as said;
+ghost use Rattle.transcript_model.specs.Legal.{HasNoneOpen, IsLegal};
+ghost use Rattle.transcript_model.specs.Rounds.{Limits};
+ghost use Rattle.transcript_model.specs.declared.entry.Call.{Call as AnyCall};
+ghost use Rattle.transcript_model.specs.declared.entry.Entry.{Entry as AnyEntry};
+ghost use Rattle.transcript_model.specs.declared.outcome.LimitKind.TheVariants.{Calls};
+ghost use Rattle.transcript_model.specs.declared.outcome.Origin.{Origin as AnyOrigin};
+ghost use Rattle.transcript_model.specs.declared.outcome.Outcome.{Outcome as AnyOutcome};
+ghost use Rattle.transcript_model.specs.declared.outcome.Outcome.TheVariants as said;
 
 use crate::bounds::Bounds;
 use crate::claims::{Claim, judge_calls, judge_instances, judge_no_plan, judge_states};
@@ -20,7 +20,7 @@ use crate::entries::Standing;
 use crate::plan::{Planned, ShownPlan, judge_plan};
 use crate::verdict::BreachKind;
 use std::alloc::AllocError;
-use transcript_text::{Entry, LimitKind, Outcome};
+use transcript_model::{Entry, LimitKind, Outcome};
 
 /// What is found of an outcome.
 #[derive(Clone, Copy, PartialEq, Eq, Debug)]

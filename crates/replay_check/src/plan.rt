@@ -12,7 +12,7 @@ use shown_plan::plan_outcome;
 use std::alloc::AllocError;
 use task_model::GroundAction;
 use transcript_ledger::Ledger;
-use transcript_text::{Call, Entry, Origin, Outcome};
+use transcript_model::{Call, Entry, Origin, Outcome};
 
 /// The plan of an outcome, as a report shows it.
 #[derive(Drop)]

@@ -3,9 +3,9 @@ ghost use Rattle.std.specs.Prelude.{◌≡◌, ◌+◌, ◌++◌, ◌∷◌, [],
 ghost use Rattle.replay_check.specs.Runs.{IsRan, IsRunOf, IsStepTaken, IsSum};
 ghost use Rattle.plan_check.specs.declared.fault.StepFault.TheVariants.{Memory};
 ghost use Rattle.replay_check.specs.Standings.{AreBounds};
-ghost use Rattle.transcript_text.specs.Transcript.{known_of};
-ghost use Rattle.transcript_text.specs.declared.entry.Call.{Call as AnyCall};
-ghost use Rattle.transcript_text.specs.declared.entry.Entry.{Entry as AnyEntry};
+ghost use Rattle.transcript_model.specs.Transcript.{known_of};
+ghost use Rattle.transcript_model.specs.declared.entry.Call.{Call as AnyCall};
+ghost use Rattle.transcript_model.specs.declared.entry.Entry.{Entry as AnyEntry};
 
 use crate::bounds::Bounds;
 use fact_store::Facts;
@@ -13,7 +13,7 @@ use plan_check::{StepFault, apply, initial};
 use std::alloc::AllocError;
 use task_model::{GroundAction, State};
 use transcript_ledger::step_of;
-use transcript_text::Call;
+use transcript_model::Call;
 
 /// The steps that were taken, the state that they lead to, and what they cost together, unless that is 2^64 or more.
 #[derive(Drop)]

@@ -1,7 +1,7 @@
 -- What a reader finds in fields and in lines, and where it stops.
 use Rattle.std.specs.Prelude.{◌≡◌, ℕ, ◌<◌, List, [], ◌∷◌, ◌++◌, length, map, All, Option, None, Some}
-use Rattle.transcript_text.specs.Places.{Place, behind, IsStep, IsPath}
-use Rattle.transcript_text.specs.Texts.{Line}
+use Rattle.report_text.specs.Places.{Place, behind, IsStep, IsPath}
+use Rattle.report_text.specs.Texts.{Line}
 use Rattle.report_reader.specs.Splits.{fields_of}
 
 -- ---- fields

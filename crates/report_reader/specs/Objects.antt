@@ -1,7 +1,7 @@
 -- The objects that may stand in a call.
 use Rattle.std.specs.Prelude.{◌≡◌, ℕ, ◌<◌, ◌==◌, Bool, List, ◌∷◌, ◌++◌}
 use Rattle.std.specs.Fmt.{decimal}
-use Rattle.transcript_text.specs.Forms.{IsNumber, IsObject, IsTerm}
+use Rattle.report_text.specs.Forms.{IsNumber, IsObject, IsTerm}
 use Rattle.report_reader.specs.declared.objects.Objects.{Objects}
 use Rattle.report_reader.specs.declared.objects.Objects.TheVariants.{Real, Supposed}
 

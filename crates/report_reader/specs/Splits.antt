@@ -3,8 +3,8 @@ use Rattle.std.specs.Prelude.{ℕ, ◌==◌, Bool, true, false, List, [], ◌∷
 use Rattle.std.specs.List.{slice_split}
 use Rattle.std.specs.Borrow.{Bor}
 use Rattle.gen_lines.specs.Reply.{is_space}
-use Rattle.transcript_text.specs.Faults.{whole_lines}
-use Rattle.transcript_text.specs.Texts.{Line}
+use Rattle.report_text.specs.Faults.{whole_lines}
+use Rattle.report_text.specs.Texts.{Line}
 
 -- the lines that end with a line feed, each as its fields: what stands between its spaces
 abbrev pub field_lines : List ℕ → List (List (List ℕ))

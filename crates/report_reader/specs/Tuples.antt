@@ -2,8 +2,8 @@
 use Rattle.std.specs.Prelude.{◌≡◌, ℕ, ◌+◌, ◌*◌, ◌<◌, Bool, true, false, List, ◌++◌, length, count_by, All, codes, Option, None, Some}
 use Rattle.std.specs.Str.{bytes_eq}
 use Rattle.gen_lines.specs.Reply.{is_value}
-use Rattle.transcript_text.specs.Forms.{AreTuples}
-use Rattle.transcript_text.specs.Texts.{tuples_of, tuple_fields}
+use Rattle.report_text.specs.Forms.{AreTuples}
+use Rattle.report_text.specs.Texts.{tuples_of, tuple_fields}
 use Rattle.report_reader.specs.declared.tuples.Shape.{Shape}
 
 abbrev pub is_bar : List ℕ → Bool

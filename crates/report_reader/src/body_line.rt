@@ -1,7 +1,7 @@
 //! The lines among the entries.
 ghost use Rattle.std.specs.Prelude.{◌≡◌, ℕ, IfOk, MatchOption};
-ghost use Rattle.transcript_text.specs.Texts.{limit_word};
-ghost use Rattle.transcript_text.specs.declared.outcome.LimitKind.{LimitKind};
+ghost use Rattle.report_text.specs.Texts.{limit_word};
+ghost use Rattle.transcript_model.specs.declared.outcome.LimitKind.{LimitKind};
 ghost use Rattle.report_reader.specs.Body.{IsBodyLine, IsBodyLineOf, body_line, body_more};
 ghost use Rattle.report_reader.specs.Finding.{Finds};
 ghost use Rattle.report_reader.specs.Splits.{fields_of};
@@ -13,7 +13,7 @@ use crate::fields::Fields;
 use crate::objects::Objects;
 use crate::tuples::{Tuples, tuples_in};
 use std::alloc::{AllocError, Global};
-use transcript_text::{Entry, LimitKind};
+use transcript_model::{Entry, LimitKind};
 
 /// The largest value of a cost stream.
 const LARGEST_VALUE: u64 = 1_000_000;

@@ -1,8 +1,8 @@
 //! The entries of a report, and the line that ends them.
 ghost use Rattle.std.specs.Prelude.{◌≡◌, ℕ, ◌∷◌, ◌++◌, IfOk, map};
-ghost use Rattle.transcript_text.specs.Forms.{IsFormedEntry, IsFormedUse, IsFormedCall, IsTerm};
-ghost use Rattle.transcript_text.specs.Places.{entries, dreaming};
-ghost use Rattle.transcript_text.specs.Texts.{use_line, step_line, use_line, entry_lines, call_fields, line};
+ghost use Rattle.report_text.specs.Forms.{IsFormedEntry, IsFormedUse, IsFormedCall, IsTerm};
+ghost use Rattle.report_text.specs.Places.{entries, dreaming};
+ghost use Rattle.report_text.specs.Texts.{use_line, step_line, use_line, entry_lines, call_fields, line};
 ghost use Rattle.report_reader.specs.Body.{IsBodyLine, body_line, IsBody, body_lines, IsPart, part_lines, IsDream, dream_lines};
 ghost use Rattle.report_reader.specs.Finding.{Finds, Reads, TakesCounted, TakesLine};
 ghost use Rattle.report_reader.specs.Splits.{fields_of};
@@ -14,7 +14,7 @@ use crate::lines::Lines;
 use crate::objects::Objects;
 use std::alloc::{AllocError, Global};
 use task_model::Seq;
-use transcript_text::{Call, DreamUse, Entry};
+use transcript_model::{Call, DreamUse, Entry};
 
 /// The entries of a report, and the line that ends them.
 #[derive(Drop)]
@@ -31,7 +31,7 @@ enum Part {
 }
 
 /// The entries up to the line that ends them; None where a line may not stand.
-#[tactic(auto, using(crate::proofs::Stopping::front_next, crate::proofs::Stopping::front_end, crate::proofs::Stopping::front_stop, crate::proofs::Stopping::entry_smaller))]
+#[tactic(auto, using(crate::proofs::BodyStopLemmas::front_next, crate::proofs::BodyStopLemmas::front_end, crate::proofs::BodyStopLemmas::front_stop, crate::proofs::BodyStopLemmas::entry_smaller))]
 pub(crate) fn body_in(
     alloc: Global,
     version: u8,
@@ -106,7 +106,7 @@ fn dream_in(
 }
 
 /// So many lines of the entries that a dream uses.
-#[tactic(auto, using(crate::proofs::Rows::many_stop))]
+#[tactic(auto, using(crate::proofs::FindingLemmas::many_stop))]
 fn uses_in(
     alloc: Global,
     count: u32,
@@ -154,7 +154,7 @@ fn use_in(alloc: Global, fields: &mut Fields<'_>) -> Result<Option<DreamUse>, Al
 }
 
 /// So many lines of calls with this word.
-#[tactic(auto, using(crate::proofs::Rows::many_stop))]
+#[tactic(auto, using(crate::proofs::FindingLemmas::many_stop))]
 pub(crate) fn calls_in(
     alloc: Global,
     word: &[u8],

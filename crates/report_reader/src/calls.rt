@@ -1,7 +1,7 @@
 //! Lists of names, and calls.
 ghost use Rattle.std.specs.Prelude.{◌≡◌, IfOk, All};
-ghost use Rattle.transcript_text.specs.Forms.{IsFormedCall, IsName};
-ghost use Rattle.transcript_text.specs.Texts.{call_fields};
+ghost use Rattle.report_text.specs.Forms.{IsFormedCall, IsName};
+ghost use Rattle.report_text.specs.Texts.{call_fields};
 ghost use Rattle.report_reader.specs.Finding.{Finds};
 ghost use Rattle.report_reader.specs.Objects.{IsArgument};
 
@@ -9,10 +9,10 @@ use crate::fields::Fields;
 use crate::objects::{Objects, copied, is_argument, is_name};
 use std::alloc::{AllocError, Global};
 use task_model::{Name, Seq};
-use transcript_text::Call;
+use transcript_model::Call;
 
 /// The fields that are left, if all may stand for objects.
-#[tactic(auto, using(crate::proofs::Rows::push_row, crate::proofs::Rows::all_push, crate::proofs::Rows::spoiled))]
+#[tactic(auto, using(crate::proofs::FindingLemmas::push_row, crate::proofs::FindingLemmas::all_push, crate::proofs::FindingLemmas::spoiled))]
 fn arguments_in(
     alloc: Global,
     fields: &mut Fields<'_>,
@@ -31,7 +31,7 @@ fn arguments_in(
 }
 
 /// The fields that are left, if all are names.
-#[tactic(auto, using(crate::proofs::Rows::push_row, crate::proofs::Rows::all_push, crate::proofs::Rows::spoiled))]
+#[tactic(auto, using(crate::proofs::FindingLemmas::push_row, crate::proofs::FindingLemmas::all_push, crate::proofs::FindingLemmas::spoiled))]
 pub(crate) fn names_in(
     alloc: Global,
     fields: &mut Fields<'_>,

@@ -3,7 +3,7 @@ ghost use Rattle.std.specs.Prelude.{ℕ, ◌≡◌, ◌≤◌, ◌↔◌, [], �
 ghost use Rattle.std.specs.List.{slice_split};
 ghost use Rattle.std.specs.Fmt.{decimal};
 ghost use Rattle.gen_lines.specs.Reply.{is_space};
-ghost use Rattle.transcript_text.specs.Forms.{IsNumber, IsSmall};
+ghost use Rattle.report_text.specs.Forms.{IsNumber, IsSmall};
 ghost use Rattle.report_reader.specs.Finding.{Finds, Takes};
 ghost use Rattle.report_reader.specs.Splits.{fields_left};
 
@@ -45,7 +45,7 @@ impl<'a> Fields<'a> {
     }
 
     /// The next field.
-    #[tactic(auto, using(crate::proofs::Cutting::cut_some, crate::proofs::Cutting::cut_none))]
+    #[tactic(auto, using(crate::proofs::SplitsCutLemmas::cut_some, crate::proofs::SplitsCutLemmas::cut_none))]
     pub(crate) fn next(&mut self) -> Option<&'a [u8]>
         ensures { MatchOption result (self.old ≡ []) (λ field. self.old ≡ field.now ∷ self.new) }
     {
@@ -73,7 +73,7 @@ impl<'a> Fields<'a> {
     }
 
     /// Whether no field is left.
-    #[tactic(auto, using(crate::proofs::Cutting::never_empty))]
+    #[tactic(auto, using(crate::proofs::SplitsCutLemmas::never_empty))]
     pub(crate) fn are_over(&self) -> bool
         ensures { MatchBool result (self.now ≡ []) (¬ (self.now ≡ [])) }
     {

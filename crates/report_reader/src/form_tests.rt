@@ -3,7 +3,7 @@ use crate::read_report;
 use crate::tests::{GRIP, faulty};
 use std::alloc::{AllocError, Global};
 use std::test::Fail;
-use transcript_text::{Outcome, Report, entry_text, outcome_text};
+use transcript_model::{Outcome, Report, entry_text, outcome_text};
 
 /// The first faulty line where this is the third line of a report of this version.
 fn with_third(alloc: Global, version: &[u8], third: &[u8]) -> Result<u32, AllocError> {

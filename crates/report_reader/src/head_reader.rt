@@ -1,9 +1,9 @@
 //! The head of a report.
 ghost use Rattle.std.specs.Prelude.{◌≡◌, IfOk, MatchOption};
 ghost use Rattle.std.specs.Fmt.{decimal};
-ghost use Rattle.transcript_text.specs.Forms.{IsFormedPool};
-ghost use Rattle.transcript_text.specs.Texts.{mode_word, pool_line};
-ghost use Rattle.transcript_text.specs.declared.head.Mode.{Mode};
+ghost use Rattle.report_text.specs.Forms.{IsFormedPool};
+ghost use Rattle.report_text.specs.Texts.{mode_word, pool_line};
+ghost use Rattle.transcript_model.specs.declared.head.Mode.{Mode};
 ghost use Rattle.report_reader.specs.Body.{IsFirst, IsLimits, first_of, limits_of, IsVersion};
 ghost use Rattle.report_reader.specs.Finding.{Finds, Takes, TakesAll, TakesLine};
 ghost use Rattle.report_reader.specs.Splits.{fields_of};
@@ -13,7 +13,7 @@ use crate::fields::Fields;
 use crate::lines::Lines;
 use std::alloc::{AllocError, Global};
 use task_model::Seq;
-use transcript_text::{Mode, PoolLine};
+use transcript_model::{Mode, PoolLine};
 
 /// What the first line says.
 #[derive(Clone, Copy, Debug)]
@@ -122,7 +122,7 @@ fn limits_in(fields: &mut Fields<'_>) -> Option<Limits>
 }
 
 /// The pools, as far as there are lines of pools.
-#[tactic(auto, using(crate::proofs::Rows::push_line, crate::proofs::Rows::all_push))]
+#[tactic(auto, using(crate::proofs::FindingLemmas::push_line, crate::proofs::FindingLemmas::all_push))]
 pub(crate) fn pools_in(alloc: Global, lines: &mut Lines<'_>) -> Result<Seq<PoolLine>, AllocError>
     ensures { IfOk result (λ pools. TakesAll IsFormedPool pool_line pools lines.old lines.new) }
 {

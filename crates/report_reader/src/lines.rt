@@ -28,7 +28,7 @@ impl<'a> Lines<'a> {
     }
 
     /// The fields of the next line; None where no line is left.
-    #[tactic(auto, using(crate::proofs::Cutting::lines_some, crate::proofs::Cutting::lines_none))]
+    #[tactic(auto, using(crate::proofs::SplitsCutLemmas::lines_some, crate::proofs::SplitsCutLemmas::lines_none))]
     pub(crate) fn front(&self) -> Option<Fields<'a>>
         ensures { MatchOption result (self.now ≡ []) (λ fields. self.now ≡ fields ∷ drop 1 self.now) }
     {
@@ -37,7 +37,7 @@ impl<'a> Lines<'a> {
     }
 
     /// Goes on behind the next line.
-    #[tactic(auto, using(crate::proofs::Cutting::lines_some, crate::proofs::Cutting::lines_none))]
+    #[tactic(auto, using(crate::proofs::SplitsCutLemmas::lines_some, crate::proofs::SplitsCutLemmas::lines_none))]
     pub(crate) fn advance(&mut self)
         ensures { self.new ≡ drop 1 self.old }
     {
@@ -47,7 +47,7 @@ impl<'a> Lines<'a> {
     }
 
     /// How many lines are left.
-    #[tactic(auto, using(crate::proofs::Cutting::lines_count))]
+    #[tactic(auto, using(crate::proofs::SplitsCutLemmas::lines_count))]
     pub(crate) fn count(&self) -> usize
         ensures { result ≡ length self.now }
     {

@@ -1,8 +1,8 @@
 //! The outcome of a report.
 ghost use Rattle.std.specs.Prelude.{◌≡◌, ◌↔◌, ℕ, ◌<◌, ◌^◌, ◌∷◌, List, true, IfOk, MatchBool, MatchOption};
-ghost use Rattle.transcript_text.specs.Forms.{IsFormedOrigin, IsObject};
-ghost use Rattle.transcript_text.specs.Places.{planning, cost_line};
-ghost use Rattle.transcript_text.specs.Texts.{from_line, done_line};
+ghost use Rattle.report_text.specs.Forms.{IsFormedOrigin, IsObject};
+ghost use Rattle.report_text.specs.Places.{planning, cost_line};
+ghost use Rattle.report_text.specs.Texts.{from_line, done_line};
 ghost use Rattle.report_reader.specs.Body.{ending_place, AtEnd, IsOutcomeOf, IsTupleNumber, outcome_rest, tuple_shown};
 ghost use Rattle.report_reader.specs.declared.body_line.Ending.TheVariants.{Plan};
 ghost use Rattle.report_reader.specs.Finding.{Finds, HasNo, Reads, TakesAll, TakesLine};
@@ -15,10 +15,10 @@ use crate::lines::Lines;
 use crate::objects::{copied, is_object};
 use std::alloc::{AllocError, Global};
 use task_model::Seq;
-use transcript_text::{Origin, Outcome};
+use transcript_model::{Origin, Outcome};
 
 /// The outcome behind its first line, with the last line of the report; None where a line may not stand.
-#[tactic(auto, using(crate::proofs::Stopping::last_stop))]
+#[tactic(auto, using(crate::proofs::BodyStopLemmas::last_stop))]
 pub(crate) fn outcome_in(
     alloc: Global,
     version: u8,
@@ -89,7 +89,7 @@ fn cost_in(fields: &mut Fields<'_>) -> Option<u64>
 }
 
 /// The origins, as far as there are lines of origins.
-#[tactic(auto, using(crate::proofs::Rows::many_all))]
+#[tactic(auto, using(crate::proofs::FindingLemmas::many_all))]
 fn origins_in(alloc: Global, version: u8, lines: &mut Lines<'_>) -> Result<Seq<Origin>, AllocError>
     ensures { IfOk result (λ from. TakesAll (IsFormedOrigin version) (from_line version) from lines.old lines.new) }
 {

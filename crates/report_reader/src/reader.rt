@@ -1,14 +1,14 @@
 //! How reports are read.
 ghost use Rattle.std.specs.Prelude.{◌≡◌, ◌↔◌, ◌<◌, ◌^◌, [], length, true, IfOk, IfErr};
 ghost use Rattle.gen_lines.specs.Lines.{unfinished};
-ghost use Rattle.transcript_text.specs.Faults.{IsTextFault};
-ghost use Rattle.transcript_text.specs.Forms.{IsFormed};
-ghost use Rattle.transcript_text.specs.Texts.{text_of_report};
+ghost use Rattle.report_text.specs.Faults.{IsTextFault};
+ghost use Rattle.report_text.specs.Forms.{IsFormed};
+ghost use Rattle.report_text.specs.Texts.{text_of_report};
 
 use crate::lines::Lines;
 use crate::whole::report_in;
 use std::alloc::Global;
-use transcript_text::{Report, ReportFault};
+use transcript_model::{Report, ReportFault};
 
 /// The kind of a fault of the text.
 const TEXT: u8 = 1;

@@ -2,7 +2,7 @@
 use crate::read_report;
 use std::alloc::{AllocError, Global};
 use std::test::Fail;
-use transcript_text::ReportFault;
+use transcript_model::ReportFault;
 
 /// The longest text of a test.
 const LONGEST: usize = 16_000_000;

@@ -1,7 +1,7 @@
 //! The tuples of an answer.
 ghost use Rattle.std.specs.Prelude.{◌≡◌, ◌≤◌, IfOk, length, count_by};
-ghost use Rattle.transcript_text.specs.Forms.{AreTuples};
-ghost use Rattle.transcript_text.specs.Texts.{tuple_fields};
+ghost use Rattle.report_text.specs.Forms.{AreTuples};
+ghost use Rattle.report_text.specs.Texts.{tuple_fields};
 ghost use Rattle.report_reader.specs.Finding.{Finds};
 ghost use Rattle.report_reader.specs.Tuples.{is_bar, AreBars, IsShape, TakesValues, TakesTuples};
 

@@ -1,7 +1,7 @@
 //! The whole of a report.
 ghost use Rattle.std.specs.Prelude.{IfOk};
-ghost use Rattle.transcript_text.specs.Forms.{IsFormed};
-ghost use Rattle.transcript_text.specs.Places.{first};
+ghost use Rattle.report_text.specs.Forms.{IsFormed};
+ghost use Rattle.report_text.specs.Places.{first};
 ghost use Rattle.report_reader.specs.Body.{lines_of_report};
 ghost use Rattle.report_reader.specs.Finding.{Reads};
 
@@ -10,7 +10,7 @@ use crate::head_reader::{First, Limits, next_first, next_limits, pools_in};
 use crate::lines::Lines;
 use crate::outcome_reader::outcome_in;
 use std::alloc::{AllocError, Global};
-use transcript_text::Report;
+use transcript_model::Report;
 
 /// The report in these lines, up to its last line; None where a line may not stand, which is the next one then.
 pub(crate) fn report_in(alloc: Global, lines: &mut Lines<'_>) -> Result<Option<Report>, AllocError>

@@ -2,8 +2,8 @@
 use Rattle.std.specs.Prelude.{◌≡◌, ℕ, ◌≤◌, ◌==◌, List, [], ◌∷◌, map, length, All, true, false, Option, None, if◌then◌else◌}
 use Rattle.std.specs.List.{filter_map}
 use Rattle.gen_lines.specs.Reply.{reply_of}
-use Rattle.task_model.specs.Lists.{AreDistinct}
-use Rattle.transcript_text.specs.declared.entry.Entry.{Entry}
+use Rattle.lemmas.specs.Lists.{AreDistinct}
+use Rattle.transcript_model.specs.declared.entry.Entry.{Entry}
 use Rattle.session_core.specs.Slots.{Slot, sent_slot, heard_slot, at_child, answers_of, all_answered, entry_of, reply_to, fault_of, IsUnsent, IsAwaited}
 
 -- a request is written whole to a child, or a whole line is taken from it

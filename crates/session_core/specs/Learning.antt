@@ -6,10 +6,10 @@ use Rattle.task_model.specs.Streams.{Note}
 use Rattle.task_model.specs.declared.stream.Instance.{Instance}
 use Rattle.task_model.specs.declared.stream.Stream.{Stream}
 use Rattle.task_model.specs.declared.task.Task.{Task}
-use Rattle.transcript_text.specs.Legal.{IsLegal, asks_of}
-use Rattle.transcript_text.specs.Transcript.{Asked}
-use Rattle.transcript_text.specs.declared.entry.Entry.{Entry}
-use Rattle.transcript_text.specs.declared.entry.Entry.TheVariants as entry
+use Rattle.transcript_model.specs.Legal.{IsLegal, asks_of}
+use Rattle.transcript_model.specs.Transcript.{Asked}
+use Rattle.transcript_model.specs.declared.entry.Entry.{Entry}
+use Rattle.transcript_model.specs.declared.entry.Entry.TheVariants as entry
 use Rattle.session_core.specs.Session.{Asks, is_answer}
 
 -- the number of the request that an entry answers, if it is an answer

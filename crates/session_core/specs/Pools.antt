@@ -2,7 +2,7 @@
 use Rattle.std.specs.Prelude.{◌≡◌, ℕ, ◌+◌, ◌≤◌, ◌<◌, ◌==◌, List, [], ◌∷◌, length, count_by, Bool, true, Option, None, Some, slice_get, nat_le, if◌then◌else◌}
 use Rattle.std.specs.List.{list_any, list_all}
 use Rattle.task_model.specs.declared.task.Task.{Task}
-use Rattle.transcript_text.specs.declared.head.Pool as pools
+use Rattle.transcript_model.specs.declared.head.Pool as pools
 use Rattle.session_core.specs.declared.pools.Workers.{Workers}
 
 -- what is kept of a pool

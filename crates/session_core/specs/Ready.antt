@@ -2,13 +2,13 @@
 use Rattle.std.specs.Prelude.{◌≡◌, ℕ, ◌+◌, ◌-◌, ◌≤◌, ◌<◌, List, map, length, take, drop, All, Bool, true, false, Contains}
 use Rattle.instance_queue.specs.Level.{instances_of}
 use Rattle.instance_queue.specs.declared.due.Due.{Due}
-use Rattle.task_model.specs.Lists.{AreDistinct}
+use Rattle.lemmas.specs.Lists.{AreDistinct}
 use Rattle.task_model.specs.Streams.{IsDue, yields_of}
 use Rattle.task_model.specs.declared.stream.Instance.{Instance}
 use Rattle.task_model.specs.declared.task.Task.{Task}
-use Rattle.transcript_text.specs.Rounds.{Share, fits, IsFull}
-use Rattle.transcript_text.specs.Transcript.{known_of, notes_of}
-use Rattle.transcript_text.specs.declared.entry.Entry.{Entry}
+use Rattle.transcript_model.specs.Rounds.{Share, fits, IsFull}
+use Rattle.transcript_model.specs.Transcript.{known_of, notes_of}
+use Rattle.transcript_model.specs.declared.entry.Entry.{Entry}
 use Rattle.session_core.specs.Pools.{fits_workers}
 use Rattle.session_core.specs.Slots.{streams_of}
 use Rattle.session_core.specs.State.{State}

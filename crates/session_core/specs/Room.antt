@@ -3,7 +3,7 @@ use Rattle.std.specs.Prelude.{ℕ, ◌*◌, ◌≤◌, Option, None, Some, if◌
 use Rattle.gen_lines.specs.Told.{IsNarrow}
 use Rattle.gen_lines.specs.declared.answer.Wanted.{Wanted}
 use Rattle.gen_lines.specs.declared.answer.Wanted.TheVariants.{Outputs, Number}
-use Rattle.transcript_text.specs.declared.entry.Entry.{Entry}
+use Rattle.transcript_model.specs.declared.entry.Entry.{Entry}
 
 -- the most values that an answer may have
 abbrev pub most_values : Wanted → ℕ

@@ -4,16 +4,16 @@ use Rattle.gen_lines.specs.Reply.{reply_of}
 use Rattle.instance_queue.specs.Level.{instances_of}
 use Rattle.instance_queue.specs.declared.due.Due.{Due}
 use Rattle.task_model.specs.Fit.{IsFit}
-use Rattle.task_model.specs.Lists.{AreDistinct}
+use Rattle.lemmas.specs.Lists.{AreDistinct}
 use Rattle.task_model.specs.Streams.{IsDue, yields_of}
 use Rattle.task_model.specs.declared.stream.Instance.{Instance}
 use Rattle.task_model.specs.declared.stream.Stream.{Stream}
 use Rattle.task_model.specs.declared.task.Task.{Task}
-use Rattle.transcript_text.specs.Legal.{IsLegal, HasNoneOpen, asks_of}
-use Rattle.transcript_text.specs.Transcript.{asked, names_of, known_of, notes_of}
-use Rattle.transcript_text.specs.declared.entry.Entry.{Entry}
-use Rattle.transcript_text.specs.declared.entry.Entry.TheVariants as entry
-use Rattle.transcript_text.specs.declared.head.Head.{Head}
+use Rattle.transcript_model.specs.Legal.{IsLegal, HasNoneOpen, asks_of}
+use Rattle.transcript_model.specs.Transcript.{asked, names_of, known_of, notes_of}
+use Rattle.transcript_model.specs.declared.entry.Entry.{Entry}
+use Rattle.transcript_model.specs.declared.entry.Entry.TheVariants as entry
+use Rattle.transcript_model.specs.declared.head.Head.{Head}
 use Rattle.session_core.specs.Pools.{workers_of, AreFitPools, FitWorkers}
 use Rattle.session_core.specs.Slots.{Slot, wanted_at, streams_of, asks_from, slots_from, entry_of}
 use Rattle.session_core.specs.State.{State, with_round, with_learnt}

@@ -10,10 +10,10 @@ use Rattle.gen_lines.specs.declared.answer.Why.{Why}
 use Rattle.instance_queue.specs.declared.due.Due.{Due}
 use Rattle.task_model.specs.declared.stream.Stream.{Stream}
 use Rattle.task_model.specs.declared.task.Task.{Task}
-use Rattle.transcript_text.specs.Legal.{has_several}
-use Rattle.transcript_text.specs.Names.{call_of_instance}
-use Rattle.transcript_text.specs.declared.entry.Entry.{Entry}
-use Rattle.transcript_text.specs.declared.entry.Entry.TheVariants as entry
+use Rattle.transcript_model.specs.Legal.{has_several}
+use Rattle.transcript_model.specs.Names.{call_of_instance}
+use Rattle.transcript_model.specs.declared.entry.Entry.{Entry}
+use Rattle.transcript_model.specs.declared.entry.Entry.TheVariants as entry
 use Rattle.session_core.specs.Pools.{child_for}
 use Rattle.session_core.specs.declared.pools.Workers.{Workers}
 

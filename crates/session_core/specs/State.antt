@@ -1,10 +1,10 @@
 -- What a session shows.
 use Rattle.std.specs.Prelude.{◌≡◌, ℕ, ◌+◌, ◌≤◌, List, [], ◌∷◌, ◌++◌, map, length, Bool, true, false}
 use Rattle.task_model.specs.Known.{Known}
-use Rattle.task_model.specs.Lists.{AreDistinct}
+use Rattle.lemmas.specs.Lists.{AreDistinct}
 use Rattle.task_model.specs.Streams.{Note}
 use Rattle.task_model.specs.declared.stream.Instance.{Instance}
-use Rattle.transcript_text.specs.declared.entry.Entry.{Entry}
+use Rattle.transcript_model.specs.declared.entry.Entry.{Entry}
 use Rattle.session_core.specs.Slots.{Slot, sent_slot, heard_slot, at_child, answers_of}
 use Rattle.session_core.specs.declared.pools.Workers.{Workers}
 

@@ -3,14 +3,14 @@ ghost use Rattle.std.specs.Prelude.{◌≡◌, ◌≤◌, None, true, false, len
 ghost use Rattle.gen_lines.specs.Reply.{reply_of, yields};
 ghost use Rattle.gen_lines.specs.Told.{IsNarrow, SpansLieIn, texts};
 ghost use Rattle.gen_lines.specs.declared.answer.Answer.TheVariants as answer;
-ghost use Rattle.transcript_text.specs.declared.entry.Entry.TheVariants as entry;
+ghost use Rattle.transcript_model.specs.declared.entry.Entry.TheVariants as entry;
 ghost use Rattle.session_core.specs.Room.{most_values, HasRoom};
 
 use crate::room::Room;
 use gen_lines::{Answer, Spans, Wanted, Why, answer_of};
 use std::alloc::{AllocError, Global};
 use std::marker::Model;
-use transcript_text::Entry;
+use transcript_model::Entry;
 
 /// One due of the open round. It is seen as a slot of the round.
 #[derive(Drop)]

@@ -1,9 +1,9 @@
 //! What answers certify, put behind what is known, and what they tell, put behind the notes.
 ghost use Rattle.std.specs.Prelude.{◌≡◌, ◌≤◌, ◌+◌, ◌<◌, ◌++◌, [], length, take, replicate, OnOk};
 ghost use Rattle.task_model.specs.Streams.{Yielded};
-ghost use Rattle.transcript_text.specs.Laws.{known_with, notes_with};
-ghost use Rattle.transcript_text.specs.Transcript.{known_of, notes_of};
-ghost use Rattle.transcript_text.specs.declared.entry.Entry.TheVariants as entry;
+ghost use Rattle.transcript_model.specs.Laws.{known_with, notes_with};
+ghost use Rattle.transcript_model.specs.Transcript.{known_of, notes_of};
+ghost use Rattle.transcript_model.specs.declared.entry.Entry.TheVariants as entry;
 ghost use Rattle.session_core.specs.Learning.{MayLearn, CanLearn, number_of};
 
 use certify::{learn_tuple, learn_value};
@@ -11,7 +11,7 @@ use fact_store::Facts;
 use instance_queue::Queue;
 use std::alloc::{AllocError, Global};
 use task_model::{Instance, Name, Stream, Task};
-use transcript_text::Entry;
+use transcript_model::Entry;
 
 /// The number of the request that the entry answers, if it is an answer.
 fn answered(entry: &Entry) -> Option<u32>

@@ -8,7 +8,7 @@ ghost use Rattle.session_core.specs.Slots.{streams_of};
 use instance_queue::Due;
 use std::alloc::{AllocError, Global};
 use task_model::Seq;
-use transcript_text::Pool;
+use transcript_model::Pool;
 
 /// What is kept of a pool: its children, and the streams that they answer for.
 #[derive(Drop)]

@@ -4,7 +4,7 @@ ghost use Rattle.gen_lines.specs.Request.{IsNamed};
 ghost use Rattle.gen_lines.specs.Told.{IsNarrow};
 ghost use Rattle.instance_queue.specs.Level.{instances_of};
 ghost use Rattle.task_model.specs.Fit.{IsFit};
-ghost use Rattle.transcript_text.specs.Names.{call_of_instance};
+ghost use Rattle.transcript_model.specs.Names.{call_of_instance};
 ghost use Rattle.session_core.specs.Pools.{child_for};
 ghost use Rattle.session_core.specs.Slots.{wanted_at, ask_for as ask_of, asks_from, slots_from, slot_for, streams_of, answers_of, slot_of, all_answered};
 ghost use Rattle.session_core.specs.Slots.{AreFitChildren};
@@ -17,7 +17,7 @@ use gen_lines::{Wanted, request_text};
 use instance_queue::Due;
 use std::alloc::{AllocError, Global};
 use task_model::{Instance, Look, Name, Obj, Seq, Task};
-use transcript_text::{Call, Entry};
+use transcript_model::{Call, Entry};
 
 /// The requests of a round as entries, their instances, and what is heard, side by side.
 #[derive(Drop)]

@@ -9,7 +9,7 @@ use std::alloc::{AllocError, Global};
 use std::marker::Model;
 use std::mem;
 use task_model::{Instance, Task};
-use transcript_text::{Entry, Head};
+use transcript_model::{Entry, Head};
 
 /// A transcript as it grows: rounds of requests, their answers, and what is known by them. It is a state machine that knows
 /// no child and no bytes but those that it is told.
@@ -53,9 +53,9 @@ impl Session {
     ghost use Rattle.instance_queue.specs.declared.due.Due.{Due as AnyDue};
     ghost use Rattle.task_model.specs.Fit.{IsFit};
     ghost use Rattle.task_model.specs.declared.task.Task.{Task as AnyTask};
-    ghost use Rattle.transcript_text.specs.Laws.{is_mark};
-    ghost use Rattle.transcript_text.specs.Legal.{asks_of};
-    ghost use Rattle.transcript_text.specs.Transcript.{known_of, notes_of};
+    ghost use Rattle.transcript_model.specs.Laws.{is_mark};
+    ghost use Rattle.transcript_model.specs.Legal.{asks_of};
+    ghost use Rattle.transcript_model.specs.Transcript.{known_of, notes_of};
     ghost use Rattle.session_core.specs.Events.{IsFresh};
     ghost use Rattle.session_core.specs.Heard.{heard_at, is_bad_at, number_at};
     ghost use Rattle.session_core.specs.Ready.{AreReady, IsNextRound};

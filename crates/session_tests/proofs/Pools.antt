@@ -2,7 +2,7 @@
 use Rattle.std.proofs.Common.{◌≡◌, ℕ, zero, suc, ◌+◌, ◌≤◌, ◌<◌, ◌==◌, ◌||◌, Bool, true, false, [], ◌∷◌, ◌++◌, length, refl, sym, ap, subst, ◌∙◌, arith, Some, None, cond, slice_get}
 use Rattle.std.proofs.lemmas.Bool.{eqb-false}
 use Rattle.std.specs.List.{list_any}
-use Rattle.task_model.specs.Lists.{numbers_from}
+use Rattle.lemmas.specs.Lists.{numbers_from}
 use Rattle.task_model.specs.declared.task.Task.{Task}
 use Rattle.session_core.specs.Pools.{AreFitPools, serves, server}
 use Rattle.session_core.specs.declared.pools.Workers.{Workers}

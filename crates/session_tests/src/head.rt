@@ -1,12 +1,12 @@
 //! What a run is given besides its task, with one pool.
 ghost use Rattle.std.specs.Prelude.{◌≡◌, ◌≤◌, ◌∷◌, [], length, IfOk};
 ghost use Rattle.session_core.specs.Session.{IsFitHead};
-ghost use Rattle.task_model.specs.Lists.{numbers_from};
+ghost use Rattle.lemmas.specs.Lists.{numbers_from};
 
 use planning_tests::build::none;
 use std::alloc::{AllocError, Global};
 use task_model::{Seq, Task};
-use transcript_text::{Head, Mode, Pool};
+use transcript_model::{Head, Mode, Pool};
 
 /// The streams of the task.
 fn streams(alloc: Global, task: &Task) -> Result<Seq<u32>, AllocError>

@@ -11,7 +11,7 @@ use session_core::{CoreFault, Heard, Session};
 use std::alloc::Global;
 use std::test::Fail;
 use task_model::Task;
-use transcript_text::Entry;
+use transcript_model::Entry;
 
 /// A session whose first round of two children is open.
 fn opened(alloc: Global, task: &Task) -> Result<Box<Session>, Fault>

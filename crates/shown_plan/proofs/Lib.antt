@@ -1,6 +1,6 @@
-pub mod Listed
-pub mod Ordered
-pub mod Searched
-pub mod Told
-pub mod Tuples
-pub mod Valid
+pub mod NameListLemmas
+pub mod SourcesOrderLemmas
+pub mod SourcesLemmas
+pub mod SourcesYieldLemmas
+pub mod TupleLemmas
+pub mod ShownLemmas

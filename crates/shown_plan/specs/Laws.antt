@@ -4,11 +4,11 @@ use Rattle.task_model.specs.Known.{Known, IsCoherent}
 use Rattle.task_model.specs.Plans.{IsValid}
 use Rattle.task_model.specs.declared.task.GroundAction.{GroundAction}
 use Rattle.task_model.specs.declared.task.Task.{Task}
-use Rattle.transcript_text.specs.Outcomes.{IsTrueOutcome}
-use Rattle.transcript_text.specs.Rounds.{Limits}
-use Rattle.transcript_text.specs.Transcript.{known_of}
-use Rattle.transcript_text.specs.declared.entry.Entry.{Entry}
-use Rattle.transcript_text.specs.declared.outcome.Outcome.{Outcome}
+use Rattle.transcript_model.specs.Outcomes.{IsTrueOutcome}
+use Rattle.transcript_model.specs.Rounds.{Limits}
+use Rattle.transcript_model.specs.Transcript.{known_of}
+use Rattle.transcript_model.specs.declared.entry.Entry.{Entry}
+use Rattle.transcript_model.specs.declared.outcome.Outcome.{Outcome}
 use Rattle.shown_plan.specs.Shown.{AreNamedSteps, ShowsPlan}
 
 -- The steps of a valid plan have actions of the task and objects with names.

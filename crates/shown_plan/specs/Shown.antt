@@ -3,14 +3,14 @@ use Rattle.std.specs.Prelude.{◌≡◌, ℕ, ◌<◌, List, map, length, All}
 use Rattle.task_model.specs.Known.{IsIn}
 use Rattle.task_model.specs.declared.task.GroundAction.{GroundAction}
 use Rattle.task_model.specs.declared.task.Task.{Task}
-use Rattle.transcript_text.specs.Calls.{call_of_step}
-use Rattle.transcript_text.specs.Outcomes.{AreOrigins}
-use Rattle.transcript_text.specs.Transcript.{names_of}
-use Rattle.transcript_text.specs.declared.entry.Call.{Call}
-use Rattle.transcript_text.specs.declared.entry.Entry.{Entry}
-use Rattle.transcript_text.specs.declared.outcome.Origin.{Origin}
-use Rattle.transcript_text.specs.declared.outcome.Outcome.{Outcome}
-use Rattle.transcript_text.specs.declared.outcome.Outcome.TheVariants as outcome
+use Rattle.transcript_model.specs.Calls.{call_of_step}
+use Rattle.transcript_model.specs.Outcomes.{AreOrigins}
+use Rattle.transcript_model.specs.Transcript.{names_of}
+use Rattle.transcript_model.specs.declared.entry.Call.{Call}
+use Rattle.transcript_model.specs.declared.entry.Entry.{Entry}
+use Rattle.transcript_model.specs.declared.outcome.Origin.{Origin}
+use Rattle.transcript_model.specs.declared.outcome.Outcome.{Outcome}
+use Rattle.transcript_model.specs.declared.outcome.Outcome.TheVariants as outcome
 
 -- each step's action is one of the task's, and its objects are in the table of names
 pub record AreNamedSteps (task : Task) (names : List (List ℕ)) (steps : List GroundAction) : Type 0 where

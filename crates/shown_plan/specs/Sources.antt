@@ -2,11 +2,11 @@
 use Rattle.std.specs.Prelude.{◌≡◌, ℕ, ◌*◌, ◌≤◌, List, [], ◌∷◌, length, Bool, true, false, ◌==◌, Contains, Option, Some, IfSome, IfNone}
 use Rattle.std.specs.List.{list_any}
 use Rattle.task_model.specs.Known.{same_numbers}
-use Rattle.transcript_text.specs.Names.{generated}
-use Rattle.transcript_text.specs.Outcomes.{has_value, tuple_with}
-use Rattle.transcript_text.specs.declared.entry.Call.{Call}
-use Rattle.transcript_text.specs.declared.entry.Entry.{Entry}
-use Rattle.transcript_text.specs.declared.entry.Entry.TheVariants as entry
+use Rattle.transcript_model.specs.Names.{generated}
+use Rattle.transcript_model.specs.Outcomes.{has_value, tuple_with}
+use Rattle.transcript_model.specs.declared.entry.Call.{Call}
+use Rattle.transcript_model.specs.declared.entry.Entry.{Entry}
+use Rattle.transcript_model.specs.declared.entry.Entry.TheVariants as entry
 use Rattle.shown_plan.specs.declared.source.Source.{Source}
 
 -- the name of a generated object begins with `#`

@@ -6,7 +6,7 @@ ghost use Rattle.task_model.specs.Known.{same_numbers};
 use std::alloc::{AllocError, Global};
 use std::collections::BTreeSet;
 use task_model::Name;
-use transcript_text::Call;
+use transcript_model::Call;
 
 /// Whether the name is that of a generated object: it begins with `#`.
 fn begins_with_hash(name: &[u8]) -> bool

@@ -3,15 +3,15 @@ ghost use Rattle.std.specs.Prelude.{◌≡◌, map, All, Contains, IfOk};
 ghost use Rattle.std.specs.Ordering.{nat_cmp};
 ghost use Rattle.std.specs.Cmp.Lexicographic.{slice_cmp};
 ghost use Rattle.shown_plan.specs.Sources.{IsEven, IsGiven};
-ghost use Rattle.task_model.specs.Lists.{AreAscending};
-ghost use Rattle.transcript_text.specs.Outcomes.{IsOrigin};
-ghost use Rattle.transcript_text.specs.declared.outcome.Origin.{Origin};
+ghost use Rattle.lemmas.specs.Lists.{AreAscending};
+ghost use Rattle.transcript_model.specs.Outcomes.{IsOrigin};
+ghost use Rattle.transcript_model.specs.declared.outcome.Origin.{Origin};
 
 use crate::source::{Source, source_of};
 use std::alloc::{AllocError, Global};
 use std::collections::BTreeSet;
 use task_model::{Name, Seq};
-use transcript_text::{Entry, Origin};
+use transcript_model::{Entry, Origin};
 
 /// The tuple that the report shows: 1 in version 1.
 fn shown_tuple(version: u8, source: Source) -> u8

@@ -2,15 +2,15 @@
 ghost use Rattle.std.specs.Prelude.{◌≡◌, IfOk};
 ghost use Rattle.shown_plan.specs.Shown.{AreNamedSteps, ShowsPlan};
 ghost use Rattle.task_model.specs.Fit.{IsFit};
-ghost use Rattle.transcript_text.specs.Legal.{IsLegal};
-ghost use Rattle.transcript_text.specs.Transcript.{names_of};
+ghost use Rattle.transcript_model.specs.Legal.{IsLegal};
+ghost use Rattle.transcript_model.specs.Transcript.{names_of};
 
 use crate::names::generated_names;
 use crate::origins::origins_of;
 use crate::steps::name_steps;
 use std::alloc::{AllocError, Global};
 use task_model::{GroundAction, Look, Task};
-use transcript_text::{Entry, Outcome};
+use transcript_model::{Entry, Outcome};
 
 /// The outcome of a run that found this plan of this cost: the steps with the names of their actions and objects,
 /// and each generated object of them once, in order of bytes, with the least request whose answer has its value.

@@ -3,11 +3,11 @@ ghost use Rattle.std.specs.Prelude.{◌≡◌, ◌≤◌, ℕ, ◌*◌, ◌/◌,
 ghost use Rattle.std.specs.List.{list_any, position};
 ghost use Rattle.shown_plan.specs.Sources.{IsBest, IsEven, IsSourceIn, is_among};
 ghost use Rattle.task_model.specs.Known.{same_numbers};
-ghost use Rattle.transcript_text.specs.Outcomes.{has_value};
-ghost use Rattle.transcript_text.specs.Transcript.{tuples_in};
+ghost use Rattle.transcript_model.specs.Outcomes.{has_value};
+ghost use Rattle.transcript_model.specs.Transcript.{tuples_in};
 
 use task_model::Name;
-use transcript_text::Entry;
+use transcript_model::Entry;
 
 /// A request, and a tuple of its answer, both from 1.
 #[derive(Clone, Copy)]

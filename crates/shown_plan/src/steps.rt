@@ -3,11 +3,11 @@ ghost use Rattle.std.specs.Prelude.{◌≡◌, ◌<◌, map, length, All, IfOk};
 ghost use Rattle.shown_plan.specs.Shown.{AreNamedSteps};
 ghost use Rattle.task_model.specs.Known.{IsIn};
 ghost use Rattle.task_model.specs.Streams.{name_at};
-ghost use Rattle.transcript_text.specs.Calls.{call_of_step};
+ghost use Rattle.transcript_model.specs.Calls.{call_of_step};
 
 use std::alloc::{AllocError, Global};
 use task_model::{GroundAction, Look, Name, Obj, Seq, Task};
-use transcript_text::Call;
+use transcript_model::Call;
 
 /// The names of the objects.
 fn name_objects<L: Look>(alloc: Global, look: &L, objects: &[Obj]) -> Result<Seq<Name>, AllocError>

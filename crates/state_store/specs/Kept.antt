@@ -1,6 +1,6 @@
 -- What holds of the states of a store.
 use Rattle.std.specs.Prelude.{◌≤◌, List, length}
-use Rattle.task_model.specs.Lists.{AreDistinct}
+use Rattle.lemmas.specs.Lists.{AreDistinct}
 use Rattle.task_model.specs.State.{Atoms}
 
 -- They are distinct, and few enough to be numbered.

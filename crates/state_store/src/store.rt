@@ -1,6 +1,6 @@
 //! A list of distinct states.
 ghost use Rattle.std.specs.Prelude.{◌≡◌, ◌<◌, ◌↔◌, ◌++◌, ◌∷◌, [], length, Contains, IsTrue, IfOk, IfSome, IfNone, OnErr, Some, slice_get, if◌then◌else◌};
-ghost use Rattle.task_model.specs.Lists.{AreDistinct};
+ghost use Rattle.lemmas.specs.Lists.{AreDistinct};
 
 use crate::same::same_state;
 use std::alloc::{AllocError, Global};

@@ -11,9 +11,9 @@ use Rattle.form_reader.specs.declared.keys.Keyed.{Keyed}
 use Rattle.form_reader.specs.declared.keys.Keyed.TheVariants.{Stream, CostStream}
 use Rattle.form_reader.specs.Faults.{shape, unsupported}
 use Rattle.form_reader.specs.Keys.{by_key, cost_stream_key_of, has_word, key_of, keys_faults, stream_key_of, value_faults, valued_faults}
-use Rattle.name_reader.specs.declared.vocabulary.Vocabulary.{Vocabulary}
-use Rattle.name_reader.proofs.NoFaults.{some_fault}
-use Rattle.name_reader.proofs.Parted.{none_both}
+use Rattle.name_tables.specs.declared.vocabulary.Vocabulary.{Vocabulary}
+use Rattle.name_tables.proofs.NoFaultLemmas.{some_fault}
+use Rattle.name_tables.proofs.Parted.{none_both}
 use Rattle.stream_reader.specs.declared.tables.Scopes.{Scopes}
 use Rattle.stream_reader.specs.Names.{keys_names, value_names}
 use Rattle.stream_reader.specs.Tables.{value_at}

@@ -14,18 +14,18 @@ use Rattle.form_reader.specs.declared.fault.InputKind.TheVariants.{EffectOnStati
 use Rattle.form_reader.specs.declared.words.WordSort.TheVariants.{Predicate, Term}
 use Rattle.form_reader.specs.Atoms.{atom_rows_faults, atoms_faults}
 use Rattle.form_reader.specs.Rows.{application_faults}
-use Rattle.name_reader.specs.Names.{place_of}
-use Rattle.name_reader.specs.Terms.{application_names, declared_place, terms_names, terms_of, use_names, width}
-use Rattle.name_reader.specs.Variables.{unless}
-use Rattle.name_reader.specs.Vocabulary.{arity_of}
-use Rattle.name_reader.specs.declared.vocabulary.Vocabulary.{Vocabulary}
-use Rattle.name_reader.proofs.FitTerms.{AreFilled, application_fits}
-use Rattle.name_reader.proofs.Members.{all_append}
-use Rattle.name_reader.proofs.NoFaults.{met}
-use Rattle.name_reader.proofs.Parted.{none_both}
-use Rattle.name_reader.proofs.Usable.{IsUsable, place_some, usable}
-use Rattle.name_reader.proofs.Vocabularies.{listed, role_at, used_inside}
-use Rattle.stream_reader.proofs.KnownNames.{AreKnown}
+use Rattle.name_tables.specs.Names.{place_of}
+use Rattle.name_tables.specs.Terms.{application_names, declared_place, terms_names, terms_of, use_names, width}
+use Rattle.name_tables.specs.Variables.{unless}
+use Rattle.name_tables.specs.Vocabulary.{arity_of}
+use Rattle.name_tables.specs.declared.vocabulary.Vocabulary.{Vocabulary}
+use Rattle.name_tables.proofs.FitTerms.{AreFilled, application_fits}
+use Rattle.name_tables.proofs.Members.{all_append}
+use Rattle.name_tables.proofs.NoFaultLemmas.{met}
+use Rattle.name_tables.proofs.Parted.{none_both}
+use Rattle.name_tables.proofs.NamesUseLemmas.{IsUsable, place_some, usable}
+use Rattle.name_tables.proofs.VocabularyLemmas.{listed, role_at, used_inside}
+use Rattle.stream_reader.proofs.TablesDomainLemmas.{AreKnown}
 use Rattle.stream_reader.specs.Atoms.{atom_names, atom_rows_names, atoms_names, is_changing, pattern_of, patterns_of, role_at as role_found, row_patterns}
 
 -- ---- how many

@@ -3,7 +3,7 @@ use Rattle.std.proofs.Common.{◌≡◌, ℕ, ◌+◌, ◌≤◌, Bool, true, fa
 use Rattle.std.proofs.lemmas.Bool.{and_from, eqb-false, le-leb, not-true}
 use Rattle.sexpr_text.specs.Trees.{Trees, nothing, word, list, size}
 use Rattle.task_model.specs.Fit.{IsFitDomain, are_places, is_fit_application, is_fit_stream, is_fit_worth}
-use Rattle.task_model.specs.Lists.{numbers_from}
+use Rattle.lemmas.specs.Lists.{numbers_from}
 use Rattle.task_model.specs.declared.domain.Domain.{Domain}
 use Rattle.task_model.specs.declared.stream.Stream as stream
 use Rattle.task_model.specs.declared.stream.Worth.{Worth}
@@ -16,13 +16,13 @@ use Rattle.form_reader.specs.declared.keys.Keyed.TheVariants as keyed
 use Rattle.form_reader.specs.Atoms.{atoms_faults}
 use Rattle.form_reader.specs.Keys.{has_word, keys_faults, stream_atoms_faults}
 use Rattle.form_reader.specs.Rows.{after_word, head_of, tail_of}
-use Rattle.name_reader.specs.Terms.{declared_place, terms_of}
-use Rattle.name_reader.specs.Variables.{is_named, named_sorts, named_words, types_names, unless}
-use Rattle.name_reader.specs.declared.vocabulary.Vocabulary.{Vocabulary}
-use Rattle.name_reader.proofs.FitGroups.{few_places, sorts_as_long}
-use Rattle.name_reader.proofs.FitTerms.{AreFilled, filled_first}
-use Rattle.name_reader.proofs.NoFaults.{met, none_second}
-use Rattle.name_reader.proofs.Parted.{none_both}
+use Rattle.name_tables.specs.Terms.{declared_place, terms_of}
+use Rattle.name_tables.specs.Variables.{is_named, named_sorts, named_words, types_names, unless}
+use Rattle.name_tables.specs.declared.vocabulary.Vocabulary.{Vocabulary}
+use Rattle.name_tables.proofs.FitGroups.{few_places, sorts_as_long}
+use Rattle.name_tables.proofs.FitTerms.{AreFilled, filled_first}
+use Rattle.name_tables.proofs.NoFaultLemmas.{met, none_second}
+use Rattle.name_tables.proofs.Parted.{none_both}
 use Rattle.stream_reader.specs.declared.tables.Scopes.{Scopes}
 use Rattle.stream_reader.specs.Atoms.{atoms_names, patterns_of}
 use Rattle.stream_reader.specs.Names.{keys_names, ninth_names, variables_names}
@@ -30,7 +30,7 @@ use Rattle.stream_reader.specs.Streams.{stream_of}
 use Rattle.stream_reader.specs.Tables.{scopes_of, value_at}
 use Rattle.stream_reader.proofs.FitKeys.{IsThere, IsValue, cost_certified, cost_domain, cost_inputs, cost_outputs, cost_value, find, stream_certified, stream_domain, stream_inputs, stream_outputs}
 use Rattle.stream_reader.proofs.FitWorth.{worth_fit}
-use Rattle.stream_reader.proofs.KnownNames.{AreKnown}
+use Rattle.stream_reader.proofs.TablesDomainLemmas.{AreKnown}
 use Rattle.stream_reader.proofs.FitPatterns.{AreGood, atoms_good, patterns_fit, patterns_length}
 
 -- ---- inputs and outputs

@@ -23,21 +23,21 @@ use Rattle.form_reader.specs.Keys.{has_word, keyed_faults, keys_faults, missing_
 use Rattle.form_reader.specs.Rows.{head_of, inner_of, tail_of}
 use Rattle.form_reader.specs.Texts.{form_faults}
 use Rattle.form_reader.specs.Words.{is_of}
-use Rattle.name_reader.specs.Sizes.{IsBounded}
-use Rattle.name_reader.specs.declared.vocabulary.Vocabulary.{Vocabulary}
-use Rattle.name_reader.proofs.Members.{all_append}
-use Rattle.name_reader.proofs.NoFaults.{chosen, some_fault}
-use Rattle.name_reader.proofs.Parted.{none_both}
-use Rattle.name_reader.proofs.Titles.{titled}
+use Rattle.name_tables.specs.Sizes.{IsBounded}
+use Rattle.name_tables.specs.declared.vocabulary.Vocabulary.{Vocabulary}
+use Rattle.name_tables.proofs.Members.{all_append}
+use Rattle.name_tables.proofs.NoFaultLemmas.{chosen, some_fault}
+use Rattle.name_tables.proofs.Parted.{none_both}
+use Rattle.name_tables.proofs.TitleLemmas.{titled}
 use Rattle.stream_reader.specs.Fitness.{AreFitOver}
 use Rattle.stream_reader.specs.Names.{item_names, items_names, keys_names, repeated_names, second_streams, second_variables, stream_names}
 use Rattle.stream_reader.specs.Reading.{AreRead, Reads, spelled}
 use Rattle.stream_reader.specs.Streams.{item_streams, stream_of, streams_of}
 use Rattle.stream_reader.specs.Tables.{body_of, kind_of, scopes_of, stream_kind, vocabulary_of}
 use Rattle.stream_reader.proofs.FitStream.{cost_fit, stream_fit}
-use Rattle.stream_reader.proofs.FreeWays.{acyclic}
-use Rattle.stream_reader.proofs.KnownNames.{AreKnown, names_are}
-use Rattle.stream_reader.proofs.NewNames.{names_distinct, stream_names as names_of_streams}
+use Rattle.stream_reader.proofs.FitCycles.{acyclic}
+use Rattle.stream_reader.proofs.TablesDomainLemmas.{AreKnown, names_are}
+use Rattle.stream_reader.proofs.FitNames.{names_distinct, stream_names as names_of_streams}
 
 -- ---- how many
 

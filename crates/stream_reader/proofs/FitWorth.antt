@@ -5,7 +5,7 @@ use Rattle.std.proofs.lemmas.Bool.{and_from, cases_Bool}
 use Rattle.std.proofs.lemmas.Option.{slice_get_within}
 use Rattle.std.proofs.lemmas.Slice.Eq.{bytes_eq-Decides}
 use Rattle.sexpr_text.specs.Trees.{Trees, nothing, word, list}
-use Rattle.task_model.proofs.Members.{push_cases}
+use Rattle.lemmas.proofs.Members.{push_cases}
 use Rattle.task_model.specs.Fit.{is_fit_application}
 use Rattle.task_model.specs.declared.domain.Domain.{Domain}
 use Rattle.task_model.specs.declared.domain.Signature.{Signature}
@@ -15,19 +15,19 @@ use Rattle.form_reader.specs.Atoms.{is_total_cost_alone, worth_faults}
 use Rattle.form_reader.specs.Effects.{is_total_cost}
 use Rattle.form_reader.specs.Faults.{shape, unsupported}
 use Rattle.form_reader.specs.Rows.{application_faults, head_of, tail_of}
-use Rattle.name_reader.specs.Names.{Signed, has_name}
-use Rattle.name_reader.specs.Terms.{application_names, declared_place, terms_names, terms_of, use_names, width}
-use Rattle.name_reader.specs.Variables.{unless}
-use Rattle.name_reader.specs.Vocabulary.{arity_at, arity_of}
-use Rattle.name_reader.specs.declared.vocabulary.Vocabulary.{Vocabulary}
-use Rattle.name_reader.proofs.FitTerms.{AreFilled, application_fits}
-use Rattle.name_reader.proofs.Members.{any_at}
-use Rattle.name_reader.proofs.NoFaults.{some_fault}
-use Rattle.name_reader.proofs.Parted.{none_both}
-use Rattle.name_reader.proofs.Usable.{IsUsable, place_holds, place_push, place_some, usable}
-use Rattle.name_reader.proofs.Vocabularies.{AreSigned}
-use Rattle.name_reader.proofs.Vocabularies as vocabularies
-use Rattle.stream_reader.proofs.KnownNames.{AreKnown, listed, signature_arities, signature_names}
+use Rattle.name_tables.specs.Names.{Signed, has_name}
+use Rattle.name_tables.specs.Terms.{application_names, declared_place, terms_names, terms_of, use_names, width}
+use Rattle.name_tables.specs.Variables.{unless}
+use Rattle.name_tables.specs.Vocabulary.{arity_at, arity_of}
+use Rattle.name_tables.specs.declared.vocabulary.Vocabulary.{Vocabulary}
+use Rattle.name_tables.proofs.FitTerms.{AreFilled, application_fits}
+use Rattle.name_tables.proofs.Members.{any_at}
+use Rattle.name_tables.proofs.NoFaultLemmas.{some_fault}
+use Rattle.name_tables.proofs.Parted.{none_both}
+use Rattle.name_tables.proofs.NamesUseLemmas.{IsUsable, place_holds, place_push, place_some, usable}
+use Rattle.name_tables.proofs.VocabularyLemmas.{AreSigned}
+use Rattle.name_tables.proofs.VocabularyLemmas as vocabularies
+use Rattle.stream_reader.proofs.TablesDomainLemmas.{AreKnown, listed, signature_arities, signature_names}
 
 -- ---- the total cost alone is refused
 

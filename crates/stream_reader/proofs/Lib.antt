@@ -1,11 +1,11 @@
-pub mod Rounds
-pub mod Leasts
-pub mod Nexts
+pub mod CyclesLemmas
+pub mod ReadingLeastLemmas
+pub mod CyclesNextLemmas
 pub mod FitKeys
 pub mod FitPatterns
 pub mod FitStream
 pub mod FitStreams
 pub mod FitWorth
-pub mod FreeWays
-pub mod KnownNames
-pub mod NewNames
+pub mod FitCycles
+pub mod TablesDomainLemmas
+pub mod FitNames

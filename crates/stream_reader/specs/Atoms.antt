@@ -8,10 +8,10 @@ use Rattle.task_model.specs.declared.domain.Role.TheVariants.{Static, Fluent, De
 use Rattle.form_reader.specs.declared.fault.Fault.{Fault}
 use Rattle.form_reader.specs.declared.fault.InputKind.TheVariants.{EffectOnStatic}
 use Rattle.form_reader.specs.Rows.{head_of, tail_of}
-use Rattle.name_reader.specs.Names.{place_of}
-use Rattle.name_reader.specs.Terms.{application_names, declared_place, terms_of}
-use Rattle.name_reader.specs.Variables.{unless}
-use Rattle.name_reader.specs.declared.vocabulary.Vocabulary.{Vocabulary}
+use Rattle.name_tables.specs.Names.{place_of}
+use Rattle.name_tables.specs.Terms.{application_names, declared_place, terms_of}
+use Rattle.name_tables.specs.Variables.{unless}
+use Rattle.name_tables.specs.declared.vocabulary.Vocabulary.{Vocabulary}
 
 -- whether actions or rules change the atoms of a predicate with this role, if it is there
 abbrev pub is_changing : Option Role → Bool

@@ -8,7 +8,7 @@ use Rattle.form_reader.specs.declared.fault.Fault.{Fault}
 use Rattle.form_reader.specs.declared.fault.InputKind.TheVariants.{StreamCycle}
 use Rattle.form_reader.specs.declared.keys.Keyed.{Keyed}
 use Rattle.form_reader.specs.Faults.{first, sooner}
-use Rattle.name_reader.specs.Graphs.{HasWay, IsCyclic}
+use Rattle.name_tables.specs.Graphs.{HasWay, IsCyclic}
 use Rattle.stream_reader.specs.Tables.{kind_of}
 use Rattle.stream_reader.specs.declared.cycles.Candidate.{Candidate}
 

@@ -11,10 +11,10 @@ use Rattle.form_reader.specs.declared.keys.Key.TheVariants as key
 use Rattle.form_reader.specs.declared.keys.Keyed.{Keyed}
 use Rattle.form_reader.specs.Keys.{key_of}
 use Rattle.form_reader.specs.Rows.{after_word, head_of, tail_of}
-use Rattle.name_reader.specs.Names.{has_name, with_name}
-use Rattle.name_reader.specs.Terms.{application_names}
-use Rattle.name_reader.specs.Variables.{doubles_names, is_named, seen_after, types_names, unless}
-use Rattle.name_reader.specs.declared.vocabulary.Vocabulary.{Vocabulary}
+use Rattle.name_tables.specs.Names.{has_name, with_name}
+use Rattle.name_tables.specs.Terms.{application_names}
+use Rattle.name_tables.specs.Variables.{doubles_names, is_named, seen_after, types_names, unless}
+use Rattle.name_tables.specs.declared.vocabulary.Vocabulary.{Vocabulary}
 use Rattle.stream_reader.specs.declared.tables.Scopes.{Scopes}
 use Rattle.stream_reader.specs.Atoms.{atoms_names}
 use Rattle.stream_reader.specs.Tables.{keys_of, kind_of, scopes_of}

@@ -7,9 +7,9 @@ use Rattle.form_reader.specs.declared.groups.Spot.TheVariants.{Start}
 use Rattle.form_reader.specs.declared.keys.Keyed.{Keyed}
 use Rattle.form_reader.specs.declared.keys.Keyed.TheVariants as keyed
 use Rattle.form_reader.specs.Rows.{head_of, tail_of}
-use Rattle.name_reader.specs.Terms.{declared_place, terms_of}
-use Rattle.name_reader.specs.Variables.{named_sorts}
-use Rattle.name_reader.specs.declared.vocabulary.Vocabulary.{Vocabulary}
+use Rattle.name_tables.specs.Terms.{declared_place, terms_of}
+use Rattle.name_tables.specs.Variables.{named_sorts}
+use Rattle.name_tables.specs.declared.vocabulary.Vocabulary.{Vocabulary}
 use Rattle.stream_reader.specs.Atoms.{patterns_of}
 use Rattle.stream_reader.specs.Tables.{kind_of, scopes_of, value_at}
 

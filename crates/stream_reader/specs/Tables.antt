@@ -14,9 +14,9 @@ use Rattle.form_reader.specs.declared.keys.Keyed.{Keyed}
 use Rattle.form_reader.specs.declared.keys.Keyed.TheVariants as keyed
 use Rattle.form_reader.specs.Items.{item_of}
 use Rattle.form_reader.specs.Rows.{head_of, inner_of, tail_of}
-use Rattle.name_reader.specs.Names.{Signed, with_name, with_signature}
-use Rattle.name_reader.specs.Variables.{named_words}
-use Rattle.name_reader.specs.declared.vocabulary.Vocabulary.{Vocabulary}
+use Rattle.name_tables.specs.Names.{Signed, with_name, with_signature}
+use Rattle.name_tables.specs.Variables.{named_words}
+use Rattle.name_tables.specs.declared.vocabulary.Vocabulary.{Vocabulary}
 use Rattle.stream_reader.specs.declared.tables.Scopes.{Scopes}
 
 -- ---- the names of a domain, each once

@@ -7,7 +7,7 @@ ghost use Rattle.stream_reader.specs.Reading.{AnswersAcyclic};
 use crate::tables::kind_of;
 use fit_check::stream_leads;
 use form_reader::{Fault, InputKind, Keyed, sooner};
-use name_reader::{is_cyclic, next, number};
+use name_tables::{is_cyclic, next, number};
 use sexpr_text::{Front, Tree, front_of};
 use std::alloc::{AllocError, Global};
 use task_model::{Domain, Seq, Stream};

@@ -1,5 +1,5 @@
 //! The name faults of a stream file, but for streams that lead to themselves.
-#![tactic(auto, using(form_reader::proofs::Firsts::first_append))]
+#![tactic(auto, using(form_reader::proofs::FaultsFirstLemmas::first_append))]
 
 ghost use Rattle.std.specs.Prelude.{◌≡◌, [], IfOk, OnOk};
 ghost use Rattle.sexpr_text.specs.Trees.{trees};
@@ -11,7 +11,7 @@ ghost use Rattle.stream_reader.specs.Names as specs;
 use crate::atoms::check_atoms;
 use crate::tables::{Scopes, keys_of, kind_of, scopes_of};
 use form_reader::{Fault, InputKind, Key, Keyed, Spot, head_of, tail_of};
-use name_reader::{
+use name_tables::{
     NameTable, Vocabulary, check_application, check_doubles, check_types, is_named, next, unless,
 };
 use sexpr_text::{Front, Tree, front_of};

@@ -2,7 +2,7 @@
 ghost use Rattle.std.specs.Prelude.{IfOk};
 ghost use Rattle.sexpr_text.specs.Trees.{tree};
 ghost use Rattle.task_model.specs.Fit.{IsFitDomain};
-ghost use Rattle.name_reader.specs.Sizes.{IsBounded};
+ghost use Rattle.name_tables.specs.Sizes.{IsBounded};
 ghost use Rattle.stream_reader.specs.Fitness.{AreFitOver};
 ghost use Rattle.stream_reader.specs.Reading as specs;
 

@@ -5,7 +5,7 @@ ghost use Rattle.form_reader.specs.Rows.{inner_of};
 ghost use Rattle.stream_reader.specs.Tables as specs;
 
 use form_reader::{Item, Keyed, TextKind, head_of, inner_of, tail_of};
-use name_reader::{NameTable, Scope, Signatures, Vocabulary, enter};
+use name_tables::{NameTable, Scope, Signatures, Vocabulary, enter};
 use sexpr_text::{Front, Tree, alone, front_of};
 use std::alloc::{AllocError, Global};
 use task_model::{Declared, Domain, Signature, Sort};

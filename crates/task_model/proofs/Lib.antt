@@ -1,5 +1,4 @@
-pub mod Atoms
-pub mod Executions
-pub mod FactLists
-pub mod Members
-pub mod Slots
+pub mod StateLemmas
+pub mod StepsLemmas
+pub mod KnownLemmas
+pub mod TruthSlotLemmas

@@ -5,7 +5,7 @@ use Rattle.std.specs.Fmt.{decimal}
 use Rattle.std.specs.List.{list_any, flat_map}
 use Rattle.std.specs.Ordering.{nat_cmp}
 use Rattle.task_model.specs.Known.{Known, with_facts, with_values}
-use Rattle.task_model.specs.Lists.{AreAscending, numbers_from}
+use Rattle.lemmas.specs.Lists.{AreAscending, numbers_from}
 use Rattle.task_model.specs.Plans.{IsValid, IsSolvable, IsReached, MoreThan}
 use Rattle.task_model.specs.Streams.{Note, IsDue, instance_cmp, same_instance, certified_by, worth_by, is_reachable}
 use Rattle.task_model.specs.declared.fact.Fact.{Fact}

@@ -4,7 +4,7 @@ use Rattle.std.specs.Prelude.{◌≡◌, ℕ, ◌+◌, ◌≤◌, max, List, [],
 use Rattle.std.specs.List.{list_any, list_all}
 use Rattle.task_model.specs.Condition.{Condition, Conditions, Atom, Equal, All as every, Any, Not, Exists, none, more}
 use Rattle.task_model.specs.Initial.{declared_names, sorts_with}
-use Rattle.task_model.specs.Lists.{AreDistinct, LeadsAlong, numbers_from}
+use Rattle.lemmas.specs.Lists.{AreDistinct, LeadsAlong, numbers_from}
 use Rattle.task_model.specs.Roles.{role_of}
 use Rattle.task_model.specs.declared.condition.Term.{Term}
 use Rattle.task_model.specs.declared.condition.Term.TheVariants.{Slot, Object}

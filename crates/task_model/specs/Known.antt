@@ -2,7 +2,7 @@
 use Rattle.std.specs.Prelude.{ℕ, ◌≤◌, List, [], ◌∷◌, ◌++◌, Bool, true, false, ◌&&◌, ◌==◌, nat_eq, map, filter, min, All, IsSome, Option, None, Some, slice_get, if◌then◌else◌}
 use Rattle.std.specs.List.{list_any, filter_map, slice_get}
 use Rattle.std.specs.Cmp.Lexicographic.{pointwise}
-use Rattle.task_model.specs.Lists.{AreDistinct}
+use Rattle.lemmas.specs.Lists.{AreDistinct}
 use Rattle.task_model.specs.declared.fact.Fact.{Fact}
 use Rattle.task_model.specs.declared.fact.Kind.{Kind}
 use Rattle.task_model.specs.declared.fact.Kind.TheVariants.{Predicate, Sort}

@@ -6,7 +6,7 @@ use Rattle.task_model.specs.AtomOrder.{atom_cmp}
 use Rattle.task_model.specs.Condition.{Condition, Conditions, Atom, Equal, All as every, Any, Not, Exists, none, more}
 use Rattle.task_model.specs.Initial.{initial_state}
 use Rattle.task_model.specs.Known.{Known, is_fact, with_facts}
-use Rattle.task_model.specs.Lists.{AreDistinct}
+use Rattle.lemmas.specs.Lists.{AreDistinct}
 use Rattle.task_model.specs.Plans.{Executes, IsReached, IsReachedWithin, MoreThan}
 use Rattle.task_model.specs.State.{Atoms, contains}
 use Rattle.task_model.specs.Steps.{atom_of, effect_of}

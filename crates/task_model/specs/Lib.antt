@@ -7,7 +7,6 @@ pub mod Fit
 pub mod Initial
 pub mod Known
 pub mod Laws
-pub mod Lists
 pub mod Plans
 pub mod Roles
 pub mod State

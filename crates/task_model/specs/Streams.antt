@@ -7,7 +7,7 @@ use Rattle.std.specs.Cmp.Lexicographic.{slice_cmp}
 use Rattle.std.specs.declared.cmp.Ordering.{Ordering}
 use Rattle.task_model.specs.Initial.{type_facts}
 use Rattle.task_model.specs.Known.{Known, is_fact, same_numbers, atom_fact}
-use Rattle.task_model.specs.Lists.{AreDistinct, AreAscending}
+use Rattle.lemmas.specs.Lists.{AreDistinct, AreAscending}
 use Rattle.task_model.specs.Truth.{have_types, objects_at, slots_of}
 use Rattle.task_model.specs.declared.domain.Domain.{Domain}
 use Rattle.task_model.specs.declared.domain.Pattern.{Pattern}

@@ -1,7 +1,7 @@
 -- The domain, the problem, the streams and the task that short texts spell are fit.
 use Rattle.std.proofs.Common.{◌≡◌, ℕ, List, Ok, subst, arith}
-use Rattle.sexpr_text.proofs.Found.{found}
-use Rattle.sexpr_text.proofs.Sizes.{small}
+use Rattle.sexpr_text.proofs.ReadingSound.{found}
+use Rattle.sexpr_text.proofs.TreesSizeLemmas.{small}
 use Rattle.sexpr_text.specs.Reading.{reading}
 use Rattle.sexpr_text.specs.Spelling as spelling
 use Rattle.sexpr_text.specs.Trees.{Trees, nothing}
@@ -9,8 +9,8 @@ use Rattle.task_model.specs.Fit.{IsFit, IsFitDomain}
 use Rattle.task_model.specs.declared.domain.Domain.{Domain}
 use Rattle.task_model.specs.declared.stream.Stream.{Stream}
 use Rattle.task_model.specs.declared.task.Problem.{Problem}
-use Rattle.name_reader.specs.Sizes.{IsBounded}
-use Rattle.pddl_reader.proofs.FitDomain.{fit_domain}
+use Rattle.name_tables.specs.Sizes.{IsBounded}
+use Rattle.domain_reader.proofs.FitDomain.{fit_domain}
 use Rattle.problem_reader.specs.Fitness.{IsFitOver, IsFitRead}
 use Rattle.problem_reader.proofs.FitProblem.{read_problems_fit}
 use Rattle.stream_reader.specs.Fitness.{AreFitOver}

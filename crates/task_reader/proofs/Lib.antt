@@ -1,2 +1,4 @@
-pub mod Causes
+pub mod RefusalsLemmas
 pub mod FitTask
+pub mod SpelledLemmas
+pub mod RisingLemmas

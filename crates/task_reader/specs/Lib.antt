@@ -3,3 +3,4 @@ pub mod Refusals
 pub mod Texts
 pub mod Tasks
 pub mod Fitness
+pub mod Spelled

@@ -3,7 +3,7 @@ use Rattle.std.specs.Prelude.{ℕ, List}
 use Rattle.task_model.specs.declared.domain.Domain.{Domain}
 use Rattle.task_model.specs.declared.stream.Stream.{Stream}
 use Rattle.task_model.specs.declared.task.Problem.{Problem}
-use Rattle.pddl_reader.specs.Domains as domains
+use Rattle.domain_reader.specs.Domains as domains
 use Rattle.problem_reader.specs.Problems as problems
 use Rattle.stream_reader.specs.Reading as streams
 use Rattle.task_reader.specs.declared.refusal.FaultKind.{FaultKind}

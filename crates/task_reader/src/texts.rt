@@ -8,7 +8,7 @@ ghost use Rattle.task_reader.specs.Refusals.{Refuses};
 ghost use Rattle.task_reader.specs.Texts as specs;
 
 use crate::refusal::InputRefusal;
-use pddl_reader::read_domain;
+use domain_reader::read_domain;
 use problem_reader::read_problem;
 use sexpr_text::read_tree;
 use std::alloc::Global;

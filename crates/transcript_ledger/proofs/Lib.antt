@@ -1,4 +1,4 @@
-pub mod Answering
-pub mod Asking
-pub mod Kept
-pub mod Places
+pub mod TalksAnswerLemmas
+pub mod TalksAskLemmas
+pub mod LedgersLemmas
+pub mod NamedPlaceLemmas

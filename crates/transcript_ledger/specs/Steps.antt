@@ -6,8 +6,8 @@ use Rattle.task_model.specs.Known.{same_numbers}
 use Rattle.task_model.specs.declared.domain.Action.{Action}
 use Rattle.task_model.specs.declared.task.GroundAction.{GroundAction}
 use Rattle.task_model.specs.declared.task.Task.{Task}
-use Rattle.transcript_text.specs.Names.{places_of}
-use Rattle.transcript_text.specs.declared.entry.Call.{Call}
+use Rattle.transcript_model.specs.Names.{places_of}
+use Rattle.transcript_model.specs.declared.entry.Call.{Call}
 
 -- the action of the task with this name
 abbrev pub action_named : Task → List ℕ → Option ℕ

@@ -8,12 +8,12 @@ use Rattle.task_model.specs.Streams.{Note, name_at, yields_of}
 use Rattle.task_model.specs.declared.stream.Instance.{Instance}
 use Rattle.task_model.specs.declared.stream.Stream.{Stream}
 use Rattle.task_model.specs.declared.task.Task.{Task}
-use Rattle.transcript_text.specs.Legal.{IsRightAsk}
-use Rattle.transcript_text.specs.Names.{instance_of}
-use Rattle.transcript_text.specs.Transcript.{names_of}
-use Rattle.transcript_text.specs.declared.entry.Call.{Call}
-use Rattle.transcript_text.specs.declared.entry.Entry.{Entry}
-use Rattle.transcript_text.specs.declared.entry.Entry.TheVariants as entry
+use Rattle.transcript_model.specs.Legal.{IsRightAsk}
+use Rattle.transcript_model.specs.Names.{instance_of}
+use Rattle.transcript_model.specs.Transcript.{names_of}
+use Rattle.transcript_model.specs.declared.entry.Call.{Call}
+use Rattle.transcript_model.specs.declared.entry.Entry.{Entry}
+use Rattle.transcript_model.specs.declared.entry.Entry.TheVariants as entry
 use Rattle.transcript_ledger.specs.Ledgers.{is_among, is_waiting}
 use Rattle.transcript_ledger.specs.declared.ledger.Ledger.{Ledger}
 

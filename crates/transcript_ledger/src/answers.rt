@@ -4,13 +4,13 @@ ghost use Rattle.task_model.specs.Fit.{IsFit};
 ghost use Rattle.transcript_ledger.specs.Ledgers.{IsLedger};
 ghost use Rattle.transcript_ledger.specs.Talks.{may_answer as passes, may_give as gives};
 ghost use Rattle.session_core.specs.Learning.{number_of};
-ghost use Rattle.transcript_text.specs.Forms.{IsFormedEntry};
-ghost use Rattle.transcript_text.specs.Legal.{MayFollow};
-ghost use Rattle.transcript_text.specs.declared.entry.Entry.{Entry as AnyEntry};
+ghost use Rattle.report_text.specs.Forms.{IsFormedEntry};
+ghost use Rattle.transcript_model.specs.Legal.{MayFollow};
+ghost use Rattle.transcript_model.specs.declared.entry.Entry.{Entry as AnyEntry};
 
 use crate::ledger::Ledger;
 use task_model::{Stream, Task};
-use transcript_text::Entry;
+use transcript_model::Entry;
 
 /// The number of the request that the entry answers, if it is an answer.
 pub fn answered(entry: &Entry) -> Option<u32>

@@ -4,13 +4,13 @@ ghost use Rattle.transcript_ledger.specs.Ledgers.{IsLedger};
 ghost use Rattle.transcript_ledger.specs.Talks.{IsAskedBy};
 ghost use Rattle.transcript_ledger.specs.Talks.{may_ask as passes};
 ghost use Rattle.task_model.specs.Fit.{IsFit};
-ghost use Rattle.transcript_text.specs.declared.entry.Entry.{Entry as AnyEntry};
+ghost use Rattle.transcript_model.specs.declared.entry.Entry.{Entry as AnyEntry};
 
 use crate::ledger::Ledger;
 use crate::naming::instance_of;
 use std::alloc::{AllocError, Global};
 use task_model::{Instance, Task};
-use transcript_text::Call;
+use transcript_model::Call;
 
 /// Whether the request may be made of this instance: it has the next number, the instance is due, none of its requests is
 /// open, and the turn is how many tuples it has given.

@@ -8,7 +8,7 @@ use instance_queue::Queue;
 use session_core::learn_from;
 use std::alloc::{AllocError, Global};
 use task_model::{Instance, Task};
-use transcript_text::Entry;
+use transcript_model::Entry;
 
 /// What is known and noted after the entries so far, the instances that they asked, and the numbers of the requests that have
 /// no answer yet.
@@ -42,12 +42,12 @@ impl Ledger {
     ghost use Rattle.transcript_ledger.specs.Ledgers.{IsLedger, is_among, is_waiting as waits, asked_it};
     ghost use Rattle.session_core.specs.Learning.{number_of};
     ghost use Rattle.task_model.specs.Fit.{IsFit};
-    ghost use Rattle.transcript_text.specs.Legal.{IsRightAsk, MayFollow};
-    ghost use Rattle.transcript_text.specs.Names.{instance_of};
-    ghost use Rattle.transcript_text.specs.Transcript.{names_of};
-    ghost use Rattle.transcript_text.specs.declared.entry.Call.{Call as AnyCall};
-    ghost use Rattle.transcript_text.specs.declared.entry.Entry.{Entry as AnyEntry};
-    ghost use Rattle.transcript_text.specs.declared.entry.Entry.TheVariants as entry;
+    ghost use Rattle.transcript_model.specs.Legal.{IsRightAsk, MayFollow};
+    ghost use Rattle.transcript_model.specs.Names.{instance_of};
+    ghost use Rattle.transcript_model.specs.Transcript.{names_of};
+    ghost use Rattle.transcript_model.specs.declared.entry.Call.{Call as AnyCall};
+    ghost use Rattle.transcript_model.specs.declared.entry.Entry.{Entry as AnyEntry};
+    ghost use Rattle.transcript_model.specs.declared.entry.Entry.TheVariants as entry;
 
     /// What is known at first.
     pub fn new(alloc: Global, task: &Task) -> Result<Ledger, AllocError>

@@ -2,12 +2,12 @@
 ghost use Rattle.std.specs.Prelude.{◌≡◌, IfOk};
 ghost use Rattle.transcript_ledger.specs.Steps.{action_named as action_at, step_named};
 ghost use Rattle.task_model.specs.Fit.{IsFit};
-ghost use Rattle.transcript_text.specs.Names.{instance_of as instance_at, places_of, stream_named as stream_at};
+ghost use Rattle.transcript_model.specs.Names.{instance_of as instance_at, places_of, stream_named as stream_at};
 
 use fact_store::Facts;
 use std::alloc::{AllocError, Global};
 use task_model::{GroundAction, Instance, Name, Objects, Task};
-use transcript_text::Call;
+use transcript_model::Call;
 
 /// The place of the task's stream with this name.
 pub fn stream_named(task: &Task, name: &[u8]) -> Option<u32>

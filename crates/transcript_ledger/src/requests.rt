@@ -8,7 +8,7 @@ ghost use Rattle.transcript_ledger.specs.Talks.{is_same_request};
 
 use instance_queue::Queue;
 use task_model::{Instance, Name, Obj, Task};
-use transcript_text::Call;
+use transcript_model::Call;
 
 /// The name of an object, or no bytes where the table has none.
 fn name_at(names: &[Name], object: Obj) -> &[u8]

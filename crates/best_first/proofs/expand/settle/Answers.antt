@@ -1,5 +1,5 @@
 use Rattle.std.proofs.Common.{◌≡◌, Bool, true, false, arith}
-use Rattle.best_first.proofs.Growing.{grown_met, grown_explored, grown_beyond, grown_place}
+use Rattle.best_first.proofs.ExploredLemmas.{grown_met, grown_explored, grown_beyond, grown_place}
 use Rattle.best_first.specs.Explored.{Ends}
 use Rattle.best_first.proofs.expand.settle.Goals as goal
 

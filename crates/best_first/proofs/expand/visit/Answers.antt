@@ -1,7 +1,7 @@
 use Rattle.std.proofs.Common.{◌∷◌, [], ◌++◌, sym, ap, subst, ◌∙◌, refl, if◌then◌else◌}
-use Rattle.task_model.proofs.Members.{member_at}
+use Rattle.lemmas.proofs.Members.{member_at}
 use Rattle.task_model.specs.Steps.{IsStep}
-use Rattle.best_first.proofs.Growing.{on_ok}
+use Rattle.best_first.proofs.ExploredLemmas.{on_ok}
 use Rattle.best_first.proofs.expand.visit.Goals as goal
 
 pub returns-then-not-fresh-clause-kept : goal.returns-then-not-fresh-clause-kept

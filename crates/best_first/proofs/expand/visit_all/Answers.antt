@@ -1,8 +1,8 @@
 use Rattle.std.proofs.Common.{sym, subst, arith}
 use Rattle.grounder.specs.Applicable.{IsApplicable}
-use Rattle.plan_check.proofs.Runs.{got}
+use Rattle.plan_check.proofs.FaultsLemmas.{got}
 use Rattle.best_first.specs.Explored.{IsExplored, Comes}
-use Rattle.best_first.proofs.Growing.{expanding_start, expanding_next, expanding_done}
+use Rattle.best_first.proofs.ExploredLemmas.{expanding_start, expanding_next, expanding_done}
 use Rattle.best_first.proofs.expand.visit_all.Goals as goal
 
 pub loop-step-init : goal.loop-step-init

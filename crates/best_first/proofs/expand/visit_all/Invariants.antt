@@ -1,4 +1,4 @@
-use Rattle.best_first.proofs.Growing.{IsExpanding}
+use Rattle.best_first.proofs.ExploredLemmas.{IsExpanding}
 use Rattle.best_first.proofs.expand.visit_all.Given as goal
 
 -- the steps that were passed lead to states that are there

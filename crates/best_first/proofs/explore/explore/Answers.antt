@@ -1,7 +1,7 @@
 use Rattle.std.proofs.Common.{◌≡◌, ◌∷◌, [], Bool, true, false, sym, ap, subst, arith, Some, slice_get}
 use Rattle.task_model.specs.Initial.{initial_state}
 use Rattle.best_first.specs.Explored.{Ends, IsExplored, IsMet}
-use Rattle.best_first.proofs.Growing.{explored_start, met_at_start, explored_all}
+use Rattle.best_first.proofs.ExploredLemmas.{explored_start, met_at_start, explored_all}
 use Rattle.best_first.proofs.explore.explore.Goals as goal
 
 pub returns-then-branch : goal.returns-then-branch

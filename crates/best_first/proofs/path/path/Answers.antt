@@ -1,6 +1,6 @@
 use Rattle.std.proofs.Common.{◌≡◌, ◌+◌, ◌-◌, ◌<◌, length, reverse, subst, arith}
-use Rattle.plan_check.proofs.Runs.{got}
-use Rattle.best_first.proofs.Ways.{follows_back}
+use Rattle.plan_check.proofs.FaultsLemmas.{got}
+use Rattle.best_first.proofs.LinksLemmas.{follows_back}
 use Rattle.best_first.specs.Links.{Follows}
 use Rattle.best_first.proofs.path.path.Goals as goal
 

@@ -1,5 +1,5 @@
 use Rattle.std.proofs.Common.{length, true, subst}
-use Rattle.best_first.proofs.Ways.{found_plan}
+use Rattle.best_first.proofs.LinksLemmas.{found_plan}
 use Rattle.best_first.specs.Explored.{IsMet}
 use Rattle.best_first.specs.Links.{Follows}
 use Rattle.best_first.specs.Outcome.{ComesTo}

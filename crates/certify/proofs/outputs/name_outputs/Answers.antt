@@ -1,9 +1,9 @@
 use Rattle.std.proofs.Common.{◌≡◌, ◌≤◌, ◌+◌, ◌∷◌, [], ◌++◌, ap, sym, subst, ◌∙◌, take, drop, map, length, arith, Some, slice_get}
 use Rattle.std.proofs.lemmas.List.{take_more}
-use Rattle.certify.proofs.Learning.{named_kept, named_push, names_more, length_with_name}
+use Rattle.certify.proofs.OutputsLemmas.{named_kept, named_push, names_more, length_with_name}
 use Rattle.certify.proofs.outputs.name_outputs.Goals as goal
 use Rattle.certify.specs.Outputs.{AreNamed}
-use Rattle.transcript_text.specs.Names.{generated, with_names}
+use Rattle.transcript_model.specs.Names.{generated, with_names}
 use Rattle.fact_store.specs.Store.{with_name}
 
 pub loop-value-preserved : goal.loop-value-preserved

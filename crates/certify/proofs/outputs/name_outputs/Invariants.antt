@@ -1,7 +1,7 @@
 use Rattle.std.proofs.Common.{◌≡◌, ◌+◌, ◌≤◌, map, drop, take, length}
 use Rattle.certify.proofs.outputs.name_outputs.Given as goal
 use Rattle.certify.specs.Outputs.{AreNamed}
-use Rattle.transcript_text.specs.Names.{generated, with_names}
+use Rattle.transcript_model.specs.Names.{generated, with_names}
 
 -- with the names that are left, all are there, and the objects so far have theirs
 abbrev pub invariant-loop-value : goal.invariant-loop-value

@@ -1,5 +1,5 @@
 use Rattle.std.proofs.Common.{◌≡◌, ap, sym, subst, ◌∙◌, All}
-use Rattle.certify.proofs.Learning.{atoms_more}
+use Rattle.certify.proofs.OutputsLemmas.{atoms_more}
 use Rattle.certify.proofs.tuple.learn_atoms.Goals as goal
 use Rattle.task_model.specs.Known.{IsIn, with_fact, atom_fact}
 use Rattle.task_model.specs.Truth.{slots_of, objects_at}

@@ -1,5 +1,5 @@
 use Rattle.std.proofs.Common.{◌∙◌}
-use Rattle.certify.proofs.Learning.{types_more}
+use Rattle.certify.proofs.OutputsLemmas.{types_more}
 use Rattle.certify.proofs.tuple.learn_types.Goals as goal
 
 pub loop-place-preserved : goal.loop-place-preserved

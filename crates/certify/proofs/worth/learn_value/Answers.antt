@@ -1,5 +1,5 @@
 use Rattle.std.proofs.Common.{◌≡◌, ap, sym, subst, ◌∙◌, All, length, ◌≤◌, true, Some}
-use Rattle.certify.proofs.Fitting.{IsPlainWorth, fit_parts, plain_worth}
+use Rattle.certify.proofs.FitStreamLemmas.{IsPlainWorth, fit_parts, plain_worth}
 use Rattle.certify.proofs.worth.learn_value.Goals as goal
 use Rattle.formula_eval.specs.Readable.{is_readable_term}
 use Rattle.std.specs.List.{list_all}

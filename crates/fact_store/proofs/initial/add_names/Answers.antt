@@ -1,5 +1,5 @@
 use Rattle.std.proofs.Common.{◌∙◌}
-use Rattle.fact_store.proofs.AtFirst.{name_next}
+use Rattle.fact_store.proofs.InitialLemmas.{name_next}
 use Rattle.fact_store.proofs.initial.add_names.Goals as goal
 use Rattle.fact_store.specs.Store.{with_name}
 

@@ -1,7 +1,7 @@
 use Rattle.std.proofs.Common.{ap, sym, subst, ◌∙◌, ◌<◌, ◌≤◌, ◌≡◌, [], get_or, length, drop, drop_of_length-le}
 use Rattle.std.proofs.lemmas.Result.{on_ok_weaker}
 use Rattle.std.specs.List.{flat_map}
-use Rattle.fact_store.proofs.AtFirst.{block_more, block_end}
+use Rattle.fact_store.proofs.InitialLemmas.{block_more, block_end}
 use Rattle.fact_store.proofs.initial.add_object.Goals as goal
 use Rattle.task_model.specs.Initial.{type_facts}
 use Rattle.task_model.specs.Known.{with_facts}

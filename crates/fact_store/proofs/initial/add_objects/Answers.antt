@@ -1,6 +1,6 @@
 use Rattle.std.proofs.Common.{ap, ◌∙◌, [], ◌∷◌, ◌++◌}
 use Rattle.std.specs.List.{flat_map}
-use Rattle.fact_store.proofs.AtFirst.{object_more}
+use Rattle.fact_store.proofs.InitialLemmas.{object_more}
 use Rattle.fact_store.proofs.initial.add_objects.Goals as goal
 use Rattle.task_model.specs.Initial.{type_facts}
 use Rattle.task_model.specs.Known.{with_facts}

@@ -1,5 +1,5 @@
 use Rattle.std.proofs.Common.{sym, subst, All, length}
-use Rattle.fact_store.proofs.AtFirst.{fit_at, fact_place, fact_objects}
+use Rattle.fact_store.proofs.InitialLemmas.{fit_at, fact_place, fact_objects}
 use Rattle.fact_store.proofs.initial.add_static.Goals as goal
 use Rattle.task_model.specs.Fit.{is_fit_fact}
 use Rattle.task_model.specs.Known.{IsIn}

@@ -1,6 +1,6 @@
 use Rattle.std.proofs.Common.{ap, ◌∙◌, map, [], ◌∷◌, ◌++◌}
 use Rattle.std.proofs.lemmas.Result.{on_ok_weaker}
-use Rattle.fact_store.proofs.AtFirst.{supertypes_then}
+use Rattle.fact_store.proofs.InitialLemmas.{supertypes_then}
 use Rattle.fact_store.proofs.initial.add_supertypes.Goals as goal
 use Rattle.task_model.specs.Known.{type_fact, with_fact, with_facts}
 

@@ -1,5 +1,5 @@
 use Rattle.std.proofs.Common.{ap, sym, ◌∙◌, subst, ◌<◌, get_or, length}
-use Rattle.fact_store.proofs.AtFirst.{roles_length, role_is}
+use Rattle.fact_store.proofs.InitialLemmas.{roles_length, role_is}
 use Rattle.fact_store.proofs.initial.role_at.Goals as goal
 use Rattle.task_model.specs.declared.domain.Role.TheVariants.{Static}
 

@@ -1,7 +1,7 @@
 use Rattle.std.proofs.Common.{ap, sym, ◌∙◌, ◌++◌, ◌∷◌, [], Some, take}
 use Rattle.std.proofs.lemmas.List.{take_more}
 use Rattle.fact_store.specs.Least.{lesser_of}
-use Rattle.fact_store.proofs.Values.{value_hit, value_miss}
+use Rattle.fact_store.proofs.LeastLemmas.{value_hit, value_miss}
 use Rattle.fact_store.proofs.scan.least_value.Goals as goal
 use Rattle.fact_store.proofs.scan.least_value.Goals.{then-is_value_of, else-is_value_of}
 use Rattle.task_model.specs.Known.{value_of}

@@ -1,7 +1,7 @@
 use Rattle.std.proofs.Common.{◌≡◌, ◌++◌, ◌∷◌, [], ap, sym, ◌∙◌, take}
 use Rattle.std.proofs.lemmas.List.{take_more}
 use Rattle.task_model.specs.Known.{objects_of}
-use Rattle.fact_store.proofs.Passing.{object_hit, object_miss}
+use Rattle.fact_store.proofs.ObjectsLemmas.{object_hit, object_miss}
 use Rattle.fact_store.proofs.scan.objects_with.Goals as goal
 use Rattle.fact_store.proofs.scan.objects_with.Goals.{in-Some+in_ok-push, in_default}
 

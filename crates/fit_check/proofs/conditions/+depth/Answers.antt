@@ -1,5 +1,5 @@
 use Rattle.std.proofs.Common.{sym}
-use Rattle.fit_check.proofs.Parts.{shallow}
+use Rattle.fit_check.proofs.ConditionPartLemmas.{shallow}
 use Rattle.fit_check.proofs.conditions.+depth.Goals as goal
 
 pub is_shallow-returns-in_default : goal.is_shallow-returns-in_default

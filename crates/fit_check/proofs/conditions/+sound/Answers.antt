@@ -2,8 +2,8 @@ use Rattle.std.proofs.Common.{arith, ap, sym, ◌∙◌, length, ◌≡◌, ◌+
 use Rattle.std.specs.List.{list_any}
 use Rattle.task_model.specs.Condition.{parts_of}
 use Rattle.task_model.specs.Fit as fit
-use Rattle.task_model.specs.Lists.{numbers_from}
-use Rattle.fit_check.proofs.Parts.{part_smaller, same_inside, short_parts}
+use Rattle.lemmas.specs.Lists.{numbers_from}
+use Rattle.fit_check.proofs.ConditionPartLemmas.{part_smaller, same_inside, short_parts}
 use Rattle.fit_check.proofs.conditions.+sound.Goals as goal
 
 pub are_sound-is_sound-requires : goal.are_sound-is_sound-requires

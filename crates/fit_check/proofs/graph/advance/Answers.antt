@@ -1,5 +1,5 @@
 use Rattle.std.proofs.Common.{◌≡◌, refl, ℕ, ◌+◌, ◌<◌, true, false, sym, ◌∙◌, subst, arith, slice_index, slice_set}
-use Rattle.fit_check.proofs.Settled.{settled_moved, work_falls, still_more}
+use Rattle.fit_check.proofs.CyclesLemmas.{settled_moved, work_falls, still_more}
 use Rattle.fit_check.proofs.graph.advance.Goals as goal
 use Rattle.fit_check.proofs.graph.advance.Goals.{then-next-from, else-next-from}
 use Rattle.fit_check.specs.Cycles.{IsSettled, work_left}

@@ -1,5 +1,5 @@
 use Rattle.std.proofs.Common.{◌≡◌, ap, ◌∙◌, length, slice_index, replicate}
-use Rattle.fit_check.proofs.Settled.{settled_first, zeros, many_zeros}
+use Rattle.fit_check.proofs.CyclesLemmas.{settled_first, zeros, many_zeros}
 use Rattle.fit_check.proofs.graph.is_acyclic.Goals as goal
 
 pub is_clear-requires : goal.is_clear-requires

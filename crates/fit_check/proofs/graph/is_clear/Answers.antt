@@ -1,6 +1,6 @@
 use Rattle.std.proofs.Common.{◌≡◌, sym, ap, ◌∙◌, nat_le}
 use Rattle.std.specs.List.{list_all}
-use Rattle.fit_check.proofs.Settled.{acyclic_if, done_if}
+use Rattle.fit_check.proofs.CyclesLemmas.{acyclic_if, done_if}
 use Rattle.fit_check.proofs.graph.is_clear.Goals as goal
 
 pub returns : goal.returns

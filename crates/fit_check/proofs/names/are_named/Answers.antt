@@ -1,6 +1,6 @@
 use Rattle.std.proofs.Common.{◌&&◌, sym, ap, ◌∙◌, map}
 use Rattle.task_model.specs.Fit as fit
-use Rattle.fit_check.proofs.Seen.{all_mapped}
+use Rattle.lemmas.proofs.ListTests.{all_mapped}
 use Rattle.fit_check.proofs.names.are_named.Goals as goal
 use Rattle.fit_check.specs.Tests.{are_different}
 

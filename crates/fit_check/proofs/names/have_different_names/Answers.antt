@@ -1,7 +1,7 @@
 use Rattle.std.proofs.Common.{◌+◌, ◌&&◌, not, sym, ap, ◌∙◌, drop, map}
 use Rattle.fit_check.specs.Tests.{are_different}
-use Rattle.fit_check.proofs.Seen.{get_there}
-use Rattle.fit_check.proofs.Distinct.{different_from}
+use Rattle.lemmas.proofs.ListTests.{get_there}
+use Rattle.fit_check.proofs.TestsNameLemmas.{different_from}
 use Rattle.fit_check.proofs.names.have_different_names.Goals as goal
 
 pub returns-then-is_repeated : goal.returns-then-is_repeated

@@ -1,7 +1,7 @@
 use Rattle.std.proofs.Common.{◌≡◌, ◌+◌, ◌||◌, true, false, sym, ap, ◌∙◌, drop}
 use Rattle.std.specs.List.{list_any}
 use Rattle.task_model.specs.Known.{same_numbers}
-use Rattle.fit_check.proofs.Seen.{get_some, one_there, any_from, none_left}
+use Rattle.lemmas.proofs.ListTests.{get_some, one_there, any_from, none_left}
 use Rattle.fit_check.proofs.names.is_repeated.Goals as goal
 
 pub returns-then-same_name : goal.returns-then-same_name

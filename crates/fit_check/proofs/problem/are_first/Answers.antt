@@ -1,4 +1,4 @@
-use Rattle.fit_check.proofs.Firsts.{more_not_first}
+use Rattle.fit_check.proofs.TestsFirstLemmas.{more_not_first}
 use Rattle.fit_check.proofs.problem.are_first.Goals as goal
 
 pub returns-then-constants-objects : goal.returns-then-constants-objects

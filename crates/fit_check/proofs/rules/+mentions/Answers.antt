@@ -1,5 +1,5 @@
 use Rattle.std.proofs.Common.{arith}
-use Rattle.fit_check.proofs.Parts.{part_smaller}
+use Rattle.fit_check.proofs.ConditionPartLemmas.{part_smaller}
 use Rattle.fit_check.proofs.rules.+mentions.Goals as goal
 
 pub any_mentions-mentions-requires : goal.any_mentions-mentions-requires

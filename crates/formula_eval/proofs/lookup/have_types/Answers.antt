@@ -1,5 +1,5 @@
 use Rattle.std.proofs.Common.{arith}
-use Rattle.formula_eval.proofs.Rows.{have_types-unequal}
+use Rattle.formula_eval.proofs.ListTestLemmas.{have_types-unequal}
 use Rattle.formula_eval.proofs.lookup.have_types.Goals as goal
 
 pub returns-then-objects-sorts : goal.returns-then-objects-sorts

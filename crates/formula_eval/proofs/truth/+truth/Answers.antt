@@ -4,10 +4,10 @@ use Rattle.task_model.specs.Known.{objects_of}
 use Rattle.task_model.specs.Roles.{role_of}
 use Rattle.task_model.specs.declared.domain.Role.TheVariants as role
 use Rattle.formula_eval.specs.Judged.{some_at, derived_at}
-use Rattle.formula_eval.proofs.Parts.{readable_part, set_back, set_twice}
-use Rattle.formula_eval.proofs.Readers.{roles_length, role_kept, static_at, fluent_at, derived_below, derived_at_none, fit_item, item_params, item_readable}
-use Rattle.formula_eval.proofs.Rows.{have_types-length, list_any-drop}
-use Rattle.formula_eval.proofs.Weights.{part_lighter, body_lighter}
+use Rattle.formula_eval.proofs.ConditionPartLemmas.{readable_part, set_back, set_twice}
+use Rattle.formula_eval.proofs.ReadableLemmas.{roles_length, role_kept, static_at, fluent_at, derived_below, derived_at_none, fit_item, item_params, item_readable}
+use Rattle.formula_eval.proofs.ListTestLemmas.{have_types-length, list_any-drop}
+use Rattle.formula_eval.proofs.WeightLemmas.{part_lighter, body_lighter}
 use Rattle.formula_eval.proofs.truth.+truth.Goals as goal
 
 pub all_true-truth-requires : goal.all_true-truth-requires

@@ -3,7 +3,7 @@ use Rattle.std.specs.List.{list_any}
 use Rattle.task_model.specs.Condition.{parts_of}
 use Rattle.task_model.specs.Known.{objects_of}
 use Rattle.formula_eval.specs.Judged.{all_at, any_at, some_at, is_item_true}
-use Rattle.formula_eval.proofs.Weights.{weight, weights, items_weight}
+use Rattle.formula_eval.proofs.WeightLemmas.{weight, weights, items_weight}
 use Rattle.formula_eval.proofs.truth.+truth.Given as goal
 
 abbrev pub decreases-all_true : goal.decreases-all_true

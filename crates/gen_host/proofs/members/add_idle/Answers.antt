@@ -1,4 +1,4 @@
-use Rattle.gen_host.proofs.Resting.{idle_push}
+use Rattle.gen_host.proofs.MembersIdleLemmas.{idle_push}
 use Rattle.gen_host.proofs.members.add_idle.Goals as goal
 
 pub returns-clause-all : goal.returns-clause-all

@@ -1,6 +1,6 @@
 use Rattle.std.proofs.Common.{◌∙◌, sym, drop}
 use Rattle.gen_lines.specs.Reply.{fields, parted}
-use Rattle.gen_lines.proofs.Tuples.{counted}
+use Rattle.gen_lines.proofs.ReplyTupleLemmas.{counted}
 use Rattle.gen_lines.proofs.answer.yield_answer.Goals as goal
 
 pub mark_values-requires-clause-count : goal.mark_values-requires-clause-count

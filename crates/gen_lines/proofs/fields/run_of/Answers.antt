@@ -1,6 +1,6 @@
 use Rattle.std.proofs.Common.{◌∙◌, ap, unwrap_or, length}
 use Rattle.gen_lines.specs.Reply.{is_space}
-use Rattle.gen_lines.proofs.Positions.{position_or}
+use Rattle.lemmas.proofs.Positions.{position_or}
 use Rattle.gen_lines.proofs.fields.run_of.Goals as goal
 
 pub returns : goal.returns

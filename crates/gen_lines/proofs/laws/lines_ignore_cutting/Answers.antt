@@ -1,4 +1,4 @@
-use Rattle.gen_lines.proofs.Pieces.{whole}
+use Rattle.gen_lines.proofs.CuttingLemmas.{whole}
 use Rattle.gen_lines.proofs.laws.lines_ignore_cutting.Goals as goal
 
 pub returns : goal.returns

@@ -1,4 +1,4 @@
-use Rattle.gen_lines.proofs.Replies.{numbers_are_small}
+use Rattle.gen_lines.proofs.ReplyLemmas.{numbers_are_small}
 use Rattle.gen_lines.proofs.laws.numbers_are_small.Goals as goal
 
 pub returns : goal.returns

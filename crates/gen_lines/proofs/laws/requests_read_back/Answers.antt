@@ -1,4 +1,4 @@
-use Rattle.gen_lines.proofs.ReadBack.{requests_read_back}
+use Rattle.gen_lines.proofs.RequestReadBack.{requests_read_back}
 use Rattle.gen_lines.proofs.laws.requests_read_back.Goals as goal
 
 pub returns : goal.returns

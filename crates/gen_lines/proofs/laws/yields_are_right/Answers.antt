@@ -1,4 +1,4 @@
-use Rattle.gen_lines.proofs.Replies.{yields_are_right}
+use Rattle.gen_lines.proofs.ReplyLemmas.{yields_are_right}
 use Rattle.gen_lines.proofs.laws.yields_are_right.Goals as goal
 
 pub returns : goal.returns

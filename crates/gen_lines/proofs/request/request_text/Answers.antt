@@ -2,7 +2,7 @@ use Rattle.std.proofs.Common.{rules, arith, ◌≡◌, ◌++◌, ◌∷◌, [], 
 use Rattle.std.specs.Fmt.{decimal}
 use Rattle.task_model.specs.Streams.{name_at}
 use Rattle.gen_lines.specs.Request.{stream_name}
-use Rattle.gen_lines.proofs.Requests.{spaced, spaced_next, request_written, stream_named}
+use Rattle.gen_lines.proofs.RequestLemmas.{spaced, spaced_next, request_written, stream_named}
 use Rattle.gen_lines.proofs.request.request_text.Goals as goal
 
 pub loop-object-preserved : goal.loop-object-preserved

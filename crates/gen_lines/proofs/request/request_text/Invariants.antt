@@ -1,6 +1,6 @@
 use Rattle.std.proofs.Common.{◌≡◌, ◌++◌, map, take}
 use Rattle.task_model.specs.Streams.{name_at}
-use Rattle.gen_lines.proofs.Requests.{spaced}
+use Rattle.gen_lines.proofs.RequestLemmas.{spaced}
 use Rattle.gen_lines.proofs.request.request_text.Given as goal
 
 abbrev pub invariant-loop-object : goal.invariant-loop-object

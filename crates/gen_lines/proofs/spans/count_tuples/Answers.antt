@@ -1,6 +1,6 @@
 use Rattle.std.proofs.Common.{arith, ◌∙◌, sym, ap, drop, slice_range, true, false, inl, inr}
 use Rattle.gen_lines.specs.Reply.{fields, parted}
-use Rattle.gen_lines.proofs.Tuples.{Step, count_on, count_all, count_end, step_bar, step_short, step_full, step_other}
+use Rattle.gen_lines.proofs.ReplyTupleLemmas.{Step, count_on, count_all, count_end, step_bar, step_short, step_full, step_other}
 use Rattle.gen_lines.proofs.spans.count_tuples.Goals as goal
 
 pub fields-init : goal.fields-init

@@ -1,7 +1,7 @@
 use Rattle.std.proofs.Common.{◌≡◌, ◌≤◌, ◌-◌, length, drop}
 use Rattle.gen_lines.specs.Reply.{fields, parted}
 use Rattle.gen_lines.specs.Told.{count_of}
-use Rattle.gen_lines.proofs.Tuples.{count_on}
+use Rattle.gen_lines.proofs.ReplyTupleLemmas.{count_on}
 use Rattle.gen_lines.proofs.spans.count_tuples.Given as goal
 
 abbrev pub invariant-fields : goal.invariant-fields

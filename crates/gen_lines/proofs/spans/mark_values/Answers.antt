@@ -1,8 +1,8 @@
 use Rattle.std.proofs.Common.{arith, ◌≡◌, ◌*◌, ◌∙◌, refl, sym, drop, slice_range, length-set, true, false}
 use Rattle.gen_lines.specs.Reply.{fields, joined, parted, is_value}
 use Rattle.gen_lines.specs.Told.{Lies}
-use Rattle.gen_lines.proofs.Tuples.{Step}
-use Rattle.gen_lines.proofs.Marks.{AreFirst, first_more}
+use Rattle.gen_lines.proofs.ReplyTupleLemmas.{Step}
+use Rattle.gen_lines.proofs.ToldLemmas.{AreFirst, first_more}
 use Rattle.gen_lines.proofs.spans.mark_values.Goals as goal
 
 pub fields-preserved : goal.fields-preserved

@@ -1,6 +1,6 @@
 use Rattle.std.proofs.Common.{◌<◌, length, get_or, sym, ap, subst, ◌∙◌, arith}
-use Rattle.plan_check.proofs.Runs.{got}
-use Rattle.grounder.proofs.Listed.{AreListed, listed_none, listed_next, all_listed}
+use Rattle.plan_check.proofs.FaultsLemmas.{got}
+use Rattle.grounder.proofs.ListingLemmas.{AreListed, listed_none, listed_next, all_listed}
 use Rattle.grounder.proofs.actions.applicable.Goals as goal
 
 pub loop-number-init : goal.loop-number-init

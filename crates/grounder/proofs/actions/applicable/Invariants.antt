@@ -1,4 +1,4 @@
-use Rattle.grounder.proofs.Listed.{AreListed}
+use Rattle.grounder.proofs.ListingLemmas.{AreListed}
 use Rattle.grounder.proofs.actions.applicable.Given as goal
 
 -- the steps of the actions that were passed are there

@@ -1,7 +1,7 @@
 use Rattle.std.proofs.Common.{◌≡◌, ◌+◌, ◌∷◌, [], ◌++◌, take, get_or, sym, ap, subst, ◌∙◌, add-one}
 use Rattle.std.proofs.Math.Seq.{take-suc}
 use Rattle.grounder.specs.Listing.{AreChoices}
-use Rattle.grounder.proofs.Typed.{choices_push}
+use Rattle.grounder.proofs.ListingObjectLemmas.{choices_push}
 use Rattle.grounder.proofs.choices.choices.Goals as goal
 
 pub loop-sort-preserved : goal.loop-sort-preserved

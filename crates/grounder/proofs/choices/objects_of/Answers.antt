@@ -2,7 +2,7 @@ use Rattle.std.proofs.Common.{◌≡◌, ◌∷◌, [], ◌++◌, take, sym, ap,
 use Rattle.std.proofs.lemmas.List.{take_all}
 use Rattle.std.proofs.lemmas.List.Filters.{dedup_is}
 use Rattle.task_model.specs.Known.{objects_of}
-use Rattle.grounder.proofs.Typed.{sorted_objects, take-next}
+use Rattle.grounder.proofs.ListingObjectLemmas.{sorted_objects, take-next}
 use Rattle.grounder.proofs.choices.objects_of.Goals as goal
 
 pub returns : goal.returns

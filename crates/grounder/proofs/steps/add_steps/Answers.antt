@@ -1,9 +1,9 @@
 use Rattle.std.proofs.Common.{◌≡◌, length, [], ◌++◌, ap, subst, ◌∙◌, arith}
-use Rattle.plan_check.proofs.Actions.{readable_action, fit_action}
+use Rattle.plan_check.proofs.ReadableLemmas.{readable_action, fit_action}
 use Rattle.std.proofs.lemmas.Result.{on_ok_weaker}
 use Rattle.grounder.specs.Listing.{AreChoices, AddsSteps, steps_with}
-use Rattle.grounder.proofs.Listed.{steps_of_action}
-use Rattle.grounder.proofs.Typed.{choices_length}
+use Rattle.grounder.proofs.ListingLemmas.{steps_of_action}
+use Rattle.grounder.proofs.ListingObjectLemmas.{choices_length}
 use Rattle.grounder.proofs.steps.add_steps.Goals as goal
 
 pub extend-requires-clause-action : goal.extend-requires-clause-action

@@ -1,4 +1,4 @@
-use Rattle.plan_check.proofs.Actions.{readable_action}
+use Rattle.plan_check.proofs.ReadableLemmas.{readable_action}
 use Rattle.grounder.proofs.steps.is_applicable.Goals as goal
 
 pub holds-requires-clause-readable : goal.holds-requires-clause-readable

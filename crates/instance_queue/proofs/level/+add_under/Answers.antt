@@ -2,7 +2,7 @@ use Rattle.std.proofs.Common.{◌≡◌, sym, ap, subst, ◌∙◌, ◌≤◌, �
 use Rattle.std.proofs.lemmas.Option.{slice_get-get_or}
 use Rattle.std.proofs.lemmas.Result.{err_from_is_err_and}
 use Rattle.std.specs.List.{flat_map}
-use Rattle.instance_queue.proofs.Finding.{within_all, overflows_more}
+use Rattle.instance_queue.proofs.FoundStepLemmas.{within_all, overflows_more}
 use Rattle.instance_queue.specs.Found.{asks_of, found_under, Overflows}
 use Rattle.task_model.specs.Known.{objects_of}
 use Rattle.task_model.specs.declared.stream.Instance.{Instance}

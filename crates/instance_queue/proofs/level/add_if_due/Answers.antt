@@ -1,6 +1,6 @@
 use Rattle.std.proofs.Common.{sym, ap, ◌∙◌}
 use Rattle.task_model.specs.Streams.{yields_of}
-use Rattle.instance_queue.proofs.Finding.{found_here}
+use Rattle.instance_queue.proofs.FoundStepLemmas.{found_here}
 use Rattle.instance_queue.specs.Found.{is_due_of, instance_at}
 use Rattle.instance_queue.proofs.level.add_if_due.Goals as goal
 

@@ -2,8 +2,8 @@ use Rattle.std.proofs.Common.{sym, ap, subst, ◌∙◌, ◌≤◌, ◌+◌, ◌
 use Rattle.std.proofs.lemmas.Option.{slice_get-get_or}
 use Rattle.std.proofs.lemmas.Result.{err_from_is_err_and}
 use Rattle.task_model.specs.declared.stream.Instance.{Instance}
-use Rattle.instance_queue.proofs.Finding.{asks_more, stream_more, stream_within, overflows_more}
-use Rattle.instance_queue.proofs.Readers.{fit_readable_stream}
+use Rattle.instance_queue.proofs.FoundStepLemmas.{asks_more, stream_more, stream_within, overflows_more}
+use Rattle.instance_queue.proofs.ReadableLemmas.{fit_readable_stream}
 use Rattle.instance_queue.specs.Found.{asks_of, found_under, found_from, Overflows}
 use Rattle.instance_queue.proofs.level.found.Goals as goal
 

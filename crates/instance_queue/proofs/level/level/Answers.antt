@@ -3,8 +3,8 @@ use Rattle.std.proofs.lemmas.Fn.{always_returns_same}
 use Rattle.std.proofs.lemmas.Result.{err_from_is_err_and}
 use Rattle.std.specs.List.Sorted.{IsSortedBy}
 use Rattle.std.specs.Ordering.{is_lt}
-use Rattle.instance_queue.proofs.Levels.{fault_is, level_is}
-use Rattle.instance_queue.proofs.Ordered.{comes_before, dues_ranked}
+use Rattle.instance_queue.proofs.LevelLemmas.{fault_is, level_is}
+use Rattle.instance_queue.proofs.InstanceOrderLemmas.{comes_before, dues_ranked}
 use Rattle.instance_queue.proofs.level.level.Goals as goal
 
 pub returns-in_err-dues-clause-fault : goal.returns-in_err-dues-clause-fault

@@ -3,7 +3,7 @@ use Rattle.std.specs.List.{list_all}
 use Rattle.task_model.specs.Known.{is_fact}
 use Rattle.task_model.specs.Streams.{fact_of}
 use Rattle.task_model.specs.Truth.{have_types, slots_of}
-use Rattle.instance_queue.proofs.Readers.{have_types_long}
+use Rattle.instance_queue.proofs.ReadableLemmas.{have_types_long}
 use Rattle.instance_queue.proofs.reach.is_reachable.Goals as goal
 
 pub new-requires : goal.new-requires

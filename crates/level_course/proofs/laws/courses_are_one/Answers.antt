@@ -1,4 +1,4 @@
-use Rattle.level_course.proofs.Leading.{leads_once}
+use Rattle.level_course.proofs.CoursesLemmas.{leads_once}
 use Rattle.level_course.specs.Courses.{at_first}
 use Rattle.std.proofs.Common.{[]}
 use Rattle.level_course.proofs.laws.courses_are_one.Goals as goal

@@ -1,5 +1,5 @@
 use Rattle.std.proofs.Common.{[], length, refl, arith}
-use Rattle.level_course.proofs.Turning.{turned}
+use Rattle.level_course.proofs.CoursesTurnLemmas.{turned}
 use Rattle.level_course.specs.Courses.{at_first}
 use Rattle.level_course.proofs.laws.courses_are_turns.Goals as goal
 

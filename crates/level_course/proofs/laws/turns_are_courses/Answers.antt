@@ -1,5 +1,5 @@
 use Rattle.std.proofs.Common.{[], refl}
-use Rattle.level_course.proofs.Coursing.{turns_lead}
+use Rattle.level_course.proofs.CoursesStepLemmas.{turns_lead}
 use Rattle.level_course.specs.Courses.{at_first}
 use Rattle.level_course.proofs.laws.turns_are_courses.Goals as goal
 

@@ -1,6 +1,6 @@
 use Rattle.std.proofs.Common.{arith, sym, ◌∙◌}
 use Rattle.instance_queue.specs.Level.{instances_of}
-use Rattle.level_course.proofs.Agendas.{too_many, few_enough}
+use Rattle.level_course.proofs.AgendasLemmas.{too_many, few_enough}
 use Rattle.level_course.proofs.shares.fits.Goals as goal
 
 pub returns-then-served-share : goal.returns-then-served-share

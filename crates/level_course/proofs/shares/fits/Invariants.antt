@@ -1,7 +1,7 @@
 use Rattle.std.proofs.Common.{◌≡◌, drop}
 use Rattle.instance_queue.specs.Level.{instances_of}
 use Rattle.level_course.specs.Pools.{shares_of}
-use Rattle.transcript_text.specs.Rounds.{fits}
+use Rattle.transcript_model.specs.Rounds.{fits}
 use Rattle.level_course.proofs.shares.fits.Given as goal
 
 -- what is left decides

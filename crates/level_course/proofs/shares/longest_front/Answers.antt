@@ -1,6 +1,6 @@
 use Rattle.std.proofs.Common.{sym, ◌∙◌}
-use Rattle.level_course.proofs.Agendas.{longest}
-use Rattle.level_course.proofs.Fronts.{none_fit}
+use Rattle.level_course.proofs.AgendasLemmas.{longest}
+use Rattle.level_course.proofs.PoolsLemmas.{none_fit}
 use Rattle.level_course.specs.Pools.{shares_of}
 use Rattle.level_course.proofs.shares.longest_front.Goals as goal
 

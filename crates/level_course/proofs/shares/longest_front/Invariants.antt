@@ -1,7 +1,7 @@
 use Rattle.std.proofs.Common.{◌≡◌, take, true}
 use Rattle.instance_queue.specs.Level.{instances_of}
 use Rattle.level_course.specs.Pools.{shares_of}
-use Rattle.transcript_text.specs.Rounds.{fits}
+use Rattle.transcript_model.specs.Rounds.{fits}
 use Rattle.level_course.proofs.shares.longest_front.Given as goal
 
 -- the asks that were passed fit

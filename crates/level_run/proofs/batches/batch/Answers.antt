@@ -1,15 +1,15 @@
 use Rattle.std.proofs.Common.{◌∙◌, sym, length, ap, subst}
 use Rattle.instance_queue.specs.Level.{instances_of}
-use Rattle.level_run.proofs.Fronting.{all_work, batch_exists, front_first}
-use Rattle.level_run.proofs.Running.{batch_runs}
-use Rattle.level_run.proofs.Starting.{all_ok, startable, started_after}
-use Rattle.transcript_text.specs.Legal.{IsLegal}
-use Rattle.transcript_text.specs.Rounds.{IsBatch, limits_of}
-use Rattle.level_run.proofs.BrokenRuns.{rounds_broken, same_after, start_refused}
-use Rattle.level_run.proofs.Stopping.{err_both, handed, stopped_hearing, stopped_map}
+use Rattle.level_run.proofs.RollingFrontLemmas.{all_work, batch_exists, front_first}
+use Rattle.level_run.proofs.CallsRunLemmas.{batch_runs}
+use Rattle.level_run.proofs.StartsLemmas.{all_ok, startable, started_after}
+use Rattle.transcript_model.specs.Legal.{IsLegal}
+use Rattle.transcript_model.specs.Rounds.{IsBatch, limits_of}
+use Rattle.level_run.proofs.BreakingRunLemmas.{rounds_broken, same_after, start_refused}
+use Rattle.level_run.proofs.StoppedLemmas.{err_both, handed, stopped_hearing, stopped_map}
 use Rattle.level_run.specs.Breaking.{LogBreaks, RunBreaks, starts_after}
 use Rattle.level_run.specs.Calls.{starts_before}
-use Rattle.level_run.proofs.Telling.{broken_unasked}
+use Rattle.level_run.proofs.TalkingLemmas.{broken_unasked}
 use Rattle.level_run.specs.Dialogue.{workers_in}
 use Rattle.level_run.specs.Rolling.{IsFront}
 use Rattle.level_run.proofs.batches.batch.Goals as goal

@@ -3,16 +3,16 @@ use Rattle.std.proofs.lemmas.List.{length-take-le, length-drop}
 use Rattle.instance_queue.specs.Level.{instances_of}
 use Rattle.session_core.specs.Ready.{AreReady}
 use Rattle.session_core.specs.declared.pools.Workers.{Workers}
-use Rattle.transcript_text.specs.Legal.{asks_of}
-use Rattle.transcript_text.specs.Rounds.{IsBatch, IsRound, limits_of}
-use Rattle.transcript_text.specs.declared.entry.Entry.{Entry}
-use Rattle.level_run.proofs.Batching.{SoFar, none_of_none, none_left, so_far_end, so_far_none, so_far_step, spent}
-use Rattle.level_run.proofs.Broken.{breaks_then}
+use Rattle.transcript_model.specs.Legal.{asks_of}
+use Rattle.transcript_model.specs.Rounds.{IsBatch, IsRound, limits_of}
+use Rattle.transcript_model.specs.declared.entry.Entry.{Entry}
+use Rattle.level_run.proofs.BatchLemmas.{SoFar, none_of_none, none_left, so_far_end, so_far_none, so_far_step, spent}
+use Rattle.level_run.proofs.BreakingLemmas.{breaks_then}
 use Rattle.level_run.specs.Breaking.{LogBreaks}
-use Rattle.level_run.proofs.Calling.{calls_none, calls_then}
-use Rattle.level_run.proofs.Deciding.{empty_of, filled_of, first_of}
-use Rattle.level_run.proofs.Fronting.{all_work, so_far_front}
-use Rattle.level_run.proofs.Stopping.{goes_none, goes_then, handed, on_err, stopped_as, stopped_then}
+use Rattle.level_run.proofs.CallsLemmas.{calls_none, calls_then}
+use Rattle.level_run.proofs.TurnsOutcomeLemmas.{empty_of, filled_of, first_of}
+use Rattle.level_run.proofs.RollingFrontLemmas.{all_work, so_far_front}
+use Rattle.level_run.proofs.StoppedLemmas.{goes_none, goes_then, handed, on_err, stopped_as, stopped_then}
 use Rattle.level_run.specs.Calls.{Calls}
 use Rattle.level_run.specs.Dialogue.{workers_in}
 use Rattle.level_run.specs.Rolling.{IsFront, Stopped}

@@ -3,7 +3,7 @@ use Rattle.instance_queue.specs.Level.{instances_of}
 use Rattle.io_world.specs.Talks.{Same}
 use Rattle.session_core.specs.Ready.{AreReady}
 use Rattle.session_core.specs.Session.{IsLearnt, IsOf, IsSession}
-use Rattle.level_run.proofs.Batching.{SoFar}
+use Rattle.level_run.proofs.BatchLemmas.{SoFar}
 use Rattle.level_run.proofs.batches.run_rounds.Given as goal
 use Rattle.level_run.specs.Calls.{Calls}
 use Rattle.level_run.specs.Dialogue.{workers_in}

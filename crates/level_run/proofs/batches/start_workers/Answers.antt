@@ -1,12 +1,12 @@
 use Rattle.std.proofs.Common.{◌≡◌, ◌∙◌, ℕ, true, false, [], ap, slice_get, subst, sym, length, unwrap_or}
-use Rattle.io_world.proofs.Said.{extends_none}
+use Rattle.io_world.proofs.TalksLemmas.{extends_none}
 use Rattle.io_world.specs.Faults.{Extends}
-use Rattle.level_run.proofs.Deciding.{empty_of}
-use Rattle.level_run.proofs.Running.{starts_idle}
+use Rattle.level_run.proofs.TurnsOutcomeLemmas.{empty_of}
+use Rattle.level_run.proofs.CallsRunLemmas.{starts_idle}
 use Rattle.level_run.specs.Calls.{starts_before}
-use Rattle.level_run.proofs.Starting.{all_run}
-use Rattle.level_run.proofs.Stopping.{ok_map}
-use Rattle.level_run.proofs.Telling.{told_started}
+use Rattle.level_run.proofs.StartsLemmas.{all_run}
+use Rattle.level_run.proofs.StoppedLemmas.{ok_map}
+use Rattle.level_run.proofs.TalkingLemmas.{told_started}
 use Rattle.level_run.specs.Dialogue.{workers_in}
 use Rattle.level_run.specs.Talking.{held_of}
 use Rattle.level_run.specs.Held.{is_running}

@@ -1,7 +1,7 @@
 use Rattle.std.proofs.lemmas.Grind.{common_steps}
 use Rattle.std.proofs.Common.{rules, ◌≡◌, ◌+◌, ap, arith, length, sym, take, ◌∙◌}
 use Rattle.gen_lines.specs.Lines.{lines_of}
-use Rattle.level_run.proofs.Filling.{filled}
+use Rattle.level_run.proofs.TalkingLineLemmas.{filled}
 use Rattle.level_run.proofs.child.fill.Goals as goal
 
 pub returns-in-Ok-clause-heard : goal.returns-in-Ok-clause-heard

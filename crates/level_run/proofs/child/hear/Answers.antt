@@ -2,10 +2,10 @@ use Rattle.std.proofs.Common.{rules, ◌∙◌, ap}
 use Rattle.gen_lines.specs.declared.answer.Why.TheVariants.{TooLong}
 use Rattle.session_core.specs.Heard.{number_at}
 use Rattle.gen_lines.specs.Lines.{left_after}
-use Rattle.level_run.proofs.Broken.{hears_given, hears_none, hears_refused, tells_blamed, tells_refused}
-use Rattle.level_run.proofs.Called.{reads_given}
-use Rattle.level_run.proofs.Filling.{takes_kept, too_long_kept}
-use Rattle.level_run.proofs.Stopping.{err_map, handed, on_ok}
+use Rattle.level_run.proofs.BreakingLemmas.{hears_given, hears_none, hears_refused, tells_blamed, tells_refused}
+use Rattle.level_run.proofs.CallsRoundLemmas.{reads_given}
+use Rattle.level_run.proofs.TalkingLineLemmas.{takes_kept, too_long_kept}
+use Rattle.level_run.proofs.StoppedLemmas.{err_map, handed, on_ok}
 use Rattle.level_run.proofs.child.hear.Goals as goal
 
 pub returns-in-Line-clause-taken : goal.returns-in-Line-clause-taken

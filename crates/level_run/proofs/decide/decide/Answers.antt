@@ -1,8 +1,8 @@
 use Rattle.std.proofs.Common.{◌^◌, ◌<◌, sym, subst, rules, tests}
 use Rattle.best_first.specs.Answer.{IsNothing}
 use Rattle.shown_plan.specs.Shown.{AreNamedSteps, ShowsPlan}
-use Rattle.transcript_text.specs.Transcript.{names_of}
-use Rattle.level_run.proofs.Deciding.{few_there, found_limit, found_plan, plan_sure, states_sure, steps_named, unsolvable_there}
+use Rattle.transcript_model.specs.Transcript.{names_of}
+use Rattle.level_run.proofs.TurnsOutcomeLemmas.{few_there, found_limit, found_plan, plan_sure, states_sure, steps_named, unsolvable_there}
 use Rattle.level_run.proofs.decide.decide.Goals as goal
 
 pub plan_outcome-requires-clause-steps : goal.plan_outcome-requires-clause-steps

@@ -1,5 +1,5 @@
 use Rattle.std.proofs.Common.{length, ap, sym, ◌∙◌, ◌==◌, ◌<◌}
-use Rattle.level_run.proofs.Deciding.{calls_sure, filled_of, first_of}
+use Rattle.level_run.proofs.TurnsOutcomeLemmas.{calls_sure, filled_of, first_of}
 use Rattle.level_run.proofs.decide.decide_dues.Goals as goal
 
 pub returns-then-asks-head-clause-decided : goal.returns-then-asks-head-clause-decided

@@ -1,8 +1,8 @@
 use Rattle.std.proofs.Common.{◌∙◌, ◌++◌, ◌∷◌, [], append_assoc, codes}
 use Rattle.std.specs.Fmt.{decimal}
-use Rattle.transcript_text.specs.Texts.{call_fields, fields_text}
-use Rattle.level_run.proofs.Pieced.{line_further, prints_cut, prints_last, prints_later}
-use Rattle.level_run.proofs.Stopping.{appends_then}
+use Rattle.report_text.specs.Texts.{call_fields, fields_text}
+use Rattle.level_run.proofs.PiecesLemmas.{line_further, prints_cut, prints_last, prints_later}
+use Rattle.level_run.proofs.StoppedLemmas.{appends_then}
 use Rattle.level_run.proofs.entry_line.put_ask.Goals as goal
 
 pub returns-in_err-put_begun-clause-told : goal.returns-in_err-put_begun-clause-told

@@ -1,7 +1,7 @@
 use Rattle.std.proofs.Common.{◌++◌, ◌∷◌, [], append_assoc, sym, ◌∙◌}
-use Rattle.transcript_text.specs.Texts.{fields_text}
-use Rattle.level_run.proofs.Pieced.{prints_cut, prints_last, prints_later}
-use Rattle.level_run.proofs.Stopping.{appends_then}
+use Rattle.report_text.specs.Texts.{fields_text}
+use Rattle.level_run.proofs.PiecesLemmas.{prints_cut, prints_last, prints_later}
+use Rattle.level_run.proofs.StoppedLemmas.{appends_then}
 use Rattle.level_run.proofs.entry_line.put_call.Goals as goal
 
 pub returns-in_err-put_field-clause-told : goal.returns-in_err-put_field-clause-told

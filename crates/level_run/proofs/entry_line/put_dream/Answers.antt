@@ -1,8 +1,8 @@
 use Rattle.std.proofs.Common.{◌∙◌, ◌++◌, ◌∷◌, [], append_assoc, codes, length, map}
 use Rattle.std.specs.Fmt.{decimal}
-use Rattle.transcript_text.specs.Texts.{line, line_text, lines_text, step_line, use_line}
-use Rattle.level_run.proofs.Pieced.{lines_three, prints_cut, prints_last, prints_later}
-use Rattle.level_run.proofs.Stopping.{appends_then}
+use Rattle.report_text.specs.Texts.{line, line_text, lines_text, step_line, use_line}
+use Rattle.level_run.proofs.PiecesLemmas.{lines_three, prints_cut, prints_last, prints_later}
+use Rattle.level_run.proofs.StoppedLemmas.{appends_then}
 use Rattle.level_run.proofs.entry_line.put_dream.Goals as goal
 
 pub returns-in_err-put_pair-clause-told : goal.returns-in_err-put_pair-clause-told

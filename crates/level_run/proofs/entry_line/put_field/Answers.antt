@@ -1,5 +1,5 @@
 use Rattle.std.proofs.Common.{refl}
-use Rattle.level_run.proofs.Pieced.{prints_last}
+use Rattle.level_run.proofs.PiecesLemmas.{prints_last}
 use Rattle.level_run.proofs.entry_line.put_field.Goals as goal
 
 pub returns-clause-told : goal.returns-clause-told

@@ -1,8 +1,8 @@
 use Rattle.std.proofs.Common.{◌∷◌, ◌++◌, ◌+◌, ◌∙◌, arith, drop, subst, sym, take}
 use Rattle.std.specs.Io.KnownBytes.{Appends}
-use Rattle.transcript_text.specs.Texts.{fields_text}
-use Rattle.level_run.proofs.Pieced.{around, flat_map_next, prints_later}
-use Rattle.level_run.proofs.Stopping.{appends_then}
+use Rattle.report_text.specs.Texts.{fields_text}
+use Rattle.level_run.proofs.PiecesLemmas.{around, flat_map_next, prints_later}
+use Rattle.level_run.proofs.StoppedLemmas.{appends_then}
 use Rattle.level_run.proofs.entry_line.put_names.Goals as goal
 
 pub returns-in_err-put_field-clause-told : goal.returns-in_err-put_field-clause-told

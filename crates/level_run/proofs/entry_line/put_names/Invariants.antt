@@ -1,6 +1,6 @@
 use Rattle.std.proofs.Common.{◌≤◌, take}
 use Rattle.std.specs.Io.KnownBytes.{Appends}
-use Rattle.transcript_text.specs.Texts.{fields_text}
+use Rattle.report_text.specs.Texts.{fields_text}
 use Rattle.level_run.proofs.entry_line.put_names.Given as goal
 
 -- so many names were written

@@ -1,6 +1,6 @@
 use Rattle.std.proofs.Common.{[]}
 use Rattle.std.specs.Fmt.{decimal}
-use Rattle.level_run.proofs.Pieced.{line_more, prints_last}
+use Rattle.level_run.proofs.PiecesLemmas.{line_more, prints_last}
 use Rattle.level_run.proofs.entry_line.put_numbered.Goals as goal
 
 pub returns-clause-told : goal.returns-clause-told

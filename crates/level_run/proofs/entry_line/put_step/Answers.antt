@@ -1,6 +1,6 @@
 use Rattle.std.proofs.Common.{◌++◌, ◌∷◌, [], append_assoc, codes}
-use Rattle.transcript_text.specs.Texts.{call_fields, fields_text}
-use Rattle.level_run.proofs.Pieced.{prints_cut, prints_last}
+use Rattle.report_text.specs.Texts.{call_fields, fields_text}
+use Rattle.level_run.proofs.PiecesLemmas.{prints_cut, prints_last}
 use Rattle.level_run.proofs.entry_line.put_step.Goals as goal
 
 pub returns-in_err-put-clause-told : goal.returns-in_err-put-clause-told

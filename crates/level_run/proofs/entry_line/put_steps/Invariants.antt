@@ -1,6 +1,6 @@
 use Rattle.std.proofs.Common.{◌≤◌, map, take}
 use Rattle.std.specs.Io.KnownBytes.{Appends}
-use Rattle.transcript_text.specs.Texts.{lines_text, step_line}
+use Rattle.report_text.specs.Texts.{lines_text, step_line}
 use Rattle.level_run.proofs.entry_line.put_steps.Given as goal
 
 -- so many steps were written

@@ -1,6 +1,6 @@
 use Rattle.std.proofs.Common.{◌+◌, ◌*◌, ◌≤◌, length}
-use Rattle.transcript_text.specs.Texts.{fields_text, tuples_of, tuple_fields}
-use Rattle.level_run.proofs.Pieced.{IsBehind}
+use Rattle.report_text.specs.Texts.{fields_text, tuples_of, tuple_fields}
+use Rattle.level_run.proofs.PiecesLemmas.{IsBehind}
 use Rattle.level_run.proofs.entry_line.put_tuples.Given as goal
 
 -- what was written and what is left are the whole, and enough is left

@@ -1,7 +1,7 @@
 use Rattle.std.proofs.Common.{◌++◌, ◌∷◌, [], codes}
 use Rattle.std.specs.Fmt.{decimal}
-use Rattle.transcript_text.specs.Texts.{call_fields, fields_text}
-use Rattle.level_run.proofs.Pieced.{line_more, prints_cut, prints_last}
+use Rattle.report_text.specs.Texts.{call_fields, fields_text}
+use Rattle.level_run.proofs.PiecesLemmas.{line_more, prints_cut, prints_last}
 use Rattle.level_run.proofs.entry_line.put_use.Goals as goal
 
 pub returns-in_err-put_begun-clause-told : goal.returns-in_err-put_begun-clause-told

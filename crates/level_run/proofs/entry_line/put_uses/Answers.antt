@@ -1,8 +1,8 @@
 use Rattle.std.proofs.Common.{◌+◌, arith, drop, map, subst, sym}
 use Rattle.std.specs.Io.KnownBytes.{Appends}
-use Rattle.transcript_text.specs.Texts.{line_text, lines_text, use_line}
-use Rattle.level_run.proofs.Pieced.{lines_around, lines_next, prints_later}
-use Rattle.level_run.proofs.Stopping.{appends_then}
+use Rattle.report_text.specs.Texts.{line_text, lines_text, use_line}
+use Rattle.level_run.proofs.PiecesLemmas.{lines_around, lines_next, prints_later}
+use Rattle.level_run.proofs.StoppedLemmas.{appends_then}
 use Rattle.level_run.proofs.entry_line.put_uses.Goals as goal
 
 pub returns-in_err-put_use-clause-told : goal.returns-in_err-put_use-clause-told

@@ -1,7 +1,7 @@
 use Rattle.std.proofs.Common.{◌∙◌, refl}
-use Rattle.level_run.proofs.Reporting.{broken_before, broken_stopped, reported_behind}
-use Rattle.level_run.proofs.Running.{stops_none}
-use Rattle.level_run.proofs.Stopping.{err_map, handed, ok_each}
+use Rattle.level_run.proofs.ReportsLemmas.{broken_before, broken_stopped, reported_behind}
+use Rattle.level_run.proofs.CallsRunLemmas.{stops_none}
+use Rattle.level_run.proofs.StoppedLemmas.{err_map, handed, ok_each}
 use Rattle.level_run.specs.declared.fault.RunFault.TheVariants.{Memory}
 use Rattle.level_run.proofs.incremental_mode.incremental.Goals as goal
 

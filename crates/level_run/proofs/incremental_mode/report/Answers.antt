@@ -1,8 +1,8 @@
 use Rattle.std.proofs.Common.{refl, sym, ◌∙◌}
 use Rattle.io_world.specs.Faults.{last_count}
-use Rattle.level_run.proofs.Running.{ran_of}
-use Rattle.level_run.proofs.Reporting.{broken_behind, broken_end, broken_head, broken_levels, reported, told_so_far}
-use Rattle.level_run.proofs.Stopping.{cause_handed, handed, handed_err, no_cause, written_cause, written_no_generator}
+use Rattle.level_run.proofs.CallsRunLemmas.{ran_of}
+use Rattle.level_run.proofs.ReportsLemmas.{broken_behind, broken_end, broken_head, broken_levels, reported, told_so_far}
+use Rattle.level_run.proofs.StoppedLemmas.{cause_handed, handed, handed_err, no_cause, written_cause, written_no_generator}
 use Rattle.level_run.specs.declared.fault.RunFault.TheVariants.{Generator, Memory, Write}
 use Rattle.level_run.proofs.incremental_mode.report.Goals as goal
 

@@ -1,9 +1,9 @@
 use Rattle.std.proofs.Common.{◌≡◌, ◌⊎◌, ◌++◌, ◌∷◌, [], inl, inr, length, refl}
-use Rattle.transcript_text.specs.declared.entry.Entry.TheVariants as entry
-use Rattle.level_run.proofs.Levelling.{level_legal}
-use Rattle.level_run.proofs.Pieced.{printed_part}
-use Rattle.level_run.proofs.Stopping.{err_map, handed, stopped_at, stopped_memory}
-use Rattle.level_run.proofs.Telling.{broken_marked, broken_told}
+use Rattle.transcript_model.specs.declared.entry.Entry.TheVariants as entry
+use Rattle.level_run.proofs.TurnsLevelLemmas.{level_legal}
+use Rattle.level_run.proofs.PiecesLemmas.{printed_part}
+use Rattle.level_run.proofs.StoppedLemmas.{err_map, handed, stopped_at, stopped_memory}
+use Rattle.level_run.proofs.TalkingLemmas.{broken_marked, broken_told}
 use Rattle.level_run.specs.declared.fault.RunFault.TheVariants.{Memory}
 use Rattle.level_run.proofs.levels.mark_level.Goals as goal
 

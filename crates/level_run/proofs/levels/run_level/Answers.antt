@@ -1,23 +1,23 @@
 use Rattle.std.proofs.Common.{◌≡◌, ◌⊎◌, ◌++◌, ◌∷◌, [], List, sym, subst, length}
 use Rattle.session_core.specs.Ready.{AreReady}
 use Rattle.instance_queue.specs.Level.{instances_of}
-use Rattle.transcript_text.specs.Legal.{HasNoneOpen}
-use Rattle.transcript_text.specs.Rounds.{IsBatch, limits_of}
-use Rattle.transcript_text.specs.declared.entry.Entry.{Entry}
-use Rattle.transcript_text.specs.declared.entry.Entry.TheVariants as entry
-use Rattle.level_run.proofs.Fronting.{all_work, front_level, front_marked}
-use Rattle.level_run.proofs.Levelling.{level_of, ready_marked}
-use Rattle.level_run.proofs.Running.{runs_marked}
-use Rattle.level_run.proofs.Starting.{level_ok}
-use Rattle.level_run.proofs.Broken.{tells_written}
-use Rattle.level_run.proofs.BrokenRuns.{marked_level, quiet_level}
-use Rattle.level_run.proofs.Stopping.{err_map, goes_then, handed, ok_map, stopped_as, stopped_then}
+use Rattle.transcript_model.specs.Legal.{HasNoneOpen}
+use Rattle.transcript_model.specs.Rounds.{IsBatch, limits_of}
+use Rattle.transcript_model.specs.declared.entry.Entry.{Entry}
+use Rattle.transcript_model.specs.declared.entry.Entry.TheVariants as entry
+use Rattle.level_run.proofs.RollingFrontLemmas.{all_work, front_level, front_marked}
+use Rattle.level_run.proofs.TurnsLevelLemmas.{level_of, ready_marked}
+use Rattle.level_run.proofs.CallsRunLemmas.{runs_marked}
+use Rattle.level_run.proofs.StartsLemmas.{level_ok}
+use Rattle.level_run.proofs.BreakingLemmas.{tells_written}
+use Rattle.level_run.proofs.BreakingRunLemmas.{marked_level, quiet_level}
+use Rattle.level_run.proofs.StoppedLemmas.{err_map, goes_then, handed, ok_map, stopped_as, stopped_then}
 use Rattle.level_run.specs.Breaking.{LevelBreaks, RunBreaks}
 use Rattle.level_run.specs.Rolling.{Goes, IsFront, Stopped}
 use Rattle.level_run.specs.Turns.{EndsBatch, IsSomeLevel}
 use Rattle.level_run.specs.Dialogue.{workers_in}
 use Rattle.level_run.specs.Talking.{IsTold, held_of}
-use Rattle.level_run.proofs.Telling.{told_marked}
+use Rattle.level_run.proofs.TalkingLemmas.{told_marked}
 use Rattle.level_run.proofs.levels.run_level.Goals as goal
 
 pub batch-requires-clause-ready : goal.batch-requires-clause-ready

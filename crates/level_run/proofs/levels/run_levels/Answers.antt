@@ -1,15 +1,15 @@
 use Rattle.std.proofs.Common.{◌+◌, [], length, sym, subst, ap, refl, inl, inr, ◌∙◌, arith}
-use Rattle.transcript_text.specs.Legal.{HasNoneOpen, IsLegal}
-use Rattle.level_run.proofs.Counting.{level_counts, spent_some}
-use Rattle.level_run.proofs.Deciding.{all_asked, decided_dues, decided_outcome, done_of, spent_sure}
-use Rattle.level_run.proofs.Fronting.{run_between, run_inside}
-use Rattle.level_run.proofs.Broken.{tells_memory}
-use Rattle.level_run.proofs.BrokenRuns.{counted_level, levels_needed, quiet_level}
+use Rattle.transcript_model.specs.Legal.{HasNoneOpen, IsLegal}
+use Rattle.level_run.proofs.ReportsCountLemmas.{level_counts, spent_some}
+use Rattle.level_run.proofs.TurnsOutcomeLemmas.{all_asked, decided_dues, decided_outcome, done_of, spent_sure}
+use Rattle.level_run.proofs.RollingFrontLemmas.{run_between, run_inside}
+use Rattle.level_run.proofs.BreakingLemmas.{tells_memory}
+use Rattle.level_run.proofs.BreakingRunLemmas.{counted_level, levels_needed, quiet_level}
 use Rattle.level_run.specs.Breaking.{LevelBreaks}
-use Rattle.level_run.proofs.Running.{runs_then}
-use Rattle.level_run.proofs.Standing.{run_at, run_cut, standing_next}
-use Rattle.level_run.proofs.Stopping.{goes_then, handed, stopped_as, stopped_memory, stopped_then}
-use Rattle.level_run.proofs.Telling.{broken_told, dialogue_told}
+use Rattle.level_run.proofs.CallsRunLemmas.{runs_then}
+use Rattle.level_run.proofs.TurnsLemmas.{run_at, run_cut, standing_next}
+use Rattle.level_run.proofs.StoppedLemmas.{goes_then, handed, stopped_as, stopped_memory, stopped_then}
+use Rattle.level_run.proofs.TalkingLemmas.{broken_told, dialogue_told}
 use Rattle.level_run.specs.Dialogue.{workers_in}
 use Rattle.level_run.specs.Talking.{held_of}
 use Rattle.level_run.specs.Rolling.{IsFront}

@@ -1,7 +1,7 @@
 use Rattle.std.proofs.Common.{◌≡◌, ◌⊎◌, ◌-◌, ◌≤◌, [], false, length, count_by}
 use Rattle.io_world.specs.Talks.{Same}
 use Rattle.session_core.specs.Session.{IsLearnt, IsOf, IsSession}
-use Rattle.level_run.proofs.Standing.{Standing}
+use Rattle.level_run.proofs.TurnsLemmas.{Standing}
 use Rattle.level_run.proofs.levels.run_levels.Given as goal
 use Rattle.level_run.specs.Held.{is_running}
 use Rattle.level_run.specs.Reports.{is_level}

@@ -1,10 +1,10 @@
 use Rattle.std.proofs.Common.{◌+◌, ◌++◌, ap, subst, take, ◌∙◌, arith}
 use Rattle.session_core.specs.State.{State, with_slots}
-use Rattle.transcript_text.specs.Rounds.{IsRound}
-use Rattle.level_run.proofs.Broken.{breaks_then}
+use Rattle.transcript_model.specs.Rounds.{IsRound}
+use Rattle.level_run.proofs.BreakingLemmas.{breaks_then}
 use Rattle.level_run.specs.Breaking.{LogBreaks}
-use Rattle.level_run.proofs.Calling.{calls_then}
-use Rattle.level_run.proofs.Stopping.{goes_then, handed, stopped_then}
+use Rattle.level_run.proofs.CallsLemmas.{calls_then}
+use Rattle.level_run.proofs.StoppedLemmas.{goes_then, handed, stopped_then}
 use Rattle.level_run.specs.Calls.{Calls}
 use Rattle.level_run.specs.Rolling.{Goes, IsFront, Stopped, finished}
 use Rattle.level_run.proofs.round.hear_all.Goals as goal

@@ -1,19 +1,19 @@
 use Rattle.std.proofs.Common.{◌≡◌, ◌+◌, ◌++◌, ◌∷◌, [], ap, sym, subst, ◌∙◌, Some, IfSome, take, arith, length}
 use Rattle.std.specs.Option.{option_copied}
-use Rattle.session_core.proofs.Answered.{there_at}
+use Rattle.session_core.proofs.LearningLemmas.{there_at}
 use Rattle.session_core.specs.Slots.{IsAwaited}
-use Rattle.transcript_text.specs.Legal.{HasNoneOpen, IsLegal}
-use Rattle.transcript_text.specs.Rounds.{IsRound}
-use Rattle.level_run.proofs.Broken.{breaks_done, tells_write}
-use Rattle.level_run.proofs.Called.{heard_calls}
-use Rattle.level_run.proofs.CalledOff.{heard_off}
+use Rattle.transcript_model.specs.Legal.{HasNoneOpen, IsLegal}
+use Rattle.transcript_model.specs.Rounds.{IsRound}
+use Rattle.level_run.proofs.BreakingLemmas.{breaks_done, tells_write}
+use Rattle.level_run.proofs.CallsRoundLemmas.{heard_calls}
+use Rattle.level_run.proofs.CallsBrokenLemmas.{heard_off}
 use Rattle.level_run.specs.Breaking.{LogBreaks}
-use Rattle.level_run.proofs.Calling.{calls_one}
-use Rattle.level_run.proofs.Printed.{answers_legal, front_answers, round_legal}
-use Rattle.level_run.proofs.Rounding.{awaited_there, heard_more, printed_there, rolling_same, started_within}
-use Rattle.level_run.proofs.Stopping.{err_map, goes_one, handed, ok_map, on_ok, stopped_at, stopped_blamed}
-use Rattle.level_run.proofs.Talked.{broken_answered, broken_hearing, may_blame, talking_heard}
-use Rattle.level_run.proofs.Pieced.{printed_all, printed_part}
+use Rattle.level_run.proofs.CallsLemmas.{calls_one}
+use Rattle.level_run.proofs.RollingPrintLemmas.{answers_legal, front_answers, round_legal}
+use Rattle.level_run.proofs.RollingLemmas.{awaited_there, heard_more, printed_there, rolling_same, started_within}
+use Rattle.level_run.proofs.StoppedLemmas.{err_map, goes_one, handed, ok_map, on_ok, stopped_at, stopped_blamed}
+use Rattle.level_run.proofs.TalkingRoundLemmas.{broken_answered, broken_hearing, may_blame, talking_heard}
+use Rattle.level_run.proofs.PiecesLemmas.{printed_all, printed_part}
 use Rattle.level_run.specs.Calls.{LogFollows}
 use Rattle.level_run.specs.Rolling.{IsFront, finished}
 use Rattle.level_run.specs.Talking.{Misheard, held_of}

@@ -2,16 +2,16 @@ use Rattle.std.proofs.Common.{◌≡◌, ℕ, ◌++◌, ap, sym, subst, ◌∙�
 use Rattle.instance_queue.specs.Level.{instances_of}
 use Rattle.session_core.specs.Session.{begun}
 use Rattle.session_core.specs.State.{State}
-use Rattle.transcript_text.specs.Legal.{HasNoneOpen, IsLegal}
-use Rattle.level_run.proofs.Broken.{breaks_none, breaks_then, tells_memory}
+use Rattle.transcript_model.specs.Legal.{HasNoneOpen, IsLegal}
+use Rattle.level_run.proofs.BreakingLemmas.{breaks_none, breaks_then, tells_memory}
 use Rattle.level_run.specs.Breaking.{LogBreaks}
-use Rattle.level_run.proofs.Called.{round_order}
-use Rattle.transcript_text.specs.Rounds.{IsRound}
-use Rattle.level_run.proofs.Fronting.{front_first, front_whole, round_exists}
-use Rattle.level_run.proofs.Rounding.{all_heard, count_is, rolling_begun, round_end}
-use Rattle.level_run.proofs.Stopping.{handed, stopped_memory, stopped_then}
-use Rattle.level_run.proofs.Talked.{round_told, talking_begun}
-use Rattle.level_run.proofs.Telling.{broken_run}
+use Rattle.level_run.proofs.CallsRoundLemmas.{round_order}
+use Rattle.transcript_model.specs.Rounds.{IsRound}
+use Rattle.level_run.proofs.RollingFrontLemmas.{front_first, front_whole, round_exists}
+use Rattle.level_run.proofs.RollingLemmas.{all_heard, count_is, rolling_begun, round_end}
+use Rattle.level_run.proofs.StoppedLemmas.{handed, stopped_memory, stopped_then}
+use Rattle.level_run.proofs.TalkingRoundLemmas.{round_told, talking_begun}
+use Rattle.level_run.proofs.TalkingLemmas.{broken_run}
 use Rattle.level_run.specs.Calls.{Calls}
 use Rattle.level_run.specs.Rolling.{Goes, IsFront, IsRolling, Stopped}
 use Rattle.level_run.specs.Talking.{IsTalking, IsTold, held_of}

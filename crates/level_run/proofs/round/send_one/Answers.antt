@@ -1,20 +1,20 @@
 use Rattle.std.proofs.Common.{◌≡◌, ◌+◌, ◌++◌, ◌∷◌, [], ap, sym, subst, ◌∙◌, slice_get, Some, IfSome, take, arith}
-use Rattle.session_core.proofs.Answered.{there_at}
+use Rattle.session_core.proofs.LearningLemmas.{there_at}
 use Rattle.session_core.specs.Session.{IsSession}
 use Rattle.session_core.specs.Slots.{IsUnsent}
 use Rattle.session_core.specs.State.{State, after_sent}
-use Rattle.transcript_text.specs.Rounds.{IsRound}
-use Rattle.level_run.proofs.Broken.{breaks_done, tells_write}
-use Rattle.level_run.proofs.Called.{sent_calls}
-use Rattle.level_run.proofs.CalledOff.{sent_part}
+use Rattle.transcript_model.specs.Rounds.{IsRound}
+use Rattle.level_run.proofs.BreakingLemmas.{breaks_done, tells_write}
+use Rattle.level_run.proofs.CallsRoundLemmas.{sent_calls}
+use Rattle.level_run.proofs.CallsBrokenLemmas.{sent_part}
 use Rattle.level_run.specs.Breaking.{LogBreaks}
-use Rattle.transcript_text.specs.Legal.{HasNoneOpen}
-use Rattle.level_run.proofs.Calling.{calls_one}
-use Rattle.level_run.proofs.Printed.{asks_legal, front_asks, one_more, round_legal}
-use Rattle.level_run.proofs.Rounding.{rolling_same, rolling_sent, unsent_there}
-use Rattle.level_run.proofs.Stopping.{err_map, goes_one, handed, ok_map, on_ok, stopped_at, stopped_hearing}
-use Rattle.level_run.proofs.Talked.{broken_after, broken_part, next_legal, talking_sent_by}
-use Rattle.level_run.proofs.Pieced.{printed_all, printed_part}
+use Rattle.transcript_model.specs.Legal.{HasNoneOpen}
+use Rattle.level_run.proofs.CallsLemmas.{calls_one}
+use Rattle.level_run.proofs.RollingPrintLemmas.{asks_legal, front_asks, one_more, round_legal}
+use Rattle.level_run.proofs.RollingLemmas.{rolling_same, rolling_sent, unsent_there}
+use Rattle.level_run.proofs.StoppedLemmas.{err_map, goes_one, handed, ok_map, on_ok, stopped_at, stopped_hearing}
+use Rattle.level_run.proofs.TalkingRoundLemmas.{broken_after, broken_part, next_legal, talking_sent_by}
+use Rattle.level_run.proofs.PiecesLemmas.{printed_all, printed_part}
 use Rattle.level_run.specs.Rolling.{IsFront, IsRolling, finished}
 use Rattle.level_run.specs.Talking.{IsTalking}
 use Rattle.level_run.proofs.round.send_one.Goals as goal

@@ -1,5 +1,5 @@
 use Rattle.std.proofs.Common.{◌≡◌, map, string_bytes, Some, refl, subst, sym}
-use Rattle.pddlstream_app.proofs.Closing.{untouched_each}
+use Rattle.pddlstream_app.proofs.RunsLemmas.{untouched_each}
 use Rattle.pddlstream_app.specs.Words.{command_of, held}
 use Rattle.pddlstream_app.proofs.command.attempt.Goals as goal
 

@@ -1,8 +1,8 @@
 use Rattle.std.proofs.Common.{◌≡◌, Err, ap, map, string_bytes, sym, ◌∙◌}
 use Rattle.io_world.specs.Faults.{last_count, Rose}
-use Rattle.pddlstream_app.proofs.Asking.{asked_closed}
-use Rattle.pddlstream_app.proofs.Closing.{ends_closed, ends_completed, ends_written, other_stop, write_stop}
-use Rattle.pddlstream_app.proofs.Completing.{answered_close, answered_outcome, sink_whole, stops_for_memory}
+use Rattle.pddlstream_app.proofs.AskedLemmas.{asked_closed}
+use Rattle.pddlstream_app.proofs.RunsLemmas.{ends_closed, ends_completed, ends_written, other_stop, write_stop}
+use Rattle.pddlstream_app.proofs.CompleteLemmas.{answered_close, answered_outcome, sink_whole, stops_for_memory}
 use Rattle.pddlstream_app.proofs.command.run.Goals as goal
 
 pub returns-in-Ok-clause-ends : goal.returns-in-Ok-clause-ends

@@ -1,5 +1,5 @@
 use Rattle.std.proofs.Common.{◌≡◌}
-use Rattle.task_model.specs.Lists.{numbers_from}
+use Rattle.lemmas.specs.Lists.{numbers_from}
 use Rattle.pddlstream_app.proofs.head.all_streams.Given as goal
 
 abbrev pub invariant-loop-stream : goal.invariant-loop-stream

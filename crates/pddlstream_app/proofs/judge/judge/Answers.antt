@@ -1,9 +1,9 @@
 use Rattle.std.proofs.Common.{sym, subst, IfOk, IfErr}
 use Rattle.io_world.specs.Faults.{last_count, Rose}
-use Rattle.level_run.proofs.Running.{stops_none}
-use Rattle.level_run.proofs.Stopping.{handed}
-use Rattle.pddlstream_app.proofs.Closing.{stopped_reading}
-use Rattle.pddlstream_app.proofs.Judging.{asked_said, asked_unsaid}
+use Rattle.level_run.proofs.CallsRunLemmas.{stops_none}
+use Rattle.level_run.proofs.StoppedLemmas.{handed}
+use Rattle.pddlstream_app.proofs.RunsLemmas.{stopped_reading}
+use Rattle.pddlstream_app.proofs.ReplaysLemmas.{asked_said, asked_unsaid}
 use Rattle.pddlstream_app.specs.Inputs.{IsTaskOf}
 use Rattle.pddlstream_app.specs.Runs.{IsCompleted, IsStopped}
 use Rattle.pddlstream_app.specs.Words.{held_files, held_replay, replay}

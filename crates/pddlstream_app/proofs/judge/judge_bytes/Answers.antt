@@ -1,4 +1,4 @@
-use Rattle.pddlstream_app.proofs.Judging.{said_of}
+use Rattle.pddlstream_app.proofs.ReplaysLemmas.{said_of}
 use Rattle.pddlstream_app.proofs.judge.judge_bytes.Goals as goal
 
 pub returns-clause-said : goal.returns-clause-said

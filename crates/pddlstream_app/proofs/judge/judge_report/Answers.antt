@@ -1,10 +1,10 @@
 use Rattle.std.proofs.Common.{subst}
 use Rattle.io_world.specs.Faults.{last_count, Rose}
-use Rattle.level_run.proofs.Running.{stops_none}
-use Rattle.level_run.proofs.Stopping.{handed}
-use Rattle.pddlstream_app.proofs.Closing.{stopped_report}
-use Rattle.pddlstream_app.proofs.Judging.{completed_said, stopped_said}
-use Rattle.pddlstream_app.proofs.Reading.{rose_since, unread_later}
+use Rattle.level_run.proofs.CallsRunLemmas.{stops_none}
+use Rattle.level_run.proofs.StoppedLemmas.{handed}
+use Rattle.pddlstream_app.proofs.RunsLemmas.{stopped_report}
+use Rattle.pddlstream_app.proofs.ReplaysLemmas.{completed_said, stopped_said}
+use Rattle.pddlstream_app.proofs.InputsLemmas.{rose_since, unread_later}
 use Rattle.pddlstream_app.specs.Inputs.{report_bytes}
 use Rattle.pddlstream_app.specs.Runs.{IsSaidOf}
 use Rattle.pddlstream_app.specs.Words.{held_replay}

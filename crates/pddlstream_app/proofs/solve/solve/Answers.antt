@@ -1,9 +1,9 @@
 use Rattle.std.proofs.Common.{◌≡◌, refl}
-use Rattle.pddlstream_app.proofs.Asking.{asked_running}
-use Rattle.pddlstream_app.proofs.Closing.{completed, stopped_early, stopped_reading, stopped_running}
-use Rattle.level_run.proofs.Running.{stops_none}
-use Rattle.level_run.proofs.Stopping.{handed}
-use Rattle.pddlstream_app.proofs.Heading.{runnable_head}
+use Rattle.pddlstream_app.proofs.AskedLemmas.{asked_running}
+use Rattle.pddlstream_app.proofs.RunsLemmas.{completed, stopped_early, stopped_reading, stopped_running}
+use Rattle.level_run.proofs.CallsRunLemmas.{stops_none}
+use Rattle.level_run.proofs.StoppedLemmas.{handed}
+use Rattle.pddlstream_app.proofs.HeadsLemmas.{runnable_head}
 use Rattle.pddlstream_app.specs.Words.{held_solve, solve}
 use Rattle.level_run.specs.declared.fault.RunFault.TheVariants as fault
 use Rattle.pddlstream_app.specs.declared.stop.Stop.TheVariants as stop

@@ -1,5 +1,5 @@
 use Rattle.pddlstream_app.specs.Words.{held_files}
-use Rattle.pddlstream_app.proofs.Reading.{fit_if_spelled}
+use Rattle.pddlstream_app.proofs.InputsLemmas.{fit_if_spelled}
 use Rattle.pddlstream_app.proofs.texts.read_input.Goals as goal
 
 pub returns-clause-fit : goal.returns-clause-fit

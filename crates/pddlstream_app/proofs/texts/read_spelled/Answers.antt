@@ -1,8 +1,8 @@
 use Rattle.std.proofs.Common.{◌∙◌}
 use Rattle.io_world.specs.Faults.{last_count, Rose}
-use Rattle.level_run.proofs.Stopping.{handed}
-use Rattle.pddlstream_app.proofs.Asking.{stopped_at_problem, stopped_at_streams}
-use Rattle.pddlstream_app.proofs.Reading.{refused_later, rose_since}
+use Rattle.level_run.proofs.StoppedLemmas.{handed}
+use Rattle.pddlstream_app.proofs.AskedLemmas.{stopped_at_problem, stopped_at_streams}
+use Rattle.pddlstream_app.proofs.InputsLemmas.{refused_later, rose_since}
 use Rattle.pddlstream_app.specs.Words.{held_files}
 use Rattle.pddlstream_app.proofs.texts.read_spelled.Goals as goal
 

@@ -2,7 +2,7 @@ use Rattle.std.proofs.Common.{rules, ◌≡◌, refl, true, false}
 use Rattle.std.specs.List.{list_all}
 use Rattle.std.specs.Char.{is_ascii_digit}
 use Rattle.pddlstream_app.specs.Words.{is_count}
-use Rattle.pddlstream_app.proofs.Counting.{not_count}
+use Rattle.pddlstream_app.proofs.WordsDigitLemmas.{not_count}
 use Rattle.pddlstream_app.proofs.words.count_of.Goals as goal
 
 pub returns-in_default-clause-value : goal.returns-in_default-clause-value

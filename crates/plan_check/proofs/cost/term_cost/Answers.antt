@@ -1,5 +1,5 @@
 use Rattle.std.proofs.Common.{◌≤◌, sym, subst, IfSome}
-use Rattle.plan_check.proofs.Costs.{value_small}
+use Rattle.plan_check.proofs.CostLemmas.{value_small}
 use Rattle.plan_check.proofs.cost.term_cost.Goals as goal
 
 pub returns-in-Value-clause-small : goal.returns-in-Value-clause-small

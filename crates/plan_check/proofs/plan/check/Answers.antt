@@ -2,9 +2,9 @@ use Rattle.std.proofs.Common.{◌∙◌, sym, ap, subst, arith}
 use Rattle.task_model.specs.Initial.{initial_state}
 use Rattle.task_model.specs.Plans.{Executes}
 use Rattle.task_model.specs.Truth.{is_true}
-use Rattle.formula_eval.proofs.Readers.{fit_readable}
+use Rattle.formula_eval.proofs.ReadableLemmas.{fit_readable}
 use Rattle.plan_check.specs.Faults.{Runs}
-use Rattle.plan_check.proofs.Runs.{run_fails}
+use Rattle.plan_check.proofs.FaultsLemmas.{run_fails}
 use Rattle.plan_check.proofs.plan.check.Goals as goal
 
 pub holds-requires-clause-readable : goal.holds-requires-clause-readable

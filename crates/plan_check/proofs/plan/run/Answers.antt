@@ -2,7 +2,7 @@ use Rattle.std.proofs.Common.{◌+◌, sym, subst, take, arith, add-one}
 use Rattle.task_model.specs.Initial.{initial_state}
 use Rattle.task_model.specs.Plans.{Executes}
 use Rattle.plan_check.specs.Faults.{Runs}
-use Rattle.plan_check.proofs.Runs.{got, next_step, fails_here}
+use Rattle.plan_check.proofs.FaultsLemmas.{got, next_step, fails_here}
 use Rattle.plan_check.proofs.plan.run.Goals as goal
 
 pub returns-in-Err-clause-err : goal.returns-in-Err-clause-err

@@ -2,8 +2,8 @@ use Rattle.std.proofs.Common.{◌≡◌, ◌≢◌, suc, ◌+◌, ◌<◌, ◌�
 use Rattle.task_model.specs.Roles.{role_of}
 use Rattle.task_model.specs.State.{insert}
 use Rattle.task_model.specs.declared.domain.Role.TheVariants as role
-use Rattle.formula_eval.proofs.Readers.{roles_length, role_kept}
-use Rattle.plan_check.proofs.Init.{state_of, state_fluent, state_other, state_whole, fit_fact, fact_kind, fact_place, static_not_fluent, derived_not_fluent}
+use Rattle.formula_eval.proofs.ReadableLemmas.{roles_length, role_kept}
+use Rattle.plan_check.proofs.InitialLemmas.{state_of, state_fluent, state_other, state_whole, fit_fact, fact_kind, fact_place, static_not_fluent, derived_not_fluent}
 use Rattle.plan_check.proofs.start.initial.Goals as goal
 use Rattle.plan_check.proofs.start.initial.Goals.{in-Fluent+in_ok-put-in-Fluent, in-Static}
 

@@ -1,5 +1,5 @@
 use Rattle.std.proofs.Common.{◌≡◌}
-use Rattle.plan_check.proofs.Init.{state_of}
+use Rattle.plan_check.proofs.InitialLemmas.{state_of}
 use Rattle.plan_check.proofs.start.initial.Given as goal
 
 -- the fluents' atoms that were passed are in the state

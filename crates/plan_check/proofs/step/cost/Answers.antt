@@ -1,7 +1,7 @@
 use Rattle.std.proofs.Common.{◌≡◌, true, subst, sym}
 use Rattle.std.specs.List.{list_all}
 use Rattle.plan_check.specs.Readable.{is_readable_cost}
-use Rattle.plan_check.proofs.Actions.{readable_action}
+use Rattle.plan_check.proofs.ReadableLemmas.{readable_action}
 use Rattle.plan_check.proofs.step.cost.Goals as goal
 
 pub terms_cost-requires-clause-readable : goal.terms_cost-requires-clause-readable

@@ -1,5 +1,5 @@
 use Rattle.std.proofs.Common.{arith}
-use Rattle.formula_eval.proofs.Readers.{fit_readable}
+use Rattle.formula_eval.proofs.ReadableLemmas.{fit_readable}
 use Rattle.planning_tests.proofs.generated.is_true.Goals as goal
 
 pub holds-requires-clause-readable : goal.holds-requires-clause-readable

@@ -1,4 +1,4 @@
-use Rattle.reader_laws.proofs.OneText.{task_not_refused}
+use Rattle.task_reader.proofs.SpelledLemmas.{task_not_refused}
 use Rattle.reader_laws.proofs.laws.spelled_texts_are_not_refused.Goals as goal
 
 pub returns : goal.returns

@@ -1,4 +1,4 @@
-use Rattle.reader_laws.proofs.OneText.{one_task}
+use Rattle.task_reader.proofs.SpelledLemmas.{one_task}
 use Rattle.reader_laws.proofs.laws.texts_spell_one_task.Goals as goal
 
 pub returns : goal.returns

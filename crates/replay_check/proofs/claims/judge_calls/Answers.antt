@@ -1,10 +1,10 @@
 use Rattle.std.proofs.Common.{◌≡◌, ◌∙◌, ◌<◌, length, arith, ap, sym, subst, not, ◌==◌}
 use Rattle.std.proofs.lemmas.Grind.{common_steps}
-use Rattle.transcript_text.specs.declared.outcome.LimitKind.TheVariants.{Calls}
-use Rattle.transcript_text.specs.declared.outcome.Outcome.TheVariants as outcome
+use Rattle.transcript_model.specs.declared.outcome.LimitKind.TheVariants.{Calls}
+use Rattle.transcript_model.specs.declared.outcome.Outcome.TheVariants as outcome
 use Rattle.replay_check.specs.Claims.{IsJudged, claim_of}
 use Rattle.replay_check.specs.Standings.{limits_by}
-use Rattle.replay_check.proofs.Calling.{other_calls, past_many, past_some, some_wait}
+use Rattle.replay_check.proofs.ClaimsCallLemmas.{other_calls, past_many, past_some, some_wait}
 use Rattle.replay_check.proofs.claims.judge_calls.Goals.{then-len-bounds-via-then-len-bounds, then-len-bounds-via-else-len-bounds+then-not-is_empty}
 use Rattle.replay_check.proofs.claims.judge_calls.Goals as goal
 

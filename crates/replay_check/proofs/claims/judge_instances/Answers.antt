@@ -1,4 +1,4 @@
-use Rattle.replay_check.proofs.Claiming.{few_due, more_due}
+use Rattle.replay_check.proofs.ClaimsLemmas.{few_due, more_due}
 use Rattle.replay_check.proofs.claims.judge_instances.Goals as goal
 
 pub returns : goal.returns

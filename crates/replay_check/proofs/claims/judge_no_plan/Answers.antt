@@ -2,7 +2,7 @@ use Rattle.std.proofs.Common.{◌≡◌, ◌<◌, length, arith, subst, sym, tru
 use Rattle.std.proofs.lemmas.Grind.{common_steps}
 use Rattle.task_model.specs.Known.{Known}
 use Rattle.task_model.specs.Plans.{IsReached, IsSolvable, MoreThan}
-use Rattle.replay_check.proofs.Claiming.{more_due, none_due_at, not_none_more, not_none_some}
+use Rattle.replay_check.proofs.ClaimsLemmas.{more_due, none_due_at, not_none_more, not_none_some}
 use Rattle.replay_check.proofs.claims.judge_no_plan.Goals as goal
 
 pub returns-in_default : goal.returns-in_default

@@ -1,11 +1,11 @@
 use Rattle.std.proofs.Common.{◌≡◌, ◌↔◌, IsTrue, true, false, subst, sym}
 use Rattle.task_model.specs.Known.{Known}
 use Rattle.task_model.specs.Plans.{IsReached, MoreThan}
-use Rattle.transcript_text.specs.declared.outcome.LimitKind.TheVariants.{States}
-use Rattle.transcript_text.specs.declared.outcome.Outcome.TheVariants as outcome
+use Rattle.transcript_model.specs.declared.outcome.LimitKind.TheVariants.{States}
+use Rattle.transcript_model.specs.declared.outcome.Outcome.TheVariants as outcome
 use Rattle.replay_check.specs.Claims.{IsJudged}
 use Rattle.replay_check.specs.Standings.{limits_by}
-use Rattle.replay_check.proofs.States.{states_decided, states_few}
+use Rattle.replay_check.proofs.ClaimsStateLemmas.{states_decided, states_few}
 use Rattle.replay_check.proofs.claims.judge_states.Goals as goal
 
 pub returns-then-limit-bounds : goal.returns-then-limit-bounds

@@ -1,6 +1,6 @@
 use Rattle.std.proofs.Common.{[], sym, subst}
 use Rattle.level_course.specs.Agendas.{Agenda}
-use Rattle.replay_check.proofs.Onward.{stands_first}
+use Rattle.replay_check.proofs.StandingsStepLemmas.{stands_first}
 use Rattle.replay_check.specs.Standings.{StandsBehind, limits_by}
 use Rattle.replay_check.proofs.entries.walk.Goals as goal
 

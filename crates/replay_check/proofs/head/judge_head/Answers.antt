@@ -1,8 +1,8 @@
 use Rattle.std.proofs.Common.{◌≡◌, ◌<◌, length, take, true, rules, tests, subst, slice_get, IfSome, List, false}
-use Rattle.transcript_text.specs.declared.head.Mode.TheVariants.{Incremental}
-use Rattle.transcript_text.specs.declared.head.PoolLine.{PoolLine}
+use Rattle.transcript_model.specs.declared.head.Mode.TheVariants.{Incremental}
+use Rattle.transcript_model.specs.declared.head.PoolLine.{PoolLine}
 use Rattle.replay_check.specs.Heads.{AreFitPoolLines, are_fit_limits, is_fit_pool}
-use Rattle.replay_check.proofs.Headings.{first_wrong}
+use Rattle.replay_check.proofs.HeadsLemmas.{first_wrong}
 use Rattle.replay_check.proofs.head.judge_head.Goals as goal
 
 pub returns-in-Err : goal.returns-in-Err

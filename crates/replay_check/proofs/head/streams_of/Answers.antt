@@ -3,8 +3,8 @@ use Rattle.std.proofs.lemmas.List.{append-nil, drop_all}
 use Rattle.std.specs.List.{filter_map, list_any}
 use Rattle.std.proofs.lemmas.Iterator.{YieldsList-from_slice}
 use Rattle.std.proofs.lemmas.Iterator.Search.{any_from_yields_List}
-use Rattle.transcript_text.specs.Names.{stream_named}
-use Rattle.replay_check.proofs.Serving.{no_stream, stream_again, stream_more, streams_more}
+use Rattle.transcript_model.specs.Names.{stream_named}
+use Rattle.replay_check.proofs.HeadsServeLemmas.{no_stream, stream_again, stream_more, streams_more}
 use Rattle.replay_check.specs.Heads.{are_new}
 use Rattle.replay_check.proofs.head.streams_of.Goals as goal
 use Rattle.replay_check.proofs.head.streams_of.Goals.{After-any}

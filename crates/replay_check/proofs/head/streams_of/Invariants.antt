@@ -1,7 +1,7 @@
 use Rattle.std.proofs.Common.{◌≡◌, ◌++◌, take, drop}
 use Rattle.std.specs.List.{filter_map}
 use Rattle.replay_check.specs.Heads.{are_new}
-use Rattle.transcript_text.specs.Names.{stream_named}
+use Rattle.transcript_model.specs.Names.{stream_named}
 use Rattle.replay_check.proofs.head.streams_of.Given as goal
 
 -- the streams of the names so far stand behind those that were served, and the rest of the names decides

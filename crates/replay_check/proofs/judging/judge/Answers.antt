@@ -1,6 +1,6 @@
 use Rattle.std.proofs.Common.{◌∙◌, sym, ap, subst}
 use Rattle.level_course.specs.Pools.{AllWork, shares_of}
-use Rattle.replay_check.proofs.Judged.{head_found, limits_fit, pools_work}
+use Rattle.replay_check.proofs.VerdictsLemmas.{head_found, limits_fit, pools_work}
 use Rattle.replay_check.specs.Headed.{IsHeaded}
 use Rattle.replay_check.specs.Verdicts.{IsReportVerdict}
 use Rattle.replay_check.proofs.judging.judge.Goals as goal

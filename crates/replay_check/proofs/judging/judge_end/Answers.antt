@@ -1,6 +1,6 @@
 use Rattle.std.proofs.Common.{◌≡◌, ◌∙◌, ◌+◌, ◌<◌, ◌^◌, List, length, sym, ap, subst, arith}
-use Rattle.transcript_text.specs.declared.entry.Entry.{Entry}
-use Rattle.replay_check.proofs.Judged.{end_line_few, open_end, outcome_at, right_end, wrong_end}
+use Rattle.transcript_model.specs.declared.entry.Entry.{Entry}
+use Rattle.replay_check.proofs.VerdictsLemmas.{end_line_few, open_end, outcome_at, right_end, wrong_end}
 use Rattle.replay_check.specs.Findings.{IsFound}
 use Rattle.replay_check.specs.Lines.{outcome_line}
 use Rattle.replay_check.specs.Standings.{limits_by}

@@ -1,7 +1,7 @@
 use Rattle.std.proofs.Common.{◌∙◌, ◌+◌, List, sym, ap, subst, arith}
-use Rattle.transcript_text.specs.declared.entry.Entry.{Entry}
-use Rattle.replay_check.proofs.Judged.{entry_found, entry_line_few}
-use Rattle.replay_check.proofs.ReportLines.{report_count}
+use Rattle.transcript_model.specs.declared.entry.Entry.{Entry}
+use Rattle.replay_check.proofs.VerdictsLemmas.{entry_found, entry_line_few}
+use Rattle.replay_check.proofs.LinesLemmas.{report_count}
 use Rattle.replay_check.specs.Verdicts.{IsReportVerdict}
 use Rattle.replay_check.specs.Walks.{IsWalked, IsWrongAt}
 use Rattle.replay_check.specs.declared.verdict.Verdict.TheVariants.{Invalid}

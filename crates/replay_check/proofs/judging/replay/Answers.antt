@@ -1,5 +1,5 @@
 use Rattle.std.proofs.Common.{◌<◌, ◌^◌, length, arith}
-use Rattle.replay_check.proofs.ReportLines.{report_short}
+use Rattle.replay_check.proofs.LinesLemmas.{report_short}
 use Rattle.replay_check.specs.Lines.{report_lines}
 use Rattle.replay_check.proofs.judging.replay.Goals as goal
 

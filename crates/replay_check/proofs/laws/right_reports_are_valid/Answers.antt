@@ -1,4 +1,4 @@
-use Rattle.replay_check.proofs.OneVerdict.{right_valid}
+use Rattle.replay_check.proofs.OneVerdictLemmas.{right_valid}
 use Rattle.replay_check.proofs.laws.right_reports_are_valid.Goals as goal
 
 pub returns : goal.returns

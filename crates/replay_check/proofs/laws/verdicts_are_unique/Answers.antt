@@ -1,4 +1,4 @@
-use Rattle.replay_check.proofs.OneVerdict.{verdict_once}
+use Rattle.replay_check.proofs.OneVerdictLemmas.{verdict_once}
 use Rattle.replay_check.proofs.laws.verdicts_are_unique.Goals as goal
 
 pub returns : goal.returns

@@ -1,5 +1,5 @@
 use Rattle.std.proofs.Common.{◌<◌, ◌^◌, arith, subst}
-use Rattle.replay_check.proofs.Findings.{no_goal_found, stuck_found, wrong_cost_found, wrong_origin_found}
+use Rattle.replay_check.proofs.FindingsLemmas.{no_goal_found, stuck_found, wrong_cost_found, wrong_origin_found}
 use Rattle.replay_check.specs.Runs.{IsNear, IsPlanned}
 use Rattle.replay_check.proofs.outcome.planned.Goals as goal
 

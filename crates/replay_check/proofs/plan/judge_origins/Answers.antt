@@ -1,9 +1,9 @@
 use Rattle.std.proofs.Common.{◌∙◌, sym, subst}
-use Rattle.shown_plan.proofs.Valid.{valid_named}
+use Rattle.shown_plan.proofs.ShownLemmas.{valid_named}
 use Rattle.task_model.specs.Known.{IsCoherent}
-use Rattle.transcript_text.specs.Outcomes.{AreOrigins}
-use Rattle.transcript_text.specs.Transcript.{known_of}
-use Rattle.replay_check.proofs.Planning.{shown_origins}
+use Rattle.transcript_model.specs.Outcomes.{AreOrigins}
+use Rattle.transcript_model.specs.Transcript.{known_of}
+use Rattle.replay_check.proofs.PlansLemmas.{shown_origins}
 use Rattle.replay_check.proofs.plan.judge_origins.Goals as goal
 
 pub plan_outcome-requires-clause-steps : goal.plan_outcome-requires-clause-steps

@@ -1,9 +1,9 @@
 use Rattle.std.proofs.Common.{◌≡◌, ◌∙◌, ◌<◌, ◌^◌, sym, ap, subst, arith, true, false, Some, rules, tests}
-use Rattle.formula_eval.proofs.Readers.{fit_readable}
+use Rattle.formula_eval.proofs.ReadableLemmas.{fit_readable}
 use Rattle.task_model.specs.Known.{IsCoherent, Known}
 use Rattle.task_model.specs.Plans.{IsGoal}
 use Rattle.task_model.specs.Truth.{is_true}
-use Rattle.replay_check.proofs.Planning.{costs_other, goal_missed, plan_run}
+use Rattle.replay_check.proofs.PlansLemmas.{costs_other, goal_missed, plan_run}
 use Rattle.replay_check.specs.Runs.{IsPlanOf, IsRunOf}
 use Rattle.replay_check.proofs.plan.judge_plan.Goals as goal
 

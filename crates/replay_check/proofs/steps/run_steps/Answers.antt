@@ -1,5 +1,5 @@
 use Rattle.std.proofs.Common.{◌≡◌, false, take, rules, tests}
-use Rattle.replay_check.proofs.Taking.{stops_at}
+use Rattle.replay_check.proofs.RunsLemmas.{stops_at}
 use Rattle.replay_check.proofs.steps.run_steps.Goals as goal
 
 pub returns-then-not-branch : goal.returns-then-not-branch

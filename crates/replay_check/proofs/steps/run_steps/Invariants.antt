@@ -1,6 +1,6 @@
 use Rattle.std.proofs.Common.{◌≡◌, List, take}
-use Rattle.transcript_text.specs.Transcript.{known_of}
-use Rattle.transcript_text.specs.declared.entry.Entry.{Entry}
+use Rattle.transcript_model.specs.Transcript.{known_of}
+use Rattle.transcript_model.specs.declared.entry.Entry.{Entry}
 use Rattle.replay_check.specs.Runs.{IsRunOf}
 use Rattle.replay_check.proofs.steps.run_steps.Given as goal
 

@@ -1,8 +1,8 @@
 use Rattle.std.proofs.Common.{◌≡◌, ◌∷◌}
 use Rattle.report_reader.specs.Body.{spelled}
 use Rattle.report_reader.specs.declared.body_word.Word.{Word}
-use Rattle.report_reader.proofs.Barred.{if_ok}
-use Rattle.report_reader.proofs.Worded.{no_word, of_word}
+use Rattle.report_reader.proofs.TuplesLemmas.{if_ok}
+use Rattle.report_reader.proofs.BodyWordLemmas.{no_word, of_word}
 use Rattle.report_reader.proofs.body_line.body_line_in.Goals as goal
 
 pub returns-in_default-word_of : goal.returns-in_default-word_of

@@ -1,10 +1,10 @@
 use Rattle.std.proofs.Common.{◌≡◌, ◌∷◌, None, subst}
 use Rattle.std.specs.Fmt.{decimal}
-use Rattle.transcript_text.specs.Forms.{AreTuples, IsNumber}
-use Rattle.transcript_text.specs.Texts.{tuple_fields}
+use Rattle.report_text.specs.Forms.{AreTuples, IsNumber}
+use Rattle.report_text.specs.Texts.{tuple_fields}
 use Rattle.report_reader.specs.Finding.{Finds}
 use Rattle.report_reader.specs.declared.tuples.Tuples.{Tuples}
-use Rattle.report_reader.proofs.Worded.{no_got}
+use Rattle.report_reader.proofs.BodyWordLemmas.{no_got}
 use Rattle.report_reader.proofs.body_line.got_in.Goals as goal
 
 pub returns-in_default-2 : goal.returns-in_default-2

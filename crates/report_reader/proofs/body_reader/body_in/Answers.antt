@@ -1,8 +1,8 @@
 use Rattle.std.proofs.Common.{subst}
-use Rattle.transcript_text.specs.Places.{entries}
+use Rattle.report_text.specs.Places.{entries}
 use Rattle.report_reader.specs.Body.{IsPart, part_lines}
 use Rattle.report_reader.specs.Finding.{Reads, Stops}
-use Rattle.report_reader.proofs.Stopping.{front_stop}
+use Rattle.report_reader.proofs.BodyStopLemmas.{front_stop}
 use Rattle.report_reader.proofs.body_reader.body_in.Goals as goal
 
 pub returns : goal.returns

@@ -1,9 +1,9 @@
 use Rattle.std.proofs.Common.{rules, ◌≡◌, ◌+◌, ◌++◌, ◌∷◌, [], Some, sym, subst}
-use Rattle.transcript_text.specs.Forms.{IsFormedCall, IsTerm}
-use Rattle.transcript_text.specs.Texts.{call_fields, line}
-use Rattle.transcript_text.specs.declared.entry.Call.{Call}
+use Rattle.report_text.specs.Forms.{IsFormedCall, IsTerm}
+use Rattle.report_text.specs.Texts.{call_fields, line}
+use Rattle.transcript_model.specs.declared.entry.Call.{Call}
 use Rattle.report_reader.specs.Finding.{TakesMany, TakesLine}
-use Rattle.report_reader.proofs.Rows.{many_next}
+use Rattle.report_reader.proofs.FindingLemmas.{many_next}
 use Rattle.report_reader.proofs.body_reader.calls_in.Goals as goal
 
 pub loop-preserved : goal.loop-preserved

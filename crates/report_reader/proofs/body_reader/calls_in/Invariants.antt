@@ -1,5 +1,5 @@
-use Rattle.transcript_text.specs.Forms.{IsFormedCall, IsTerm}
-use Rattle.transcript_text.specs.Texts.{call_fields, line}
+use Rattle.report_text.specs.Forms.{IsFormedCall, IsTerm}
+use Rattle.report_text.specs.Texts.{call_fields, line}
 use Rattle.report_reader.specs.Finding.{TakesMany}
 use Rattle.report_reader.proofs.body_reader.calls_in.Given as goal
 

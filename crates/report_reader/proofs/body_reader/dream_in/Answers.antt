@@ -1,8 +1,8 @@
 use Rattle.std.proofs.Common.{subst}
-use Rattle.transcript_text.specs.Forms.{IsFormedUse, IsFormedCall, IsTerm}
-use Rattle.transcript_text.specs.Texts.{use_line, step_line}
+use Rattle.report_text.specs.Forms.{IsFormedUse, IsFormedCall, IsTerm}
+use Rattle.report_text.specs.Texts.{use_line, step_line}
 use Rattle.report_reader.specs.Finding.{TakesCounted, TakesFewer, TakesMany}
-use Rattle.report_reader.proofs.Stopping.{uses_stop, steps_stop}
+use Rattle.report_reader.proofs.BodyStopLemmas.{uses_stop, steps_stop}
 use Rattle.report_reader.proofs.body_reader.dream_in.Goals as goal
 
 pub returns-in_default : goal.returns-in_default

@@ -1,9 +1,9 @@
 use Rattle.std.proofs.Common.{◌∙◌, Some, ap, subst}
-use Rattle.transcript_text.specs.Places.{dreaming}
+use Rattle.report_text.specs.Places.{dreaming}
 use Rattle.report_reader.specs.Body.{IsBodyLine, body_line, IsDream, dream_lines}
 use Rattle.report_reader.specs.Finding.{Reads, Stops, TakesLine}
 use Rattle.report_reader.specs.declared.body_line.BodyLine.TheVariants.{Dream}
-use Rattle.report_reader.proofs.Stopping.{dream_whole, dream_stop, body_stop}
+use Rattle.report_reader.proofs.BodyStopLemmas.{dream_whole, dream_stop, body_stop}
 use Rattle.report_reader.proofs.body_reader.part_in.Goals as goal
 
 pub returns-in-Some : goal.returns-in-Some

@@ -1,8 +1,8 @@
 use Rattle.std.proofs.Common.{rules, ◌≡◌, ◌+◌, ◌++◌, ◌∷◌, [], Some, sym, subst}
-use Rattle.transcript_text.specs.Forms.{IsFormedUse}
-use Rattle.transcript_text.specs.Texts.{use_line}
+use Rattle.report_text.specs.Forms.{IsFormedUse}
+use Rattle.report_text.specs.Texts.{use_line}
 use Rattle.report_reader.specs.Finding.{TakesMany, TakesLine}
-use Rattle.report_reader.proofs.Rows.{many_next}
+use Rattle.report_reader.proofs.FindingLemmas.{many_next}
 use Rattle.report_reader.proofs.body_reader.uses_in.Goals as goal
 
 pub loop-preserved : goal.loop-preserved

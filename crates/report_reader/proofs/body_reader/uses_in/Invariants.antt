@@ -1,5 +1,5 @@
-use Rattle.transcript_text.specs.Forms.{IsFormedUse}
-use Rattle.transcript_text.specs.Texts.{use_line}
+use Rattle.report_text.specs.Forms.{IsFormedUse}
+use Rattle.report_text.specs.Texts.{use_line}
 use Rattle.report_reader.specs.Finding.{TakesMany}
 use Rattle.report_reader.proofs.body_reader.uses_in.Given as goal
 

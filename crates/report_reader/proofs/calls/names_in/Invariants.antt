@@ -1,5 +1,5 @@
 use Rattle.std.proofs.Common.{◌≡◌, ◌++◌, All, length}
-use Rattle.transcript_text.specs.Forms.{IsName}
+use Rattle.report_text.specs.Forms.{IsName}
 use Rattle.report_reader.proofs.calls.names_in.Given as goal
 
 abbrev pub invariant-loop-field : goal.invariant-loop-field

@@ -1,6 +1,6 @@
 use Rattle.std.proofs.Common.{◌≡◌, ◌++◌, All, length}
-use Rattle.transcript_text.specs.Forms.{IsFormedPool}
-use Rattle.transcript_text.specs.Texts.{pool_line}
+use Rattle.report_text.specs.Forms.{IsFormedPool}
+use Rattle.report_text.specs.Texts.{pool_line}
 use Rattle.report_reader.specs.Finding.{shown_lines}
 use Rattle.report_reader.proofs.head_reader.pools_in.Given as goal
 

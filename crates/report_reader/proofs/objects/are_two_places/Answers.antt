@@ -1,6 +1,6 @@
 use Rattle.std.proofs.Common.{rules, ◌≡◌, ◌+◌, take, drop, subst, sym, position, Some, None}
 use Rattle.report_reader.specs.Objects.{IsPlaceNumber, is_dot}
-use Rattle.report_reader.proofs.Dots.{no_places, two_places_from, two_places_to}
+use Rattle.report_reader.proofs.PlaceholderLemmas.{no_places, two_places_from, two_places_to}
 use Rattle.report_reader.proofs.objects.are_two_places.Goals as goal
 
 pub returns-in_default : goal.returns-in_default

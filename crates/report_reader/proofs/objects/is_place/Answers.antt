@@ -1,7 +1,7 @@
 use Rattle.std.proofs.Common.{◌≡◌, ◌<◌, ◌^◌, arith}
 use Rattle.std.specs.Fmt.{decimal}
 use Rattle.std.proofs.lemmas.Bool.Decides.{nat_tests}
-use Rattle.report_reader.proofs.Decimals.{place_test}
+use Rattle.report_reader.proofs.NumberFieldLemmas.{place_test}
 use Rattle.report_reader.proofs.objects.is_place.Goals as goal
 
 pub returns-then-number-ge1 : goal.returns-then-number-ge1

@@ -1,6 +1,6 @@
 use Rattle.std.proofs.Common.{rules, ◌≡◌, ◌∷◌, codes, cond, ◌==◌, [], List, ℕ}
 use Rattle.std.specs.Fmt.{decimal}
-use Rattle.transcript_text.specs.Forms.{IsObject}
+use Rattle.report_text.specs.Forms.{IsObject}
 use Rattle.report_reader.specs.Finding.{HasNo}
 use Rattle.report_reader.proofs.outcome_reader.origin_in.Goals as goal
 

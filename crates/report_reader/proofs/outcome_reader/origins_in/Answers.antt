@@ -1,8 +1,8 @@
 use Rattle.std.proofs.Common.{rules, ◌≡◌, ◌++◌, ◌∷◌, [], Some, sym, subst}
-use Rattle.transcript_text.specs.Forms.{IsFormedOrigin}
-use Rattle.transcript_text.specs.Texts.{from_line}
+use Rattle.report_text.specs.Forms.{IsFormedOrigin}
+use Rattle.report_text.specs.Texts.{from_line}
 use Rattle.report_reader.specs.Finding.{TakesMany, TakesLine}
-use Rattle.report_reader.proofs.Rows.{many_push}
+use Rattle.report_reader.proofs.FindingLemmas.{many_push}
 use Rattle.std.proofs.Common.{length}
 use Rattle.report_reader.proofs.outcome_reader.origins_in.Goals as goal
 

@@ -1,6 +1,6 @@
 use Rattle.std.proofs.Common.{length}
-use Rattle.transcript_text.specs.Forms.{IsFormedOrigin}
-use Rattle.transcript_text.specs.Texts.{from_line}
+use Rattle.report_text.specs.Forms.{IsFormedOrigin}
+use Rattle.report_text.specs.Texts.{from_line}
 use Rattle.report_reader.specs.Finding.{TakesMany}
 use Rattle.report_reader.proofs.outcome_reader.origins_in.Given as goal
 

@@ -1,10 +1,10 @@
 use Rattle.std.proofs.Common.{◌≡◌, ◌<◌, ◌^◌, None, Some, subst}
-use Rattle.transcript_text.specs.Forms.{IsFormedCall, IsTerm, IsFormedOrigin}
-use Rattle.transcript_text.specs.Places.{cost_line}
-use Rattle.transcript_text.specs.Texts.{do_line, from_line}
+use Rattle.report_text.specs.Forms.{IsFormedCall, IsTerm, IsFormedOrigin}
+use Rattle.report_text.specs.Places.{cost_line}
+use Rattle.report_text.specs.Texts.{do_line, from_line}
 use Rattle.report_reader.specs.Body.{HasNoEnd}
 use Rattle.report_reader.specs.Finding.{TakesAll, TakesCounted, TakesFewer, TakesLine, TakesMany}
-use Rattle.report_reader.proofs.Stopping.{plan_stop, cost_stop, done_stop}
+use Rattle.report_reader.proofs.BodyStopLemmas.{plan_stop, cost_stop, done_stop}
 use Rattle.report_reader.proofs.outcome_reader.plan_in.Goals as goal
 
 pub returns-in_default : goal.returns-in_default

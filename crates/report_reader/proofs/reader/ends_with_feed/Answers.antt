@@ -1,5 +1,5 @@
 use Rattle.std.proofs.Common.{rules, ◌≡◌, ◌-◌, ◌<◌, length, get_or}
-use Rattle.report_reader.proofs.Ends.{feed_ends}
+use Rattle.report_reader.proofs.LastByteLemmas.{feed_ends}
 use Rattle.report_reader.proofs.reader.ends_with_feed.Goals as goal
 
 pub returns-in-Some : goal.returns-in-Some

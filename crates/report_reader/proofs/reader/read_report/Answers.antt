@@ -1,11 +1,11 @@
 use Rattle.std.proofs.Common.{◌≡◌, ◌∙◌, ◌≤◌, [], Some, refl, length, ap, subst, arith}
 use Rattle.gen_lines.specs.Lines.{unfinished}
-use Rattle.transcript_text.specs.Forms.{IsFormed}
-use Rattle.transcript_text.specs.Places.{first}
+use Rattle.report_text.specs.Forms.{IsFormed}
+use Rattle.report_text.specs.Places.{first}
 use Rattle.report_reader.specs.Body.{lines_of_report}
 use Rattle.report_reader.specs.Finding.{Reads, Stops}
 use Rattle.report_reader.specs.Splits.{field_lines}
-use Rattle.report_reader.proofs.Reached.{stop_is_fault, left_is_fault, rest_is_fault, report_is_text, few_lines, told_line}
+use Rattle.report_reader.proofs.FindingFaultLemmas.{stop_is_fault, left_is_fault, rest_is_fault, report_is_text, few_lines, told_line}
 use Rattle.report_reader.proofs.reader.read_report.Goals as goal
 use Rattle.report_reader.proofs.reader.read_report.Goals.{then-left-gt0-via-then-left-gt0, then-left-gt0-via-else-left-gt0+then-not-ends_with_feed}
 

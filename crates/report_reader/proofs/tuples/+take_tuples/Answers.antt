@@ -1,6 +1,6 @@
 use Rattle.std.proofs.Common.{false, subst, arith}
 use Rattle.report_reader.specs.Tuples.{HasTaken, TakesValues}
-use Rattle.report_reader.proofs.Barred.{no_values, no_bar, more_tuples, if_ok}
+use Rattle.report_reader.proofs.TuplesLemmas.{no_values, no_bar, more_tuples, if_ok}
 use Rattle.report_reader.proofs.tuples.+take_tuples.Goals as goal
 
 pub returns-then-not-branch : goal.returns-then-not-branch

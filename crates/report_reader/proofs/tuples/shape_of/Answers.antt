@@ -1,5 +1,5 @@
 use Rattle.std.proofs.Common.{arith}
-use Rattle.report_reader.proofs.Barred.{too_many, no_parts, no_wide}
+use Rattle.report_reader.proofs.TuplesLemmas.{too_many, no_parts, no_wide}
 use Rattle.report_reader.proofs.tuples.shape_of.Goals as goal
 
 pub returns-then-bars-ge-MOST_TUPLES : goal.returns-then-bars-ge-MOST_TUPLES

@@ -1,6 +1,6 @@
 use Rattle.std.proofs.Common.{◌≡◌, ◌∷◌, ◌++◌, ◌∙◌, sym, ap, arith}
 use Rattle.report_reader.specs.Tuples.{IsValue}
-use Rattle.report_reader.proofs.Barred.{value_wanting}
+use Rattle.report_reader.proofs.TuplesLemmas.{value_wanting}
 use Rattle.report_reader.proofs.tuples.take_values.Goals as goal
 
 pub returns-then-not-is_value : goal.returns-then-not-is_value

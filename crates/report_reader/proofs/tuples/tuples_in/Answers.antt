@@ -1,8 +1,8 @@
 use Rattle.std.proofs.Common.{◌≡◌, ◌+◌, [], false, sym, subst}
-use Rattle.transcript_text.specs.Forms.{AreTuples}
-use Rattle.transcript_text.specs.Texts.{tuple_fields}
+use Rattle.report_text.specs.Forms.{AreTuples}
+use Rattle.report_text.specs.Texts.{tuple_fields}
 use Rattle.report_reader.specs.Tuples.{HasShape, HasTuples, TakesTuples}
-use Rattle.report_reader.proofs.Barred.{no_tuples, tuples_found}
+use Rattle.report_reader.proofs.TuplesLemmas.{no_tuples, tuples_found}
 use Rattle.report_reader.proofs.tuples.tuples_in.Goals as goal
 
 pub returns-then-not-branch : goal.returns-then-not-branch

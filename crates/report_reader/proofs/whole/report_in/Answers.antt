@@ -1,10 +1,10 @@
 use Rattle.std.proofs.Common.{None, Some, refl, subst}
-use Rattle.transcript_text.specs.Forms.{IsFormedPool}
-use Rattle.transcript_text.specs.Places.{entries}
-use Rattle.transcript_text.specs.Texts.{pool_line}
+use Rattle.report_text.specs.Forms.{IsFormedPool}
+use Rattle.report_text.specs.Places.{entries}
+use Rattle.report_text.specs.Texts.{pool_line}
 use Rattle.report_reader.specs.Body.{IsFirst, first_of, IsLimits, limits_of, IsBody, body_lines, ending_place, IsOutcomeOf, outcome_rest}
 use Rattle.report_reader.specs.Finding.{Reads, Stops, TakesAll, TakesLine}
-use Rattle.report_reader.proofs.Parts.{first_stop, limits_stop, HasHead, head_then, body_then, report_whole}
+use Rattle.report_reader.proofs.BodyLemmas.{first_stop, limits_stop, HasHead, head_then, body_then, report_whole}
 use Rattle.report_reader.proofs.whole.report_in.Goals as goal
 
 pub returns-in_default : goal.returns-in_default

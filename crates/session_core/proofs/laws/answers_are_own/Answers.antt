@@ -1,4 +1,4 @@
-use Rattle.session_core.proofs.Orders.{answers_are_own}
+use Rattle.session_core.proofs.EventsLemmas.{answers_are_own}
 use Rattle.session_core.proofs.laws.answers_are_own.Goals as goal
 
 pub returns : goal.returns

@@ -1,4 +1,4 @@
-use Rattle.session_core.proofs.Orders.{each_says_one}
+use Rattle.session_core.proofs.EventsLemmas.{each_says_one}
 use Rattle.session_core.proofs.laws.each_says_one.Goals as goal
 
 pub returns : goal.returns

@@ -1,4 +1,4 @@
-use Rattle.session_core.proofs.Orders.{order_does_not_matter}
+use Rattle.session_core.proofs.EventsLemmas.{order_does_not_matter}
 use Rattle.session_core.proofs.laws.order_does_not_matter.Goals as goal
 
 pub returns : goal.returns

@@ -1,4 +1,4 @@
-use Rattle.transcript_text.proofs.Named.{fit_stream_at}
+use Rattle.transcript_model.proofs.NamedObjectLemmas.{fit_stream_at}
 use Rattle.session_core.proofs.learn.learn_answer.Goals as goal
 
 pub learn_value-requires-clause-stream : goal.learn_value-requires-clause-stream

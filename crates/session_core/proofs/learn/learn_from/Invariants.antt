@@ -1,5 +1,5 @@
 use Rattle.std.proofs.Common.{◌≡◌, take}
-use Rattle.transcript_text.specs.Transcript.{known_of, notes_of}
+use Rattle.transcript_model.specs.Transcript.{known_of, notes_of}
 use Rattle.session_core.proofs.learn.learn_from.Given as goal
 
 -- the entries that were passed are learnt

@@ -1,16 +1,16 @@
 use Rattle.std.proofs.Common.{◌≡◌, ◌≤◌, ◌+◌, ◌-◌, ◌*◌, ◌<◌, ◌++◌, List, suc, length, map, take, drop, arith, ap, ◌∙◌, sym, subst, refl, suc-mul, All, ℕ}
 use Rattle.std.proofs.Math.ListN.{length-drop}
 use Rattle.std.proofs.lemmas.List.{length-map, length-take-le}
-use Rattle.certify.proofs.Learning.{all_in_names_kept, names_grow}
+use Rattle.certify.proofs.OutputsLemmas.{all_in_names_kept, names_grow}
 use Rattle.certify.specs.Outputs.{AreNamed}
 use Rattle.task_model.specs.Known.{IsIn, with_facts}
 use Rattle.task_model.specs.Streams.{certified_by}
-use Rattle.transcript_text.proofs.Named.{fit_stream_at}
-use Rattle.transcript_text.specs.Laws.{known_with}
-use Rattle.transcript_text.specs.Names.{generated, with_names}
-use Rattle.transcript_text.specs.Transcript.{Asked}
-use Rattle.transcript_text.specs.declared.entry.Entry.TheVariants as entry
-use Rattle.session_core.proofs.Learns.{one_less, tuple_learnt, length_with_names}
+use Rattle.transcript_model.proofs.NamedObjectLemmas.{fit_stream_at}
+use Rattle.transcript_model.specs.Laws.{known_with}
+use Rattle.transcript_model.specs.Names.{generated, with_names}
+use Rattle.transcript_model.specs.Transcript.{Asked}
+use Rattle.transcript_model.specs.declared.entry.Entry.TheVariants as entry
+use Rattle.session_core.proofs.LearningTupleLemmas.{one_less, tuple_learnt, length_with_names}
 use Rattle.session_core.proofs.learn.learn_tuples.Goals as goal
 
 pub learn_tuple-requires-clause-stream : goal.learn_tuple-requires-clause-stream

@@ -1,7 +1,7 @@
 use Rattle.std.proofs.Common.{◌≡◌, ◌≤◌, ◌+◌, ◌-◌, ◌*◌, ◌<◌, length, All}
 use Rattle.task_model.specs.Known.{IsIn}
-use Rattle.transcript_text.specs.Laws.{known_with}
-use Rattle.transcript_text.specs.declared.entry.Entry.TheVariants as entry
+use Rattle.transcript_model.specs.Laws.{known_with}
+use Rattle.transcript_model.specs.declared.entry.Entry.TheVariants as entry
 use Rattle.session_core.proofs.learn.learn_tuples.Given as goal
 
 -- with the tuples that are left, all is known

@@ -1,7 +1,7 @@
 use Rattle.std.proofs.Common.{◌≡◌, ◌≤◌, ◌+◌, ◌-◌, ◌<◌, ◌++◌, ◌∷◌, [], length, replicate, arith, ap, ◌∙◌, sym, refl}
 use Rattle.std.proofs.lemmas.List.{length-append}
 use Rattle.task_model.specs.Streams.{Yielded}
-use Rattle.session_core.proofs.Learns.{one_less, one_more}
+use Rattle.session_core.proofs.LearningTupleLemmas.{one_less, one_more}
 use Rattle.session_core.proofs.learn.note_tuples.Goals as goal
 
 pub loop-preserved : goal.loop-preserved

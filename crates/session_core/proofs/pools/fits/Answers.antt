@@ -1,5 +1,5 @@
 use Rattle.std.proofs.Common.{arith, sym, ◌∙◌}
-use Rattle.session_core.proofs.Rounds.{too_many, few_enough}
+use Rattle.session_core.proofs.ReadyRoundLemmas.{too_many, few_enough}
 use Rattle.session_core.specs.Slots.{streams_of}
 use Rattle.session_core.proofs.pools.fits.Goals as goal
 

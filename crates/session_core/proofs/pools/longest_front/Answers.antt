@@ -1,4 +1,4 @@
-use Rattle.session_core.proofs.Rounds.{none_fit}
+use Rattle.session_core.proofs.ReadyRoundLemmas.{none_fit}
 use Rattle.session_core.proofs.pools.longest_front.Goals as goal
 
 pub loop-count-init : goal.loop-count-init

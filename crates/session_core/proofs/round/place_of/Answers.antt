@@ -1,6 +1,6 @@
 use Rattle.std.proofs.Common.{◌≡◌, ap, sym, ◌∙◌, Some, slice_get}
 use Rattle.std.proofs.lemmas.Option.{slice_get-get_or}
-use Rattle.session_core.proofs.Slotted.{found_first}
+use Rattle.session_core.proofs.SlotsLemmas.{found_first}
 use Rattle.session_core.proofs.round.place_of.Goals as goal
 
 pub returns-then-child-clause-found : goal.returns-then-child-clause-found

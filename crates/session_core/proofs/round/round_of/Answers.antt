@@ -1,6 +1,6 @@
 use Rattle.std.proofs.Common.{◌≡◌, ap, sym, ◌∙◌, ◌++◌, ◌∷◌, [], Some, slice_get}
 use Rattle.std.proofs.lemmas.Option.{slice_get-get_or}
-use Rattle.session_core.proofs.Begins.{asks_step, slots_step, instances_step}
+use Rattle.session_core.proofs.RoundBeginLemmas.{asks_step, slots_step, instances_step}
 use Rattle.session_core.proofs.round.round_of.Goals as goal
 
 pub loop-place-preserved : goal.loop-place-preserved

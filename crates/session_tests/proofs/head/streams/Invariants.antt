@@ -1,5 +1,5 @@
 use Rattle.std.proofs.Common.{◌≡◌}
-use Rattle.task_model.specs.Lists.{numbers_from}
+use Rattle.lemmas.specs.Lists.{numbers_from}
 use Rattle.session_tests.proofs.head.streams.Given as goal
 
 abbrev pub invariant-loop-place : goal.invariant-loop-place

@@ -1,4 +1,4 @@
-use Rattle.sexpr_text.proofs.Answered.{answered_found, answered_only, answered_small, answered_clean, answered_least}
+use Rattle.sexpr_text.proofs.ReadingLemmas.{answered_found, answered_only, answered_small, answered_clean, answered_least}
 use Rattle.sexpr_text.proofs.reader.read_tree.Goals as goal
 
 pub returns-clause-found : goal.returns-clause-found

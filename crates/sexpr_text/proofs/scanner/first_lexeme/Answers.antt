@@ -1,5 +1,5 @@
 use Rattle.std.proofs.Common.{length, sym, ap, ◌∙◌}
-use Rattle.sexpr_text.proofs.Words.{word_begins}
+use Rattle.sexpr_text.proofs.TokensLemmas.{word_begins}
 use Rattle.sexpr_text.proofs.scanner.first_lexeme.Goals as goal
 
 pub returns-in_ok-letters-in-Letter : goal.returns-in_ok-letters-in-Letter

@@ -1,4 +1,4 @@
-use Rattle.shown_plan.proofs.Valid.{true_outcome}
+use Rattle.shown_plan.proofs.ShownLemmas.{true_outcome}
 use Rattle.shown_plan.proofs.laws.shown_plans_are_true.Goals as goal
 
 pub returns : goal.returns

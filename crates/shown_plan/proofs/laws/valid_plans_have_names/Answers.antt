@@ -1,4 +1,4 @@
-use Rattle.shown_plan.proofs.Valid.{valid_named}
+use Rattle.shown_plan.proofs.ShownLemmas.{valid_named}
 use Rattle.shown_plan.proofs.laws.valid_plans_have_names.Goals as goal
 
 pub returns : goal.returns

@@ -1,5 +1,5 @@
 use Rattle.std.proofs.Common.{◌≡◌, true, map, ap, ◌∙◌, rules}
-use Rattle.shown_plan.proofs.Ordered.{insert_adds, added}
+use Rattle.shown_plan.proofs.SourcesOrderLemmas.{insert_adds, added}
 use Rattle.shown_plan.proofs.names.add_if_generated.Goals as goal
 use Rattle.shown_plan.specs.Sources.{is_generated, is_among}
 

@@ -1,5 +1,5 @@
 use Rattle.std.proofs.Common.{◌≡◌, rules, subst, ◌∙◌, IfSome}
-use Rattle.shown_plan.proofs.Told.{value_is, has_source, origin_is}
+use Rattle.shown_plan.proofs.SourcesYieldLemmas.{value_is, has_source, origin_is}
 use Rattle.shown_plan.proofs.origins.origin_of.Goals as goal
 use Rattle.shown_plan.proofs.origins.origin_of.Goals.{After-source_of}
 use Rattle.shown_plan.specs.Sources.{IsBest, IsSource}

@@ -4,11 +4,11 @@ use Rattle.std.proofs.lemmas.Map.Iter.{rest_more}
 use Rattle.std.specs.Cmp.Lexicographic.{slice_cmp}
 use Rattle.std.specs.Map.Iter.{deref}
 use Rattle.std.specs.Ordering.{nat_cmp}
-use Rattle.task_model.specs.Lists.{AreAscending}
-use Rattle.transcript_text.specs.Outcomes.{IsOrigin}
-use Rattle.transcript_text.specs.declared.outcome.Origin.{Origin}
-use Rattle.shown_plan.proofs.Ordered.{ascending}
-use Rattle.shown_plan.proofs.Told.{objects_next}
+use Rattle.lemmas.specs.Lists.{AreAscending}
+use Rattle.transcript_model.specs.Outcomes.{IsOrigin}
+use Rattle.transcript_model.specs.declared.outcome.Origin.{Origin}
+use Rattle.shown_plan.proofs.SourcesOrderLemmas.{ascending}
+use Rattle.shown_plan.proofs.SourcesYieldLemmas.{objects_next}
 use Rattle.shown_plan.proofs.origins.origins_of.Goals as goal
 use Rattle.shown_plan.specs.Sources.{IsGiven}
 

@@ -1,7 +1,7 @@
 use Rattle.std.proofs.Common.{◌≡◌, ◌++◌, map, All}
 use Rattle.shown_plan.specs.Sources.{IsGiven}
-use Rattle.transcript_text.specs.Outcomes.{IsOrigin}
-use Rattle.transcript_text.specs.declared.outcome.Origin.{Origin}
+use Rattle.transcript_model.specs.Outcomes.{IsOrigin}
+use Rattle.transcript_model.specs.declared.outcome.Origin.{Origin}
 use Rattle.shown_plan.proofs.origins.origins_of.Given as goal
 
 -- the objects so far and those that are left are all

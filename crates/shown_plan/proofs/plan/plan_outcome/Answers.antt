@@ -1,8 +1,8 @@
 use Rattle.std.proofs.Common.{◌≡◌, ℕ, List, ◌&&◌, map, refl, sym, subst, ap, ◌∙◌, Contains, ◌↔◌}
-use Rattle.transcript_text.specs.Calls.{call_of_step}
-use Rattle.transcript_text.specs.Outcomes.{IsUsed}
-use Rattle.transcript_text.specs.Transcript.{names_of}
-use Rattle.shown_plan.proofs.Told.{even_entries, given_names, each_used}
+use Rattle.transcript_model.specs.Calls.{call_of_step}
+use Rattle.transcript_model.specs.Outcomes.{IsUsed}
+use Rattle.transcript_model.specs.Transcript.{names_of}
+use Rattle.shown_plan.proofs.SourcesYieldLemmas.{even_entries, given_names, each_used}
 use Rattle.shown_plan.proofs.plan.plan_outcome.Goals as goal
 use Rattle.shown_plan.specs.Sources.{is_among, is_generated, stands_in}
 

@@ -3,8 +3,8 @@ use Rattle.std.proofs.lemmas.Iterator.{YieldsList-from_slice}
 use Rattle.std.proofs.lemmas.Iterator.Search.{position_from_yields_List}
 use Rattle.std.specs.List.{list_any, position}
 use Rattle.task_model.specs.Known.{same_numbers}
-use Rattle.transcript_text.specs.Transcript.{tuples_in}
-use Rattle.shown_plan.proofs.Tuples.{first_tuple_is, found_is, width_is}
+use Rattle.transcript_model.specs.Transcript.{tuples_in}
+use Rattle.shown_plan.proofs.TupleLemmas.{first_tuple_is, found_is, width_is}
 use Rattle.shown_plan.proofs.source.first_tuple.Goals as goal
 use Rattle.shown_plan.proofs.source.first_tuple.Goals.{After-position}
 

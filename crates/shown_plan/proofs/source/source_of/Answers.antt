@@ -1,6 +1,6 @@
 use Rattle.std.proofs.Common.{take, sym, subst}
 use Rattle.std.proofs.lemmas.List.{take_all}
-use Rattle.shown_plan.proofs.Searched.{best_next, next_entry}
+use Rattle.shown_plan.proofs.SourcesLemmas.{best_next, next_entry}
 use Rattle.shown_plan.proofs.source.source_of.Goals as goal
 use Rattle.shown_plan.specs.Sources.{IsBest}
 

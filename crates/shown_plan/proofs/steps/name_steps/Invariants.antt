@@ -1,5 +1,5 @@
 use Rattle.std.proofs.Common.{◌≡◌, map, take}
-use Rattle.transcript_text.specs.Calls.{call_of_step}
+use Rattle.transcript_model.specs.Calls.{call_of_step}
 use Rattle.shown_plan.proofs.steps.name_steps.Given as goal
 
 abbrev pub invariant-loop-step : goal.invariant-loop-step

@@ -1,6 +1,6 @@
 use Rattle.std.proofs.Common.{rules, ◌≡◌, ◌∙◌, sym, arith}
 use Rattle.task_model.specs.State.{len}
-use Rattle.state_store.proofs.Alike.{same_atoms_at}
+use Rattle.state_store.proofs.KeptLemmas.{same_atoms_at}
 use Rattle.state_store.proofs.same.same_state.Goals as goal
 
 pub returns : goal.returns

@@ -1,4 +1,4 @@
-use Rattle.stream_reader.proofs.Rounds.{pass_all, pass_more}
+use Rattle.stream_reader.proofs.CyclesLemmas.{pass_all, pass_more}
 use Rattle.stream_reader.proofs.cycles.check_cycles.Goals as goal
 
 pub loop-candidate-preserved : goal.loop-candidate-preserved

@@ -1,4 +1,4 @@
-use Rattle.stream_reader.proofs.Nexts.{next_more}
+use Rattle.stream_reader.proofs.CyclesNextLemmas.{next_more}
 use Rattle.stream_reader.proofs.cycles.next_of.Goals as goal
 
 pub loop-place-preserved : goal.loop-place-preserved

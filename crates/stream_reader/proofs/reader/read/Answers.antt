@@ -4,7 +4,7 @@ use Rattle.form_reader.specs.declared.items.TextKind.TheVariants.{Streams}
 use Rattle.form_reader.specs.Faults.{least}
 use Rattle.form_reader.specs.Texts.{form_faults}
 use Rattle.stream_reader.specs.Reading.{ReadsNamed, of_text}
-use Rattle.stream_reader.proofs.Leasts.{none_is_none}
+use Rattle.stream_reader.proofs.ReadingLeastLemmas.{none_is_none}
 use Rattle.stream_reader.proofs.reader.read.Goals as goal
 
 pub returns-in-Ok : goal.returns-in-Ok

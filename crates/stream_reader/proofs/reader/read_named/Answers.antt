@@ -4,7 +4,7 @@ use Rattle.form_reader.specs.declared.fault.Fault.{Fault}
 use Rattle.form_reader.specs.Faults.{least}
 use Rattle.stream_reader.specs.Names.{plain_names}
 use Rattle.stream_reader.specs.Reading.{AnswersAcyclic, AreNamed}
-use Rattle.stream_reader.proofs.Leasts.{all_named, cycle_fault}
+use Rattle.stream_reader.proofs.ReadingLeastLemmas.{all_named, cycle_fault}
 use Rattle.stream_reader.proofs.reader.read_named.Goals as goal
 
 pub returns-in-Some-2 : goal.returns-in-Some-2

@@ -1,4 +1,4 @@
-use Rattle.task_model.proofs.Atoms.{contains-changed}
+use Rattle.task_model.proofs.StateLemmas.{contains-changed}
 use Rattle.task_model.proofs.laws.effects_are_exact.Goals as goal
 
 pub returns : goal.returns

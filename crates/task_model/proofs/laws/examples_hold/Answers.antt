@@ -1,5 +1,5 @@
 use Rattle.std.proofs.Common.{refl, [], ◌∷◌}
-use Rattle.task_model.proofs.Atoms.{contains-changed}
+use Rattle.task_model.proofs.StateLemmas.{contains-changed}
 use Rattle.std.specs.Fmt.{digits}
 use Rattle.task_model.specs.Roles.{role_of}
 use Rattle.task_model.specs.State.{empty}

@@ -1,4 +1,4 @@
-use Rattle.task_model.proofs.Executions.{parts_of_whole, whole_of_parts}
+use Rattle.task_model.proofs.StepsLemmas.{parts_of_whole, whole_of_parts}
 use Rattle.task_model.proofs.laws.parts_make_the_whole.Goals as goal
 
 pub returns : goal.returns

@@ -1,4 +1,4 @@
-use Rattle.task_model.proofs.Slots.{same_truth}
+use Rattle.task_model.proofs.TruthSlotLemmas.{same_truth}
 use Rattle.task_model.proofs.laws.truth_ignores_other_slots.Goals as goal
 
 pub returns : goal.returns

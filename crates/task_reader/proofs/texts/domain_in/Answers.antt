@@ -1,6 +1,6 @@
 use Rattle.std.proofs.lemmas.Result.{err_from_is_err_and}
 use Rattle.sexpr_text.specs.Trees.{tree}
-use Rattle.task_reader.proofs.Causes.{no_domain}
+use Rattle.task_reader.proofs.RefusalsLemmas.{no_domain}
 use Rattle.task_reader.proofs.FitTask.{domain_fit}
 use Rattle.task_reader.proofs.texts.domain_in.Goals as goal
 

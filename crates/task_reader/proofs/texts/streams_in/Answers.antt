@@ -1,6 +1,6 @@
 use Rattle.std.proofs.lemmas.Result.{err_from_is_err_and}
 use Rattle.sexpr_text.specs.Trees.{tree}
-use Rattle.task_reader.proofs.Causes.{no_streams}
+use Rattle.task_reader.proofs.RefusalsLemmas.{no_streams}
 use Rattle.task_reader.proofs.FitTask.{streams_fit}
 use Rattle.task_reader.proofs.texts.streams_in.Goals as goal
 

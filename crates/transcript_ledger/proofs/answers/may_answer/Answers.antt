@@ -1,5 +1,5 @@
 use Rattle.std.proofs.Common.{◌∙◌, sym}
-use Rattle.transcript_ledger.proofs.Answering.{may_be_given, must_be_given}
+use Rattle.transcript_ledger.proofs.TalksAnswerLemmas.{may_be_given, must_be_given}
 use Rattle.transcript_ledger.proofs.answers.may_answer.Goals as goal
 
 pub returns : goal.returns

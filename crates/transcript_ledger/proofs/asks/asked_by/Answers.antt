@@ -1,8 +1,8 @@
 use Rattle.std.proofs.Common.{◌≡◌, ◌∙◌, sym, ap, Some}
 use Rattle.task_model.specs.Known.{Known}
-use Rattle.transcript_text.specs.Names.{instance_of}
-use Rattle.transcript_text.specs.Transcript.{names_of}
-use Rattle.transcript_ledger.proofs.Asking.{no, passes, must_pass}
+use Rattle.transcript_model.specs.Names.{instance_of}
+use Rattle.transcript_model.specs.Transcript.{names_of}
+use Rattle.transcript_ledger.proofs.TalksAskLemmas.{no, passes, must_pass}
 use Rattle.transcript_ledger.proofs.asks.asked_by.Goals as goal
 
 pub returns-then-may_ask : goal.returns-then-may_ask

@@ -1,7 +1,7 @@
 use Rattle.std.proofs.Common.{◌≡◌, ◌∙◌, sym, ap, subst, arith, take, Some, slice_get, take_all, map, Contains}
 use Rattle.std.proofs.lemmas.Option.{slice_get-get_or}
-use Rattle.transcript_text.proofs.Calls.{places_exact}
-use Rattle.transcript_ledger.proofs.Places.{no_places, places_push}
+use Rattle.transcript_model.proofs.CallNameLemmas.{places_exact}
+use Rattle.transcript_ledger.proofs.NamedPlaceLemmas.{no_places, places_push}
 use Rattle.transcript_ledger.proofs.naming.objects_of.Goals as goal
 
 pub loop-name-init : goal.loop-name-init

@@ -1,6 +1,6 @@
 use Rattle.std.proofs.Common.{ap, sym, subst, ◌∙◌, All}
-use Rattle.fact_store.proofs.Derived.{fact_put}
-use Rattle.fact_store.proofs.Growth.{on_err, grown, fact_kept, stays}
+use Rattle.fact_store.proofs.EqualityLemmas.{fact_put}
+use Rattle.fact_store.proofs.StoreLemmas.{on_err, grown, fact_kept, stays}
 use Rattle.task_model.specs.Known.{IsIn, with_fact}
 use Rattle.fact_store.proofs.facts.Facts.add.Goals as goal
 

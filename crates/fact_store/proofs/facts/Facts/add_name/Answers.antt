@@ -1,8 +1,8 @@
 use Rattle.std.proofs.Common.{ap, sym, subst, ◌∙◌, ◌≡◌, ◌++◌, ◌∷◌, [], slice_get, Some, Contains, length, vec_len, ◌<◌}
-use Rattle.fact_store.proofs.Growth.{on_err, name_kept, stays, with_name-old, with_name-new}
-use Rattle.fact_store.proofs.Places.{name_at_end, key_pushed, few_more, pushed_or_not}
+use Rattle.fact_store.proofs.StoreLemmas.{on_err, name_kept, stays, with_name-old, with_name-new}
+use Rattle.fact_store.proofs.NamePlaceLemmas.{name_at_end, key_pushed, few_more, pushed_or_not}
 use Rattle.fact_store.proofs.facts.Facts.add_name.Goals as goal
-use Rattle.task_model.proofs.Members.{member_at}
+use Rattle.lemmas.proofs.Members.{member_at}
 
 pub returns-in-Some-clause-names : goal.returns-in-Some-clause-names
 returns-in-Some-clause-names c = with_name-old _ _ (member_at _ c.in-Some.object _ (c.in-Some.ensures.found ∙ ap Some c.bytes.ensures))

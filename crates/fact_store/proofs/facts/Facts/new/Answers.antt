@@ -2,12 +2,12 @@ use Rattle.std.proofs.Common.{◌≡◌, ap, sym, subst, ◌∙◌, map, filter,
 use Rattle.std.proofs.lemmas.List.{length-map}
 use Rattle.std.specs.Cmp.{second_so}
 use Rattle.std.specs.List.{list_all}
-use Rattle.fact_store.proofs.AtFirst.{all_at_first}
+use Rattle.fact_store.proofs.InitialLemmas.{all_at_first}
 use Rattle.fact_store.proofs.facts.Facts.new.Goals as goal
 use Rattle.task_model.specs.Fit.{is_fit_fact, is_fit_value, is_short}
 use Rattle.task_model.specs.Initial.{is_static, declared_types}
 use Rattle.task_model.specs.Known.{with_facts, with_values}
-use Rattle.task_model.specs.Lists.{AreDistinct}
+use Rattle.lemmas.specs.Lists.{AreDistinct}
 
 pub add_names-requires-clause-distinct : goal.add_names-requires-clause-distinct
 add_names-requires-clause-distinct c = subst (λ os. AreDistinct (map (λ d. d.name) os)) (sym c.as_slice.ensures) c.requires.problem.objects.names.distinct

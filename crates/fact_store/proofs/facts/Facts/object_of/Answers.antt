@@ -1,5 +1,5 @@
 use Rattle.std.proofs.Common.{ap, sym, ◌∙◌, slice_get}
-use Rattle.fact_store.proofs.Places.{found_name, absent_name}
+use Rattle.fact_store.proofs.NamePlaceLemmas.{found_name, absent_name}
 use Rattle.fact_store.proofs.facts.Facts.object_of.Goals as goal
 
 pub returns-in_err-place-clause-none : goal.returns-in_err-place-clause-none

@@ -1,6 +1,6 @@
 use Rattle.std.proofs.Common.{◌≡◌, ◌+◌, ◌-◌, ◌++◌, replicate, set, true, false, ap, ◌∙◌, suc, arith}
 use Rattle.fit_check.specs.Filled.{places_of}
-use Rattle.fit_check.proofs.Flags.{first_up, next_up}
+use Rattle.fit_check.proofs.FilledLemmas.{first_up, next_up}
 use Rattle.fit_check.proofs.slots.Slots.first.Goals as goal
 
 pub loop-place-preserved : goal.loop-place-preserved

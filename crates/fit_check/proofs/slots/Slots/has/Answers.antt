@@ -2,7 +2,7 @@ use Rattle.std.proofs.Common.{sym, ap, ◌∙◌, false, ◌==◌, get_or, ◌�
 use Rattle.std.specs.List.{list_any}
 use Rattle.std.proofs.lemmas.Bool.{le-ltb}
 use Rattle.std.proofs.lemmas.List.{get_or_past}
-use Rattle.fit_check.proofs.Flags.{flag_at}
+use Rattle.fit_check.proofs.FilledLemmas.{flag_at}
 use Rattle.fit_check.proofs.slots.Slots.has.Goals as goal
 
 pub returns-then-slot-lt16 : goal.returns-then-slot-lt16

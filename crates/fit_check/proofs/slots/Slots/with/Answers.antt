@@ -1,8 +1,8 @@
 use Rattle.std.proofs.Common.{true, ◌==◌, ◌++◌, ap, ◌∙◌, arith}
 use Rattle.std.specs.List.{list_any}
 use Rattle.std.proofs.Math.ListN.{length-set}
-use Rattle.task_model.specs.Lists.{numbers_from}
-use Rattle.fit_check.proofs.Flags.{flag_at, flags_with, flag_set, flag_kept}
+use Rattle.lemmas.specs.Lists.{numbers_from}
+use Rattle.fit_check.proofs.FilledLemmas.{flag_at, flags_with, flag_set, flag_kept}
 use Rattle.fit_check.proofs.slots.Slots.with.Goals as goal
 
 pub loop-place-preserved : goal.loop-place-preserved

@@ -1,4 +1,4 @@
-use Rattle.gen_host.proofs.Resting.{idle_at}
+use Rattle.gen_host.proofs.MembersIdleLemmas.{idle_at}
 use Rattle.gen_host.proofs.box_host.BoxHost.new.Goals as goal
 
 pub returns-clause-idle : goal.returns-clause-idle

@@ -1,6 +1,6 @@
 use Rattle.std.proofs.Common.{arith}
 use Rattle.io_world.specs.Faults.{last_count}
-use Rattle.gen_host.proofs.Sums.{found_above, added_more, sum_bounded}
+use Rattle.gen_host.proofs.MembersLemmas.{found_above, added_more, sum_bounded}
 use Rattle.gen_host.proofs.box_host.BoxHostHost.faults.Goals as goal
 
 pub returns-then-count-ge-LAST-clause-count : goal.returns-then-count-ge-LAST-clause-count

@@ -1,5 +1,5 @@
 use Rattle.io_world.specs.Faults.{last_count}
-use Rattle.gen_host.proofs.Sums.{caused}
+use Rattle.gen_host.proofs.MembersLemmas.{caused}
 use Rattle.gen_host.proofs.box_host.BoxHostHost.write.Goals as goal
 
 pub returns-clause-cause : goal.returns-clause-cause

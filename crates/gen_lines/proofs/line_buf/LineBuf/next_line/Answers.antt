@@ -1,7 +1,7 @@
 use Rattle.std.proofs.Common.{rules, arith, ◌≡◌, ◌+◌, ◌∙◌, refl, sym, ap, length, position, Some, None, drop, take, ◌-◌, ◌<◌, vec_len}
 use Rattle.std.specs.Io.BufRead.{strip_last}
 use Rattle.gen_lines.specs.Lines.{is_feed}
-use Rattle.gen_lines.proofs.Cutting.{lines_none, after_from, line_from, line_short}
+use Rattle.gen_lines.proofs.LinesLemmas.{lines_none, after_from, line_from, line_short}
 use Rattle.gen_lines.proofs.line_buf.LineBuf.next_line.Goals as goal
 
 pub returns-then-room-eq0 : goal.returns-then-room-eq0

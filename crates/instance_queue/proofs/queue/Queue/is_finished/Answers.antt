@@ -1,7 +1,7 @@
 use Rattle.std.proofs.Common.{ap, sym, ◌∙◌, ◌≡◌, ◌||◌, ◌&&◌, nat_lt, true, false}
 use Rattle.std.specs.List.{list_any}
 use Rattle.task_model.specs.Streams.{is_end_of, is_yield_of, is_test}
-use Rattle.instance_queue.proofs.Tallied.{yielded_some}
+use Rattle.instance_queue.proofs.NotesLemmas.{yielded_some}
 use Rattle.instance_queue.specs.declared.queue.Tally.{Tally}
 use Rattle.instance_queue.proofs.queue.Queue.is_finished.Goals as goal
 

@@ -1,5 +1,5 @@
 use Rattle.std.proofs.Common.{ap, ◌∙◌, ◌++◌, ◌∷◌, []}
-use Rattle.instance_queue.proofs.Tallied.{noted_more}
+use Rattle.instance_queue.proofs.NotesLemmas.{noted_more}
 use Rattle.instance_queue.proofs.queue.Queue.note.Goals as goal
 
 pub invariant_of-self-2 : goal.invariant_of-self-2

@@ -1,5 +1,5 @@
 use Rattle.std.proofs.Common.{ap, sym, ◌∙◌}
-use Rattle.instance_queue.proofs.Tallied.{tally_yielded}
+use Rattle.instance_queue.proofs.NotesLemmas.{tally_yielded}
 use Rattle.instance_queue.specs.Notes.{tally_of}
 use Rattle.instance_queue.proofs.queue.Queue.note_got.Goals as goal
 

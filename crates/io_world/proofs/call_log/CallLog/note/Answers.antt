@@ -1,5 +1,5 @@
 use Rattle.std.proofs.Common.{refl}
-use Rattle.io_world.proofs.Spelling.{noted}
+use Rattle.io_world.proofs.LogsLemmas.{noted}
 use Rattle.io_world.proofs.call_log.CallLog.note.Goals as goal
 
 pub returns-clause-ok : goal.returns-clause-ok

@@ -1,6 +1,6 @@
 use Rattle.std.proofs.Common.{arith, ◌<◌, length, ap, ◌∙◌, sym, List, ℕ}
 use Rattle.io_world.specs.MemSourceState.{MemSourceState}
-use Rattle.io_world.proofs.GivenBytes.{left_after, none_left}
+use Rattle.io_world.proofs.GivenLemmas.{left_after, none_left}
 use Rattle.io_world.proofs.mem_source.MemSourceSource.read.Goals as goal
 
 pub returns-clause-bytes : goal.returns-clause-bytes

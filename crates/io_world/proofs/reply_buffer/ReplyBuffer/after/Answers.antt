@@ -1,5 +1,5 @@
 use Rattle.std.proofs.lemmas.List.{take_more}
-use Rattle.io_world.proofs.Answering.{heard_byte}
+use Rattle.io_world.proofs.RepliesLemmas.{heard_byte}
 use Rattle.io_world.proofs.reply_buffer.ReplyBuffer.after.Goals as goal
 
 pub loop-byte-preserved : goal.loop-byte-preserved

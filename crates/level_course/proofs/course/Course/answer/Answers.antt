@@ -1,7 +1,7 @@
 use Rattle.std.proofs.Common.{◌≡◌, ◌∙◌, subst, ap, drop, ◌+◌, List}
 use Rattle.instance_queue.specs.Level.{instances_of}
 use Rattle.instance_queue.specs.declared.due.Due.{Due}
-use Rattle.level_course.proofs.Agendas.{none_to_ask, next_round}
+use Rattle.level_course.proofs.AgendasLemmas.{none_to_ask, next_round}
 use Rattle.level_course.specs.Agendas.{Agenda, Starts, shown}
 use Rattle.level_course.specs.Pools.{IsLongestFront, shares_of}
 use Rattle.level_course.proofs.course.Course.answer.Goals as goal

@@ -1,5 +1,5 @@
 use Rattle.std.proofs.Common.{◌∙◌, ap}
-use Rattle.level_course.proofs.Agendas.{asked_on}
+use Rattle.level_course.proofs.AgendasLemmas.{asked_on}
 use Rattle.level_course.specs.Agendas.{with_asked}
 use Rattle.level_course.proofs.course.Course.ask.Goals as goal
 

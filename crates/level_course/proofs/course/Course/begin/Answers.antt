@@ -2,7 +2,7 @@ use Rattle.std.proofs.Common.{◌≡◌, ◌∙◌, refl, sym, subst, ap, ◌+�
 use Rattle.std.proofs.lemmas.List.{take-map}
 use Rattle.instance_queue.specs.Level.{instances_of}
 use Rattle.instance_queue.specs.declared.due.Due.{Due}
-use Rattle.level_course.proofs.Agendas.{first_round}
+use Rattle.level_course.proofs.AgendasLemmas.{first_round}
 use Rattle.level_course.specs.Agendas.{Starts, shown}
 use Rattle.level_course.specs.Pools.{IsLongestFront, shares_of}
 use Rattle.level_course.proofs.course.Course.begin.Goals as goal

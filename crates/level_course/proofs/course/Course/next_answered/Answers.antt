@@ -1,5 +1,5 @@
 use Rattle.std.proofs.Common.{arith}
-use Rattle.level_course.proofs.Agendas.{none_to_ask, some_to_answer}
+use Rattle.level_course.proofs.AgendasLemmas.{none_to_ask, some_to_answer}
 use Rattle.level_course.proofs.course.Course.next_answered.Goals as goal
 use Rattle.level_course.proofs.course.Course.next_answered.Goals.{else-self-via-then-self+else-self-2, else-self-via-else-self}
 

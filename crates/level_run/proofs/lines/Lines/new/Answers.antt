@@ -1,5 +1,5 @@
 use Rattle.std.proofs.Common.{◌≡◌, ℕ, List, [], ◌∷◌, ap, arith, length, length-append, slice_get, subst, sym, unwrap_or}
-use Rattle.level_run.proofs.Filling.{none_held}
+use Rattle.level_run.proofs.TalkingLineLemmas.{none_held}
 use Rattle.level_run.proofs.lines.Lines.new.Goals as goal
 
 pub returns-clause-empty : goal.returns-clause-empty

@@ -4,9 +4,9 @@ use Rattle.std.proofs.lemmas.List.{take_all}
 use Rattle.std.specs.List.{flat_map}
 use Rattle.io_world.specs.Faults.{Extends}
 use Rattle.level_run.specs.Calls.{starts_in}
-use Rattle.level_run.proofs.Running.{pool_started, pools_refused}
-use Rattle.level_run.proofs.Stopping.{handed}
-use Rattle.level_run.proofs.Starting.{pools_done, pools_left}
+use Rattle.level_run.proofs.CallsRunLemmas.{pool_started, pools_refused}
+use Rattle.level_run.proofs.StoppedLemmas.{handed}
+use Rattle.level_run.proofs.StartsLemmas.{pools_done, pools_left}
 use Rattle.level_run.specs.Held.{is_running}
 use Rattle.level_run.proofs.lines.Lines.start_all.Goals as goal
 

@@ -3,7 +3,7 @@ use Rattle.std.specs.List.{flat_map}
 use Rattle.io_world.specs.Faults.{Extends}
 use Rattle.io_world.specs.Talks.{Same}
 use Rattle.level_run.specs.Calls.{starts_in}
-use Rattle.transcript_text.specs.declared.head.Pool.{Pool}
+use Rattle.transcript_model.specs.declared.head.Pool.{Pool}
 use Rattle.level_run.proofs.lines.Lines.start_all.Given as goal
 use Rattle.level_run.specs.Held.{is_running}
 use Rattle.level_run.specs.Talking.{AreSilent}

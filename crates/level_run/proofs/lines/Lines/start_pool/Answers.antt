@@ -2,9 +2,9 @@ use Rattle.std.proofs.Common.{◌∙◌, ◌+◌, arith, subst, Ok, Err, map, st
 use Rattle.io_world.specs.Talks.{Logs, started}
 use Rattle.io_world.specs.declared.host.HostFault.{HostFault}
 use Rattle.level_run.specs.Rolling.{IsHostFault}
-use Rattle.level_run.proofs.Running.{pool_refused, worker_started}
-use Rattle.level_run.proofs.Starting.{worker_done, worker_others}
-use Rattle.level_run.proofs.Stopping.{handed}
+use Rattle.level_run.proofs.CallsRunLemmas.{pool_refused, worker_started}
+use Rattle.level_run.proofs.StartsLemmas.{worker_done, worker_others}
+use Rattle.level_run.proofs.StoppedLemmas.{handed}
 use Rattle.level_run.specs.Held.{is_running}
 use Rattle.level_run.proofs.lines.Lines.start_pool.Goals as goal
 

@@ -1,11 +1,11 @@
 use Rattle.std.proofs.Common.{◌≡◌, ◌∙◌, arith, subst, inl, inr, false, rules, sym}
 use Rattle.std.proofs.lemmas.Bool.{cases_lt}
-use Rattle.level_run.proofs.Starting.{not_started_past}
+use Rattle.level_run.proofs.StartsLemmas.{not_started_past}
 use Rattle.level_run.specs.Held.{Held, is_running}
 use Rattle.level_run.proofs.lines.Lines.stop_all.Goals as goal
 use Rattle.level_run.proofs.lines.Lines.stop_all.Goals.{then-running, else-running}
 use Rattle.level_run.specs.Calls.{LogStops}
-use Rattle.level_run.proofs.Running.{stops_more}
+use Rattle.level_run.proofs.CallsRunLemmas.{stops_more}
 
 pub returns-clause-idle : goal.returns-clause-idle
 returns-clause-idle g c = λ child. elim (cases_lt child 17) [

@@ -2,9 +2,9 @@ use Rattle.std.proofs.Common.{◌≡◌, ◌∙◌, ◌+◌, Some, length, sym, 
 use Rattle.std.specs.Option.{option_copied}
 use Rattle.task_model.specs.Streams.{yields_of}
 use Rattle.task_model.specs.declared.stream.Instance.{Instance}
-use Rattle.transcript_text.specs.Names.{call_of_instance}
-use Rattle.transcript_text.specs.declared.entry.Entry.TheVariants as entry
-use Rattle.replay_check.proofs.NextRequest.{same_no, same_yes}
+use Rattle.transcript_model.specs.Names.{call_of_instance}
+use Rattle.transcript_model.specs.declared.entry.Entry.TheVariants as entry
+use Rattle.replay_check.proofs.NextRequestLemmas.{same_no, same_yes}
 use Rattle.replay_check.proofs.entries.Standing.is_next.Goals as goal
 use Rattle.replay_check.proofs.entries.Standing.is_next.Goals.{After-is_request}
 

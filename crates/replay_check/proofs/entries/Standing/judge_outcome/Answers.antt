@@ -1,10 +1,10 @@
 use Rattle.std.proofs.Common.{◌≡◌, ◌∙◌, sym, subst, true, false, rules, tests}
-use Rattle.transcript_text.specs.declared.outcome.LimitKind.TheVariants.{Calls}
-use Rattle.transcript_text.specs.declared.outcome.Outcome.TheVariants as said
+use Rattle.transcript_model.specs.declared.outcome.LimitKind.TheVariants.{Calls}
+use Rattle.transcript_model.specs.declared.outcome.Outcome.TheVariants as said
 use Rattle.replay_check.specs.Findings.{IsPlaced}
 use Rattle.replay_check.specs.Standings.{limits_by}
-use Rattle.replay_check.proofs.Ending.{between_placed, calls_placed, elsewhere, none_open, rests, rests_not}
-use Rattle.replay_check.proofs.Findings.{misplaced_found}
+use Rattle.replay_check.proofs.FindingsPlaceLemmas.{between_placed, calls_placed, elsewhere, none_open, rests, rests_not}
+use Rattle.replay_check.proofs.FindingsLemmas.{misplaced_found}
 use Rattle.replay_check.proofs.entries.Standing.judge_outcome.Goals.{else-not-is_limit_of_calls-via-then-not-is_limit_of_calls+else-not-is_between, else-not-is_limit_of_calls-via-else-not-is_limit_of_calls}
 use Rattle.replay_check.proofs.entries.Standing.judge_outcome.Goals as goal
 

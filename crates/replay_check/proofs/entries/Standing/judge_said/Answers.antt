@@ -1,6 +1,6 @@
 use Rattle.std.proofs.Common.{◌≡◌, rules, sym, subst}
-use Rattle.transcript_text.specs.declared.outcome.LimitKind.TheVariants.{Calls, Instances, States}
-use Rattle.transcript_text.specs.declared.outcome.Outcome.TheVariants as said
+use Rattle.transcript_model.specs.declared.outcome.LimitKind.TheVariants.{Calls, Instances, States}
+use Rattle.transcript_model.specs.declared.outcome.Outcome.TheVariants as said
 use Rattle.replay_check.specs.Claims.{IsJudged}
 use Rattle.replay_check.specs.Findings.{IsFound, IsPlaced}
 use Rattle.replay_check.specs.Runs.{IsPlanned}

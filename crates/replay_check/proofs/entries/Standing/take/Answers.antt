@@ -1,5 +1,5 @@
 use Rattle.std.proofs.Common.{◌∙◌, sym}
-use Rattle.replay_check.proofs.Taken.{entry_there, not_ask, other_refused}
+use Rattle.replay_check.proofs.WalksLemmas.{entry_there, not_ask, other_refused}
 use Rattle.replay_check.proofs.entries.Standing.take.Goals as goal
 
 pub returns-in_default-entry : goal.returns-in_default-entry

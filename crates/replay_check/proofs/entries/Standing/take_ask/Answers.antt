@@ -1,9 +1,9 @@
 use Rattle.std.proofs.Common.{◌≡◌, ◌∙◌, ◌++◌, ◌∷◌, [], take, sym, subst, true, false}
 use Rattle.transcript_ledger.specs.Ledgers.{IsLedger}
 use Rattle.transcript_ledger.specs.Talks.{IsAskedBy}
-use Rattle.transcript_text.specs.Legal.{IsRightAsk}
-use Rattle.transcript_text.specs.declared.entry.Entry.TheVariants as entry
-use Rattle.replay_check.proofs.Taken.{ask_is_refused, ask_number, ask_out_of_order, ask_taken}
+use Rattle.transcript_model.specs.Legal.{IsRightAsk}
+use Rattle.transcript_model.specs.declared.entry.Entry.TheVariants as entry
+use Rattle.replay_check.proofs.WalksLemmas.{ask_is_refused, ask_number, ask_out_of_order, ask_taken}
 use Rattle.replay_check.proofs.entries.Standing.take_ask.Goals as goal
 
 pub returns-in_default : goal.returns-in_default

@@ -1,6 +1,6 @@
 use Rattle.std.proofs.Common.{◌≡◌, ◌∙◌, ◌<◌, ◌==◌, ◌&&◌, not, Bool, ℕ, length, refl, sym, arith, true, false, eqb-true, eq-eqb}
 use Rattle.std.proofs.lemmas.Grind.{common_steps}
-use Rattle.replay_check.proofs.Taken.{level_early, level_of_none, level_taken, level_too_great}
+use Rattle.replay_check.proofs.WalksLemmas.{level_early, level_of_none, level_taken, level_too_great}
 use Rattle.replay_check.proofs.entries.Standing.take_level.Goals as goal
 use Rattle.replay_check.proofs.entries.Standing.take_level.Goals.{then-not-is_between-via-then-not-is_between, then-not-is_between-via-else-not-is_between+then-before-bounds}
 

@@ -1,10 +1,10 @@
 use Rattle.std.proofs.Common.{◌≡◌, ◌+◌, ◌≤◌, ◌++◌, List, ℕ, sym, ap, arith, ◌∙◌, refl}
 use Rattle.std.specs.List.{filter_map}
-use Rattle.transcript_text.specs.Names.{stream_named}
+use Rattle.transcript_model.specs.Names.{stream_named}
 use Rattle.level_course.specs.Pools.{share_of}
 use Rattle.level_course.specs.declared.shares.Share.{Share}
 use Rattle.replay_check.specs.Heads.{are_new, share_in, streams_in}
-use Rattle.replay_check.proofs.PoolLines.{pool_fits, pool_passed}
+use Rattle.replay_check.proofs.HeadsPoolLemmas.{pool_fits, pool_passed}
 use Rattle.replay_check.proofs.head.Before.add.Goals as goal
 
 pub returns : goal.returns

@@ -3,8 +3,8 @@ use Rattle.task_model.specs.Known.{IsCoherent, Known}
 use Rattle.task_model.specs.Steps.{IsStep}
 use Rattle.plan_check.specs.Faults.{StepFails}
 use Rattle.transcript_ledger.specs.Steps.{step_named}
-use Rattle.transcript_text.specs.Transcript.{names_of}
-use Rattle.replay_check.proofs.Taking.{no_step, step_more, step_stuck}
+use Rattle.transcript_model.specs.Transcript.{names_of}
+use Rattle.replay_check.proofs.RunsLemmas.{no_step, step_more, step_stuck}
 use Rattle.replay_check.proofs.steps.Run.take.Goals as goal
 
 pub returns-in_default : goal.returns-in_default

@@ -1,7 +1,7 @@
 use Rattle.std.proofs.Common.{rules, ◌≡◌, ◌+◌, ◌∙◌, drop, ap, position, Some}
 use Rattle.gen_lines.specs.Lines.{is_feed}
 use Rattle.report_reader.specs.Splits.{field_lines}
-use Rattle.report_reader.proofs.Cutting.{lines_behind}
+use Rattle.report_reader.proofs.SplitsCutLemmas.{lines_behind}
 use Rattle.report_reader.proofs.lines.Lines.advance.Goals as goal
 
 pub returns-in-Some : goal.returns-in-Some

@@ -2,7 +2,7 @@ use Rattle.std.proofs.Common.{ap, sym, ◌∙◌, ◌++◌, ◌∷◌, [], lengt
 use Rattle.std.proofs.lemmas.List.{take_more}
 use Rattle.std.proofs.lemmas.Option.{slice_get_within, get_or_from_slice_get}
 use Rattle.gen_lines.specs.Told.{texts}
-use Rattle.session_core.proofs.Values.{all_short}
+use Rattle.session_core.proofs.RoomLemmas.{all_short}
 use Rattle.session_core.proofs.room.Room.fill.Goals as goal
 
 pub name-requires : goal.name-requires

@@ -1,5 +1,5 @@
 use Rattle.std.proofs.Common.{◌≡◌, ap, sym, subst, ◌∙◌, ◌+◌, ◌≤◌, false, length, [], take, vec_len, vec_capacity, arith}
-use Rattle.session_core.proofs.Begins.{the_state, named_all, children_fit, begun_sound, begun_fresh, begin_kept}
+use Rattle.session_core.proofs.RoundBeginLemmas.{the_state, named_all, children_fit, begun_sound, begun_fresh, begin_kept}
 use Rattle.session_core.specs.Events.{IsFresh}
 use Rattle.session_core.specs.Pools.{child_for}
 use Rattle.session_core.specs.Session.{IsSession, MayBegin}

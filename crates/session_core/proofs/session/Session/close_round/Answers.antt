@@ -1,6 +1,6 @@
 use Rattle.std.proofs.Common.{sym, subst, rules, drop}
-use Rattle.session_core.proofs.Closes.{close_kept}
-use Rattle.session_core.proofs.Waiting.{rest_ready}
+use Rattle.session_core.proofs.RoundCloseLemmas.{close_kept}
+use Rattle.session_core.proofs.ReadyLemmas.{rest_ready}
 use Rattle.session_core.specs.Ready.{AreReady}
 use Rattle.session_core.specs.Session.{IsSession}
 use Rattle.session_core.specs.State.{State}

@@ -2,8 +2,8 @@ use Rattle.std.proofs.Common.{ap, subst, ◌∙◌, take, IfOk, IfErr}
 use Rattle.std.proofs.Math.Seq.{take-length}
 use Rattle.std.proofs.lemmas.Result.{IfOk-weaker}
 use Rattle.instance_queue.specs.Level.{AreDueInTurn, ComesOf}
-use Rattle.transcript_text.specs.Transcript.{known_of, notes_of}
-use Rattle.session_core.proofs.Waiting.{level_ready}
+use Rattle.transcript_model.specs.Transcript.{known_of, notes_of}
+use Rattle.session_core.proofs.ReadyLemmas.{level_ready}
 use Rattle.session_core.specs.Ready.{AreReady}
 use Rattle.session_core.specs.State.{State}
 use Rattle.session_core.proofs.session.Session.due.Goals as goal

@@ -1,8 +1,8 @@
 use Rattle.std.proofs.Common.{◌≡◌, ℕ, ◌≤◌, ◌+◌, false, length, take, ap, sym, subst, ◌∙◌, arith}
 use Rattle.task_model.specs.declared.stream.Instance.{Instance}
-use Rattle.transcript_text.specs.Transcript.{known_of, notes_of}
-use Rattle.transcript_text.specs.declared.entry.Entry.{Entry}
-use Rattle.session_core.proofs.Learnt.{all_learnt, not_learnt, can_learn}
+use Rattle.transcript_model.specs.Transcript.{known_of, notes_of}
+use Rattle.transcript_model.specs.declared.entry.Entry.{Entry}
+use Rattle.session_core.proofs.SessionLearnLemmas.{all_learnt, not_learnt, can_learn}
 use Rattle.session_core.specs.Learning.{CanLearn}
 use Rattle.session_core.specs.Session.{IsSession, after_learn}
 use Rattle.session_core.specs.Shown.{shown}

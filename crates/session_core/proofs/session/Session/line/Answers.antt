@@ -1,6 +1,6 @@
 use Rattle.std.proofs.Common.{◌≡◌, ap, sym, subst, ◌∙◌, slice_get, Some, None, refl, vec_capacity, false, true}
-use Rattle.session_core.proofs.Kept.{line_kept}
-use Rattle.session_core.proofs.Sound.{slots_are, sound_changed, read_slot, heard_is, bad_is}
+use Rattle.session_core.proofs.SessionLemmas.{line_kept}
+use Rattle.session_core.proofs.StateLemmas.{slots_are, sound_changed, read_slot, heard_is, bad_is}
 use Rattle.session_core.specs.Heard.{is_bad_at}
 use Rattle.session_core.specs.Session.{IsSession}
 use Rattle.session_core.specs.Shown.{shown}

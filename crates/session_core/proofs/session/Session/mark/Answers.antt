@@ -1,5 +1,5 @@
 use Rattle.std.proofs.Common.{◌≡◌, ap, sym, subst, ◌∙◌, ◌+◌, false, length, refl}
-use Rattle.session_core.proofs.Kept.{mark_kept, as_before, all_again, entries_become}
+use Rattle.session_core.proofs.SessionLemmas.{mark_kept, as_before, all_again, entries_become}
 use Rattle.session_core.specs.Session.{IsSession}
 use Rattle.session_core.specs.Shown.{shown}
 use Rattle.session_core.specs.State.{State}

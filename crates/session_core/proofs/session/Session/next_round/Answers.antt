@@ -1,7 +1,7 @@
 use Rattle.std.proofs.Common.{◌≡◌, ℕ, ◌+◌, ◌-◌, ◌≤◌, ◌<◌, List, length, take, min, arith, ap, sym, subst, ◌∙◌}
 use Rattle.std.proofs.lemmas.List.{length-take}
-use Rattle.session_core.proofs.Rounds.{next_is, some_front}
-use Rattle.session_core.proofs.Waiting.{may_begin}
+use Rattle.session_core.proofs.ReadyRoundLemmas.{next_is, some_front}
+use Rattle.session_core.proofs.ReadyLemmas.{may_begin}
 use Rattle.session_core.specs.Ready.{IsLongestFront, IsNextRound, calls_left}
 use Rattle.session_core.specs.Session.{IsSession}
 use Rattle.session_core.specs.Shown.{shown}

@@ -1,6 +1,6 @@
 use Rattle.std.proofs.Common.{◌≡◌, ap, sym, subst, ◌∙◌, slice_get, Some, refl}
-use Rattle.session_core.proofs.Kept.{sent_kept}
-use Rattle.session_core.proofs.Sound.{slots_are, sound_changed}
+use Rattle.session_core.proofs.SessionLemmas.{sent_kept}
+use Rattle.session_core.proofs.StateLemmas.{slots_are, sound_changed}
 use Rattle.session_core.specs.Session.{IsSession}
 use Rattle.session_core.specs.Shown.{shown}
 use Rattle.session_core.specs.Slots.{sent_slot, slot_of}

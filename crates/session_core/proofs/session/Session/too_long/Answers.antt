@@ -1,5 +1,5 @@
 use Rattle.std.proofs.Common.{sym, subst}
-use Rattle.session_core.proofs.Kept.{failure_kept}
+use Rattle.session_core.proofs.SessionLemmas.{failure_kept}
 use Rattle.session_core.specs.Session.{IsSession}
 use Rattle.session_core.specs.Shown.{shown}
 use Rattle.session_core.proofs.session.Session.too_long.Goals as goal

@@ -1,6 +1,6 @@
 use Rattle.std.proofs.Common.{length, ap, arith}
 use Rattle.std.proofs.lemmas.List.{length-append}
-use Rattle.sexpr_text.proofs.Rows.{closing_inside}
+use Rattle.sexpr_text.proofs.TreesLemmas.{closing_inside}
 use Rattle.sexpr_text.proofs.nest.Nest.closed.Goals as goal
 
 pub returns : goal.returns

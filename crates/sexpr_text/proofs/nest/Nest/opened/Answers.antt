@@ -2,7 +2,7 @@ use Rattle.std.proofs.Common.{ap, ◌∙◌}
 use Rattle.sexpr_text.specs.Trees.{trees_then}
 use Rattle.sexpr_text.specs.Reading.{opened}
 use Rattle.sexpr_text.specs.Nesting.{around, framed}
-use Rattle.sexpr_text.proofs.Rows.{around-push}
+use Rattle.sexpr_text.proofs.TreesLemmas.{around-push}
 use Rattle.sexpr_text.proofs.nest.Nest.opened.Goals as goal
 
 pub returns-clause-same : goal.returns-clause-same

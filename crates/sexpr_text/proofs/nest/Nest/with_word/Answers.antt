@@ -1,7 +1,7 @@
 use Rattle.std.proofs.Common.{ap}
 use Rattle.sexpr_text.specs.Reading.{opened}
 use Rattle.sexpr_text.specs.Nesting.{around}
-use Rattle.sexpr_text.proofs.Rows.{trees_then-word}
+use Rattle.sexpr_text.proofs.TreesLemmas.{trees_then-word}
 use Rattle.sexpr_text.proofs.nest.Nest.with_word.Goals as goal
 
 pub returns-clause-same : goal.returns-clause-same

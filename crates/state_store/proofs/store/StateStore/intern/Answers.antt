@@ -1,7 +1,7 @@
 use Rattle.std.proofs.Common.{◌<◌, ◌∷◌, [], ◌++◌, Contains, length, length-append, slice_get, subst, sym, ap, ◌∙◌, arith}
-use Rattle.task_model.proofs.Members.{distinct_push}
-use Rattle.task_model.specs.Lists.{AreDistinct}
-use Rattle.state_store.proofs.Alike.{get-pushed}
+use Rattle.lemmas.proofs.Members.{distinct_push}
+use Rattle.lemmas.specs.Lists.{AreDistinct}
+use Rattle.state_store.proofs.KeptLemmas.{get-pushed}
 use Rattle.state_store.proofs.store.StateStore.intern.Goals as goal
 
 pub invariant_of-self-2 : goal.invariant_of-self-2

@@ -1,6 +1,6 @@
 use Rattle.std.proofs.Common.{ap, sym, ◌∙◌, not}
 use Rattle.task_model.specs.State.{contains, insert}
-use Rattle.task_model.proofs.Atoms.{contains-from_list, set_inserted}
+use Rattle.task_model.proofs.StateLemmas.{contains-from_list, set_inserted}
 use Rattle.task_model.proofs.state.State.add.Goals as goal
 
 pub returns-clause-state : goal.returns-clause-state

@@ -1,7 +1,7 @@
 use Rattle.std.proofs.Common.{◌≡◌, ◌≤◌, ap, sym, ◌∙◌, slice_get, option_map, length, arith, refl}
 use Rattle.std.proofs.lemmas.Iterator.Consumers.{nth_from_yields_List, YieldsList-from_rest}
 use Rattle.task_model.specs.State.{items, len}
-use Rattle.task_model.proofs.Atoms.{items-from_list, len-from_list, missing_past_end}
+use Rattle.task_model.proofs.StateLemmas.{items-from_list, len-from_list, missing_past_end}
 use Rattle.task_model.proofs.state.State.atom.Goals as goal
 
 pub unreachable-requires : goal.unreachable-requires

@@ -1,7 +1,7 @@
 use Rattle.std.proofs.Common.{map, ap, sym, ◌∙◌, refl}
 use Rattle.std.proofs.lemmas.Iterator.Consumers.{YieldsList-end, YieldsList-from_rest}
 use Rattle.task_model.specs.State.{empty, insert, with_atoms}
-use Rattle.task_model.proofs.Atoms.{with_atoms-push, with_atoms-empty, map-push}
+use Rattle.task_model.proofs.StateLemmas.{with_atoms-push, with_atoms-empty, map-push}
 use Rattle.task_model.proofs.state.State.copy.Goals as goal
 
 pub loop-atom-preserved : goal.loop-atom-preserved

@@ -1,6 +1,6 @@
 use Rattle.std.proofs.Common.{ap, sym, ◌∙◌}
 use Rattle.task_model.specs.State.{contains}
-use Rattle.task_model.proofs.Atoms.{contains-from_list}
+use Rattle.task_model.proofs.StateLemmas.{contains-from_list}
 use Rattle.task_model.proofs.state.State.has.Goals as goal
 
 pub returns : goal.returns

@@ -1,6 +1,6 @@
 use Rattle.std.proofs.Common.{ap, sym, ◌∙◌}
 use Rattle.task_model.specs.State.{len}
-use Rattle.task_model.proofs.Atoms.{len-from_list}
+use Rattle.task_model.proofs.StateLemmas.{len-from_list}
 use Rattle.task_model.proofs.state.State.len.Goals as goal
 
 pub returns : goal.returns

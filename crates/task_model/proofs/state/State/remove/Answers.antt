@@ -1,6 +1,6 @@
 use Rattle.std.proofs.Common.{ap, sym, ◌∙◌}
 use Rattle.task_model.specs.State.{contains, remove}
-use Rattle.task_model.proofs.Atoms.{contains-from_list, set_removed}
+use Rattle.task_model.proofs.StateLemmas.{contains-from_list, set_removed}
 use Rattle.task_model.proofs.state.State.remove.Goals as goal
 
 pub returns-clause-state : goal.returns-clause-state

@@ -2,12 +2,12 @@ use Rattle.std.proofs.Common.{◌≡◌, ◌∙◌, ◌+◌, ◌++◌, ◌∷◌
 use Rattle.std.proofs.Math.Seq.{take-take}
 use Rattle.std.proofs.lemmas.List.{length-take}
 use Rattle.std.proofs.lemmas.Option.{slice_get_within}
-use Rattle.session_core.proofs.Answered.{take_next}
+use Rattle.session_core.proofs.LearningLemmas.{take_next}
 use Rattle.session_core.specs.Learning.{CanLearn}
 use Rattle.task_model.specs.declared.stream.Instance.{Instance}
-use Rattle.transcript_text.specs.Transcript.{known_of, notes_of}
-use Rattle.transcript_text.specs.declared.entry.Entry.{Entry}
-use Rattle.transcript_ledger.proofs.Kept.{can, asked_here, answer_kept, on_both}
+use Rattle.transcript_model.specs.Transcript.{known_of, notes_of}
+use Rattle.transcript_model.specs.declared.entry.Entry.{Entry}
+use Rattle.transcript_ledger.proofs.LedgersLemmas.{can, asked_here, answer_kept, on_both}
 use Rattle.transcript_ledger.specs.Ledgers.{IsLedger}
 use Rattle.transcript_ledger.specs.Numbers.{without}
 use Rattle.transcript_ledger.specs.declared.ledger.Ledger.{Ledger}

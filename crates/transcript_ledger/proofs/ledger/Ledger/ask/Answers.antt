@@ -1,5 +1,5 @@
 use Rattle.std.proofs.Common.{◌≡◌, ◌∙◌, ◌+◌, ◌++◌, ◌∷◌, [], ap, refl, arith, length}
-use Rattle.transcript_ledger.proofs.Kept.{ask_kept}
+use Rattle.transcript_ledger.proofs.LedgersLemmas.{ask_kept}
 use Rattle.transcript_ledger.proofs.ledger.Ledger.ask.Goals as goal
 
 pub returns : goal.returns

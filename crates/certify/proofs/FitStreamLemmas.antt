@@ -1,0 +1,148 @@
+-- What streams of fit tasks name.
+use Rattle.std.proofs.Common.{◌≡◌, ℕ, zero, suc, ◌+◌, ◌-◌, ◌<◌, ◌≤◌, arith, Bool, true, false, ◌&&◌, ◌||◌, ◌==◌, List, [], ◌∷◌, ◌++◌, map, length, get_or, refl, sym, subst, ap, ◌∙◌, All, nat_lt, nat_le, eqb-true, ltb-true, slice_index, replicate, Some}
+use Rattle.std.proofs.lemmas.Bool.{leb-true}
+use Rattle.std.proofs.lemmas.List.{length-append}
+use Rattle.std.proofs.lemmas.List.Elements.{All-append}
+use Rattle.std.specs.Cmp.{first_so, second_so}
+use Rattle.std.specs.List.{list_any, list_all}
+use Rattle.formula_eval.proofs.ReadableLemmas.{few_slots, few_arguments, readable_terms}
+use Rattle.formula_eval.specs.Readable.{is_readable_term}
+use Rattle.task_model.specs.Fit.{IsFitDomain, is_fit_stream, is_fit_pattern, are_fit_patterns, is_fit_application, is_fit_term, has_arity, is_short, are_places, are_static_patterns, is_fit_worth}
+use Rattle.task_model.specs.Known.{IsIn}
+use Rattle.lemmas.specs.Lists.{numbers_from}
+use Rattle.task_model.specs.Streams.{is_empty}
+use Rattle.task_model.specs.Truth.{slots_of, object_of, objects_at}
+use Rattle.task_model.specs.declared.condition.Term.{Term}
+use Rattle.task_model.specs.declared.condition.Term.TheVariants.{Slot, Object}
+use Rattle.task_model.specs.declared.domain.Domain.{Domain}
+use Rattle.task_model.specs.declared.domain.Pattern.{Pattern}
+use Rattle.task_model.specs.declared.domain.Signature.{Signature}
+use Rattle.task_model.specs.declared.stream.Stream.{Stream}
+use Rattle.task_model.specs.declared.stream.Worth.{Worth}
+
+-- ---- slots and constants
+
+number_below : (first n k : ℕ) → list_any (λ slot. slot == k) (numbers_from first n) ≡ true → k < first + n
+number_below first zero k e = absurd (cc)
+number_below first (suc n) k e =
+    elim (first == k) as (λ b. (first == k) ≡ b → (b || list_any (λ slot. slot == k) (numbers_from (first + 1) n)) ≡ true → k < first + suc n) [
+      | true ↦ λ same _. omega (arith, eqb-true first k same)
+      | false ↦ λ _ rest. omega (arith, number_below (first + 1) n k rest)
+    ] refl e
+
+in_front : (args more : List ℕ) (k : ℕ) → k < length args → slice_index (args ++ more) k ≡ get_or args k 0
+in_front [] more k lt = absurd (omega arith)
+in_front (a ∷ rest) more zero lt = refl
+in_front (a ∷ rest) more (suc k) lt = in_front rest more k (omega arith)
+
+in_names : (names : List (List ℕ)) (object : ℕ) → object < length names → IsIn names object
+in_names [] object lt = absurd (omega arith)
+in_names (n ∷ ns) zero lt = refl
+in_names (n ∷ ns) (suc object) lt = in_names ns object (omega arith)
+
+term_named : (names : List (List ℕ)) (constants : ℕ) (args : List ℕ) (term : Term) → constants ≤ length names → All (IsIn names) args → is_fit_term constants (numbers_from 0 (length args)) term ≡ true → IsIn names (object_of (slots_of args) term)
+term_named names constants args (Slot n) few all e =
+    let below : n < length args = omega (arith, number_below 0 (length args) n e) in
+    subst (IsIn names) (sym (in_front args (replicate (16 - length args) 0) n below)) (all n 0 below)
+term_named names constants args (Object o) few all e = in_names names o (omega (arith, ltb-true o constants e))
+
+pub terms_named : (names : List (List ℕ)) (constants : ℕ) (args : List ℕ) (terms : List Term) → constants ≤ length names → All (IsIn names) args → list_all (is_fit_term constants (numbers_from 0 (length args))) terms ≡ true → All (IsIn names) (objects_at (slots_of args) terms)
+terms_named names constants args [] few all e k d lt = absurd (omega arith)
+terms_named names constants args (t ∷ ts) few all e zero d lt = term_named names constants args t few all (first_so (is_fit_term constants (numbers_from 0 (length args)) t) _ e)
+terms_named names constants args (t ∷ ts) few all e (suc k) d lt = terms_named names constants args ts few all (second_so (is_fit_term constants (numbers_from 0 (length args)) t) _ e) k d (omega arith)
+
+-- ---- applications
+
+module _ (signatures : List Signature) (few : list_all (λ (s : Signature). nat_le s.arity 8) signatures ≡ true) (constants : ℕ) (place : ℕ) (args : List Term) (n : ℕ) (most : n ≤ 16) (fit : is_fit_application signatures constants (numbers_from 0 n) place args ≡ true) where
+  pub short_application : length args ≤ 8
+  short_application = leb-true (length args) 8 (few_arguments signatures place (length args) few (first_so (has_arity signatures place (length args)) _ fit))
+
+  pub readable_application : list_all is_readable_term args ≡ true
+  readable_application = readable_terms constants (numbers_from 0 n) args (few_slots n most) (second_so (has_arity signatures place (length args)) _ fit)
+
+-- ---- patterns
+
+-- what is asked of patterns before their atoms are learnt
+pub record ArePlain (names : List (List ℕ)) (args : List ℕ) (patterns : List Pattern) : Type 0 where
+  pub short : All (λ (p : Pattern). length p.args ≤ 8) patterns
+  pub readable : All (λ (p : Pattern). list_all is_readable_term p.args ≡ true) patterns
+  pub named : All (λ (p : Pattern). All (IsIn names) (objects_at (slots_of args) p.args)) patterns
+
+module _ (domain : Domain) (fit : IsFitDomain domain) (names : List (List ℕ)) (constants : length domain.constants ≤ length names) (args : List ℕ) (few : length args ≤ 16) (all : All (IsIn names) args) where
+  one_of : (P : Pattern → Type 0) → ((p : Pattern) → is_fit_pattern domain (length domain.constants) (numbers_from 0 (length args)) p ≡ true → P p) → (ps : List Pattern) → list_all (is_fit_pattern domain (length domain.constants) (numbers_from 0 (length args))) ps ≡ true → All P ps
+  one_of P one [] e k d lt = absurd (omega arith)
+  one_of P one (p ∷ ps) e zero d lt = one p (first_so (is_fit_pattern domain (length domain.constants) (numbers_from 0 (length args)) p) _ e)
+  one_of P one (p ∷ ps) e (suc k) d lt = one_of P one ps (second_so (is_fit_pattern domain (length domain.constants) (numbers_from 0 (length args)) p) _ e) k d (omega arith)
+
+  pub plain_patterns : (ps : List Pattern) → list_all (is_fit_pattern domain (length domain.constants) (numbers_from 0 (length args))) ps ≡ true → ArePlain names args ps
+  plain_patterns ps e = record {
+    short = one_of (λ p. length p.args ≤ 8) (λ p f. short_application domain.predicates fit.predicates.arities (length domain.constants) p.pred p.args (length args) few f) ps e;
+    readable = one_of (λ p. list_all is_readable_term p.args ≡ true) (λ p f. readable_application domain.predicates fit.predicates.arities (length domain.constants) p.pred p.args (length args) few f) ps e;
+    named = one_of (λ p. All (IsIn names) (objects_at (slots_of args) p.args)) (λ p f. terms_named names (length domain.constants) args p.args constants all (second_so (has_arity domain.predicates p.pred (length p.args)) _ f)) ps e;
+  }
+
+-- ---- streams
+
+-- the parts of a fit stream that answers rest on
+pub record HasFitParts (domain : Domain) (s : Stream) : Type 0 where
+  pub inputs : length s.inputs ≤ 8
+  pub outputs : length s.outputs ≤ 8
+  pub certified : list_all (is_fit_pattern domain (length domain.constants) (numbers_from 0 (length s.inputs + length s.outputs))) s.certified ≡ true
+  pub worth : is_fit_worth domain s ≡ true
+
+pub fit_parts : (domain : Domain) (s : Stream) → is_fit_stream domain s ≡ true → HasFitParts domain s
+fit_parts domain s e =
+    let a = nat_le (length s.inputs) 8 in
+    let b = nat_le (length s.outputs) 8 in
+    let c = are_places (length domain.sorts) s.inputs in
+    let d = are_places (length domain.sorts) s.outputs in
+    let f = are_fit_patterns domain (length domain.constants) (numbers_from 0 (length s.inputs)) s.domain in
+    let g = are_static_patterns domain s.domain in
+    let h = are_fit_patterns domain (length domain.constants) (numbers_from 0 (length s.inputs + length s.outputs)) s.certified in
+    let i = are_static_patterns domain s.certified in
+    let j = is_fit_worth domain s in
+    let to_i = first_so (a && b && c && d && f && g && h && i) j e in
+    let to_h = first_so (a && b && c && d && f && g && h) i to_i in
+    let to_g = first_so (a && b && c && d && f && g) h to_h in
+    let to_f = first_so (a && b && c && d && f) g to_g in
+    let to_d = first_so (a && b && c && d) f to_f in
+    let to_c = first_so (a && b && c) d to_d in
+    let to_b = first_so (a && b) c to_c in
+    record {
+      inputs = leb-true (length s.inputs) 8 (first_so a b to_b);
+      outputs = leb-true (length s.outputs) 8 (second_so a b to_b);
+      certified = second_so (is_short s.certified) _ (second_so (a && b && c && d && f && g) h to_h);
+      worth = second_so (a && b && c && d && f && g && h && i) j e;
+    }
+
+all_of : {A : Type 0} (P : A → Type 0) (xs ys : List A) → All P xs → All P ys → All P (xs ++ ys)
+all_of P xs ys all more = All-append P xs ys all more
+
+-- the certified atoms of a fit stream, where inputs and outputs have names
+module _ (domain : Domain) (fit : IsFitDomain domain) (names : List (List ℕ)) (constants : length domain.constants ≤ length names) (s : Stream) (parts : HasFitParts domain s) (inputs outputs : List ℕ) (some : length inputs ≡ length s.inputs) (others : length outputs ≡ length s.outputs) where
+  pub few_args : length (inputs ++ outputs) ≤ 16
+  few_args = omega (arith, length-append inputs outputs, parts.inputs, parts.outputs)
+
+  pub plain_certified : All (IsIn names) inputs → All (IsIn names) outputs → ArePlain names (inputs ++ outputs) s.certified
+  plain_certified first second =
+      let long : length (inputs ++ outputs) ≡ length s.inputs + length s.outputs = omega (arith, length-append inputs outputs) in
+      plain_patterns domain fit names constants (inputs ++ outputs) few_args (all_of (IsIn names) inputs outputs first second) s.certified
+      (subst (λ n. list_all (is_fit_pattern domain (length domain.constants) (numbers_from 0 n)) s.certified ≡ true) (sym long) parts.certified)
+
+-- the term of a fit cost stream
+pub record IsPlainWorth (names : List (List ℕ)) (inputs : List ℕ) (worth : Worth) : Type 0 where
+  pub short : length worth.args ≤ 8
+  pub readable : list_all is_readable_term worth.args ≡ true
+  pub named : All (IsIn names) (objects_at (slots_of inputs) worth.args)
+
+pub plain_worth : (domain : Domain) → IsFitDomain domain → (names : List (List ℕ)) → length domain.constants ≤ length names → (s : Stream) → HasFitParts domain s → (inputs : List ℕ) → length inputs ≡ length s.inputs → All (IsIn names) inputs → (worth : Worth) → s.worth ≡ Some worth → IsPlainWorth names inputs worth
+plain_worth domain fit names constants s parts inputs long all worth e =
+    let most : length inputs ≤ 16 = omega (arith, parts.inputs) in
+    let whole : is_fit_worth domain (record s { worth = Some worth }) ≡ true = subst (λ w. is_fit_worth domain (record s { worth = w }) ≡ true) e parts.worth in
+    let application : is_fit_application domain.functions (length domain.constants) (numbers_from 0 (length s.inputs)) worth.func worth.args ≡ true = second_so (is_empty s.outputs && is_empty s.certified) _ whole in
+    let fitting : is_fit_application domain.functions (length domain.constants) (numbers_from 0 (length inputs)) worth.func worth.args ≡ true = subst (λ n. is_fit_application domain.functions (length domain.constants) (numbers_from 0 n) worth.func worth.args ≡ true) (sym long) application in
+    record {
+      short = short_application domain.functions fit.functions.arities (length domain.constants) worth.func worth.args (length inputs) most fitting;
+      readable = readable_application domain.functions fit.functions.arities (length domain.constants) worth.func worth.args (length inputs) most fitting;
+      named = terms_named names (length domain.constants) inputs worth.args constants all (second_so (has_arity domain.functions worth.func (length worth.args)) _ fitting);
+    }

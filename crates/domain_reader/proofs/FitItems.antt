@@ -1,0 +1,108 @@
+-- The items of a domain without faults, and how large they are.
+use Rattle.std.proofs.Common.{◌≡◌, ℕ, ◌-◌, ◌≤◌, true, List, [], codes, refl, arith}
+use Rattle.std.specs.Str.{bytes_eq}
+use Rattle.sexpr_text.specs.Trees.{Trees, nothing, word, list, depth, size}
+use Rattle.task_model.specs.Fit.{is_name}
+use Rattle.form_reader.specs.declared.items.Item.{Item}
+use Rattle.form_reader.specs.declared.items.TextKind.TheVariants.{Domain}
+use Rattle.form_reader.specs.declared.words.WordSort.TheVariants.{Name}
+use Rattle.form_reader.specs.Faults.{shape}
+use Rattle.form_reader.specs.Items.{body_faults, item_faults, item_of, items_faults}
+use Rattle.form_reader.specs.Rows.{end_faults, head_of, inner_of, one_faults, tail_of}
+use Rattle.form_reader.specs.Texts.{define_faults, form_faults, title_faults, title_of, titled_faults}
+use Rattle.name_tables.specs.Sizes.{IsBounded}
+use Rattle.name_tables.specs.declared.vocabulary.Vocabulary.{Vocabulary}
+use Rattle.name_tables.proofs.NoFaultLemmas.{chosen, none_first, none_second, some_fault}
+use Rattle.domain_reader.specs.Names.{body_names, items_names}
+use Rattle.domain_reader.specs.Tables.{body_of, name_of}
+
+-- ---- sizes
+
+pub tail_small : (ts : Trees) → size (tail_of ts) ≤ size ts
+tail_small nothing = omega arith
+tail_small (word text at rest) = omega arith
+tail_small (list items at rest) = omega arith
+
+pub inner_small : (ts : Trees) → size (inner_of ts) ≤ size ts
+inner_small nothing = omega arith
+inner_small (word text at rest) = omega arith
+inner_small (list items at rest) = omega arith
+
+pub tail_shallow : (ts : Trees) → depth (tail_of ts) ≤ depth ts
+tail_shallow nothing = omega arith
+tail_shallow (word text at rest) = omega arith
+tail_shallow (list items at rest) = omega arith
+
+pub inner_shallow : (ts : Trees) → depth (inner_of ts) ≤ depth ts - 1
+inner_shallow nothing = omega arith
+inner_shallow (word text at rest) = omega arith
+inner_shallow (list items at rest) = omega arith
+
+-- the items of a text: no larger than it, and one level less deep
+pub body_small : (t : Trees) → IsBounded t → size (body_of t) ≤ 4194304
+body_small t b = omega (arith, tail_small (tail_of (inner_of t)), tail_small (inner_of t), inner_small t, b.small)
+
+pub body_shallow : (t : Trees) → IsBounded t → depth (body_of t) ≤ 63
+body_shallow t b = omega (arith, tail_shallow (tail_of (inner_of t)), tail_shallow (inner_of t), inner_shallow t, b.shallow)
+
+-- ---- whole texts
+
+pub record IsFormed (t : Trees) : Type 0 where
+  pub items : items_faults Domain (body_of t) ≡ []
+  pub named : is_name (name_of t) ≡ true
+
+-- the name alone behind the title
+title_named : (place : ℕ) (ts : Trees) → title_faults Domain place ts ≡ [] → is_name (head_of (tail_of ts)) ≡ true
+title_named place nothing e = absurd (some_fault (shape place) [] e)
+title_named place (list items at rest) e = absurd (some_fault (shape at) [] e)
+title_named place (word w at rest) e = one place rest (chosen (bytes_eq w (title_of Domain)) (one_faults Name place rest) (shape at) [] e).1
+  where
+    one : (place : ℕ) (ts : Trees) → one_faults Name place ts ≡ [] → is_name (head_of ts) ≡ true
+    one place nothing e = absurd (some_fault (shape place) [] e)
+    one place (word w at rest) e = (chosen (is_name w) (end_faults rest) (shape at) [] e).0
+    one place (list items at rest) e = absurd (some_fault (shape at) [] e)
+
+titled_formed : (place at : ℕ) (ts rest : Trees) (w : List ℕ) (here : ℕ) → titled_faults Domain place ts ≡ [] → IsFormed (list (word w here ts) at rest)
+titled_formed place at nothing rest w here e = absurd (some_fault (shape place) [] e)
+titled_formed place at (word v there more) rest w here e = absurd (some_fault (shape there) [] e)
+titled_formed place at (list items there more) rest w here e = record {
+  items = none_second (title_faults Domain there items) (items_faults Domain more) e;
+  named = title_named there items (none_first (title_faults Domain there items) (items_faults Domain more) e);
+}
+
+define_formed : (at : ℕ) (ts rest : Trees) → define_faults Domain at ts ≡ [] → IsFormed (list ts at rest)
+define_formed at nothing rest e = absurd (some_fault (shape at) [] e)
+define_formed at (list items there more) rest e = absurd (some_fault (shape there) [] e)
+define_formed at (word w there more) rest e = titled_formed at at more rest w there (chosen (bytes_eq w (codes "define")) (titled_faults Domain at more) (shape there) [] e).1
+
+pub text_formed : (t : Trees) → (t ≡ nothing → ⊥) → form_faults Domain t ≡ [] → IsFormed t
+text_formed nothing there e = absurd (there refl)
+text_formed (word w at rest) there e = absurd (some_fault (shape at) [] e)
+text_formed (list items at rest) there e = define_formed at items rest e
+
+-- ---- items
+
+pub record IsClean (v : Vocabulary) (heads : List (List ℕ)) (it : Item) (rest : Trees) : Type 0 where
+  pub place : ℕ
+  pub word_place : ℕ
+  pub formed : body_faults it place word_place rest ≡ []
+  pub named : body_names v heads it rest ≡ []
+
+abbrev pub AreClean : Vocabulary → List (List ℕ) → Trees → Type 0
+AreClean v heads nothing = Unit {0}
+AreClean v heads (word w at rest) = AreClean v heads rest
+AreClean v heads (list items at rest) = IsClean v heads (item_of Domain (head_of items)) (tail_of items) × AreClean v heads rest
+
+item_clean : (v : Vocabulary) (heads : List (List ℕ)) (place : ℕ) (items : Trees) → item_faults Domain place items ≡ [] → body_names v heads (item_of Domain (head_of items)) (tail_of items) ≡ [] → IsClean v heads (item_of Domain (head_of items)) (tail_of items)
+item_clean v heads place nothing f n = absurd (some_fault (shape place) [] f)
+item_clean v heads place (list items at rest) f n = absurd (some_fault (shape at) [] f)
+item_clean v heads place (word w at rest) f n = record { place = place; word_place = at; formed = f; named = n }
+
+pub items_clean : (v : Vocabulary) (heads : List (List ℕ)) (ts : Trees) → items_faults Domain ts ≡ [] → items_names v heads ts ≡ [] → AreClean v heads ts
+items_clean v heads nothing f n = tt
+items_clean v heads (word w at rest) f n = items_clean v heads rest (absurd (some_fault (shape at) [] f)) n
+items_clean v heads (list items at rest) f n =
+    let own = body_names v heads (item_of Domain (head_of items)) (tail_of items) in (
+      item_clean v heads at items (none_first (item_faults Domain at items) (items_faults Domain rest) f) (none_first own (items_names v heads rest) n),
+      items_clean v heads rest (none_second (item_faults Domain at items) (items_faults Domain rest) f) (none_second own (items_names v heads rest) n),
+    )

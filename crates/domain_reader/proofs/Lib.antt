@@ -1,0 +1,15 @@
+pub mod CyclesEdgeLemmas
+pub mod DomainsLeastLemmas
+pub mod DomainsRoleLemmas
+pub mod CyclesLemmas
+pub mod FitDomain
+pub mod FitItems
+pub mod FitNames
+pub mod FitEdges
+pub mod FitSorts
+pub mod FitLists
+pub mod FitRules
+pub mod FitRoles
+pub mod FitEffects
+pub mod FitActions
+pub mod FitCycles

@@ -1,0 +1,12 @@
+use Rattle.std.proofs.Common.{◌≡◌}
+use Rattle.sexpr_text.specs.Trees.{trees}
+use Rattle.form_reader.specs.Faults.{first}
+use Rattle.form_reader.specs.Rows.{count}
+use Rattle.domain_reader.specs.Names.{items_names}
+use Rattle.domain_reader.proofs.items.check_items.Given as goal
+
+abbrev pub invariant-items : goal.invariant-items
+invariant-items l = first l.fn.so_far (items_names l.names l.heads (trees l.items)) ≡ first l.found (items_names l.names l.heads (trees l.left))
+
+abbrev pub decreases-items : goal.decreases-items
+decreases-items l = count (trees l.left)

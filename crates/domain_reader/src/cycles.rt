@@ -1,0 +1,394 @@
+//! The cycles of a domain's types and of its derived predicates.
+ghost use Rattle.std.specs.Prelude.{◌≡◌, ◌++◌, [], IfOk, OnOk};
+ghost use Rattle.sexpr_text.specs.Trees.{trees};
+ghost use Rattle.form_reader.specs.declared.groups.Spot.TheVariants.{Start};
+ghost use Rattle.name_tables.specs.Variables.{named_sorts as sorts_in, named_words, seen_after};
+ghost use Rattle.domain_reader.specs.Cycles as specs;
+
+use crate::tables::{headed, is_derived};
+use form_reader::{Fault, InputKind, Item, Spot, TextKind, head_of, sooner, tail_of};
+use name_tables::{
+    NameTable, Signatures, ascending, is_cyclic, is_named, named_sorts, number, put_number,
+    reached_from, sort_of,
+};
+use sexpr_text::{Front, Tree, front_of};
+use std::alloc::{AllocError, Global};
+use task_model::{Name, Seq, Sort};
+
+/// A number that may be on a cycle, and the place of the fault that it has then.
+#[derive(Clone, Copy, Debug, PartialEq, Eq)]
+pub(crate) struct Candidate {
+    pub(crate) node: u32,
+    pub(crate) place: usize,
+}
+
+/// Adds a fault of this kind if the candidate is on a cycle. Fails only where memory is wanting.
+fn check_cycle(
+    alloc: Global,
+    kind: InputKind,
+    edges: &[Seq<u32>],
+    candidate: Candidate,
+    so_far: Option<Fault>,
+) -> Result<Option<Fault>, AllocError>
+    ensures { IfOk result (λ f. specs.AnswersCycle kind edges.now candidate so_far f) }
+{
+    let cyclic = is_cyclic(alloc, edges, candidate.node)?;
+    Ok(with_fault(
+        cyclic,
+        Fault {
+            place: candidate.place,
+            kind,
+        },
+        so_far,
+    ))
+}
+
+/// Adds the fault if it is there.
+fn with_fault(there: bool, fault: Fault, so_far: Option<Fault>) -> Option<Fault>
+    ensures { result ≡ specs.with_fault there fault so_far }
+{
+    if there { sooner(so_far, fault) } else { so_far }
+}
+
+/// Adds a fault of this kind for each candidate that is on a cycle. Fails only where memory is wanting.
+pub(crate) fn check_cycles(
+    alloc: Global,
+    kind: InputKind,
+    edges: &[Seq<u32>],
+    candidates: &[Candidate],
+    so_far: Option<Fault>,
+) -> Result<Option<Fault>, AllocError>
+    ensures { IfOk result (λ f. specs.AnswersCycles kind edges.now candidates.now so_far f) }
+{
+    let mut found = so_far;
+    for candidate in candidates {
+        found = check_cycle(alloc, kind, edges, *candidate, found)?;
+    }
+    Ok(found)
+}
+
+/// Whether the item lists types.
+fn is_types(item: Item) -> bool
+    ensures { result ≡ specs.is_types item }
+{
+    matches!(item, Item::Types)
+}
+
+/// What the type at a place is under before `:types` is read.
+fn first_edge(alloc: Global, place: usize) -> Result<Seq<u32>, AllocError>
+    ensures { IfOk result (λ above. above ≡ specs.first_edge place) }
+{
+    let mut above = Vec::new(alloc);
+    if place == 0 {
+        return Ok(Seq::from_vec(above));
+    }
+    above.push(0)?;
+    Ok(Seq::from_vec(above))
+}
+
+/// What each type is under before `:types` is read: `object`, which is the first, under nothing, and the others under it.
+fn first_edges(alloc: Global, sorts: &NameTable) -> Result<Vec<Seq<u32>>, AllocError>
+    ensures { IfOk result (λ edges. edges.items ≡ specs.first_edges sorts.now) }
+{
+    let mut edges = Vec::new(alloc);
+    for place in 0..sorts.len() {
+        edges.push(first_edge(alloc, place)?)?;
+    }
+    Ok(edges)
+}
+
+/// Puts one type under another, except `object` under itself.
+fn put_edge(
+    alloc: Global,
+    edges: &mut Vec<Seq<u32>>,
+    below: u32,
+    above: u32,
+) -> Result<(), AllocError>
+    ensures { OnOk result (edges.new.items ≡ specs.edge_put edges.old.items below above) }
+{
+    if below == 0 && above == 0 {
+        return Ok(());
+    }
+    put_number(alloc, edges, below as usize, above)
+}
+
+/// Puts each listed type of a row under the type beside it.
+fn add_row(
+    alloc: Global,
+    edges: &mut Vec<Seq<u32>>,
+    sorts: &NameTable,
+    items: &[Tree],
+) -> Result<(), AllocError>
+    ensures { OnOk result (edges.new.items ≡ specs.edges_each sorts.now edges.old.items (named_words Start (trees items.now)) (sorts_in sorts.now Start 0 (trees items.now))) }
+{
+    let types = named_sorts(alloc, sorts, items)?;
+    let mut waiting = types.as_slice();
+    let mut left = items;
+    let mut spot = Spot::Start;
+    'words: loop {
+        let Front::Word { text, rest, .. } = front_of(left) else {
+            return Ok(());
+        };
+        if is_named(spot, text) {
+            let [above, more @ ..] = waiting else {
+                return Ok(());
+            };
+            put_edge(alloc, edges, sort_of(sorts, text)?, *above)?;
+            waiting = more;
+        }
+        spot = spot.after_word(text);
+        left = rest;
+    }
+}
+
+/// Puts the types of `:types` items under the types beside them.
+fn add_types(
+    alloc: Global,
+    edges: &mut Vec<Seq<u32>>,
+    sorts: &NameTable,
+    items: &[Tree],
+) -> Result<(), AllocError>
+    ensures { OnOk result (edges.new.items ≡ specs.edges_in sorts.now edges.old.items (trees items.now)) }
+{
+    let mut left = items;
+    'items: loop {
+        match front_of(left) {
+            Front::End => return Ok(()),
+            Front::Word { rest, .. } => left = rest,
+            Front::List { items, rest, .. } => {
+                if is_types(TextKind::Domain.item_of(head_of(items))) {
+                    add_row(alloc, edges, sorts, tail_of(items))?;
+                }
+                left = rest;
+            }
+        }
+    }
+}
+
+/// What each type is directly under. Fails only where memory is wanting.
+pub(crate) fn type_edges(
+    alloc: Global,
+    sorts: &NameTable,
+    body: &[Tree],
+) -> Result<Vec<Seq<u32>>, AllocError>
+    ensures { IfOk result (λ edges. edges.items ≡ specs.type_edges sorts.now (trees body.now)) }
+{
+    let mut edges = first_edges(alloc, sorts)?;
+    add_types(alloc, &mut edges, sorts, body)?;
+    Ok(edges)
+}
+
+/// Adds the first listings of a row. What is seen grows by the row.
+fn list_row(
+    sorts: &NameTable,
+    seen: &mut NameTable,
+    listed: &mut Vec<Candidate>,
+    items: &[Tree],
+) -> Result<(), AllocError>
+    ensures listed { OnOk result (listed.new.items ≡ listed.old.items ++ specs.listed_row sorts.now seen.old Start (trees items.now)) }
+    ensures seen { OnOk result (seen.new ≡ seen_after seen.old Start (trees items.now)) }
+{
+    let mut left = items;
+    let mut spot = Spot::Start;
+    'words: loop {
+        let Front::Word { text, place, rest } = front_of(left) else {
+            return Ok(());
+        };
+        if is_named(spot, text) && seen.add(text)? {
+            let node = sort_of(sorts, text)?;
+            listed.push(Candidate { node, place })?;
+        }
+        spot = spot.after_word(text);
+        left = rest;
+    }
+}
+
+/// The first listing of each type. Fails only where memory is wanting.
+pub(crate) fn listed_types(
+    alloc: Global,
+    sorts: &NameTable,
+    body: &[Tree],
+) -> Result<Vec<Candidate>, AllocError>
+    ensures { IfOk result (λ listed. listed.items ≡ specs.listed_in sorts.now [] (trees body.now)) }
+{
+    let mut listed = Vec::new(alloc);
+    let mut seen = NameTable::new(alloc);
+    let mut left = body;
+    'items: loop {
+        match front_of(left) {
+            Front::End => return Ok(listed),
+            Front::Word { rest, .. } => left = rest,
+            Front::List { items, rest, .. } => {
+                if is_types(TextKind::Domain.item_of(head_of(items))) {
+                    list_row(sorts, &mut seen, &mut listed, tail_of(items))?;
+                }
+                left = rest;
+            }
+        }
+    }
+}
+
+/// All proper supertypes of a type, ascending.
+fn supertypes(alloc: Global, edges: &[Seq<u32>], sort: u32) -> Result<Seq<u32>, AllocError>
+    ensures { IfOk result (λ above. specs.IsAbove edges.now sort above) }
+{
+    let reached = reached_from(alloc, edges, sort)?;
+    Ok(Seq::from_vec(ascending(alloc, reached.as_slice())?))
+}
+
+/// The types as a task has them. Fails only where memory is wanting.
+pub(crate) fn sorts_of(
+    alloc: Global,
+    edges: &[Seq<u32>],
+    sorts: &NameTable,
+) -> Result<Vec<Sort>, AllocError>
+    ensures { IfOk result (λ list. specs.AreSorts edges.now 0 sorts.now list.items) }
+{
+    let mut list = Vec::new(alloc);
+    for place in 0..sorts.len() {
+        let name = Name::new(Vec::from_slice(alloc, sorts.name_at(place))?);
+        let above = supertypes(alloc, edges, number(place)?)?;
+        list.push(Sort { name, above })?;
+    }
+    Ok(list)
+}
+
+/// A predicate depends on one of this name, if that is there.
+fn put_mention(
+    alloc: Global,
+    edges: &mut Vec<Seq<u32>>,
+    from: usize,
+    place: Option<usize>,
+) -> Result<(), AllocError>
+    ensures { OnOk result (edges.new.items ≡ specs.mention_put edges.old.items from place) }
+{
+    match place {
+        None => Ok(()),
+        Some(pred) => put_number(alloc, edges, from, number(pred)?),
+    }
+}
+
+/// A predicate depends on those that head lists of these trees, however deep.
+fn add_mentions(
+    alloc: Global,
+    predicates: &Signatures,
+    edges: &mut Vec<Seq<u32>>,
+    from: usize,
+    items: &[Tree],
+) -> Result<(), AllocError>
+    ensures { OnOk result (edges.new.items ≡ specs.mentions_in predicates.now.names edges.old.items from (trees items.now)) }
+{
+    let mut left = items;
+    'trees: loop {
+        match front_of(left) {
+            Front::End => return Ok(()),
+            Front::Word { rest, .. } => left = rest,
+            Front::List { items, rest, .. } => {
+                put_mention(alloc, edges, from, predicates.place_of(head_of(items)))?;
+                add_mentions(alloc, predicates, edges, from, items)?;
+                left = rest;
+            }
+        }
+    }
+}
+
+/// The predicate at a place depends on none.
+fn no_edge(alloc: Global, _place: usize) -> Seq<u32>
+    ensures { result ≡ [] }
+{
+    Seq::from_vec(Vec::new(alloc))
+}
+
+/// No predicate depends on any.
+fn no_edges(alloc: Global, predicates: &Signatures) -> Result<Vec<Seq<u32>>, AllocError>
+    ensures { IfOk result (λ edges. edges.items ≡ specs.no_edges predicates.now.names) }
+{
+    let mut edges = Vec::new(alloc);
+    for place in 0..predicates.len() {
+        edges.push(no_edge(alloc, place))?;
+    }
+    Ok(edges)
+}
+
+/// The predicate of a `:derived` item, if it is there.
+fn derived_place(predicates: &Signatures, items: &[Tree]) -> Option<usize>
+    ensures { result ≡ specs.derived_place predicates.now.names (trees items.now) }
+{
+    if is_derived(TextKind::Domain.item_of(head_of(items))) {
+        predicates.place_of(headed(items))
+    } else {
+        None
+    }
+}
+
+/// A predicate depends on those of a body, if there is one.
+fn put_body(
+    alloc: Global,
+    predicates: &Signatures,
+    edges: &mut Vec<Seq<u32>>,
+    place: Option<usize>,
+    body: &[Tree],
+) -> Result<(), AllocError>
+    ensures { OnOk result (edges.new.items ≡ specs.body_put predicates.now.names edges.old.items place (trees body.now)) }
+{
+    match place {
+        None => Ok(()),
+        Some(pred) => add_mentions(alloc, predicates, edges, pred, body),
+    }
+}
+
+/// What each predicate depends on directly. Fails only where memory is wanting.
+pub(crate) fn derived_edges(
+    alloc: Global,
+    predicates: &Signatures,
+    body: &[Tree],
+) -> Result<Vec<Seq<u32>>, AllocError>
+    ensures { IfOk result (λ edges. edges.items ≡ specs.derived_edges predicates.now.names (trees body.now)) }
+{
+    let mut edges = no_edges(alloc, predicates)?;
+    let mut left = body;
+    'items: loop {
+        match front_of(left) {
+            Front::End => return Ok(edges),
+            Front::Word { rest, .. } => left = rest,
+            Front::List { items, rest, .. } => {
+                let place = derived_place(predicates, items);
+                put_body(
+                    alloc,
+                    predicates,
+                    &mut edges,
+                    place,
+                    tail_of(tail_of(items)),
+                )?;
+                left = rest;
+            }
+        }
+    }
+}
+
+/// Each `:derived` item of a predicate that is there. Fails only where memory is wanting.
+pub(crate) fn derived_items(
+    alloc: Global,
+    predicates: &Signatures,
+    body: &[Tree],
+) -> Result<Vec<Candidate>, AllocError>
+    ensures { IfOk result (λ list. list.items ≡ specs.derived_in predicates.now.names (trees body.now)) }
+{
+    let mut list = Vec::new(alloc);
+    let mut left = body;
+    'items: loop {
+        match front_of(left) {
+            Front::End => return Ok(list),
+            Front::Word { rest, .. } => left = rest,
+            Front::List { items, place, rest } => {
+                if let Some(pred) = derived_place(predicates, items) {
+                    list.push(Candidate {
+                        node: number(pred)?,
+                        place,
+                    })?;
+                }
+                left = rest;
+            }
+        }
+    }
+}

@@ -1,0 +1,365 @@
+//! A domain, from its tree.
+#![tactic(auto, using(form_reader::proofs::FaultsFirstLemmas::first_append))]
+
+ghost use Rattle.std.specs.Prelude.{◌≡◌, [], IfOk, OnOk};
+ghost use Rattle.sexpr_text.specs.Trees.{tree, trees};
+ghost use Rattle.task_model.specs.Roles as roles;
+ghost use Rattle.form_reader.specs.Faults.{least};
+ghost use Rattle.form_reader.specs.declared.groups.Spot.TheVariants.{Start};
+ghost use Rattle.name_tables.specs.Variables.{named_words};
+ghost use Rattle.domain_reader.specs.Effects.{after_effect};
+ghost use Rattle.domain_reader.specs.Domains as specs;
+
+use crate::changes::{Changes, note_effect};
+use crate::cycles::{
+    check_cycles, derived_edges, derived_items, listed_types, sorts_of, type_edges,
+};
+use crate::items::{check_items, parameters_of, value_at};
+use crate::once::{
+    Declared as Declares, check_derived_count, check_second_actions, check_second_items,
+    check_second_signatures, is_action,
+};
+use crate::tables::{add_heads, body_of, is_derived, name_of, vocabulary_of};
+use form_reader::{Fault, InputKind, Item, TextKind, head_of, inner_of, tail_of};
+use name_tables::{
+    NameTable, Scope, TypedNames, Vocabulary, condition_of, declare_groups, declared_place, enter,
+    named_sorts, number, single_of,
+};
+use sexpr_text::{Front, Tree, front_of};
+use std::alloc::{AllocError, Global};
+use task_model::{Action, Declared, Derived, Domain, Name, Pattern, Role, Seq};
+
+/// Whether the item declares constants.
+fn is_constants(item: Item) -> bool
+    ensures { result ≡ specs.is_constants item }
+{
+    matches!(item, Item::Constants)
+}
+
+/// Declares the constants of items.
+fn add_constants(
+    alloc: Global,
+    sorts: &NameTable,
+    names: &mut TypedNames,
+    items: &[Tree],
+) -> Result<(), AllocError>
+    ensures { OnOk result (names.new ≡ specs.constants_in sorts.now names.old (trees items.now)) }
+{
+    let mut left = items;
+    'items: loop {
+        match front_of(left) {
+            Front::End => return Ok(()),
+            Front::Word { rest, .. } => left = rest,
+            Front::List { items, rest, .. } => {
+                if is_constants(TextKind::Domain.item_of(head_of(items))) {
+                    declare_groups(alloc, names, sorts, tail_of(items))?;
+                }
+                left = rest;
+            }
+        }
+    }
+}
+
+/// The variables of a row as a scope.
+fn scope_of(alloc: Global, items: &[Tree]) -> Result<Scope, AllocError>
+    ensures { IfOk result (λ scope. scope ≡ named_words Start (trees items.now)) }
+{
+    let mut scope = Scope::new(alloc);
+    enter(&mut scope, items)?;
+    Ok(scope)
+}
+
+/// What an action does whose keys are these.
+fn done_by(
+    alloc: Global,
+    names: &Vocabulary,
+    scope: &Scope,
+    keys: &[Tree],
+) -> Result<Changes, AllocError>
+    ensures { IfOk result (λ done. done ≡ after_effect names.now scope.now specs.nothing_done (specs.value_of_effect (trees keys.now))) }
+{
+    let mut changes = Changes::new(alloc);
+    note_effect(
+        alloc,
+        names,
+        scope,
+        &mut changes,
+        value_at(b":effect", keys),
+    )?;
+    Ok(changes)
+}
+
+/// The action that stands behind `:action`. Fails only where memory is wanting.
+fn action_of(alloc: Global, names: &Vocabulary, items: &[Tree]) -> Result<Action, AllocError>
+    ensures { IfOk result (λ action. action ≡ specs.action_of names.now (trees items.now)) }
+{
+    let name = Name::new(Vec::from_slice(alloc, head_of(items))?);
+    let keys = tail_of(items);
+    let vars = parameters_of(keys);
+    let params = Seq::from_vec(named_sorts(alloc, &names.sorts, vars)?);
+    let mut scope = scope_of(alloc, vars)?;
+    let condition = condition_of(alloc, names, &mut scope, value_at(b":precondition", keys))?;
+    let Changes {
+        adds,
+        deletes,
+        costs,
+    } = done_by(alloc, names, &scope, keys)?;
+    Ok(Action {
+        name,
+        params,
+        condition,
+        adds: Seq::from_vec(adds),
+        deletes: Seq::from_vec(deletes),
+        costs: Seq::from_vec(costs),
+    })
+}
+
+/// The actions of items. Fails only where memory is wanting.
+fn actions_of(alloc: Global, names: &Vocabulary, items: &[Tree]) -> Result<Vec<Action>, AllocError>
+    ensures { IfOk result (λ list. list.items ≡ specs.actions_of names.now (trees items.now)) }
+{
+    let mut list = Vec::new(alloc);
+    let mut left = items;
+    'items: loop {
+        match front_of(left) {
+            Front::End => return Ok(list),
+            Front::Word { rest, .. } => left = rest,
+            Front::List { items, rest, .. } => {
+                if is_action(TextKind::Domain.item_of(head_of(items))) {
+                    list.push(action_of(alloc, names, tail_of(items))?)?;
+                }
+                left = rest;
+            }
+        }
+    }
+}
+
+/// The rule that stands behind `:derived`. Fails only where memory is wanting.
+fn rule_of(alloc: Global, names: &Vocabulary, items: &[Tree]) -> Result<Derived, AllocError>
+    ensures { IfOk result (λ rule. rule ≡ specs.rule_of names.now (trees items.now)) }
+{
+    let head = inner_of(items);
+    let pred = declared_place(&names.predicates, head_of(head))?;
+    let vars = tail_of(head);
+    let params = Seq::from_vec(named_sorts(alloc, &names.sorts, vars)?);
+    let mut scope = scope_of(alloc, vars)?;
+    let body = single_of(alloc, names, &mut scope, tail_of(items))?;
+    Ok(Derived { pred, params, body })
+}
+
+/// The rules of items. Fails only where memory is wanting.
+fn rules_of(alloc: Global, names: &Vocabulary, items: &[Tree]) -> Result<Vec<Derived>, AllocError>
+    ensures { IfOk result (λ list. list.items ≡ specs.rules_of names.now (trees items.now)) }
+{
+    let mut list = Vec::new(alloc);
+    let mut left = items;
+    'items: loop {
+        match front_of(left) {
+            Front::End => return Ok(list),
+            Front::Word { rest, .. } => left = rest,
+            Front::List { items, rest, .. } => {
+                if is_derived(TextKind::Domain.item_of(head_of(items))) {
+                    list.push(rule_of(alloc, names, tail_of(items))?)?;
+                }
+                left = rest;
+            }
+        }
+    }
+}
+
+/// Whether a rule heads the predicate.
+fn is_headed(rules: &[Derived], pred: u32) -> bool
+    ensures { result ≡ specs.is_headed rules.now pred }
+{
+    for rule in rules {
+        if rule.pred == pred {
+            return true;
+        }
+    }
+    false
+}
+
+/// Whether one of the atoms is of the predicate.
+fn has_pattern(patterns: &[Pattern], pred: u32) -> bool
+    ensures { result ≡ specs.has_pattern patterns.now pred }
+{
+    for pattern in patterns {
+        if pattern.pred == pred {
+            return true;
+        }
+    }
+    false
+}
+
+/// Whether an action changes atoms of the predicate.
+#[tactic(auto, using(crate::proofs::DomainsRoleLemmas::pattern_append))]
+fn is_changed_by(action: &Action, pred: u32) -> bool
+    ensures { result ≡ specs.is_changed_by action.now pred }
+{
+    has_pattern(action.adds.as_slice(), pred) || has_pattern(action.deletes.as_slice(), pred)
+}
+
+/// Whether some action changes atoms of the predicate.
+fn is_changed(actions: &[Action], pred: u32) -> bool
+    ensures { result ≡ specs.is_changed actions.now pred }
+{
+    for action in actions {
+        if is_changed_by(action, pred) {
+            return true;
+        }
+    }
+    false
+}
+
+/// The role of a predicate.
+#[tactic(auto, unfolding(task_model::specs::Roles::role_of))]
+fn role_of(domain: &Domain, pred: u32) -> Role
+    ensures { result ≡ roles.role_of domain.now pred }
+{
+    if is_headed(domain.derived.as_slice(), pred) {
+        return Role::Derived;
+    }
+    if is_changed(domain.actions.as_slice(), pred) {
+        return Role::Fluent;
+    }
+    Role::Static
+}
+
+/// The roles of all predicates. Fails only where memory is wanting.
+fn roles_of(alloc: Global, domain: &Domain) -> Result<Vec<Role>, AllocError>
+    ensures { IfOk result (λ list. list.items ≡ specs.roles_of domain.now) }
+{
+    let mut list = Vec::new(alloc);
+    for place in 0..domain.predicates.len() {
+        list.push(role_of(domain, number(place)?))?;
+    }
+    Ok(list)
+}
+
+/// The constants of items with their types.
+fn constants_of(
+    alloc: Global,
+    sorts: &NameTable,
+    body: &[Tree],
+) -> Result<Vec<Declared>, AllocError>
+    ensures { IfOk result (λ list. list.items ≡ specs.constants_of sorts.now (trees body.now)) }
+{
+    let mut constants = TypedNames::new(alloc);
+    add_constants(alloc, sorts, &mut constants, body)?;
+    constants.to_declared()
+}
+
+/// The domain but for its roles.
+fn parts_of(alloc: Global, names: &Vocabulary, text: &Tree) -> Result<Domain, AllocError>
+    ensures { IfOk result (λ d. specs.ArePartsOf names.now (tree text.now) d) }
+{
+    let body = body_of(text);
+    let edges = type_edges(alloc, &names.sorts, body)?;
+    let sorts = sorts_of(alloc, edges.as_slice(), &names.sorts)?;
+    let predicates = names.predicates.to_signatures()?;
+    let functions = names.functions.to_signatures()?;
+    let constants = constants_of(alloc, &names.sorts, body)?;
+    let derived = rules_of(alloc, names, body)?;
+    let actions = actions_of(alloc, names, body)?;
+    Ok(Domain {
+        name: Name::new(Vec::from_slice(alloc, name_of(text))?),
+        sorts: Seq::from_vec(sorts),
+        predicates: Seq::from_vec(predicates),
+        functions: Seq::from_vec(functions),
+        constants: Seq::from_vec(constants),
+        derived: Seq::from_vec(derived),
+        actions: Seq::from_vec(actions),
+        roles: Seq::from_vec(Vec::new(alloc)),
+    })
+}
+
+/// The domain that a text spells. Fails only where memory is wanting.
+#[tactic(auto, unfolding(task_model::specs::Roles::role_of))]
+pub(crate) fn domain_of(
+    alloc: Global,
+    names: &Vocabulary,
+    text: &Tree,
+) -> Result<Domain, AllocError>
+    ensures { IfOk result (λ d. specs.IsDomainBy names.now (tree text.now) d) }
+{
+    let parts = parts_of(alloc, names, text)?;
+    let roles = roles_of(alloc, &parts)?;
+    let Domain {
+        name,
+        sorts,
+        predicates,
+        functions,
+        constants,
+        derived,
+        actions,
+        roles: _none,
+    } = parts;
+    Ok(Domain {
+        name,
+        sorts,
+        predicates,
+        functions,
+        constants,
+        derived,
+        actions,
+        roles: Seq::from_vec(roles),
+    })
+}
+
+/// The name faults of a domain with these items that aren't of cycles.
+pub(crate) fn check_plain(
+    alloc: Global,
+    names: &Vocabulary,
+    body: &[Tree],
+) -> Result<Option<Fault>, AllocError>
+    ensures { IfOk result (λ f. f ≡ least (specs.plain_names names.now (trees body.now))) }
+{
+    let mut heads = NameTable::new(alloc);
+    add_heads(&mut heads, body)?;
+    let used = check_items(alloc, names, &heads, body, None)?;
+    let single = check_second_items(alloc, TextKind::Domain, body, used)?;
+    let predicates = check_second_signatures(alloc, Declares::Predicates, body, single)?;
+    let functions = check_second_signatures(alloc, Declares::Functions, body, predicates)?;
+    let actions = check_second_actions(alloc, body, functions)?;
+    check_derived_count(alloc, &names.predicates, body, actions)
+}
+
+/// The faults of types that are their own supertypes.
+pub(crate) fn check_types(
+    alloc: Global,
+    names: &Vocabulary,
+    body: &[Tree],
+    so_far: Option<Fault>,
+) -> Result<Option<Fault>, AllocError>
+    ensures { IfOk result (λ f. specs.AnswersTypes names.now (trees body.now) so_far f) }
+{
+    let edges = type_edges(alloc, &names.sorts, body)?;
+    let listed = listed_types(alloc, &names.sorts, body)?;
+    check_cycles(
+        alloc,
+        InputKind::TypeCycle,
+        edges.as_slice(),
+        listed.as_slice(),
+        so_far,
+    )
+}
+
+/// The faults of derived predicates that depend on themselves.
+pub(crate) fn check_derived(
+    alloc: Global,
+    names: &Vocabulary,
+    body: &[Tree],
+    so_far: Option<Fault>,
+) -> Result<Option<Fault>, AllocError>
+    ensures { IfOk result (λ f. specs.AnswersDerived names.now (trees body.now) so_far f) }
+{
+    let edges = derived_edges(alloc, &names.predicates, body)?;
+    let items = derived_items(alloc, &names.predicates, body)?;
+    check_cycles(
+        alloc,
+        InputKind::DerivedCycle,
+        edges.as_slice(),
+        items.as_slice(),
+        so_far,
+    )
+}

@@ -1,0 +1,59 @@
+-- Names and their places.
+use Rattle.std.proofs.Common.{◌≡◌, ℕ, ◌+◌, Bool, true, false, cond, ◌||◌, List, [], ◌∷◌, ◌++◌, map, length, refl, sym, subst, ap, ◌∙◌, Some, slice_get, Contains, option_map, ◌⊎◌, inl, inr, Result, Ok, Err, is_ok, ◌<◌, ◌≤◌, arith}
+use Rattle.std.proofs.lemmas.List.{length_push}
+use Rattle.std.proofs.lemmas.Option.{slice_get-map}
+use Rattle.std.specs.List.{list_any, find}
+use Rattle.task_model.proofs.KnownLemmas.{numbers_decided}
+use Rattle.task_model.specs.Known.{same_numbers}
+use Rattle.fact_store.proofs.StoreLemmas.{name_found, name_absent}
+
+-- what is found passes the test
+pub find_passes : {A : Type 0} (p : A → Bool) (xs : List A) (x : A) → find p xs ≡ Some x → p x ≡ true
+find_passes p [] x e = absurd (cc)
+find_passes p (y ∷ ys) x e =
+    elim (p y) as (λ b. p y ≡ b → cond b (Some y) (find p ys) ≡ Some x → p x ≡ true) [
+      | true ↦ λ t f. let same : y ≡ x = cc in subst (λ z. p z ≡ true) same t
+      | false ↦ λ t f. find_passes p ys x f
+    ] refl e
+
+-- where a mapped list is searched
+pub any_mapped : {A B : Type 0} (f : A → B) (p : B → Bool) (xs : List A) → list_any (λ x. p (f x)) xs ≡ list_any p (map f xs)
+any_mapped f p [] = refl
+any_mapped f p (x ∷ xs) = ap (λ b. p (f x) || b) (any_mapped f p xs)
+
+module _ {A : Type 0} (bytes_of : A → List ℕ) (keys : List A) (names : List (List ℕ)) (same : map bytes_of keys ≡ names) (name : List ℕ) where
+  -- the name stands where the key stands that is found
+  pub found_name : (place : ℕ) (key : A) → slice_get keys place ≡ Some key → find (λ k. same_numbers name (bytes_of k)) keys ≡ Some key → slice_get names place ≡ Some name
+  found_name place key at found =
+      ap (λ ns. slice_get ns place) (sym same) ∙ slice_get-map bytes_of keys place ∙ ap (option_map bytes_of) at
+      ∙ ap Some (sym ((numbers_decided name (bytes_of key)).0 (find_passes (λ k. same_numbers name (bytes_of k)) keys key found)))
+
+  -- no object has the name where no key is found
+  pub absent_name : list_any (λ k. same_numbers name (bytes_of k)) keys ≡ false → ¬ (Contains names name)
+  absent_name absent m =
+      let there : list_any (same_numbers name) names ≡ true = name_found names name m in
+      let not_there : list_any (same_numbers name) names ≡ false = ap (list_any (same_numbers name)) (sym same) ∙ sym (any_mapped bytes_of (same_numbers name) keys) ∙ absent in
+      absurd (cc)
+
+-- the name that was put behind the others has the next number
+pub name_at_end : {A : Type 0} (xs : List A) (x : A) → slice_get (xs ++ x ∷ []) (length xs) ≡ Some x
+name_at_end [] x = refl
+name_at_end (y ∷ ys) x = name_at_end ys x
+
+pub mapped_push : {A B : Type 0} (f : A → B) (xs : List A) (x : A) → map f (xs ++ x ∷ []) ≡ map f xs ++ f x ∷ []
+mapped_push f [] x = refl
+mapped_push f (y ∷ ys) x = ap (λ zs. f y ∷ zs) (mapped_push f ys x)
+
+-- a new key is put behind the others, as its name is
+pub key_pushed : {A : Type 0} (bytes_of : A → List ℕ) (old new : List A) (key : A) (names : List (List ℕ)) (name : List ℕ) → map bytes_of old ≡ names → bytes_of key ≡ name → ¬ (Contains names name) → new ≡ cond (list_any (λ k. same_numbers (bytes_of key) (bytes_of k)) old) old (old ++ key ∷ []) → map bytes_of new ≡ names ++ name ∷ []
+key_pushed bytes_of old new key names name same is absent grown =
+    let none : list_any (λ k. same_numbers (bytes_of key) (bytes_of k)) old ≡ false = any_mapped bytes_of (same_numbers (bytes_of key)) old ∙ (λ i. list_any (same_numbers (is i)) (same i)) ∙ name_absent names name absent in
+    ap (map bytes_of) (grown ∙ ap (λ b. cond b old (old ++ key ∷ [])) none) ∙ mapped_push bytes_of old key ∙ (λ i. same i ++ is i ∷ [])
+
+-- what a push onto names that kept their members leaves
+pub pushed_or_not : {E : Type 0} (r : Result (Unit {0}) E) (old kept new : List (List ℕ)) (name : List ℕ) → kept ≡ old → new ≡ cond (is_ok r) (kept ++ name ∷ []) kept → (new ≡ old ++ name ∷ []) ⊎ (new ≡ old)
+pushed_or_not (Ok x) old kept new name same is = inl (is ∙ ap (λ ns. ns ++ name ∷ []) same)
+pushed_or_not (Err e) old kept new name same is = inr (is ∙ same)
+
+pub few_more : (old new : List (List ℕ)) (name : List ℕ) → new ≡ old ++ name ∷ [] → length old < 4294705152 → length new ≤ 4294705152
+few_more old new name e few = subst (λ ns. length ns ≤ 4294705152) (sym e) (omega (arith, length_push old name))

@@ -1,0 +1,136 @@
+-- Tallies, as notes come.
+use Rattle.std.proofs.Common.{◌≡◌, ℕ, ◌+◌, Bool, true, false, cond, ◌&&◌, ◌||◌, ◌==◌, nat_lt, List, [], ◌∷◌, ◌++◌, refl, sym, ap, subst, ◌∙◌, Some, arith, eqb-true, eq-eqb, count_by, map, zero-add}
+use borrow.Author.Tests.{lt-ltb}
+use Rattle.std.proofs.lemmas.List.Folds.{list_any-append}
+use Rattle.std.proofs.lemmas.List.Sums.{sum_by-append}
+use Rattle.std.specs.Bool.{Decides}
+use Rattle.std.specs.Cmp.{first_so, second_so, IsEquivalence, decided}
+use Rattle.std.specs.List.{list_any}
+use Rattle.indexmap.specs.IndexMap.{IndexMap, get}
+use Rattle.task_model.proofs.KnownLemmas.{numbers_decided}
+use Rattle.task_model.specs.Known.{same_numbers}
+use Rattle.task_model.specs.Streams.{Note, Yielded, Ended, same_instance, is_yield_of, is_end_of, yields_of}
+use Rattle.task_model.specs.declared.stream.Instance.{Instance}
+use Rattle.instance_queue.specs.Notes.{tally_of, tally_in, note_of, notes_in, AreTallied}
+use Rattle.instance_queue.specs.declared.queue.Noted.{Noted}
+use Rattle.instance_queue.specs.declared.queue.Tally.{Tally}
+
+-- ---- instances
+
+both : (a b : Bool) → a ≡ true → b ≡ true → (a && b) ≡ true
+both true b p q = q
+both false b p q = p
+
+pub instances_same : (a b : Instance) → same_instance a b ≡ true → a ≡ b
+instances_same a b e =
+    let stream = first_so (a.stream == b.stream) (same_numbers a.inputs b.inputs) e in
+    let inputs = second_so (a.stream == b.stream) (same_numbers a.inputs b.inputs) e in
+    λ i. record { stream = eqb-true a.stream b.stream stream i; inputs = (numbers_decided a.inputs b.inputs).0 inputs i }
+
+pub instance_itself : (a : Instance) → same_instance a a ≡ true
+instance_itself a = both _ _ (eq-eqb a.stream a.stream refl) ((numbers_decided a.inputs a.inputs).1 refl)
+
+instance_decided : (a b : Instance) → Decides (same_instance a b) (a ≡ b)
+instance_decided a b = (instances_same a b, λ e. subst (λ x. same_instance a x ≡ true) e (instance_itself a))
+
+pub instances_equivalence : IsEquivalence same_instance
+instances_equivalence = decided same_instance instance_decided
+
+-- ---- one note more
+
+-- what a note is about
+abbrev pub about : Note → Instance
+about (Yielded i) = i
+about (Ended i) = i
+
+count_one : {A : Type 0} (p : A → Bool) (xs : List A) (x : A) → count_by p (xs ++ x ∷ []) ≡ count_by p xs + cond (p x) 1 0
+count_one p xs x = sum_by-append (λ y. cond (p y) 1 0) xs (x ∷ []) ∙ ap (λ n. count_by p xs + n) (zero-add (cond (p x) 1 0))
+
+no_more : (n : ℕ) (b : Bool) → b ≡ false → n + cond b 1 0 ≡ n
+no_more n b e = ap (λ c. n + cond c 1 0) e ∙ (let f : n + 0 ≡ n = omega arith in f)
+
+stays : (a b : Bool) → b ≡ false → (a || (b || false)) ≡ a
+stays true b e = refl
+stays false true e = absurd (cc)
+stays false false e = refl
+
+yields_other : (note : Note) (q : Instance) → same_instance q (about note) ≡ false → is_yield_of q note ≡ false
+yields_other (Yielded i) q e = e
+yields_other (Ended i) q e = refl
+
+ends_other : (note : Note) (q : Instance) → same_instance q (about note) ≡ false → is_end_of q note ≡ false
+ends_other (Yielded i) q e = refl
+ends_other (Ended i) q e = e
+
+-- other instances keep their tallies
+pub tally_stays : (notes : List Note) (note : Note) (q : Instance) → same_instance (about note) q ≡ false → tally_of (notes ++ note ∷ []) q ≡ tally_of notes q
+tally_stays notes note q apart =
+    let other : same_instance q (about note) ≡ false = instances_equivalence.symm q (about note) ∙ apart in
+    λ i. record {
+      yields = (count_one (is_yield_of q) notes note ∙ no_more (yields_of notes q) (is_yield_of q note) (yields_other note q other)) i;
+      ended = (list_any-append (is_end_of q) notes (note ∷ []) ∙ stays (list_any (is_end_of q) notes) (is_end_of q note) (ends_other note q other)) i;
+    }
+
+pub tallied_more : {S : Type 0} (old new : IndexMap Instance Tally S) (notes : List Note) (note : Note) (tally : Tally) → AreTallied old notes → tally ≡ tally_of (notes ++ note ∷ []) (about note) → ((q : Instance) → get same_instance new q ≡ cond (same_instance (about note) q) (Some tally) (get same_instance old q)) → AreTallied new (notes ++ note ∷ [])
+tallied_more old new notes note tally was now is q =
+    ap tally_in (is q)
+    ∙ elim (same_instance (about note) q) as (λ b. same_instance (about note) q ≡ b → tally_in (cond b (Some tally) (get same_instance old q)) ≡ tally_of (notes ++ note ∷ []) q) [
+      | true ↦ λ e. now ∙ ap (tally_of (notes ++ note ∷ [])) (instances_same (about note) q e)
+      | false ↦ λ e. was q ∙ sym (tally_stays notes note q e)
+    ] refl
+
+-- ---- the noted instance
+
+pub yields_yielded : (notes : List Note) (i : Instance) → yields_of (notes ++ Yielded i ∷ []) i ≡ yields_of notes i + 1
+yields_yielded notes i = count_one (is_yield_of i) notes (Yielded i) ∙ ap (λ b. yields_of notes i + cond b 1 0) (instance_itself i)
+
+pub ended_yielded : (notes : List Note) (i : Instance) → list_any (is_end_of i) (notes ++ Yielded i ∷ []) ≡ list_any (is_end_of i) notes
+ended_yielded notes i = list_any-append (is_end_of i) notes (Yielded i ∷ []) ∙ stays (list_any (is_end_of i) notes) false refl
+
+pub yields_ended : (notes : List Note) (i : Instance) → yields_of (notes ++ Ended i ∷ []) i ≡ yields_of notes i
+yields_ended notes i = count_one (is_yield_of i) notes (Ended i) ∙ no_more (yields_of notes i) false refl
+
+or_true : (a b : Bool) → b ≡ true → (a || (b || false)) ≡ true
+or_true true b e = refl
+or_true false true e = refl
+or_true false false e = absurd (cc)
+
+pub ended_ended : (notes : List Note) (i : Instance) → list_any (is_end_of i) (notes ++ Ended i ∷ []) ≡ true
+ended_ended notes i = list_any-append (is_end_of i) notes (Ended i ∷ []) ∙ or_true (list_any (is_end_of i) notes) (same_instance i i) (instance_itself i)
+
+pub tally_yielded : (notes : List Note) (i : Instance) (tally : Tally) → tally ≡ tally_of notes i → record { yields = tally.yields + 1; ended = tally.ended } ≡ tally_of (notes ++ Yielded i ∷ []) i
+tally_yielded notes i tally is = λ k. record { yields = (ap (λ (t : Tally). t.yields + 1) is ∙ sym (yields_yielded notes i)) k; ended = (ap (λ (t : Tally). t.ended) is ∙ sym (ended_yielded notes i)) k }
+
+pub tally_ended : (notes : List Note) (i : Instance) (tally : Tally) → tally ≡ tally_of notes i → record { yields = tally.yields; ended = true } ≡ tally_of (notes ++ Ended i ∷ []) i
+tally_ended notes i tally is = λ k. record { yields = (ap (λ (t : Tally). t.yields) is ∙ sym (yields_ended notes i)) k; ended = sym (ended_ended notes i) k }
+
+-- ---- whether something was yielded
+
+some_counted : {A : Type 0} (p : A → Bool) (xs : List A) → nat_lt 0 (count_by p xs) ≡ list_any p xs
+some_counted p [] = refl
+some_counted p (x ∷ xs) =
+    ap (nat_lt 0) (sum_by-append (λ y. cond (p y) 1 0) (x ∷ []) xs ∙ ap (λ n. n + count_by p xs) (zero-add (cond (p x) 1 0)))
+    ∙ elim (p x) as (λ b. nat_lt 0 (cond b 1 0 + count_by p xs) ≡ (b || list_any p xs)) [
+      | true ↦ lt-ltb 0 (1 + count_by p xs) (omega arith)
+      | false ↦ ap (nat_lt 0) (zero-add (count_by p xs)) ∙ some_counted p xs
+    ]
+
+pub yielded_some : (notes : List Note) (i : Instance) → nat_lt 0 (yields_of notes i) ≡ list_any (is_yield_of i) notes
+yielded_some notes i = some_counted (is_yield_of i) notes
+
+-- ---- the notes that are kept
+
+pub about_noted : (noted : Noted) → about (note_of noted) ≡ noted.instance
+about_noted noted = elim noted.ended as (λ b. about (note_of (record { instance = noted.instance; ended = b })) ≡ noted.instance) [ true ↦ refl | false ↦ refl ]
+
+mapped_push : {A B : Type 0} (f : A → B) (xs : List A) (x : A) → map f (xs ++ x ∷ []) ≡ map f xs ++ f x ∷ []
+mapped_push f [] x = refl
+mapped_push f (y ∷ ys) x = ap (λ zs. f y ∷ zs) (mapped_push f ys x)
+
+pub noted_more : {S : Type 0} (old new : IndexMap Instance Tally S) (were are : List Noted) (noted : Noted) (key : Instance) (tally : Tally) (notes : List Note) → AreTallied old (notes_in were) → notes_in were ≡ notes → tally ≡ tally_of (notes ++ note_of noted ∷ []) noted.instance → are ≡ were ++ noted ∷ [] → key ≡ noted.instance → ((q : Instance) → get same_instance new q ≡ cond (same_instance key q) (Some tally) (get same_instance old q)) → AreTallied new (notes_in are)
+noted_more old new were are noted key tally notes was view now more is found =
+    let same : key ≡ about (note_of noted) = is ∙ sym (about_noted noted) in
+    subst (AreTallied new) (sym (ap notes_in more ∙ mapped_push note_of were noted))
+    (tallied_more old new (notes_in were) (note_of noted) tally was
+    (now ∙ (λ k. tally_of (sym view k ++ note_of noted ∷ []) (sym (about_noted noted) k)))
+    (λ q. found q ∙ ap (λ k. cond (same_instance k q) (Some tally) (get same_instance old q)) same))

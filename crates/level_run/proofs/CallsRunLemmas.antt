@@ -1,0 +1,315 @@
+-- Starts, and the calls of a whole run.
+use Rattle.std.proofs.Common.{◌≡◌, ℕ, zero, suc, ◌+◌, ◌<◌, ◌≤◌, arith, List, [], ◌∷◌, ◌++◌, length, take, map, string_bytes, Option, Some, None, Ok, Err, refl, sym, subst, ap, ◌∙◌, append_assoc, slice_get, Result}
+use Rattle.std.specs.List.{flat_map}
+use Rattle.std.proofs.Math.Seq.{take-append-add}
+use Rattle.std.proofs.lemmas.Grind.{flat_map-append}
+use Rattle.std.proofs.lemmas.List.{append-nil, take-append-le}
+use Rattle.std.proofs.lemmas.List.Elements.{All-append}
+use Rattle.std.proofs.lemmas.Option.{slice_get_within}
+use Rattle.lemmas.proofs.Pigeonhole.{get_append}
+use Rattle.io_world.specs.Faults.{Extends}
+use Rattle.io_world.specs.Talks.{Event, started, stopped, Logs}
+use Rattle.io_world.specs.declared.host.HostFault.{HostFault}
+use Rattle.io_world.proofs.TalksLemmas.{extends_more, extends_none, single}
+use Rattle.session_core.proofs.SessionLemmas.{count_joined, count_one}
+use Rattle.task_model.specs.declared.task.Task.{Task}
+use Rattle.transcript_model.specs.Legal.{asks_of, is_ask}
+use Rattle.transcript_model.specs.declared.entry.Entry.{Entry}
+use Rattle.transcript_model.specs.declared.entry.Entry.TheVariants as entry
+use Rattle.transcript_model.specs.declared.head.Head.{Head}
+use Rattle.transcript_model.specs.declared.head.Pool.{Pool}
+use Rattle.session_core.specs.declared.pools.Workers.{Workers}
+use Rattle.level_run.proofs.CallsLemmas.{follows_join}
+use Rattle.level_run.proofs.TalkingLemmas.{none_asked}
+use Rattle.level_run.specs.Calls.{AreCallsOf, Calls, Follows, Hearing, IsStop, LogRan, LogRuns, LogStartsPart, LogStops, Runs, starts_before, starts_from, starts_in, starts_of}
+use Rattle.level_run.specs.Dialogue.{replies_of, workers_in}
+use Rattle.level_run.specs.Rolling.{IsHostFault}
+use Rattle.level_run.specs.Turns.{EndsBatch}
+use Rattle.level_run.specs.declared.ending.Batch.{Batch}
+use Rattle.level_run.specs.declared.ending.Batch.TheVariants.{Done, CallsSpent}
+use Rattle.level_run.specs.declared.fault.RunFault.{RunFault}
+
+-- ---- the starts of a pool
+
+pub starts_next : (words : List (List ℕ)) (first n : ℕ) → starts_from words first (suc n) ≡ starts_from words first n ++ started (first + n) words (Ok tt) ∷ []
+starts_next words first zero = ap (λ k. let one : List Event = started k words (Ok tt) ∷ [] in one) (let e : first ≡ first + 0 = omega arith in e)
+starts_next words first (suc n) =
+    ap (λ es. started first words (Ok tt) ∷ es) (starts_next words (first + 1) n ∙ ap (λ k. starts_from words (first + 1) n ++ started k words (Ok tt) ∷ []) (let e : first + 1 + n ≡ first + suc n = omega arith in e))
+
+-- so many starts, the next one, and the others
+starts_split : (words : List (List ℕ)) (first k n : ℕ) → k < n → (rest : List Event) × (starts_from words first n ≡ starts_from words first k ++ started (first + k) words (Ok tt) ∷ rest)
+starts_split words first zero zero below = absurd (omega (arith, below))
+starts_split words first zero (suc n) below = (starts_from words (first + 1) n, ap (λ k. started k words (Ok tt) ∷ starts_from words (first + 1) n) (let e : first ≡ first + 0 = omega arith in e))
+starts_split words first (suc k) zero below = absurd (omega (arith, below))
+starts_split words first (suc k) (suc n) below =
+    let later = starts_split words (first + 1) k n (omega (arith, below)) in (
+      later.0,
+      ap (λ es. started first words (Ok tt) ∷ es) (later.1 ∙ ap (λ j. starts_from words (first + 1) k ++ started j words (Ok tt) ∷ later.0) (let e : first + 1 + k ≡ first + suc k = omega arith in e)),
+    )
+
+get_behind : {A : Type 0} (xs ys : List A) (n : ℕ) → slice_get (xs ++ ys) (length xs + n) ≡ slice_get ys n
+get_behind [] ys n = ap (slice_get ys) (let e : 0 + n ≡ n = omega arith in e)
+get_behind (x ∷ xs) ys n = ap (slice_get (x ∷ (xs ++ ys))) (let e : suc (length xs) + n ≡ suc (length xs + n) = omega arith in e) ∙ get_behind xs ys n
+
+-- a start was refused, behind these
+pub part_behind : (front starts rest all : List Event) (fault : RunFault) (old mid new : Option (List Event)) → all ≡ front ++ (starts ++ rest) → Extends old mid front → LogStartsPart starts fault mid new → LogStartsPart all fault old new
+part_behind front starts rest all fault old mid new whole first (n, child, words, cause, at, is, grows) = (
+  length front + n,
+  child,
+  words,
+  cause,
+  ap (λ es. slice_get es (length front + n)) whole ∙ get_behind front (starts ++ rest) n ∙ get_append starts rest n (started child words (Ok tt)) at,
+  is,
+  subst (Extends old new) (sym both) (extends_more old mid new front (take n starts ++ started child words (Err cause) ∷ []) first grows),
+)
+  where
+    both : take (length front + n) all ++ started child words (Err cause) ∷ [] ≡ front ++ (take n starts ++ started child words (Err cause) ∷ [])
+    both =
+        ap (λ es. take (length front + n) es ++ started child words (Err cause) ∷ []) whole
+        ∙ ap (λ es. es ++ started child words (Err cause) ∷ []) (take-append-add front (starts ++ rest) n ∙ ap (λ es. front ++ es) (take-append-le n starts rest (omega (arith, slice_get_within starts n (started child words (Ok tt)) at))))
+        ∙ append_assoc front (take n starts) (started child words (Err cause) ∷ [])
+
+part_first : (child : ℕ) (words : List (List ℕ)) (cause : HostFault) (fault : RunFault) (rest : List Event) (mid new : Option (List Event)) → IsHostFault cause fault → Logs mid new (started child words (Err cause)) → LogStartsPart (started child words (Ok tt) ∷ rest) fault mid new
+part_first child words cause fault rest mid new is log = (0, child, words, cause, refl, is, log)
+
+-- the next worker of a pool was refused
+pub pool_refused : (pool : Pool) (worker : ℕ) (fault : RunFault) (old mid new : Option (List Event)) → worker < pool.workers → Extends old mid (starts_from (map string_bytes pool.argv) pool.first worker) → (cause : HostFault) × IsHostFault cause fault × Logs mid new (started (pool.first + worker) (map string_bytes pool.argv) (Err cause)) → LogStartsPart (starts_in pool) fault old new
+pool_refused pool worker fault old mid new below first (cause, is, log) =
+    let words = map string_bytes pool.argv in
+    let split = starts_split words pool.first worker pool.workers below in
+    part_behind (starts_from words pool.first worker) (started (pool.first + worker) words (Ok tt) ∷ split.0) [] (starts_in pool) fault old mid new
+    (split.1 ∙ ap (λ es. starts_from words pool.first worker ++ es) (sym (append-nil (started (pool.first + worker) words (Ok tt) ∷ split.0)))) first
+    (part_first (pool.first + worker) words cause fault split.0 mid new is log)
+
+pub worker_started : (words : List (List ℕ)) (first n : ℕ) (old mid new : Option (List Event)) → Extends old mid (starts_from words first n) → Logs mid new (started (first + n) words (Ok tt)) → Extends old new (starts_from words first (n + 1))
+worker_started words first n old mid new before log =
+    subst (Extends old new) (sym (ap (starts_from words first) (let e : n + 1 ≡ suc n = omega arith in e) ∙ starts_next words first n)) (extends_more old mid new (starts_from words first n) (started (first + n) words (Ok tt) ∷ []) before log)
+
+-- ---- the starts of all pools
+
+cut_at : {A : Type 0} (xs : List A) (k : ℕ) (x : A) → slice_get xs k ≡ Some x → (ys : List A) × (xs ≡ take k xs ++ x ∷ ys) × (take (k + 1) xs ≡ take k xs ++ x ∷ [])
+cut_at [] k x at = absurd (cc)
+cut_at (y ∷ ys) zero x at = let same : y ≡ x = cc in (ys, ap (λ z. z ∷ ys) same, ap (λ z. let one : List _ = z ∷ [] in one) same)
+cut_at (y ∷ ys) (suc k) x at = let later = cut_at ys k x at in (later.0, ap (λ zs. y ∷ zs) later.1, ap (λ n. take n (y ∷ ys)) (let e : suc k + 1 ≡ suc (k + 1) = omega arith in e) ∙ ap (λ zs. y ∷ zs) later.2)
+
+pub pool_started : (pools : List Pool) (i : ℕ) (pool : Pool) (old mid new : Option (List Event)) → slice_get pools i ≡ Some pool → Extends old mid (flat_map starts_in (take i pools)) → Extends mid new (starts_in pool) → Extends old new (flat_map starts_in (take (i + 1) pools))
+pool_started pools i pool old mid new at before log =
+    let cut = cut_at pools i pool at in
+    subst (Extends old new) (sym (ap (flat_map starts_in) cut.2 ∙ flat_map-append starts_in (take i pools) (pool ∷ []) ∙ ap (λ es. flat_map starts_in (take i pools) ++ es) (append-nil (starts_in pool))))
+    (extends_more old mid new (flat_map starts_in (take i pools)) (starts_in pool) before log)
+
+pub pools_refused : (pools : List Pool) (i : ℕ) (pool : Pool) (fault : RunFault) (old mid new : Option (List Event)) → slice_get pools i ≡ Some pool → Extends old mid (flat_map starts_in (take i pools)) → LogStartsPart (starts_in pool) fault mid new → LogStartsPart (starts_of pools) fault old new
+pools_refused pools i pool fault old mid new at before log =
+    let cut = cut_at pools i pool at in
+    part_behind (flat_map starts_in (take i pools)) (starts_in pool) (flat_map starts_in cut.0) (starts_of pools) fault old mid new
+    (ap (flat_map starts_in) cut.1 ∙ flat_map-append starts_in (take i pools) (pool ∷ cut.0)) before log
+
+-- ---- before a batch
+
+pub starts_idle : (pools : List Pool) (before : ℕ) → starts_before pools before 0 ≡ []
+starts_idle pools zero = refl
+starts_idle pools (suc before) = refl
+
+pub starts_some : (pools : List Pool) (before more : ℕ) → 0 < before → starts_before pools before more ≡ []
+starts_some pools zero more some = absurd (omega (arith, some))
+starts_some pools (suc before) more some = refl
+
+pub starts_first : (pools : List Pool) (before more : ℕ) → before ≡ 0 → 0 < more → starts_before pools before more ≡ starts_of pools
+starts_first pools zero zero first some = absurd (omega (arith, some))
+starts_first pools zero (suc more) first some = refl
+starts_first pools (suc before) more first some = absurd (omega (arith, first))
+
+same_starts : (pools : List Pool) (before many more : ℕ) → (before ≡ 0 → many ≡ 0 → more ≡ 0) → (before ≡ 0 → 0 < many → 0 < more) → starts_before pools before many ≡ starts_before pools before more
+same_starts pools zero zero more none some = sym (ap (starts_before pools 0) (none refl refl))
+same_starts pools zero (suc many) more none some = sym (starts_first pools 0 more refl (some refl (omega arith)))
+same_starts pools (suc before) many more none some = refl
+
+-- ---- the calls of batches
+
+runs_from : (task : Task) (head : Head) (before : List Entry) (more : List Entry) (starts : List Event) (old mid new : Option (List Event)) → starts ≡ starts_before head.pools (asks_of before) (asks_of more) → Extends old mid starts → Rattle.level_run.specs.Calls.LogFollows task (workers_in head) before more mid new → LogRuns task head before more old new
+runs_from task head before more starts old mid None is first second = tt
+runs_from task head before more starts old None (Some after) is first (later, events, was, grown, follows) = absurd (cc)
+runs_from task head before more starts old (Some middle) (Some after) is (past, was, came) (later, events, told, grown, follows) =
+    let same : middle ≡ later = cc in
+    let reached : later ≡ past ++ starts_before head.pools (asks_of before) (asks_of more) = sym same ∙ came ∙ ap (λ es. past ++ es) is in (
+      past,
+      events,
+      was,
+      grown ∙ ap (λ es. es ++ events) reached,
+      subst (λ es. Follows task (workers_in head) es before more events) reached follows,
+    )
+
+-- a batch: its starts, and then its rounds
+pub batch_runs : (task : Task) (head : Head) (before after : List Entry) (asked asks many : ℕ) (b : Batch) (old mid new : Option (List Event)) → asked ≡ asks_of before → asks ≡ asks_of after → 1 ≤ head.calls → EndsBatch task after asked asks head.calls many b → Extends old mid (starts_before head.pools asked many) → Calls task (workers_in head) before after mid new → Runs task head before after old new
+batch_runs task head before after asked asks many b old mid new counted of_after some ends first calls = record {
+  more = calls.more;
+  pushed = calls.pushed;
+  log = runs_from task head before calls.more (starts_before head.pools asked many) old mid new starts first calls.log;
+}
+  where
+    grown : asks ≡ asked + asks_of calls.more
+    grown = of_after ∙ ap asks_of calls.pushed ∙ count_joined is_ask before calls.more ∙ ap (λ n. n + asks_of calls.more) (sym counted)
+
+    none : (c : Batch) → EndsBatch task after asked asks head.calls many c → asked ≡ 0 → many ≡ 0 → asks_of calls.more ≡ 0
+    none Done e is zero_many = omega (arith, e.0, grown, is, zero_many)
+    none CallsSpent e is zero_many = absurd (omega (arith, e.1, some, is, zero_many))
+
+    filled : (c : Batch) → EndsBatch task after asked asks head.calls many c → asked ≡ 0 → 0 < many → 0 < asks_of calls.more
+    filled Done e is more = omega (arith, e.0, grown, is, more)
+    filled CallsSpent e is more = omega (arith, e.0, grown, is, some)
+
+    starts : starts_before head.pools asked many ≡ starts_before head.pools (asks_of before) (asks_of calls.more)
+    starts = same_starts head.pools asked many (asks_of calls.more) (none b ends) (filled b ends) ∙ ap (λ n. starts_before head.pools n (asks_of calls.more)) counted
+
+-- ---- a level
+
+pub asks_marked : (before : List Entry) → asks_of (before ++ entry.Level ∷ []) ≡ asks_of before
+asks_marked before = omega (arith, count_joined is_ask before (entry.Level ∷ []), count_one is_ask entry.Level)
+
+pub asks_behind : (more : List Entry) → asks_of (entry.Level ∷ more) ≡ asks_of more
+asks_behind more = omega (arith, count_joined is_ask (entry.Level ∷ []) more, count_one is_ask entry.Level)
+
+-- the line of a level needs no call
+pub runs_marked : (task : Task) (head : Head) (before mid after : List Entry) (old new : Option (List Event)) → mid ≡ before ++ entry.Level ∷ [] → Runs task head mid after old new → Runs task head before after old new
+runs_marked task head before mid after old new marked runs = record {
+  more = entry.Level ∷ runs.more;
+  pushed = runs.pushed ∙ ap (λ es. es ++ runs.more) marked ∙ append_assoc before (entry.Level ∷ []) runs.more;
+  log = by new (subst (λ es. LogRuns task head es runs.more old new) marked runs.log);
+}
+  where
+    starts : starts_before head.pools (asks_of (before ++ entry.Level ∷ [])) (asks_of runs.more) ≡ starts_before head.pools (asks_of before) (asks_of (entry.Level ∷ runs.more))
+    starts = ap (λ n. starts_before head.pools n (asks_of runs.more)) (asks_marked before) ∙ ap (starts_before head.pools (asks_of before)) (sym (asks_behind runs.more))
+
+    by : (log : Option (List Event)) → LogRuns task head (before ++ entry.Level ∷ []) runs.more old log → LogRuns task head before (entry.Level ∷ runs.more) old log
+    by None l = tt
+    by (Some now) (past, events, was, came, follows) =
+        subst (λ es. (p : List Event) × (later : List Event) × (old ≡ Some p) × (now ≡ p ++ es ++ later) × Follows task (workers_in head) (p ++ es) before (entry.Level ∷ runs.more) later) starts (
+          past,
+          events,
+          was,
+          came,
+          ([], events, refl, refl, subst (λ es. Follows task (workers_in head) es (before ++ entry.Level ∷ []) runs.more events) (sym (append-nil (past ++ starts_before head.pools (asks_of (before ++ entry.Level ∷ [])) (asks_of runs.more)))) follows),
+        )
+
+-- ---- levels, one after another
+
+pub runs_none : (task : Task) (head : Head) (before : List Entry) (log : Option (List Event)) → before ≡ [] → Runs task head [] before log log
+runs_none task head before log is = record { more = before; pushed = refl; log = subst (λ es. LogRuns task head [] es log log) (sym is) (by log) }
+  where
+    by : (o : Option (List Event)) → LogRuns task head [] [] o o
+    by None = tt
+    by (Some events) = (events, [], refl, sym (append-nil events) ∙ sym (append-nil (events ++ [])), refl)
+
+-- entries without a request need no call
+pub unasked : (task : Task) (pools : List Workers) (past : List Event) (before es : List Entry) (events : List Event) → asks_of before ≡ 0 → asks_of es ≡ 0 → Follows task pools past before es events → (events ≡ []) × ((p : List Event) → Follows task pools p before es [])
+unasked task pools past before [] events none no_more follows = (follows, λ p. refl)
+unasked task pools past before (e ∷ es) events none no_more (now, later, cut, calls, follows) =
+    let quiet = of e one calls in
+    let rest = unasked task pools (past ++ now) (before ++ e ∷ []) es later longer less follows in (
+      cut ∙ ap (λ xs. xs ++ later) quiet.0 ∙ rest.0,
+      λ p. ([], [], refl, quiet.1 p, rest.1 (p ++ [])),
+    )
+  where
+    one : asks_of (e ∷ []) ≡ 0
+    one = omega (arith, no_more, count_joined is_ask (e ∷ []) es)
+
+    less : asks_of es ≡ 0
+    less = omega (arith, no_more, count_joined is_ask (e ∷ []) es)
+
+    longer : asks_of (before ++ e ∷ []) ≡ 0
+    longer = omega (arith, none, one, count_joined is_ask before (e ∷ []))
+
+    no_hearing : Hearing task pools past before now → ⊥
+    no_hearing h = absurd (let bad : None ≡ Some h.request = ap (λ rs. slice_get rs (length (replies_of before))) (sym (none_asked task 0 pools before none)) ∙ h.next in cc)
+
+    of : (x : Entry) → asks_of (x ∷ []) ≡ 0 → AreCallsOf task pools past before x now → (now ≡ []) × ((p : List Event) → AreCallsOf task pools p before x [])
+    of (entry.Ask number turn call) free h = absurd (omega (arith, free, count_one is_ask (entry.Ask number turn call)))
+    of (entry.Got number tuples values) free h = absurd (no_hearing h)
+    of (entry.Value number value) free h = absurd (no_hearing h)
+    of (entry.End number) free h = absurd (no_hearing h)
+    of x free h = (h, λ p. refl)
+
+-- ---- stops
+
+pub stops_none : (log : Option (List Event)) → LogStops log log
+stops_none log = ([], λ k d below. absurd (omega (arith, below)), extends_none log)
+
+pub stops_more : (child : ℕ) (answer : Result (Unit {0}) HostFault) (old mid new : Option (List Event)) → LogStops old mid → Logs mid new (stopped child answer) → LogStops old new
+stops_more child answer old mid new (stops, each, grows) log =
+    (stops ++ stopped child answer ∷ [], All-append IsStop stops (stopped child answer ∷ []) each (single IsStop (stopped child answer) tt), extends_more old mid new stops (stopped child answer ∷ []) grows log)
+
+-- two batches, one after the other
+pub runs_then : (task : Task) (head : Head) (a b : List Entry) (old mid new : Option (List Event)) → Runs task head [] a old mid → Runs task head a b mid new → Runs task head [] b old new
+runs_then task head a b old mid new first second = record {
+  more = first.more ++ second.more;
+  pushed = second.pushed ∙ ap (λ es. es ++ second.more) first.pushed;
+  log = by mid new first.log (subst (λ es. LogRuns task head es second.more mid new) first.pushed second.log);
+}
+  where
+    pools : List Pool
+    pools = head.pools
+
+    many : asks_of (first.more ++ second.more) ≡ asks_of first.more + asks_of second.more
+    many = count_joined is_ask first.more second.more
+
+    -- the first request comes in the second
+    later : (past es fs : List Event) (n : ℕ) → asks_of first.more ≡ n → n ≡ 0 → Follows task (workers_in head) (past ++ starts_before pools 0 n) [] first.more es → Follows task (workers_in head) ((past ++ starts_before pools 0 n) ++ es ++ starts_before pools n (asks_of second.more)) first.more second.more fs → Follows task (workers_in head) (past ++ starts_before pools 0 (asks_of (first.more ++ second.more))) [] (first.more ++ second.more) fs × ((past ++ starts_before pools 0 n) ++ es ++ starts_before pools n (asks_of second.more) ++ fs ≡ past ++ starts_before pools 0 (asks_of (first.more ++ second.more)) ++ fs)
+    later past es fs (suc n) is none begins goes = absurd (omega (arith, none))
+    later past es fs zero is none begins goes =
+        let quiet = unasked task (workers_in head) (past ++ []) [] first.more es refl is begins in
+        let total : asks_of second.more ≡ asks_of (first.more ++ second.more) = omega (arith, many, is) in
+        let start = starts_before pools 0 (asks_of (first.more ++ second.more)) in
+        let front : (past ++ []) ++ es ++ starts_before pools 0 (asks_of second.more) ≡ past ++ start =
+        (λ i. ((append-nil past i) ++ quiet.0 i) ++ starts_before pools 0 (total i)) ∙ ap (λ xs. xs ++ start) (append-nil past) in (
+          follows_join task (workers_in head) (past ++ start) [] first.more second.more [] fs (quiet.1 (past ++ start))
+              (subst (λ xs. Follows task (workers_in head) xs first.more second.more fs) (front ∙ sym (append-nil (past ++ start))) goes),
+          ap (λ xs. xs ++ fs) front,
+        )
+
+    by : (middle log : Option (List Event)) → LogRuns task head [] first.more old middle → LogRuns task head first.more second.more middle log → LogRuns task head [] (first.more ++ second.more) old log
+    by middle None f s = tt
+    by None (Some after) f (reached, fs, was, came, goes) = absurd (cc)
+    by (Some now) (Some after) (past, es, was, came, begins) (reached, fs, told, grown, goes) =
+        let same : now ≡ reached = cc in
+        let here : reached ≡ past ++ starts_before pools 0 (asks_of first.more) ++ es = sym same ∙ came in
+        let goes_here = subst (λ xs. Follows task (workers_in head) (xs ++ starts_before pools (asks_of first.more) (asks_of second.more)) first.more second.more fs) here goes in
+        let grown_here = grown ∙ ap (λ xs. xs ++ starts_before pools (asks_of first.more) (asks_of second.more) ++ fs) here in
+        of (asks_of first.more) refl begins goes_here grown_here
+      where
+        of : (n : ℕ) → asks_of first.more ≡ n → Follows task (workers_in head) (past ++ starts_before pools 0 n) [] first.more es → Follows task (workers_in head) (past ++ starts_before pools 0 n ++ es ++ starts_before pools n (asks_of second.more)) first.more second.more fs → after ≡ past ++ starts_before pools 0 n ++ es ++ starts_before pools n (asks_of second.more) ++ fs → LogRuns task head [] (first.more ++ second.more) old (Some after)
+        of zero is b g e =
+            let l = later past es fs 0 is refl b g in
+            (past, fs, was, e ∙ l.1, l.0)
+        of (suc n) is b g e =
+            let start : starts_of pools ≡ starts_before pools 0 (asks_of (first.more ++ second.more)) = sym (starts_first pools 0 (asks_of (first.more ++ second.more)) refl (omega (arith, many, is))) in (
+              past,
+              es ++ fs,
+              was,
+              e ∙ ap (λ xs. xs ++ fs) (append-nil (past ++ starts_of pools ++ es)) ∙ append_assoc (past ++ starts_of pools) es fs ∙ ap (λ xs. past ++ xs ++ (es ++ fs)) start,
+              subst (λ xs. Follows task (workers_in head) (past ++ xs) [] (first.more ++ second.more) (es ++ fs)) start
+                  (follows_join task (workers_in head) (past ++ starts_of pools) [] first.more second.more es fs b
+                  (subst (λ xs. Follows task (workers_in head) xs first.more second.more fs) (append-nil (past ++ starts_of pools ++ es)) g)),
+            )
+
+-- ---- with stops
+
+pub ran_of : (task : Task) (head : Head) (entries : List Entry) (old new : Option (List Event)) → Runs task head [] entries old new → LogRan task head entries old new
+ran_of task head entries old new runs = by new (subst (λ es. LogRuns task head [] es old new) (sym runs.pushed) runs.log)
+  where
+    by : (log : Option (List Event)) → LogRuns task head [] entries old log → LogRan task head entries old log
+    by None l = tt
+    by (Some after) (past, events, was, came, follows) = (past, events, [], was, came ∙ sym (append-nil (past ++ starts_before head.pools 0 (asks_of entries) ++ events)), follows, λ k d below. absurd (omega (arith, below)))
+
+pub ran_stopped : (task : Task) (head : Head) (entries : List Entry) (old mid new : Option (List Event)) → LogRan task head entries old mid → LogStops mid new → LogRan task head entries old new
+ran_stopped task head entries old mid None ran stops = tt
+ran_stopped task head entries old None (Some after) ran (more, each, (before, is, grown)) = absurd (cc)
+ran_stopped task head entries old (Some now) (Some after) (past, events, stops, was, came, follows, all) (more, each, (before, is, grown)) =
+    let same : now ≡ before = cc in (
+      past,
+      events,
+      stops ++ more,
+      was,
+      grown ∙ ap (λ es. es ++ more) (sym same ∙ came) ∙ append_assoc (past ++ starts_before head.pools 0 (asks_of entries) ++ events) stops more,
+      follows,
+      All-append IsStop stops more all each,
+    )

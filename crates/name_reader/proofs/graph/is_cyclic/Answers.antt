@@ -1,5 +1,0 @@
-use Rattle.name_reader.proofs.Cyclic.{cyclic_by}
-use Rattle.name_reader.proofs.graph.is_cyclic.Goals as goal
-
-pub returns : goal.returns
-returns c = cyclic_by c.args.edges.now c.args.number c.in_ok-reached.reached.keys c.contains.result c.in_ok-reached.ensures c.contains.ensures

@@ -1,0 +1,124 @@
+//! Names with the numbers of their types.
+ghost use Rattle.std.specs.Prelude.{◌≡◌, [], IfOk, OnOk};
+ghost use Rattle.sexpr_text.specs.Trees.{trees};
+ghost use Rattle.form_reader.specs.declared.groups.Spot.TheVariants.{Start};
+ghost use Rattle.name_tables.specs.Declarations as specs;
+ghost use Rattle.name_tables.specs.Declarations.{declare_each};
+ghost use Rattle.name_tables.specs.Variables.{named_sorts as sorts_in, named_words};
+
+use crate::graph::add_ascending;
+use crate::names::NameTable;
+use crate::variables::{is_named, named_sorts};
+use form_reader::Spot;
+use sexpr_text::{Front, Tree, front_of};
+use std::alloc::{AllocError, Global};
+use std::marker::Model;
+use task_model::{Declared, Name, Seq};
+
+/// Adds a number to the list at this place, if there is one. Fails only where memory is wanting.
+pub fn put_number(
+    alloc: Global,
+    lists: &mut Vec<Seq<u32>>,
+    place: usize,
+    number: u32,
+) -> Result<(), AllocError>
+    ensures { OnOk result (lists.new.items ≡ specs.number_put lists.old.items place number) }
+{
+    let Some(old) = lists.get(place) else {
+        return Ok(());
+    };
+    let mut list = Vec::from_slice(alloc, old.as_slice())?;
+    add_ascending(&mut list, number)?;
+    lists[place] = Seq::from_vec(list);
+    Ok(())
+}
+
+/// Distinct names in the order in which they came, each with its types.
+#[derive(Drop)]
+pub struct TypedNames {
+    names: NameTable,
+    sorts: Vec<Seq<u32>>,
+    alloc: Global,
+}
+
+impl Model for TypedNames {
+    ghost use Rattle.name_tables.specs.Declarations.{Typed};
+
+    ghost Value = { Typed };
+
+    ghost view = { λ t. record { names = t.names; sorts = t.sorts.items } };
+}
+
+impl TypedNames {
+    /// No name, which takes no memory.
+    pub fn new(alloc: Global) -> TypedNames
+        ensures { result ≡ record { names = []; sorts = [] } }
+    {
+        TypedNames {
+            names: NameTable::new(alloc),
+            sorts: Vec::new(alloc),
+            alloc,
+        }
+    }
+
+    /// Declares a name with a type. A name that is declared again has both types. Fails only where memory is wanting.
+    pub fn declare(&mut self, name: &[u8], sort: u32) -> Result<(), AllocError>
+        ensures { OnOk result (self.new ≡ specs.declare self.old name.now sort) }
+    {
+        match self.names.place_of(name) {
+            Some(place) => put_number(self.alloc, &mut self.sorts, place, sort),
+            None => {
+                let mut sorts = Vec::new(self.alloc);
+                sorts.push(sort)?;
+                let _new = self.names.add(name)?;
+                self.sorts.push(Seq::from_vec(sorts))?;
+                Ok(())
+            }
+        }
+    }
+
+    /// The names and their types as a task has them. Fails only where memory is wanting.
+    pub fn to_declared(&self) -> Result<Vec<Declared>, AllocError>
+        ensures { IfOk result (λ list. list.items ≡ specs.declared_list self.now.names self.now.sorts) }
+    {
+        let mut list = Vec::new(self.alloc);
+        for place in 0..self.names.len() {
+            let Some(sorts) = self.sorts.get(place) else {
+                return Ok(list);
+            };
+            let name = Name::new(Vec::from_slice(self.alloc, self.names.name_at(place))?);
+            let sorts = Seq::from_vec(Vec::from_slice(self.alloc, sorts.as_slice())?);
+            list.push(Declared { name, sorts })?;
+        }
+        Ok(list)
+    }
+}
+
+/// Declares each name of groups, with its type. Fails only where memory is wanting.
+pub fn declare_groups(
+    alloc: Global,
+    names: &mut TypedNames,
+    sorts: &NameTable,
+    items: &[Tree],
+) -> Result<(), AllocError>
+    ensures { OnOk result (names.new ≡ declare_each names.old (named_words Start (trees items.now)) (sorts_in sorts.now Start 0 (trees items.now))) }
+{
+    let types = named_sorts(alloc, sorts, items)?;
+    let mut waiting = types.as_slice();
+    let mut left = items;
+    let mut spot = Spot::Start;
+    'words: loop {
+        let Front::Word { text, rest, .. } = front_of(left) else {
+            return Ok(());
+        };
+        if is_named(spot, text) {
+            let [sort, more @ ..] = waiting else {
+                return Ok(());
+            };
+            names.declare(text, *sort)?;
+            waiting = more;
+        }
+        spot = spot.after_word(text);
+        left = rest;
+    }
+}

@@ -1,0 +1,78 @@
+//! Tables of names.
+ghost use Rattle.std.specs.Prelude.{◌≡◌, ◌++◌, ◌∷◌, [], not, length, IfOk, OnOk};
+ghost use Rattle.name_tables.specs.Names as specs;
+
+use indexmap::IndexSet;
+use std::alloc::{AllocError, Global};
+use std::marker::Model;
+
+/// Distinct names in the order in which they came, each of which is found without going through the others.
+#[derive(Drop)]
+pub struct NameTable {
+    names: IndexSet<Vec<u8>>,
+    alloc: Global,
+}
+
+impl Model for NameTable {
+    ghost use Rattle.std.specs.Prelude.{ℕ, List, map};
+
+    ghost Value = { List (List ℕ) };
+
+    ghost view = { λ t. map (λ v. v.items) t.names.keys };
+}
+
+impl NameTable {
+    /// The table of no names, which takes no memory.
+    pub fn new(alloc: Global) -> NameTable
+        ensures { result ≡ [] }
+    {
+        NameTable {
+            names: IndexSet::new(alloc),
+            alloc,
+        }
+    }
+
+    /// How many names there are.
+    pub fn len(&self) -> usize
+        ensures { result ≡ length self.now }
+    {
+        self.names.len()
+    }
+
+    /// The place of the name, from 0, or None where it isn't there.
+    pub fn place_of(&self, name: &[u8]) -> Option<usize>
+        ensures { result ≡ specs.place_of name.now self.now }
+    {
+        self.names.get_index_of(name)
+    }
+
+    /// The name at a place, or no letters where there is none.
+    pub fn name_at(&self, place: usize) -> &[u8]
+        ensures { result.now ≡ specs.name_at self.now place }
+    {
+        match self.names.get_index(place) {
+            Some(name) => name.as_slice(),
+            None => &[],
+        }
+    }
+
+    /// Whether the name is there.
+    pub fn has(&self, name: &[u8]) -> bool
+        ensures { result ≡ specs.has_name name.now self.now }
+    {
+        self.names.contains(name)
+    }
+
+    /// Puts the name behind the others, where it is new, and answers whether it was new. Fails only where memory is
+    /// wanting.
+    pub fn add(&mut self, name: &[u8]) -> Result<bool, AllocError>
+        ensures names { OnOk result (self.new ≡ specs.with_name self.old name.now) }
+        ensures fresh { IfOk result (λ fresh. fresh ≡ not (specs.has_name name.now self.old)) }
+    {
+        if self.has(name) {
+            return Ok(false);
+        }
+        let bytes = Vec::from_slice(self.alloc, name)?;
+        Ok(self.names.insert(bytes)?)
+    }
+}

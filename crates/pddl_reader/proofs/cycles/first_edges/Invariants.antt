@@ -1,7 +1,0 @@
-use Rattle.std.proofs.Common.{◌≡◌, ◌++◌, drop}
-use Rattle.pddl_reader.proofs.Edges.{edges_from}
-use Rattle.pddl_reader.specs.Cycles.{first_edges}
-use Rattle.pddl_reader.proofs.cycles.first_edges.Given as goal
-
-abbrev pub invariant-loop-place : goal.invariant-loop-place
-invariant-loop-place l = first_edges l.sorts ≡ l.edges.items ++ edges_from l.place (drop l.place l.sorts)

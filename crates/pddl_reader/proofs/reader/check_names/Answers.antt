@@ -1,5 +1,0 @@
-use Rattle.pddl_reader.proofs.Leasts.{all_names}
-use Rattle.pddl_reader.proofs.reader.check_names.Goals as goal
-
-pub returns : goal.returns
-returns c = all_names _ _ c.in_ok-plain.plain c.in_ok-types.types c.in_ok-answered.answered c.in_ok-plain.ensures c.in_ok-types.ensures c.in_ok-answered.ensures

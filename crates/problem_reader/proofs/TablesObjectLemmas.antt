@@ -1,0 +1,108 @@
+-- Constants by their names alone, and with their types.
+use Rattle.std.proofs.Common.{◌≡◌, ℕ, zero, suc, ◌+◌, Bool, true, false, not, cond, ◌||◌, nat_lt, List, [], ◌∷◌, ◌++◌, length, length-append, refl, sym, ap, ◌∙◌, Option, Some, None, arith, slice_get, slice_set}
+use Rattle.std.proofs.lemmas.Bool.Decides.{nat_tests}
+use Rattle.std.proofs.lemmas.List.{length-set}
+use Rattle.std.specs.List.{list_any, position_or_len}
+use Rattle.std.specs.Str.{bytes_eq}
+use Rattle.sexpr_text.specs.Trees.{Trees, nothing, word, list}
+use Rattle.task_model.specs.declared.domain.Declared as declared
+use Rattle.form_reader.specs.declared.groups.Spot.{Spot}
+use Rattle.form_reader.specs.declared.groups.Spot.TheVariants.{Start, Named, Typed as Typed'}
+use Rattle.form_reader.specs.Rows.{after_word, is_dash}
+use Rattle.name_tables.specs.Declarations.{Typed, declare, declare_each, declared_by, declared_list, number_put, put_number}
+use Rattle.name_tables.specs.Graphs.{ascending_with}
+use Rattle.name_tables.specs.Names.{has_name, place_of, with_name}
+use Rattle.name_tables.specs.Variables.{copies, is_named, named_sorts, named_words, seen_after, sort_of}
+use Rattle.problem_reader.specs.Tables.{put_constants}
+use Rattle.problem_reader.proofs.TablesLemmas.{put, put_append}
+
+-- ---- a name has a place exactly where it is there
+
+there_by : {A : Type 0} (p : A → Bool) (xs : List A) (b : Bool) → list_any p xs ≡ nat_lt (position_or_len p xs) (length xs) → (b || list_any p xs) ≡ nat_lt (cond (not b) (1 + position_or_len p xs) 0) (suc (length xs))
+there_by p xs true e = grind (arith, nat_tests)
+there_by p xs false e = e ∙ grind (arith, nat_tests)
+
+there : {A : Type 0} (p : A → Bool) (xs : List A) → list_any p xs ≡ nat_lt (position_or_len p xs) (length xs)
+there p [] = refl
+there p (x ∷ xs) = there_by p xs (p x) (there p xs)
+
+placed : (n : List ℕ) (ns : List (List ℕ)) → place_of n ns ≡ cond (has_name n ns) (Some (position_or_len (bytes_eq n) ns)) None
+placed n ns = ap (λ b. cond b (Some (position_or_len (bytes_eq n) ns)) None) (sym (there (bytes_eq n) ns))
+
+-- ---- the names of what is declared
+
+named_by : (t : Typed) (n : List ℕ) (s k : ℕ) (b : Bool) → has_name n t.names ≡ b → (declared_by t n s (cond b (Some k) None)).names ≡ cond b t.names (t.names ++ n ∷ [])
+named_by t n s k true e = refl
+named_by t n s k false e = ap (λ b. cond b t.names (t.names ++ n ∷ [])) e
+
+pub names_declared : (t : Typed) (n : List ℕ) (s : ℕ) → (declare t n s).names ≡ with_name t.names n
+names_declared t n s = ap (λ o. (declared_by t n s o).names) (placed n t.names) ∙ named_by t n s (position_or_len (bytes_eq n) t.names) (has_name n t.names) refl
+
+put_names_length : (lists : List (List ℕ)) (place n : ℕ) (o : Option (List ℕ)) → length (put_number lists place n o) ≡ length lists
+put_names_length lists place n None = refl
+put_names_length lists place n (Some old) = length-set lists place (ascending_with old n)
+
+even_by : (t : Typed) (n : List ℕ) (s k : ℕ) (b : Bool) → has_name n t.names ≡ b → length t.names ≡ length t.sorts → length (declared_by t n s (cond b (Some k) None)).names ≡ length (declared_by t n s (cond b (Some k) None)).sorts
+even_by t n s k true e h = h ∙ sym (put_names_length t.sorts k s (slice_get t.sorts k))
+even_by t n s k false e h =
+    ap (λ b. length (cond b t.names (t.names ++ n ∷ []))) e ∙ length-append t.names (n ∷ []) ∙ ap (λ m. m + 1) h ∙ sym (length-append t.sorts ((s ∷ []) ∷ []))
+
+-- as many names as lists of types
+even_declared : (t : Typed) (n : List ℕ) (s : ℕ) → length t.names ≡ length t.sorts → length (declare t n s).names ≡ length (declare t n s).sorts
+even_declared t n s h =
+    (λ k. length (declared_by t n s (placed n t.names k)).names) ∙ even_by t n s (position_or_len (bytes_eq n) t.names) (has_name n t.names) refl h
+    ∙ sym (λ k. length (declared_by t n s (placed n t.names k)).sorts)
+
+pub names_each : (t : Typed) (ns : List (List ℕ)) (ss : List ℕ) → length ss ≡ length ns → (declare_each t ns ss).names ≡ put t.names ns
+names_each t [] ss e = refl
+names_each t (n ∷ ns) [] e = absurd (omega arith)
+names_each t (n ∷ ns) (s ∷ ss) e = names_each (declare t n s) ns ss (omega arith) ∙ ap (λ m. put m ns) (names_declared t n s)
+
+pub even_each : (t : Typed) (ns : List (List ℕ)) (ss : List ℕ) → length t.names ≡ length t.sorts → length (declare_each t ns ss).names ≡ length (declare_each t ns ss).sorts
+even_each t [] ss h = h
+even_each t (n ∷ ns) [] h = h
+even_each t (n ∷ ns) (s ∷ ss) h = even_each (declare t n s) ns ss (even_declared t n s h)
+
+-- ---- groups
+
+seen_by : (names : List (List ℕ)) (w : List ℕ) (ws : List (List ℕ)) (b : Bool) → put (cond b (with_name names w) names) ws ≡ put names (cond b (w ∷ ws) ws)
+seen_by names w ws true = refl
+seen_by names w ws false = refl
+
+pub seen_put : (names : List (List ℕ)) (spot : Spot) (ts : Trees) → seen_after names spot ts ≡ put names (named_words spot ts)
+seen_put names spot nothing = refl
+seen_put names spot (word w at rest) = seen_put (cond (is_named spot w) (with_name names w) names) (after_word spot w) rest ∙ seen_by names w (named_words (after_word spot w) rest) (is_named spot w)
+seen_put names spot (list items at rest) = refl
+
+copies_length : (k n : ℕ) → length (copies k n) ≡ k
+copies_length zero n = refl
+copies_length (suc k) n = ap (λ m. suc m) (copies_length k n)
+
+pub none_more : (n : ℕ) → 0 + n ≡ n
+none_more n = omega arith
+
+behind :
+    (sorts : List (List ℕ)) (waiting : ℕ) (w : List ℕ) (rest : Trees) (b : Bool) →
+    length (named_sorts sorts Typed' waiting rest) ≡ waiting + length (named_words Typed' rest) →
+    length (named_sorts sorts Named (waiting + 1) rest) ≡ waiting + 1 + length (named_words Named rest) →
+    length (cond (not b) (named_sorts sorts Named (waiting + 1) rest) (named_sorts sorts Typed' waiting rest)) ≡ waiting + length (cond (not b) (w ∷ named_words (cond b Typed' Named) rest) (named_words (cond b Typed' Named) rest))
+behind sorts waiting w rest true typed more = typed
+behind sorts waiting w rest false typed more = omega (arith, more)
+
+-- each name has one type
+pub sorts_length : (sorts : List (List ℕ)) (spot : Spot) (waiting : ℕ) (ts : Trees) → length (named_sorts sorts spot waiting ts) ≡ waiting + length (named_words spot ts)
+sorts_length sorts spot waiting nothing = copies_length waiting 0 ∙ omega arith
+sorts_length sorts spot waiting (list items at rest) = copies_length waiting 0 ∙ omega arith
+sorts_length sorts Typed' waiting (word w at rest) =
+    length-append (copies waiting (sort_of sorts w)) (named_sorts sorts Start 0 rest) ∙ (λ k. copies_length waiting (sort_of sorts w) k + sorts_length sorts Start 0 rest k) ∙ ap (λ n. waiting + n) (none_more (length (named_words Start rest)))
+sorts_length sorts Start waiting (word w at rest) =
+    let more : length (named_sorts sorts Named (waiting + 1) rest) ≡ waiting + 1 + length (named_words Named rest) = sorts_length sorts Named (waiting + 1) rest in
+    omega (arith, more)
+sorts_length sorts Named waiting (word w at rest) = behind sorts waiting w rest (is_dash w) (sorts_length sorts Typed' waiting rest) (sorts_length sorts Named (waiting + 1) rest)
+
+-- ---- as the domain has them
+
+pub constants_put : (names ns ss : List (List ℕ)) → length ns ≡ length ss → put_constants names (declared_list ns ss) ≡ put names ns
+constants_put names [] ss e = refl
+constants_put names (n ∷ ns) [] e = absurd (omega arith)
+constants_put names (n ∷ ns) (s ∷ ss) e = constants_put (with_name names n) ns ss (omega arith)

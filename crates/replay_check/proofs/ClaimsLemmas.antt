@@ -1,0 +1,68 @@
+-- Claims of outcomes, from what is kept of the entries.
+use Rattle.std.proofs.Common.{◌≡◌, ℕ, ◌<◌, List, [], ◌∷◌, length, refl, subst, arith, Contains}
+use Rattle.std.proofs.lemmas.List.{length-map}
+use Rattle.lemmas.proofs.Pigeonhole.{pigeons}
+use Rattle.instance_queue.specs.Level.{AreDueInTurn, instances_of}
+use Rattle.instance_queue.specs.declared.due.Due.{Due}
+use Rattle.task_model.specs.Streams.{AreDue, IsDue, MoreAreDue}
+use Rattle.task_model.specs.declared.stream.Instance.{Instance}
+use Rattle.task_model.specs.declared.task.Task.{Task}
+use Rattle.transcript_ledger.specs.Ledgers.{IsLedger}
+use Rattle.transcript_ledger.specs.declared.ledger.Ledger.{Ledger}
+use Rattle.transcript_model.specs.Transcript.{known_of, notes_of}
+use Rattle.transcript_model.specs.declared.entry.Entry.{Entry}
+
+module _ (version : ℕ) (task : Task) (entries : List Entry) (l : Ledger) (h : IsLedger version task entries l) where
+  -- too much is due after the entries
+  pub more_due : MoreAreDue 1000000 task l.facts.known l.queue → MoreAreDue 1000000 task (known_of task entries) (notes_of task entries)
+  more_due more = subst (λ k. MoreAreDue 1000000 task k (notes_of task entries)) h.known (subst (MoreAreDue 1000000 task l.facts.known) h.notes more)
+
+  -- what is due after the entries
+  pub all_due : (dues : List Due) → AreDueInTurn task l.facts.known l.queue dues → AreDue task (known_of task entries) (notes_of task entries) (instances_of dues)
+  all_due dues turn = subst (λ k. AreDue task k (notes_of task entries) (instances_of dues)) h.known (subst (λ notes. AreDue task l.facts.known notes (instances_of dues)) h.notes turn.due)
+
+  -- not too much is due
+  pub few_due : (dues : List Due) → AreDueInTurn task l.facts.known l.queue dues → MoreAreDue 1000000 task (known_of task entries) (notes_of task entries) → ⊥
+  few_due dues turn more =
+      let due = all_due dues turn in
+      let le = pigeons more.0 (instances_of dues) more.2 (λ i m. (due.each i).1 (more.3 i m)) in
+      let same : length (instances_of dues) ≡ length dues = length-map dues (λ (d : Due). d.instance) in
+      let few = turn.few in
+      let many = more.1 in
+      omega (arith, le, same, few, many)
+
+  -- ---- states, of which there are more than so many or not
+
+  -- something is due where the list isn't empty
+  pub some_due : (dues : List Due) (d : Due) (more : List Due) → AreDueInTurn task l.facts.known l.queue dues → dues ≡ d ∷ more → IsDue task (known_of task entries) (notes_of task entries) d.instance
+  some_due dues d more turn is =
+      let due = all_due (d ∷ more) (subst (AreDueInTurn task l.facts.known l.queue) is turn) in
+      (due.each d.instance).0 (0, omega arith, refl)
+
+  -- nothing is due where it is
+  pub none_due : (dues : List Due) → AreDueInTurn task l.facts.known l.queue dues → dues ≡ [] → AreDue task (known_of task entries) (notes_of task entries) []
+  none_due dues turn is = all_due [] (subst (AreDueInTurn task l.facts.known l.queue) is turn)
+
+  -- where something is due, it isn't so that nothing is
+  pub not_none_due : (dues : List Due) (d : Due) (more : List Due) → AreDueInTurn task l.facts.known l.queue dues → dues ≡ d ∷ more → AreDue task (known_of task entries) (notes_of task entries) [] → ⊥
+  not_none_due dues d more turn is none = no_member d.instance ((none.each d.instance).1 (some_due dues d more turn is))
+    where
+      no_member : (i : Instance) → Contains [] i → ⊥
+      no_member i m = omega (arith, m.1)
+
+  -- where too much is due, it isn't so that nothing is
+  pub not_none_more : MoreAreDue 1000000 task (known_of task entries) (notes_of task entries) → AreDue task (known_of task entries) (notes_of task entries) [] → ⊥
+  not_none_more more none =
+      let le = pigeons more.0 [] more.2 (λ i m. (none.each i).1 (more.3 i m)) in
+      let many = more.1 in
+      omega (arith, le, many)
+
+  -- where the list of what is due has a member, it isn't so that nothing is due
+  pub not_none_some : (dues : List Due) → 0 < length dues → AreDueInTurn task l.facts.known l.queue dues → AreDue task (known_of task entries) (notes_of task entries) [] → ⊥
+  not_none_some [] some turn none = omega (arith, some)
+  not_none_some (d ∷ more) some turn none = not_none_due (d ∷ more) d more turn refl none
+
+  -- where the list has none, nothing is due
+  pub none_due_at : (dues : List Due) → length dues ≡ 0 → AreDueInTurn task l.facts.known l.queue dues → AreDue task (known_of task entries) (notes_of task entries) []
+  none_due_at [] empty turn = none_due [] turn refl
+  none_due_at (d ∷ more) empty turn = absurd (omega (arith, empty))

@@ -1,0 +1,224 @@
+-- The steps that calls stand for, taken one after another.
+use Rattle.std.proofs.Common.{◌≡◌, ℕ, ◌+◌, ◌<◌, List, [], ◌∷◌, ◌++◌, map, length, take, refl, sym, ap, subst, ◌∙◌, Option, Some, None, slice_get, arith, get_or, All, Bool, true, false, option_map, IsSome, unwrap_or}
+use Rattle.std.proofs.lemmas.List.{map-append, take_more}
+use Rattle.std.proofs.lemmas.List.Elements.{All-head, All-tail}
+use Rattle.std.proofs.lemmas.Option.{slice_get-map}
+use Rattle.task_model.proofs.StepsLemmas.{execution_determined, parts_of_whole, step_determined, whole_of_parts}
+use Rattle.task_model.proofs.KnownLemmas.{numbers_decided}
+use Rattle.task_model.specs.Fit.{IsFit}
+use Rattle.task_model.specs.Initial.{initial_state}
+use Rattle.task_model.specs.Known.{IsCoherent, IsIn, same_numbers}
+use Rattle.lemmas.specs.Lists.{AreDistinct}
+use Rattle.task_model.specs.Plans.{Executes}
+use Rattle.task_model.specs.State.{Atoms}
+use Rattle.task_model.specs.Steps.{IsStep, cost_of}
+use Rattle.task_model.specs.Streams.{name_at}
+use Rattle.task_model.specs.Truth.{have_types, is_true, slots_of}
+use Rattle.task_model.specs.declared.domain.Action.{Action}
+use Rattle.task_model.specs.declared.task.GroundAction.{GroundAction}
+use Rattle.task_model.specs.declared.task.Task.{Task}
+use Rattle.transcript_model.proofs.CallNameLemmas.{places_exact}
+use Rattle.transcript_model.proofs.NamesLemmas.{and_then_some, map_some, position_at, position_only}
+use Rattle.transcript_model.specs.Calls.{action_name, call_of_step}
+use Rattle.transcript_model.specs.Names.{places_of}
+use Rattle.transcript_model.specs.declared.entry.Call.{Call}
+use Rattle.transcript_model.specs.Transcript.{known_of, names_of}
+use Rattle.transcript_model.specs.declared.entry.Entry.{Entry}
+use Rattle.shown_plan.proofs.ShownLemmas.{named_steps}
+use Rattle.plan_check.specs.Faults.{StepFails}
+use Rattle.plan_check.specs.declared.fault.StepFault.{StepFault}
+use Rattle.plan_check.specs.declared.fault.StepFault.TheVariants.{NoAction, Args, Condition, NoCost, Memory}
+use Rattle.replay_check.specs.Plans.{CanRun}
+use Rattle.replay_check.specs.Runs.{IsRunOf, IsSum, StopsAt}
+use Rattle.replay_check.specs.declared.steps.Run.{Run}
+use Rattle.transcript_ledger.specs.Steps.{action_named, step_named}
+
+-- ---- names of objects
+
+names_there : (names more : List (List ℕ)) (objects : List ℕ) → map (slice_get names) objects ≡ map Some more → map (name_at names) objects ≡ more
+names_there names [] [] e = refl
+names_there names [] (o ∷ os) e = absurd (cc)
+names_there names (n ∷ more) [] e = absurd (cc)
+names_there names (n ∷ more) (o ∷ os) e =
+    let first : slice_get names o ≡ Some n = cc in
+    let rest : map (slice_get names) os ≡ map Some more = cc in
+    let name : name_at names o ≡ n = ap (λ (s : Option (List ℕ)). unwrap_or s []) first in
+    λ i. name i ∷ names_there names more os rest i
+
+named_at : (names : List (List ℕ)) (o : ℕ) → IsIn names o → slice_get names o ≡ Some (name_at names o)
+named_at names o known = by (slice_get names o) refl known
+  where
+    by : (s : Option (List ℕ)) → slice_get names o ≡ s → IsSome s → slice_get names o ≡ Some (name_at names o)
+    by None e none = absurd (cc)
+    by (Some n) e some = e ∙ ap Some (sym (ap (λ (t : Option (List ℕ)). unwrap_or t []) e))
+
+there_named : (names : List (List ℕ)) (objects : List ℕ) → All (IsIn names) objects → map (slice_get names) objects ≡ map Some (map (name_at names) objects)
+there_named names [] all = refl
+there_named names (o ∷ os) all =
+    let first = named_at names o (All-head (IsIn names) o os all) in
+    let rest = there_named names os (All-tail (IsIn names) o os all) in
+    λ i. first i ∷ rest i
+
+-- ---- calls and steps
+
+module _ (task : Task) (fit : IsFit task) (names : List (List ℕ)) (distinct : AreDistinct names) where
+  named_action : (name : List ℕ) (k : ℕ) → action_named task name ≡ Some k → action_name task k ≡ name
+  named_action name k is =
+      let at = position_at (λ (a : Action). same_numbers name a.name) task.domain.actions k is in
+      rw at.1 (sym ((numbers_decided name at.0.name).0 at.2))
+
+  -- a call stands for the step that shows it
+  pub step_shown : (call : Call) (step : GroundAction) → step_named task names call ≡ Some step → call ≡ call_of_step task names step
+  step_shown call step is =
+      let action = and_then_some (λ a. option_map (λ (args : List ℕ). record { action = a; args = args }) (places_of names call.args)) (action_named task call.name) step is in
+      let args = map_some (λ (args : List ℕ). record { action = action.0; args = args }) (places_of names call.args) step action.2 in
+      let objects = names_there names call.args args.0 ((places_exact names call.args args.0 distinct).0 args.1) in
+      (λ i. record { name = sym (named_action call.name action.0 action.1) i; args = sym objects i }) ∙ ap (call_of_step task names) args.2
+
+  action_found : (k : ℕ) (a : Action) → slice_get task.domain.actions k ≡ Some a → action_named task (action_name task k) ≡ Some k
+  action_found k a at =
+      let named : action_name task k ≡ a.name = rw at refl in
+      position_only (λ (b : Action). same_numbers (action_name task k) b.name) task.domain.actions k a at ((numbers_decided (action_name task k) a.name).1 named) (λ m b there same. fit.domain.action_names.distinct m k a.name (name_there m b there ∙ ap Some (sym ((numbers_decided (action_name task k) b.name).0 same) ∙ named)) (name_there k a at))
+    where
+      name_there : (m : ℕ) (b : Action) → slice_get task.domain.actions m ≡ Some b → slice_get (map (λ (c : Action). c.name) task.domain.actions) m ≡ Some b.name
+      name_there m b there = slice_get-map (λ (c : Action). c.name) task.domain.actions m ∙ ap (option_map (λ (c : Action). c.name)) there
+
+  -- the call that shows a step stands for it
+  pub step_found : (step : GroundAction) (a : Action) → slice_get task.domain.actions step.action ≡ Some a → All (IsIn names) step.args → step_named task names (call_of_step task names step) ≡ Some step
+  step_found step a at all =
+      rw (action_found step.action a at, (places_exact names (map (name_at names) step.args) step.args distinct).1 (there_named names step.args all)) refl
+
+-- ---- lists of calls
+
+ends : (f : GroundAction → Call) (cs : List Call) (c : Call) (steps : List GroundAction) → cs ++ c ∷ [] ≡ map f steps → (front : List GroundAction) × (last : GroundAction) × (steps ≡ front ++ last ∷ []) × (cs ≡ map f front) × (c ≡ f last)
+ends f [] c [] e = absurd (cc)
+ends f [] c (s ∷ []) e = ([], s, refl, refl, cc)
+ends f [] c (s ∷ t ∷ more) e = absurd (cc)
+ends f (x ∷ xs) c [] e = absurd (cc)
+ends f (x ∷ xs) c (s ∷ steps) e =
+    let first : x ≡ f s = cc in
+    let rest : xs ++ c ∷ [] ≡ map f steps = cc in
+    let r = ends f xs c steps rest in
+    (s ∷ r.0, r.1, ap (λ z. s ∷ z) r.2, (λ i. first i ∷ r.3 i), r.4)
+
+not_both : {A : Type 0} (a : A) → None ≡ Some a → ⊥
+not_both a e = absurd (cc)
+
+one_some : {A : Type 0} (a b : A) → Some a ≡ Some b → a ≡ b
+one_some a b e = cc
+
+module _ (task : Task) (fit : IsFit task) (entries : List Entry) (coherent : IsCoherent (known_of task entries)) where
+  abbrev cs : GroundAction → Call
+  cs = call_of_step task (names_of task entries)
+
+  abbrev found_in : Call → Option GroundAction
+  found_in = step_named task (names_of task entries)
+
+  -- a step that can be taken is found by its call
+  found : (before after : Atoms) (step : GroundAction) (cost : ℕ) → IsStep task (known_of task entries) before step after cost → found_in (cs step) ≡ Some step
+  found before after step cost s = step_found task fit (names_of task entries) coherent.names step s.action s.named (All-head (λ (x : GroundAction). All (IsIn (names_of task entries)) x.args) step [] (named_steps task (known_of task entries) coherent before after (step ∷ []) cost (after, cost, 0, s, (refl, refl), omega arith)).objects)
+
+  -- calls show one list of steps that can be taken
+  pub same_steps : (before a b : Atoms) (xs ys : List GroundAction) (m n : ℕ) → Executes task (known_of task entries) before xs a m → Executes task (known_of task entries) before ys b n → map cs xs ≡ map cs ys → xs ≡ ys
+  same_steps before a b [] [] m n first second e = refl
+  same_steps before a b [] (y ∷ ys) m n first second e = absurd (cc)
+  same_steps before a b (x ∷ xs) [] m n first second e = absurd (cc)
+  same_steps before a b (x ∷ xs) (y ∷ ys) m n first second e =
+      let heads : cs x ≡ cs y = cc in
+      let tails : map cs xs ≡ map cs ys = cc in
+      let same : x ≡ y = one_some x y (sym (found before first.0 x first.1 first.3) ∙ ap found_in heads ∙ found before second.0 y second.1 second.3) in
+      let also = subst (λ s. IsStep task (known_of task entries) before s second.0 second.1) (sym same) second.3 in
+      let middle = (step_determined task (known_of task entries) before first.0 second.0 x first.1 second.1 first.3 also).0 in
+      let rest = same_steps first.0 a b xs ys first.2 second.2 first.4 (subst (λ s. Executes task (known_of task entries) s ys b second.2) (sym middle) second.4) tails in
+      λ i. same i ∷ rest i
+
+  -- the last step of calls that can be taken
+  record Last (calls : List Call) (call : Call) : Type 0 where
+    front : List GroundAction
+    last : GroundAction
+    shown : calls ≡ map cs front
+    is : call ≡ cs last
+    state : Atoms
+    after : Atoms
+    cost : ℕ
+    more : ℕ
+    runs : Executes task (known_of task entries) (initial_state task) front state cost
+    step : IsStep task (known_of task entries) state last after more
+
+  last_of : (calls : List Call) (call : Call) → CanRun task entries (calls ++ call ∷ []) → Last calls call
+  last_of calls call can =
+      let e = ends cs calls call can.steps can.shown in
+      let whole = subst (λ steps. Executes task (known_of task entries) (initial_state task) steps can.state can.cost) e.2 can.runs in
+      let parts = parts_of_whole task (known_of task entries) (initial_state task) can.state e.0 (e.1 ∷ []) can.cost whole in
+      record { front = e.0; last = e.1; shown = e.3; is = e.4; state = parts.0; after = parts.4.0; cost = parts.1; more = parts.4.1; runs = parts.3; step = parts.4.3 }
+
+  -- a call of no step can't be taken
+  pub no_step : (calls : List Call) (call : Call) → found_in call ≡ None → ¬ (CanRun task entries (calls ++ call ∷ []))
+  no_step calls call none can =
+      let l = last_of calls call can in
+      not_both l.last (sym none ∙ ap found_in l.is ∙ found l.state l.after l.last l.more l.step)
+
+  fails_not : (state after : Atoms) (step : GroundAction) (cost : ℕ) (fault : StepFault) → ¬ (fault ≡ Memory) → IsStep task (known_of task entries) state step after cost → StepFails task (known_of task entries) state step fault → ⊥
+  fails_not state after step cost NoAction other s fails = not_both s.action (sym fails ∙ s.named)
+  fails_not state after step cost Args other s (a, named, wrong) =
+      let same = one_some s.action a (sym s.named ∙ named) in
+      let right = s.typed in
+      no (ap (λ (b : Action). have_types (known_of task entries) step.args b.params) same) right wrong
+    where
+      no : {x y : Bool} → x ≡ y → x ≡ true → y ≡ false → ⊥
+      no e f g = absurd (cc)
+  fails_not state after step cost Condition other s (a, named, typed, wrong) =
+      let same = one_some s.action a (sym s.named ∙ named) in
+      let right = s.condition in
+      no (ap (λ (b : Action). is_true task.domain (known_of task entries) state b.condition (slots_of step.args)) same) right wrong
+    where
+      no : {x y : Bool} → x ≡ y → x ≡ true → y ≡ false → ⊥
+      no e f g = absurd (cc)
+  fails_not state after step cost NoCost other s (a, named, typed, holds, wrong) =
+      let same = one_some s.action a (sym s.named ∙ named) in
+      not_both cost (sym wrong ∙ ap (λ (b : Action). cost_of task (known_of task entries) b step.args) (sym same) ∙ s.costs)
+  fails_not state after step cost Memory other s fails = other refl
+
+  -- a step that isn't applicable can't be taken
+  pub step_stuck : (calls : List Call) (call : Call) (run : Run) (step : GroundAction) (fault : StepFault) → ¬ (fault ≡ Memory) → IsRunOf task entries calls run → found_in call ≡ Some step → StepFails task (known_of task entries) run.state step fault → ¬ (CanRun task entries (calls ++ call ∷ []))
+  step_stuck calls call run step fault other r is fails can =
+      let l = last_of calls call can in
+      let same : l.last ≡ step = one_some l.last step (sym (found l.state l.after l.last l.more l.step) ∙ ap found_in (sym l.is) ∙ is) in
+      let fronts = same_steps (initial_state task) l.state run.state l.front run.steps.items l.cost r.total l.runs r.runs (sym l.shown ∙ r.shown) in
+      let ran = subst (λ steps. Executes task (known_of task entries) (initial_state task) steps l.state l.cost) fronts l.runs in
+      let states = (execution_determined task (known_of task entries) (initial_state task) run.steps.items l.state run.state l.cost r.total ran r.runs).0 in
+      let there = subst (λ s. IsStep task (known_of task entries) s l.last l.after l.more) states l.step in
+      let taken = subst (λ s. IsStep task (known_of task entries) run.state s l.after l.more) same there in
+      fails_not run.state l.after step l.more fault other taken fails
+
+  -- one step more
+  pub step_more : (calls : List Call) (call : Call) (run next : Run) (step : GroundAction) (cost : ℕ) → IsRunOf task entries calls run → found_in call ≡ Some step → IsStep task (known_of task entries) run.state step next.state cost → next.steps.items ≡ run.steps.items ++ step ∷ [] → ((total : ℕ) → IsSum total run.cost → IsSum (total + cost) next.cost) → IsRunOf task entries (calls ++ call ∷ []) next
+  step_more calls call run next step cost r is taken steps sum =
+      let one : Executes task (known_of task entries) run.state (step ∷ []) next.state cost = (next.state, cost, 0, taken, (refl, refl), omega arith) in
+      let whole = whole_of_parts task (known_of task entries) (initial_state task) next.state run.steps.items (step ∷ []) (r.total + cost) (run.state, r.total, cost, r.runs, one, refl) in
+      record {
+        shown = (λ i. r.shown i ++ step_shown task fit (names_of task entries) coherent.names call step is i ∷ []) ∙ sym (map-append cs run.steps.items (step ∷ [])) ∙ ap (map cs) (sym steps);
+        total = r.total + cost;
+        runs = subst (λ xs. Executes task (known_of task entries) (initial_state task) xs next.state (r.total + cost)) (sym steps) whole;
+        sum = sum r.total r.sum;
+      }
+
+  -- no step was taken
+  pub none_taken : (run : Run) → run.steps.items ≡ [] → run.state ≡ initial_state task → run.cost ≡ Some 0 → IsRunOf task entries [] run
+  none_taken run steps state cost =
+      record {
+        shown = ap (map cs) (sym steps);
+        total = 0;
+        runs = subst (λ xs. Executes task (known_of task entries) (initial_state task) xs run.state 0) (sym steps) (sym state, refl);
+        sum = subst (IsSum 0) (sym cost) refl;
+      }
+
+-- a front that was taken can be taken, and with the next call it is stuck
+pub stops_at : (task : Task) (entries : List Entry) (calls : List Call) (place : ℕ) (call : Call) (run : Run) → IsRunOf task entries (take place calls) run → place < length calls → call ≡ get_or calls place call → ¬ (CanRun task entries (take place calls ++ call ∷ [])) → StopsAt task entries calls place
+stops_at task entries calls place call run r lt is stuck =
+    let next : take (place + 1) calls ≡ take place calls ++ call ∷ [] = take_more calls place call lt ∙ ap (λ (c : Call). take place calls ++ c ∷ []) (sym is) in
+    record {
+      within = lt;
+      runs = record { steps = run.steps.items; shown = r.shown; state = run.state; cost = r.total; runs = r.runs };
+      stuck = λ can. stuck (subst (CanRun task entries) next can);
+    }

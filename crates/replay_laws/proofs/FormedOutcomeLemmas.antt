@@ -1,0 +1,174 @@
+-- The outcome that a run writes has the stated form, and so has its whole report.
+use Rattle.std.proofs.Common.{◌≡◌, ℕ, zero, suc, ◌+◌, ◌/◌, ◌<◌, ◌≤◌, ◌^◌, inl, inr, ◌==◌, ◌&&◌, ◌||◌, Bool, true, false, List, [], ◌∷◌, ◌++◌, length, drop, map, All, Contains, refl, sym, ap, subst, ◌∙◌, Option, Some, None, slice_get, IsSome, unwrap_or, arith, codes, eqb-true, if◌then◌else◌}
+use Rattle.std.proofs.lemmas.List.{length-append, length-map}
+use Rattle.std.proofs.lemmas.List.Elements.{All-contains, All-map, All-weaker}
+use Rattle.std.proofs.lemmas.Option.{slice_get_within, slice_get-map}
+use Rattle.std.specs.Cmp.{first_so, second_so}
+use Rattle.std.specs.Fmt.{decimal}
+use Rattle.std.specs.List.{list_any, flat_map, position}
+use Rattle.std.specs.Option.{option_map}
+use Rattle.gen_lines.specs.Reply.{is_value}
+use Rattle.level_run.specs.Turns.{HasRoom}
+use Rattle.shown_plan.proofs.ShownLemmas.{valid_named}
+use Rattle.task_model.proofs.KnownLemmas.{numbers_decided}
+use Rattle.lemmas.proofs.Members.{member_at, place_of}
+use Rattle.task_model.specs.Fit.{IsFit, is_name}
+use Rattle.task_model.specs.Known.{IsIn, same_numbers}
+use Rattle.task_model.specs.Streams.{name_at}
+use Rattle.task_model.specs.declared.domain.Action.{Action}
+use Rattle.task_model.specs.declared.task.GroundAction.{GroundAction}
+use Rattle.task_model.specs.declared.task.Task.{Task}
+use Rattle.transcript_model.proofs.CoherentLemmas.{coherent}
+use Rattle.transcript_model.proofs.LegalNumberLemmas.{any_place}
+use Rattle.transcript_model.proofs.NamesLemmas.{map_some, position_at}
+use Rattle.transcript_model.specs.Calls.{action_name, call_of_step}
+use Rattle.report_text.specs.Forms.{IsFormedCall, IsFormedOrigin, IsFormedOutcome, IsName, IsObject, IsTerm}
+use Rattle.transcript_model.specs.Legal.{IsLegal}
+use Rattle.transcript_model.specs.Outcomes.{IsOrigin, IsTrueOutcome, IsTruePlan, has_value, tuple_with}
+use Rattle.transcript_model.specs.Rounds.{Limits}
+use Rattle.report_text.specs.Texts.{Line, do_line, from_line, line, line_text, lines_text, outcome_lines}
+use Rattle.transcript_model.specs.Transcript.{known_of, names_of, tuples_in}
+use Rattle.transcript_model.specs.declared.entry.Call.{Call}
+use Rattle.transcript_model.specs.declared.entry.Entry.{Entry}
+use Rattle.transcript_model.specs.declared.entry.Entry.TheVariants as entry
+use Rattle.transcript_model.specs.declared.outcome.Origin.{Origin}
+use Rattle.transcript_model.specs.declared.outcome.Outcome.{Outcome}
+use Rattle.transcript_model.specs.declared.outcome.Outcome.TheVariants as outcome
+use Rattle.replay_laws.proofs.FormedEntryLemmas.{AreFew, all_from, answer_few, names_formed, passes_at}
+
+-- ---- how long a text is
+
+-- each line has a byte at least
+lines_long : (lines : List Line) → length lines ≤ length (lines_text lines)
+lines_long [] = omega arith
+lines_long (l ∷ lines) =
+    let rest = lines_long lines in
+    let sum = length-append (line_text l) (lines_text lines) in
+    let own = length-append (l.first ++ flat_map (λ field. 32 ∷ field) l.more) (10 ∷ []) in
+    omega (arith, rest, sum, own)
+
+-- a plan has fewer steps than its text has bytes
+steps_few : (version cost : ℕ) (calls : List Call) (from : List Origin) → length calls ≤ length (lines_text (outcome_lines version (outcome.Plan calls cost from)))
+steps_few version cost calls from =
+    let last = line (codes "cost") (decimal cost ∷ []) ∷ map (from_line version) from in
+    let long = lines_long (outcome_lines version (outcome.Plan calls cost from)) in
+    let sum = length-append (map do_line calls) last in
+    let same = length-map calls do_line in
+    omega (arith, long, sum, same)
+
+-- ---- steps
+
+module _ (version : ℕ) (task : Task) (fit : IsFit task) (entries : List Entry) (legal : IsLegal version task entries) where
+  name_formed : (object : ℕ) → IsIn (names_of task entries) object → IsObject (name_at (names_of task entries) object)
+  name_formed object within = by (slice_get (names_of task entries) object) refl within
+    where
+      by : (o : Option (List ℕ)) → slice_get (names_of task entries) object ≡ o → IsSome o → IsObject (unwrap_or o [])
+      by (Some name) at here = All-contains IsObject (names_of task entries) name (names_formed version task fit entries legal) (member_at (names_of task entries) object name at)
+      by None at here = absurd (cc)
+
+  action_formed : (k : ℕ) → k < length task.domain.actions → IsName (action_name task k)
+  action_formed k below = by (slice_get task.domain.actions k) refl
+    where
+      by : (o : Option Action) → slice_get task.domain.actions k ≡ o → IsName (action_name task k)
+      by None none = absurd (missing task.domain.actions k below none)
+        where
+          missing : (xs : List Action) (j : ℕ) → j < length xs → slice_get xs j ≡ None → ⊥
+          missing [] j lt e = omega (arith, lt)
+          missing (x ∷ xs) zero lt e = absurd (cc)
+          missing (x ∷ xs) (suc j) lt e = missing xs j (omega (arith, lt)) e
+      by (Some a) at =
+          let named : action_name task k ≡ a.name = rw at refl in
+          let there = slice_get-map (λ (x : Action). x.name) task.domain.actions k ∙ ap (option_map (λ (x : Action). x.name)) at in
+          ap is_name named ∙ passes_at is_name (map (λ (x : Action). x.name) task.domain.actions) k a.name fit.domain.action_names.each there
+
+  calls_formed : (steps : List GroundAction) → All (λ (s : GroundAction). s.action < length task.domain.actions) steps → All (λ (s : GroundAction). All (IsIn (names_of task entries)) s.args) steps → All (IsFormedCall IsTerm) (map (call_of_step task (names_of task entries)) steps)
+  calls_formed steps actions objects = All-map (IsFormedCall IsTerm) (call_of_step task (names_of task entries)) steps (all_from _ steps one)
+    where
+      one : (k : ℕ) (s : GroundAction) → slice_get steps k ≡ Some s → IsFormedCall IsTerm (call_of_step task (names_of task entries) s)
+      one k s at =
+          let there = member_at steps k s at in
+          let args = All-contains (λ (x : GroundAction). All (IsIn (names_of task entries)) x.args) steps s objects there in
+          record {
+            name = action_formed s.action (All-contains (λ (x : GroundAction). x.action < length task.domain.actions) steps s actions there);
+            args = All-map IsTerm (name_at (names_of task entries)) s.args (All-weaker (IsIn (names_of task entries)) (λ o. IsTerm (name_at (names_of task entries) o)) (λ o within. inl (name_formed o within)) s.args args);
+          }
+
+  plan_formed : (limits : Limits) (calls : List Call) (cost : ℕ) (from : List Origin) → IsTruePlan limits.version task entries calls cost from → All (IsFormedCall IsTerm) calls
+  plan_formed limits calls cost from plan =
+      let named = valid_named task (known_of task entries) (coherent version task entries fit legal) plan.steps cost plan.valid in
+      subst (All (IsFormedCall IsTerm)) (sym plan.shown) (calls_formed plan.steps named.actions named.objects)
+
+-- ---- origins
+
+-- the first entry that has the value
+has_at : (number : ℕ) (value : List ℕ) (es : List Entry) → has_value es number value ≡ true → (k : ℕ) × (e : Entry) × (slice_get es k ≡ Some e) × (has_value (e ∷ []) number value ≡ true)
+has_at number value [] has = absurd (cc)
+has_at number value (entry.Got n tuples values ∷ xs) has = by ((number == n) && list_any (same_numbers value) values) refl has (has_at number value xs)
+  where
+    by : (b : Bool) → ((number == n) && list_any (same_numbers value) values) ≡ b → (b || has_value xs number value) ≡ true → (has_value xs number value ≡ true → (k : ℕ) × (e : Entry) × (slice_get xs k ≡ Some e) × (has_value (e ∷ []) number value ≡ true)) → (k : ℕ) × (e : Entry) × (slice_get (entry.Got n tuples values ∷ xs) k ≡ Some e) × (has_value (e ∷ []) number value ≡ true)
+    by true here all later = (0, entry.Got n tuples values, refl, (rw here refl))
+    by false other all later = let r = later all in (suc r.0, r.1, r.2, r.3)
+has_at number value (x ∷ xs) has = let r = has_at number value xs has in (suc r.0, r.1, r.2, r.3)
+
+module _ (version : ℕ) (task : Task) (fit : IsFit task) (entries : List Entry) (legal : IsLegal version task entries) (few : AreFew entries) where
+  -- the value is one of an answer's, and the request is one that was made
+  given : (number : ℕ) (value : List ℕ) (k : ℕ) (e : Entry) → slice_get entries k ≡ Some e → has_value (e ∷ []) number value ≡ true → (is_value value ≡ true) × (number ≤ 100000)
+  given number value k (entry.Got n tuples values) at has =
+      let parts = single ((number == n) && list_any (same_numbers value) values) has in
+      let same = eqb-true number n (first_so (number == n) (list_any (same_numbers value) values) parts) in
+      let there = any_place (same_numbers value) values (second_so (number == n) (list_any (same_numbers value) values) parts) in
+      let is = (numbers_decided value there.1).0 there.3 in
+      let valid = (legal k (entry.Got n tuples values) at).right.valid in
+      let most = answer_few version task fit entries legal few k n tuples values at in
+      (ap is_value is ∙ passes_at is_value values there.0 there.1 valid there.2, omega (arith, same, most))
+    where
+      single : (b : Bool) → (b || false) ≡ true → b ≡ true
+      single true e = refl
+      single false e = e
+  given number value k e at has = absurd (cc)
+
+  value_given : (number : ℕ) (value : List ℕ) → has_value entries number value ≡ true → (is_value value ≡ true) × (number ≤ 100000)
+  value_given number value has = let there = has_at number value entries has in given number value there.0 there.1 there.2 there.3
+
+  tuples_long : (width tuples : ℕ) (values : List (List ℕ)) → length (tuples_in width tuples values) ≡ tuples
+  tuples_long width zero values = refl
+  tuples_long width (suc tuples) values = let rest = tuples_long width tuples (drop width values) in omega (arith, rest)
+
+  tuple_few : (value : List ℕ) (number tuple k : ℕ) (e : Entry) → slice_get entries k ≡ Some e → tuple_with value number e ≡ Some tuple → tuple ≤ 16
+  tuple_few value number tuple k (entry.Got n tuples values) at is =
+      let list = tuples_in (length values / tuples) tuples values in
+      let found = chosen (number == n) (option_map (λ place. place + 1) (position (list_any (same_numbers value)) list)) is in
+      let place = map_some (λ (place : ℕ). place + 1) (position (list_any (same_numbers value)) list) tuple found in
+      let there = position_at (list_any (same_numbers value)) list place.0 place.1 in
+      let below = slice_get_within list place.0 there.0 there.1 in
+      omega (arith, below, place.2, tuples_long (length values / tuples) tuples values, (legal k (entry.Got n tuples values) at).right.few)
+    where
+      chosen : (b : Bool) (o : Option ℕ) → (if b then o else None) ≡ Some tuple → o ≡ Some tuple
+      chosen true o e = e
+      chosen false o e = absurd (cc)
+  tuple_few value number tuple k e at is = absurd (cc)
+
+  origin_formed : (o : Origin) → IsOrigin version entries o → IsFormedOrigin version o
+  origin_formed o origin =
+      let there = value_given o.number origin.value origin.there in
+      record { object = inr (origin.value, origin.named, there.0); number = omega (arith, there.1); tuple = by (version == 1) refl; one = origin.one }
+    where
+      by : (b : Bool) → (version == 1) ≡ b → o.tuple ≤ 255
+      by true e = omega (arith, origin.one (eqb-true version 1 e))
+      by false e =
+          let found = origin.tuple (λ same. no (sym (ap (λ n. n == 1) same) ∙ e)) in
+          let place = place_of entries found.0 found.1 in
+          omega (arith, tuple_few origin.value o.number o.tuple place.0 found.0 place.1 found.2)
+        where
+          no : true ≡ false → ⊥
+          no e = absurd (cc)
+
+  -- ---- outcomes
+
+  pub outcome_formed : (limits : Limits) → limits.version ≡ version → (o : Outcome) → IsTrueOutcome limits task entries o → HasRoom o → length (lines_text (outcome_lines version o)) < 2 ^ 31 → IsFormedOutcome version o
+  outcome_formed limits same (outcome.Plan calls cost from) plan room short =
+      let steps = steps_few version cost calls from in
+      let origins = subst (λ v. (o : Origin) → Contains from o → IsOrigin v entries o) same plan.origins.origins in
+      (omega (arith, steps, short), room, plan_formed version task fit entries legal limits calls cost from plan, all_from (IsFormedOrigin version) from (λ k o at. origin_formed o (origins o (member_at from k o at))))
+  outcome_formed limits same outcome.NoPlan holds room short = tt
+  outcome_formed limits same (outcome.Limit kind) holds room short = tt

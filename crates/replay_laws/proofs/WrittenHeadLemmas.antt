@@ -1,0 +1,220 @@
+-- The head of a report that a run wrote: it binds the transcript as the run's head does, and fits the task.
+use Rattle.std.proofs.Common.{◌≡◌, ℕ, zero, suc, ◌+◌, ◌<◌, ◌≤◌, ◌==◌, ◌&&◌, not, nat_le, Bool, true, false, List, [], ◌∷◌, ◌++◌, map, length, take, drop, sum_by, All, Contains, refl, sym, ap, subst, ◌∙◌, Some, slice_get, arith, append_assoc, le-leb, eqb-true, if◌then◌else◌}
+use Rattle.std.proofs.lemmas.List.Concat.{flat_map-append}
+use Rattle.std.proofs.lemmas.List.Elements.{All-head, All-tail, All-take, All-contains}
+use Rattle.std.proofs.lemmas.List.Sums.{sum_by-append}
+use Rattle.std.proofs.lemmas.Option.{slice_get_within, slice_get-map}
+use Rattle.std.specs.List.{list_any, list_all, filter_map, flat_map}
+use Rattle.std.specs.Option.{option_map}
+use Rattle.replay_check.specs.Heads.{AreFitPoolLines, IsFitHead, are_new, is_fit_pool, limits_in, served_by, share_in, workers_in}
+use Rattle.session_core.specs.Pools.{serves, server, workers_of}
+use Rattle.session_core.specs.declared.pools.Workers.{Workers}
+use Rattle.task_model.proofs.KnownLemmas.{numbers_decided}
+use Rattle.lemmas.proofs.Members.{member_at}
+use Rattle.task_model.specs.Fit.{IsFit, is_name}
+use Rattle.task_model.specs.Known.{same_numbers}
+use Rattle.lemmas.specs.Lists.{AreDistinct}
+use Rattle.task_model.specs.declared.stream.Instance.{Instance}
+use Rattle.task_model.specs.declared.stream.Stream.{Stream}
+use Rattle.task_model.specs.declared.task.Task.{Task}
+use Rattle.transcript_model.proofs.CallNameLemmas.{call_names_instance}
+use Rattle.transcript_model.proofs.LegalNumberLemmas.{any_at, any_place}
+use Rattle.transcript_model.proofs.NamedObjectLemmas.{passes_all}
+use Rattle.transcript_model.proofs.NamesLemmas.{and_then_some, at_left, map_some, position_at}
+use Rattle.transcript_model.proofs.LegalOnceLemmas.{cut_at}
+use Rattle.transcript_model.specs.Names.{stream_named}
+use Rattle.transcript_model.specs.Rounds.{limits_of, share_of}
+use Rattle.report_text.specs.Texts.{shown_pool, stream_name}
+use Rattle.transcript_model.specs.declared.entry.Entry.{Entry}
+use Rattle.transcript_model.specs.declared.head.Head.{Head}
+use Rattle.transcript_model.specs.declared.head.Pool.{Pool}
+use Rattle.transcript_model.specs.declared.head.PoolLine.{PoolLine}
+use Rattle.transcript_model.specs.declared.outcome.Outcome.{Outcome}
+use Rattle.transcript_model.specs.declared.report.Report.{Report}
+use Rattle.replay_laws.proofs.PoolSumLemmas.{together}
+use Rattle.replay_laws.specs.Written.{IsHeadOfReports}
+
+-- the report of a run with this outcome
+abbrev pub report_of : Task → Head → List Entry → Outcome → Report
+report_of task head entries o =
+    record { version = head.version; mode = head.mode; calls = head.calls; states = head.states; depth = head.depth; pools = map (shown_pool task) head.pools; entries = entries; outcome = o }
+
+-- the streams are the task's
+abbrev AreStreams : Task → List ℕ → Type 0
+AreStreams task streams = All (λ stream. stream < length task.streams) streams
+
+abbrev streams_of : List Pool → List ℕ
+streams_of pools = flat_map (λ (p : Pool). p.streams) pools
+
+-- ---- streams by their names
+
+module _ (task : Task) (fit : IsFit task) where
+  stream_found : (k : ℕ) → k < length task.streams → stream_named task (stream_name task k) ≡ Some k
+  stream_found k below =
+      let i : Instance = record { stream = k; inputs = [] } in
+      let whole = call_names_instance task [] i fit (λ a b x at_a at_b. absurd (nothing a x at_a)) below (λ o there. absurd (none o there)) in
+      let first = and_then_some (λ stream. option_map (λ inputs. record { stream = stream; inputs = inputs }) (Some [])) (stream_named task (stream_name task k)) i whole in
+      let second = map_some (λ inputs. record { stream = first.0; inputs = inputs }) (Some []) i first.2 in
+      let same : first.0 ≡ k = ap (λ (j : Instance). j.stream) second.2 in
+      first.1 ∙ ap Some same
+    where
+      nothing : (a : ℕ) (x : List ℕ) → slice_get [] a ≡ Some x → ⊥
+      nothing a x at = absurd (cc)
+
+      none : (o : ℕ) → Contains [] o → ⊥
+      none o there = omega (arith, there.1)
+
+  -- a stream of the task has a name
+  pub name_there : (k : ℕ) → k < length task.streams → is_name (stream_name task k) ≡ true
+  name_there k below =
+      let place = position_at (λ (s : Stream). same_numbers (stream_name task k) s.name) task.streams k (stream_found k below) in
+      let same = (numbers_decided (stream_name task k) place.0.name).0 place.2 in
+      let there = slice_get-map (λ (s : Stream). s.name) task.streams k ∙ ap (option_map (λ (s : Stream). s.name)) place.1 in
+      ap is_name same ∙ All-contains (λ name. is_name name ≡ true) (map (λ (s : Stream). s.name) task.streams) place.0.name (passes_all is_name (λ name. is_name name ≡ true) (map (λ (s : Stream). s.name) task.streams) (λ name e. e) fit.streams.names.each) (member_at (map (λ (s : Stream). s.name) task.streams) k place.0.name there)
+
+  all_found : (streams : List ℕ) → AreStreams task streams → filter_map (stream_named task) (map (stream_name task) streams) ≡ streams
+  all_found [] are = refl
+  all_found (s ∷ streams) are =
+      let rest = all_found streams (All-tail (λ stream. stream < length task.streams) s streams are) in
+      rw (stream_found s (All-head (λ stream. stream < length task.streams) s streams are), rest) refl
+
+  share_same : (p : Pool) → AreStreams task p.streams → share_in task (shown_pool task p) ≡ share_of p
+  share_same p are = λ i. record { workers = p.workers; streams = all_found p.streams are i }
+
+  shares_same : (pools : List Pool) → All (λ (p : Pool). AreStreams task p.streams) pools → map (share_in task) (map (shown_pool task) pools) ≡ map share_of pools
+  shares_same [] are = refl
+  shares_same (p ∷ pools) are =
+      let here = share_same p (All-head (λ (q : Pool). AreStreams task q.streams) p pools are) in
+      let rest = shares_same pools (All-tail (λ (q : Pool). AreStreams task q.streams) p pools are) in
+      λ i. here i ∷ rest i
+
+  -- The report binds the transcript as the run's head does.
+  pub limits_same : (head : Head) (entries : List Entry) (o : Outcome) → All (λ (p : Pool). AreStreams task p.streams) head.pools → limits_in task (report_of task head entries o) ≡ limits_of head
+  limits_same head entries o are = λ i. record { version = head.version; mode = head.mode; calls = head.calls; states = head.states; depth = head.depth; pools = shares_same head.pools are i }
+
+  -- ---- pools
+
+  served_same : (pools : List Pool) → All (λ (p : Pool). AreStreams task p.streams) pools → served_by task (map (shown_pool task) pools) ≡ streams_of pools
+  served_same [] are = refl
+  served_same (p ∷ pools) are =
+      let here = all_found p.streams (All-head (λ (q : Pool). AreStreams task q.streams) p pools are) in
+      let rest = served_same pools (All-tail (λ (q : Pool). AreStreams task q.streams) p pools are) in
+      λ i. here i ++ rest i
+
+  workers_same : (pools : List Pool) → workers_in (map (shown_pool task) pools) ≡ sum_by (λ (p : Pool). p.workers) pools
+  workers_same [] = refl
+  workers_same (p ∷ pools) =
+      let shown = sum_by-append (λ (q : PoolLine). q.workers) (shown_pool task p ∷ []) (map (shown_pool task) pools) in
+      let own = sum_by-append (λ (q : Pool). q.workers) (p ∷ []) pools in
+      let rest = workers_same pools in
+      omega (arith, shown, own, rest)
+
+  fresh : (before : List ℕ) (s : ℕ) (rest : List ℕ) → AreDistinct (before ++ s ∷ rest) → not (list_any (λ t. t == s) before) ≡ true
+  fresh before s rest distinct = by (list_any (λ t. t == s) before) refl
+    where
+      at_end : (xs ys : List ℕ) → slice_get (xs ++ s ∷ ys) (length xs) ≡ Some s
+      at_end [] ys = refl
+      at_end (x ∷ xs) ys = at_end xs ys
+
+      by : (b : Bool) → list_any (λ t. t == s) before ≡ b → not b ≡ true
+      by false none = refl
+      by true some =
+          let place = any_place (λ t. t == s) before some in
+          let here = at_left before (s ∷ rest) place.0 place.1 place.2 in
+          let same = eqb-true place.1 s place.3 in
+          let one = distinct place.0 (length before) s (here ∙ ap Some same) (at_end before rest) in
+          absurd (omega (arith, one, slice_get_within before place.0 place.1 place.2))
+
+  all_new : (before streams : List ℕ) → AreStreams task streams → AreDistinct (before ++ streams) → are_new task before (map (stream_name task) streams) ≡ true
+  all_new before [] are distinct = refl
+  all_new before (s ∷ streams) are distinct =
+      let found = stream_found s (All-head (λ stream. stream < length task.streams) s streams are) in
+      let rest = all_new (before ++ s ∷ []) streams (All-tail (λ stream. stream < length task.streams) s streams are) (subst AreDistinct (sym (append_assoc before (s ∷ []) streams)) distinct) in
+      rw (found, fresh before s streams distinct, rest) refl
+
+  front_distinct : (xs ys : List ℕ) → AreDistinct (xs ++ ys) → AreDistinct xs
+  front_distinct xs ys distinct j k x at_j at_k = distinct j k x (at_left xs ys j x at_j) (at_left xs ys k x at_k)
+
+  -- ---- the pools fit
+
+  four : (a b c d : Bool) → a ≡ true → b ≡ true → c ≡ true → d ≡ true → (a && b && c && d) ≡ true
+  four a b c d ea eb ec ed = rw (ea, eb, ec, ed) refl
+
+  take_map : (k : ℕ) (pools : List Pool) → take k (map (shown_pool task) pools) ≡ map (shown_pool task) (take k pools)
+  take_map zero pools = refl
+  take_map (suc k) [] = refl
+  take_map (suc k) (p ∷ pools) = ap (λ ps. shown_pool task p ∷ ps) (take_map k pools)
+
+  module _ (head : Head) (can : IsHeadOfReports task head) where
+    are : All (λ (p : Pool). AreStreams task p.streams) head.pools
+    are = can.runnable.streams
+
+    shown_at : (place : ℕ) (line : PoolLine) → slice_get (map (shown_pool task) head.pools) place ≡ Some line → (p : Pool) × (slice_get head.pools place ≡ Some p) × (shown_pool task p ≡ line)
+    shown_at place line at = map_some (shown_pool task) (slice_get head.pools place) line (sym (slice_get-map (shown_pool task) head.pools place) ∙ at)
+
+    one_fits : (place : ℕ) (p : Pool) → slice_get head.pools place ≡ Some p → is_fit_pool task (map (shown_pool task) (take place head.pools)) (shown_pool task p) ≡ true
+    one_fits place p at =
+        let there = member_at head.pools place p at in
+        let before = take place head.pools in
+        let own = can.runnable.fit.pools.some place (workers_of p) (slice_get-map workers_of head.pools place ∙ ap (option_map workers_of) at) in
+        let few = All-contains (λ (q : Pool). q.workers ≤ 16) head.pools p can.pools.few there in
+        let parts = cut_at head.pools place p at in
+        let sums = ap (sum_by (λ (q : Pool). q.workers)) parts in
+        let first = sum_by-append (λ (q : Pool). q.workers) before (p ∷ drop (suc place) head.pools) in
+        let second = sum_by-append (λ (q : Pool). q.workers) (p ∷ []) (drop (suc place) head.pools) in
+        let shown = workers_same before in
+        let sum = together task head.pools can.runnable.fit.pools in
+        let taken = All-take (λ (q : Pool). AreStreams task q.streams) place head.pools are in
+        let lists : streams_of head.pools ≡ (streams_of before ++ p.streams) ++ streams_of (drop (suc place) head.pools) =
+        ap streams_of parts ∙ flat_map-append (λ (q : Pool). q.streams) before (p ∷ drop (suc place) head.pools) ∙ sym (append_assoc (streams_of before) p.streams (streams_of (drop (suc place) head.pools))) in
+        let apart = front_distinct (streams_of before ++ p.streams) (streams_of (drop (suc place) head.pools)) (subst AreDistinct lists can.pools.once) in
+        let new = all_new (streams_of before) p.streams (All-contains (λ (q : Pool). AreStreams task q.streams) head.pools p are there) apart in
+        four (nat_le 1 p.workers) (nat_le p.workers 16) (nat_le (workers_in (map (shown_pool task) before) + p.workers) 17) (are_new task (served_by task (map (shown_pool task) before)) (map (stream_name task) p.streams))
+        (le-leb 1 p.workers own) (le-leb p.workers 16 few)
+        (le-leb (workers_in (map (shown_pool task) before) + p.workers) 17 (omega (arith, sums, first, second, shown, sum)))
+        (subst (λ ss. are_new task ss (map (stream_name task) p.streams) ≡ true) (sym (served_same before taken)) new)
+
+    pools_fit : AreFitPoolLines task (map (shown_pool task) head.pools)
+    pools_fit place line at =
+        let p = shown_at place line at in
+        subst (λ q. is_fit_pool task (take place (map (shown_pool task) head.pools)) q ≡ true) p.2
+        (subst (λ ps. is_fit_pool task ps (shown_pool task p.0) ≡ true) (sym (take_map place head.pools)) (one_fits place p.0 p.1))
+
+    -- ---- each stream has a pool
+
+    all_at : {A : Type 0} (f : A → Bool) (xs : List A) → ((k : ℕ) (x : A) → slice_get xs k ≡ Some x → f x ≡ true) → list_all f xs ≡ true
+    all_at f [] each = refl
+    all_at f (x ∷ xs) each = rw (each 0 x refl, all_at f xs (λ k y at. each (suc k) y at)) refl
+
+    served_at : (all : List Workers) (stream : ℕ) (w : Workers) → server all stream ≡ Some w → (k : ℕ) × (slice_get all k ≡ Some w) × (serves w stream ≡ true)
+    served_at [] stream w is = absurd (cc)
+    served_at (x ∷ all) stream w is = by (serves x stream) refl is (served_at all stream w)
+      where
+        by : (b : Bool) → serves x stream ≡ b → (if b then Some x else server all stream) ≡ Some w → (server all stream ≡ Some w → (k : ℕ) × (slice_get all k ≡ Some w) × (serves w stream ≡ true)) → (k : ℕ) × (slice_get (x ∷ all) k ≡ Some w) × (serves w stream ≡ true)
+        by true e here later = let same : x ≡ w = cc in (0, here, ap (λ y. serves y stream) (sym same) ∙ e)
+        by false e there later = let r = later there in (suc r.0, r.1, r.2)
+
+    is_served : (k : ℕ) (s : Stream) → slice_get task.streams k ≡ Some s → list_any (λ (p : PoolLine). list_any (same_numbers s.name) p.streams) (map (shown_pool task) head.pools) ≡ true
+    is_served k s at =
+        let pool = can.runnable.fit.pools.served k (slice_get_within task.streams k s at) in
+        let found = served_at (map workers_of head.pools) k pool.0 pool.1 in
+        let p = map_some workers_of (slice_get head.pools found.0) pool.0 (sym (slice_get-map workers_of head.pools found.0) ∙ found.1) in
+        let in_pool : list_any (λ t. t == k) p.0.streams ≡ true = ap (λ (w : Workers). list_any (λ t. t == k) w.streams) p.2 ∙ found.2 in
+        let place = any_place (λ t. t == k) p.0.streams in_pool in
+        let name : stream_name task place.1 ≡ s.name = ap (stream_name task) (eqb-true place.1 k place.3) ∙ (rw at refl) in
+        let inner = any_at (same_numbers s.name) (map (stream_name task) p.0.streams) place.0 (stream_name task place.1) (slice_get-map (stream_name task) p.0.streams place.0 ∙ ap (option_map (stream_name task)) place.2) ((numbers_decided s.name (stream_name task place.1)).1 (sym name)) in
+        any_at (λ (q : PoolLine). list_any (same_numbers s.name) q.streams) (map (shown_pool task) head.pools) found.0 (shown_pool task p.0) (slice_get-map (shown_pool task) head.pools found.0 ∙ ap (option_map (shown_pool task)) p.1) inner
+
+    -- ---- the head fits
+
+    six : (a b c d e f : Bool) → a ≡ true → b ≡ true → c ≡ true → d ≡ true → e ≡ true → f ≡ true → (a && b && c && d && e && f) ≡ true
+    six a b c d e f ea eb ec ed ee ef = rw (ea, eb, ec, ed, ee, ef) refl
+
+    pub head_fits : (entries : List Entry) (o : Outcome) → IsFitHead task (report_of task head entries o)
+    head_fits entries o = record {
+      mode = can.mode;
+      limits = six (nat_le 1 head.calls) (nat_le head.calls 100000) (nat_le 1 head.states) (nat_le head.states 200000) (nat_le 1 head.depth) (nat_le head.depth 8)
+          (le-leb 1 head.calls can.runnable.fit.some_calls) (le-leb head.calls 100000 can.runnable.fit.calls) (le-leb 1 head.states can.runnable.some_states) (le-leb head.states 200000 can.runnable.few_states) (le-leb 1 head.depth can.some_depth) (le-leb head.depth 8 can.depth);
+      pools = pools_fit;
+      served = all_at (λ (s : Stream). list_any (λ (p : PoolLine). list_any (same_numbers s.name) p.streams) (map (shown_pool task) head.pools)) task.streams is_served;
+    }

@@ -1,0 +1,2 @@
+//! TODO: what the crate is for.
+#![tactic(auto)]

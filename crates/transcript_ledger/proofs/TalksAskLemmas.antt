@@ -1,0 +1,179 @@
+-- Whether a request may be made, by the tests of a ledger.
+use Rattle.std.proofs.Common.{◌≡◌, ℕ, zero, suc, ◌+◌, ◌-◌, ◌≤◌, ◌==◌, Bool, true, false, not, ◌&&◌, ◌||◌, List, [], ◌∷◌, take, drop, length, refl, sym, ap, subst, ◌∙◌, arith, Option, Some, None, slice_get, eqb-true, eq-eqb, nat_eq}
+use Rattle.std.proofs.Math.ListN.{take-append-drop}
+use Rattle.std.specs.Cmp.{first_so, second_so}
+use Rattle.std.specs.List.{list_any}
+use Rattle.instance_queue.proofs.NotesLemmas.{instances_same}
+use Rattle.instance_queue.specs.Level.{is_finished_in, is_reachable_in}
+use Rattle.session_core.proofs.LearningLemmas.{take_next, there_at}
+use Rattle.session_core.proofs.SessionLemmas.{count_joined}
+use Rattle.task_model.specs.Known.{Known, same_numbers}
+use Rattle.task_model.specs.Streams.{IsDue, Note, is_finished, is_reachable, same_instance, yields_of}
+use Rattle.task_model.specs.declared.stream.Instance.{Instance}
+use Rattle.task_model.specs.declared.stream.Stream.{Stream}
+use Rattle.task_model.specs.declared.task.Task.{Task}
+use Rattle.transcript_model.proofs.LegalPrefixLemmas.{first_request}
+use Rattle.transcript_model.proofs.NamesLemmas.{same_some}
+use Rattle.transcript_model.specs.Legal.{IsLegal, IsNotOpen, IsRightAsk, asks_of, is_answer_to, is_ask, is_ask_of, is_open}
+use Rattle.transcript_model.specs.Names.{instance_of}
+use Rattle.transcript_model.specs.Transcript.{Asked, asked, known_of, names_of, notes_of}
+use Rattle.transcript_model.specs.declared.entry.Call.{Call}
+use Rattle.transcript_model.specs.declared.entry.Entry.{Entry}
+use Rattle.transcript_model.specs.declared.entry.Entry.TheVariants as entry
+use Rattle.transcript_ledger.specs.Ledgers.{IsLedger, asked_it, is_among, is_waiting}
+use Rattle.transcript_ledger.specs.Talks.{may_ask}
+use Rattle.transcript_ledger.specs.declared.ledger.Ledger.{Ledger}
+
+pub no : false ≡ true → ⊥
+no e = absurd (cc)
+
+not_true : (b : Bool) → not b ≡ true → b ≡ false
+not_true true e = absurd (no e)
+not_true false e = refl
+
+not_false : (b : Bool) → b ≡ false → not b ≡ true
+not_false true e = absurd (no (sym e))
+not_false false e = refl
+
+pub all_of : (a b : Bool) → a ≡ true → b ≡ true → (a && b) ≡ true
+all_of true b p q = q
+all_of false b p q = p
+
+-- ---- what is due
+
+due_by : (task : Task) (known : Known) (notes : List Note) (i : Instance) (o : Option Stream) → slice_get task.streams i.stream ≡ o → is_reachable_in task known i ≡ true → is_finished_in task notes i ≡ false → IsDue task known notes i
+due_by task known notes i None is reach finished = let r : false ≡ true = rw is at reach in absurd (no r)
+due_by task known notes i (Some s) is reach finished = let r : is_reachable s known i ≡ true = rw is at reach in let f : is_finished s notes i ≡ false = rw is at finished in record { stream = s; named = is; reachable = r; unfinished = f }
+
+reach_of : (task : Task) (known : Known) (notes : List Note) (i : Instance) → IsDue task known notes i → is_reachable_in task known i ≡ true
+reach_of task known notes i d = let named : slice_get task.streams i.stream ≡ Some d.stream = d.named in rw named d.reachable
+
+unfinished_of : (task : Task) (known : Known) (notes : List Note) (i : Instance) → IsDue task known notes i → is_finished_in task notes i ≡ false
+unfinished_of task known notes i d = let named : slice_get task.streams i.stream ≡ Some d.stream = d.named in rw named d.unfinished
+
+-- ---- open requests
+
+-- an open request was made
+pub opened : (version : ℕ) (task : Task) (before : List Entry) (n : ℕ) → IsLegal version task before → is_open before n ≡ true → (1 ≤ n) × (n ≤ asks_of before)
+opened version task before n legal waits =
+    let made = first_request before n (first_so (list_any (is_ask_of n) before) (not (list_any (is_answer_to n) before)) waits) in
+    let e = entry.Ask n made.1 made.2 in
+    let right : IsRightAsk task (take made.0 before) n made.1 made.2 = legal made.0 e made.3 in
+    let parts : asks_of before ≡ asks_of (take (made.0 + 1) before) + asks_of (drop (made.0 + 1) before) = ap asks_of (sym (take-append-drop (made.0 + 1) before)) ∙ count_joined is_ask (take (made.0 + 1) before) (drop (made.0 + 1) before) in
+    let front : asks_of (take (made.0 + 1) before) ≡ asks_of (take made.0 before) + 1 = ap asks_of (take_next before made.0 e made.3) ∙ count_joined is_ask (take made.0 before) (e ∷ []) in
+    let number = right.next in
+    (omega (arith, number), omega (arith, number, parts, front))
+
+any_at : {A : Type 0} (p : A → Bool) (xs : List A) (k : ℕ) (x : A) → slice_get xs k ≡ Some x → p x ≡ true → list_any p xs ≡ true
+any_at p [] k x at passes_it = absurd (cc)
+any_at p (y ∷ ys) zero x at passes_it = let same : y ≡ x = cc in ap (λ z. p z || list_any p ys) same ∙ ap (λ b. b || list_any p ys) passes_it
+any_at p (y ∷ ys) (suc k) x at passes_it = later (p y) (list_any p ys) (any_at p ys k x at passes_it)
+  where
+    later : (a b : Bool) → b ≡ true → (a || b) ≡ true
+    later true b e = refl
+    later false b e = e
+
+pub record HasSuch {A : Type 0} (p : A → Bool) (xs : List A) : Type 0 where
+  pub place : ℕ
+  pub member : A
+  pub at : slice_get xs place ≡ Some member
+  pub passes_it : p member ≡ true
+
+such : {A : Type 0} (p : A → Bool) (xs : List A) → list_any p xs ≡ true → HasSuch p xs
+such p [] e = absurd (no e)
+such p (y ∷ ys) e = by (p y) refl e (such p ys)
+  where
+    by : (b : Bool) → p y ≡ b → (b || list_any p ys) ≡ true → (list_any p ys ≡ true → HasSuch p ys) → HasSuch p (y ∷ ys)
+    by true is e rest = record { place = 0; member = y; at = refl; passes_it = is }
+    by false is e rest = let r = rest e in record { place = suc r.place; member = r.member; at = r.at; passes_it = r.passes_it }
+
+asked_yes : (asked_all : List Instance) (i j : Instance) (n : ℕ) → slice_get asked_all (n - 1) ≡ Some j → j ≡ i → asked_it asked_all i n ≡ true
+asked_yes asked_all i j n at same = let r : same_instance j i ≡ true = itself in rw at r
+  where
+    numbers : (xs : List ℕ) → same_numbers xs xs ≡ true
+    numbers [] = refl
+    numbers (x ∷ xs) = all_of (nat_eq x x) (same_numbers xs xs) (eq-eqb x x refl) (numbers xs)
+
+    itself : same_instance j i ≡ true
+    itself = ap (λ (k : Instance). same_instance k i) same ∙ all_of (i.stream == i.stream) (same_numbers i.inputs i.inputs) (eq-eqb i.stream i.stream refl) (numbers i.inputs)
+
+asked_is : (asked_all : List Instance) (i : Instance) (n : ℕ) (o : Option Instance) → slice_get asked_all (n - 1) ≡ o → asked_it asked_all i n ≡ true → (j : Instance) × (slice_get asked_all (n - 1) ≡ Some j) × (j ≡ i)
+asked_is asked_all i n None at e = let r : false ≡ true = rw at at e in absurd (no r)
+asked_is asked_all i n (Some j) at e = let r : same_instance j i ≡ true = rw at at e in (j, at, instances_same j i r)
+
+-- ---- the tests
+
+module _ (version : ℕ) (task : Task) (before : List Entry) (l : Ledger) (h : IsLedger version task before l) (number turn : ℕ) (call : Call) (i : Instance) (named : instance_of task (names_of task before) call ≡ Some i) where
+  -- the tests, one by one
+  abbrev next_test : Bool
+  next_test = number == length l.asked.items + 1
+
+  abbrev turn_test : Bool
+  turn_test = turn == yields_of l.queue i
+
+  abbrev reach_test : Bool
+  reach_test = is_reachable_in task l.facts.known i
+
+  abbrev ended_test : Bool
+  ended_test = not (is_finished_in task l.queue i)
+
+  abbrev idle_test : Bool
+  idle_test = not (is_waiting l.asked.items l.unanswered.items i)
+
+  idle : is_waiting l.asked.items l.unanswered.items i ≡ false → IsNotOpen task before i
+  idle none n a was same = by (is_open before n) refl
+    where
+      by : (b : Bool) → is_open before n ≡ b → b ≡ false
+      by false e = refl
+      by true e =
+          let within = opened version task before n h.legal e in
+          let there = there_at l.asked.items (n - 1) (omega (arith, within.0, within.1, h.counted)) in
+          let its = h.asks (n - 1) there.0 there.1 in
+          let back : n ≡ n - 1 + 1 = omega (arith, within.0) in
+          let known : asked task before n ≡ Some (record { stream = its.stream; instance = there.0 }) = ap (asked task before) back ∙ its.asks in
+          let is : there.0 ≡ i = ap (λ (x : Asked). x.instance) (same_some (asked task before n) (record { stream = its.stream; instance = there.0 }) a known was) ∙ same in
+          let among : is_among l.unanswered.items n ≡ true = h.unanswered n ∙ e in
+          let it = such (λ m. n == m) l.unanswered.items among in
+          let number_is : it.member ≡ n = sym (eqb-true n it.member it.passes_it) in
+          let passes_it : asked_it l.asked.items i it.member ≡ true = ap (asked_it l.asked.items i) number_is ∙ asked_yes l.asked.items i there.0 n there.1 is in
+          absurd (no (sym none ∙ any_at (asked_it l.asked.items i) l.unanswered.items it.place it.member it.at passes_it))
+
+  waits_not : IsNotOpen task before i → is_waiting l.asked.items l.unanswered.items i ≡ false
+  waits_not closed = by (is_waiting l.asked.items l.unanswered.items i) refl
+    where
+      by : (b : Bool) → is_waiting l.asked.items l.unanswered.items i ≡ b → b ≡ false
+      by false e = refl
+      by true e =
+          let it = such (asked_it l.asked.items i) l.unanswered.items e in
+          let n = it.member in
+          let was = asked_is l.asked.items i n (slice_get l.asked.items (n - 1)) refl it.passes_it in
+          let here : is_open before n ≡ true = sym (h.unanswered n) ∙ any_at (λ m. n == m) l.unanswered.items it.place n it.at (eq-eqb n n refl) in
+          let within = opened version task before n h.legal here in
+          let its = h.asks (n - 1) was.0 was.1 in
+          let back : n ≡ n - 1 + 1 = omega (arith, within.0) in
+          absurd (no (sym (closed n (record { stream = its.stream; instance = was.0 }) (ap (asked task before) back ∙ its.asks) was.2) ∙ here))
+
+  pub passes : may_ask task l number turn i ≡ true → IsRightAsk task before number turn call
+  passes e =
+      let after_next = second_so next_test (turn_test && (reach_test && (ended_test && idle_test))) e in
+      let after_turn = second_so turn_test (reach_test && (ended_test && idle_test)) after_next in
+      let after_reach = second_so reach_test (ended_test && idle_test) after_turn in
+      let due : IsDue task l.facts.known l.queue i = due_by task l.facts.known l.queue i (slice_get task.streams i.stream) refl (first_so reach_test (ended_test && idle_test) after_turn) (not_true (is_finished_in task l.queue i) (first_so ended_test idle_test after_reach)) in
+      record {
+        next = eqb-true number (length l.asked.items + 1) (first_so next_test (turn_test && (reach_test && (ended_test && idle_test))) e) ∙ ap (λ m. m + 1) h.counted;
+        instance = i;
+        named = named;
+        due = subst (λ k. IsDue task k (notes_of task before) i) h.known (subst (λ ns. IsDue task l.facts.known ns i) h.notes due);
+        closed = idle (not_true (is_waiting l.asked.items l.unanswered.items i) (second_so ended_test idle_test after_reach));
+        turned = eqb-true turn (yields_of l.queue i) (first_so turn_test (reach_test && (ended_test && idle_test)) after_next) ∙ ap (λ ns. yields_of ns i) h.notes;
+      }
+
+  pub must_pass : IsRightAsk task before number turn call → may_ask task l number turn i ≡ true
+  must_pass right =
+      let same : right.instance ≡ i = same_some (instance_of task (names_of task before) call) right.instance i right.named named in
+      let due : IsDue task l.facts.known l.queue i = subst (λ k. IsDue task k l.queue i) (sym h.known) (subst (λ ns. IsDue task (known_of task before) ns i) (sym h.notes) (subst (λ j. IsDue task (known_of task before) (notes_of task before) j) same right.due)) in
+      let closed : IsNotOpen task before i = subst (IsNotOpen task before) same right.closed in
+      all_of next_test (turn_test && (reach_test && (ended_test && idle_test))) (eq-eqb number (length l.asked.items + 1) (right.next ∙ ap (λ m. m + 1) (sym h.counted)))
+      (all_of turn_test (reach_test && (ended_test && idle_test)) (eq-eqb turn (yields_of l.queue i) (right.turned ∙ ap (yields_of (notes_of task before)) same ∙ ap (λ ns. yields_of ns i) (sym h.notes)))
+      (all_of reach_test (ended_test && idle_test) (reach_of task l.facts.known l.queue i due)
+      (all_of ended_test idle_test (not_false (is_finished_in task l.queue i) (unfinished_of task l.facts.known l.queue i due)) (not_false (is_waiting l.asked.items l.unanswered.items i) (waits_not closed)))))

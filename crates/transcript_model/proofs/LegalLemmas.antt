@@ -1,0 +1,58 @@
+-- Legal transcripts: how they grow, and that no request is made twice.
+use Rattle.std.proofs.Common.{◌≡◌, ℕ, zero, suc, ◌+◌, ◌<◌, ◌⊎◌, inl, inr, arith, true, List, [], ◌∷◌, ◌++◌, take, length, refl, sym, subst, ap, ◌∙◌, Some, slice_get, eq-eqb}
+use Rattle.std.proofs.Math.Seq.{take-append_seam}
+use Rattle.std.proofs.lemmas.List.{take-append-le}
+use Rattle.std.proofs.lemmas.Option.{slice_get_within}
+use Rattle.lemmas.proofs.Members.{push_cases}
+use Rattle.task_model.specs.declared.task.Task.{Task}
+use Rattle.transcript_model.specs.Laws.{GrowsLegally}
+use Rattle.transcript_model.specs.Legal.{IsLegal, MayFollow, asks_of, is_ask_of}
+use Rattle.transcript_model.specs.Transcript.{Asked, asked}
+use Rattle.transcript_model.specs.declared.entry.Call.{Call}
+use Rattle.transcript_model.specs.declared.entry.Entry.{Entry}
+use Rattle.transcript_model.specs.declared.entry.Entry.TheVariants as entry
+use Rattle.transcript_model.proofs.LegalPrefixLemmas.{legal_front, request_known}
+use Rattle.transcript_model.proofs.LegalNumberLemmas.{asks_more, any_at, request_number}
+
+at_end : {A : Type 0} (xs : List A) (x : A) → slice_get (xs ++ x ∷ []) (length xs) ≡ Some x
+at_end [] x = refl
+at_end (y ∷ ys) x = at_end ys x
+
+pub grows : (version : ℕ) (task : Task) (entries : List Entry) → GrowsLegally version task entries
+grows version task entries = record {
+  front = λ more legal. legal_front version task entries more legal;
+  next = λ e legal may k x at. next e legal may k x at (push_cases entries e k x at);
+  last = λ e legal. subst (λ before. MayFollow version task before e) (take-append_seam entries (e ∷ [])) (legal (length entries) e (at_end entries e));
+}
+  where
+    next : (e : Entry) → IsLegal version task entries → MayFollow version task entries e → (k : ℕ) (x : Entry) → slice_get (entries ++ e ∷ []) k ≡ Some x → (slice_get entries k ≡ Some x) ⊎ ((k ≡ length entries) × (x ≡ e)) → MayFollow version task (take k (entries ++ e ∷ [])) x
+    next e legal may k x at (inl there) =
+        let below = slice_get_within entries k x there in
+        subst (λ before. MayFollow version task before x) (sym (take-append-le k entries (e ∷ []) (omega arith))) (legal k x there)
+    next e legal may k x at (inr here) =
+        let whole : take k (entries ++ e ∷ []) ≡ entries = ap (λ m. take m (entries ++ e ∷ [])) here.0 ∙ take-append_seam entries (e ∷ []) in
+        subst (λ before. MayFollow version task before x) (sym whole) (subst (MayFollow version task entries) (sym here.1) may)
+
+-- ---- every number up to the count was asked
+
+nth_request : (xs : List Entry) (m : ℕ) → m < asks_of xs → (j : ℕ) × (n : ℕ) × (turn : ℕ) × (call : Call) × (slice_get xs j ≡ Some (entry.Ask n turn call)) × (asks_of (take j xs) ≡ m)
+nth_request [] m lt = absurd (omega arith)
+nth_request (entry.Ask n turn call ∷ xs) zero lt = (0, n, turn, call, refl, refl)
+nth_request (entry.Ask n turn call ∷ xs) (suc m) lt =
+    let first = entry.Ask n turn call in
+    let below : m < asks_of xs = omega (arith, asks_more (first ∷ []) xs) in
+    let r = nth_request xs m below in
+    (suc r.0, r.1, r.2, r.3, r.4, omega (arith, asks_more (first ∷ []) (take r.0 xs), r.5))
+nth_request (x ∷ xs) m lt = let r = nth_request xs m lt in (suc r.0, r.1, r.2, r.3, r.4, r.5)
+
+pub request_asks : (version : ℕ) (task : Task) (entries : List Entry) (n : ℕ) → IsLegal version task entries → 0 < n → n < asks_of entries + 1 → (a : Asked) × (asked task entries n ≡ Some a)
+request_asks version task entries n legal some most = from n some most
+  where
+    from : (n : ℕ) → 0 < n → n < asks_of entries + 1 → (a : Asked) × (asked task entries n ≡ Some a)
+    from zero some most = absurd (omega arith)
+    from (suc m) some most =
+        let r = nth_request entries m (omega arith) in
+        let is = request_number version task entries r.0 r.1 r.2 r.3 legal r.4 in
+        let same : r.1 ≡ suc m = omega (arith, is, r.5) in
+        let found : is_ask_of (suc m) (entry.Ask r.1 r.2 r.3) ≡ true = eq-eqb (suc m) r.1 (sym same) in
+        request_known version task entries (suc m) legal (any_at (is_ask_of (suc m)) entries r.0 (entry.Ask r.1 r.2 r.3) r.4 found)

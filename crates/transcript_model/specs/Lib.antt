@@ -1,0 +1,11 @@
+pub mod Calls
+pub mod Dreaming
+pub mod Examples
+pub mod Laws
+pub mod Legal
+pub mod Names
+pub mod Outcomes
+pub mod Plain
+pub mod Rounds
+pub mod Transcript
+pub mod Turns

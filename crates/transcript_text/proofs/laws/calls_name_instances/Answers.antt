@@ -1,5 +1,0 @@
-use Rattle.transcript_text.proofs.Calls.{call_names_instance}
-use Rattle.transcript_text.proofs.laws.calls_name_instances.Goals as goal
-
-pub returns : goal.returns
-returns c = call_names_instance

@@ -1,5 +1,0 @@
-use Rattle.transcript_text.proofs.Longer.{longer}
-use Rattle.transcript_text.proofs.laws.longer_keeps.Goals as goal
-
-pub returns : goal.returns
-returns c = λ version task entries more fit legal. longer version task entries more fit.problem.objects.names.distinct legal

@@ -1,5 +1,0 @@
-use Rattle.transcript_text.proofs.Steps.{mark_adds}
-use Rattle.transcript_text.proofs.laws.marks_add_nothing.Goals as goal
-
-pub returns : goal.returns
-returns c = λ version task before e fit legal mark. mark_adds version task before fit.problem.objects.names.distinct legal e mark

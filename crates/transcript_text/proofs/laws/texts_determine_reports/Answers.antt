@@ -1,9 +1,0 @@
-use Rattle.std.proofs.Common.{◌∙◌, sym, ap}
-use Rattle.transcript_text.proofs.Fields.{read_lines, lines_read}
-use Rattle.transcript_text.proofs.Inked.{report_lines, report_text, report_clear}
-use Rattle.transcript_text.proofs.Reading.{lines_determine}
-use Rattle.transcript_text.proofs.laws.texts_determine_reports.Goals as goal
-
-pub returns : goal.returns
-returns c = λ first second formed also same.
-    lines_determine first second formed also (sym (lines_read (report_lines first) (report_clear first formed)) ∙ ap read_lines (sym (report_text first) ∙ same ∙ report_text second) ∙ lines_read (report_lines second) (report_clear second also))

@@ -1,6 +1,0 @@
-use Rattle.std.proofs.Common.{◌≡◌, ◌++◌, map, take}
-use Rattle.transcript_text.specs.Texts.{line, lines_text, call_fields}
-use Rattle.transcript_text.proofs.lines.push_calls.Given as goal
-
-abbrev pub invariant-loop-call : goal.invariant-loop-call
-invariant-loop-call l = l.text.items ≡ l.initial.text.items ++ lines_text (map (λ call. line l.word (call_fields call)) (take l.call-index l.calls))

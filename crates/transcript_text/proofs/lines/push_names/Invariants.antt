@@ -1,6 +1,0 @@
-use Rattle.std.proofs.Common.{◌≡◌, ◌++◌, take}
-use Rattle.transcript_text.specs.Texts.{fields_text}
-use Rattle.transcript_text.proofs.lines.push_names.Given as goal
-
-abbrev pub invariant-loop-name : goal.invariant-loop-name
-invariant-loop-name l = l.text.items ≡ l.initial.text.items ++ fields_text (take l.name-index l.names)
