@@ -13,7 +13,7 @@ use Rattle.task_model.specs.State.{Atoms}
 use Rattle.task_model.specs.Steps.{IsStep}
 use Rattle.task_model.specs.declared.task.GroundAction.{GroundAction}
 use Rattle.task_model.specs.declared.task.Task.{Task}
-use Rattle.best_first.specs.Explored.{IsLink, IsTree, Ends, IsExplored, IsGrown, IsMet, IsBeyond}
+use Rattle.best_first.specs.Explored.{IsLink, IsTree, ExploringEnds, IsExplored, IsGrown, IsMet, IsBeyond}
 use Rattle.best_first.specs.Outcome.{IsAll}
 use Rattle.best_first.specs.declared.tree.Link.{Link}
 use Rattle.lemmas.proofs.Pigeonhole.{one_at, get_append, get_pushed, all_by_place, pigeons}
@@ -42,13 +42,13 @@ module _ (task : Task) (known : Known) where
     each = λ n link e. absurd (none_at n link e);
   }
 
-  pub explored_start : (seeks : Bool) (limit : ℕ) → 1 ≤ limit → ¬ (Ends task known seeks (initial_state task)) → IsExplored task known seeks limit (initial_state task ∷ []) [] 0
+  pub explored_start : (seeks : Bool) (limit : ℕ) → 1 ≤ limit → ¬ (ExploringEnds task known seeks (initial_state task)) → IsExplored task known seeks limit (initial_state task ∷ []) [] 0
   explored_start seeks limit some open_end = record {
     level = 0;
     edge = 1;
     tree = start_tree;
     few = some;
-    none_ends = λ n s e. subst (λ t. ¬ (Ends task known seeks t)) (only_at (initial_state task) n s e).1 open_end;
+    none_ends = λ n s e. subst (λ t. ¬ (ExploringEnds task known seeks t)) (only_at (initial_state task) n s e).1 open_end;
     expanded = λ n s after step cost h. absurd (omega arith);
     done_within = omega arith;
     edge_within = omega arith;
@@ -57,7 +57,7 @@ module _ (task : Task) (known : Known) where
     outer = λ n s e. within_more task known 0 (0 + 1) s (omega arith) (subst (IsReachedWithin task known 0) (only_at (initial_state task) n s e).1 (initially task known));
   }
 
-  pub met_at_start : (seeks : Bool) (limit : ℕ) → Ends task known seeks (initial_state task) → IsMet task known seeks limit (initial_state task ∷ []) []
+  pub met_at_start : (seeks : Bool) (limit : ℕ) → ExploringEnds task known seeks (initial_state task) → IsMet task known seeks limit (initial_state task ∷ []) []
   met_at_start seeks limit ends = record {
     sought = ends.0;
     tree = start_tree;
@@ -167,7 +167,7 @@ module _ (task : Task) (known : Known) where
                 subst (IsReachedWithin task known (ahead.0.level + 1)) (sym k.1) (within_step task known ahead.0.level g.source g.after g.link.step g.link.cost source g.step)
           ]
 
-      grown : ¬ (Ends task known seeks g.after) → length (g.before ++ g.after ∷ []) ≤ limit → IsExplored task known seeks limit (g.before ++ g.after ∷ []) (g.earlier ++ g.link ∷ []) from
+      grown : ¬ (ExploringEnds task known seeks g.after) → length (g.before ++ g.after ∷ []) ≤ limit → IsExplored task known seeks limit (g.before ++ g.after ∷ []) (g.earlier ++ g.link ∷ []) from
       grown open_end few =
           let e = (was).0 in
           record {
@@ -175,7 +175,7 @@ module _ (task : Task) (known : Known) where
             edge = e.edge;
             tree = tree_now;
             few = few;
-            none_ends = λ n s at. elim (push_cases g.before g.after n s at) [ inl h ↦ e.none_ends n s h | inr k ↦ subst (λ t. ¬ (Ends task known seeks t)) (sym k.1) open_end ];
+            none_ends = λ n s at. elim (push_cases g.before g.after n s at) [ inl h ↦ e.none_ends n s h | inr k ↦ subst (λ t. ¬ (ExploringEnds task known seeks t)) (sym k.1) open_end ];
             expanded = λ n s after step cost h at is.
                 elim (push_cases g.before g.after n s at) [
                   | inl k ↦ Contains-append_left g.before (g.after ∷ []) after (e.expanded n s after step cost h k is)
@@ -202,12 +202,12 @@ module _ (task : Task) (known : Known) where
             | inr k ↦ omega (arith, k.0, many)
           ]
 
-      pub grown_explored : ¬ (Ends task known seeks g.after) → length states ≤ limit → IsExplored task known seeks limit states links from
+      pub grown_explored : ¬ (ExploringEnds task known seeks g.after) → length states ≤ limit → IsExplored task known seeks limit states links from
       grown_explored open_end few =
           let now = grown open_end (subst (λ ss. length ss ≤ limit) g.states_are few) in
           subst (λ ss. IsExplored task known seeks limit ss links from) (sym g.states_are) (subst (λ ls. IsExplored task known seeks limit (g.before ++ g.after ∷ []) ls from) (sym g.links_are) now)
 
-      pub grown_met : Ends task known seeks g.after → IsMet task known seeks limit states links
+      pub grown_met : ExploringEnds task known seeks g.after → IsMet task known seeks limit states links
       grown_met ends =
           let e = g.explored in
           let many : length (g.earlier ++ g.link ∷ []) ≡ length g.before = omega (arith, length-append g.earlier (g.link ∷ []), e.tree.linked) in

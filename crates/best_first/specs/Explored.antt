@@ -31,8 +31,8 @@ module _ (task : Task) (known : Known) where
     pub each : (n : ℕ) (link : Link) → slice_get links n ≡ Some link → IsLink states n link
 
   -- the state meets the goal, where that is sought
-  abbrev pub Ends : Bool → Atoms → Type 0
-  Ends seeks state = (seeks ≡ true) × IsGoal task known state
+  abbrev pub ExploringEnds : Bool → Atoms → Type 0
+  ExploringEnds seeks state = (seeks ≡ true) × IsGoal task known state
 
   -- The states before `done` were expanded. Those before `edge` are all that are reached within `level`
   -- steps, and the others are one step further.
@@ -41,7 +41,7 @@ module _ (task : Task) (known : Known) where
     pub edge : ℕ
     pub tree : IsTree states links
     pub few : length states ≤ limit
-    pub none_ends : (n : ℕ) (s : Atoms) → slice_get states n ≡ Some s → ¬ (Ends seeks s)
+    pub none_ends : (n : ℕ) (s : Atoms) → slice_get states n ≡ Some s → ¬ (ExploringEnds seeks s)
     pub expanded : (n : ℕ) (s after : Atoms) (step : GroundAction) (cost : ℕ) → n < done → slice_get states n ≡ Some s → IsStep task known s step after cost → Contains states after
     pub done_within : done ≤ edge
     pub edge_within : edge ≤ length states

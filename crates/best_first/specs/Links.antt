@@ -9,7 +9,7 @@ pub record AreLinks (links : List Link) : Type 0 where
   pub small : (n : ℕ) (link : Link) → slice_get links n ≡ Some link → link.cost ≤ 262144000000
 
 -- the steps go along links, from one state to another, and cost so much together
-abbrev pub Follows : List Link → ℕ → List GroundAction → ℕ → ℕ → Type 0
-Follows links from [] to total = (from ≡ to) × (total ≡ 0)
-Follows links from (step ∷ steps) to total =
-    (n : ℕ) × (link : Link) × (rest : ℕ) × (slice_get links n ≡ Some link) × (link.parent ≡ from) × (link.step ≡ step) × Follows links (n + 1) steps to rest × (total ≡ link.cost + rest)
+abbrev pub FollowsLink : List Link → ℕ → List GroundAction → ℕ → ℕ → Type 0
+FollowsLink links from [] to total = (from ≡ to) × (total ≡ 0)
+FollowsLink links from (step ∷ steps) to total =
+    (n : ℕ) × (link : Link) × (rest : ℕ) × (slice_get links n ≡ Some link) × (link.parent ≡ from) × (link.step ≡ step) × FollowsLink links (n + 1) steps to rest × (total ≡ link.cost + rest)

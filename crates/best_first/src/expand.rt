@@ -4,7 +4,7 @@ ghost use Rattle.grounder.specs.Applicable.{IsApplicable, AreApplicable};
 ghost use Rattle.task_model.specs.Fit.{IsFit};
 ghost use Rattle.task_model.specs.State.{Atoms};
 ghost use Rattle.task_model.specs.Steps.{IsStep};
-ghost use Rattle.best_first.specs.Explored.{Ends, IsExplored, IsGrown, Comes};
+ghost use Rattle.best_first.specs.Explored.{ExploringEnds, IsExplored, IsGrown, Comes};
 
 use crate::tree::{Link, Tree};
 use formula_eval::{Env, holds};
@@ -42,7 +42,7 @@ pub(crate) fn ends<L: Look>(
 ) -> Result<bool, AllocError>
     requires fit { IsFit scene.now.task.now }
     requires there { id < length store.now }
-    ensures { IfOk result (λ ends. (s : Atoms) → slice_get store.now id ≡ Some s → IsTrue ends ↔ Ends scene.now.task.now (L.known scene.now.look.now) scene.now.seeks_goal s) }
+    ensures { IfOk result (λ ends. (s : Atoms) → slice_get store.now id ≡ Some s → IsTrue ends ↔ ExploringEnds scene.now.task.now (L.known scene.now.look.now) scene.now.seeks_goal s) }
 {
     if !scene.seeks_goal {
         return Ok(false);

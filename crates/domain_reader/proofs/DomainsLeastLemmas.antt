@@ -2,21 +2,21 @@
 use Rattle.std.proofs.Common.{◌≡◌, List, [], ◌++◌, refl, sym, subst, ap, ◌∙◌, Option, Some, None}
 use Rattle.sexpr_text.specs.Trees.{Trees}
 use Rattle.form_reader.specs.declared.fault.Fault.{Fault}
-use Rattle.form_reader.specs.Faults.{Answers, first, least}
+use Rattle.form_reader.specs.Faults.{Answers, first, least_fault}
 use Rattle.form_reader.proofs.FaultsFirstLemmas.{first_append}
 use Rattle.form_reader.proofs.FaultsLeastLemmas.{least_answers}
 use Rattle.name_tables.specs.declared.vocabulary.Vocabulary.{Vocabulary}
 use Rattle.form_reader.specs.declared.items.TextKind.TheVariants.{Domain as Domain'}
 use Rattle.form_reader.specs.Texts.{form_faults}
 use Rattle.task_model.specs.declared.domain.Domain.{Domain}
-use Rattle.domain_reader.specs.Domains.{AnswersDerived, AnswersNames, AnswersTypes, AreNameFaults, IsAnswered, IsDomainBy, IsRead, names_of, of_names, plain_names}
+use Rattle.domain_reader.specs.Domains.{AnswersDerived, AnswersNames, AnswersTypes, AreNameFaults, IsDomainAnswered, IsDomainBy, IsDomainRead, domain_names, of_names, plain_names}
 use Rattle.domain_reader.specs.Tables.{body_of, vocabulary_of}
 
 -- no fault is answered only where there is none
-pub none_is_none : (fs : List Fault) → least fs ≡ None → fs ≡ []
+pub none_is_none : (fs : List Fault) → least_fault fs ≡ None → fs ≡ []
 none_is_none fs e = subst (Answers fs) e (least_answers fs)
 
-pub all_names : (v : Vocabulary) (body : Trees) (plain types answered : Option Fault) → plain ≡ least (plain_names v body) → AnswersTypes v body plain types → AnswersDerived v body types answered → AnswersNames v body answered
+pub all_names : (v : Vocabulary) (body : Trees) (plain types answered : Option Fault) → plain ≡ least_fault (plain_names v body) → AnswersTypes v body plain types → AnswersDerived v body types answered → AnswersNames v body answered
 all_names v body plain types answered e t d =
     record {
       faults = plain_names v body ++ t.faults ++ d.faults;
@@ -25,18 +25,18 @@ all_names v body plain types answered e t d =
     }
 
 -- over the text's own names and items
-pub of_text : (t b : Trees) (v : Vocabulary) (o : Option Fault) → b ≡ body_of t → v ≡ vocabulary_of b → AnswersNames v b o → AnswersNames (names_of t) (body_of t) o
-of_text t b v o e f a = subst (λ c. AnswersNames (names_of t) c o) e (subst (λ w. AnswersNames w b o) (f ∙ ap vocabulary_of e) a)
+pub of_text : (t b : Trees) (v : Vocabulary) (o : Option Fault) → b ≡ body_of t → v ≡ vocabulary_of b → AnswersNames v b o → AnswersNames (domain_names t) (body_of t) o
+of_text t b v o e f a = subst (λ c. AnswersNames (domain_names t) c o) e (subst (λ w. AnswersNames w b o) (f ∙ ap vocabulary_of e) a)
 
-pub domain_by : (t b : Trees) (v : Vocabulary) (d : Domain) → b ≡ body_of t → v ≡ vocabulary_of b → IsDomainBy v t d → IsDomainBy (names_of t) t d
+pub domain_by : (t b : Trees) (v : Vocabulary) (d : Domain) → b ≡ body_of t → v ≡ vocabulary_of b → IsDomainBy v t d → IsDomainBy (domain_names t) t d
 domain_by t b v d e f i = subst (λ w. IsDomainBy w t d) (f ∙ ap vocabulary_of e) i
 
-pub read_whole : (t : Trees) (d : Domain) → least (form_faults Domain' t) ≡ None → AnswersNames (names_of t) (body_of t) None → IsDomainBy (names_of t) t d → IsRead t d
+pub read_whole : (t : Trees) (d : Domain) → least_fault (form_faults Domain' t) ≡ None → AnswersNames (domain_names t) (body_of t) None → IsDomainBy (domain_names t) t d → IsDomainRead t d
 read_whole t d e a i = record {
   formed = none_is_none (form_faults Domain' t) e;
-  named = subst (AreNameFaults (names_of t) (body_of t)) (none_is_none a.faults (sym a.least)) a.right;
+  named = subst (AreNameFaults (domain_names t) (body_of t)) (none_is_none a.faults (sym a.least)) a.right;
   domain = i;
 }
 
-pub blamed : (t : Trees) (f : Fault) → least (form_faults Domain' t) ≡ None → AnswersNames (names_of t) (body_of t) (Some f) → IsAnswered t f
+pub blamed : (t : Trees) (f : Fault) → least_fault (form_faults Domain' t) ≡ None → AnswersNames (domain_names t) (body_of t) (Some f) → IsDomainAnswered t f
 blamed t f e a = of_names (none_is_none (form_faults Domain' t) e) a.right (sym a.least)

@@ -22,7 +22,7 @@ use Rattle.domain_reader.proofs.FitRoles.{few_derived, not_derived}
 use Rattle.domain_reader.proofs.FitRules.{rules_fit, rules_long}
 use Rattle.domain_reader.proofs.FitSorts.{types_fit}
 use Rattle.domain_reader.specs.Cycles.{CycleFaults, derived_edges, derived_in, listed_in, type_edges}
-use Rattle.domain_reader.specs.Domains.{AreNameFaults, IsRead, Reads, actions_of, names_of, plain_names, rules_of}
+use Rattle.domain_reader.specs.Domains.{AreNameFaults, IsDomainRead, DomainReads, actions_of, domain_names, plain_names, rules_of}
 use Rattle.domain_reader.specs.Names.{items_names, second_actions, second_items, second_signatures, too_many_derived}
 use Rattle.domain_reader.specs.Tables.{body_of, heads_in}
 use Rattle.domain_reader.specs.declared.once.Declared.TheVariants.{Predicates, Functions}
@@ -57,9 +57,9 @@ all_named v body n =
       derived = subst (CycleFaults DerivedCycle (derived_edges v.predicates.names body) (derived_in v.predicates.names body)) (none_second (plain_names v body ++ n.types) n.derived whole) n.derived_right;
     }
 
-pub fit_domain : (t : Trees) (d : Domain) → (t ≡ nothing → ⊥) → IsRead t d → IsBounded t → IsFitDomain d
+pub fit_domain : (t : Trees) (d : Domain) → (t ≡ nothing → ⊥) → IsDomainRead t d → IsBounded t → IsFitDomain d
 fit_domain t d there read bounded =
-    let v = names_of t in
+    let v = domain_names t in
     let body = body_of t in
     let heads = heads_in [] body in
     let formed = text_formed t there read.formed in
@@ -89,6 +89,6 @@ fit_domain t d there read bounded =
     }
 
 -- where it was read
-pub fit_if_read : (t : Tree) (result : Result Domain InputFault) → Reads (tree t) result → IfOk result (λ d. IsBounded (tree t) → IsFitDomain d)
+pub fit_if_read : (t : Tree) (result : Result Domain InputFault) → DomainReads (tree t) result → IfOk result (λ d. IsBounded (tree t) → IsFitDomain d)
 fit_if_read t (Ok d) read = λ bounded. fit_domain (tree t) d (tree_there t) read bounded
 fit_if_read t (Err fault) read = tt

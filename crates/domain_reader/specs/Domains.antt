@@ -18,7 +18,7 @@ use Rattle.form_reader.specs.declared.groups.Spot.TheVariants.{Start}
 use Rattle.form_reader.specs.declared.items.Item.{Item}
 use Rattle.form_reader.specs.declared.items.Item.TheVariants as item
 use Rattle.form_reader.specs.declared.items.TextKind.TheVariants as text
-use Rattle.form_reader.specs.Faults.{least}
+use Rattle.form_reader.specs.Faults.{least_fault}
 use Rattle.form_reader.specs.Items.{item_of}
 use Rattle.form_reader.specs.Rows.{head_of, inner_of, tail_of}
 use Rattle.form_reader.specs.Texts.{form_faults}
@@ -60,7 +60,7 @@ pub record AreNameFaults (v : Vocabulary) (body : Trees) (faults : List Fault) :
 pub record AnswersNames (v : Vocabulary) (body : Trees) (answered : Option Fault) : Type 0 where
   pub faults : List Fault
   pub right : AreNameFaults v body faults
-  pub least : answered ≡ least faults
+  pub least : answered ≡ least_fault faults
 
 -- ---- the domain
 
@@ -158,27 +158,27 @@ pub record IsDomainBy (v : Vocabulary) (t : Trees) (d : Domain) : Type 0 where
 -- ---- reading
 
 -- the names of a text that is this row of one tree
-abbrev pub names_of : Trees → Vocabulary
-names_of t = vocabulary_of (body_of t)
+abbrev pub domain_names : Trees → Vocabulary
+domain_names t = vocabulary_of (body_of t)
 
 -- the domain that the names give, or the name fault that is answered
 abbrev pub ReadsNamed : Trees → Result Domain Fault → Type 0
-ReadsNamed t (Ok d) = AnswersNames (names_of t) (body_of t) None × IsDomainBy (names_of t) t d
-ReadsNamed t (Err f) = AnswersNames (names_of t) (body_of t) (Some f)
+ReadsNamed t (Ok d) = AnswersNames (domain_names t) (body_of t) None × IsDomainBy (domain_names t) t d
+ReadsNamed t (Err f) = AnswersNames (domain_names t) (body_of t) (Some f)
 
 -- The fault is answered: of form faults the least, and where there is none, of name faults the least.
-pub data IsAnswered (t : Trees) (f : Fault) : Type 0 where
-  of_form : least (form_faults text.Domain t) ≡ Some f → IsAnswered t f
-  of_names : {faults : List Fault} → form_faults text.Domain t ≡ [] → AreNameFaults (names_of t) (body_of t) faults → least faults ≡ Some f → IsAnswered t f
+pub data IsDomainAnswered (t : Trees) (f : Fault) : Type 0 where
+  of_form : least_fault (form_faults text.Domain t) ≡ Some f → IsDomainAnswered t f
+  of_names : {faults : List Fault} → form_faults text.Domain t ≡ [] → AreNameFaults (domain_names t) (body_of t) faults → least_fault faults ≡ Some f → IsDomainAnswered t f
 
 -- there is no fault, and this is the domain
-pub record IsRead (t : Trees) (d : Domain) : Type 0 where
+pub record IsDomainRead (t : Trees) (d : Domain) : Type 0 where
   pub formed : form_faults text.Domain t ≡ []
-  pub named : AreNameFaults (names_of t) (body_of t) []
-  pub domain : IsDomainBy (names_of t) t d
+  pub named : AreNameFaults (domain_names t) (body_of t) []
+  pub domain : IsDomainBy (domain_names t) t d
 
 -- A domain is read where there is no fault, and a fault is the answered one. Memory is free.
-abbrev pub Reads : Trees → Result Domain InputFault → Type 0
-Reads t (Ok d) = IsRead t d
-Reads t (Err (input.At place kind)) = IsAnswered t (record { place = place; kind = kind })
-Reads t (Err input.Memory) = Unit {0}
+abbrev pub DomainReads : Trees → Result Domain InputFault → Type 0
+DomainReads t (Ok d) = IsDomainRead t d
+DomainReads t (Err (input.At place kind)) = IsDomainAnswered t (record { place = place; kind = kind })
+DomainReads t (Err input.Memory) = Unit {0}

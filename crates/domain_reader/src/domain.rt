@@ -4,7 +4,7 @@
 ghost use Rattle.std.specs.Prelude.{◌≡◌, [], IfOk, OnOk};
 ghost use Rattle.sexpr_text.specs.Trees.{tree, trees};
 ghost use Rattle.task_model.specs.Roles as roles;
-ghost use Rattle.form_reader.specs.Faults.{least};
+ghost use Rattle.form_reader.specs.Faults.{least_fault};
 ghost use Rattle.form_reader.specs.declared.groups.Spot.TheVariants.{Start};
 ghost use Rattle.name_tables.specs.Variables.{named_words};
 ghost use Rattle.domain_reader.specs.Effects.{after_effect};
@@ -312,7 +312,7 @@ pub(crate) fn check_plain(
     names: &Vocabulary,
     body: &[Tree],
 ) -> Result<Option<Fault>, AllocError>
-    ensures { IfOk result (λ f. f ≡ least (specs.plain_names names.now (trees body.now))) }
+    ensures { IfOk result (λ f. f ≡ least_fault (specs.plain_names names.now (trees body.now))) }
 {
     let mut heads = NameTable::new(alloc);
     add_heads(&mut heads, body)?;

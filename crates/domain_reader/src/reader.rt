@@ -44,7 +44,7 @@ fn read_named(alloc: Global, text: &Tree) -> Result<Result<Domain, Fault>, Alloc
 
 /// The domain, or the fault that is answered.
 fn read(alloc: Global, text: &Tree) -> Result<Domain, InputFault>
-    ensures { specs.Reads (tree text.now) result }
+    ensures { specs.DomainReads (tree text.now) result }
 {
     if let Some(Fault { place, kind }) = check_form(TextKind::Domain, text) {
         return Err(InputFault::At { place, kind });
@@ -67,7 +67,7 @@ fn read(alloc: Global, text: &Tree) -> Result<Domain, InputFault>
 ///   number.
 /// - `Memory`: memory ran out, which says nothing of the text.
 pub fn read_domain(alloc: Global, text: &Tree) -> Result<Domain, InputFault>
-    ensures reads { specs.Reads (tree text.now) result }
+    ensures reads { specs.DomainReads (tree text.now) result }
     // Of a tree as texts of at most 4 MiB give it, the domain is fit.
     ensures fit { IfOk result (λ d. IsBounded (tree text.now) → IsFitDomain d) }
 {

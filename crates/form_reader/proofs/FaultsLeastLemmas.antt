@@ -2,7 +2,7 @@
 use Rattle.std.proofs.Common.{◌≡◌, ℕ, refl, sym, ◌∙◌, ap, subst, cond, Bool, true, false, List, [], ◌∷◌, Option, Some, None, arith, rules}
 use Rattle.std.proofs.lemmas.Bool.Decides.{nat_tests}
 use Rattle.form_reader.specs.declared.fault.Fault.{Fault}
-use Rattle.form_reader.specs.Faults.{Answers, IsAmong, here, behind, IsLeast, comes_first, first, least, rank_of, sooner}
+use Rattle.form_reader.specs.Faults.{Answers, IsAmong, here, behind, IsLeast, comes_first, first, least_fault, rank_of, sooner}
 
 reflexive : (f : Fault) → comes_first f f ≡ true
 reflexive f = grind (arith, nat_tests)
@@ -64,6 +64,6 @@ answered : (f : Fault) (fs : List Fault) (o : Option Fault) → Led f fs o → A
 answered f fs None l = absurd l
 answered f fs (Some g) l = record { among = l.among; first = l.first }
 
-pub least_answers : (fs : List Fault) → Answers fs (least fs)
+pub least_answers : (fs : List Fault) → Answers fs (least_fault fs)
 least_answers [] = refl
 least_answers (f ∷ fs) = answered f fs (first (Some f) fs) (led f fs)

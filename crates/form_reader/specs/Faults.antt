@@ -5,18 +5,18 @@ use Rattle.form_reader.specs.declared.fault.InputKind.{InputKind}
 use Rattle.form_reader.specs.declared.fault.InputKind.TheVariants as kinds
 
 -- The kinds in their order.
-abbrev pub number_of : InputKind → ℕ
-number_of kinds.Shape = 1
-number_of kinds.Unsupported = 2
-number_of kinds.Unknown = 3
-number_of kinds.Arity = 4
-number_of kinds.Duplicate = 5
-number_of kinds.TypeCycle = 6
-number_of kinds.DerivedCycle = 7
-number_of kinds.EffectOnStatic = 8
-number_of kinds.Number = 9
-number_of kinds.TooMany = 10
-number_of kinds.StreamCycle = 11
+abbrev pub kind_number : InputKind → ℕ
+kind_number kinds.Shape = 1
+kind_number kinds.Unsupported = 2
+kind_number kinds.Unknown = 3
+kind_number kinds.Arity = 4
+kind_number kinds.Duplicate = 5
+kind_number kinds.TypeCycle = 6
+kind_number kinds.DerivedCycle = 7
+kind_number kinds.EffectOnStatic = 8
+kind_number kinds.Number = 9
+kind_number kinds.TooMany = 10
+kind_number kinds.StreamCycle = 11
 
 -- The order at one place: the smaller number first, but `Shape` only where nothing else is wrong there.
 abbrev pub rank_of : InputKind → ℕ
@@ -47,8 +47,8 @@ first so_far [] = so_far
 first so_far (f ∷ fs) = first (sooner so_far f) fs
 
 -- the fault of these that is answered, if there is one
-abbrev pub least : List Fault → Option Fault
-least fs = first None fs
+abbrev pub least_fault : List Fault → Option Fault
+least_fault fs = first None fs
 
 abbrev pub shape : ℕ → Fault
 shape place = record { place = place; kind = kinds.Shape }
@@ -76,4 +76,4 @@ Answers fs (Some f) = IsLeast f fs
 Answers fs None = fs ≡ []
 
 abbrev pub LeastIsAnswered : Type 0
-LeastIsAnswered = (fs : List Fault) → Answers fs (least fs)
+LeastIsAnswered = (fs : List Fault) → Answers fs (least_fault fs)

@@ -35,7 +35,7 @@ pub enum InputKind {
 impl InputKind {
     /// The kind's number, from 1.
     pub fn number(self) -> u8
-        ensures { result ≡ specs.number_of self }
+        ensures { result ≡ specs.kind_number self }
     {
         self as u8
     }

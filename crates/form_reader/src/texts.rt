@@ -3,7 +3,7 @@
 
 ghost use Rattle.std.specs.Prelude.{◌≡◌, codes};
 ghost use Rattle.sexpr_text.specs.Trees.{tree, trees};
-ghost use Rattle.form_reader.specs.Faults.{first, least};
+ghost use Rattle.form_reader.specs.Faults.{first, least_fault};
 ghost use Rattle.form_reader.specs.Texts as specs;
 
 use crate::fault::{Fault, sooner};
@@ -22,7 +22,7 @@ use sexpr_text::{Front, Tree, alone, front_of};
 /// - `Unsupported`: a form of PDDL or PDDLStream that this project leaves out, mostly at its list's place.
 /// - `Number`: a word in the place of a number that isn't one of at most 1,000,000, at its place.
 pub fn check_form(text: TextKind, text_tree: &Tree) -> Option<Fault>
-    ensures { result ≡ least (specs.form_faults text (tree text_tree.now)) }
+    ensures { result ≡ least_fault (specs.form_faults text (tree text_tree.now)) }
 {
     match alone(text_tree) {
         Front::End => None,

@@ -6,12 +6,12 @@ use Rattle.std.proofs.lemmas.List.{append-nil, map-append}
 use Rattle.std.proofs.lemmas.List.Elements.{All-append}
 use Rattle.std.proofs.lemmas.List.Folds.{list_any-append}
 use Rattle.std.proofs.lemmas.Grind.{flat_map-append}
-use Rattle.io_world.specs.Replies.{IsLine, lines_text, Reply, HearsByte, Replies}
+use Rattle.io_world.specs.Replies.{IsLine, lines_text, ReplyState, HearsByte, Replies}
 
 -- nothing was asked yet
-pub none_asked : (answers : List ℕ → List ℕ) (old new : Reply) → new ≡ old → IsLine new.request → Replies answers [] old new
+pub none_asked : (answers : List ℕ → List ℕ) (old new : ReplyState) → new ≡ old → IsLine new.request → Replies answers [] old new
 none_asked answers old new same line =
-    let P : Reply → Type 0 = λ start. Replies answers [] start new in
+    let P : ReplyState → Type 0 = λ start. Replies answers [] start new in
     subst P same (record {
       requests = [];
       split = append-nil new.request;
@@ -29,7 +29,7 @@ single line here zero d below = here
 single line here (suc k) d below = absurd (omega arith)
 
 -- a request that became whole
-ended : (answers : List ℕ → List ℕ) (bytes : List ℕ) (old now : Reply) → Replies answers bytes old now → Replies answers (bytes ++ 10 ∷ []) old (record { request = []; pending = now.pending ++ (answers now.request ++ 10 ∷ []) })
+ended : (answers : List ℕ → List ℕ) (bytes : List ℕ) (old now : ReplyState) → Replies answers bytes old now → Replies answers (bytes ++ 10 ∷ []) old (record { request = []; pending = now.pending ++ (answers now.request ++ 10 ∷ []) })
 ended answers bytes old now so_far = record {
   requests = so_far.requests ++ now.request ∷ [];
   split = sym (append_assoc old.request bytes (10 ∷ [])) ∙ ap (λ front. front ++ 10 ∷ []) so_far.split ∙ append_assoc (lines_text so_far.requests) now.request (10 ∷ []) ∙ sym (lines_text-more so_far.requests now.request) ∙ sym (append-nil (lines_text (so_far.requests ++ now.request ∷ [])));
@@ -39,7 +39,7 @@ ended answers bytes old now so_far = record {
 }
 
 -- a byte of a request
-continued : (answers : List ℕ → List ℕ) (bytes : List ℕ) (byte : ℕ) (old now : Reply) → (byte == 10) ≡ false → Replies answers bytes old now → Replies answers (bytes ++ byte ∷ []) old (record { request = now.request ++ byte ∷ []; pending = now.pending })
+continued : (answers : List ℕ → List ℕ) (bytes : List ℕ) (byte : ℕ) (old now : ReplyState) → (byte == 10) ≡ false → Replies answers bytes old now → Replies answers (bytes ++ byte ∷ []) old (record { request = now.request ++ byte ∷ []; pending = now.pending })
 continued answers bytes byte old now other so_far = record {
   requests = so_far.requests;
   split = sym (append_assoc old.request bytes (byte ∷ [])) ∙ ap (λ front. front ++ byte ∷ []) so_far.split ∙ append_assoc (lines_text so_far.requests) now.request (byte ∷ []);
@@ -48,14 +48,14 @@ continued answers bytes byte old now other so_far = record {
   answered = so_far.answered;
 }
 
-by_case : (b : Bool) (answers : List ℕ → List ℕ) (bytes : List ℕ) (byte : ℕ) (old now new : Reply) → (byte == 10) ≡ b → Replies answers bytes old now → new ≡ (if b then record { request = []; pending = now.pending ++ (answers now.request ++ 10 ∷ []) } else record { request = now.request ++ byte ∷ []; pending = now.pending }) → Replies answers (bytes ++ byte ∷ []) old new
+by_case : (b : Bool) (answers : List ℕ → List ℕ) (bytes : List ℕ) (byte : ℕ) (old now new : ReplyState) → (byte == 10) ≡ b → Replies answers bytes old now → new ≡ (if b then record { request = []; pending = now.pending ++ (answers now.request ++ 10 ∷ []) } else record { request = now.request ++ byte ∷ []; pending = now.pending }) → Replies answers (bytes ++ byte ∷ []) old new
 by_case true answers bytes byte old now new test so_far same =
-    let P : Reply → Type 0 = λ reply. Replies answers (bytes ++ byte ∷ []) old reply in
+    let P : ReplyState → Type 0 = λ reply. Replies answers (bytes ++ byte ∷ []) old reply in
     subst P (sym same) (rw (eqb-true byte 10 test) (ended answers bytes old now so_far))
 by_case false answers bytes byte old now new test so_far same =
-    let P : Reply → Type 0 = λ reply. Replies answers (bytes ++ byte ∷ []) old reply in
+    let P : ReplyState → Type 0 = λ reply. Replies answers (bytes ++ byte ∷ []) old reply in
     subst P (sym same) (continued answers bytes byte old now test so_far)
 
 -- one byte more was heard
-pub heard_byte : (answers : List ℕ → List ℕ) (bytes : List ℕ) (byte : ℕ) (old now new : Reply) → Replies answers bytes old now → HearsByte answers byte now new → Replies answers (bytes ++ byte ∷ []) old new
+pub heard_byte : (answers : List ℕ → List ℕ) (bytes : List ℕ) (byte : ℕ) (old now new : ReplyState) → Replies answers bytes old now → HearsByte answers byte now new → Replies answers (bytes ++ byte ∷ []) old new
 heard_byte answers bytes byte old now new so_far here = by_case (byte == 10) answers bytes byte old now new refl so_far here

@@ -13,14 +13,14 @@ pub record MemFilesState : Type 0 where
   pub asked : Option (List Asked)
 
 -- when each fault comes, want of memory apart
-abbrev pub Blames : Bool → Option (List ℕ) → ℕ → FileFault → Type 0
-Blames fails file most Failed = fails ≡ true
-Blames fails file most TooLong = (fails ≡ false) × HasMore file most
-Blames fails file most Memory = ⊤
+abbrev pub BlamesRead : Bool → Option (List ℕ) → ℕ → FileFault → Type 0
+BlamesRead fails file most Failed = fails ≡ true
+BlamesRead fails file most TooLong = (fails ≡ false) × HasMore file most
+BlamesRead fails file most Memory = ⊤
 
 -- a read that fails exactly where it should, and else gives the file, if it isn't too long
 abbrev pub AnswersFile : Bool → Option (List ℕ) → ℕ → Result (Vec ℕ Global) FileFault → Type 0
-AnswersFile fails file most result = MatchResult result (λ v. (fails ≡ false) × (file ≡ Some v.items) × (length v.items ≤ most)) (Blames fails file most)
+AnswersFile fails file most result = MatchResult result (λ v. (fails ≡ false) × (file ≡ Some v.items) × (length v.items ≤ most)) (BlamesRead fails file most)
 
 -- all of these bytes, or `TooLong` where they are more than `most`
 abbrev pub Copies : List ℕ → ℕ → Result (Vec ℕ Global) FileFault → Type 0

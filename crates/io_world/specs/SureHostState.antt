@@ -1,11 +1,11 @@
 -- What a host that answers by a function is seen as.
 use Rattle.std.specs.Prelude.{ℕ, Bool, false, List, slice_get, unwrap_or}
 use Rattle.io_world.specs.Logs.{Calls}
-use Rattle.io_world.specs.Replies.{Reply, no_reply}
+use Rattle.io_world.specs.Replies.{ReplyState, no_reply}
 
 pub record SureChild : Type 0 where
   pub running : Bool
-  pub reply : Reply
+  pub reply : ReplyState
 
 pub record SureHostState (A : Type 0) : Type 0 where
   pub answers : A

@@ -1,6 +1,6 @@
 // What a child that answers by a function holds.
 ghost use Rattle.std.specs.Prelude.{◌≡◌, ◌≤◌, ◌<◌, ◌-◌, length, drop, vec_capacity, IfOk, OnOk};
-ghost use Rattle.io_world.specs.Replies.{IsLine, Reply, no_reply, next_bytes, HearsByte, Replies};
+ghost use Rattle.io_world.specs.Replies.{IsLine, ReplyState, no_reply, next_bytes, HearsByte, Replies};
 
 use crate::answer_by::AnswerBy;
 use std::alloc::{AllocError, Global};
@@ -17,7 +17,7 @@ pub struct ReplyBuffer {
 }
 
 impl Model for ReplyBuffer {
-    ghost Value = { Reply };
+    ghost Value = { ReplyState };
 
     ghost view = { λ s. record { request = s.request.items; pending = drop s.given s.said.items } };
 

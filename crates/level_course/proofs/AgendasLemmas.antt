@@ -11,7 +11,7 @@ use Rattle.transcript_model.specs.Rounds as rounds
 use Rattle.transcript_model.specs.Rounds.{IsFull, fits, serves}
 use Rattle.level_course.proofs.PoolsLemmas.{one_fits}
 use Rattle.level_course.specs.Pools.{AllWork, IsLongestFront, share_of, shares_of}
-use Rattle.level_course.specs.Agendas.{Agenda, IsSound, Starts, shown, with_asked}
+use Rattle.level_course.specs.Agendas.{Agenda, IsSoundAgenda, Starts, shown, with_asked}
 use Rattle.level_course.specs.declared.course.Course.TheInside.{Inside}
 use Rattle.level_course.specs.declared.shares.Share.{Share}
 
@@ -94,14 +94,14 @@ pub asked_on : (s : Inside) → shown (asked_more s) ≡ with_asked (shown s)
 asked_on s = λ i. record { to_ask = behind_next s.asked (take s.round s.dues.items) i; next = s.before + s.answered + 1; answers = s.round - s.answered; later = instances_of (drop s.round s.dues.items); is_cut = s.is_cut }
 
 -- all requests are made where none is left
-pub none_to_ask : (s : Inside) (a : Agenda) → IsSound s → shown s ≡ a → a.to_ask ≡ [] → s.asked ≡ s.round
+pub none_to_ask : (s : Inside) (a : Agenda) → IsSoundAgenda s → shown s ≡ a → a.to_ask ≡ [] → s.asked ≡ s.round
 none_to_ask s a sound is none = all_asked s.asked s.round s.dues.items sound.asked sound.round (ap (λ (x : Agenda). x.to_ask) is ∙ none)
 
 pub some_to_answer : (s : Inside) (a : Agenda) → shown s ≡ a → 0 < a.answers → s.answered < s.round
 some_to_answer s a is some = let e = ap (λ (x : Agenda). x.answers) is in omega (arith, e, some)
 
 -- where the last round ends, the next begins
-pub next_round : (pools : List rounds.Share) (s : Inside) (count : ℕ) → IsSound s → s.answered + 1 ≡ s.round → s.asked ≡ s.round → IsLongestFront pools (instances_of (drop s.round s.dues.items)) count → Starts pools (instances_of (drop s.round s.dues.items)) (s.before + s.answered + 1 + 1) s.is_cut (shown (record { dues = s.dues; asked = s.asked; answered = s.answered + 1; round = s.round + count; before = s.before; is_cut = s.is_cut }))
+pub next_round : (pools : List rounds.Share) (s : Inside) (count : ℕ) → IsSoundAgenda s → s.answered + 1 ≡ s.round → s.asked ≡ s.round → IsLongestFront pools (instances_of (drop s.round s.dues.items)) count → Starts pools (instances_of (drop s.round s.dues.items)) (s.before + s.answered + 1 + 1) s.is_cut (shown (record { dues = s.dues; asked = s.asked; answered = s.answered + 1; round = s.round + count; before = s.before; is_cut = s.is_cut }))
 next_round pools s count sound last asked front =
     let dues = s.dues.items in
     let list = instances_of (drop s.round dues) in

@@ -13,7 +13,7 @@ use Rattle.transcript_model.specs.Turns.{is_cut}
 use Rattle.transcript_model.specs.declared.entry.Entry.{Entry}
 use Rattle.level_course.proofs.AscendingLemmas.{same_list}
 use Rattle.level_course.proofs.PoolsLemmas.{one_front}
-use Rattle.level_course.specs.Courses.{Course, Opens, IsBehind, IsStep, Leads, with_asks}
+use Rattle.level_course.specs.Courses.{Course, Opens, IsBehind, IsCourseStep, Leads, with_asks}
 
 -- ---- what is due
 
@@ -45,7 +45,7 @@ module _ (limits : Limits) (task : Task) (before : List Entry) (c : Course) (e :
   behind_once (suc n) zero same first second = absurd (none_more n (sym same))
   behind_once (suc n) (suc m) same first second = first ∙ (λ k. record { asks = []; next = c.next + 1; answers = same k; later = c.later; is_cut = c.is_cut }) ∙ sym second
 
-  step_once : IsStep limits task before c e d → IsStep limits task before c e f → d ≡ f
+  step_once : IsCourseStep limits task before c e d → IsCourseStep limits task before c e f → d ≡ f
   step_once (inl a) (inl b) =
       let lists = due_once task (known_of task before) (notes_of task before) a.may.list b.may.list a.may.due b.may.due in
       opens_once limits task (before ++ e ∷ []) (take (calls_left limits before) a.may.list) (take (calls_left limits before) b.may.list) (is_cut limits before a.may.list) (is_cut limits before b.may.list) d f

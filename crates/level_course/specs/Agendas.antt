@@ -56,7 +56,7 @@ shown c =
       is_cut = c.is_cut;
     }
 
-pub record IsSound (c : Inside) : Type 0 where
+pub record IsSoundAgenda (c : Inside) : Type 0 where
   pub asked : c.asked ≤ c.round
   pub answered : c.answered ≤ c.round
   pub round : c.round ≤ length c.dues.items

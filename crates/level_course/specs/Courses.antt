@@ -66,10 +66,10 @@ pub record GivesAnswer (limits : Limits) (task : Task) (before : List Entry) (c 
   pub behind : IsBehind limits task (before ++ e ∷ []) c left after
 
 -- the entry may come next, and leads there
-abbrev pub IsStep : Limits → Task → List Entry → Course → Entry → Course → Type 0
-IsStep limits task before c e after = BeginsLevel limits task before c e after ⊎ (MakesRequest c e after ⊎ GivesAnswer limits task before c e after)
+abbrev pub IsCourseStep : Limits → Task → List Entry → Course → Entry → Course → Type 0
+IsCourseStep limits task before c e after = BeginsLevel limits task before c e after ⊎ (MakesRequest c e after ⊎ GivesAnswer limits task before c e after)
 
 -- the entries may come one after another, and lead there
 abbrev pub Leads : Limits → Task → Course → List Entry → List Entry → Course → Type 0
 Leads limits task c before [] after = c ≡ after
-Leads limits task c before (e ∷ es) after = (middle : Course) × IsStep limits task before c e middle × Leads limits task middle (before ++ e ∷ []) es after
+Leads limits task c before (e ∷ es) after = (middle : Course) × IsCourseStep limits task before c e middle × Leads limits task middle (before ++ e ∷ []) es after

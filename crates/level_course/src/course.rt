@@ -22,11 +22,11 @@ impl Model for Course {
 
     ghost Value = { Agenda };
 
-    ghost use Rattle.level_course.specs.Agendas.{IsSound, shown};
+    ghost use Rattle.level_course.specs.Agendas.{IsSoundAgenda, shown};
 
     ghost view = { shown };
 
-    ghost invariant = { IsSound };
+    ghost invariant = { IsSoundAgenda };
 }
 
 impl Course {

@@ -21,7 +21,7 @@ use Rattle.session_core.proofs.StateLemmas.{bad_is}
 use Rattle.session_core.proofs.SlotsLemmas.{children_of, children_kept, child_kept, map_at, map_map, own_slot, at_own, at_other, same_some}
 use Rattle.session_core.specs.Heard.{is_bad_at, number_at}
 use Rattle.session_core.specs.Pools.{HasChild}
-use Rattle.session_core.specs.Session.{IsSession, MayBegin, begun}
+use Rattle.session_core.specs.Session.{IsSession, MayBeginRound, begun}
 use Rattle.session_core.specs.Slots.{Slot, IsUnsent, IsAwaited, sent_slot, heard_slot, at_child, is_slot_of, slot_of, reply_to, fault_of, entry_of, answers_of, all_answered, asks_from, slot_for, slots_from}
 use Rattle.session_core.specs.declared.pools.Workers.{Workers}
 use Rattle.session_core.specs.State.{State, with_slots, after_sent, after_line}
@@ -29,7 +29,7 @@ use Rattle.level_run.proofs.RollingPrintLemmas.{round_legal, answers_legal, one_
 use Rattle.level_run.proofs.StoppedLemmas.{goes_then}
 use Rattle.io_world.specs.Talks.{Talk}
 use Rattle.level_run.specs.Rolling.{Goes, IsFront, IsRolling, IsSameRound, finished}
-use Rattle.level_run.specs.Talking.{Takes}
+use Rattle.level_run.specs.Talking.{TakesAnswer}
 use Rattle.level_run.specs.Turns.{AllRun}
 
 -- ---- options
@@ -249,7 +249,7 @@ pub record HeardMore (s : State) (running : ℕ → Bool) (place : ℕ) (new : S
   pub part : (task : Task) → IsSession task new → IsFront s.entries (IsRound task s.entries s.instances) ((s.entries ++ s.asks ++ take place (finished s.slots)) ++ entry ∷ [])
   pub more : s.entries ++ s.asks ++ take (place + 1) (finished new.slots) ≡ (s.entries ++ s.asks ++ take place (finished new.slots)) ++ entry ∷ []
 
-pub heard_more : (s : State) (running : ℕ → Bool) (place child : ℕ) (new : State) (kept left : List ℕ) (before after : ℕ → Option Talk) → IsRolling s running (length s.slots) place → place < length s.slots → (t : Slot) → slice_get s.slots place ≡ Some t → child ≡ t.child → Takes s child new kept left before after → HeardMore s running place new
+pub heard_more : (s : State) (running : ℕ → Bool) (place child : ℕ) (new : State) (kept left : List ℕ) (before after : ℕ → Option Talk) → IsRolling s running (length s.slots) place → place < length s.slots → (t : Slot) → slice_get s.slots place ≡ Some t → child ≡ t.child → TakesAnswer s child new kept left before after → HeardMore s running place new
 heard_more s running place child new kept left before after r within t at own takes =
     subst (HeardMore s running place) (sym (takes.after ∙ ap (λ k. after_line s k takes.line false) own)) here
   where
@@ -322,7 +322,7 @@ pub slots_long : (task : Task) (names : List (List ℕ)) (version : ℕ) (pools 
 slots_long task names version pools n before [] = refl
 slots_long task names version pools n before (d ∷ ds) = ap suc (slots_long task names version pools (n + 1) (before ++ d.instance.stream ∷ []) ds)
 
-pub rolling_begun : (task : Task) (s : State) (dues : List Due) (running : ℕ → Bool) → s.failed ≡ false → MayBegin task s dues → IsSession task s → AllRun s.pools running → IsRolling (begun task s dues) running 0 0
+pub rolling_begun : (task : Task) (s : State) (dues : List Due) (running : ℕ → Bool) → s.failed ≡ false → MayBeginRound task s dues → IsSession task s → AllRun s.pools running → IsRolling (begun task s dues) running 0 0
 rolling_begun task s dues running works may h all = record {
   working = works;
   begun = refl;

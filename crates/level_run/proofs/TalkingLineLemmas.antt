@@ -14,7 +14,7 @@ use Rattle.session_core.proofs.SessionLemmas.{count_joined, count_one}
 use Rattle.session_core.specs.Heard.{is_bad_at, number_at}
 use Rattle.session_core.specs.Slots.{Slot}
 use Rattle.session_core.specs.State.{State, after_line}
-use Rattle.level_run.specs.Talking.{Misheard, Takes}
+use Rattle.level_run.specs.Talking.{Misheard, TakesAnswer}
 use Rattle.level_run.specs.declared.fault.RunFault.{RunFault}
 use Rattle.level_run.specs.declared.fault.RunFault.TheVariants.{Answer}
 
@@ -69,7 +69,7 @@ hears_none : (child : ℕ) (spoken : ℕ → Option Talk) → Hears child [] spo
 hears_none child spoken = record { here = heard_nothing (spoken child); others = λ k other. refl }
 
 -- a line that was held is taken
-pub takes_kept : {T E : Type 0} (r : Result T E) (old new : State) (child : ℕ) (kept left line : List ℕ) (spoken : ℕ → Option Talk) → OnOk r (new ≡ after_line old child line false) → OnOk r (is_bad_at old.slots child line ≡ false) → lines_of kept ≡ line ∷ lines_of (after_first is_feed kept) → length line < 1025 → left ≡ after_first is_feed kept → OnOk r (Takes old child new kept left spoken spoken)
+pub takes_kept : {T E : Type 0} (r : Result T E) (old new : State) (child : ℕ) (kept left line : List ℕ) (spoken : ℕ → Option Talk) → OnOk r (new ≡ after_line old child line false) → OnOk r (is_bad_at old.slots child line ≡ false) → lines_of kept ≡ line ∷ lines_of (after_first is_feed kept) → length line < 1025 → left ≡ after_first is_feed kept → OnOk r (TakesAnswer old child new kept left spoken spoken)
 takes_kept (Err e) old new child kept left line spoken after good first short rest = tt
 takes_kept (Ok x) old new child kept left line spoken after good first short rest = record {
   more = [];

@@ -16,7 +16,7 @@ use Rattle.session_core.proofs.LearningLemmas.{front_at, there_at, take_next}
 use Rattle.session_core.proofs.RoundBeginLemmas.{child_served}
 use Rattle.session_core.proofs.SlotsLemmas.{at_own, at_other, own_slot}
 use Rattle.session_core.specs.Heard.{heard_at, heard_by, is_bad_at, number_at}
-use Rattle.session_core.specs.Session.{IsSession, AreSlotsFor, MayBegin, begun, is_answer}
+use Rattle.session_core.specs.Session.{IsSession, AreSlotsFor, MayBeginRound, begun, is_answer}
 use Rattle.session_core.specs.Slots.{Slot, answers_of, asks_from, at_child, entry_of, fault_of, heard_slot, is_slot_of, reply_to, sent_slot, slots_from}
 use Rattle.session_core.specs.State.{State, after_line, after_sent, with_slots}
 use Rattle.session_core.specs.declared.fault.Heard.TheVariants as heard
@@ -33,7 +33,7 @@ use Rattle.level_run.proofs.DialogueLemmas.{bad_line, broken_none, broken_one, t
 use Rattle.level_run.proofs.StoppedLemmas.{MayBlame}
 use Rattle.level_run.specs.Dialogue.{BrokenOff, HasBadLine, IsOneOf, Request, last_round, replies_of, requests_after, requests_of, text_of_request, wanted_by}
 use Rattle.level_run.specs.Rolling.{IsRolling, finished}
-use Rattle.level_run.specs.Talking.{AreSlotsOf, IsBadFirst, IsBlamed, IsSlotOf, IsTalk, IsTalking, IsTold, Misheard, Takes, Talks}
+use Rattle.level_run.specs.Talking.{AreSlotsOf, IsBadFirst, IsBlamed, IsSlotOf, IsTalk, IsTalking, IsTold, Misheard, TakesAnswer, Talks}
 use Rattle.level_run.specs.Turns.{AllRun}
 use Rattle.level_run.specs.declared.fault.RunFault.{RunFault}
 use Rattle.level_run.specs.declared.fault.RunFault.TheVariants.{Answer, Generator, Write, Memory}
@@ -128,7 +128,7 @@ talks_at_heard task s place kept spoken opened h t =
 
 -- ---- a round that is begun
 
-pub talking_begun : (task : Task) (s : State) (dues : List Due) (running : ℕ → Bool) (kept : ℕ → List ℕ) (spoken : ℕ → Option Talk) → s.failed ≡ false → MayBegin task s dues → IsSession task s → AllRun s.pools running → IsTold task s.version s.pools s.entries running kept spoken → IsTalking task (begun task s dues) 0 0 kept spoken
+pub talking_begun : (task : Task) (s : State) (dues : List Due) (running : ℕ → Bool) (kept : ℕ → List ℕ) (spoken : ℕ → Option Talk) → s.failed ≡ false → MayBeginRound task s dues → IsSession task s → AllRun s.pools running → IsTold task s.version s.pools s.entries running kept spoken → IsTalking task (begun task s dues) 0 0 kept spoken
 talking_begun task s dues running kept spoken works may h all told = record {
   closed = told.closed;
   even = told.even;
@@ -267,9 +267,9 @@ module _ (task : Task) (s : State) (running : ℕ → Bool) (place : ℕ) (r : I
         }
 
   -- the line is taken, and it is an answer
-  pub talking_heard : (child : ℕ) (now : State) (kept left : ℕ → List ℕ) (old new : ℕ → Option Talk) → child ≡ t.child → Takes s child now (kept child) (left child) old new → ((k : ℕ) → k ≢ child → left k ≡ kept k) → IsTalking task s (length s.slots) place kept old → IsTalking task now (length now.slots) (place + 1) left new
+  pub talking_heard : (child : ℕ) (now : State) (kept left : ℕ → List ℕ) (old new : ℕ → Option Talk) → child ≡ t.child → TakesAnswer s child now (kept child) (left child) old new → ((k : ℕ) → k ≢ child → left k ≡ kept k) → IsTalking task s (length s.slots) place kept old → IsTalking task now (length now.slots) (place + 1) left new
   talking_heard child now kept left old new own takes others k =
-      let here : Takes s t.child now (kept t.child) (left t.child) old new = subst (λ c. Takes s c now (kept c) (left c) old new) own takes in
+      let here : TakesAnswer s t.child now (kept t.child) (left t.child) old new = subst (λ c. TakesAnswer s c now (kept c) (left c) old new) own takes in
       let far : (j : ℕ) → j ≢ t.child → left j ≡ kept j = subst (λ c. (j : ℕ) → j ≢ c → left j ≡ kept j) own others in
       subst (λ (x : State). IsTalking task x (length x.slots) (place + 1) left new) (sym here.after)
       (subst (λ n. IsTalking task (after_line s t.child here.line false) n (place + 1) left new) (sym (length-map s.slots (at_child t.child (heard_slot here.line))))

@@ -92,7 +92,7 @@ IsRefused slots child line Memory = ⊥
 IsRefused slots child line Write = ⊥
 
 -- Bytes of the child came, the first line of all that are kept of it is taken, and it is an answer.
-pub record Takes (old : State) (child : ℕ) (new : State) (kept left : List ℕ) (was now : ℕ → Option Talk) : Type 0 where
+pub record TakesAnswer (old : State) (child : ℕ) (new : State) (kept left : List ℕ) (was now : ℕ → Option Talk) : Type 0 where
   pub more : List ℕ
   pub heard : Hears child more was now
   pub line : List ℕ

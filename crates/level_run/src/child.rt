@@ -7,7 +7,7 @@ ghost use Rattle.gen_lines.specs.declared.answer.Why.TheVariants.{TooLong};
 ghost use Rattle.level_run.specs.Breaking.{LogHears};
 ghost use Rattle.level_run.specs.Calls.{LogReads};
 ghost use Rattle.level_run.specs.Rolling.{IsHostFault};
-ghost use Rattle.level_run.specs.Talking.{Fills, IsRefused, Misheard, Takes};
+ghost use Rattle.level_run.specs.Talking.{Fills, IsRefused, Misheard, TakesAnswer};
 ghost use Rattle.level_run.specs.Stops.{MayHear};
 ghost use Rattle.level_run.specs.declared.fault.RunFault.TheVariants.{Answer, Generator};
 ghost use Rattle.session_core.specs.Heard.{is_bad_at, number_at};
@@ -131,7 +131,7 @@ pub(crate) fn hear<H: Host>(
     requires runs { H.running host.old child ≡ true }
     requires working { session.old.failed ≡ false }
     requires awaited { IsAwaited session.old.slots child }
-    ensures taken { OnOk result (Takes session.old child session.new buffer.old buffer.new (H.spoken host.old) (H.spoken host.new)) }
+    ensures taken { OnOk result (TakesAnswer session.old child session.new buffer.old buffer.new (H.spoken host.old) (H.spoken host.new)) }
     ensures misheard { IfErr result (Misheard session.old.slots child buffer.old (H.spoken host.old) (H.spoken host.new)) }
     ensures log { OnOk result (LogReads child buffer.old (H.log host.old) (H.log host.new)) }
     ensures refused { IfErr result (λ fault. LogHears child buffer.old fault (H.log host.old) (H.log host.new)) }

@@ -8,11 +8,11 @@ ghost use Rattle.level_run.specs.Breaking.{LogBreaks, LogHears};
 ghost use Rattle.level_run.specs.Calls.{Calls, LogReads};
 ghost use Rattle.level_run.specs.Held.{is_running};
 ghost use Rattle.level_run.specs.Rolling.{Goes, IsFront, IsRolling, IsSameRound, Stopped, finished};
-ghost use Rattle.level_run.specs.Talking.{IsTalking, IsTold, Misheard, Takes, held_of};
+ghost use Rattle.level_run.specs.Talking.{IsTalking, IsTold, Misheard, TakesAnswer, held_of};
 ghost use Rattle.level_run.specs.Turns.{AllRun};
 ghost use Rattle.level_run.specs.declared.fault.RunFault.TheVariants.{Generator, Memory, Write};
 ghost use Rattle.session_core.specs.Ready.{AreReady};
-ghost use Rattle.session_core.specs.Session.{IsLearnt, IsSession, MayBegin};
+ghost use Rattle.session_core.specs.Session.{IsLearnt, IsSession, MayBeginRound};
 ghost use Rattle.session_core.specs.Slots.{IsAwaited};
 ghost use Rattle.task_model.specs.declared.task.Task.{Task as AnyTask};
 ghost use Rattle.transcript_model.specs.Rounds.{IsRound};
@@ -100,7 +100,7 @@ fn hear_child<H: Host>(
     requires runs { H.running host.old child ≡ true }
     requires working { session.old.failed ≡ false }
     requires awaited { IsAwaited session.old.slots child }
-    ensures taken { OnOk result (Takes session.old child session.new (held_of lines.old child) (held_of lines.new child) (H.spoken host.old) (H.spoken host.new)) }
+    ensures taken { OnOk result (TakesAnswer session.old child session.new (held_of lines.old child) (held_of lines.new child) (H.spoken host.old) (H.spoken host.new)) }
     ensures others { (k : ℕ) → k ≢ child → held_of lines.new k ≡ held_of lines.old k }
     ensures misheard { IfErr result (Misheard session.old.slots child (held_of lines.old child) (H.spoken host.old) (H.spoken host.new)) }
     ensures log { OnOk result (LogReads child (held_of lines.old child) (H.log host.old) (H.log host.new)) }
@@ -189,7 +189,7 @@ pub(crate) fn run_round<H: Host, O: Sink>(
 ) -> Result<(), RunFault>
     requires session { IsSession task.now session.old }
     requires working { session.old.failed ≡ false }
-    requires round { MayBegin task.now session.old dues.now }
+    requires round { MayBeginRound task.now session.old dues.now }
     requires all_run { AllRun session.old.pools (H.running host.old) }
     requires state { Same (H.running host.old) (is_running lines.old) }
     requires told { IsTold task.now session.old.version session.old.pools session.old.entries (H.running host.old) (held_of lines.old) (H.spoken host.old) }

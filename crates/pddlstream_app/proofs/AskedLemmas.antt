@@ -13,7 +13,7 @@ use Rattle.transcript_model.specs.declared.outcome.Outcome.{Outcome}
 use Rattle.transcript_model.specs.declared.outcome.Outcome.TheVariants as outcome
 use Rattle.pddlstream_app.specs.Asked.{AsksAll, AsksBefore, AsksFiles, AsksFront, AsksOne, AsksSome, AsksToNamed, AsksUpTo, AsksWhileReading, ask, asks_all, asks_to, asks_to_report, IsAnswerFor}
 use Rattle.pddlstream_app.specs.Replays.{kind_of_verdict}
-use Rattle.pddlstream_app.specs.Runs.{HasNoInput, HasOutcome, HasVerdict, IsClosed, IsCompleted, IsStopped, kind_of}
+use Rattle.pddlstream_app.specs.Runs.{HasNoInput, HasOutcome, HasVerdict, ClosesRun, IsCompleted, IsStopped, kind_of}
 use Rattle.replay_check.specs.declared.verdict.Verdict.{Verdict}
 use Rattle.replay_check.specs.declared.verdict.Verdict.TheVariants as verdict
 use Rattle.pddlstream_app.specs.Stop.{status_at, last_text}
@@ -160,7 +160,7 @@ module _ (words : List (List ℕ)) (old new : Option (List Asked)) where
       asked_whole (stop.Run fault.Memory) s other app a = inr a
 
       -- the last line was written, or a part of it, or that memory is wanting
-      pub asked_closed : (why : Stop) (status : Status) → IsStopped words told rose spoken was log before mid why → (why ≡ stop.Run fault.Write → ⊥) → IsClosed why mid now status → AsksBefore words old new why → AsksFiles words told rose old new before now status
+      pub asked_closed : (why : Stop) (status : Status) → IsStopped words told rose spoken was log before mid why → (why ≡ stop.Run fault.Write → ⊥) → ClosesRun why mid now status → AsksBefore words old new why → AsksFiles words told rose old new before now status
       asked_closed why status s other (inl (inl x)) a = subst (AsksFiles words told rose old new before now) (sym x.0) (asked_whole why s other x.1 a)
       asked_closed why status s other (inl (inr x)) a = subst (AsksFiles words told rose old new before now) (sym x.0) (some_before why a)
       asked_closed why status s other (inr (inl x)) a = subst (AsksFiles words told rose old new before now) (sym x.0) (some_before why a)

@@ -12,9 +12,9 @@ use Rattle.task_reader.specs.declared.refusal.FaultKind.{FaultKind}
 use Rattle.transcript_model.specs.declared.outcome.Outcome.{Outcome}
 use Rattle.transcript_model.specs.declared.outcome.Outcome.TheVariants as outcome
 use Rattle.level_run.specs.declared.fault.RunFault.TheVariants as fault
-use Rattle.pddlstream_app.specs.Complete.{GoesWell, IsAnswered}
+use Rattle.pddlstream_app.specs.Complete.{GoesWell, EndsWell}
 use Rattle.pddlstream_app.specs.Inputs.{Holds, IsRefused, IsTaskOf, IsTooLong, path_of, text_bytes}
-use Rattle.pddlstream_app.specs.Runs.{HasNoInput, HasOutcome, HasVerdict, IsClosed, IsCompleted, IsStopped, kind_of}
+use Rattle.pddlstream_app.specs.Runs.{HasNoInput, HasOutcome, HasVerdict, ClosesRun, IsCompleted, IsStopped, kind_of}
 use Rattle.pddlstream_app.specs.Stop.{status_at}
 use Rattle.pddlstream_app.specs.Words.{Command, ReplayWords, SolveWords, TaskFiles, command_of, files_of, replay, solve}
 use Rattle.pddlstream_app.specs.declared.status.Status.{Status}
@@ -97,25 +97,25 @@ module _ {words : List (List ℕ)} {told : Option FileMap} {files_rose host_rose
   stops_for_memory was log old new (stop.Run fault.Memory) s host sink = refl
 
   -- a task that is solved has an outcome
-  pub answered_outcome : {unused : Type 0} {was log : Option (List Event)} {old new : Option (List ℕ)} (status : Status) → IsCompleted words told unused spoken was log old new status → IsAnswered status
+  pub answered_outcome : {unused : Type 0} {was log : Option (List Event)} {old new : Option (List ℕ)} (status : Status) → IsCompleted words told unused spoken was log old new status → EndsWell status
   answered_outcome status c = of c.has
     where
-      solved : (o : Outcome) → IsAnswered (kind_of o)
+      solved : (o : Outcome) → EndsWell (kind_of o)
       solved (outcome.Plan steps cost from) = tt
       solved outcome.NoPlan = tt
       solved (outcome.Limit kind) = tt
 
-      of : {unused : Type 0} {was log : Option (List Event)} {text : List ℕ} → HasOutcome words told unused spoken was log status text ⊎ HasVerdict words told unused status text → IsAnswered status
-      of (inl h) = subst IsAnswered h.kind (solved h.outcome)
+      of : {unused : Type 0} {was log : Option (List Event)} {text : List ℕ} → HasOutcome words told unused spoken was log status text ⊎ HasVerdict words told unused status text → EndsWell status
+      of (inl h) = subst EndsWell h.kind (solved h.outcome)
       of (inr h) = absurd (other_command words well.asked h.asked well.meant h.meant)
 
 -- ---- last lines
 
 -- the last line was written, or the sink failed
-pub answered_close : (why : Stop) (old new : Option (List ℕ)) (status : Status) → why ≡ stop.Run fault.Memory → (status ≡ WriteFault → ⊥) → IsClosed why old new status → IsAnswered status
-answered_close why old new status is sink (inl (inl x)) = subst IsAnswered (sym (x.0 ∙ ap status_at is)) tt
+pub answered_close : (why : Stop) (old new : Option (List ℕ)) (status : Status) → why ≡ stop.Run fault.Memory → (status ≡ WriteFault → ⊥) → ClosesRun why old new status → EndsWell status
+answered_close why old new status is sink (inl (inl x)) = subst EndsWell (sym (x.0 ∙ ap status_at is)) tt
 answered_close why old new status is sink (inl (inr x)) = absurd (sink x.0)
-answered_close why old new status is sink (inr (inl x)) = subst IsAnswered (sym x.0) tt
+answered_close why old new status is sink (inr (inl x)) = subst EndsWell (sym x.0) tt
 answered_close why old new status is sink (inr (inr x)) = absurd (sink x.0)
 
 -- a fault of the sink in the last line is one of the run

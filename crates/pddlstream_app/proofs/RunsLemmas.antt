@@ -23,7 +23,7 @@ use Rattle.transcript_model.specs.declared.outcome.Outcome.TheVariants as outcom
 use Rattle.pddlstream_app.specs.Heads.{IsHeadOf}
 use Rattle.pddlstream_app.specs.Inputs.{HoldsReport, IsTaskOf, MayNotRead, MayRefuse, report_bytes}
 use Rattle.pddlstream_app.specs.Replays.{kind_of_verdict, verdict_text}
-use Rattle.pddlstream_app.specs.Runs.{Caused, Ends, HasFault, HasNoReport, HasOutcome, HasVerdict, IsBefore, IsBeforeLast, IsClosed, IsCompleted, IsPartOfRun, IsRun, IsStopped, IsTold, TookAll, Writes, kind_of, report_of}
+use Rattle.pddlstream_app.specs.Runs.{Caused, Ends, HasFault, HasNoReport, HasOutcome, HasVerdict, IsBefore, IsBeforeLast, ClosesRun, IsCompleted, IsPartOfRun, ProgramRun, IsStopped, TellsStatus, TookAll, RunWrites, kind_of, report_of}
 use Rattle.replay_check.specs.Verdicts.{IsVerdict}
 use Rattle.replay_check.specs.declared.verdict.Verdict.{Verdict}
 use Rattle.replay_check.specs.declared.verdict.Verdict.TheVariants as verdict
@@ -79,7 +79,7 @@ module _ (words : List (List ℕ)) (told : Option FileMap) (rose : Type 0) (spok
       pub judged : (unused : Type 0) → unused → (old new : Option (List ℕ)) (status : Status) → status ≡ kind_of_verdict v → Appends old new (verdict_text v) → IsCompleted words told unused spoken was now old new status
       judged unused none old new status e app = subst (IsCompleted words told unused spoken was now old new) (sym e) (record { text = verdict_text v; has = inr (verdict_with unused none); took = app })
 
-      writes_verdict : (w : Verdict) → HasVerdict words told (Unit {0}) (kind_of_verdict w) (verdict_text v) → Writes words told rose (Unit {0}) spoken was now (kind_of_verdict w) (verdict_text v)
+      writes_verdict : (w : Verdict) → HasVerdict words told (Unit {0}) (kind_of_verdict w) (verdict_text v) → RunWrites words told rose (Unit {0}) spoken was now (kind_of_verdict w) (verdict_text v)
       writes_verdict verdict.Valid h = h
       writes_verdict (verdict.Invalid line kind) h = h
       writes_verdict verdict.Limit h = inr h
@@ -92,7 +92,7 @@ module _ (words : List (List ℕ)) (told : Option FileMap) (rose : Type 0) (spok
   -- a task is to be solved
   module _ (asked : SolveWords) (meant : command_of words ≡ Some (solve asked)) where
     module _ (task : Task) (spelled : IsTaskOf told asked.files task) (fit : IsFit task) (head : Head) (headed : IsHeadOf task asked head) where
-      abbrev run_with : (entries : List Entry) → IsLegal head.version task entries → IsRun words told
+      abbrev run_with : (entries : List Entry) → IsLegal head.version task entries → ProgramRun words told
       run_with entries legal = record { asked = asked; meant = meant; task = task; spelled = spelled; fit = fit; head = head; headed = headed; entries = entries; legal = legal }
 
       outcome_with : (unused : Type 0) (text : List ℕ) (entries : List Entry) (o : Outcome) → reports.IsRun task head entries o → Dialogue task head.version (workers_in head) entries spoken → (asks_of entries ≡ 0 → unused) → LogRan task head entries was now → text ≡ whole_text task head entries o → HasOutcome words told unused spoken was now (kind_of o) text
@@ -109,7 +109,7 @@ module _ (words : List (List ℕ)) (told : Option FileMap) (rose : Type 0) (spok
       part_with : (text : List ℕ) (f : RunFault) → IsPart task head f spoken was now text → IsPartOfRun words told spoken was now f text
       part_with text f p = (run_with p.entries p.front.turns.legal, p.front, p.talks, record { calls = p.calls; needed = p.needed }, p.is)
 
-      writes_outcome : (text : List ℕ) (o : Outcome) → HasOutcome words told (Unit {0}) spoken was now (kind_of o) text → Writes words told rose (Unit {0}) spoken was now (kind_of o) text
+      writes_outcome : (text : List ℕ) (o : Outcome) → HasOutcome words told (Unit {0}) spoken was now (kind_of o) text → RunWrites words told rose (Unit {0}) spoken was now (kind_of o) text
       writes_outcome text (outcome.Plan steps cost from) h = h
       writes_outcome text outcome.NoPlan h = h
       writes_outcome text (outcome.Limit kind) h = inl h
@@ -136,7 +136,7 @@ module _ (words : List (List ℕ)) (told : Option FileMap) (rose : Type 0) (spok
           of (inr (inr x)) = absurd (let e = x.0 in cc)
       stopped_running old new fault.Write b = record { text = b.text; was = of b.form; count = b.told.0; less = b.told.1; took = b.told.2 }
         where
-          of : {text : List ℕ} → WasToWrite task head fault.Write spoken was now text → ((other : Status) × Writes words told rose (Unit {0}) spoken was now other text) ⊎ IsPartOfRun words told spoken was now fault.Write text
+          of : {text : List ℕ} → WasToWrite task head fault.Write spoken was now text → ((other : Status) × RunWrites words told rose (Unit {0}) spoken was now other text) ⊎ IsPartOfRun words told spoken was now fault.Write text
           of (inl x) = absurd (let e = x.0 in cc)
           of {text} (inr (inl p)) = inr (part_with text fault.Write p)
           of {text} (inr (inr x)) = let w = x.1 in inl (kind_of w.outcome, writes_outcome text w.outcome (outcome_with (Unit {0}) text w.entries w.outcome w.run w.talks (λ asked. tt) w.calls w.is))
@@ -152,14 +152,14 @@ module _ (words : List (List ℕ)) (told : Option FileMap) (rose : Type 0) (spok
   -- ---- last lines
 
   module _ (unused : Type 0) (old mid new : Option (List ℕ)) where
-    all_taken : (why : Stop) (b : IsBeforeLast words told rose spoken was now old mid why) → Appends mid new (last_text why) → (Writes words told rose unused spoken was now (status_at why) (b.text ++ last_text why)) → TookAll words told rose unused spoken was now old new (status_at why)
+    all_taken : (why : Stop) (b : IsBeforeLast words told rose spoken was now old mid why) → Appends mid new (last_text why) → (RunWrites words told rose unused spoken was now (status_at why) (b.text ++ last_text why)) → TookAll words told rose unused spoken was now old new (status_at why)
     all_taken why b app writes = record { text = b.text ++ last_text why; writes = writes; took = appends_then old mid new b.text (last_text why) b.took app }
 
     faulty : (why : Stop) (b : IsBeforeLast words told rose spoken was now old mid why) → HasFault words told rose spoken was now (status_at why) (b.text ++ last_text why)
     faulty why b = record { stop = why; kind = refl; before = b.text; cause = b.cause; is = refl }
 
     -- what such a run writes
-    writes_fault : (free : Type 0) (why : Stop) (b : IsBeforeLast words told rose spoken was now old mid why) → Writes words told rose free spoken was now (status_at why) (b.text ++ last_text why)
+    writes_fault : (free : Type 0) (why : Stop) (b : IsBeforeLast words told rose spoken was now old mid why) → RunWrites words told rose free spoken was now (status_at why) (b.text ++ last_text why)
     writes_fault free stop.Usage b = faulty stop.Usage b
     writes_fault free (stop.Input which kind place) b = faulty (stop.Input which kind place) b
     writes_fault free (stop.Failed which) b = faulty (stop.Failed which) b
@@ -179,7 +179,7 @@ module _ (words : List (List ℕ)) (told : Option FileMap) (rose : Type 0) (spok
     ends_whole (stop.Run fault.Write) b app = absurd b.cause
     ends_whole (stop.Run fault.Memory) b app = all_taken (stop.Run fault.Memory) b app (writes_fault unused (stop.Run fault.Memory) b)
 
-    ends_told : (why : Stop) (status : Status) → IsBeforeLast words told rose spoken was now old mid why → IsTold (status_at why) (last_text why) mid new status → Ends words told rose unused spoken was now old new status
+    ends_told : (why : Stop) (status : Status) → IsBeforeLast words told rose spoken was now old mid why → TellsStatus (status_at why) (last_text why) mid new status → Ends words told rose unused spoken was now old new status
     ends_told why status b (inl x) = subst (Ends words told rose unused spoken was now old new) (sym x.0) (ends_whole why b x.1)
     ends_told why status b (inr (is, n, less, app)) = subst (Ends words told rose unused spoken was now old new) (sym is) (record {
       text = b.text ++ last_text why;
@@ -211,7 +211,7 @@ module _ (words : List (List ℕ)) (told : Option FileMap) (rose : Type 0) (spok
     for_memory (stop.Run fault.Write) text b = absurd b
     for_memory (stop.Run fault.Memory) text b = b
 
-    pub ends_closed : (why : Stop) (status : Status) → IsStopped words told rose spoken was now old mid why → (why ≡ stop.Run fault.Write → ⊥) → IsClosed why mid new status → Ends words told rose unused spoken was now old new status
+    pub ends_closed : (why : Stop) (status : Status) → IsStopped words told rose spoken was now old mid why → (why ≡ stop.Run fault.Write → ⊥) → ClosesRun why mid new status → Ends words told rose unused spoken was now old new status
     ends_closed why status s other (inl x) = ends_told why status (before_last why s other) x
     ends_closed why status s other (inr x) =
         let b = before_last why s other in
@@ -320,7 +320,7 @@ other_memory : Memory ≡ GeneratorFault → ⊥
 other_memory e = absurd (cc)
 
 -- a line that names the generator was written for its fault
-closed_generator : (why : Stop) (old new : Option (List ℕ)) (status : Status) → IsClosed why old new status → status ≡ GeneratorFault → why ≡ stop.Run fault.Generator
+closed_generator : (why : Stop) (old new : Option (List ℕ)) (status : Status) → ClosesRun why old new status → status ≡ GeneratorFault → why ≡ stop.Run fault.Generator
 closed_generator why old new status (inl (inl x)) e = generator_stop why (sym x.0 ∙ e)
 closed_generator why old new status (inl (inr x)) e = absurd (other_write (sym x.0 ∙ e))
 closed_generator why old new status (inr (inl x)) e = absurd (other_memory (sym x.0 ∙ e))
@@ -340,7 +340,7 @@ module _ (last before now : ℕ) (r : Result Status Stop) where
   pub sink_of_write : r ≡ Err (stop.Run fault.Write) → HasCause (stop.Run fault.Write) last before now r → Caused WriteFault last before now WriteFault
   sink_of_write is h = record { later = h.later; cause = λ e. h.cause is }
 
-  pub host_of_close : (why : Stop) (old new : Option (List ℕ)) (status : Status) → r ≡ Err why → IsClosed why old new status → HasCause (stop.Run fault.Generator) last before now r → Caused GeneratorFault last before now status
+  pub host_of_close : (why : Stop) (old new : Option (List ℕ)) (status : Status) → r ≡ Err why → ClosesRun why old new status → HasCause (stop.Run fault.Generator) last before now r → Caused GeneratorFault last before now status
   host_of_close why old new status is closed h = record { later = h.later; cause = λ e. h.cause (is ∙ ap Err (closed_generator why old new status closed e)) }
 
   pub sink_of_close : (after : ℕ) (why : Stop) (status : Status) → r ≡ Err why → HasCause (stop.Run fault.Write) last before now r → now ≤ after → (status ≡ WriteFault → (why ≡ stop.Run fault.Write) ⊎ Rose last now after) → Caused WriteFault last before after status

@@ -21,21 +21,21 @@ use Rattle.pddlstream_app.specs.declared.stop.Text.TheVariants.{Domain, Problem,
 -- ---- the files of a command
 
 -- how a file was answered
-abbrev pub Reply : Type 0
-Reply = Result (Unit {0}) FileFault
+abbrev pub FileAnswer : Type 0
+FileAnswer = Result (Unit {0}) FileFault
 
 -- the file of this path was asked for, and this was the answer
-abbrev pub ask : List ℕ → Reply → Asked
+abbrev pub ask : List ℕ → FileAnswer → Asked
 ask path answer = record { path = path; answer = answer }
 
 -- the files of a task up to this text's, in their order: those before it were read, and its own was answered so
-abbrev pub asks_to : TaskFiles → Text → Reply → List Asked
+abbrev pub asks_to : TaskFiles → Text → FileAnswer → List Asked
 asks_to paths Domain answer = ask paths.domain answer ∷ []
 asks_to paths Problem answer = ask paths.domain (Ok tt) ∷ ask paths.problem answer ∷ []
 asks_to paths Streams answer = ask paths.domain (Ok tt) ∷ ask paths.problem (Ok tt) ∷ ask paths.streams answer ∷ []
 
 -- all files of a task, and then a report's, which was answered so
-abbrev pub asks_to_report : ReplayWords → Reply → List Asked
+abbrev pub asks_to_report : ReplayWords → FileAnswer → List Asked
 asks_to_report words answer = asks_to words.files Streams (Ok tt) ++ ask words.report answer ∷ []
 
 -- all files of a command
@@ -44,7 +44,7 @@ asks_all (solve words) = asks_to words.files Streams (Ok tt)
 asks_all (replay words) = asks_to_report words (Ok tt)
 
 -- how a file that was read for this was answered, where the run stops so at it
-abbrev pub IsAnswerFor : FileRole → Reply → Stop → Type 0
+abbrev pub IsAnswerFor : FileRole → FileAnswer → Stop → Type 0
 IsAnswerFor which answer stop.Usage = ⊥
 IsAnswerFor which answer (stop.Input text kind place) = (role.Text text ≡ which) × (answer ≡ Ok tt)
 IsAnswerFor which answer (stop.Failed other) = (other ≡ which) × (answer ≡ Err file.Failed)
@@ -56,7 +56,7 @@ IsAnswerFor which answer (stop.Run fault.Memory) = Unit {0}
 
 -- One file was asked for, and the run stops so at it.
 pub record AsksOne (path : List ℕ) (which : FileRole) (old new : Option (List Asked)) (why : Stop) : Type 0 where
-  pub answer : Reply
+  pub answer : FileAnswer
   pub fits : IsAnswerFor which answer why
   pub asked : Extends old new (ask path answer ∷ [])
 
@@ -67,7 +67,7 @@ AsksReport path old new why = AsksOne path role.Report old new why ⊎ ((why ≡
 -- The files up to a text's were asked for, and the run stops so at that text.
 pub record AsksUpTo (paths : TaskFiles) (old new : Option (List Asked)) (why : Stop) : Type 0 where
   pub text : Text
-  pub answer : Reply
+  pub answer : FileAnswer
   pub fits : IsAnswerFor (role.Text text) answer why
   pub asked : Extends old new (asks_to paths text answer)
 
@@ -88,14 +88,14 @@ pub record AsksTaskFront (words : List (List ℕ)) (old new : Option (List Asked
   pub command : Command
   pub meant : command_of words ≡ Some command
   pub text : Text
-  pub answer : Reply
+  pub answer : FileAnswer
   pub asked : Extends old new (asks_to (files_of command) text answer)
 
 -- The words mean a replay, and all its files were asked for.
 pub record AsksReportFront (words : List (List ℕ)) (old new : Option (List Asked)) : Type 0 where
   pub command : ReplayWords
   pub meant : command_of words ≡ Some (replay command)
-  pub answer : Reply
+  pub answer : FileAnswer
   pub asked : Extends old new (asks_to_report command answer)
 
 -- the words mean a command, and its files were asked for from the first on
@@ -116,7 +116,7 @@ pub record AsksForTask (words : List (List ℕ)) (old new : Option (List Asked))
 pub record AsksForReport (words : List (List ℕ)) (old new : Option (List Asked)) (why : Stop) : Type 0 where
   pub command : ReplayWords
   pub meant : command_of words ≡ Some (replay command)
-  pub answer : Reply
+  pub answer : FileAnswer
   pub fits : IsAnswerFor role.Report answer why
   pub asked : Extends old new (asks_to_report command answer)
 

@@ -5,14 +5,14 @@ use Rattle.io_world.specs.FileMap.{FileMap}
 use Rattle.io_world.specs.Talks.{Talk}
 use Rattle.task_model.specs.declared.task.Task.{Task}
 use Rattle.pddlstream_app.specs.Inputs.{IsTaskOf}
-use Rattle.pddlstream_app.specs.Runs.{HasBadAnswer, IsRun}
+use Rattle.pddlstream_app.specs.Runs.{HasBadAnswer, ProgramRun}
 use Rattle.pddlstream_app.specs.Words.{SolveWords, command_of, solve}
 use Rattle.pddlstream_app.specs.declared.status.Status.{Status}
 use Rattle.pddlstream_app.specs.declared.status.Status.TheVariants.{Plan, Done, NoPlan, Limit, Usage, Input, BadAnswer, ReadFault, GeneratorFault, WriteFault, Memory, Invalid}
 
 -- Whichever run's dialogue it was that was said with the children: none of its requests has a bad answer.
 abbrev pub OnlyAnswers : List (List ℕ) → Option FileMap → (ℕ → Option Talk) → Type 0
-OnlyAnswers words told spoken = (run : IsRun words told) (number : ℕ) (why : Why) → ¬ (HasBadAnswer words told spoken number why run)
+OnlyAnswers words told spoken = (run : ProgramRun words told) (number : ℕ) (why : Why) → ¬ (HasBadAnswer words told spoken number why run)
 
 -- The words mean that a task is to be solved; the files are told, and their texts, of at most 4 MiB each, spell a task; no count of faults rose, or stood at
 -- its last value; and only answers were heard.
@@ -29,16 +29,16 @@ pub record GoesWell (words : List (List ℕ)) (told : Option FileMap) (files_ros
   pub answered : OnlyAnswers words told spoken
 
 -- the run has an outcome, or memory is wanting
-abbrev pub IsAnswered : Status → Type 0
-IsAnswered Plan = Unit {0}
-IsAnswered NoPlan = Unit {0}
-IsAnswered Limit = Unit {0}
-IsAnswered Memory = Unit {0}
-IsAnswered Usage = ⊥
-IsAnswered Input = ⊥
-IsAnswered BadAnswer = ⊥
-IsAnswered ReadFault = ⊥
-IsAnswered GeneratorFault = ⊥
-IsAnswered WriteFault = ⊥
-IsAnswered Done = ⊥
-IsAnswered Invalid = ⊥
+abbrev pub EndsWell : Status → Type 0
+EndsWell Plan = Unit {0}
+EndsWell NoPlan = Unit {0}
+EndsWell Limit = Unit {0}
+EndsWell Memory = Unit {0}
+EndsWell Usage = ⊥
+EndsWell Input = ⊥
+EndsWell BadAnswer = ⊥
+EndsWell ReadFault = ⊥
+EndsWell GeneratorFault = ⊥
+EndsWell WriteFault = ⊥
+EndsWell Done = ⊥
+EndsWell Invalid = ⊥

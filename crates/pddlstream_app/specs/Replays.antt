@@ -1,7 +1,7 @@
 -- What is written of a verdict on a report, and how the run ends.
 use Rattle.std.specs.Prelude.{ℕ, List, ◌++◌, codes}
 use Rattle.std.specs.Fmt.{decimal}
-use Rattle.replay_check.specs.Kinds.{number_of}
+use Rattle.replay_check.specs.Kinds.{breach_number}
 use Rattle.replay_check.specs.declared.verdict.Verdict.{Verdict}
 use Rattle.replay_check.specs.declared.verdict.Verdict.TheVariants as verdict
 use Rattle.pddlstream_app.specs.declared.status.Status.{Status}
@@ -15,5 +15,5 @@ kind_of_verdict verdict.Limit = status.Limit
 -- the verdict's line; a breach is told with its line and the number of its kind
 abbrev pub verdict_text : Verdict → List ℕ
 verdict_text verdict.Valid = codes "valid\n"
-verdict_text (verdict.Invalid line kind) = codes "invalid " ++ decimal line ++ codes " " ++ decimal (number_of kind) ++ codes "\n"
+verdict_text (verdict.Invalid line kind) = codes "invalid " ++ decimal line ++ codes " " ++ decimal (breach_number kind) ++ codes "\n"
 verdict_text verdict.Limit = codes "limit states\n"

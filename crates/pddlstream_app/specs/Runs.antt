@@ -39,7 +39,7 @@ use Rattle.pddlstream_app.specs.declared.stop.Stop.TheVariants as stop
 
 -- What a run is: the words mean that a task is to be solved, the told files spell a fit task, the head has the limits and the workers of the words, and
 -- the transcript is legal.
-pub record IsRun (words : List (List ℕ)) (told : Option FileMap) : Type 0 where
+pub record ProgramRun (words : List (List ℕ)) (told : Option FileMap) : Type 0 where
   pub asked : SolveWords
   pub meant : command_of words ≡ Some (solve asked)
   pub task : Task
@@ -51,7 +51,7 @@ pub record IsRun (words : List (List ℕ)) (told : Option FileMap) : Type 0 wher
   pub legal : IsLegal head.version task entries
 
 -- the lines of a run's head and of its transcript
-abbrev pub lines_so_far : (words : List (List ℕ)) (told : Option FileMap) → IsRun words told → List ℕ
+abbrev pub lines_so_far : (words : List (List ℕ)) (told : Option FileMap) → ProgramRun words told → List ℕ
 lines_so_far words told run = text_so_far run.task run.head run.entries
 
 -- a run's report, if this is its outcome
@@ -72,7 +72,7 @@ kind_of (outcome.Limit kind) = Limit
 -- said with the children is the transcript's dialogue, and the calls that came to the log are its calls, in order, and then stops; where
 -- the transcript has no request no call was made on a child (`unused`).
 pub record HasOutcome (words : List (List ℕ)) (told : Option FileMap) (unused : Type 0) (spoken : ℕ → Option Talk) (was now : Option (List Event)) (status : Status) (text : List ℕ) : Type 0 where
-  pub run : IsRun words told
+  pub run : ProgramRun words told
   pub outcome : Outcome
   pub kind : kind_of outcome ≡ status
   pub turns : reports.IsRun run.task run.head run.entries outcome
@@ -116,25 +116,25 @@ abbrev pub HasNoInput : List (List ℕ) → Option FileMap → Type 0 → Stop �
 HasNoInput words told rose why = HasNoTask words told rose why ⊎ HasNoReport words told rose why
 
 -- what was said with the children is the dialogue of the run's transcript, broken off behind it
-abbrev pub IsBrokenOff : (words : List (List ℕ)) (told : Option FileMap) → (ℕ → Option Talk) → IsRun words told → Type 0
+abbrev pub IsBrokenOff : (words : List (List ℕ)) (told : Option FileMap) → (ℕ → Option Talk) → ProgramRun words told → Type 0
 IsBrokenOff words told spoken run = BrokenOff run.task run.head.version (workers_in run.head) run.entries spoken
 
 -- the run's transcript is one of whole turns, the last of which may stop at any entry; each begins where no plan exists
-abbrev pub IsFrontRun : (words : List (List ℕ)) (told : Option FileMap) → IsRun words told → Type 0
+abbrev pub IsFrontRun : (words : List (List ℕ)) (told : Option FileMap) → ProgramRun words told → Type 0
 IsFrontRun words told run = IsFrontOfRun run.head run.task run.entries
 
 -- The calls that came to the log are those of the run's transcript, up to where it broke off with this fault, and then stops. Where no
 -- line of a level stands only stops came.
-pub record HasCalls (words : List (List ℕ)) (told : Option FileMap) (was now : Option (List Event)) (f : RunFault) (run : IsRun words told) : Type 0 where
+pub record HasCalls (words : List (List ℕ)) (told : Option FileMap) (was now : Option (List Event)) (f : RunFault) (run : ProgramRun words told) : Type 0 where
   pub calls : LogBroken run.task run.head run.entries f was now
   pub needed : LogStops was now ⊎ HasLevel run.entries
 
 -- the lines of a run's head and transcript, where it stopped with this fault and the dialogue and the calls were broken off
 abbrev pub IsPartOfRun : List (List ℕ) → Option FileMap → (ℕ → Option Talk) → (was now : Option (List Event)) → RunFault → List ℕ → Type 0
-IsPartOfRun words told spoken was now f text = (run : IsRun words told) × IsFrontRun words told run × IsBrokenOff words told spoken run × HasCalls words told was now f run × (text ≡ lines_so_far words told run)
+IsPartOfRun words told spoken was now f text = (run : ProgramRun words told) × IsFrontRun words told run × IsBrokenOff words told spoken run × HasCalls words told was now f run × (text ≡ lines_so_far words told run)
 
 -- the transcript is a front of a run, the request that is blamed is open, all before it are answered, and what its child said next is no answer, for this cause
-pub record HasBadAnswer (words : List (List ℕ)) (told : Option FileMap) (spoken : ℕ → Option Talk) (number : ℕ) (why : Why) (run : IsRun words told) : Type 0 where
+pub record HasBadAnswer (words : List (List ℕ)) (told : Option FileMap) (spoken : ℕ → Option Talk) (number : ℕ) (why : Why) (run : ProgramRun words told) : Type 0 where
   pub front : IsFrontRun words told run
   pub waiting : is_open run.entries number ≡ true
   pub line : HasBadLine run.task run.head.version (workers_in run.head) run.entries spoken number why
@@ -147,7 +147,7 @@ IsBefore words told rose spoken was now stop.Usage text = (command_of words ≡ 
 IsBefore words told rose spoken was now (stop.Input which kind place) text = HasNoInput words told rose (stop.Input which kind place) × (text ≡ []) × LogStops was now
 IsBefore words told rose spoken was now (stop.Failed which) text = HasNoInput words told rose (stop.Failed which) × (text ≡ []) × LogStops was now
 IsBefore words told rose spoken was now (stop.TooLong which) text = HasNoInput words told rose (stop.TooLong which) × (text ≡ []) × LogStops was now
-IsBefore words told rose spoken was now (stop.Run (fault.Answer number why)) text = (run : IsRun words told) × HasBadAnswer words told spoken number why run × HasCalls words told was now (fault.Answer number why) run × (text ≡ lines_so_far words told run)
+IsBefore words told rose spoken was now (stop.Run (fault.Answer number why)) text = (run : ProgramRun words told) × HasBadAnswer words told spoken number why run × HasCalls words told was now (fault.Answer number why) run × (text ≡ lines_so_far words told run)
 IsBefore words told rose spoken was now (stop.Run fault.Generator) text = IsPartOfRun words told spoken was now fault.Generator text
 IsBefore words told rose spoken was now (stop.Run fault.Write) text = ⊥
 IsBefore words told rose spoken was now (stop.Run fault.Memory) text = ((text ≡ []) × LogStops was now) ⊎ ((f : RunFault) × IsPartOfRun words told spoken was now f text)
@@ -163,30 +163,30 @@ pub record HasFault (words : List (List ℕ)) (told : Option FileMap) (rose : Ty
 -- ---- all that a run writes
 
 -- what a run writes in all that ends so
-abbrev pub Writes : List (List ℕ) → Option FileMap → Type 0 → Type 0 → (ℕ → Option Talk) → (was now : Option (List Event)) → Status → List ℕ → Type 0
-Writes words told rose unused spoken was now Plan text = HasOutcome words told unused spoken was now Plan text
-Writes words told rose unused spoken was now NoPlan text = HasOutcome words told unused spoken was now NoPlan text
-Writes words told rose unused spoken was now Limit text = HasOutcome words told unused spoken was now Limit text ⊎ HasVerdict words told unused Limit text
-Writes words told rose unused spoken was now Usage text = HasFault words told rose spoken was now Usage text
-Writes words told rose unused spoken was now Input text = HasFault words told rose spoken was now Input text
-Writes words told rose unused spoken was now BadAnswer text = HasFault words told rose spoken was now BadAnswer text
-Writes words told rose unused spoken was now ReadFault text = HasFault words told rose spoken was now ReadFault text
-Writes words told rose unused spoken was now GeneratorFault text = HasFault words told rose spoken was now GeneratorFault text
-Writes words told rose unused spoken was now Memory text = HasFault words told rose spoken was now Memory text
-Writes words told rose unused spoken was now WriteFault text = ⊥
-Writes words told rose unused spoken was now Done text = HasVerdict words told unused Done text
-Writes words told rose unused spoken was now Invalid text = HasVerdict words told unused Invalid text
+abbrev pub RunWrites : List (List ℕ) → Option FileMap → Type 0 → Type 0 → (ℕ → Option Talk) → (was now : Option (List Event)) → Status → List ℕ → Type 0
+RunWrites words told rose unused spoken was now Plan text = HasOutcome words told unused spoken was now Plan text
+RunWrites words told rose unused spoken was now NoPlan text = HasOutcome words told unused spoken was now NoPlan text
+RunWrites words told rose unused spoken was now Limit text = HasOutcome words told unused spoken was now Limit text ⊎ HasVerdict words told unused Limit text
+RunWrites words told rose unused spoken was now Usage text = HasFault words told rose spoken was now Usage text
+RunWrites words told rose unused spoken was now Input text = HasFault words told rose spoken was now Input text
+RunWrites words told rose unused spoken was now BadAnswer text = HasFault words told rose spoken was now BadAnswer text
+RunWrites words told rose unused spoken was now ReadFault text = HasFault words told rose spoken was now ReadFault text
+RunWrites words told rose unused spoken was now GeneratorFault text = HasFault words told rose spoken was now GeneratorFault text
+RunWrites words told rose unused spoken was now Memory text = HasFault words told rose spoken was now Memory text
+RunWrites words told rose unused spoken was now WriteFault text = ⊥
+RunWrites words told rose unused spoken was now Done text = HasVerdict words told unused Done text
+RunWrites words told rose unused spoken was now Invalid text = HasVerdict words told unused Invalid text
 
 -- The sink took all that the run writes.
 pub record TookAll (words : List (List ℕ)) (told : Option FileMap) (rose unused : Type 0) (spoken : ℕ → Option Talk) (was now : Option (List Event)) (old new : Option (List ℕ)) (status : Status) : Type 0 where
   pub text : List ℕ
-  pub writes : Writes words told rose unused spoken was now status text
+  pub writes : RunWrites words told rose unused spoken was now status text
   pub took : Appends old new text
 
 -- The sink took a part, and not all, of what was to be written: all that a run writes that ends in another way, or the lines of a run's head and transcript.
 pub record TookPart (words : List (List ℕ)) (told : Option FileMap) (rose : Type 0) (spoken : ℕ → Option Talk) (before after : Option (List Event)) (old new : Option (List ℕ)) : Type 0 where
   pub text : List ℕ
-  pub was : ((other : Status) × Writes words told rose (Unit {0}) spoken before after other text) ⊎ IsPartOfRun words told spoken before after fault.Write text
+  pub was : ((other : Status) × RunWrites words told rose (Unit {0}) spoken before after other text) ⊎ IsPartOfRun words told spoken before after fault.Write text
   pub count : ℕ
   pub less : count < length text
   pub took : Appends old new (take count text)
@@ -237,12 +237,12 @@ IsStopped words told rose spoken was now old new (stop.Failed which) = IsBeforeL
 IsStopped words told rose spoken was now old new (stop.TooLong which) = IsBeforeLast words told rose spoken was now old new (stop.TooLong which)
 
 -- the text was written, and the status is this; or the sink failed and took a part
-abbrev pub IsTold : Status → List ℕ → Option (List ℕ) → Option (List ℕ) → Status → Type 0
-IsTold status text old new ended = ((ended ≡ status) × Appends old new text) ⊎ ((ended ≡ WriteFault) × (n : ℕ) × (n < length text) × Appends old new (take n text))
+abbrev pub TellsStatus : Status → List ℕ → Option (List ℕ) → Option (List ℕ) → Status → Type 0
+TellsStatus status text old new ended = ((ended ≡ status) × Appends old new text) ⊎ ((ended ≡ WriteFault) × (n : ℕ) × (n < length text) × Appends old new (take n text))
 
 -- the last line was written, for this cause or for want of memory
-abbrev pub IsClosed : Stop → Option (List ℕ) → Option (List ℕ) → Status → Type 0
-IsClosed why old new ended = IsTold (status_at why) (last_text why) old new ended ⊎ IsTold Memory (last_text (stop.Run fault.Memory)) old new ended
+abbrev pub ClosesRun : Stop → Option (List ℕ) → Option (List ℕ) → Status → Type 0
+ClosesRun why old new ended = TellsStatus (status_at why) (last_text why) old new ended ⊎ TellsStatus Memory (last_text (stop.Run fault.Memory)) old new ended
 
 -- the line of a verdict was written; or memory was wanting, or the sink failed and took a part
 abbrev pub IsShown : Verdict → Option (List ℕ) → Option (List ℕ) → Result Status Stop → Type 0

@@ -2,8 +2,8 @@
 ghost use Rattle.std.specs.Prelude.{◌≡◌, ◌≤◌, ◌⊎◌, ◌≢◌, ℕ, false, map, string_bytes, IfOk, IfErr};
 ghost use Rattle.io_world.specs.Faults.{last_count, HasCause, Rose};
 ghost use Rattle.pddlstream_app.specs.Asked.{AsksAll, AsksBefore, AsksFiles};
-ghost use Rattle.pddlstream_app.specs.Complete.{GoesWell, IsAnswered};
-ghost use Rattle.pddlstream_app.specs.Runs.{Caused, Ends, IsClosed, IsCompleted, IsStopped, IsTold};
+ghost use Rattle.pddlstream_app.specs.Complete.{GoesWell, EndsWell};
+ghost use Rattle.pddlstream_app.specs.Runs.{Caused, Ends, ClosesRun, IsCompleted, IsStopped, TellsStatus};
 ghost use Rattle.level_run.specs.declared.fault.RunFault.TheVariants as fault;
 ghost use Rattle.pddlstream_app.specs.declared.status.Status.TheVariants.{GeneratorFault, WriteFault};
 ghost use Rattle.pddlstream_app.specs.declared.stop.Stop.TheVariants.{Run};
@@ -18,7 +18,7 @@ use std::alloc::Global;
 
 /// Writes the last line of a run that ends so.
 fn tell<O: Sink>(out: &mut O, text: &[u8], status: Status) -> Status
-    ensures told { IsTold status text.now (O.taken out.old) (O.taken out.new) result }
+    ensures told { TellsStatus status text.now (O.taken out.old) (O.taken out.new) result }
     ensures later { O.faults out.old ≤ O.faults out.new }
     ensures cause { (result ≡ status) ⊎ Rose last_count (O.faults out.old) (O.faults out.new) }
 {
@@ -30,7 +30,7 @@ fn tell<O: Sink>(out: &mut O, text: &[u8], status: Status) -> Status
 
 /// Writes the last line of a run that has no outcome, and answers how it ends.
 fn close<O: Sink>(alloc: Global, out: &mut O, stop: &Stop) -> Status
-    ensures closed { IsClosed stop.now (O.taken out.old) (O.taken out.new) result }
+    ensures closed { ClosesRun stop.now (O.taken out.old) (O.taken out.new) result }
     ensures later { O.faults out.old ≤ O.faults out.new }
     ensures cause { result ≡ WriteFault → (stop.now ≡ Run fault.Write) ⊎ Rose last_count (O.faults out.old) (O.faults out.new) }
 {
@@ -102,7 +102,7 @@ pub fn run<F: Files, H: Host, O: Sink>(
     ensures sink { Caused WriteFault last_count (O.faults out.old) (O.faults out.new) result }
     // Where the words mean that a task is to be solved, the files are told and spell one, no count of faults rose and only answers were heard, the run has an
     // outcome, or memory is wanting.
-    ensures complete { GoesWell (map string_bytes words.now) (F.told files.old) (Rose last_count (F.faults files.old) (F.faults files.new)) (Rose H.last (H.faults host.old) (H.faults host.new)) (Rose last_count (O.faults out.old) (O.faults out.new)) (H.spoken host.new) → IsAnswered result }
+    ensures complete { GoesWell (map string_bytes words.now) (F.told files.old) (Rose last_count (F.faults files.old) (F.faults files.new)) (Rose H.last (H.faults host.old) (H.faults host.new)) (Rose last_count (O.faults out.old) (O.faults out.new)) (H.spoken host.new) → EndsWell result }
     // Where the files tell which paths were asked for, those of this call are the command's files, each once and in their order: none where
     // the words are no command, those up to the text that the last line names where it was refused or not read, and else all three. Where
     // memory is wanting or the sink failed, they are a front of these.

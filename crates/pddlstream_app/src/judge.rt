@@ -9,7 +9,7 @@ ghost use Rattle.pddlstream_app.specs.Replays.{kind_of_verdict, verdict_text};
 ghost use Rattle.pddlstream_app.specs.Runs.{IsCompleted, IsSaidOf, IsShown, IsStopped};
 ghost use Rattle.pddlstream_app.specs.Words.{IsWithinReplay, command_of, held_files, held_replay, replay as to_replay};
 ghost use Rattle.task_model.specs.Fit.{IsFit};
-ghost use Rattle.replay_check.specs.Kinds.{number_of};
+ghost use Rattle.replay_check.specs.Kinds.{breach_number};
 ghost use Rattle.level_run.specs.declared.fault.RunFault.TheVariants as fault;
 ghost use Rattle.pddlstream_app.specs.declared.stop.Stop.TheVariants.{Run};
 
@@ -39,7 +39,7 @@ fn status_of(verdict: Verdict) -> Status
 
 /// The line for a breach.
 fn breach_line(alloc: Global, line: u32, kind: BreachKind) -> Result<Vec<u8>, AllocError>
-    ensures { IfOk result (λ text. text.items ≡ codes "invalid " ++ decimal line ++ codes " " ++ decimal (number_of kind) ++ codes "\n") }
+    ensures { IfOk result (λ text. text.items ≡ codes "invalid " ++ decimal line ++ codes " " ++ decimal (breach_number kind) ++ codes "\n") }
 {
     let kind = kind.number();
     let text = format!(in alloc; "invalid {line} {kind}\n")?;

@@ -8,7 +8,7 @@ use Rattle.task_model.specs.State.{Atoms}
 use Rattle.task_model.specs.Steps.{IsStep}
 use Rattle.task_model.specs.declared.task.GroundAction.{GroundAction}
 use Rattle.task_model.specs.declared.task.Task.{Task}
-use Rattle.plan_check.specs.Faults.{StepFails, Runs, PlanFails, fault_at}
+use Rattle.plan_check.specs.Faults.{StepFails, StepsRun, PlanFails, fault_at}
 use Rattle.plan_check.specs.declared.fault.CheckFault.{CheckFault}
 use Rattle.plan_check.specs.declared.fault.CheckFault.TheVariants as check
 use Rattle.plan_check.specs.declared.fault.StepFault.{StepFault}
@@ -34,14 +34,14 @@ module _ (task : Task) (known : Known) (steps : List GroundAction) where
       let whole = whole_of_parts task known (initial_state task) after (take place steps) (step ∷ []) (cost + more) (state, cost, more, front, one, refl) in
       subst (λ xs. Executes task known (initial_state task) xs after (cost + more)) (sym (take-next steps place step at)) whole
 
-  pub fails_here : (place : ℕ) (step : GroundAction) (state : Atoms) (cost : ℕ) (fault : StepFault) → slice_get steps place ≡ Some step → Executes task known (initial_state task) (take place steps) state cost → StepFails task known state step fault → Runs task known steps (fault_at place fault)
+  pub fails_here : (place : ℕ) (step : GroundAction) (state : Atoms) (cost : ℕ) (fault : StepFault) → slice_get steps place ≡ Some step → Executes task known (initial_state task) (take place steps) state cost → StepFails task known state step fault → StepsRun task known steps (fault_at place fault)
   fails_here place step state cost NoAction at front fails = (state, cost, step, front, at, fails)
   fails_here place step state cost Args at front fails = (state, cost, step, front, at, fails)
   fails_here place step state cost Condition at front fails = (state, cost, step, front, at, fails)
   fails_here place step state cost NoCost at front fails = (state, cost, step, front, at, fails)
   fails_here place step state cost Memory at front fails = tt
 
-  pub run_fails : (fault : CheckFault) → Runs task known steps fault → PlanFails task known steps fault
+  pub run_fails : (fault : CheckFault) → StepsRun task known steps fault → PlanFails task known steps fault
   run_fails (check.NoAction place) f = f
   run_fails (check.Args place) f = f
   run_fails (check.Condition place) f = f

@@ -46,13 +46,13 @@ fault_at place NoCost = check.NoCost place
 fault_at place Memory = check.Memory
 
 -- the first step that isn't applicable is such
-abbrev pub Runs : Task → Known → List GroundAction → CheckFault → Type 0
-Runs task known steps (check.NoAction place) = FailsAt task known steps place NoAction
-Runs task known steps (check.Args place) = FailsAt task known steps place Args
-Runs task known steps (check.Condition place) = FailsAt task known steps place Condition
-Runs task known steps (check.NoCost place) = FailsAt task known steps place NoCost
-Runs task known steps check.Goal = ⊥
-Runs task known steps check.Memory = Unit {0}
+abbrev pub StepsRun : Task → Known → List GroundAction → CheckFault → Type 0
+StepsRun task known steps (check.NoAction place) = FailsAt task known steps place NoAction
+StepsRun task known steps (check.Args place) = FailsAt task known steps place Args
+StepsRun task known steps (check.Condition place) = FailsAt task known steps place Condition
+StepsRun task known steps (check.NoCost place) = FailsAt task known steps place NoCost
+StepsRun task known steps check.Goal = ⊥
+StepsRun task known steps check.Memory = Unit {0}
 
 -- this is the first thing that is wrong with the plan
 abbrev pub PlanFails : Task → Known → List GroundAction → CheckFault → Type 0

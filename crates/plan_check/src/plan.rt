@@ -3,7 +3,7 @@ ghost use Rattle.std.specs.Prelude.{◌≡◌, ◌<◌, ◌^◌, ◌≤◌, ◌*
 ghost use Rattle.task_model.specs.Fit.{IsFit};
 ghost use Rattle.task_model.specs.Plans.{IsValid, Executes};
 ghost use Rattle.task_model.specs.Initial.{initial_state};
-ghost use Rattle.plan_check.specs.Faults.{PlanFails, Runs, fault_at as fault_of};
+ghost use Rattle.plan_check.specs.Faults.{PlanFails, StepsRun, fault_at as fault_of};
 
 use crate::fault::{CheckFault, StepFault};
 use crate::start::initial;
@@ -35,7 +35,7 @@ fn run<L: Look>(
     requires fit { IsFit task.now }
     requires few { length steps.now < 2 ^ 26 }
     ensures ok { IfOk result (λ end. Executes task.now (L.known look.now) (initial_state task.now) steps.now end.state end.cost) }
-    ensures err { IfErr result (Runs task.now (L.known look.now) steps.now) }
+    ensures err { IfErr result (StepsRun task.now (L.known look.now) steps.now) }
 {
     let Ok(mut state) = initial(alloc, task) else {
         return Err(CheckFault::Memory);

@@ -18,7 +18,7 @@ use Rattle.name_tables.specs.Variables.{named_sorts, named_words}
 use Rattle.name_tables.proofs.Parted.{none_both}
 use Rattle.name_tables.proofs.TitleLemmas.{titled}
 use Rattle.name_tables.proofs.FitDeclared.{list_long}
-use Rattle.domain_reader.specs.Domains.{IsRead, constants_in, is_constants, no_typed}
+use Rattle.domain_reader.specs.Domains.{IsDomainRead, constants_in, is_constants, no_typed}
 use Rattle.domain_reader.specs.Domains as domains
 use Rattle.domain_reader.specs.Tables.{body_of}
 use Rattle.problem_reader.proofs.FitObjects.{AreConstants, HaveTypes}
@@ -136,9 +136,9 @@ formed_items (list items at rest) e = (titled text.Domain items at rest e).items
 pub body_small : (t : Trees) → size (body_of t) ≤ size t
 body_small t = omega (arith, inner_small t, tail_small (inner_of t), tail_small (tail_of (inner_of t)))
 
-pub constants_read : (t : Trees) (d : domain.Domain) → IsRead t d → size t ≤ 4194304 → AreConstants d.constants
+pub constants_read : (t : Trees) (d : domain.Domain) → IsDomainRead t d → size t ≤ 4194304 → AreConstants d.constants
 constants_read t d read small =
-    let sorts : List (List ℕ) = (domains.names_of t).sorts in
+    let sorts : List (List ℕ) = (domains.domain_names t).sorts in
     let made : Typed = constants_in sorts no_typed (body_of t) in
     let even : length made.names ≡ length made.sorts = even_in sorts no_typed (body_of t) refl in
     let few = few_in sorts no_typed (body_of t) (formed_items t read.formed) in

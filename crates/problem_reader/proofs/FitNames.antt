@@ -11,7 +11,7 @@ use Rattle.name_tables.specs.declared.vocabulary.Vocabulary.{Vocabulary}
 use Rattle.name_tables.proofs.FitTerms.{Knows}
 use Rattle.name_tables.proofs.NamesFreshLemmas.{AreFresh, fresh_from, name_new, signature_new}
 use Rattle.name_tables.proofs.VocabularyLemmas.{AreNamesOf, AreSigned, knows_from}
-use Rattle.problem_reader.specs.Tables.{names_of, nothing_signed, put_signatures, put_sorts}
+use Rattle.problem_reader.specs.Tables.{problem_names, nothing_signed, put_signatures, put_sorts}
 use Rattle.problem_reader.proofs.TablesAppendLemmas.{append_none}
 
 -- ---- types
@@ -46,7 +46,7 @@ signed gs f = record { names = ap (λ (s : Signed). s.names) (signatures_put not
 
 -- ---- all
 
-pub names_known : (d : domain.Domain) (body : Trees) → IsFitDomain d → AreNamesOf d (length (names_of d body).objects) (names_of d body)
+pub names_known : (d : domain.Domain) (body : Trees) → IsFitDomain d → AreNamesOf d (length (problem_names d body).objects) (problem_names d body)
 names_known d body fit =
     record {
       sorts = ap length (sorts_put [] d.sorts (fresh_from [] (sort_names d.sorts) fit.types.names.distinct)) ∙ sorts_mapped d.sorts;
@@ -58,7 +58,7 @@ names_known d body fit =
 pub sorts_some : (d : domain.Domain) (v : Vocabulary) → IsFitDomain d → length v.sorts ≡ length d.sorts → 0 < length v.sorts
 sorts_some d v fit e = omega (arith, e, slice_get_within d.sorts 0 (record { name = codes "object"; above = [] }) fit.types.first)
 
-pub problem_knows : (d : domain.Domain) (body : Trees) → IsFitDomain d → Knows (names_of d body) d (length (names_of d body).objects)
+pub problem_knows : (d : domain.Domain) (body : Trees) → IsFitDomain d → Knows (problem_names d body) d (length (problem_names d body).objects)
 problem_knows d body fit =
     let names = names_known d body fit in
-    knows_from d (length (names_of d body).objects) (names_of d body) (sorts_some d (names_of d body) fit names.sorts) names
+    knows_from d (length (problem_names d body).objects) (problem_names d body) (sorts_some d (problem_names d body) fit names.sorts) names

@@ -23,8 +23,8 @@ use Rattle.domain_reader.specs.Names.{second_items}
 use Rattle.domain_reader.specs.Tables.{body_of, name_of}
 use Rattle.problem_reader.specs.Fitness.{IsFitOver, IsFitRead}
 use Rattle.problem_reader.specs.Names.{items_names}
-use Rattle.problem_reader.specs.Problems.{IsRead, Reads, facts_of, init_of, problem_of, valueds_of}
-use Rattle.problem_reader.specs.Tables.{names_of}
+use Rattle.problem_reader.specs.Problems.{IsProblemRead, ProblemReads, facts_of, init_of, problem_of, valueds_of}
+use Rattle.problem_reader.specs.Tables.{problem_names}
 use Rattle.problem_reader.specs.Values.{nothing_given, values_names}
 use Rattle.problem_reader.proofs.FitConstants.{body_small, constants_read}
 use Rattle.problem_reader.proofs.FitItems.{IsInit, goal_fit, init_good, init_small, tail_shallow}
@@ -54,12 +54,12 @@ body_shallow t = omega (arith, inner_shallow t, tail_shallow (inner_of t), tail_
 
 -- ---- the problem
 
-module _ (d : Domain) (t : Trees) (over : IsFitRead d) (bounded : IsBounded t) (some : ¬ (t ≡ nothing)) (p : Problem) (read : IsRead d t p) (streams : List Stream) where
+module _ (d : Domain) (t : Trees) (over : IsFitRead d) (bounded : IsBounded t) (some : ¬ (t ≡ nothing)) (p : Problem) (read : IsProblemRead d t p) (streams : List Stream) where
   abbrev body : Trees
   body = body_of t
 
   abbrev v : Vocabulary
-  v = names_of d body
+  v = problem_names d body
 
   names : AreNamesOf d (length v.objects) v
   names = names_known d body over.fit
@@ -119,10 +119,10 @@ module _ (d : Domain) (t : Trees) (over : IsFitRead d) (bounded : IsBounded t) (
   }
 
 -- over a fit domain that was read
-pub read_problems_fit : (d : Domain) (t : Trees) (p : Problem) → IsFitRead d → IsBounded t → ¬ (t ≡ nothing) → IsRead d t p → IsFitOver d p
+pub read_problems_fit : (d : Domain) (t : Trees) (p : Problem) → IsFitRead d → IsBounded t → ¬ (t ≡ nothing) → IsProblemRead d t p → IsFitOver d p
 read_problems_fit d t p over bounded some read streams = subst (λ (q : Problem). IsFitProblem (record { domain = d; problem = q; streams = streams })) (sym read.problem) (spelled_fit d t over bounded some p read streams)
 
 -- where it was read
-pub fit_if_read : (d : Domain) (t : Tree) (result : Result Problem InputFault) → Reads d (tree t) result → IfOk result (λ p. IsFitRead d → IsBounded (tree t) → IsFitOver d p)
+pub fit_if_read : (d : Domain) (t : Tree) (result : Result Problem InputFault) → ProblemReads d (tree t) result → IfOk result (λ p. IsFitRead d → IsBounded (tree t) → IsFitOver d p)
 fit_if_read d t (Ok p) read = λ over bounded. read_problems_fit d (tree t) p over bounded (tree_there t) read
 fit_if_read d t (Err fault) read = tt

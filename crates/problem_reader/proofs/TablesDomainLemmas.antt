@@ -15,10 +15,10 @@ use Rattle.name_tables.specs.Variables.{named_sorts, named_words, seen_after}
 use Rattle.name_tables.specs.declared.vocabulary.Vocabulary.{Vocabulary}
 use Rattle.domain_reader.specs.Cycles.{AreSorts, no_sorts, more_sorts, type_edges}
 use Rattle.domain_reader.specs.Domains as domains
-use Rattle.domain_reader.specs.Domains.{IsRead, constants_in, is_constants, no_typed}
+use Rattle.domain_reader.specs.Domains.{IsDomainRead, constants_in, is_constants, no_typed}
 use Rattle.domain_reader.specs.Tables.{body_of, no_names, vocabulary_of, with_item, with_items}
 use Rattle.problem_reader.specs.Laws.{NamesAreTheDomains, with_objects}
-use Rattle.problem_reader.specs.Tables.{names_of, nothing_signed, objects_in, put_constants, put_signatures, put_sorts}
+use Rattle.problem_reader.specs.Tables.{problem_names, nothing_signed, objects_in, put_constants, put_signatures, put_sorts}
 use Rattle.problem_reader.proofs.TablesObjectLemmas.{constants_put, even_each, names_each, none_more, seen_put, sorts_length}
 use Rattle.problem_reader.proofs.TablesLemmas.{built, put, signed_again}
 
@@ -78,7 +78,7 @@ objects_even sorts t (list items at rest) h =
 
 -- ---- all names
 
-module _ (t : Trees) (d : domain.Domain) (read : IsRead t d) where
+module _ (t : Trees) (d : domain.Domain) (read : IsDomainRead t d) where
   abbrev v : Vocabulary
   v = vocabulary_of (body_of t)
 
@@ -99,7 +99,7 @@ module _ (t : Trees) (d : domain.Domain) (read : IsRead t d) where
       ap (put_constants []) read.domain.parts.constants ∙ constants_put [] typed.names typed.sorts (objects_even v.sorts no_typed (body_of t) refl)
       ∙ ap (put []) (sym (objects_same v.sorts no_names no_typed (body_of t) refl)) ∙ (built (body_of t)).objects
 
-  known : (body : Trees) → names_of d body ≡ with_objects v body
+  known : (body : Trees) → problem_names d body ≡ with_objects v body
   known body = λ k. record { sorts = known_sorts k; predicates = known_predicates k; functions = known_functions k; objects = objects_in (known_objects k) body }
 
 pub names_are_known : NamesAreTheDomains

@@ -14,13 +14,13 @@ use Rattle.name_tables.proofs.Members.{any_at}
 use Rattle.std.proofs.lemmas.Option.{slice_get_within}
 use Rattle.name_tables.proofs.NamesUseLemmas.{place_holds, place_none, place_push, place_some}
 use Rattle.problem_reader.specs.Names.{is_worth}
-use Rattle.problem_reader.specs.Values.{Given, differs, spelled, term_in, value_at, value_in, value_names, value_of, value_put, with_value}
+use Rattle.problem_reader.specs.Values.{Given, differs, spelled, term_in, given_value, value_in, value_names, value_of, value_put, with_value}
 
 -- as many terms as values
 abbrev pub IsEven : Given → Type 0
 IsEven g = length g.terms ≡ length g.values
 
-value_by : (g : Given) (k : List ℕ) (o : Option ℕ) (n : ℕ) → value_at g o ≡ Some n → (p : ℕ) × (o ≡ Some p) × (slice_get g.values p ≡ Some n)
+value_by : (g : Given) (k : List ℕ) (o : Option ℕ) (n : ℕ) → given_value g o ≡ Some n → (p : ℕ) × (o ≡ Some p) × (slice_get g.values p ≡ Some n)
 value_by g k None n e = absurd (cc)
 value_by g k (Some p) n e = (p, refl, e)
 
@@ -29,7 +29,7 @@ known_name g k n e =
     elim (cases_Bool (has_name k g.terms)) [
       | inl known ↦ known
       | inr absent ↦
-          let none : value_at g None ≡ Some n = ap (value_at g) (sym (place_none k g.terms absent)) ∙ e in
+          let none : given_value g None ≡ Some n = ap (given_value g) (sym (place_none k g.terms absent)) ∙ e in
           absurd (cc)
     ]
 
@@ -39,7 +39,7 @@ pushed g t x = record { terms = g.terms ++ t ∷ []; values = g.values ++ x ∷ 
 kept_pushed : (g : Given) (k t : List ℕ) (x n : ℕ) → value_of g k ≡ Some n → value_of (pushed g t x) k ≡ Some n
 kept_pushed g k t x n e =
     let at = value_by g k (place_of k g.terms) n e in
-    ap (value_at (pushed g t x)) (place_push k t g.terms (known_name g k n e) ∙ at.1) ∙ get_front g.values (x ∷ []) at.0 n at.2
+    ap (given_value (pushed g t x)) (place_push k t g.terms (known_name g k n e) ∙ at.1) ∙ get_front g.values (x ∷ []) at.0 n at.2
 
 kept_if : (b : Bool) (g h : Given) (k : List ℕ) (n : ℕ) → value_of g k ≡ Some n → value_of h k ≡ Some n → value_of (cond b g h) k ≡ Some n
 kept_if true g h k n e f = e
@@ -76,7 +76,7 @@ pushed_value g t x even none =
       | inl h ↦ absurd (let known : has_name t g.terms ≡ true = any_at (bytes_eq t) g.terms q t h ((bytes_eq-Decides t t).1 refl) in cc)
       | inr h ↦ h.0
     ] in
-    ap (value_at (pushed g t x)) (place_some t (g.terms ++ t ∷ []) there) ∙ ap (slice_get (g.values ++ x ∷ [])) (at_end ∙ even) ∙ get_middle g.values x []
+    ap (given_value (pushed g t x)) (place_some t (g.terms ++ t ∷ []) there) ∙ ap (slice_get (g.values ++ x ∷ [])) (at_end ∙ even) ∙ get_middle g.values x []
 
 same_by : (o : Option ℕ) (m x : ℕ) → o ≡ Some m → not (differs o x) ≡ true → o ≡ Some x
 same_by None m x e f = absurd (cc)
@@ -93,7 +93,7 @@ there_value g k even known =
     let p : ℕ = unwrap_or (place_of k g.terms) 0 in
     let inside : p < length g.terms = slice_get_within g.terms p k (place_holds k g.terms known) in
     let found = at g.values p (omega (arith, inside, even)) in
-    (found.0, ap (value_at g) (place_some k g.terms known) ∙ found.1)
+    (found.0, ap (given_value g) (place_some k g.terms known) ∙ found.1)
   where
     at : (xs : List ℕ) (i : ℕ) → i < length xs → (x : ℕ) × (slice_get xs i ≡ Some x)
     at [] i h = absurd (omega arith)

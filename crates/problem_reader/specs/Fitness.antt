@@ -16,5 +16,5 @@ IsFitOver d p = (streams : List Stream) → IsFitProblem (record { domain = d; p
 pub record IsFitRead (d : Domain) : Type 0 where
   pub text : Trees
   pub bounded : IsBounded text
-  pub read : domains.IsRead text d
+  pub read : domains.IsDomainRead text d
   pub fit : IsFitDomain d

@@ -3,9 +3,9 @@ use Rattle.std.specs.Prelude.{◌≡◌}
 use Rattle.sexpr_text.specs.Trees.{Trees}
 use Rattle.task_model.specs.declared.domain.Domain.{Domain}
 use Rattle.name_tables.specs.declared.vocabulary.Vocabulary.{Vocabulary}
-use Rattle.domain_reader.specs.Domains.{IsRead}
+use Rattle.domain_reader.specs.Domains.{IsDomainRead}
 use Rattle.domain_reader.specs.Domains as domains
-use Rattle.problem_reader.specs.Tables.{names_of, objects_in}
+use Rattle.problem_reader.specs.Tables.{problem_names, objects_in}
 
 -- names with the objects that items declare behind the others
 abbrev pub with_objects : Vocabulary → Trees → Vocabulary
@@ -14,4 +14,4 @@ with_objects v body = record v { objects = objects_in v.objects body }
 -- Of a domain that was read from a text, a problem's names are those in the domain's text, with their numbers, and its
 -- objects behind them.
 abbrev pub NamesAreTheDomains : Type 0
-NamesAreTheDomains = (t : Trees) (d : Domain) (body : Trees) → IsRead t d → names_of d body ≡ with_objects (domains.names_of t) body
+NamesAreTheDomains = (t : Trees) (d : Domain) (body : Trees) → IsDomainRead t d → problem_names d body ≡ with_objects (domains.domain_names t) body

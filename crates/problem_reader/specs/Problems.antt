@@ -15,7 +15,7 @@ use Rattle.form_reader.specs.declared.groups.Spot.TheVariants.{Start}
 use Rattle.form_reader.specs.declared.items.Item.{Item}
 use Rattle.form_reader.specs.declared.items.Item.TheVariants as item
 use Rattle.form_reader.specs.declared.items.TextKind.TheVariants as text
-use Rattle.form_reader.specs.Faults.{least}
+use Rattle.form_reader.specs.Faults.{least_fault}
 use Rattle.form_reader.specs.Items.{item_of}
 use Rattle.form_reader.specs.Rows.{head_of, tail_of}
 use Rattle.form_reader.specs.Texts.{form_faults}
@@ -28,7 +28,7 @@ use Rattle.name_tables.specs.declared.vocabulary.Vocabulary.{Vocabulary}
 use Rattle.domain_reader.specs.Names.{second_items}
 use Rattle.domain_reader.specs.Tables.{body_of, name_of}
 use Rattle.problem_reader.specs.Names.{is_worth, items_names}
-use Rattle.problem_reader.specs.Tables.{is_objects, names_of}
+use Rattle.problem_reader.specs.Tables.{is_objects, problem_names}
 use Rattle.problem_reader.specs.Values.{is_init, nothing_given, term_in, value_in, values_names}
 
 -- ---- name faults
@@ -39,7 +39,7 @@ names_faults d v body = items_names v d body ++ second_items text.Problem [] bod
 
 -- all of a text that is this row of one tree, as a problem of this domain
 abbrev pub name_faults : Domain → Trees → List faults.Fault
-name_faults d t = names_faults d (names_of d (body_of t)) (body_of t)
+name_faults d t = names_faults d (problem_names d (body_of t)) (body_of t)
 
 -- ---- objects
 
@@ -141,28 +141,28 @@ problem_by d v t =
     }
 
 abbrev pub problem_of : Domain → Trees → Problem
-problem_of d t = problem_by d (names_of d (body_of t)) t
+problem_of d t = problem_by d (problem_names d (body_of t)) t
 
 -- ---- reading
 
 -- the problem that the names give, or the name fault that is answered
 abbrev pub ReadsNamed : Domain → Trees → Result Problem faults.Fault → Type 0
-ReadsNamed d t (Ok p) = (least (name_faults d t) ≡ None) × (p ≡ problem_of d t)
-ReadsNamed d t (Err f) = least (name_faults d t) ≡ Some f
+ReadsNamed d t (Ok p) = (least_fault (name_faults d t) ≡ None) × (p ≡ problem_of d t)
+ReadsNamed d t (Err f) = least_fault (name_faults d t) ≡ Some f
 
 -- The fault is answered: of form faults the least, and where there is none, of name faults the least.
-pub data IsAnswered (d : Domain) (t : Trees) (f : faults.Fault) : Type 0 where
-  of_form : least (form_faults text.Problem t) ≡ Some f → IsAnswered d t f
-  of_names : form_faults text.Problem t ≡ [] → least (name_faults d t) ≡ Some f → IsAnswered d t f
+pub data IsProblemAnswered (d : Domain) (t : Trees) (f : faults.Fault) : Type 0 where
+  of_form : least_fault (form_faults text.Problem t) ≡ Some f → IsProblemAnswered d t f
+  of_names : form_faults text.Problem t ≡ [] → least_fault (name_faults d t) ≡ Some f → IsProblemAnswered d t f
 
 -- there is no fault, and this is the problem
-pub record IsRead (d : Domain) (t : Trees) (p : Problem) : Type 0 where
+pub record IsProblemRead (d : Domain) (t : Trees) (p : Problem) : Type 0 where
   pub formed : form_faults text.Problem t ≡ []
   pub named : name_faults d t ≡ []
   pub problem : p ≡ problem_of d t
 
 -- A problem is read where there is no fault, and a fault is the answered one. Memory is free.
-abbrev pub Reads : Domain → Trees → Result Problem InputFault → Type 0
-Reads d t (Ok p) = IsRead d t p
-Reads d t (Err (input.At place kind)) = IsAnswered d t (record { place = place; kind = kind })
-Reads d t (Err input.Memory) = Unit {0}
+abbrev pub ProblemReads : Domain → Trees → Result Problem InputFault → Type 0
+ProblemReads d t (Ok p) = IsProblemRead d t p
+ProblemReads d t (Err (input.At place kind)) = IsProblemAnswered d t (record { place = place; kind = kind })
+ProblemReads d t (Err input.Memory) = Unit {0}

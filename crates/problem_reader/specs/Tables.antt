@@ -44,8 +44,8 @@ abbrev pub nothing_signed : Signed
 nothing_signed = record { names = []; arities = [] }
 
 -- the names of a problem of this domain with these items: the domain's, and behind its constants the objects
-abbrev pub names_of : Domain → Trees → Vocabulary
-names_of d body =
+abbrev pub problem_names : Domain → Trees → Vocabulary
+problem_names d body =
     record {
       sorts = put_sorts [] d.sorts;
       predicates = put_signatures nothing_signed d.predicates;

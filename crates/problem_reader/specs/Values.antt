@@ -48,12 +48,12 @@ pub record Given : Type 0 where
 abbrev pub nothing_given : Given
 nothing_given = record { terms = []; values = [] }
 
-abbrev pub value_at : Given → Option ℕ → Option ℕ
-value_at g None = None
-value_at g (Some place) = slice_get g.values place
+abbrev pub given_value : Given → Option ℕ → Option ℕ
+given_value g None = None
+given_value g (Some place) = slice_get g.values place
 
 abbrev pub value_of : Given → List ℕ → Option ℕ
-value_of g term = value_at g (place_of term g.terms)
+value_of g term = given_value g (place_of term g.terms)
 
 -- the first value of a term stays
 abbrev pub with_value : Given → List ℕ → ℕ → Given

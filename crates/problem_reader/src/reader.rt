@@ -1,7 +1,7 @@
 //! Problems, from trees.
 ghost use Rattle.std.specs.Prelude.{◌≡◌, IfOk};
 ghost use Rattle.sexpr_text.specs.Trees.{tree, trees};
-ghost use Rattle.form_reader.specs.Faults.{least};
+ghost use Rattle.form_reader.specs.Faults.{least_fault};
 ghost use Rattle.name_tables.specs.Sizes.{IsBounded};
 ghost use Rattle.problem_reader.specs.Fitness.{IsFitOver, IsFitRead};
 ghost use Rattle.problem_reader.specs.Problems as specs;
@@ -26,7 +26,7 @@ fn check_names(
     names: &Vocabulary,
     body: &[Tree],
 ) -> Result<Option<Fault>, AllocError>
-    ensures { IfOk result (λ f. f ≡ least (specs.names_faults domain.now names.now (trees body.now))) }
+    ensures { IfOk result (λ f. f ≡ least_fault (specs.names_faults domain.now names.now (trees body.now))) }
 {
     let used = check_items(alloc, names, domain, body, None)?;
     let single = check_second_items(alloc, TextKind::Problem, body, used)?;
@@ -54,7 +54,7 @@ fn read_named(
 
 /// The problem, or the fault that is answered.
 fn read(alloc: Global, text: &Tree, domain: &Domain) -> Result<Problem, InputFault>
-    ensures { specs.Reads domain.now (tree text.now) result }
+    ensures { specs.ProblemReads domain.now (tree text.now) result }
 {
     if let Some(Fault { place, kind }) = check_form(TextKind::Problem, text) {
         return Err(InputFault::At { place, kind });
@@ -77,7 +77,7 @@ fn read(alloc: Global, text: &Tree, domain: &Domain) -> Result<Problem, InputFau
 ///   number.
 /// - `Memory`: memory ran out, which says nothing of the text.
 pub fn read_problem(alloc: Global, text: &Tree, domain: &Domain) -> Result<Problem, InputFault>
-    ensures reads { specs.Reads domain.now (tree text.now) result }
+    ensures reads { specs.ProblemReads domain.now (tree text.now) result }
     // Over a fit domain that was read, the problem of a tree as texts of at most 4 MiB give it is fit.
     ensures fit { IfOk result (λ p. IsFitRead domain.now → IsBounded (tree text.now) → IsFitOver domain.now p) }
 {

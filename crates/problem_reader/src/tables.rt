@@ -73,7 +73,7 @@ pub(crate) fn names_of(
     domain: &Domain,
     body: &[Tree],
 ) -> Result<Vocabulary, AllocError>
-    ensures { IfOk result (λ names. names ≡ specs.names_of domain.now (trees body.now)) }
+    ensures { IfOk result (λ names. names ≡ specs.problem_names domain.now (trees body.now)) }
 {
     let mut names = Vocabulary {
         sorts: NameTable::new(alloc),

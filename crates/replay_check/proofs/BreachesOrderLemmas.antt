@@ -7,8 +7,8 @@ use Rattle.instance_queue.specs.declared.due.Due.{Due}
 use Rattle.level_course.proofs.CoursesStepLemmas.{turns_lead}
 use Rattle.level_course.proofs.CoursesLemmas.{due_once, leads_apart, leads_once}
 use Rattle.level_course.specs.Agendas.{Agenda, place_in}
-use Rattle.level_course.specs.Courses.{Course, IsStep, at_first}
-use Rattle.session_core.specs.Learning.{number_of}
+use Rattle.level_course.specs.Courses.{Course, IsCourseStep, at_first}
+use Rattle.session_core.specs.Learning.{answered_number}
 use Rattle.session_core.specs.Session.{is_answer}
 use Rattle.task_model.specs.Streams.{MoreAreDue, yields_of}
 use Rattle.task_model.specs.declared.stream.Instance.{Instance}
@@ -25,7 +25,7 @@ use Rattle.transcript_model.specs.declared.entry.Entry.TheVariants as entry
 use Rattle.transcript_model.specs.declared.head.Mode.TheVariants.{Incremental}
 use Rattle.replay_check.proofs.ClaimsLemmas.{all_due, more_due}
 use Rattle.replay_check.specs.Breaches.{AreBegun, BreaksEntry, MayAsk}
-use Rattle.replay_check.specs.Kinds.{number_of as kind_number}
+use Rattle.replay_check.specs.Kinds.{breach_number as kind_number}
 use Rattle.replay_check.specs.Standings.{IsNextRequest, IsWrong, StandsBehind}
 use Rattle.replay_check.specs.declared.verdict.BreachKind.{BreachKind}
 use Rattle.replay_check.specs.declared.verdict.BreachKind.TheVariants as kind
@@ -51,7 +51,7 @@ first_request task es number (i ∷ is) e rest asks = (i, refl, let same : e ≡
 ask_is : (number : ℕ) (e : Entry) (turn : ℕ) (call : Call) → e ≡ entry.Ask number turn call → is_ask e ≡ true
 ask_is number e turn call is = ap is_ask is
 
-answer_no_ask : (e : Entry) (n : ℕ) → number_of e ≡ Some n → is_ask e ≡ false
+answer_no_ask : (e : Entry) (n : ℕ) → answered_number e ≡ Some n → is_ask e ≡ false
 answer_no_ask (entry.Got m tuples values) n is = refl
 answer_no_ask (entry.Value m value) n is = refl
 answer_no_ask (entry.End m) n is = refl
@@ -64,7 +64,7 @@ answer_no_ask (entry.Pick m) n is = refl
 answer_no_ask (entry.Retire m) n is = refl
 
 -- an answer to a request has its number
-answer_number : (e : Entry) (n : ℕ) → is_answer_to n e ≡ true → number_of e ≡ Some n
+answer_number : (e : Entry) (n : ℕ) → is_answer_to n e ≡ true → answered_number e ≡ Some n
 answer_number (entry.Got m tuples values) n to = ap Some (sym (eqb-true n m to))
 answer_number (entry.Value m value) n to = ap Some (sym (eqb-true n m to))
 answer_number (entry.End m) n to = ap Some (sym (eqb-true n m to))
@@ -83,19 +83,19 @@ some_is m n e = cc
 
 module _ (limits : Limits) (task : Task) (entries : List Entry) (l : Ledger) (a : Agenda) (mode : limits.mode ≡ Incremental) (s : StandsBehind limits task entries l a) where
   -- where a turn goes on with the entry, it is a step from here
-  step_of : (e : Entry) → AreBegun limits task (entries ++ e ∷ []) → (after : Course) × IsStep limits task entries (place_in task entries a) e after
+  step_of : (e : Entry) → AreBegun limits task (entries ++ e ∷ []) → (after : Course) × IsCourseStep limits task entries (place_in task entries a) e after
   step_of e (stage, turns) =
       let those : AreTurns limits task (IncrementalTurn limits task) tt [] (entries ++ e ∷ []) stage = subst (λ m. AreTurnsOf m limits task (entries ++ e ∷ []) stage) mode turns in
       let to = turns_lead limits task tt [] (entries ++ e ∷ []) stage at_first those refl refl in
       let parts = leads_apart limits task at_first [] entries (e ∷ []) to.last to.leads in
       let same : parts.0 ≡ place_in task entries a = leads_once limits task at_first [] entries parts.0 (place_in task entries a) parts.1 s.leads in
-      (parts.2.0, subst (λ c. IsStep limits task entries c e parts.2.0) same parts.2.1)
+      (parts.2.0, subst (λ c. IsCourseStep limits task entries c e parts.2.0) same parts.2.1)
 
   -- a request with which a turn goes on is the next
   pub next_request : (number turn : ℕ) (call : Call) → AreBegun limits task (entries ++ entry.Ask number turn call ∷ []) → IsNextRequest task l a number turn call
   next_request number turn call begun = by (step_of (entry.Ask number turn call) begun)
     where
-      by : (after : Course) × IsStep limits task entries (place_in task entries a) (entry.Ask number turn call) after → IsNextRequest task l a number turn call
+      by : (after : Course) × IsCourseStep limits task entries (place_in task entries a) (entry.Ask number turn call) after → IsNextRequest task l a number turn call
       by (after, inl b) = absurd (let is = b.is in cc)
       by (after, inr (inl m)) =
           let first = first_request task entries (asks_of entries + 1) a.to_ask (entry.Ask number turn call) m.rest m.asks in
@@ -107,11 +107,11 @@ module _ (limits : Limits) (task : Task) (entries : List Entry) (l : Ledger) (a 
       by (after, inr (inr g)) = absurd (let to = g.to in cc)
 
   -- an answer with which a turn goes on answers the next request of a round that is asked
-  pub next_answer : (e : Entry) (n : ℕ) → number_of e ≡ Some n → AreBegun limits task (entries ++ e ∷ []) → (n ≡ a.next) × (a.to_ask ≡ []) × (0 < a.answers)
+  pub next_answer : (e : Entry) (n : ℕ) → answered_number e ≡ Some n → AreBegun limits task (entries ++ e ∷ []) → (n ≡ a.next) × (a.to_ask ≡ []) × (0 < a.answers)
   next_answer e n is begun = by (step_of e begun)
     where
-      by : (after : Course) × IsStep limits task entries (place_in task entries a) e after → (n ≡ a.next) × (a.to_ask ≡ []) × (0 < a.answers)
-      by (after, inl b) = absurd (let level : number_of entry.Level ≡ Some n = ap number_of (sym b.is) ∙ is in cc)
+      by : (after : Course) × IsCourseStep limits task entries (place_in task entries a) e after → (n ≡ a.next) × (a.to_ask ≡ []) × (0 < a.answers)
+      by (after, inl b) = absurd (let level : answered_number entry.Level ≡ Some n = ap answered_number (sym b.is) ∙ is in cc)
       by (after, inr (inl m)) =
           let first = first_request task entries (asks_of entries + 1) a.to_ask e m.rest m.asks in
           absurd (no (sym (ap is_ask first.2) ∙ answer_no_ask e n is))
@@ -124,7 +124,7 @@ module _ (limits : Limits) (task : Task) (entries : List Entry) (l : Ledger) (a 
   pub next_level : AreBegun limits task (entries ++ entry.Level ∷ []) → (a.answers ≡ 0) × (a.is_cut ≡ false) × MayBegin limits task entries
   next_level begun = by (step_of entry.Level begun)
     where
-      by : (after : Course) × IsStep limits task entries (place_in task entries a) entry.Level after → (a.answers ≡ 0) × (a.is_cut ≡ false) × MayBegin limits task entries
+      by : (after : Course) × IsCourseStep limits task entries (place_in task entries a) entry.Level after → (a.answers ≡ 0) × (a.is_cut ≡ false) × MayBegin limits task entries
       by (after, inl b) = (b.resting, b.uncut, b.may)
       by (after, inr (inl m)) =
           let first = first_request task entries (asks_of entries + 1) a.to_ask entry.Level m.rest m.asks in
@@ -132,10 +132,10 @@ module _ (limits : Limits) (task : Task) (entries : List Entry) (l : Ledger) (a 
       by (after, inr (inr g)) = absurd (let to = g.to in cc)
 
   -- no turn goes on with any other entry
-  pub next_other : (e : Entry) → is_ask e ≡ false → number_of e ≡ None → ¬ (e ≡ entry.Level) → ¬ (AreBegun limits task (entries ++ e ∷ []))
+  pub next_other : (e : Entry) → is_ask e ≡ false → answered_number e ≡ None → ¬ (e ≡ entry.Level) → ¬ (AreBegun limits task (entries ++ e ∷ []))
   next_other e no_ask no_answer no_level begun = by (step_of e begun)
     where
-      by : (after : Course) × IsStep limits task entries (place_in task entries a) e after → ⊥
+      by : (after : Course) × IsCourseStep limits task entries (place_in task entries a) e after → ⊥
       by (after, inl b) = no_level b.is
       by (after, inr (inl m)) =
           let first = first_request task entries (asks_of entries + 1) a.to_ask e m.rest m.asks in
@@ -211,7 +211,7 @@ module _ (limits : Limits) (task : Task) (before : List Entry) (e : Entry) where
       first kind.From lt breaks = omega (arith, lt)
       first kind.Outcome lt breaks = omega (arith, lt)
 
-pub answer_is : (e : Entry) (n : ℕ) → number_of e ≡ Some n → (is_answer e ≡ true) × (is_ask e ≡ false)
+pub answer_is : (e : Entry) (n : ℕ) → answered_number e ≡ Some n → (is_answer e ≡ true) × (is_ask e ≡ false)
 answer_is (entry.Got m tuples values) n is = (refl, refl)
 answer_is (entry.Value m value) n is = (refl, refl)
 answer_is (entry.End m) n is = (refl, refl)

@@ -21,10 +21,10 @@ use Rattle.replay_check.proofs.OriginsLemmas.{origins_once}
 use Rattle.replay_check.specs.Breaches.{BreaksClaim, BreaksOutcome, BreaksPlan, BreaksSaid, BreaksStep, IsMisplaced}
 use Rattle.replay_check.specs.Claims.{IsJudged}
 use Rattle.replay_check.specs.Findings.{IsClaim, IsFound, IsPlaced}
-use Rattle.replay_check.specs.Kinds.{number_of}
+use Rattle.replay_check.specs.Kinds.{breach_number}
 use Rattle.replay_check.specs.Lines.{Precedes}
 use Rattle.replay_check.specs.Plans.{CanRun, IsPlan}
-use Rattle.replay_check.specs.Runs.{DiffersAt, IsPlanned, StopsAt}
+use Rattle.replay_check.specs.Runs.{DiffersAt, IsPlanned, StopsAtStep}
 use Rattle.replay_check.specs.declared.claims.Claim.TheVariants as claim
 use Rattle.replay_check.specs.declared.outcome.Finding.TheVariants as finding
 use Rattle.replay_check.specs.declared.plan.Planned.TheVariants as planned
@@ -39,7 +39,7 @@ not_later line k other than (inl lt) = omega arith
 not_later line k other than (inr (is, lt)) = omega (arith, is)
 
 -- what precedes another of its line is of a smaller kind
-pub smaller : (line : ℕ) (k than : BreachKind) → Precedes line k line than → number_of k < number_of than
+pub smaller : (line : ℕ) (k than : BreachKind) → Precedes line k line than → breach_number k < breach_number than
 smaller line k than (inl lt) = absurd (omega arith)
 smaller line k than (inr (is, lt)) = lt
 
@@ -91,7 +91,7 @@ module _ (limits : Limits) (limit : ℕ) (task : Task) (entries : List Entry) (c
   said offset kind.From wrong = wrong
   said offset kind.Outcome wrong = wrong
 
-  stuck_first : (place other : ℕ) (than : BreachKind) → StopsAt task entries calls place → BreaksPlan limits task entries calls cost from other than → Precedes other than (place + 1) kind.Plan → ⊥
+  stuck_first : (place other : ℕ) (than : BreachKind) → StopsAtStep task entries calls place → BreaksPlan limits task entries calls cost from other than → Precedes other than (place + 1) kind.Plan → ⊥
   stuck_first place other kind.Plan stops (inl b) before =
       none_stuck task entries calls place other stops.runs b (earlier before)
     where
@@ -159,7 +159,7 @@ module _ (limits : Limits) (limit : ℕ) (task : Task) (entries : List Entry) (c
   pub right_found : IsPlanned limits.version task entries calls cost from planned.Right → IsFound limits limit task entries (outcome.Plan calls cost from) finding.Holds
   right_found plan = (placed.stands plan, λ none. none)
 
-  pub stuck_found : (place : ℕ) → StopsAt task entries calls place → IsFound limits limit task entries (outcome.Plan calls cost from) (finding.Breaks (place + 1) kind.Plan)
+  pub stuck_found : (place : ℕ) → StopsAtStep task entries calls place → IsFound limits limit task entries (outcome.Plan calls cost from) (finding.Breaks (place + 1) kind.Plan)
   stuck_found place stops =
       record {
         breaks = inl (record { place = place; within = stops.within; stuck = stops.stuck; is = refl });
@@ -253,7 +253,7 @@ module _ (limits : Limits) (limit : ℕ) (task : Task) (entries : List Entry) (o
   before_order offset k wrong (inl lt) = omega (arith, lt)
   before_order offset k wrong (inr (at, lt)) = small o k wrong lt
     where
-      small : (p : Outcome) (j : BreachKind) → BreaksOutcome limits task entries p offset j → number_of j < 5 → ⊥
+      small : (p : Outcome) (j : BreachKind) → BreaksOutcome limits task entries p offset j → breach_number j < 5 → ⊥
       small (outcome.Plan calls cost from) kind.Text bad few = bad
       small (outcome.Plan calls cost from) kind.Head bad few = bad
       small (outcome.Plan calls cost from) kind.Ask bad few = bad

@@ -7,7 +7,7 @@ use Rattle.transcript_model.specs.declared.head.PoolLine.{PoolLine}
 use Rattle.transcript_model.specs.declared.report.Report.{Report}
 use Rattle.replay_check.specs.Breaches.{BreaksHead}
 use Rattle.replay_check.specs.Heads.{AreFitPoolLines, are_fit_limits, is_fit_pool}
-use Rattle.replay_check.specs.Lines.{first_line}
+use Rattle.replay_check.specs.Lines.{line_behind_pools}
 
 at_place : {A : Type 0} (xs : List A) (k : ℕ) → k < length xs → (x : A) × (slice_get xs k ≡ Some x)
 at_place [] k lt = absurd (omega (arith, lt))
@@ -42,7 +42,7 @@ module _ (task : Task) (r : Report) (place : ℕ) (mode : r.mode ≡ Incremental
       by (inr le) = let is = b.is in omega (arith, is, le)
   none_before other (inr (inr (inr (at, wrong)))) = omega (arith, at, within)
 
-  pub first_wrong : IfSome (slice_get r.pools place) (λ pool. is_fit_pool task (take place r.pools) pool ≡ false) → BreaksHead task r (place + 3) × (place + 3 ≤ first_line r) × ((other : ℕ) → BreaksHead task r other → place + 3 ≤ other)
+  pub first_wrong : IfSome (slice_get r.pools place) (λ pool. is_fit_pool task (take place r.pools) pool ≡ false) → BreaksHead task r (place + 3) × (place + 3 ≤ line_behind_pools r) × ((other : ℕ) → BreaksHead task r other → place + 3 ≤ other)
   first_wrong said =
       let here = at_place r.pools place within in
       let wrong = subst (λ o. IfSome o (λ pool. is_fit_pool task (take place r.pools) pool ≡ false)) here.1 said in

@@ -12,7 +12,7 @@ use Rattle.report_text.specs.Forms.{IsFormed}
 use Rattle.report_text.specs.Texts.{text_of_report}
 use Rattle.transcript_model.specs.declared.report.Report.{Report}
 use Rattle.replay_check.proofs.RightReportLemmas.{no_breach}
-use Rattle.replay_check.specs.Kinds.{number_of}
+use Rattle.replay_check.specs.Kinds.{breach_number}
 use Rattle.replay_check.specs.Lines.{Precedes}
 use Rattle.replay_check.specs.Verdicts.{IsReportVerdict, IsRightReport, IsUndecided, IsVerdict}
 use Rattle.replay_check.specs.declared.verdict.BreachKind.{BreachKind}
@@ -65,7 +65,7 @@ kind_at n =
     if n == 1 then kind.Text else if n == 2 then kind.Head else if n == 3 then kind.Ask else if n == 4 then kind.Answer else if n == 5 then kind.Order
     else if n == 6 then kind.Dream else if n == 7 then kind.Plan else if n == 8 then kind.Cost else if n == 9 then kind.From else kind.Outcome
 
-kind_is : (k : BreachKind) → kind_at (number_of k) ≡ k
+kind_is : (k : BreachKind) → kind_at (breach_number k) ≡ k
 unfolding kind_at
 kind_is kind.Text = refl
 kind_is kind.Head = refl
@@ -81,7 +81,7 @@ kind_is kind.Outcome = refl
 neither : (line other : ℕ) (k than : BreachKind) → ¬ (Precedes line k other than) → ¬ (Precedes other than line k) → (line ≡ other) × (k ≡ than)
 neither line other k than first second =
     let lines : line ≡ other = by (cases_lt line other) (cases_lt other line) in
-    let numbers = of lines (cases_lt (number_of k) (number_of than)) (cases_lt (number_of than) (number_of k)) in
+    let numbers = of lines (cases_lt (breach_number k) (breach_number than)) (cases_lt (breach_number than) (breach_number k)) in
     (lines, sym (kind_is k) ∙ ap kind_at numbers ∙ kind_is than)
   where
     by : (line < other) ⊎ (other ≤ line) → (other < line) ⊎ (line ≤ other) → line ≡ other
@@ -89,7 +89,7 @@ neither line other k than first second =
     by (inr ge) (inl lt) = absurd (second (inl lt))
     by (inr ge) (inr le) = omega (arith, ge, le)
 
-    of : line ≡ other → (number_of k < number_of than) ⊎ (number_of than ≤ number_of k) → (number_of than < number_of k) ⊎ (number_of k ≤ number_of than) → number_of k ≡ number_of than
+    of : line ≡ other → (breach_number k < breach_number than) ⊎ (breach_number than ≤ breach_number k) → (breach_number than < breach_number k) ⊎ (breach_number k ≤ breach_number than) → breach_number k ≡ breach_number than
     of same (inl lt) q = absurd (first (inr (same, lt)))
     of same (inr ge) (inl lt) = absurd (second (inr (sym same, lt)))
     of same (inr ge) (inr le) = omega (arith, ge, le)

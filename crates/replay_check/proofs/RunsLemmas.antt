@@ -29,7 +29,7 @@ use Rattle.plan_check.specs.Faults.{StepFails}
 use Rattle.plan_check.specs.declared.fault.StepFault.{StepFault}
 use Rattle.plan_check.specs.declared.fault.StepFault.TheVariants.{NoAction, Args, Condition, NoCost, Memory}
 use Rattle.replay_check.specs.Plans.{CanRun}
-use Rattle.replay_check.specs.Runs.{IsRunOf, IsSum, StopsAt}
+use Rattle.replay_check.specs.Runs.{IsRunOf, IsSum, StopsAtStep}
 use Rattle.replay_check.specs.declared.steps.Run.{Run}
 use Rattle.transcript_ledger.specs.Steps.{action_named, step_named}
 
@@ -214,7 +214,7 @@ module _ (task : Task) (fit : IsFit task) (entries : List Entry) (coherent : IsC
       }
 
 -- a front that was taken can be taken, and with the next call it is stuck
-pub stops_at : (task : Task) (entries : List Entry) (calls : List Call) (place : ℕ) (call : Call) (run : Run) → IsRunOf task entries (take place calls) run → place < length calls → call ≡ get_or calls place call → ¬ (CanRun task entries (take place calls ++ call ∷ [])) → StopsAt task entries calls place
+pub stops_at : (task : Task) (entries : List Entry) (calls : List Call) (place : ℕ) (call : Call) (run : Run) → IsRunOf task entries (take place calls) run → place < length calls → call ≡ get_or calls place call → ¬ (CanRun task entries (take place calls ++ call ∷ [])) → StopsAtStep task entries calls place
 stops_at task entries calls place call run r lt is stuck =
     let next : take (place + 1) calls ≡ take place calls ++ call ∷ [] = take_more calls place call lt ∙ ap (λ (c : Call). take place calls ++ c ∷ []) (sym is) in
     record {

@@ -8,10 +8,10 @@ use Rattle.instance_queue.specs.Level.{AreDueInTurn, instances_of}
 use Rattle.instance_queue.specs.declared.due.Due.{Due}
 use Rattle.level_course.proofs.CoursesLemmas.{leads_then}
 use Rattle.level_course.specs.Agendas.{Agenda, Starts, nothing_to_do, place_in, with_answer, with_asked}
-use Rattle.level_course.specs.Courses.{Course, IsStep, Leads, Opens, at_first}
+use Rattle.level_course.specs.Courses.{Course, IsCourseStep, Leads, Opens, at_first}
 use Rattle.level_course.specs.Pools.{AllWork}
 use Rattle.session_core.proofs.SessionLemmas.{count_joined, count_one}
-use Rattle.session_core.specs.Learning.{number_of}
+use Rattle.session_core.specs.Learning.{answered_number}
 use Rattle.session_core.specs.Session.{is_answer}
 use Rattle.task_model.specs.Known.{Known}
 use Rattle.task_model.specs.Streams.{AreDue, Note, yields_of}
@@ -103,7 +103,7 @@ starts_open limits task es list number cut b workers next st =
 
 -- ---- answers
 
-pub answers_it : (e : Entry) (n : ℕ) → number_of e ≡ Some n → is_answer_to n e ≡ true
+pub answers_it : (e : Entry) (n : ℕ) → answered_number e ≡ Some n → is_answer_to n e ≡ true
 answers_it (entry.Got m tuples values) n is = let same : n ≡ m = cc in eq-eqb n m same
 answers_it (entry.Value m value) n is = let same : n ≡ m = cc in eq-eqb n m same
 answers_it (entry.End m) n is = let same : n ≡ m = cc in eq-eqb n m same
@@ -133,7 +133,7 @@ stands_first limits task l ledger =
 -- ---- one entry more
 
 module _ (limits : Limits) (task : Task) (entries : List Entry) (l : Ledger) (a : Agenda) (s : StandsBehind limits task entries l a) where
-  one_step : (e : Entry) (after : Course) → IsStep limits task entries (place_in task entries a) e after → Leads limits task at_first [] (entries ++ e ∷ []) after
+  one_step : (e : Entry) (after : Course) → IsCourseStep limits task entries (place_in task entries a) e after → Leads limits task at_first [] (entries ++ e ∷ []) after
   one_step e after step = leads_then limits task at_first [] entries (e ∷ []) (place_in task entries a) after s.leads (after, step, refl)
 
   -- ---- a request
@@ -209,7 +209,7 @@ module _ (limits : Limits) (task : Task) (entries : List Entry) (l : Ledger) (a 
 
   -- ---- an answer
 
-  module _ (n : ℕ) (e : Entry) (is : number_of e ≡ Some n) (next : n ≡ a.next) (none : a.to_ask ≡ []) (may : MayFollow limits.version task entries e) (workers : AllWork limits.pools) (few : limits.calls ≤ 100000) where
+  module _ (n : ℕ) (e : Entry) (is : answered_number e ≡ Some n) (next : n ≡ a.next) (none : a.to_ask ≡ []) (may : MayFollow limits.version task entries e) (workers : AllWork limits.pools) (few : limits.calls ≤ 100000) where
     no_more : length a.to_ask ≡ 0
     no_more = ap length none
 
@@ -222,7 +222,7 @@ module _ (limits : Limits) (task : Task) (entries : List Entry) (l : Ledger) (a 
     gives : AddsAnswer task entries e n here.0
     gives = answer_adds limits.version task entries s.ledger.fit.problem.objects.names.distinct s.ledger.legal n here.0 here.1 e (answers_it e n is)
 
-    one_line : (d : Entry) → number_of d ≡ Some n → length (entry_lines d) ≡ 1
+    one_line : (d : Entry) → answered_number d ≡ Some n → length (entry_lines d) ≡ 1
     one_line (entry.Got m tuples values) at = refl
     one_line (entry.Value m value) at = refl
     one_line (entry.End m) at = refl

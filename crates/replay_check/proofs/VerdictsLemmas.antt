@@ -24,8 +24,8 @@ use Rattle.replay_check.specs.Breaches.{BreaksEntry, BreaksEntries, BreaksEnd, B
 use Rattle.replay_check.specs.Findings.{IsFound, NoneEarlier}
 use Rattle.replay_check.specs.Headed.{IsHeaded}
 use Rattle.replay_check.specs.Heads.{AreFitPoolLines, IsFitHead, are_fit_limits, are_new, is_fit_pool, limits_in, served_by, share_in, workers_in}
-use Rattle.replay_check.specs.Kinds.{number_of}
-use Rattle.replay_check.specs.Lines.{Precedes, first_line, line_of, outcome_line, report_lines}
+use Rattle.replay_check.specs.Kinds.{breach_number}
+use Rattle.replay_check.specs.Lines.{Precedes, line_behind_pools, line_of, outcome_line, report_lines}
 use Rattle.replay_check.specs.Standings.{AreBounds, IsStanding, limits_by}
 use Rattle.replay_check.specs.Verdicts.{IsReportVerdict, IsUndecidedClaim, NonePrecedes}
 use Rattle.replay_check.specs.Walks.{IsWrongAt}
@@ -74,7 +74,7 @@ at_base base = omega arith
 -- ---- kinds
 
 -- an entry is wrong in none of the first two ways
-entry_kind : (limits : Limits) (task : Task) (before : List Entry) (e : Entry) (k : BreachKind) → BreaksEntry limits task before e k → 3 ≤ number_of k
+entry_kind : (limits : Limits) (task : Task) (before : List Entry) (e : Entry) (k : BreachKind) → BreaksEntry limits task before e k → 3 ≤ breach_number k
 entry_kind limits task before e kind.Text wrong = absurd wrong
 entry_kind limits task before e kind.Head wrong = absurd wrong
 entry_kind limits task before e kind.Ask wrong = omega arith
@@ -87,7 +87,7 @@ entry_kind limits task before e kind.From wrong = omega arith
 entry_kind limits task before e kind.Outcome wrong = omega arith
 
 -- and so is an outcome
-outcome_kind : (limits : Limits) (task : Task) (entries : List Entry) (o : Outcome) (offset : ℕ) (k : BreachKind) → BreaksOutcome limits task entries o offset k → 3 ≤ number_of k
+outcome_kind : (limits : Limits) (task : Task) (entries : List Entry) (o : Outcome) (offset : ℕ) (k : BreachKind) → BreaksOutcome limits task entries o offset k → 3 ≤ breach_number k
 outcome_kind limits task entries (outcome.Plan calls cost from) offset kind.Text wrong = absurd wrong
 outcome_kind limits task entries outcome.NoPlan offset kind.Text wrong = absurd wrong
 outcome_kind limits task entries (outcome.Limit which) offset kind.Text wrong = absurd wrong
@@ -163,13 +163,13 @@ module _ (b : Bounds) (r : Report) (limit : ℕ) (bounds : AreBounds b) (head : 
     place_within : place < length r.entries
     place_within = within r.entries place w.e w.there
 
-    line_is : first_line r + place ≡ line_of r place
+    line_is : line_behind_pools r + place ≡ line_of r place
     line_is =
         let lines = w.standing.lines in
         let long = length-take-le place r.entries (let lt = place_within in omega (arith, lt)) in
         omega (arith, lines, long)
 
-    before_end : first_line r + place < outcome_line r
+    before_end : line_behind_pools r + place < outcome_line r
     before_end = let past = lines_past r.entries place place_within in let is = line_is in omega (arith, past, is)
 
     not_before : (other : ℕ) (than : BreachKind) → (x : BreaksEntries task r other than) → x.place < place → ⊥
@@ -178,15 +178,15 @@ module _ (b : Bounds) (r : Report) (limit : ℕ) (bounds : AreBounds b) (head : 
         none_wrong (take place r.entries) w.before w.standing x.place x.e than front.0
         (subst (λ es. BreaksEntry (limits_by b) task es x.e than) (sym front.1) (by_bounds (take x.place r.entries) x.e than x.wrong))
 
-    not_behind : (other : ℕ) (than : BreachKind) → (x : BreaksEntries task r other than) → place < x.place → Precedes other than (first_line r + place) k → ⊥
+    not_behind : (other : ℕ) (than : BreachKind) → (x : BreaksEntries task r other than) → place < x.place → Precedes other than (line_behind_pools r + place) k → ⊥
     not_behind other than x lt before =
         let rise = lines_rise r.entries place x.place place_within lt in
-        let le = not_later other than (first_line r + place) k before in
+        let le = not_later other than (line_behind_pools r + place) k before in
         let is = x.is in
         let here = line_is in
         omega (arith, rise, le, is, here)
 
-    not_here : (other : ℕ) (than : BreachKind) → (x : BreaksEntries task r other than) → x.place ≡ place → Precedes other than (first_line r + place) k → ⊥
+    not_here : (other : ℕ) (than : BreachKind) → (x : BreaksEntries task r other than) → x.place ≡ place → Precedes other than (line_behind_pools r + place) k → ⊥
     not_here other than x same before =
         w.wrong.first than (smaller before)
         (subst (λ e. BreaksEntry (limits_by b) task (take place r.entries) e than) entry_is
@@ -198,7 +198,7 @@ module _ (b : Bounds) (r : Report) (limit : ℕ) (bounds : AreBounds b) (head : 
         entry_is : x.e ≡ w.e
         entry_is = some_is x.e w.e (sym x.there ∙ ap (slice_get r.entries) same ∙ w.there)
 
-        smaller : Precedes other than (first_line r + place) k → number_of than < number_of k
+        smaller : Precedes other than (line_behind_pools r + place) k → breach_number than < breach_number k
         smaller (inl lt) =
             let is = x.is in
             let at : line_of r x.place ≡ line_of r place = ap (line_of r) same in
@@ -206,7 +206,7 @@ module _ (b : Bounds) (r : Report) (limit : ℕ) (bounds : AreBounds b) (head : 
             absurd (omega (arith, is, at, here, lt))
         smaller (inr (is, lt)) = lt
 
-    entry_first : NonePrecedes task r (first_line r + place) k
+    entry_first : NonePrecedes task r (line_behind_pools r + place) k
     entry_first other than (inl (is, wrong)) before = head_right task r other head wrong
     entry_first other than (inr (inl x)) before = by (cases_lt x.place place) (cases_lt place x.place)
       where
@@ -215,12 +215,12 @@ module _ (b : Bounds) (r : Report) (limit : ℕ) (bounds : AreBounds b) (head : 
         by (inr ge) (inl lt) = not_behind other than x lt before
         by (inr ge) (inr le) = not_here other than x (omega (arith, ge, le)) before
     entry_first other than (inr (inr x)) before =
-        let le = not_later other than (first_line r + place) k before in
+        let le = not_later other than (line_behind_pools r + place) k before in
         let is = x.is in
         let end = before_end in
         omega (arith, le, is, end)
 
-    pub entry_found : IsReportVerdict limit task r (Invalid (first_line r + place) k)
+    pub entry_found : IsReportVerdict limit task r (Invalid (line_behind_pools r + place) k)
     entry_found =
         record {
           breach = inr (inl (record { place = place; e = w.e; there = w.there; wrong = subst (λ ls. BreaksEntry ls task (take place r.entries) w.e k) (sym limits) w.wrong.breaks; is = line_is }));
@@ -229,13 +229,13 @@ module _ (b : Bounds) (r : Report) (limit : ℕ) (bounds : AreBounds b) (head : 
         }
 
     -- the line is one of the report's
-    pub entry_line_few : first_line r + place < outcome_line r
+    pub entry_line_few : line_behind_pools r + place < outcome_line r
     entry_line_few = before_end
 
   -- ---- the outcome
 
   module _ (s : Standing) (stands : IsStanding b r.entries s) where
-    pub outcome_at : first_line r + length r.entries ≡ outcome_line r
+    pub outcome_at : line_behind_pools r + length r.entries ≡ outcome_line r
     outcome_at = let lines = stands.lines in omega (arith, lines)
 
     -- the line that is told is one of the report's

@@ -8,7 +8,7 @@ use Rattle.instance_queue.specs.declared.due.Due.{Due}
 use Rattle.level_course.specs.Agendas.{Starts, with_answer, with_asked}
 use Rattle.level_course.specs.Pools.{shares_of}
 use Rattle.session_core.proofs.LearningLemmas.{take_next}
-use Rattle.session_core.specs.Learning.{number_of}
+use Rattle.session_core.specs.Learning.{answered_number}
 use Rattle.session_core.specs.Session.{is_answer}
 use Rattle.lemmas.proofs.Members.{member_at}
 use Rattle.task_model.specs.Streams.{MoreAreDue}
@@ -100,7 +100,7 @@ module _ (b : Bounds) (entries : List Entry) (place : ℕ) (s : Standing) (can :
 
 -- ---- answers
 
-module _ (b : Bounds) (entries : List Entry) (place : ℕ) (s : Standing) (can : CanTake b entries place s) (n : ℕ) (e : Entry) (there : slice_get entries place ≡ Some e) (is : number_of e ≡ Some n) where
+module _ (b : Bounds) (entries : List Entry) (place : ℕ) (s : Standing) (can : CanTake b entries place s) (n : ℕ) (e : Entry) (there : slice_get entries place ≡ Some e) (is : answered_number e ≡ Some n) where
   pub answer_refused : ¬ (MayFollow b.version b.task.now (take place entries) e) → IsWrongAt b entries place kind.Answer
   answer_refused bad =
       let kinds = answer_is e n is in
@@ -159,12 +159,12 @@ module _ (b : Bounds) (entries : List Entry) (place : ℕ) (s : Standing) (can :
 
 -- ---- all other entries
 
-pub other_refused : (b : Bounds) (entries : List Entry) (place : ℕ) (s : Standing) (can : CanTake b entries place s) (e : Entry) (there : slice_get entries place ≡ Some e) → is_ask e ≡ false → number_of e ≡ None → ¬ (e ≡ entry.Level) → IsWrongAt b entries place kind.Order
+pub other_refused : (b : Bounds) (entries : List Entry) (place : ℕ) (s : Standing) (can : CanTake b entries place s) (e : Entry) (there : slice_get entries place ≡ Some e) → is_ask e ≡ false → answered_number e ≡ None → ¬ (e ≡ entry.Level) → IsWrongAt b entries place kind.Order
 other_refused b entries place s can e there no_ask no_answer no_level =
     is_wrong b entries place s can e there kind.Order
     (wrong_order (limits_by b) b.task.now (take place entries) e (λ ask. absurd (no (sym no_ask ∙ ask))) (λ answer. absurd (no_number e answer no_answer)) (next_other (limits_by b) b.task.now (take place entries) s.ledger s.course refl can.standing e no_ask no_answer no_level))
   where
-    no_number : (d : Entry) → is_answer d ≡ true → number_of d ≡ None → ⊥
+    no_number : (d : Entry) → is_answer d ≡ true → answered_number d ≡ None → ⊥
     no_number (entry.Got m tuples values) is none = absurd (cc)
     no_number (entry.Value m value) is none = absurd (cc)
     no_number (entry.End m) is none = absurd (cc)

@@ -17,7 +17,7 @@ use Rattle.transcript_model.specs.declared.outcome.Outcome.TheVariants as outcom
 use Rattle.transcript_model.specs.declared.report.Report.{Report}
 use Rattle.session_core.specs.Session.{is_answer}
 use Rattle.replay_check.specs.Heads.{are_fit_limits, are_served, is_fit_pool, limits_in}
-use Rattle.replay_check.specs.Lines.{first_line, line_of, outcome_line}
+use Rattle.replay_check.specs.Lines.{line_behind_pools, line_of, outcome_line}
 use Rattle.replay_check.specs.Plans.{CanRun, IsPlan}
 use Rattle.replay_check.specs.declared.verdict.BreachKind.{BreachKind}
 use Rattle.replay_check.specs.declared.verdict.BreachKind.TheVariants as kind
@@ -36,7 +36,7 @@ pub record BreaksPool (task : Task) (r : Report) (line : ℕ) : Type 0 where
 -- behind the pools.
 abbrev pub BreaksHead : Task → Report → ℕ → Type 0
 BreaksHead task r line =
-    ((line ≡ 1) × ¬ (r.mode ≡ Incremental)) ⊎ (((line ≡ 2) × (are_fit_limits r ≡ false)) ⊎ (BreaksPool task r line ⊎ ((line ≡ first_line r) × (are_served task r.pools ≡ false))))
+    ((line ≡ 1) × ¬ (r.mode ≡ Incremental)) ⊎ (((line ≡ 2) × (are_fit_limits r ≡ false)) ⊎ (BreaksPool task r line ⊎ ((line ≡ line_behind_pools r) × (are_served task r.pools ≡ false))))
 
 -- ---- entries
 

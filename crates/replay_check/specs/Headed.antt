@@ -6,7 +6,7 @@ use Rattle.transcript_model.specs.declared.report.Report.{Report}
 use Rattle.level_course.specs.Pools.{shares_of}
 use Rattle.replay_check.specs.Breaches.{BreaksHead}
 use Rattle.replay_check.specs.Heads.{AreFitPoolLines, IsFitHead, is_fit_pool, served_by, share_in, workers_in}
-use Rattle.replay_check.specs.Lines.{first_line}
+use Rattle.replay_check.specs.Lines.{line_behind_pools}
 use Rattle.replay_check.specs.declared.head.Before.{Before}
 use Rattle.replay_check.specs.declared.head.Headed.{Headed}
 use Rattle.replay_check.specs.declared.head.Headed.TheVariants.{Fits, Breaks}
@@ -26,4 +26,4 @@ IsPassed task before pool b false = is_fit_pool task before pool ≡ false
 
 abbrev pub IsHeaded : Task → Report → Headed → Type 0
 IsHeaded task r (Fits shares) = IsFitHead task r × (shares_of shares.items ≡ map (share_in task) r.pools)
-IsHeaded task r (Breaks line) = BreaksHead task r line × (line ≤ first_line r) × ((other : ℕ) → BreaksHead task r other → line ≤ other)
+IsHeaded task r (Breaks line) = BreaksHead task r line × (line ≤ line_behind_pools r) × ((other : ℕ) → BreaksHead task r other → line ≤ other)

@@ -3,20 +3,20 @@ use Rattle.std.specs.Prelude.{◌≡◌, ◌⊎◌, ℕ, ◌+◌, ◌<◌, List,
 use Rattle.std.specs.List.{flat_map}
 use Rattle.report_text.specs.Texts.{Line, done_line, entry_lines, head_lines, outcome_lines}
 use Rattle.transcript_model.specs.declared.report.Report.{Report}
-use Rattle.replay_check.specs.Kinds.{number_of}
+use Rattle.replay_check.specs.Kinds.{breach_number}
 use Rattle.replay_check.specs.declared.verdict.BreachKind.{BreachKind}
 
 -- the first line behind the pools
-abbrev pub first_line : Report → ℕ
-first_line r = length r.pools + 3
+abbrev pub line_behind_pools : Report → ℕ
+line_behind_pools r = length r.pools + 3
 
 -- the first line of the entry at this place, from 0
 abbrev pub line_of : Report → ℕ → ℕ
-line_of r place = first_line r + length (flat_map entry_lines (take place r.entries))
+line_of r place = line_behind_pools r + length (flat_map entry_lines (take place r.entries))
 
 -- the first line of the outcome
 abbrev pub outcome_line : Report → ℕ
-outcome_line r = first_line r + length (flat_map entry_lines r.entries)
+outcome_line r = line_behind_pools r + length (flat_map entry_lines r.entries)
 
 -- all lines of a report
 abbrev pub report_lines : Report → List Line
@@ -24,4 +24,4 @@ report_lines r = head_lines r.version r.mode r.calls r.states r.depth r.pools ++
 
 -- Of two breaches the one in the earlier line is told, and in one line the one of the smaller kind.
 abbrev pub Precedes : ℕ → BreachKind → ℕ → BreachKind → Type 0
-Precedes line kind other than = (line < other) ⊎ ((line ≡ other) × (number_of kind < number_of than))
+Precedes line kind other than = (line < other) ⊎ ((line ≡ other) × (breach_number kind < breach_number than))

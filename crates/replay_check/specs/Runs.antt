@@ -34,13 +34,13 @@ IsStepTaken task entries calls call run true = IsRunOf task entries (calls ++ ca
 IsStepTaken task entries calls call run false = ¬ (CanRun task entries (calls ++ call ∷ []))
 
 -- the step here can't be taken, and all before it can
-pub record StopsAt (task : Task) (entries : List Entry) (calls : List Call) (place : ℕ) : Type 0 where
+pub record StopsAtStep (task : Task) (entries : List Entry) (calls : List Call) (place : ℕ) : Type 0 where
   pub within : place < length calls
   pub runs : CanRun task entries (take place calls)
   pub stuck : ¬ (CanRun task entries (take (place + 1) calls))
 
 abbrev pub IsRan : Task → List Entry → List Call → Ran → Type 0
-IsRan task entries calls (Stops place) = StopsAt task entries calls place
+IsRan task entries calls (Stops place) = StopsAtStep task entries calls place
 IsRan task entries calls (Ends run) = IsRunOf task entries calls run
 
 -- these steps are a valid plan of this cost, which the calls show
@@ -58,7 +58,7 @@ pub record DiffersAt (version : ℕ) (entries : List Entry) (calls : List Call) 
 -- what is said of a plan, by the first thing that is wrong with it
 abbrev pub IsPlanned : ℕ → Task → List Entry → List Call → ℕ → List Origin → Planned → Type 0
 IsPlanned version task entries calls cost from Right = IsTruePlan version task entries calls cost from
-IsPlanned version task entries calls cost from (Stuck place) = StopsAt task entries calls place
+IsPlanned version task entries calls cost from (Stuck place) = StopsAtStep task entries calls place
 IsPlanned version task entries calls cost from NoGoal = CanRun task entries calls × ((other : ℕ) → ¬ (IsPlan task entries calls other))
 IsPlanned version task entries calls cost from WrongCost = ((other : ℕ) × IsPlan task entries calls other) × ¬ (IsPlan task entries calls cost)
 IsPlanned version task entries calls cost from (WrongOrigin place) = IsPlan task entries calls cost × DiffersAt version entries calls from place

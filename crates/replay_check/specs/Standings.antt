@@ -17,7 +17,7 @@ use Rattle.level_course.specs.Agendas.{Agenda, place_in}
 use Rattle.level_course.specs.Courses.{Leads, at_first}
 use Rattle.level_course.specs.Pools.{AllWork, shares_of}
 use Rattle.replay_check.specs.Breaches.{BreaksEntry}
-use Rattle.replay_check.specs.Kinds.{number_of}
+use Rattle.replay_check.specs.Kinds.{breach_number}
 use Rattle.transcript_ledger.specs.Ledgers.{IsLedger}
 use Rattle.replay_check.specs.declared.bounds.Bounds.{Bounds}
 use Rattle.replay_check.specs.declared.entries.Standing.{Standing}
@@ -54,7 +54,7 @@ IsStanding b entries s = StandsBehind (limits_by b) b.task.now entries s.ledger 
 -- the entry is wrong so, and in no way of a smaller kind
 pub record IsWrong (limits : Limits) (task : Task) (before : List Entry) (e : Entry) (k : BreachKind) : Type 0 where
   pub breaks : BreaksEntry limits task before e k
-  pub first : (other : BreachKind) → number_of other < number_of k → ¬ (BreaksEntry limits task before e other)
+  pub first : (other : BreachKind) → breach_number other < breach_number k → ¬ (BreaksEntry limits task before e other)
 
 -- the request is the next of the open round
 pub record IsNextRequest (task : Task) (l : Ledger) (a : Agenda) (number turn : ℕ) (call : Call) : Type 0 where

@@ -1,6 +1,6 @@
 //! What is wrong with a report, and what a replay says.
 ghost use Rattle.std.specs.Prelude.{◌≡◌};
-ghost use Rattle.replay_check.specs.Kinds.{number_of};
+ghost use Rattle.replay_check.specs.Kinds.{breach_number};
 
 /// What is wrong with a line of a report, in the order in which the kinds of one line are told (this project's).
 #[derive(Clone, Copy, PartialEq, Eq, Debug)]
@@ -30,7 +30,7 @@ pub enum BreachKind {
 impl BreachKind {
     /// The kind's number, 1 to 10.
     pub fn number(self) -> u8
-        ensures { result ≡ number_of self }
+        ensures { result ≡ breach_number self }
     {
         match self {
             BreachKind::Text => 1,

@@ -9,7 +9,7 @@ use Rattle.transcript_model.specs.declared.outcome.Outcome.{Outcome}
 use Rattle.transcript_model.specs.declared.outcome.Outcome.TheVariants as outcome
 use Rattle.transcript_model.specs.declared.report.Report.{Report}
 use Rattle.report_text.proofs.PlacesPathLemmas.{path_then}
-use Rattle.report_reader.specs.Body.{IsEnding, ending_line, ending_place, ending_of, IsBody, body_lines, outcome_rest, IsOutcomeOf, IsFirst, first_of, IsLimits, limits_of, lines_of_report}
+use Rattle.report_reader.specs.Body.{IsEnding, ending_line, ending_place, ending_of, IsBody, body_lines, outcome_rest, IsOutcomeOf, IsFirst, first_of, IsLimits, limits_line_of, lines_of_report}
 use Rattle.report_reader.specs.Finding.{TakesLine, TakesAll, shown_lines, Stops}
 use Rattle.report_reader.specs.Splits.{fields_of}
 use Rattle.report_reader.specs.declared.body_line.Ending.{Ending}
@@ -28,7 +28,7 @@ pub first_stop : (old new : Rows) → TakesLine IsFirst first_of None old new �
 first_stop old new t =
     stops_at first old new t.0 (λ e. absurd (cc)) (λ l rest to e step. t.1 (record { version = step.0; mode = step.1 }) rest step.2 (ap (λ (m : Line). fields_of m ∷ rest) (sym step.3) ∙ e))
 
-pub limits_stop : (f : First) (old mid new : Rows) → TakesLine IsFirst first_of (Some f) old mid → TakesLine IsLimits limits_of None mid new → Stops first old new
+pub limits_stop : (f : First) (old mid new : Rows) → TakesLine IsFirst first_of (Some f) old mid → TakesLine IsLimits limits_line_of None mid new → Stops first old new
 limits_stop f old mid new t none =
     stops_behind first (limits f.version) (first_of f ∷ []) old mid new (limits f.version, (f.version, f.mode, t.0, refl, refl), refl) t.1
     (stops_at (limits f.version) mid new none.0 (λ e. absurd (cc)) (λ l rest to e step. none.1 (record { calls = step.0; states = step.1; depth = step.2 }) rest (record { calls = step.3; states = step.4; depth = step.5 }) (ap (λ (m : Line). fields_of m ∷ rest) (sym step.6) ∙ e)))
@@ -42,13 +42,13 @@ pub record HasHead (f : First) (l : Limits) (ps : List PoolLine) (old new : Rows
   pub second : Rows
   pub third : Rows
   pub first_line : TakesLine IsFirst first_of (Some f) old second
-  pub limits_line : TakesLine IsLimits limits_of (Some l) second third
+  pub limits_line : TakesLine IsLimits limits_line_of (Some l) second third
   pub pool_lines : TakesAll IsFormedPool pool_line ps third new
 
 pub head_then : (f : First) (l : Limits) (ps : List PoolLine) (old mid new : Rows) → HasHead f l ps old mid → Stops (entries f.version) mid new → Stops first old new
 head_then f l ps old mid new h s =
     stops_behind first (limits f.version) (first_of f ∷ []) old h.second new (limits f.version, (f.version, f.mode, h.first_line.0, refl, refl), refl) h.first_line.1
-    (stops_behind (limits f.version) (pools f.version) (limits_of l ∷ []) h.second h.third new (pools f.version, (l.calls, l.states, l.depth, h.limits_line.0.calls, h.limits_line.0.states, h.limits_line.0.depth, refl, refl), refl) h.limits_line.1
+    (stops_behind (limits f.version) (pools f.version) (limits_line_of l ∷ []) h.second h.third new (pools f.version, (l.calls, l.states, l.depth, h.limits_line.0.calls, h.limits_line.0.states, h.limits_line.0.depth, refl, refl), refl) h.limits_line.1
     (stops_behind (pools f.version) (pools f.version) (map pool_line ps) h.third mid new (pools_front f.version ps h.pool_lines.formed) h.pool_lines.lines (pools_stop f.version mid new h.pool_lines.none s)))
 
 -- ---- entries with the line that ends them
@@ -82,7 +82,7 @@ report_whole f l ps b o r old mid later new h body out is = subst (λ x. IsForme
     behind_head : map fields_of (flat_map entry_lines b.entries ++ (outcome_lines f.version o ++ done_line ∷ [])) ++ new ≡ mid
     behind_head = ap (λ ls. map fields_of ls ++ new) rest ∙ shown_then (body_lines b) (outcome_rest f.version o) new ∙ ap (λ ls. map fields_of (body_lines b) ++ ls) out.1 ∙ body.1
 
-    whole : fields_of (first_of f) ∷ fields_of (limits_of l) ∷ (map fields_of (map pool_line ps ++ (flat_map entry_lines b.entries ++ (outcome_lines f.version o ++ done_line ∷ []))) ++ new) ≡ old
+    whole : fields_of (first_of f) ∷ fields_of (limits_line_of l) ∷ (map fields_of (map pool_line ps ++ (flat_map entry_lines b.entries ++ (outcome_lines f.version o ++ done_line ∷ []))) ++ new) ≡ old
     whole =
-        ap (λ ls. fields_of (first_of f) ∷ fields_of (limits_of l) ∷ ls) (shown_then (map pool_line ps) (flat_map entry_lines b.entries ++ (outcome_lines f.version o ++ done_line ∷ [])) new ∙ ap (λ ls. shown_lines pool_line ps ++ ls) behind_head ∙ h.pool_lines.lines)
+        ap (λ ls. fields_of (first_of f) ∷ fields_of (limits_line_of l) ∷ ls) (shown_then (map pool_line ps) (flat_map entry_lines b.entries ++ (outcome_lines f.version o ++ done_line ∷ [])) new ∙ ap (λ ls. shown_lines pool_line ps ++ ls) behind_head ∙ h.pool_lines.lines)
         ∙ ap (λ ls. fields_of (first_of f) ∷ ls) h.limits_line.1 ∙ h.first_line.1

@@ -4,7 +4,7 @@ use Rattle.std.specs.List.{flat_map}
 use Rattle.std.proofs.lemmas.Grind.{flat_map-append}
 use Rattle.std.proofs.lemmas.List.{map-append, append-nil, length-map}
 use Rattle.report_text.specs.Forms.{IsNumber, IsTerm, IsFormedCall, IsFormedUse, IsFormedEntry, IsFormedOrigin, IsFormedPool}
-use Rattle.report_text.specs.Places.{Place, pools, entries, dream, plan, cost, origins, last, behind, dreaming, planning, dream_line, cost_line, is_dream, IsBodyStep, IsStep, IsPath}
+use Rattle.report_text.specs.Places.{Place, pools, entries, dream, plan, cost, origins, last, behind, dreaming, planning, dream_line, cost_line, is_dream, IsBodyStep, IsLineStep, IsPath}
 use Rattle.report_text.specs.Texts.{Line, use_line, step_line, do_line, from_line, entry_lines, pool_line}
 use Rattle.transcript_model.specs.declared.entry.Call.{Call}
 use Rattle.transcript_model.specs.declared.entry.DreamUse.{DreamUse}
@@ -12,7 +12,7 @@ use Rattle.transcript_model.specs.declared.entry.Entry.{Entry}
 use Rattle.transcript_model.specs.declared.entry.Entry.TheVariants as entry
 use Rattle.transcript_model.specs.declared.outcome.Origin.{Origin}
 use Rattle.report_text.proofs.PlacesPathLemmas.{path_then}
-use Rattle.report_reader.specs.Body.{HasNoEnd, IsBodyLine, body_line, first_of_lines, IsDream, dream_lines, IsEnding, ending_line, IsFront}
+use Rattle.report_reader.specs.Body.{HasNoEnd, IsBodyLine, body_line, first_of_lines, IsDream, dream_lines, IsEnding, ending_line, IsReportFront}
 use Rattle.report_reader.specs.Finding.{HasNo, TakesLine, TakesAll, TakesMany, TakesFewer, Stops}
 use Rattle.report_reader.specs.Splits.{fields_of}
 use Rattle.report_reader.specs.declared.body_line.BodyLine.{BodyLine}
@@ -39,7 +39,7 @@ stops_behind from middle ls old mid new path is s = record {
 }
 
 -- no line may stand at the place, which isn't the last one
-pub stops_at : (at : Place) (old new : Rows) → new ≡ old → ¬ (at ≡ behind) → ((l : Line) (rest : Rows) (to : Place) → fields_of l ∷ rest ≡ old → ¬ (IsStep at l to)) → Stops at old new
+pub stops_at : (at : Place) (old new : Rows) → new ≡ old → ¬ (at ≡ behind) → ((l : Line) (rest : Rows) (to : Place) → fields_of l ∷ rest ≡ old → ¬ (IsLineStep at l to)) → Stops at old new
 stops_at at old new same before none = record {
   passed = [];
   at = at;
@@ -145,17 +145,17 @@ some_lines (entry.Retire n) = omega arith
 pub entry_smaller : (e : Entry) (old new : Rows) → map fields_of (entry_lines e) ++ new ≡ old → length new < length old
 entry_smaller e old new is = omega (arith, some_lines e, ap length is, length-append (map fields_of (entry_lines e)) new, length-map (entry_lines e) fields_of)
 
-pub front_next : (v : ℕ) (es : List Entry) (e : Entry) (old mid new : Rows) → IsFront v es old mid → IsFormedEntry v e → map fields_of (entry_lines e) ++ new ≡ mid → IsFront v (es ++ e ∷ []) old new
+pub front_next : (v : ℕ) (es : List Entry) (e : Entry) (old mid new : Rows) → IsReportFront v es old mid → IsFormedEntry v e → map fields_of (entry_lines e) ++ new ≡ mid → IsReportFront v (es ++ e ∷ []) old new
 front_next v es e old mid new f formed is = record {
   formed = all_push (IsFormedEntry v) es e f.formed formed;
   lines = ap (λ ls. map fields_of ls ++ new) (flat_map-append entry_lines es (e ∷ []) ∙ ap (λ ls. flat_map entry_lines es ++ ls) (append-nil (entry_lines e))) ∙ shown_then (flat_map entry_lines es) (entry_lines e) new ∙ ap (λ l. map fields_of (flat_map entry_lines es) ++ l) is ∙ f.lines;
 }
 
-pub front_end : (v : ℕ) (es : List Entry) (ending : Ending) (old mid new : Rows) → IsFront v es old mid → IsEnding ending → fields_of (ending_line ending) ∷ new ≡ mid → (All (IsFormedEntry v) es × IsEnding ending) × (map fields_of (flat_map entry_lines es ++ ending_line ending ∷ []) ++ new ≡ old)
+pub front_end : (v : ℕ) (es : List Entry) (ending : Ending) (old mid new : Rows) → IsReportFront v es old mid → IsEnding ending → fields_of (ending_line ending) ∷ new ≡ mid → (All (IsFormedEntry v) es × IsEnding ending) × (map fields_of (flat_map entry_lines es ++ ending_line ending ∷ []) ++ new ≡ old)
 front_end v es ending old mid new f formed is =
     ((f.formed, formed), shown_then (flat_map entry_lines es) (ending_line ending ∷ []) new ∙ ap (λ l. map fields_of (flat_map entry_lines es) ++ l) is ∙ f.lines)
 
-pub front_stop : (v : ℕ) (es : List Entry) (old mid new : Rows) → IsFront v es old mid → Stops (entries v) mid new → Stops (entries v) old new
+pub front_stop : (v : ℕ) (es : List Entry) (old mid new : Rows) → IsReportFront v es old mid → Stops (entries v) mid new → Stops (entries v) old new
 front_stop v es old mid new f s = stops_behind (entries v) (entries v) (flat_map entry_lines es) old mid new (entries_front v es f.formed) f.lines s
 
 -- ---- outcomes
@@ -190,7 +190,7 @@ done_stop v steps c cs os old mid later final new many t from same none =
     (stops_behind (cost v) (origins v) (cost_line c ∷ []) mid later new (origins v, (c, t.0, refl, refl), refl) t.1
     (stops_behind (origins v) (origins v) (map (from_line v) os) later final new (origins_front v os from.formed) from.lines (stops_at (origins v) final new same (λ e. absurd (cc)) held)))
   where
-    held : (l : Line) (rest : Rows) (to : Place) → fields_of l ∷ rest ≡ final → IsStep (origins v) l to → ⊥
+    held : (l : Line) (rest : Rows) (to : Place) → fields_of l ∷ rest ≡ final → IsLineStep (origins v) l to → ⊥
     held l rest to e (inl o) = from.none o.0 rest o.1 (shown_so (from_line v) o.0 l rest final o.2 e)
     held l rest to e (inr done) = none rest (ap (λ (m : Line). fields_of m ∷ rest) (sym done.0) ∙ e)
 
@@ -206,7 +206,7 @@ pools_stop v old new none s = by_passed s.passed s.path s.lines
     by_passed : (ls : List Line) → IsPath (entries v) ls s.at → map fields_of ls ++ new ≡ old → Stops (pools v) old new
     by_passed [] path is = stops_at (pools v) old new is (λ e. absurd (cc)) held
       where
-        held : (l : Line) (rest : Rows) (to : Place) → fields_of l ∷ rest ≡ old → IsStep (pools v) l to → ⊥
+        held : (l : Line) (rest : Rows) (to : Place) → fields_of l ∷ rest ≡ old → IsLineStep (pools v) l to → ⊥
         held l rest to e (inl p) = none p.0 rest p.1 (shown_so pool_line p.0 l rest old p.2 e)
-        held l rest to e (inr body) = s.held.next l rest to (e ∙ sym is) (subst (λ p. IsStep p l to) path body)
+        held l rest to e (inr body) = s.held.next l rest to (e ∙ sym is) (subst (λ p. IsLineStep p l to) path body)
     by_passed (l ∷ ls) path is = record { passed = l ∷ ls; at = s.at; path = (path.0, inr path.1, path.2); lines = is; held = s.held }

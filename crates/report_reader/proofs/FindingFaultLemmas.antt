@@ -7,7 +7,7 @@ use Rattle.gen_lines.specs.Lines.{is_feed, unfinished}
 use Rattle.gen_lines.specs.Reply.{is_space}
 use Rattle.report_text.specs.Faults.{whole_lines, IsFirstFault}
 use Rattle.report_text.specs.Forms.{IsFormed}
-use Rattle.report_text.specs.Places.{Place, first, behind, body_of, IsStuck, StopsAfter}
+use Rattle.report_text.specs.Places.{Place, first, behind, line_body, IsStuck, StopsAfter}
 use Rattle.report_text.specs.Texts.{text_of_report}
 use Rattle.transcript_model.specs.declared.report.Report.{Report}
 use Rattle.report_text.proofs.FormsLemmas.{report_lines}
@@ -63,7 +63,7 @@ empty : {A : Type 0} (xs : List A) → length xs ≡ 0 → xs ≡ []
 empty [] e = refl
 empty (x ∷ xs) e = absurd (omega (arith, e))
 
-whole_texts : (bytes : List ℕ) (r : Report) (new : List (List (List ℕ))) → map fields_of (lines_of_report r) ++ new ≡ field_lines bytes → length new ≡ 0 → map body_of (report_lines r) ≡ whole_lines bytes
+whole_texts : (bytes : List ℕ) (r : Report) (new : List (List (List ℕ))) → map fields_of (lines_of_report r) ++ new ≡ field_lines bytes → length new ≡ 0 → map line_body (report_lines r) ≡ whole_lines bytes
 whole_texts bytes r new is none =
     joined_lines (lines_of_report r) (whole_lines bytes) (sym is ∙ ap (λ l. map fields_of (lines_of_report r) ++ l) (empty new none) ∙ append-nil (map fields_of (lines_of_report r)))
 

@@ -4,7 +4,7 @@ use Rattle.std.specs.Cmp.{first_so, second_so}
 use Rattle.std.specs.List.{list_all, slice_split, join_with_byte}
 use Rattle.std.proofs.lemmas.List.Splits.{join_with_byte-slice_split}
 use Rattle.gen_lines.specs.Reply.{is_space}
-use Rattle.report_text.specs.Places.{Place, first, limits, pools, entries, dream, plan, cost, origins, last, behind, IsBodyStep, IsStep, body_of}
+use Rattle.report_text.specs.Places.{Place, first, limits, pools, entries, dream, plan, cost, origins, last, behind, IsBodyStep, IsLineStep, line_body}
 use Rattle.report_text.specs.Texts.{Line, fields_text}
 use Rattle.report_text.proofs.LineTextLemmas.{is_clear, is_inked, number_inked, spaces_cut}
 use Rattle.report_text.proofs.FormsLemmas.{number_of_32, number_of_8, use_clear, step_clear, do_clear, entry_clear, origin_clear, limit_clear, mode_clear, pool_clear}
@@ -23,7 +23,7 @@ small_version : (v : ℕ) → (v ≡ 1) ⊎ (v ≡ 2) → v < 2 ^ 64
 small_version v (inl e) = omega (arith, e)
 small_version v (inr e) = omega (arith, e)
 
-line_clear : (p : Place) (l : Line) (n : Place) → IsStep p l n → is_clear l ≡ true
+line_clear : (p : Place) (l : Line) (n : Place) → IsLineStep p l n → is_clear l ≡ true
 line_clear first l n a = rw (a.3, number_inked a.0 (small_version a.0 a.2), mode_clear a.1) refl
 line_clear (limits v) l n a = rw (a.6, number_of_32 a.0 a.3, number_of_32 a.1 a.4, number_of_8 a.2 a.5) refl
 line_clear (pools v) l n (inl a) = ap is_clear a.2 ∙ pool_clear a.0 a.1
@@ -41,7 +41,7 @@ line_clear last l n a = ap is_clear a.0
 line_clear behind l n a = absurd a
 
 -- the text of a line that may stand is cut into its fields
-pub cut_fields : (p : Place) (l : Line) (n : Place) (text : List ℕ) → IsStep p l n → body_of l ≡ text → slice_split is_space text ≡ fields_of l
+pub cut_fields : (p : Place) (l : Line) (n : Place) (text : List ℕ) → IsLineStep p l n → line_body l ≡ text → slice_split is_space text ≡ fields_of l
 cut_fields p l n text step is =
     let clear = line_clear p l n step in
     ap (slice_split is_space) (sym is) ∙ spaces_cut l.first l.more (first_so (is_inked l.first) (list_all is_inked l.more) clear) (second_so (is_inked l.first) (list_all is_inked l.more) clear)
@@ -51,10 +51,10 @@ joined f [] = sym (append-nil f)
 joined f (g ∷ more) = ap (λ t. f ++ 32 ∷ t) (joined g more)
 
 -- a text that is cut into the fields of a line is the line's
-pub joined_fields : (l : Line) (text : List ℕ) → slice_split is_space text ≡ fields_of l → body_of l ≡ text
+pub joined_fields : (l : Line) (text : List ℕ) → slice_split is_space text ≡ fields_of l → line_body l ≡ text
 joined_fields l text is = sym (joined l.first l.more) ∙ ap (join_with_byte 32) (sym is) ∙ join_with_byte-slice_split 32 text
 
-pub joined_lines : (ls : List Line) (texts : List (List ℕ)) → map (slice_split is_space) texts ≡ map fields_of ls → map body_of ls ≡ texts
+pub joined_lines : (ls : List Line) (texts : List (List ℕ)) → map (slice_split is_space) texts ≡ map fields_of ls → map line_body ls ≡ texts
 joined_lines [] [] e = refl
 joined_lines [] (t ∷ texts) e = absurd (cc)
 joined_lines (l ∷ ls) [] e = absurd (cc)

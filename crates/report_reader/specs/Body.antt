@@ -116,9 +116,9 @@ abbrev pub dream_lines : Entry → List Line
 dream_lines (entry.Dream uses steps) = map use_line uses ++ map step_line steps
 dream_lines e = []
 
-abbrev pub IsPart : ℕ → Part → Type 0
-IsPart version (part.Entry e) = IsFormedEntry version e
-IsPart version (part.End ending) = IsEnding ending
+abbrev pub IsReportPart : ℕ → Part → Type 0
+IsReportPart version (part.Entry e) = IsFormedEntry version e
+IsReportPart version (part.End ending) = IsEnding ending
 
 abbrev pub part_lines : Part → List Line
 part_lines (part.Entry e) = entry_lines e
@@ -131,7 +131,7 @@ abbrev pub body_lines : Body → List Line
 body_lines b = flat_map entry_lines b.entries ++ ending_line b.ending ∷ []
 
 -- entries of the form, which are all lines from old to new
-pub record IsFront (version : ℕ) (entries : List Entry) (old new : List (List (List ℕ))) : Type 0 where
+pub record IsReportFront (version : ℕ) (entries : List Entry) (old new : List (List (List ℕ))) : Type 0 where
   pub formed : All (IsFormedEntry version) entries
   pub lines : map fields_of (flat_map entry_lines entries) ++ new ≡ old
 
@@ -189,8 +189,8 @@ pub record IsLimits (l : Limits) : Type 0 where
   pub states : IsNumber l.states
   pub depth : IsSmall l.depth
 
-abbrev pub limits_of : Limits → Line
-limits_of l = limits_line l.calls l.states l.depth
+abbrev pub limits_line_of : Limits → Line
+limits_line_of l = limits_line l.calls l.states l.depth
 
 -- ---- reports
 

@@ -1,6 +1,6 @@
 -- What a reader finds in fields and in lines, and where it stops.
 use Rattle.std.specs.Prelude.{◌≡◌, ℕ, ◌<◌, List, [], ◌∷◌, ◌++◌, length, map, All, Option, None, Some}
-use Rattle.report_text.specs.Places.{Place, behind, IsStep, IsPath}
+use Rattle.report_text.specs.Places.{Place, behind, IsLineStep, IsPath}
 use Rattle.report_text.specs.Texts.{Line}
 use Rattle.report_reader.specs.Splits.{fields_of}
 
@@ -16,9 +16,9 @@ abbrev pub HasNo : {X Y : Type 0} → (X → Type 0) → (X → Y) → List Y �
 HasNo {X} {Y} IsFormed shown given = (x : X) (rest : List Y) → IsFormed x → ¬ (shown x ∷ rest ≡ given)
 
 -- an item of the form that stood first and is taken, or that none stood there
-abbrev pub Takes : {X Y : Type 0} → (X → Type 0) → (X → Y) → Option X → List Y → List Y → Type 0
-Takes IsFormed shown (Some x) old new = IsFormed x × (shown x ∷ new ≡ old)
-Takes IsFormed shown None old new = HasNo IsFormed shown old
+abbrev pub TakesFields : {X Y : Type 0} → (X → Type 0) → (X → Y) → Option X → List Y → List Y → Type 0
+TakesFields IsFormed shown (Some x) old new = IsFormed x × (shown x ∷ new ≡ old)
+TakesFields IsFormed shown None old new = HasNo IsFormed shown old
 
 -- ---- lines
 
@@ -58,7 +58,7 @@ TakesCounted IsFormed line_of count None old new = TakesFewer IsFormed line_of c
 
 -- the next line may not stand at the place, or it is missing where one has to come
 pub record IsHeld (at : Place) (lines : List (List (List ℕ))) : Type 0 where
-  pub next : (l : Line) (rest : List (List (List ℕ))) (to : Place) → fields_of l ∷ rest ≡ lines → ¬ (IsStep at l to)
+  pub next : (l : Line) (rest : List (List (List ℕ))) (to : Place) → fields_of l ∷ rest ≡ lines → ¬ (IsLineStep at l to)
   pub last : lines ≡ [] → ¬ (at ≡ behind)
 
 -- from the first place on lines may stand up to those that are left, the next of which may not
@@ -70,6 +70,6 @@ pub record Stops (from : Place) (old new : List (List (List ℕ))) : Type 0 wher
   pub held : IsHeld at new
 
 -- an item of the form that was in these lines, or that a line may not stand where it is
-abbrev pub Reads : {X : Type 0} → Place → (X → Type 0) → (X → List Line) → Option X → List (List (List ℕ)) → List (List (List ℕ)) → Type 0
-Reads from IsFormed lines_of (Some x) old new = IsFormed x × (map fields_of (lines_of x) ++ new ≡ old)
-Reads from IsFormed lines_of None old new = Stops from old new
+abbrev pub PartReads : {X : Type 0} → Place → (X → Type 0) → (X → List Line) → Option X → List (List (List ℕ)) → List (List (List ℕ)) → Type 0
+PartReads from IsFormed lines_of (Some x) old new = IsFormed x × (map fields_of (lines_of x) ++ new ≡ old)
+PartReads from IsFormed lines_of None old new = Stops from old new

@@ -3,8 +3,8 @@ ghost use Rattle.std.specs.Prelude.{◌≡◌, ℕ, ◌∷◌, ◌++◌, IfOk, m
 ghost use Rattle.report_text.specs.Forms.{IsFormedEntry, IsFormedUse, IsFormedCall, IsTerm};
 ghost use Rattle.report_text.specs.Places.{entries, dreaming};
 ghost use Rattle.report_text.specs.Texts.{use_line, step_line, use_line, entry_lines, call_fields, line};
-ghost use Rattle.report_reader.specs.Body.{IsBodyLine, body_line, IsBody, body_lines, IsPart, part_lines, IsDream, dream_lines};
-ghost use Rattle.report_reader.specs.Finding.{Finds, Reads, TakesCounted, TakesLine};
+ghost use Rattle.report_reader.specs.Body.{IsBodyLine, body_line, IsBody, body_lines, IsReportPart, part_lines, IsDream, dream_lines};
+ghost use Rattle.report_reader.specs.Finding.{Finds, PartReads, TakesCounted, TakesLine};
 ghost use Rattle.report_reader.specs.Splits.{fields_of};
 
 use crate::body_line::{BodyLine, Ending, body_line_in};
@@ -37,7 +37,7 @@ pub(crate) fn body_in(
     version: u8,
     lines: &mut Lines<'_>,
 ) -> Result<Option<Body>, AllocError>
-    ensures { IfOk result (λ found. Reads (entries version) (IsBody version) body_lines found lines.old lines.new) }
+    ensures { IfOk result (λ found. PartReads (entries version) (IsBody version) body_lines found lines.old lines.new) }
 {
     let mut entries = Vec::new(alloc);
     while let Some(part) = part_in(alloc, version, lines)? {
@@ -56,7 +56,7 @@ pub(crate) fn body_in(
 
 /// The next entry, or the line that ends them; None where a line may not stand.
 fn part_in(alloc: Global, version: u8, lines: &mut Lines<'_>) -> Result<Option<Part>, AllocError>
-    ensures { IfOk result (λ found. Reads (entries version) (IsPart version) part_lines found lines.old lines.new) }
+    ensures { IfOk result (λ found. PartReads (entries version) (IsReportPart version) part_lines found lines.old lines.new) }
 {
     match next_line(alloc, version, lines)? {
         Some(BodyLine::Single(entry)) => Ok(Some(Part::Entry(entry))),
@@ -94,7 +94,7 @@ fn dream_in(
     steps: u32,
     lines: &mut Lines<'_>,
 ) -> Result<Option<Entry>, AllocError>
-    ensures { IfOk result (λ found. (version : ℕ) → Reads (dreaming version uses steps) (IsDream version uses steps) dream_lines found lines.old lines.new) }
+    ensures { IfOk result (λ found. (version : ℕ) → PartReads (dreaming version uses steps) (IsDream version uses steps) dream_lines found lines.old lines.new) }
 {
     let Some(uses) = uses_in(alloc, uses, lines)? else {
         return Ok(None);

@@ -4,7 +4,7 @@ ghost use Rattle.std.specs.List.{slice_split};
 ghost use Rattle.std.specs.Fmt.{decimal};
 ghost use Rattle.gen_lines.specs.Reply.{is_space};
 ghost use Rattle.report_text.specs.Forms.{IsNumber, IsSmall};
-ghost use Rattle.report_reader.specs.Finding.{Finds, Takes};
+ghost use Rattle.report_reader.specs.Finding.{Finds, TakesFields};
 ghost use Rattle.report_reader.specs.Splits.{fields_left};
 
 use crate::bytes::{before, behind};
@@ -95,7 +95,7 @@ impl<'a> Fields<'a> {
 
     /// The number that the next field writes, where that is at most this.
     pub(crate) fn number_upto(&mut self, most: u64) -> Option<u64>
-        ensures { Takes (λ n. n ≤ most) decimal result self.old self.new }
+        ensures { TakesFields (λ n. n ≤ most) decimal result self.old self.new }
     {
         let number = number_in(self.next()?)?;
         if number <= most { Some(number) } else { None }
@@ -103,7 +103,7 @@ impl<'a> Fields<'a> {
 
     /// The number of at most 32 bits that the next field writes.
     pub(crate) fn number(&mut self) -> Option<u32>
-        ensures { Takes IsNumber decimal result self.old self.new }
+        ensures { TakesFields IsNumber decimal result self.old self.new }
     {
         let number = self.number_upto(LARGEST)?;
         Some(number as u32)
@@ -111,7 +111,7 @@ impl<'a> Fields<'a> {
 
     /// The number of at most 8 bits that the next field writes.
     pub(crate) fn small(&mut self) -> Option<u8>
-        ensures { Takes IsSmall decimal result self.old self.new }
+        ensures { TakesFields IsSmall decimal result self.old self.new }
     {
         let number = self.number_upto(LARGEST_SMALL)?;
         Some(number as u8)

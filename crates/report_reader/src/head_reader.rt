@@ -4,8 +4,8 @@ ghost use Rattle.std.specs.Fmt.{decimal};
 ghost use Rattle.report_text.specs.Forms.{IsFormedPool};
 ghost use Rattle.report_text.specs.Texts.{mode_word, pool_line};
 ghost use Rattle.transcript_model.specs.declared.head.Mode.{Mode};
-ghost use Rattle.report_reader.specs.Body.{IsFirst, IsLimits, first_of, limits_of, IsVersion};
-ghost use Rattle.report_reader.specs.Finding.{Finds, Takes, TakesAll, TakesLine};
+ghost use Rattle.report_reader.specs.Body.{IsFirst, IsLimits, first_of, limits_line_of, IsVersion};
+ghost use Rattle.report_reader.specs.Finding.{Finds, TakesFields, TakesAll, TakesLine};
 ghost use Rattle.report_reader.specs.Splits.{fields_of};
 
 use crate::calls::names_in;
@@ -57,7 +57,7 @@ fn first_in(fields: &mut Fields<'_>) -> Option<First>
 
 /// The version that the next field shows, 1 or 2.
 fn version_in(fields: &mut Fields<'_>) -> Option<u8>
-    ensures { Takes IsVersion decimal result fields.old fields.new }
+    ensures { TakesFields IsVersion decimal result fields.old fields.new }
 {
     let version = fields.number_upto(2)?;
     if version == 0 {
@@ -87,7 +87,7 @@ fn mode_in(word: &[u8]) -> Option<Mode>
 
 /// What the next line says as the second one.
 pub(crate) fn next_limits(lines: &mut Lines<'_>) -> Option<Limits>
-    ensures { TakesLine IsLimits limits_of result lines.old lines.new }
+    ensures { TakesLine IsLimits limits_line_of result lines.old lines.new }
 {
     let mut fields = lines.front()?;
     let limits = limits_in(&mut fields)?;
@@ -96,7 +96,7 @@ pub(crate) fn next_limits(lines: &mut Lines<'_>) -> Option<Limits>
 }
 
 fn limits_in(fields: &mut Fields<'_>) -> Option<Limits>
-    ensures { Finds IsLimits (λ l. fields_of (limits_of l)) result fields.old }
+    ensures { Finds IsLimits (λ l. fields_of (limits_line_of l)) result fields.old }
 {
     if !fields.begin_with(b"limits") {
         return None;

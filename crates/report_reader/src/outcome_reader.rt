@@ -5,7 +5,7 @@ ghost use Rattle.report_text.specs.Places.{planning, cost_line};
 ghost use Rattle.report_text.specs.Texts.{from_line, done_line};
 ghost use Rattle.report_reader.specs.Body.{ending_place, AtEnd, IsOutcomeOf, IsTupleNumber, outcome_rest, tuple_shown};
 ghost use Rattle.report_reader.specs.declared.body_line.Ending.TheVariants.{Plan};
-ghost use Rattle.report_reader.specs.Finding.{Finds, HasNo, Reads, TakesAll, TakesLine};
+ghost use Rattle.report_reader.specs.Finding.{Finds, HasNo, PartReads, TakesAll, TakesLine};
 ghost use Rattle.report_reader.specs.Splits.{fields_of};
 
 use crate::body_line::Ending;
@@ -25,7 +25,7 @@ pub(crate) fn outcome_in(
     ending: Ending,
     lines: &mut Lines<'_>,
 ) -> Result<Option<Outcome>, AllocError>
-    ensures { IfOk result (λ found. Reads (ending_place version ending) (IsOutcomeOf version ending) (outcome_rest version) found lines.old lines.new) }
+    ensures { IfOk result (λ found. PartReads (ending_place version ending) (IsOutcomeOf version ending) (outcome_rest version) found lines.old lines.new) }
 {
     match ending {
         Ending::Plan(steps) => plan_in(alloc, version, steps, lines),
@@ -52,7 +52,7 @@ fn plan_in(
     steps: u32,
     lines: &mut Lines<'_>,
 ) -> Result<Option<Outcome>, AllocError>
-    ensures { IfOk result (λ found. Reads (planning version steps) (IsOutcomeOf version (Plan steps)) (outcome_rest version) found lines.old lines.new) }
+    ensures { IfOk result (λ found. PartReads (planning version steps) (IsOutcomeOf version (Plan steps)) (outcome_rest version) found lines.old lines.new) }
 {
     let Some(steps) = calls_in(alloc, b"do", steps, lines)? else {
         return Ok(None);

@@ -3,7 +3,7 @@ ghost use Rattle.std.specs.Prelude.{IfOk};
 ghost use Rattle.report_text.specs.Forms.{IsFormed};
 ghost use Rattle.report_text.specs.Places.{first};
 ghost use Rattle.report_reader.specs.Body.{lines_of_report};
-ghost use Rattle.report_reader.specs.Finding.{Reads};
+ghost use Rattle.report_reader.specs.Finding.{PartReads};
 
 use crate::body_reader::{Body, body_in};
 use crate::head_reader::{First, Limits, next_first, next_limits, pools_in};
@@ -14,7 +14,7 @@ use transcript_model::Report;
 
 /// The report in these lines, up to its last line; None where a line may not stand, which is the next one then.
 pub(crate) fn report_in(alloc: Global, lines: &mut Lines<'_>) -> Result<Option<Report>, AllocError>
-    ensures { IfOk result (λ found. Reads first IsFormed lines_of_report found lines.old lines.new) }
+    ensures { IfOk result (λ found. PartReads first IsFormed lines_of_report found lines.old lines.new) }
 {
     let Some(First { version, mode }) = next_first(lines) else {
         return Ok(None);

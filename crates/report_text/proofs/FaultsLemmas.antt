@@ -8,7 +8,7 @@ use Rattle.std.specs.Cmp.{first_so, second_so}
 use Rattle.std.specs.List.{list_all, slice_split, onto_first}
 use Rattle.gen_lines.specs.Lines.{is_feed, ended, open_part, unfinished}
 use Rattle.report_text.specs.Faults.{whole_lines, joined, IsReport, BeginsReport, IsFirstFault}
-use Rattle.report_text.specs.Places.{Place, first, limits, pools, entries, dream, plan, cost, origins, last, behind, IsBodyStep, IsStep, IsPath, body_of, IsTextStep, IsTextPath, IsStuck, StopsAfter}
+use Rattle.report_text.specs.Places.{Place, first, limits, pools, entries, dream, plan, cost, origins, last, behind, IsBodyStep, IsLineStep, IsPath, line_body, IsTextStep, IsTextPath, IsStuck, StopsAfter}
 use Rattle.report_text.specs.Texts.{Line, line_text, lines_text, text_of_report}
 use Rattle.transcript_model.specs.declared.report.Report.{Report}
 use Rattle.report_text.proofs.PlacesLemmas.{completes, path_live, step_same}
@@ -36,10 +36,10 @@ some_parts : (bytes : List ℕ) → 0 < length (slice_split is_feed bytes)
 some_parts bytes = omega (arith, length-slice_split is_feed bytes)
 
 -- the lines of a report's text are those of the report
-lines_written : (lines : List Line) → list_all is_clear lines ≡ true → whole_lines (lines_text lines) ≡ map body_of lines
-lines_written lines clear = ap ended (feeds_cut lines clear) ∙ ended_more (map body_of lines) ([] ∷ []) (omega arith) ∙ append-nil (map body_of lines)
+lines_written : (lines : List Line) → list_all is_clear lines ≡ true → whole_lines (lines_text lines) ≡ map line_body lines
+lines_written lines clear = ap ended (feeds_cut lines clear) ∙ ended_more (map line_body lines) ([] ∷ []) (omega arith) ∙ append-nil (map line_body lines)
 
-joined_text : (lines : List Line) → joined (map body_of lines) ≡ lines_text lines
+joined_text : (lines : List Line) → joined (map line_body lines) ≡ lines_text lines
 joined_text [] = refl
 joined_text (l ∷ ls) = ap (λ t. line_text l ++ t) (joined_text ls)
 
@@ -53,13 +53,13 @@ report_text_path bytes (r, formed, is) =
 path_front : (from to : Place) (front rest : List (List ℕ)) → IsTextPath from (front ++ rest) to → (m : Place) × IsTextPath from front m × ((text : List ℕ) (later : List (List ℕ)) → rest ≡ text ∷ later → (n : Place) × IsTextStep m text n)
 path_front from to [] rest (lines, is, path) = (from, ([], refl, refl), λ text later e. next lines is path text later e)
   where
-    next : (lines : List Line) → map body_of lines ≡ rest → IsPath from lines to → (text : List ℕ) (later : List (List ℕ)) → rest ≡ text ∷ later → (n : Place) × IsTextStep from text n
+    next : (lines : List Line) → map line_body lines ≡ rest → IsPath from lines to → (text : List ℕ) (later : List (List ℕ)) → rest ≡ text ∷ later → (n : Place) × IsTextStep from text n
     next [] is path text later e = let none : [] ≡ text ∷ later = is ∙ e in absurd (cc)
-    next (l ∷ ls) is path text later e = let both : body_of l ∷ map body_of ls ≡ text ∷ later = is ∙ e in let same : body_of l ≡ text = cc in (path.0, (l, same, path.1))
+    next (l ∷ ls) is path text later e = let both : line_body l ∷ map line_body ls ≡ text ∷ later = is ∙ e in let same : line_body l ≡ text = cc in (path.0, (l, same, path.1))
 path_front from to (t ∷ front) rest ([], is, path) = absurd (cc)
 path_front from to (t ∷ front) rest (l ∷ ls, is, path) =
-    let here : body_of l ≡ t = cc in
-    let later : map body_of ls ≡ front ++ rest = cc in
+    let here : line_body l ≡ t = cc in
+    let later : map line_body ls ≡ front ++ rest = cc in
     let r = path_front path.0 to front rest (ls, later, path.2) in
     (r.0, (l ∷ r.1.0, (λ i. here i ∷ r.1.1 i), (path.0, path.1, r.1.2)), r.2)
 
@@ -78,7 +78,7 @@ small_version : (version : ℕ) → (version ≡ 1) ⊎ (version ≡ 2) → vers
 small_version version (inl e) = omega (arith, e)
 small_version version (inr e) = omega (arith, e)
 
-line_clear : (p : Place) (l : Line) (n : Place) → IsStep p l n → is_clear l ≡ true
+line_clear : (p : Place) (l : Line) (n : Place) → IsLineStep p l n → is_clear l ≡ true
 line_clear first l n a = rw (a.3, number_inked a.0 (small_version a.0 a.2), mode_clear a.1) refl
 line_clear (limits version) l n a = rw (a.6, number_of_32 a.0 a.3, number_of_32 a.1 a.4, number_of_8 a.2 a.5) refl
 line_clear (pools version) l n (inl a) = ap is_clear a.2 ∙ pool_clear a.0 a.1
@@ -95,9 +95,9 @@ line_clear (origins version) l n (inr a) = ap is_clear a.0
 line_clear last l n a = ap is_clear a.0
 line_clear behind l n a = absurd a
 
-fields_same : (l m : Line) → is_clear l ≡ true → is_clear m ≡ true → body_of l ≡ body_of m → l ≡ m
+fields_same : (l m : Line) → is_clear l ≡ true → is_clear m ≡ true → line_body l ≡ line_body m → l ≡ m
 fields_same l m a b same =
-    let read : (k : Line) → is_clear k ≡ true → slice_split is_space (body_of k) ≡ k.first ∷ k.more = λ k e. spaces_cut k.first k.more (first_so (is_inked k.first) (list_all is_inked k.more) e) (second_so (is_inked k.first) (list_all is_inked k.more) e) in
+    let read : (k : Line) → is_clear k ≡ true → slice_split is_space (line_body k) ≡ k.first ∷ k.more = λ k e. spaces_cut k.first k.more (first_so (is_inked k.first) (list_all is_inked k.more) e) (second_so (is_inked k.first) (list_all is_inked k.more) e) in
     let fields : l.first ∷ l.more ≡ m.first ∷ m.more = sym (read l a) ∙ ap (slice_split is_space) same ∙ read m b in
     let front : l.first ≡ m.first = cc in
     let later : l.more ≡ m.more = cc in
@@ -111,12 +111,12 @@ text_path_same from m n [] (l ∷ ls, is, path) b = absurd (cc)
 text_path_same from m n (t ∷ texts) ([], is, path) b = absurd (cc)
 text_path_same from m n (t ∷ texts) (l ∷ ls, is, path) ([], also, other) = absurd (cc)
 text_path_same from m n (t ∷ texts) (l ∷ ls, is, path) (k ∷ ks, also, other) =
-    let here : body_of l ≡ t = cc in
-    let there : body_of k ≡ t = cc in
-    let later : map body_of ls ≡ texts = cc in
-    let behind_it : map body_of ks ≡ texts = cc in
+    let here : line_body l ≡ t = cc in
+    let there : line_body k ≡ t = cc in
+    let later : map line_body ls ≡ texts = cc in
+    let behind_it : map line_body ks ≡ texts = cc in
     let same : k ≡ l = fields_same k l (line_clear from k other.0 other.1) (line_clear from l path.0 path.1) (there ∙ sym here) in
-    let next : other.0 ≡ path.0 = step_same from l other.0 path.0 (subst (λ x. IsStep from x other.0) same other.1) path.1 in
+    let next : other.0 ≡ path.0 = step_same from l other.0 path.0 (subst (λ x. IsLineStep from x other.0) same other.1) path.1 in
     text_path_same path.0 m n texts (ls, later, path.2) (ks, behind_it, subst (λ q. IsPath q ks n) next other.2)
 
 -- ---- parts of a text
@@ -227,14 +227,14 @@ text_parts (x ∷ xs) =
     ] refl
 
 -- lines that are those of a report, with nothing behind them, are its text
-pub lines_report : (r : Report) (bytes : List ℕ) → whole_lines bytes ≡ map body_of (report_lines r) → unfinished bytes ≡ [] → text_of_report r ≡ bytes
+pub lines_report : (r : Report) (bytes : List ℕ) → whole_lines bytes ≡ map line_body (report_lines r) → unfinished bytes ≡ [] → text_of_report r ≡ bytes
 lines_report r bytes lines none =
     report_text r ∙ sym (joined_text (report_lines r)) ∙ ap joined (sym lines) ∙ sym (append-nil (joined (whole_lines bytes))) ∙ ap (λ t. joined (whole_lines bytes) ++ t) (sym none) ∙ text_parts bytes
 
 -- a report's text ends with a line feed
 report_ends : (bytes : List ℕ) → IsReport bytes → unfinished bytes ≡ []
 report_ends bytes (r, formed, is) =
-    ap unfinished (sym is ∙ report_text r) ∙ ap open_part (feeds_cut (report_lines r) (report_clear r formed)) ∙ last_part (map body_of (report_lines r))
+    ap unfinished (sym is ∙ report_text r) ∙ ap open_part (feeds_cut (report_lines r) (report_clear r formed)) ∙ last_part (map line_body (report_lines r))
   where
     last_part : (xs : List (List ℕ)) → open_part (xs ++ [] ∷ []) ≡ []
     last_part [] = refl
@@ -259,7 +259,7 @@ leftover_fault bytes path left =
 -- ---- reading in parts
 
 pub text_path_then : (from middle to : Place) (xs ys : List (List ℕ)) → IsTextPath from xs middle → IsTextPath middle ys to → IsTextPath from (xs ++ ys) to
-text_path_then from middle to xs ys (ls, is, path) (ms, also, later) = (ls ++ ms, map-append body_of ls ms ∙ (λ i. is i ++ also i), path_then from ls ms middle to path later)
+text_path_then from middle to xs ys (ls, is, path) (ms, also, later) = (ls ++ ms, map-append line_body ls ms ∙ (λ i. is i ++ also i), path_then from ls ms middle to path later)
 
 pub stops_here : (from : Place) (texts : List (List ℕ)) → IsStuck from texts → StopsAfter from texts 0
 stops_here from texts stuck = record { within = omega arith; at = from; path = ([], refl, refl); stuck = stuck }

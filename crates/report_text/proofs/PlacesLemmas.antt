@@ -6,7 +6,7 @@ use Rattle.std.specs.List.{list_any}
 use Rattle.std.specs.Str.{bytes_eq}
 use Rattle.std.specs.Str.Parse.{digits_value}
 use Rattle.report_text.specs.Forms.{IsTerm, IsFormedCall}
-use Rattle.report_text.specs.Places.{Place, first, limits, pools, entries, dream, plan, cost, origins, last, behind, dreaming, planning, dream_line, plan_line, cost_line, no_plan_line, limit_line, first_line, limits_line, is_dream, IsEntryLine, IsBodyStep, IsStep, IsPath}
+use Rattle.report_text.specs.Places.{Place, first, limits, pools, entries, dream, plan, cost, origins, last, behind, dreaming, planning, dream_line, plan_line, cost_line, no_plan_line, limit_line, first_line, limits_line, is_dream, IsEntryLine, IsBodyStep, IsLineStep, IsPath}
 use Rattle.report_text.specs.Texts.{Line, use_line, step_line, do_line, entry_lines, pool_line, done_line}
 use Rattle.transcript_model.specs.declared.entry.Call.{Call}
 use Rattle.transcript_model.specs.declared.entry.DreamUse.{DreamUse}
@@ -108,7 +108,7 @@ small_version : (version : ℕ) → (version ≡ 1) ⊎ (version ≡ 2) → vers
 small_version version (inl e) = omega (arith, e)
 small_version version (inr e) = omega (arith, e)
 
-pub step_same : (p : Place) (l : Line) (m n : Place) → IsStep p l m → IsStep p l n → m ≡ n
+pub step_same : (p : Place) (l : Line) (m n : Place) → IsLineStep p l m → IsLineStep p l n → m ≡ n
 unfolding head_field tail_fields
 step_same first l m n a b =
     let version : a.0 ≡ b.0 = number_same a.0 b.0 (small_version a.0 a.2) (small_version b.0 b.2) (ap (λ (x : Line). head_field x.more) (sym a.3 ∙ b.3)) in
@@ -155,7 +155,7 @@ body_live version l n (inr (inl a)) = subst IsLive (sym a.5) (dreaming_live vers
 body_live version l n (inr (inr (inl a))) = subst IsLive (sym a.3) (planning_live version a.0)
 body_live version l n (inr (inr (inr a))) = subst IsLive (sym a.1) tt
 
-pub step_live : (p : Place) (l : Line) (n : Place) → IsStep p l n → IsLive n
+pub step_live : (p : Place) (l : Line) (n : Place) → IsLineStep p l n → IsLive n
 step_live first l n a = subst IsLive (sym a.4) tt
 step_live (limits version) l n a = subst IsLive (sym a.7) tt
 step_live (pools version) l n (inl a) = subst IsLive (sym a.3) tt
@@ -236,6 +236,6 @@ path_same p [] m n a b = sym a ∙ b
 path_same p (l ∷ ls) m n a b = path_same a.0 ls m n a.2 (subst (λ q. IsPath q ls n) (step_same p l b.0 a.0 b.1 a.1) b.2)
 
 -- where a path goes on behind its front, the next line may stand there
-pub path_goes_on : (p : Place) (front rest : List Line) (l : Line) (m to : Place) → IsPath p (front ++ l ∷ rest) to → IsPath p front m → (n : Place) × IsStep m l n
-path_goes_on p [] rest l m to whole here = (whole.0, subst (λ q. IsStep q l whole.0) here whole.1)
+pub path_goes_on : (p : Place) (front rest : List Line) (l : Line) (m to : Place) → IsPath p (front ++ l ∷ rest) to → IsPath p front m → (n : Place) × IsLineStep m l n
+path_goes_on p [] rest l m to whole here = (whole.0, subst (λ q. IsLineStep q l whole.0) here whole.1)
 path_goes_on p (k ∷ front) rest l m to whole here = path_goes_on whole.0 front rest l m to whole.2 (subst (λ q. IsPath q front m) (step_same p k here.0 whole.0 here.1 whole.1) here.2)

@@ -2,7 +2,7 @@
 use Rattle.std.proofs.Common.{◌≡◌, ℕ, zero, suc, ◌<◌, ◌^◌, ◌⊎◌, inl, inr, arith, Bool, true, false, List, [], ◌∷◌, ◌++◌, map, length, refl, sym, subst, ap, ◌∙◌, All, append_assoc}
 use Rattle.std.specs.List.{flat_map}
 use Rattle.report_text.specs.Forms.{IsNumber, IsTerm, IsFormedCall, IsFormedUse, IsFormedEntry, IsFormedOrigin, IsFormedOutcome, IsFormedPool, IsFormed}
-use Rattle.report_text.specs.Places.{Place, first, limits, pools, entries, dream, plan, cost, origins, last, behind, dreaming, planning, dream_line, plan_line, cost_line, first_line, is_dream, IsEntryLine, IsBodyStep, IsStep, IsPath}
+use Rattle.report_text.specs.Places.{Place, first, limits, pools, entries, dream, plan, cost, origins, last, behind, dreaming, planning, dream_line, plan_line, cost_line, first_line, is_dream, IsEntryLine, IsBodyStep, IsLineStep, IsPath}
 use Rattle.report_text.specs.Texts.{Line, use_line, step_line, do_line, from_line, entry_lines, outcome_lines, pool_line, done_line}
 use Rattle.transcript_model.specs.declared.entry.Call.{Call}
 use Rattle.transcript_model.specs.declared.entry.DreamUse.{DreamUse}
@@ -149,7 +149,7 @@ sound_body version l ls next (inr (inr (inr (inr (kind, at), is)))) s =
     let later : done_line ∷ [] ≡ ls = subst (λ q. Sound q ls) is s in
     ([], outcome.Limit kind, all_nil (IsFormedEntry version), tt, λ i. sym at i ∷ later i)
 
-sound_step : (p : Place) (l : Line) (ls : List Line) (next : Place) → IsStep p l next → Sound next ls → Sound p (l ∷ ls)
+sound_step : (p : Place) (l : Line) (ls : List Line) (next : Place) → IsLineStep p l next → Sound next ls → Sound p (l ∷ ls)
 sound_step first l ls next step s =
     let r = subst (λ q. Sound q ls) step.4 s step.2 step.1 in
     (r.0, r.1, r.2 ∙ ap (λ m. m ∷ ls) (sym step.3))

@@ -76,39 +76,39 @@ IsBodyStep version l next =
     ⊎ (((steps : ℕ) × IsNumber steps × (l ≡ plan_line steps) × (next ≡ planning version steps)) ⊎ (((l ≡ no_plan_line) ⊎ ((kind : LimitKind) × (l ≡ limit_line kind))) × (next ≡ last))))
 
 -- the line may stand at the place, and the next place follows
-abbrev pub IsStep : Place → Line → Place → Type 0
-IsStep first l next = (version : ℕ) × (mode : Mode) × ((version ≡ 1) ⊎ (version ≡ 2)) × (l ≡ first_line version mode) × (next ≡ limits version)
-IsStep (limits version) l next = (calls : ℕ) × (states : ℕ) × (depth : ℕ) × IsNumber calls × IsNumber states × IsSmall depth × (l ≡ limits_line calls states depth) × (next ≡ pools version)
-IsStep (pools version) l next = ((pool : PoolLine) × IsFormedPool pool × (l ≡ pool_line pool) × (next ≡ pools version)) ⊎ IsBodyStep version l next
-IsStep (entries version) l next = IsBodyStep version l next
-IsStep (dream version zero zero) l next = ⊥
-IsStep (dream version zero (suc steps)) l next = (call : Call) × IsFormedCall IsTerm call × (l ≡ step_line call) × (next ≡ dreaming version zero steps)
-IsStep (dream version (suc uses) steps) l next = (u : DreamUse) × IsFormedUse u × (l ≡ use_line u) × (next ≡ dreaming version uses steps)
-IsStep (plan version zero) l next = ⊥
-IsStep (plan version (suc steps)) l next = (call : Call) × IsFormedCall IsTerm call × (l ≡ do_line call) × (next ≡ planning version steps)
-IsStep (cost version) l next = (c : ℕ) × (c < 2 ^ 64) × (l ≡ cost_line c) × (next ≡ origins version)
-IsStep (origins version) l next = ((o : Origin) × IsFormedOrigin version o × (l ≡ from_line version o) × (next ≡ origins version)) ⊎ ((l ≡ done_line) × (next ≡ behind))
-IsStep last l next = (l ≡ done_line) × (next ≡ behind)
-IsStep behind l next = ⊥
+abbrev pub IsLineStep : Place → Line → Place → Type 0
+IsLineStep first l next = (version : ℕ) × (mode : Mode) × ((version ≡ 1) ⊎ (version ≡ 2)) × (l ≡ first_line version mode) × (next ≡ limits version)
+IsLineStep (limits version) l next = (calls : ℕ) × (states : ℕ) × (depth : ℕ) × IsNumber calls × IsNumber states × IsSmall depth × (l ≡ limits_line calls states depth) × (next ≡ pools version)
+IsLineStep (pools version) l next = ((pool : PoolLine) × IsFormedPool pool × (l ≡ pool_line pool) × (next ≡ pools version)) ⊎ IsBodyStep version l next
+IsLineStep (entries version) l next = IsBodyStep version l next
+IsLineStep (dream version zero zero) l next = ⊥
+IsLineStep (dream version zero (suc steps)) l next = (call : Call) × IsFormedCall IsTerm call × (l ≡ step_line call) × (next ≡ dreaming version zero steps)
+IsLineStep (dream version (suc uses) steps) l next = (u : DreamUse) × IsFormedUse u × (l ≡ use_line u) × (next ≡ dreaming version uses steps)
+IsLineStep (plan version zero) l next = ⊥
+IsLineStep (plan version (suc steps)) l next = (call : Call) × IsFormedCall IsTerm call × (l ≡ do_line call) × (next ≡ planning version steps)
+IsLineStep (cost version) l next = (c : ℕ) × (c < 2 ^ 64) × (l ≡ cost_line c) × (next ≡ origins version)
+IsLineStep (origins version) l next = ((o : Origin) × IsFormedOrigin version o × (l ≡ from_line version o) × (next ≡ origins version)) ⊎ ((l ≡ done_line) × (next ≡ behind))
+IsLineStep last l next = (l ≡ done_line) × (next ≡ behind)
+IsLineStep behind l next = ⊥
 
 -- the lines may stand from the first place on, one after another, and the second place follows
 abbrev pub IsPath : Place → List Line → Place → Type 0
 IsPath from [] to = from ≡ to
-IsPath from (l ∷ lines) to = (next : Place) × IsStep from l next × IsPath next lines to
+IsPath from (l ∷ lines) to = (next : Place) × IsLineStep from l next × IsPath next lines to
 
 -- ---- lines as they are written
 
 -- the text of a line, without its line feed
-abbrev pub body_of : Line → List ℕ
-body_of l = l.first ++ fields_text l.more
+abbrev pub line_body : Line → List ℕ
+line_body l = l.first ++ fields_text l.more
 
 -- a line that is written so may stand at the place, and the next place follows
 abbrev pub IsTextStep : Place → List ℕ → Place → Type 0
-IsTextStep from text next = (l : Line) × (body_of l ≡ text) × IsStep from l next
+IsTextStep from text next = (l : Line) × (line_body l ≡ text) × IsLineStep from l next
 
 -- lines that are written so may stand from the first place on, and the second follows
 abbrev pub IsTextPath : Place → List (List ℕ) → Place → Type 0
-IsTextPath from texts to = (lines : List Line) × (map body_of lines ≡ texts) × IsPath from lines to
+IsTextPath from texts to = (lines : List Line) × (map line_body lines ≡ texts) × IsPath from lines to
 
 -- The next line may not stand at the place, or it is missing where one has to come.
 abbrev pub IsStuck : Place → List (List ℕ) → Type 0

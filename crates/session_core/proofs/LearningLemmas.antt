@@ -31,7 +31,7 @@ use Rattle.transcript_model.specs.declared.entry.Entry.{Entry}
 use Rattle.transcript_model.specs.declared.entry.Entry.TheVariants as entry
 use Rattle.session_core.proofs.SessionLemmas.{count_joined, count_one}
 use Rattle.session_core.proofs.LearningTupleLemmas.{length_with_names}
-use Rattle.session_core.specs.Learning.{CanLearn, MayLearn, IsRoomAfter, number_of}
+use Rattle.session_core.specs.Learning.{CanLearn, MayLearn, IsRoomAfter, answered_number}
 use Rattle.session_core.specs.Session.{Asks, is_answer}
 
 -- ---- lists
@@ -74,7 +74,7 @@ few_values t w n a b e = omega (arith, e, mul-le-mul a b)
 
 -- ---- which request is answered
 
-answers_to : (e : Entry) (n : ℕ) → number_of e ≡ Some n → is_answer_to n e ≡ true
+answers_to : (e : Entry) (n : ℕ) → answered_number e ≡ Some n → is_answer_to n e ≡ true
 answers_to (entry.Got m tuples values) n is = let same : n ≡ m = cc in eq-eqb n m same
 answers_to (entry.Value m value) n is = let same : n ≡ m = cc in eq-eqb n m same
 answers_to (entry.End m) n is = let same : n ≡ m = cc in eq-eqb n m same
@@ -159,7 +159,7 @@ module _ (task : Task) (asked_all : List Instance) (entries : List Entry) (can :
   room_after place n (entry.Pick k) a at was answers may = tt
   room_after place n (entry.Retire k) a at was answers may = tt
 
-  pub answer_at : (place n : ℕ) (e : Entry) → slice_get entries place ≡ Some e → number_of e ≡ Some n → IsAnswerAt place n e
+  pub answer_at : (place n : ℕ) (e : Entry) → slice_get entries place ≡ Some e → answered_number e ≡ Some n → IsAnswerAt place n e
   answer_at place n e at number =
       let before = take place entries in
       let legal = legal_take can.version task entries place can.legal in
@@ -200,7 +200,7 @@ module _ (task : Task) (asked_all : List Instance) (entries : List Entry) (can :
       let next = take_next entries place e at in
       record { known = ap (known_of task) next ∙ adds.same.known; notes = ap (notes_of task) next ∙ adds.same.notes }
 
-  pub other_at : (place : ℕ) (e : Entry) → slice_get entries place ≡ Some e → number_of e ≡ None → AddsNothing place
+  pub other_at : (place : ℕ) (e : Entry) → slice_get entries place ≡ Some e → answered_number e ≡ None → AddsNothing place
   other_at place (entry.Ask number turn call) at none =
       let before = take place entries in
       let legal = legal_take can.version task entries place can.legal in

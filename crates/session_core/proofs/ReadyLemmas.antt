@@ -39,9 +39,9 @@ use Rattle.transcript_model.specs.declared.entry.Entry.{Entry}
 use Rattle.transcript_model.specs.declared.entry.Entry.TheVariants as entry
 use Rattle.session_core.proofs.RoundCloseLemmas.{close_kept}
 use Rattle.session_core.proofs.ReadyRoundLemmas.{fits_same, workers_fit}
-use Rattle.session_core.specs.Learning.{number_of}
+use Rattle.session_core.specs.Learning.{answered_number}
 use Rattle.session_core.specs.Ready.{AreReady, IsNextRound}
-use Rattle.session_core.specs.Session.{IsSession, IsLearnt, IsRoundOf, AreSlotsFor, Asks, MayBegin}
+use Rattle.session_core.specs.Session.{IsSession, IsLearnt, IsRoundOf, AreSlotsFor, Asks, MayBeginRound}
 use Rattle.session_core.specs.Slots.{Slot, streams_of, asks_from, entry_of, answers_of, all_answered}
 use Rattle.session_core.specs.State.{State, after_close}
 
@@ -94,7 +94,7 @@ level_ready task entries dues level = record {
 
 -- ---- the next round may begin
 
-pub may_begin : (task : Task) (s : State) (dues : List Due) (count : ℕ) → IsSession task s → s.failed ≡ false → IsLearnt s → AreReady task s.entries dues → IsNextRound s dues count → MayBegin task s (take count dues)
+pub may_begin : (task : Task) (s : State) (dues : List Due) (count : ℕ) → IsSession task s → s.failed ≡ false → IsLearnt s → AreReady task s.entries dues → IsNextRound s dues count → MayBeginRound task s (take count dues)
 may_begin task s dues count h works learnt ready next =
     let all = ap (λ n. take n s.entries) learnt.all ∙ take-length s.entries in
     let known : s.known ≡ known_of task s.entries = h.known works ∙ ap (known_of task) all in
@@ -158,10 +158,10 @@ tally_apart notes (m ∷ ms) i all =
 
 -- ---- the answers of a round
 
-entry_number : (n : ℕ) (r : Reply) (e : Entry) → entry_of n r ≡ Some e → number_of e ≡ Some n
-entry_number n (reply.yields tuples values) e is = let same : entry.Got n tuples values ≡ e = cc in ap number_of (sym same)
-entry_number n (reply.number value) e is = let same : entry.Value n value ≡ e = cc in ap number_of (sym same)
-entry_number n reply.ends e is = let same : entry.End n ≡ e = cc in ap number_of (sym same)
+entry_number : (n : ℕ) (r : Reply) (e : Entry) → entry_of n r ≡ Some e → answered_number e ≡ Some n
+entry_number n (reply.yields tuples values) e is = let same : entry.Got n tuples values ≡ e = cc in ap answered_number (sym same)
+entry_number n (reply.number value) e is = let same : entry.Value n value ≡ e = cc in ap answered_number (sym same)
+entry_number n reply.ends e is = let same : entry.End n ≡ e = cc in ap answered_number (sym same)
 entry_number n (reply.bad why) e is = absurd (cc)
 
 -- the answer is to the request of this due
@@ -169,7 +169,7 @@ record IsAnswerOf (number : ℕ) (dues : List Due) (e : Entry) : Type 0 where
   place : ℕ
   due : Due
   at : slice_get dues place ≡ Some due
-  numbered : number_of e ≡ Some (number + place)
+  numbered : answered_number e ≡ Some (number + place)
 
 answer_of_due : (task : Task) (version number : ℕ) (dues : List Due) (slots : List Slot) → AreSlotsFor task version number dues slots → (k : ℕ) (e : Entry) → slice_get (answers_of slots) k ≡ Some e → IsAnswerOf number dues e
 answer_of_due task version number [] [] h k e at = absurd (cc)
@@ -185,7 +185,7 @@ answer_of_due task version number (d ∷ ds) (s ∷ ss) h k e at = by (λ j ther
     first a is same =
         let said = h.0.right a is in
         let n : s.number ≡ number + 0 = h.0.numbered ∙ (let z : number ≡ number + 0 = omega arith in z) in
-        record { place = 0; due = d; at = refl; numbered = ap number_of (sym same) ∙ entry_number s.number (reply_of said.0 s.wanted) a said.1 ∙ ap Some n }
+        record { place = 0; due = d; at = refl; numbered = ap answered_number (sym same) ∙ entry_number s.number (reply_of said.0 s.wanted) a said.1 ∙ ap Some n }
 
     by : ((j : ℕ) → slice_get (answers_of ss) j ≡ Some e → IsAnswerOf number (d ∷ ds) e) → (o : Option Entry) → s.answer ≡ o → (j : ℕ) → slice_get (cons_option s.answer (answers_of ss)) j ≡ Some e → IsAnswerOf number (d ∷ ds) e
     by again None is j there = again j (ap (λ o. slice_get (cons_option o (answers_of ss)) j) (sym is) ∙ there)
@@ -196,7 +196,7 @@ answer_of_due task version number (d ∷ ds) (s ∷ ss) h k e at = by (λ j ther
     by again (Some a) is (suc j) there = again j (ap (λ o. slice_get (cons_option o (answers_of ss)) (suc j)) (sym is) ∙ there)
 
 -- what an answer to this request tells is about its instance
-notes_about : (task : Task) (all : List Entry) (e : Entry) (n : ℕ) (a : Asked) (i : Instance) → number_of e ≡ Some n → asked task all n ≡ Some a → ¬ (a.instance ≡ i) → All (λ m. ¬ (about m ≡ i)) (note_of task all e)
+notes_about : (task : Task) (all : List Entry) (e : Entry) (n : ℕ) (a : Asked) (i : Instance) → answered_number e ≡ Some n → asked task all n ≡ Some a → ¬ (a.instance ≡ i) → All (λ m. ¬ (about m ≡ i)) (note_of task all e)
 notes_about task all (entry.Got m tuples values) n a i number was apart =
     let same : m ≡ n = cc in
     let there : asked task all m ≡ Some a = ap (asked task all) same ∙ was in

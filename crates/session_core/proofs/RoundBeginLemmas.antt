@@ -22,7 +22,7 @@ use Rattle.session_core.proofs.SessionLemmas.{count_joined, count_one}
 use Rattle.session_core.proofs.SlotsLemmas.{children_of}
 use Rattle.session_core.specs.Events.{IsFresh}
 use Rattle.session_core.specs.Pools.{serves, server, child_for, HasChild, AreFitPools, FitWorkers}
-use Rattle.session_core.specs.Session.{IsSession, AreSlotsFor, MayBegin, begun}
+use Rattle.session_core.specs.Session.{IsSession, AreSlotsFor, MayBeginRound, begun}
 use Rattle.session_core.specs.Slots.{Slot, streams_of, ask_for, asks_from, slot_for, slots_from}
 use Rattle.session_core.specs.State.{State, IsSound}
 use Rattle.session_core.specs.declared.pools.Workers.{Workers}
@@ -138,7 +138,7 @@ served_at task pools dues fit fits k d at below =
 
 -- ---- the state with the round
 
-module _ (task : Task) (s : State) (dues : List Due) (works : s.failed ≡ false) (may : MayBegin task s dues) (h : IsSession task s) where
+module _ (task : Task) (s : State) (dues : List Due) (works : s.failed ≡ false) (may : MayBeginRound task s dues) (h : IsSession task s) where
   all_learnt : take s.learnt s.entries ≡ s.entries
   all_learnt = ap (λ n. take n s.entries) may.ready.all ∙ take-length s.entries
 

@@ -13,11 +13,11 @@ use Rattle.transcript_model.specs.declared.entry.Entry.TheVariants as entry
 use Rattle.session_core.specs.Session.{Asks, is_answer}
 
 -- the number of the request that an entry answers, if it is an answer
-abbrev pub number_of : Entry → Option ℕ
-number_of (entry.Got n tuples values) = Some n
-number_of (entry.Value n value) = Some n
-number_of (entry.End n) = Some n
-number_of e = None
+abbrev pub answered_number : Entry → Option ℕ
+answered_number (entry.Got n tuples values) = Some n
+answered_number (entry.Value n value) = Some n
+answered_number (entry.End n) = Some n
+answered_number e = None
 
 -- there is room for so many tuples of so many values, each as wide as the stream says
 pub record IsRoomFor (known : Known) (notes : List Note) (stream : Stream) (tuples : ℕ) (values : List (List ℕ)) : Type 0 where

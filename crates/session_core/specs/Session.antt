@@ -105,7 +105,7 @@ pub record IsLearnt (s : State) : Type 0 where
 -- ---- rounds
 
 -- The asks are due, each with its turn, and of different instances; they fit the workers, and so many calls are left.
-pub record MayBegin (task : Task) (s : State) (dues : List Due) : Type 0 where
+pub record MayBeginRound (task : Task) (s : State) (dues : List Due) : Type 0 where
   pub ready : IsLearnt s
   pub due : (i : Instance) → Contains (instances_of dues) i → IsDue task s.known s.notes i
   pub turns : All (λ (d : Due). d.turn ≡ yields_of s.notes d.instance) dues

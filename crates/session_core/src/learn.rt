@@ -4,7 +4,7 @@ ghost use Rattle.task_model.specs.Streams.{Yielded};
 ghost use Rattle.transcript_model.specs.Laws.{known_with, notes_with};
 ghost use Rattle.transcript_model.specs.Transcript.{known_of, notes_of};
 ghost use Rattle.transcript_model.specs.declared.entry.Entry.TheVariants as entry;
-ghost use Rattle.session_core.specs.Learning.{MayLearn, CanLearn, number_of};
+ghost use Rattle.session_core.specs.Learning.{MayLearn, CanLearn, answered_number};
 
 use certify::{learn_tuple, learn_value};
 use fact_store::Facts;
@@ -15,7 +15,7 @@ use transcript_model::Entry;
 
 /// The number of the request that the entry answers, if it is an answer.
 fn answered(entry: &Entry) -> Option<u32>
-    ensures { result ≡ number_of entry.now }
+    ensures { result ≡ answered_number entry.now }
 {
     match entry {
         Entry::Got { number, .. } => Some(*number),

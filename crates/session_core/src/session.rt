@@ -59,7 +59,7 @@ impl Session {
     ghost use Rattle.session_core.specs.Events.{IsFresh};
     ghost use Rattle.session_core.specs.Heard.{heard_at, is_bad_at, number_at};
     ghost use Rattle.session_core.specs.Ready.{AreReady, IsNextRound};
-    ghost use Rattle.session_core.specs.Session.{IsFitHead, IsSession, IsOf, IsNew, IsLearnt, MayBegin, begun, after_learn, ComesOf};
+    ghost use Rattle.session_core.specs.Session.{IsFitHead, IsSession, IsOf, IsNew, IsLearnt, MayBeginRound, begun, after_learn, ComesOf};
     ghost use Rattle.session_core.specs.declared.fault.CoreFault.TheVariants.{Failed};
     ghost use Rattle.session_core.specs.Slots.{IsUnsent, IsAwaited, all_answered};
     ghost use Rattle.session_core.specs.State.{after_sent, after_line, after_failure, after_close, after_mark, with_learnt};
@@ -97,7 +97,7 @@ impl Session {
     pub fn next_round(&self, dues: &[Due]) -> usize
         ensures cut { IsNextRound self.now dues.now result }
         ensures some { (task : AnyTask) → IsSession task self.now → 0 < length dues.now → length self.now.asked < self.now.calls → 0 < result }
-        ensures may { (task : AnyTask) → IsSession task self.now → self.now.failed ≡ false → IsLearnt self.now → AreReady task self.now.entries dues.now → MayBegin task self.now (take result dues.now) }
+        ensures may { (task : AnyTask) → IsSession task self.now → self.now.failed ≡ false → IsLearnt self.now → AreReady task self.now.entries dues.now → MayBeginRound task self.now (take result dues.now) }
     {
         let left = self.calls as usize - self.asked.len();
         let most = dues.len().min(left);
@@ -110,7 +110,7 @@ impl Session {
     /// session has failed and where memory is wanting, and leaves all as it was then.
     pub fn begin_round(&mut self, task: &Task, dues: &[Due]) -> Result<usize, CoreFault>
         requires session { IsSession task.now self.old }
-        requires round { self.old.failed ≡ false → MayBegin task.now self.old dues.now }
+        requires round { self.old.failed ≡ false → MayBeginRound task.now self.old dues.now }
         ensures begun { OnOk result (self.new ≡ begun task.now self.old dues.now) }
         ensures count { IfOk result (λ count. count ≡ length dues.now) }
         ensures fresh { OnOk result (IsFresh self.new.slots) }

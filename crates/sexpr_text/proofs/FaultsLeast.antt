@@ -6,7 +6,7 @@ use Rattle.sexpr_text.specs.declared.fault.TextFault.TheVariants.{BadByte, Unclo
 use Rattle.sexpr_text.specs.Tokens.{Token}
 use Rattle.sexpr_text.specs.Trees.{Trees, nothing, word, list}
 use Rattle.sexpr_text.specs.Spelling.{Begins, with_list, with_none, IsOneList}
-use Rattle.sexpr_text.specs.Reading.{Stage, before, inside, after, out_of, first_fault}
+use Rattle.sexpr_text.specs.Reading.{ReadingStage, before, inside, after, out_of, first_fault}
 use Rattle.sexpr_text.specs.Faults.{token_place, Stands, AfterList, HasBad, ComesFirst, fault_place, fault_number}
 use Rattle.sexpr_text.proofs.ReadingSound.{out_of-suc, deeper}
 use Rattle.sexpr_text.proofs.TokensPlaceLemmas.{Ascends, next_token, ascends_tail, stands_none, stands_within}
@@ -29,11 +29,11 @@ bad_beyond t ts low end p good a h =
     let w = stands_within (token_place t + 1) end ts later.front (Token.bad p) (head_low a).1 later.stands in
     omega arith
 
-no_out : (s : Stage) (t : Token) → ((us : List Token) → Rest s [] us → ⊥) → OutAt s [] t → ⊥
+no_out : (s : ReadingStage) (t : Token) → ((us : List Token) → Rest s [] us → ⊥) → OutAt s [] t → ⊥
 no_out s t none (at_front b st n) = stands_none [] t st
 no_out s t none (beyond {us} r st) = none us r
 
-ended_least : (end : ℕ) (s : Stage) → ((us : List Token) → Rest s [] us → ⊥) → (g : TextFault) → FaultAt end s [] g → ComesFirst (Unclosed end) g
+ended_least : (end : ℕ) (s : ReadingStage) → ((us : List Token) → Rest s [] us → ⊥) → (g : TextFault) → FaultAt end s [] g → ComesFirst (Unclosed end) g
 ended_least end s none (BadByte p) h = absurd (stands_none h.front (Token.bad p) h.stands)
 ended_least end s none (Unclosed p) h = let e = h.at_end in inr (sym e, omega arith)
 ended_least end s none (Extra p) h = absurd (no_out s h.token none h.out)
@@ -50,10 +50,10 @@ nothing_out t (at_front b st n) = b
 nothing_out t (beyond {us} {front} r st) = stands_none front t (subst (λ vs. Stands vs front t) (sym r) st)
 
 -- The tokens end before the list is whole.
-ended : (end : ℕ) (s : Stage) → ((us : List Token) → Rest s [] us → ⊥) → Decided end s [] (Some (Unclosed end))
+ended : (end : ℕ) (s : ReadingStage) → ((us : List Token) → Rest s [] us → ⊥) → Decided end s [] (Some (Unclosed end))
 ended end s none = (record { at_end = refl; no_rest = none }, ended_least end s none)
 
-number_least : (end : ℕ) (s : Stage) (ts : List Token) (g : TextFault) → FaultAt end s ts g → 1 ≤ fault_number g
+number_least : (end : ℕ) (s : ReadingStage) (ts : List Token) (g : TextFault) → FaultAt end s ts g → 1 ≤ fault_number g
 number_least end s ts (BadByte p) h = omega arith
 number_least end s ts (Unclosed p) h = omega arith
 number_least end s ts (Extra p) h = omega arith
@@ -61,14 +61,14 @@ number_least end s ts (TooDeep p) h = omega arith
 number_least end s ts Memory h = omega arith
 
 -- A byte that may not stand comes next.
-bad_next : (end low p : ℕ) (s : Stage) (ts : List Token) → Ascends low end (Token.bad p ∷ ts) → Decided end s (Token.bad p ∷ ts) (Some (BadByte p))
+bad_next : (end low p : ℕ) (s : ReadingStage) (ts : List Token) → Ascends low end (Token.bad p ∷ ts) → Decided end s (Token.bad p ∷ ts) (Some (BadByte p))
 bad_next end low p s ts a =
     let q = (head_low a).0 in (
       record { front = []; stands = front_token (Token.bad p) ts },
       λ g h. by_place p (fault_place g) 1 (fault_number g) (fault_low s p end (Token.bad p ∷ ts) g (omega arith) (own_place a) h) (number_least end s (Token.bad p ∷ ts) g h),
     )
 
-extra_least : (end low : ℕ) (s : Stage) (t : Token) (ts : List Token) → IsNotBad t → Ascends low end (t ∷ ts) → (g : TextFault) → FaultAt end s (t ∷ ts) g → ComesFirst (Extra (token_place t)) g
+extra_least : (end low : ℕ) (s : ReadingStage) (t : Token) (ts : List Token) → IsNotBad t → Ascends low end (t ∷ ts) → (g : TextFault) → FaultAt end s (t ∷ ts) g → ComesFirst (Extra (token_place t)) g
 extra_least end low s t ts good a (BadByte p) h = inl (bad_beyond t ts low end p good a h)
 extra_least end low s t ts good a (Unclosed p) h = let e = h.at_end in let q = (head_low a).0 in inl (omega arith)
 extra_least end low s t ts good a (Extra p) h = let q = (head_low a).0 in by_place (token_place t) p 3 3 (fault_low s (token_place t) end (t ∷ ts) (Extra p) (omega arith) (own_place a) h) (omega arith)
@@ -76,7 +76,7 @@ extra_least end low s t ts good a (TooDeep p) h = let q = (head_low a).0 in by_p
 extra_least end low s t ts good a Memory h = absurd h
 
 -- A token outside of the list comes next.
-extra_next : (end low : ℕ) (s : Stage) (t : Token) (ts : List Token) → IsNotBad t → Ascends low end (t ∷ ts) → OutAt s (t ∷ ts) t → Decided end s (t ∷ ts) (Some (Extra (token_place t)))
+extra_next : (end low : ℕ) (s : ReadingStage) (t : Token) (ts : List Token) → IsNotBad t → Ascends low end (t ∷ ts) → OutAt s (t ∷ ts) t → Decided end s (t ∷ ts) (Some (Extra (token_place t)))
 extra_next end low s t ts good a out = (record { token = t; at_place = refl; out = out }, extra_least end low s t ts good a)
 
 extra_beyond : (end low d p : ℕ) (t : Token) (ts : List Token) → Ascends low end (Token.left p ∷ ts) → OutAt (inside (suc d)) (Token.left p ∷ ts) t → p < token_place t
@@ -183,7 +183,7 @@ decided_after end low (Token.right p ∷ ts) a = extra_next end low after (Token
 decided_after end low (Token.bad p ∷ ts) a = bad_next end low p after ts a
 
 -- a choice that both ways decides
-chosen : (end : ℕ) (s : Stage) (ts : List Token) (v : Bool) (o p : Option TextFault) → (v ≡ true → Decided end s ts o) → (v ≡ false → Decided end s ts p) → Decided end s ts (cond v o p)
+chosen : (end : ℕ) (s : ReadingStage) (ts : List Token) (v : Bool) (o p : Option TextFault) → (v ≡ true → Decided end s ts o) → (v ≡ false → Decided end s ts p) → Decided end s ts (cond v o p)
 chosen end s ts true o p first second = first refl
 chosen end s ts false o p first second = second refl
 

@@ -6,7 +6,7 @@ use Rattle.sexpr_text.specs.declared.tree.Tree.{Tree}
 use Rattle.sexpr_text.specs.Trees.{Trees, tree, size}
 use Rattle.sexpr_text.specs.Spelling.{Spells}
 use Rattle.sexpr_text.specs.Reading.{Gives, reading}
-use Rattle.sexpr_text.specs.Faults.{Blames, HasNoFault}
+use Rattle.sexpr_text.specs.Faults.{BlamesPlace, HasNoFault}
 use Rattle.sexpr_text.proofs.FaultsToldLemmas.{blamed, faultless}
 use Rattle.sexpr_text.proofs.ReadingSound.{found}
 use Rattle.sexpr_text.proofs.ReadingComplete.{only}
@@ -27,7 +27,7 @@ pub answered_clean : (bytes : List ℕ) (r : Result Tree TextFault) → Gives tr
 answered_clean bytes (Ok t) g = faultless bytes (tree t) g
 answered_clean bytes (Err e) g = tt
 
-pub answered_least : (bytes : List ℕ) (r : Result Tree TextFault) → Gives tree r (reading bytes) → IfErr r (Blames bytes)
+pub answered_least : (bytes : List ℕ) (r : Result Tree TextFault) → Gives tree r (reading bytes) → IfErr r (BlamesPlace bytes)
 answered_least bytes (Ok t) g = tt
 answered_least bytes (Err (BadByte p)) g = blamed bytes (BadByte p) g
 answered_least bytes (Err (Unclosed p)) g = blamed bytes (Unclosed p) g

@@ -108,12 +108,12 @@ pub record IsLeastFault (bytes : List ℕ) (f : TextFault) : Type 0 where
   pub least : (g : TextFault) → HasFault bytes g → ComesFirst f g
 
 -- What is told of the text, which is nothing where memory ran out.
-abbrev pub Blames : List ℕ → TextFault → Type 0
-Blames bytes Memory = Unit {0}
-Blames bytes (BadByte place) = IsLeastFault bytes (BadByte place)
-Blames bytes (Unclosed place) = IsLeastFault bytes (Unclosed place)
-Blames bytes (Extra place) = IsLeastFault bytes (Extra place)
-Blames bytes (TooDeep place) = IsLeastFault bytes (TooDeep place)
+abbrev pub BlamesPlace : List ℕ → TextFault → Type 0
+BlamesPlace bytes Memory = Unit {0}
+BlamesPlace bytes (BadByte place) = IsLeastFault bytes (BadByte place)
+BlamesPlace bytes (Unclosed place) = IsLeastFault bytes (Unclosed place)
+BlamesPlace bytes (Extra place) = IsLeastFault bytes (Extra place)
+BlamesPlace bytes (TooDeep place) = IsLeastFault bytes (TooDeep place)
 
 -- The text has no fault at all.
 abbrev pub HasNoFault : List ℕ → Type 0

@@ -58,6 +58,6 @@ pub record EndsWith (end place : ℕ) (old : List Token) (t : Tree) (new : List 
   pub tree : (opened place (levels old).inner (levels old).outer).inner ≡ tree_then t (levels new).inner
 
 -- the rest of a list whose `(` stands at the place
-abbrev pub Ends : ℕ → ℕ → List Token → Result Tree TextFault → List Token → Type 0
-Ends end place old (Ok t) new = EndsWith end place old t new
-Ends end place old (Err e) new = IsFirst e (first_fault end (inside 1) old)
+abbrev pub NestEnds : ℕ → ℕ → List Token → Result Tree TextFault → List Token → Type 0
+NestEnds end place old (Ok t) new = EndsWith end place old t new
+NestEnds end place old (Err e) new = IsFirst e (first_fault end (inside 1) old)

@@ -6,13 +6,13 @@ use Rattle.sexpr_text.specs.Tokens.{Token, tokens_of}
 use Rattle.sexpr_text.specs.Trees.{Trees, nothing, word, list}
 
 -- Where a token stands: before the list, in this many lists, or after the list.
-pub data Stage : Type 0 where
-  before : Stage
-  inside : ℕ → Stage
-  after : Stage
+pub data ReadingStage : Type 0 where
+  before : ReadingStage
+  inside : ℕ → ReadingStage
+  after : ReadingStage
 
 -- where the next token stands when the innermost of this many lists is closed
-abbrev pub out_of : ℕ → Stage
+abbrev pub out_of : ℕ → ReadingStage
 out_of d = if d == 1 then after else inside (d - 1)
 
 -- the fault of a token that stands before or after the list
@@ -23,7 +23,7 @@ outside_fault (Token.right place) = Extra place
 outside_fault (Token.bad place) = BadByte place
 
 -- The first fault of the tokens from left to right, in a text that ends at the place end.
-abbrev pub first_fault : ℕ → Stage → List Token → Option TextFault
+abbrev pub first_fault : ℕ → ReadingStage → List Token → Option TextFault
 first_fault end before [] = Some (Unclosed end)
 first_fault end before (Token.left place ∷ ts) = first_fault end (inside 1) ts
 first_fault end before (t ∷ ts) = Some (outside_fault t)

@@ -28,9 +28,9 @@ abbrev pub token : Placed → Token
 token p = token_of p.lexeme p.place
 
 -- the old tokens are the one that was taken, and the new ones
-abbrev pub Takes : List Token → Option Placed → List Token → Type 0
-Takes old None new = old ≡ []
-Takes old (Some p) new = old ≡ token p ∷ new
+abbrev pub TakesToken : List Token → Option Placed → List Token → Type 0
+TakesToken old None new = old ≡ []
+TakesToken old (Some p) new = old ≡ token p ∷ new
 
 -- the letters at the front of these bytes, in lower case
 abbrev pub folded_word : List ℕ → List ℕ

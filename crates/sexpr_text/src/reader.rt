@@ -2,10 +2,10 @@
 ghost use Rattle.std.specs.Prelude.{◌≡◌, ◌≤◌, length, IfOk, IfErr, Ok};
 ghost use Rattle.sexpr_text.specs.Trees.{Trees, tree, size};
 ghost use Rattle.sexpr_text.specs.Spelling.{Spells};
-ghost use Rattle.sexpr_text.specs.Faults.{Blames, HasNoFault};
+ghost use Rattle.sexpr_text.specs.Faults.{BlamesPlace, HasNoFault};
 ghost use Rattle.sexpr_text.specs.Reading.{Gives, outside_fault, reading};
 ghost use Rattle.sexpr_text.specs.Scanning.{token_of};
-ghost use Rattle.sexpr_text.specs.Nesting.{Ends};
+ghost use Rattle.sexpr_text.specs.Nesting.{NestEnds};
 
 use crate::fault::TextFault;
 use crate::nest::{Closed, Nest};
@@ -43,7 +43,7 @@ pub fn read_tree(alloc: Global, bytes: &[u8]) -> Result<Tree, TextFault>
     ensures only { (t : Trees) → Spells bytes.now t → Gives tree result (Ok t) }
     // A text that is read has no fault, and a fault that is told is the first one of the text.
     ensures clean { IfOk result (λ t. HasNoFault bytes.now) }
-    ensures first { IfErr result (Blames bytes.now) }
+    ensures first { IfErr result (BlamesPlace bytes.now) }
 
     // Tree and fault as one function of the bytes, for the layers above.
     ensures exact { Gives tree result (reading bytes.now) }
@@ -90,7 +90,7 @@ fn read_list(
     place: usize,
     end: usize,
 ) -> Result<Tree, TextFault>
-    ensures { Ends end place scanner.old result scanner.new }
+    ensures { NestEnds end place scanner.old result scanner.new }
 {
     let mut nest = Nest::new(alloc, place);
     'tokens: loop {

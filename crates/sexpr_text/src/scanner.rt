@@ -2,7 +2,7 @@
 ghost use Rattle.std.specs.Prelude.{◌≡◌, ℕ, ◌+◌, ◌<◌, ◌≤◌, List, false, drop, length, IfOk};
 ghost use Rattle.std.below.core.specs.declared.int.usize.TheConstants.{MAX};
 ghost use Rattle.sexpr_text.specs.Tokens.{Token, tokens, tokens_of};
-ghost use Rattle.sexpr_text.specs.Scanning.{IsAtToken, BeginsWith, Takes, folded_word};
+ghost use Rattle.sexpr_text.specs.Scanning.{IsAtToken, BeginsWith, TakesToken, folded_word};
 
 use crate::class::{Class, class_of, folded};
 use crate::text::Text;
@@ -59,7 +59,7 @@ impl<'a> Scanner<'a> {
 
     /// Takes the next token, if there is one. After an error the scanner may be anywhere.
     pub fn next(&mut self, alloc: Global) -> Result<Option<Placed>, AllocError>
-        ensures { IfOk result (λ found. Takes self.old found self.new) }
+        ensures { IfOk result (λ found. TakesToken self.old found self.new) }
     {
         let blanks = blanks_before(self.rest);
         let rest = &self.rest[blanks..];

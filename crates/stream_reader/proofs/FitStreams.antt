@@ -31,7 +31,7 @@ use Rattle.name_tables.proofs.Parted.{none_both}
 use Rattle.name_tables.proofs.TitleLemmas.{titled}
 use Rattle.stream_reader.specs.Fitness.{AreFitOver}
 use Rattle.stream_reader.specs.Names.{item_names, items_names, keys_names, repeated_names, second_streams, second_variables, stream_names}
-use Rattle.stream_reader.specs.Reading.{AreRead, Reads, spelled}
+use Rattle.stream_reader.specs.Reading.{AreRead, StreamsRead, spelled}
 use Rattle.stream_reader.specs.Streams.{item_streams, stream_of, streams_of}
 use Rattle.stream_reader.specs.Tables.{body_of, kind_of, scopes_of, stream_kind, vocabulary_of}
 use Rattle.stream_reader.proofs.FitStream.{cost_fit, stream_fit}
@@ -166,6 +166,6 @@ read_streams_fit d t streams over bounded read problem =
     subst (λ ss. AreFitStreams (record { domain = d; problem = problem; streams = ss })) (sym same) (spelled_fit d t problem over bounded (record { formed = read.formed; named = record { named = read.named.named; acyclic = read.named.acyclic; streams = refl } }))
 
 -- where they were read
-pub fit_if_read : (d : Domain) (t : Trees) (result : Result (List stream.Stream) InputFault) → Reads d t result → IfOk result (λ streams. IsFitDomain d → IsBounded t → AreFitOver d streams)
+pub fit_if_read : (d : Domain) (t : Trees) (result : Result (List stream.Stream) InputFault) → StreamsRead d t result → IfOk result (λ streams. IsFitDomain d → IsBounded t → AreFitOver d streams)
 fit_if_read d t (Ok streams) read = λ over bounded. read_streams_fit d t streams over bounded read
 fit_if_read d t (Err fault) read = tt

@@ -4,41 +4,41 @@ use Rattle.sexpr_text.specs.Trees.{Trees}
 use Rattle.task_model.specs.declared.domain.Domain.{Domain}
 use Rattle.task_model.specs.declared.stream.Stream as stream
 use Rattle.form_reader.specs.declared.fault.Fault.{Fault}
-use Rattle.form_reader.specs.Faults.{Answers, least}
+use Rattle.form_reader.specs.Faults.{Answers, least_fault}
 use Rattle.form_reader.proofs.FaultsLeastLemmas.{least_answers}
 use Rattle.name_tables.specs.declared.vocabulary.Vocabulary.{Vocabulary}
 use Rattle.stream_reader.specs.Cycles.{CycleFaults, candidates_of, edges_of}
 use Rattle.stream_reader.specs.Names.{plain_names}
-use Rattle.stream_reader.specs.Reading.{AnswersAcyclic, AreCycleFaults, AreNamed, IsNameFault, names_of, of_names, of_cycles, spelled}
+use Rattle.stream_reader.specs.Reading.{AnswersAcyclic, AreCycleFaults, AreNamed, IsNameFault, stream_file_names, of_names, of_cycles, spelled}
 use Rattle.stream_reader.specs.Streams.{streams_of}
 use Rattle.stream_reader.specs.Tables.{body_of, vocabulary_of}
 
 -- no fault is answered only where there is none
-pub none_is_none : (fs : List Fault) → least fs ≡ None → fs ≡ []
+pub none_is_none : (fs : List Fault) → least_fault fs ≡ None → fs ≡ []
 none_is_none fs e = subst (Answers fs) e (least_answers fs)
 
 -- over the names of the domain and the items of the text
 module _ (d : Domain) (t b : Trees) (v : Vocabulary) (eb : b ≡ body_of t) (ev : v ≡ vocabulary_of d) where
-  same_names : plain_names v d.roles b ≡ names_of d t
+  same_names : plain_names v d.roles b ≡ stream_file_names d t
   same_names = ap (λ w. plain_names w d.roles b) ev ∙ ap (λ c. plain_names (vocabulary_of d) d.roles c) eb
 
   same_streams : streams_of v b ≡ spelled d t
   same_streams = ap (λ w. streams_of w b) ev ∙ ap (λ c. streams_of (vocabulary_of d) c) eb
 
-  pub plain_fault : (f : Fault) → Some f ≡ least (plain_names v d.roles b) → IsNameFault d t f
-  plain_fault f e = of_names (sym (e ∙ ap least same_names))
+  pub plain_fault : (f : Fault) → Some f ≡ least_fault (plain_names v d.roles b) → IsNameFault d t f
+  plain_fault f e = of_names (sym (e ∙ ap least_fault same_names))
 
-  no_names : None ≡ least (plain_names v d.roles b) → names_of d t ≡ []
-  no_names e = none_is_none (names_of d t) (sym (e ∙ ap least same_names))
+  no_names : None ≡ least_fault (plain_names v d.roles b) → stream_file_names d t ≡ []
+  no_names e = none_is_none (stream_file_names d t) (sym (e ∙ ap least_fault same_names))
 
   module _ (ss : List stream.Stream) (es : ss ≡ streams_of v b) where
     over_text : (fs : List Fault) → CycleFaults (edges_of d ss) (candidates_of 0 b) fs → AreCycleFaults d t fs
     over_text fs w = subst (λ c. CycleFaults (edges_of d (spelled d t)) (candidates_of 0 c) fs) eb (subst (λ xs. CycleFaults (edges_of d xs) (candidates_of 0 b) fs) (es ∙ same_streams) w)
 
-    pub cycle_fault : (f : Fault) → None ≡ least (plain_names v d.roles b) → AnswersAcyclic d ss b (Some f) → IsNameFault d t f
+    pub cycle_fault : (f : Fault) → None ≡ least_fault (plain_names v d.roles b) → AnswersAcyclic d ss b (Some f) → IsNameFault d t f
     cycle_fault f e a = of_cycles (no_names e) (over_text a.faults a.right) (sym a.least)
 
-    pub all_named : None ≡ least (plain_names v d.roles b) → AnswersAcyclic d ss b None → AreNamed d t ss
+    pub all_named : None ≡ least_fault (plain_names v d.roles b) → AnswersAcyclic d ss b None → AreNamed d t ss
     all_named e a = record {
       named = no_names e;
       acyclic = subst (AreCycleFaults d t) (none_is_none a.faults (sym a.least)) (over_text a.faults a.right);

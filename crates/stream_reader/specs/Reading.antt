@@ -7,7 +7,7 @@ use Rattle.form_reader.specs.declared.fault.Fault.{Fault}
 use Rattle.form_reader.specs.declared.fault.InputFault.{InputFault}
 use Rattle.form_reader.specs.declared.fault.InputFault.TheVariants as input
 use Rattle.form_reader.specs.declared.items.TextKind.TheVariants.{Streams}
-use Rattle.form_reader.specs.Faults.{least}
+use Rattle.form_reader.specs.Faults.{least_fault}
 use Rattle.form_reader.specs.Texts.{form_faults}
 use Rattle.stream_reader.specs.Cycles.{AnswersCycles, CycleFaults, candidates_of, edges_of}
 use Rattle.stream_reader.specs.Names.{plain_names}
@@ -17,8 +17,8 @@ use Rattle.stream_reader.specs.Tables.{body_of, vocabulary_of}
 -- over a domain, of a text that is this row of one tree
 
 -- the name faults but for those of cycles
-abbrev pub names_of : Domain → Trees → List Fault
-names_of d t = plain_names (vocabulary_of d) d.roles (body_of t)
+abbrev pub stream_file_names : Domain → Trees → List Fault
+stream_file_names d t = plain_names (vocabulary_of d) d.roles (body_of t)
 
 -- the streams that the text spells
 abbrev pub spelled : Domain → Trees → List stream.Stream
@@ -30,12 +30,12 @@ AreCycleFaults d t faults = CycleFaults (edges_of d (spelled d t)) (candidates_o
 
 -- The name fault is answered: the least but for cycles, and where there is none of them, the least of cycles.
 pub data IsNameFault (d : Domain) (t : Trees) (f : Fault) : Type 0 where
-  of_names : least (names_of d t) ≡ Some f → IsNameFault d t f
-  of_cycles : {faults : List Fault} → names_of d t ≡ [] → AreCycleFaults d t faults → least faults ≡ Some f → IsNameFault d t f
+  of_names : least_fault (stream_file_names d t) ≡ Some f → IsNameFault d t f
+  of_cycles : {faults : List Fault} → stream_file_names d t ≡ [] → AreCycleFaults d t faults → least_fault faults ≡ Some f → IsNameFault d t f
 
 -- there is no name fault, and these are the streams
 pub record AreNamed (d : Domain) (t : Trees) (ss : List stream.Stream) : Type 0 where
-  pub named : names_of d t ≡ []
+  pub named : stream_file_names d t ≡ []
   pub acyclic : AreCycleFaults d t []
   pub streams : ss ≡ spelled d t
 
@@ -45,9 +45,9 @@ ReadsNamed d t (Ok ss) = AreNamed d t ss
 ReadsNamed d t (Err f) = IsNameFault d t f
 
 -- The fault is answered: of form faults the least, and where there is none, the name fault.
-pub data IsAnswered (d : Domain) (t : Trees) (f : Fault) : Type 0 where
-  of_form : least (form_faults Streams t) ≡ Some f → IsAnswered d t f
-  of_text : form_faults Streams t ≡ [] → IsNameFault d t f → IsAnswered d t f
+pub data AreStreamsAnswered (d : Domain) (t : Trees) (f : Fault) : Type 0 where
+  of_form : least_fault (form_faults Streams t) ≡ Some f → AreStreamsAnswered d t f
+  of_text : form_faults Streams t ≡ [] → IsNameFault d t f → AreStreamsAnswered d t f
 
 -- there is no fault, and these are the streams
 pub record AreRead (d : Domain) (t : Trees) (ss : List stream.Stream) : Type 0 where
@@ -55,10 +55,10 @@ pub record AreRead (d : Domain) (t : Trees) (ss : List stream.Stream) : Type 0 w
   pub named : AreNamed d t ss
 
 -- Streams are read where there is no fault, and a fault is the answered one. Memory is free.
-abbrev pub Reads : Domain → Trees → Result (List stream.Stream) InputFault → Type 0
-Reads d t (Ok ss) = AreRead d t ss
-Reads d t (Err (input.At place kind)) = IsAnswered d t (record { place = place; kind = kind })
-Reads d t (Err input.Memory) = Unit {0}
+abbrev pub StreamsRead : Domain → Trees → Result (List stream.Stream) InputFault → Type 0
+StreamsRead d t (Ok ss) = AreRead d t ss
+StreamsRead d t (Err (input.At place kind)) = AreStreamsAnswered d t (record { place = place; kind = kind })
+StreamsRead d t (Err input.Memory) = Unit {0}
 
 -- the answered one of the faults of cycles, where these are the streams
 abbrev pub AnswersAcyclic : Domain → List stream.Stream → Trees → Option Fault → Type 0

@@ -3,7 +3,7 @@
 
 ghost use Rattle.std.specs.Prelude.{◌≡◌, [], IfOk, OnOk};
 ghost use Rattle.sexpr_text.specs.Trees.{trees};
-ghost use Rattle.form_reader.specs.Faults.{first, least};
+ghost use Rattle.form_reader.specs.Faults.{first, least_fault};
 ghost use Rattle.form_reader.specs.declared.groups.Spot.TheVariants.{Start};
 ghost use Rattle.form_reader.specs.declared.keys.Key.TheVariants.{NoKey};
 ghost use Rattle.stream_reader.specs.Names as specs;
@@ -261,7 +261,7 @@ pub(crate) fn check_plain(
     roles: &[Role],
     body: &[Tree],
 ) -> Result<Option<Fault>, AllocError>
-    ensures { IfOk result (λ f. f ≡ least (specs.plain_names names.now roles.now (trees body.now))) }
+    ensures { IfOk result (λ f. f ≡ least_fault (specs.plain_names names.now roles.now (trees body.now))) }
 {
     let used = check_items(alloc, names, roles, body, None)?;
     check_second_streams(alloc, body, used)

@@ -37,7 +37,7 @@ fn read_named(
 
 /// The streams, or the fault that is answered.
 fn read(alloc: Global, domain: &Domain, text: &Tree) -> Result<Seq<Stream>, InputFault>
-    ensures { specs.Reads domain.now (tree text.now) result }
+    ensures { specs.StreamsRead domain.now (tree text.now) result }
 {
     if let Some(Fault { place, kind }) = check_form(TextKind::Streams, text) {
         return Err(InputFault::At { place, kind });
@@ -60,7 +60,7 @@ fn read(alloc: Global, domain: &Domain, text: &Tree) -> Result<Seq<Stream>, Inpu
 ///   number. `StreamCycle` is answered only where there is no other fault.
 /// - `Memory`: memory ran out, which says nothing of the text.
 pub fn read_streams(alloc: Global, domain: &Domain, text: &Tree) -> Result<Seq<Stream>, InputFault>
-    ensures reads { specs.Reads domain.now (tree text.now) result }
+    ensures reads { specs.StreamsRead domain.now (tree text.now) result }
     // Over a fit domain, the streams of a tree as texts of at most 4 MiB give it are fit.
     ensures fit { IfOk result (λ streams. IsFitDomain domain.now → IsBounded (tree text.now) → AreFitOver domain.now streams) }
 {

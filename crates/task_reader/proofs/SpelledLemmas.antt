@@ -18,7 +18,7 @@ use Rattle.task_model.specs.declared.task.Problem.{Problem}
 use Rattle.task_model.specs.declared.task.Task.{Task}
 use Rattle.form_reader.specs.declared.fault.Fault.{Fault}
 use Rattle.form_reader.specs.declared.fault.InputKind.{InputKind}
-use Rattle.form_reader.specs.Faults.{least}
+use Rattle.form_reader.specs.Faults.{least_fault}
 use Rattle.name_tables.specs.Graphs.{AreReached, HasWay, has_number}
 use Rattle.name_tables.specs.declared.vocabulary.Vocabulary.{Vocabulary}
 use Rattle.domain_reader.specs.Cycles.{AreSorts, CycleFaults, IsAbove, cyclic, free, more_sorts, no_more, no_sorts, type_edges}
@@ -58,8 +58,8 @@ not_refused bytes Holds IsAnswered (Input kind) place f s r = of_one_tree bytes 
 
 -- ---- faults
 
-no_least : (fs : List Fault) (f : Fault) → fs ≡ [] → least fs ≡ Some f → ⊥
-no_least fs f none e = absurd (let both = sym (ap least none) ∙ e in cc)
+no_least : (fs : List Fault) (f : Fault) → fs ≡ [] → least_fault fs ≡ Some f → ⊥
+no_least fs f none e = absurd (let both = sym (ap least_fault none) ∙ e in cc)
 
 left_none : {A : Type 0} (xs ys : List A) → xs ++ ys ≡ [] → xs ≡ []
 left_none [] ys e = refl
@@ -91,11 +91,11 @@ one_names v body fs gs a b =
 
 -- ---- a tree that is read isn't refused
 
-read_domain : (t : Trees) (d : Domain) (f : Fault) → domains.IsRead t d → domains.IsAnswered t f → ⊥
+read_domain : (t : Trees) (d : Domain) (f : Fault) → domains.IsDomainRead t d → domains.IsDomainAnswered t f → ⊥
 read_domain t d f r (domains.of_form e) = no_least _ f r.formed e
-read_domain t d f r (domains.of_names {faults} formed are e) = no_least faults f (one_names (domains.names_of t) (body_of t) faults [] are r.named) e
+read_domain t d f r (domains.of_names {faults} formed are e) = no_least faults f (one_names (domains.domain_names t) (body_of t) faults [] are r.named) e
 
-read_problem : (d : Domain) (t : Trees) (p : Problem) (f : Fault) → problems.IsRead d t p → problems.IsAnswered d t f → ⊥
+read_problem : (d : Domain) (t : Trees) (p : Problem) (f : Fault) → problems.IsProblemRead d t p → problems.IsProblemAnswered d t f → ⊥
 read_problem d t p f r (problems.of_form e) = no_least _ f r.formed e
 read_problem d t p f r (problems.of_names formed e) = no_least _ f r.named e
 
@@ -103,7 +103,7 @@ read_names : (d : Domain) (t : Trees) (ss : List Stream) (f : Fault) → streams
 read_names d t ss f n (streams.of_names e) = no_least _ f n.named e
 read_names d t ss f n (streams.of_cycles {faults} named are e) = no_least faults f (one_stream_cycles _ _ faults [] are n.acyclic) e
 
-read_streams : (d : Domain) (t : Trees) (ss : List Stream) (f : Fault) → streams.AreRead d t ss → streams.IsAnswered d t f → ⊥
+read_streams : (d : Domain) (t : Trees) (ss : List Stream) (f : Fault) → streams.AreRead d t ss → streams.AreStreamsAnswered d t f → ⊥
 read_streams d t ss f r (streams.of_form e) = no_least _ f r.formed e
 read_streams d t ss f r (streams.of_text formed n) = read_names d t ss f r.named n
 
@@ -131,7 +131,7 @@ same_role d e pred rules actions = λ i.
     cond (list_any (λ (x : derived.Derived). x.pred == pred) (rules i)) Derived
     (cond (list_any (λ (a : Action). list_any (λ (p : Pattern). p.pred == pred) (a.adds ++ a.deletes)) (actions i)) Fluent Static)
 
-one_domain : (t : Trees) (d e : Domain) → domains.IsRead t d → domains.IsRead t e → d ≡ e
+one_domain : (t : Trees) (d e : Domain) → domains.IsDomainRead t d → domains.IsDomainRead t e → d ≡ e
 one_domain t d e r s =
     let p = r.domain.parts in
     let q = s.domain.parts in
@@ -148,22 +148,22 @@ one_domain t d e r s =
 -- ---- texts
 
 pub text_one_domain : (bytes : List ℕ) (d e : Domain) → SpellsDomain bytes d → SpellsDomain bytes e → d ≡ e
-text_one_domain bytes d e a b = of_one_tree bytes (λ t. domains.IsRead t d) (λ t. domains.IsRead t e) (d ≡ e) (λ t r s. one_domain t d e r s) a b
+text_one_domain bytes d e a b = of_one_tree bytes (λ t. domains.IsDomainRead t d) (λ t. domains.IsDomainRead t e) (d ≡ e) (λ t r s. one_domain t d e r s) a b
 
 pub text_one_problem : (d : Domain) (bytes : List ℕ) (p q : Problem) → SpellsProblem d bytes p → SpellsProblem d bytes q → p ≡ q
-text_one_problem d bytes p q a b = of_one_tree bytes (λ t. problems.IsRead d t p) (λ t. problems.IsRead d t q) (p ≡ q) (λ t r s. r.problem ∙ sym s.problem) a b
+text_one_problem d bytes p q a b = of_one_tree bytes (λ t. problems.IsProblemRead d t p) (λ t. problems.IsProblemRead d t q) (p ≡ q) (λ t r s. r.problem ∙ sym s.problem) a b
 
 pub text_one_streams : (d : Domain) (bytes : List ℕ) (ss ts : List Stream) → SpellsStreams d bytes ss → SpellsStreams d bytes ts → ss ≡ ts
 text_one_streams d bytes ss ts a b = of_one_tree bytes (λ t. streams.AreRead d t ss) (λ t. streams.AreRead d t ts) (ss ≡ ts) (λ t r s. r.named.streams ∙ sym s.named.streams) a b
 
 pub domain_not_refused : (bytes : List ℕ) (d : Domain) (kind : FaultKind) (place : ℕ) → SpellsDomain bytes d → RefusesDomain bytes kind place → ⊥
-domain_not_refused bytes d kind place s r = not_refused bytes (λ t. domains.IsRead t d) domains.IsAnswered kind place (λ t f. read_domain t d f) s r
+domain_not_refused bytes d kind place s r = not_refused bytes (λ t. domains.IsDomainRead t d) domains.IsDomainAnswered kind place (λ t f. read_domain t d f) s r
 
 pub problem_not_refused : (d : Domain) (bytes : List ℕ) (p : Problem) (kind : FaultKind) (place : ℕ) → SpellsProblem d bytes p → RefusesProblem d bytes kind place → ⊥
-problem_not_refused d bytes p kind place s r = not_refused bytes (λ t. problems.IsRead d t p) (problems.IsAnswered d) kind place (λ t f. read_problem d t p f) s r
+problem_not_refused d bytes p kind place s r = not_refused bytes (λ t. problems.IsProblemRead d t p) (problems.IsProblemAnswered d) kind place (λ t f. read_problem d t p f) s r
 
 pub streams_not_refused : (d : Domain) (bytes : List ℕ) (ss : List Stream) (kind : FaultKind) (place : ℕ) → SpellsStreams d bytes ss → RefusesStreams d bytes kind place → ⊥
-streams_not_refused d bytes ss kind place s r = not_refused bytes (λ t. streams.AreRead d t ss) (streams.IsAnswered d) kind place (λ t f. read_streams d t ss f) s r
+streams_not_refused d bytes ss kind place s r = not_refused bytes (λ t. streams.AreRead d t ss) (streams.AreStreamsAnswered d) kind place (λ t f. read_streams d t ss f) s r
 
 -- ---- tasks
 

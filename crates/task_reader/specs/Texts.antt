@@ -11,11 +11,11 @@ use Rattle.task_reader.specs.Refusals.{IsRefused, SpellsTree}
 
 -- the text is this domain
 abbrev pub SpellsDomain : List ℕ → Domain → Type 0
-SpellsDomain bytes d = SpellsTree bytes (λ t. domains.IsRead t d)
+SpellsDomain bytes d = SpellsTree bytes (λ t. domains.IsDomainRead t d)
 
 -- the text is this problem over the domain
 abbrev pub SpellsProblem : Domain → List ℕ → Problem → Type 0
-SpellsProblem d bytes p = SpellsTree bytes (λ t. problems.IsRead d t p)
+SpellsProblem d bytes p = SpellsTree bytes (λ t. problems.IsProblemRead d t p)
 
 -- the text is these streams over the domain
 abbrev pub SpellsStreams : Domain → List ℕ → List Stream → Type 0
@@ -23,12 +23,12 @@ SpellsStreams d bytes ss = SpellsTree bytes (λ t. streams.AreRead d t ss)
 
 -- the text is no domain, for this fault
 abbrev pub RefusesDomain : List ℕ → FaultKind → ℕ → Type 0
-RefusesDomain bytes kind place = IsRefused domains.IsAnswered bytes kind place
+RefusesDomain bytes kind place = IsRefused domains.IsDomainAnswered bytes kind place
 
 -- the text is no problem over the domain, for this fault
 abbrev pub RefusesProblem : Domain → List ℕ → FaultKind → ℕ → Type 0
-RefusesProblem d bytes kind place = IsRefused (problems.IsAnswered d) bytes kind place
+RefusesProblem d bytes kind place = IsRefused (problems.IsProblemAnswered d) bytes kind place
 
 -- the text is no streams over the domain, for this fault
 abbrev pub RefusesStreams : Domain → List ℕ → FaultKind → ℕ → Type 0
-RefusesStreams d bytes kind place = IsRefused (streams.IsAnswered d) bytes kind place
+RefusesStreams d bytes kind place = IsRefused (streams.AreStreamsAnswered d) bytes kind place

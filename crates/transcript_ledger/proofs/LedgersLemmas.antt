@@ -5,7 +5,7 @@ use Rattle.std.proofs.lemmas.List.Sums.{length-filter}
 use Rattle.std.specs.List.{list_any}
 use Rattle.session_core.proofs.LearningLemmas.{answer_at}
 use Rattle.session_core.proofs.SessionLemmas.{count_joined, count_one}
-use Rattle.session_core.specs.Learning.{CanLearn, number_of}
+use Rattle.session_core.specs.Learning.{CanLearn, answered_number}
 use Rattle.session_core.specs.Session.{Asks, is_answer}
 use Rattle.task_model.specs.declared.stream.Instance.{Instance}
 use Rattle.task_model.specs.declared.stream.Stream.{Stream}
@@ -126,7 +126,7 @@ ask_kept version turn task before call l new i h right named facts queue asked_i
 
 -- ---- an answer
 
-answers_it : (e : Entry) (n : ℕ) → number_of e ≡ Some n → is_answer_to n e ≡ true
+answers_it : (e : Entry) (n : ℕ) → answered_number e ≡ Some n → is_answer_to n e ≡ true
 answers_it (entry.Got m tuples values) n e = let same : m ≡ n = cc in eq-eqb n m (sym same)
 answers_it (entry.Value m value) n e = let same : m ≡ n = cc in eq-eqb n m (sym same)
 answers_it (entry.End m) n e = let same : m ≡ n = cc in eq-eqb n m (sym same)
@@ -138,7 +138,7 @@ answers_it entry.Reset n e = absurd (cc)
 answers_it (entry.Pick m) n e = absurd (cc)
 answers_it (entry.Retire m) n e = absurd (cc)
 
-is_answer_so : (e : Entry) (n : ℕ) → number_of e ≡ Some n → is_answer e ≡ true
+is_answer_so : (e : Entry) (n : ℕ) → answered_number e ≡ Some n → is_answer e ≡ true
 is_answer_so (entry.Got m tuples values) n e = refl
 is_answer_so (entry.Value m value) n e = refl
 is_answer_so (entry.End m) n e = refl
@@ -150,7 +150,7 @@ is_answer_so entry.Reset n e = absurd (cc)
 is_answer_so (entry.Pick m) n e = absurd (cc)
 is_answer_so (entry.Retire m) n e = absurd (cc)
 
-waits_for : (version : ℕ) (task : Task) (before : List Entry) (e : Entry) (n : ℕ) → number_of e ≡ Some n → MayFollow version task before e → is_open before n ≡ true
+waits_for : (version : ℕ) (task : Task) (before : List Entry) (e : Entry) (n : ℕ) → answered_number e ≡ Some n → MayFollow version task before e → is_open before n ≡ true
 waits_for version task before (entry.Got m tuples values) n e may = let same : m ≡ n = cc in ap (is_open before) (sym same) ∙ may.waiting
 waits_for version task before (entry.Value m value) n e may = let same : m ≡ n = cc in ap (is_open before) (sym same) ∙ may.waiting
 waits_for version task before (entry.End m) n e may = let same : m ≡ n = cc in ap (is_open before) (sym same) ∙ may
@@ -162,7 +162,7 @@ waits_for version task before entry.Reset n e may = absurd (cc)
 waits_for version task before (entry.Pick m) n e may = absurd (cc)
 waits_for version task before (entry.Retire m) n e may = absurd (cc)
 
-no_ask : (e : Entry) (n : ℕ) → number_of e ≡ Some n → count_by is_ask (e ∷ []) ≡ 0
+no_ask : (e : Entry) (n : ℕ) → answered_number e ≡ Some n → count_by is_ask (e ∷ []) ≡ 0
 no_ask (entry.Got m tuples values) n e = refl
 no_ask (entry.Value m value) n e = refl
 no_ask (entry.End m) n e = refl
@@ -174,7 +174,7 @@ no_ask entry.Reset n e = refl
 no_ask (entry.Pick m) n e = refl
 no_ask (entry.Retire m) n e = refl
 
-module _ (version : ℕ) (task : Task) (before : List Entry) (l : Ledger) (e : Entry) (n : ℕ) (h : IsLedger version task before l) (few : length l.asked.items ≤ 100000) (answers : number_of e ≡ Some n) (may : MayFollow version task before e) where
+module _ (version : ℕ) (task : Task) (before : List Entry) (l : Ledger) (e : Entry) (n : ℕ) (h : IsLedger version task before l) (few : length l.asked.items ≤ 100000) (answers : answered_number e ≡ Some n) (may : MayFollow version task before e) where
   open_here : is_open before n ≡ true
   open_here = waits_for version task before e n answers may
 

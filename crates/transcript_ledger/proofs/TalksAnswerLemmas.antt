@@ -6,7 +6,7 @@ use Rattle.std.specs.List.{list_all}
 use Rattle.gen_lines.specs.Laws.{IsRight}
 use Rattle.gen_lines.specs.Reply.{is_value}
 use Rattle.session_core.proofs.LearningLemmas.{there_at}
-use Rattle.session_core.specs.Learning.{number_of}
+use Rattle.session_core.specs.Learning.{answered_number}
 use Rattle.task_model.specs.declared.task.Task.{Task}
 use Rattle.transcript_model.proofs.NamesLemmas.{same_some}
 use Rattle.report_text.specs.Forms.{AreTuples, IsFormedEntry}
@@ -72,7 +72,7 @@ module _ (version : ℕ) (task : Task) (before : List Entry) (l : Ledger) (h : I
       by true is = sym (h.unanswered n) ∙ is
       by false is = let r : false ≡ true = rw is at passed in absurd (no r)
 
-  gives : (n : ℕ) (e : Entry) → IsFormedEntry version e → number_of e ≡ Some n → is_open before n ≡ true → (f : Found n) → may_give f.request.stream e ≡ true → MayFollow version task before e
+  gives : (n : ℕ) (e : Entry) → IsFormedEntry version e → answered_number e ≡ Some n → is_open before n ≡ true → (f : Found n) → may_give f.request.stream e ≡ true → MayFollow version task before e
   gives n (entry.Got m tuples values) formed is waits f given =
       let same : m ≡ n = cc in
       subst (λ k. MayFollow version task before (entry.Got k tuples values)) (sym same)
@@ -94,13 +94,13 @@ module _ (version : ℕ) (task : Task) (before : List Entry) (l : Ledger) (h : I
   gives n (entry.Pick m) formed is waits f given = absurd (cc)
   gives n (entry.Retire m) formed is waits f given = absurd (cc)
 
-  pub may_be_given : (n : ℕ) (e : Entry) → IsFormedEntry version e → number_of e ≡ Some n → may_answer task l n e ≡ true → MayFollow version task before e
+  pub may_be_given : (n : ℕ) (e : Entry) → IsFormedEntry version e → answered_number e ≡ Some n → may_answer task l n e ≡ true → MayFollow version task before e
   may_be_given n e formed is passed =
       let waits = is_waiting n e passed in
       let f = found n waits in
       gives n e formed is waits f (sym (test_is n e waits f) ∙ passed)
 
-  given_by : (n : ℕ) (e : Entry) → number_of e ≡ Some n → MayFollow version task before e → (f : Found n) → may_give f.request.stream e ≡ true
+  given_by : (n : ℕ) (e : Entry) → answered_number e ≡ Some n → MayFollow version task before e → (f : Found n) → may_give f.request.stream e ≡ true
   given_by n (entry.Got m tuples values) is may f =
       let same : m ≡ n = cc in
       let request : may.request ≡ f.request = same_some (asked task before n) may.request f.request (ap (asked task before) (sym same) ∙ may.of) f.of in
@@ -118,7 +118,7 @@ module _ (version : ℕ) (task : Task) (before : List Entry) (l : Ledger) (h : I
   given_by n (entry.Pick m) is may f = absurd (cc)
   given_by n (entry.Retire m) is may f = absurd (cc)
 
-  waits_for : (n : ℕ) (e : Entry) → number_of e ≡ Some n → MayFollow version task before e → is_open before n ≡ true
+  waits_for : (n : ℕ) (e : Entry) → answered_number e ≡ Some n → MayFollow version task before e → is_open before n ≡ true
   waits_for n (entry.Got m tuples values) is may = let same : m ≡ n = cc in ap (is_open before) (sym same) ∙ may.waiting
   waits_for n (entry.Value m value) is may = let same : m ≡ n = cc in ap (is_open before) (sym same) ∙ may.waiting
   waits_for n (entry.End m) is may = let same : m ≡ n = cc in ap (is_open before) (sym same) ∙ may
@@ -130,7 +130,7 @@ module _ (version : ℕ) (task : Task) (before : List Entry) (l : Ledger) (h : I
   waits_for n (entry.Pick m) is may = absurd (cc)
   waits_for n (entry.Retire m) is may = absurd (cc)
 
-  pub must_be_given : (n : ℕ) (e : Entry) → number_of e ≡ Some n → MayFollow version task before e → may_answer task l n e ≡ true
+  pub must_be_given : (n : ℕ) (e : Entry) → answered_number e ≡ Some n → MayFollow version task before e → may_answer task l n e ≡ true
   must_be_given n e is may =
       let waits = waits_for n e is may in
       let f = found n waits in

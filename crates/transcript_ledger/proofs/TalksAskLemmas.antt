@@ -14,7 +14,7 @@ use Rattle.task_model.specs.declared.stream.Stream.{Stream}
 use Rattle.task_model.specs.declared.task.Task.{Task}
 use Rattle.transcript_model.proofs.LegalPrefixLemmas.{first_request}
 use Rattle.transcript_model.proofs.NamesLemmas.{same_some}
-use Rattle.transcript_model.specs.Legal.{IsLegal, IsNotOpen, IsRightAsk, asks_of, is_answer_to, is_ask, is_ask_of, is_open}
+use Rattle.transcript_model.specs.Legal.{IsLegal, HasNoRequestOpen, IsRightAsk, asks_of, is_answer_to, is_ask, is_ask_of, is_open}
 use Rattle.transcript_model.specs.Names.{instance_of}
 use Rattle.transcript_model.specs.Transcript.{Asked, asked, known_of, names_of, notes_of}
 use Rattle.transcript_model.specs.declared.entry.Call.{Call}
@@ -120,7 +120,7 @@ module _ (version : ℕ) (task : Task) (before : List Entry) (l : Ledger) (h : I
   abbrev idle_test : Bool
   idle_test = not (is_waiting l.asked.items l.unanswered.items i)
 
-  idle : is_waiting l.asked.items l.unanswered.items i ≡ false → IsNotOpen task before i
+  idle : is_waiting l.asked.items l.unanswered.items i ≡ false → HasNoRequestOpen task before i
   idle none n a was same = by (is_open before n) refl
     where
       by : (b : Bool) → is_open before n ≡ b → b ≡ false
@@ -138,7 +138,7 @@ module _ (version : ℕ) (task : Task) (before : List Entry) (l : Ledger) (h : I
           let passes_it : asked_it l.asked.items i it.member ≡ true = ap (asked_it l.asked.items i) number_is ∙ asked_yes l.asked.items i there.0 n there.1 is in
           absurd (no (sym none ∙ any_at (asked_it l.asked.items i) l.unanswered.items it.place it.member it.at passes_it))
 
-  waits_not : IsNotOpen task before i → is_waiting l.asked.items l.unanswered.items i ≡ false
+  waits_not : HasNoRequestOpen task before i → is_waiting l.asked.items l.unanswered.items i ≡ false
   waits_not closed = by (is_waiting l.asked.items l.unanswered.items i) refl
     where
       by : (b : Bool) → is_waiting l.asked.items l.unanswered.items i ≡ b → b ≡ false
@@ -172,7 +172,7 @@ module _ (version : ℕ) (task : Task) (before : List Entry) (l : Ledger) (h : I
   must_pass right =
       let same : right.instance ≡ i = same_some (instance_of task (names_of task before) call) right.instance i right.named named in
       let due : IsDue task l.facts.known l.queue i = subst (λ k. IsDue task k l.queue i) (sym h.known) (subst (λ ns. IsDue task (known_of task before) ns i) (sym h.notes) (subst (λ j. IsDue task (known_of task before) (notes_of task before) j) same right.due)) in
-      let closed : IsNotOpen task before i = subst (IsNotOpen task before) same right.closed in
+      let closed : HasNoRequestOpen task before i = subst (HasNoRequestOpen task before) same right.closed in
       all_of next_test (turn_test && (reach_test && (ended_test && idle_test))) (eq-eqb number (length l.asked.items + 1) (right.next ∙ ap (λ m. m + 1) (sym h.counted)))
       (all_of turn_test (reach_test && (ended_test && idle_test)) (eq-eqb turn (yields_of l.queue i) (right.turned ∙ ap (yields_of (notes_of task before)) same ∙ ap (λ ns. yields_of ns i) (sym h.notes)))
       (all_of reach_test (ended_test && idle_test) (reach_of task l.facts.known l.queue i due)

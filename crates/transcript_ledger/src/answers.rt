@@ -3,7 +3,7 @@ ghost use Rattle.std.specs.Prelude.{◌≡◌, ◌≤◌, ◌↔◌, ℕ, List, 
 ghost use Rattle.task_model.specs.Fit.{IsFit};
 ghost use Rattle.transcript_ledger.specs.Ledgers.{IsLedger};
 ghost use Rattle.transcript_ledger.specs.Talks.{may_answer as passes, may_give as gives};
-ghost use Rattle.session_core.specs.Learning.{number_of};
+ghost use Rattle.session_core.specs.Learning.{answered_number};
 ghost use Rattle.report_text.specs.Forms.{IsFormedEntry};
 ghost use Rattle.transcript_model.specs.Legal.{MayFollow};
 ghost use Rattle.transcript_model.specs.declared.entry.Entry.{Entry as AnyEntry};
@@ -14,7 +14,7 @@ use transcript_model::Entry;
 
 /// The number of the request that the entry answers, if it is an answer.
 pub fn answered(entry: &Entry) -> Option<u32>
-    ensures { result ≡ number_of entry.now }
+    ensures { result ≡ answered_number entry.now }
 {
     match entry {
         Entry::Got { number, .. } => Some(*number),
@@ -58,7 +58,7 @@ fn is_given(task: &Task, ledger: &Ledger, number: u32, entry: &Entry) -> bool
 /// Whether the answer to the request of this number may follow the entries so far. It has the form of an answer in a report.
 pub fn may_answer(task: &Task, ledger: &Ledger, number: u32, entry: &Entry) -> bool
     requires { IsFit task.now }
-    ensures { (version : ℕ) (before : List AnyEntry) → IsLedger version task.now before ledger.now → IsFormedEntry version entry.now → number_of entry.now ≡ Some number → IsTrue result ↔ MayFollow version task.now before entry.now }
+    ensures { (version : ℕ) (before : List AnyEntry) → IsLedger version task.now before ledger.now → IsFormedEntry version entry.now → answered_number entry.now ≡ Some number → IsTrue result ↔ MayFollow version task.now before entry.now }
 {
     is_given(task, ledger, number, entry)
 }

@@ -40,7 +40,7 @@ fn left_out(alloc: Global, numbers: &[u32], number: u32) -> Result<Vec<u32>, All
 impl Ledger {
     ghost use Rattle.std.specs.Prelude.{ℕ, ◌+◌, ◌≤◌, ◌<◌, ◌∷◌, [], ◌++◌, length, take, true, Some, slice_get, OnOk, List};
     ghost use Rattle.transcript_ledger.specs.Ledgers.{IsLedger, is_among, is_waiting as waits, asked_it};
-    ghost use Rattle.session_core.specs.Learning.{number_of};
+    ghost use Rattle.session_core.specs.Learning.{answered_number};
     ghost use Rattle.task_model.specs.Fit.{IsFit};
     ghost use Rattle.transcript_model.specs.Legal.{IsRightAsk, MayFollow};
     ghost use Rattle.transcript_model.specs.Names.{instance_of};
@@ -109,7 +109,7 @@ impl Ledger {
     ) -> Result<(), AllocError>
         requires ledger { IsLedger version task.now (take place entries.now) self.old }
         requires few { length self.old.asked.items ≤ 100000 }
-        requires there { (e : AnyEntry) × (slice_get entries.now place ≡ Some e) × (number_of e ≡ Some number) × MayFollow version task.now (take place entries.now) e }
+        requires there { (e : AnyEntry) × (slice_get entries.now place ≡ Some e) × (answered_number e ≡ Some number) × MayFollow version task.now (take place entries.now) e }
         ensures { OnOk result (IsLedger version task.now (take (place + 1) entries.now) self.new) }
     {
         self.unanswered = left_out(alloc, self.unanswered.as_slice(), number)?;

@@ -40,8 +40,8 @@ abbrev pub HasNoneOpen : List Entry → Type 0
 HasNoneOpen entries = (n : ℕ) → is_open entries n ≡ false
 
 -- no request of the instance waits for its answer
-abbrev pub IsNotOpen : Task → List Entry → Instance → Type 0
-IsNotOpen task entries i = (n : ℕ) (a : Asked) → asked task entries n ≡ Some a → a.instance ≡ i → is_open entries n ≡ false
+abbrev pub HasNoRequestOpen : Task → List Entry → Instance → Type 0
+HasNoRequestOpen task entries i = (n : ℕ) (a : Asked) → asked task entries n ≡ Some a → a.instance ≡ i → is_open entries n ≡ false
 
 -- ---- legal transcripts
 
@@ -52,7 +52,7 @@ pub record IsRightAsk (task : Task) (before : List Entry) (number turn : ℕ) (c
   pub instance : Instance
   pub named : instance_of task (names_of task before) call ≡ Some instance
   pub due : IsDue task (known_of task before) (notes_of task before) instance
-  pub closed : IsNotOpen task before instance
+  pub closed : HasNoRequestOpen task before instance
   pub turned : turn ≡ yields_of (notes_of task before) instance
 
 -- from version 2 on a yield may have several tuples

@@ -1,7 +1,7 @@
 use Rattle.std.proofs.Common.{◌≡◌, ◌+◌, ◌-◌, ◌<◌, length, reverse, subst, arith}
 use Rattle.plan_check.proofs.FaultsLemmas.{got}
 use Rattle.best_first.proofs.LinksLemmas.{follows_back}
-use Rattle.best_first.specs.Links.{Follows}
+use Rattle.best_first.specs.Links.{FollowsLink}
 use Rattle.best_first.proofs.path.path.Goals as goal
 
 pub loop-at-preserved : goal.loop-at-preserved
@@ -12,7 +12,7 @@ loop-at-preserved c =
     let inside : n < length links = omega (arith, c.loop-at.invariant.1) in
     let at = got links n link inside c.index-links-at.is in
     let from : c.loop-at.at ≡ n + 1 = omega arith in
-    let before = subst (λ k. Follows links k (reverse c.loop-at.steps.items) (length links) c.loop-at.cost) from c.loop-at.invariant.0 in
+    let before = subst (λ k. FollowsLink links k (reverse c.loop-at.steps.items) (length links) c.loop-at.cost) from c.loop-at.invariant.0 in
     let way = follows_back links n link c.in_ok-copy.field-0 c.loop-at.steps.items c.push.new.self.items (length links) c.loop-at.cost at c.in_ok-copy.ensures c.in_ok-push.ensures.items before in
     let earlier = c.requires.links.earlier n link at in
     let small = c.requires.links.small n link at in

@@ -1,7 +1,7 @@
 use Rattle.std.proofs.Common.{length, true, subst}
 use Rattle.best_first.proofs.LinksLemmas.{found_plan}
 use Rattle.best_first.specs.Explored.{IsMet}
-use Rattle.best_first.specs.Links.{Follows}
+use Rattle.best_first.specs.Links.{FollowsLink}
 use Rattle.best_first.specs.Outcome.{ComesTo}
 use Rattle.best_first.proofs.plans.search.Goals as goal
 
@@ -13,7 +13,7 @@ returns-in_ok-plan-in-Goal-clause-plan g c =
     let plan = c.in_ok-plan-in-Goal.plan.steps in
     let cost = c.in_ok-plan-in-Goal.cost in
     let met : IsMet task known true c.args.limit tree.store tree.links.items = subst (ComesTo task known true c.args.limit) c.in-Goal.is c.in_ok-tree.ensures in
-    let way = subst (λ ls. Follows ls 0 plan (length ls) cost) c.as_slice.ensures.value c.in_ok-plan-in-Goal.ensures in
+    let way = subst (λ ls. FollowsLink ls 0 plan (length ls) cost) c.as_slice.ensures.value c.in_ok-plan-in-Goal.ensures in
     found_plan task known true c.args.limit tree.store tree.links.items plan cost met way
 
 pub returns-in_ok-plan-in-Goal-clause-nothing : goal.returns-in_ok-plan-in-Goal-clause-nothing
@@ -24,6 +24,6 @@ returns-in_ok-plan-in-Goal-clause-nothing g c =
     let plan = c.in_ok-plan-in-Goal.plan.steps in
     let cost = c.in_ok-plan-in-Goal.cost in
     let met : IsMet task known true c.args.limit tree.store tree.links.items = subst (ComesTo task known true c.args.limit) c.in-Goal.is c.in_ok-tree.ensures in
-    let way = subst (λ ls. Follows ls 0 plan (length ls) cost) c.as_slice.ensures.value c.in_ok-plan-in-Goal.ensures in
+    let way = subst (λ ls. FollowsLink ls 0 plan (length ls) cost) c.as_slice.ensures.value c.in_ok-plan-in-Goal.ensures in
     let found = found_plan task known true c.args.limit tree.store tree.links.items plan cost met way in
     (λ h. absurd h, λ h. absurd (h.0 (plan, cost, found.valid)))

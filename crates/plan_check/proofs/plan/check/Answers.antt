@@ -3,7 +3,7 @@ use Rattle.task_model.specs.Initial.{initial_state}
 use Rattle.task_model.specs.Plans.{Executes}
 use Rattle.task_model.specs.Truth.{is_true}
 use Rattle.formula_eval.proofs.ReadableLemmas.{fit_readable}
-use Rattle.plan_check.specs.Faults.{Runs}
+use Rattle.plan_check.specs.Faults.{StepsRun}
 use Rattle.plan_check.proofs.FaultsLemmas.{run_fails}
 use Rattle.plan_check.proofs.plan.check.Goals as goal
 
@@ -16,7 +16,7 @@ pub returns-in-Err-clause-err : goal.returns-in-Err-clause-err
 returns-in-Err-clause-err g c =
     let task = c.args.task.now in
     let known = g.L.Look.known c.args.look.now in
-    run_fails task known c.args.plan.now.steps c.in-Err.fault (subst (λ xs. Runs task known xs c.in-Err.fault) c.as_slice.ensures c.in-Err.ensures.err)
+    run_fails task known c.args.plan.now.steps c.in-Err.fault (subst (λ xs. StepsRun task known xs c.in-Err.fault) c.as_slice.ensures c.in-Err.ensures.err)
 
 pub returns-then-holds-clause-ok : goal.returns-then-holds-clause-ok
 returns-then-holds-clause-ok g c =

@@ -1,7 +1,7 @@
 use Rattle.std.proofs.Common.{◌+◌, sym, subst, take, arith, add-one}
 use Rattle.task_model.specs.Initial.{initial_state}
 use Rattle.task_model.specs.Plans.{Executes}
-use Rattle.plan_check.specs.Faults.{Runs}
+use Rattle.plan_check.specs.Faults.{StepsRun}
 use Rattle.plan_check.proofs.FaultsLemmas.{got, next_step, fails_here}
 use Rattle.plan_check.proofs.plan.run.Goals as goal
 
@@ -10,7 +10,7 @@ returns-in-Err-clause-err g c =
     let task = c.args.task.now in
     let known = g.L.Look.known c.args.look.now in
     let at = got c.args.steps.now c.loop-place.place c.index-steps-place.result c.loop-place-test.true c.index-steps-place.is in
-    subst (Runs task known c.args.steps.now) (sym c.fault_at.ensures)
+    subst (StepsRun task known c.args.steps.now) (sym c.fault_at.ensures)
     (fails_here task known c.args.steps.now c.loop-place.place c.index-steps-place.result c.loop-place.state c.loop-place.cost c.in-Err.fault at c.loop-place.invariant.0 c.in-Err.ensures.err)
 
 pub loop-place-preserved : goal.loop-place-preserved

@@ -1,5 +1,5 @@
 use Rattle.std.proofs.Common.{◌≡◌, ◌∙◌, ◌↔◌, IsTrue, Some, IfSome, slice_get, take, sym, subst, true, false}
-use Rattle.session_core.specs.Learning.{number_of}
+use Rattle.session_core.specs.Learning.{answered_number}
 use Rattle.transcript_model.specs.Legal.{MayFollow}
 use Rattle.replay_check.proofs.WalksLemmas.{answer_out_of_order, answer_refused, answer_taken, entry_formed, entry_there}
 use Rattle.replay_check.proofs.entries.Standing.take_answer.Goals as goal
@@ -9,8 +9,8 @@ module _ (c : After-may_answer) where
   there : slice_get c.args.entries.now c.args.place ≡ Some c.index-entries-place.result
   there = entry_there c.args.entries.now c.args.place c.index-entries-place.result c.requires.can.within c.index-entries-place.is
 
-  is_number : number_of c.index-entries-place.result ≡ Some c.args.number
-  is_number = subst (λ o. IfSome o (λ e. number_of e ≡ Some c.args.number)) there c.requires.here
+  is_number : answered_number c.index-entries-place.result ≡ Some c.args.number
+  is_number = subst (λ o. IfSome o (λ e. answered_number e ≡ Some c.args.number)) there c.requires.here
 
   decides : IsTrue c.may_answer.result ↔ MayFollow c.args.bounds.now.version c.args.bounds.now.task.now (take c.args.place c.args.entries.now) c.index-entries-place.result
   decides = c.may_answer.ensures c.args.bounds.now.version (take c.args.place c.args.entries.now) c.requires.can.standing.ledger (entry_formed c.args.bounds.now c.args.entries.now c.args.place c.args.self.now c.index-entries-place.result c.requires.can there) is_number

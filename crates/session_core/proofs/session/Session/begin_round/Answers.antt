@@ -2,7 +2,7 @@ use Rattle.std.proofs.Common.{◌≡◌, ap, sym, subst, ◌∙◌, ◌+◌, ◌
 use Rattle.session_core.proofs.RoundBeginLemmas.{the_state, named_all, children_fit, begun_sound, begun_fresh, begin_kept}
 use Rattle.session_core.specs.Events.{IsFresh}
 use Rattle.session_core.specs.Pools.{child_for}
-use Rattle.session_core.specs.Session.{IsSession, MayBegin}
+use Rattle.session_core.specs.Session.{IsSession, MayBeginRound}
 use Rattle.session_core.specs.Shown.{shown}
 use Rattle.session_core.specs.Slots.{asks_from, slots_from, streams_of}
 use Rattle.session_core.specs.State.{State, IsSound}
@@ -13,7 +13,7 @@ round_of-requires-clause-named c =
     let task = c.args.task.now in
     let dues = c.args.dues.now in
     let s = shown c.self.inside in
-    let may = subst (λ (t : State). t.failed ≡ false → MayBegin task t dues) (sym c.self.view_is) c.requires.round c.if-self.false in
+    let may = subst (λ (t : State). t.failed ≡ false → MayBeginRound task t dues) (sym c.self.view_is) c.requires.round c.if-self.false in
     named_all task s dues c.if-self.false may (subst (IsSession task) (sym c.self.view_is) c.requires.session)
 
 pub round_of-requires-clause-children : goal.round_of-requires-clause-children
@@ -21,7 +21,7 @@ round_of-requires-clause-children c = λ k d at.
     let task = c.args.task.now in
     let dues = c.args.dues.now in
     let s = shown c.self.inside in
-    let may = subst (λ (t : State). t.failed ≡ false → MayBegin task t dues) (sym c.self.view_is) c.requires.round c.if-self.false in
+    let may = subst (λ (t : State). t.failed ≡ false → MayBeginRound task t dues) (sym c.self.view_is) c.requires.round c.if-self.false in
     subst (λ ps. child_for ps (streams_of (take k dues)) d.instance.stream ≤ 16) (sym c.as_slice.ensures.value) (children_fit task s dues c.if-self.false may (subst (IsSession task) (sym c.self.view_is) c.requires.session) k d at)
 
 pub invariant_of-self-2 : goal.invariant_of-self-2
@@ -29,7 +29,7 @@ invariant_of-self-2 c =
     let task = c.args.task.now in
     let dues = c.args.dues.now in
     let s = shown c.self.inside in
-    let may = subst (λ (t : State). t.failed ≡ false → MayBegin task t dues) (sym c.self.view_is) c.requires.round c.if-self.false in
+    let may = subst (λ (t : State). t.failed ≡ false → MayBeginRound task t dues) (sym c.self.view_is) c.requires.round c.if-self.false in
     let was = subst (IsSession task) (sym c.self.view_is) c.requires.session in
     let asked_long : c.len.result ≡ length s.asked = c.len.ensures ∙ c.reserve-2.new.self.ok.0 ∙ ap length c.reserve-2.ensures.items in
     let first : c.len.result + 1 ≡ length s.asked + 1 = ap (λ n. n + 1) asked_long in
@@ -47,7 +47,7 @@ returns-clause-kept c =
     let task = c.args.task.now in
     let dues = c.args.dues.now in
     let s = shown c.self.inside in
-    let may = subst (λ (t : State). t.failed ≡ false → MayBegin task t dues) (sym c.self.view_is) c.requires.round c.if-self.false in
+    let may = subst (λ (t : State). t.failed ≡ false → MayBeginRound task t dues) (sym c.self.view_is) c.requires.round c.if-self.false in
     let was = subst (IsSession task) (sym c.self.view_is) c.requires.session in
     let asked_long : c.len.result ≡ length s.asked = c.len.ensures ∙ c.reserve-2.new.self.ok.0 ∙ ap length c.reserve-2.ensures.items in
     let first : c.len.result + 1 ≡ length s.asked + 1 = ap (λ n. n + 1) asked_long in
@@ -61,7 +61,7 @@ returns-clause-fresh c =
     let task = c.args.task.now in
     let dues = c.args.dues.now in
     let s = shown c.self.inside in
-    let may = subst (λ (t : State). t.failed ≡ false → MayBegin task t dues) (sym c.self.view_is) c.requires.round c.if-self.false in
+    let may = subst (λ (t : State). t.failed ≡ false → MayBeginRound task t dues) (sym c.self.view_is) c.requires.round c.if-self.false in
     let was = subst (IsSession task) (sym c.self.view_is) c.requires.session in
     let asked_long : c.len.result ≡ length s.asked = c.len.ensures ∙ c.reserve-2.new.self.ok.0 ∙ ap length c.reserve-2.ensures.items in
     let first : c.len.result + 1 ≡ length s.asked + 1 = ap (λ n. n + 1) asked_long in
