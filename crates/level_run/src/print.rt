@@ -11,7 +11,8 @@ use crate::fault::RunFault;
 use io_world::{Sink, write_all};
 use std::alloc::Global;
 use task_model::Task;
-use transcript_model::{Head, Outcome, head_text, outcome_text};
+use report_text::{head_text, outcome_text};
+use transcript_model::{Head, Outcome};
 
 /// Writes these bytes to the sink.
 fn print<O: Sink>(out: &mut O, bytes: &[u8]) -> Result<(), RunFault>

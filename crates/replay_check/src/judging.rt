@@ -16,7 +16,8 @@ use crate::verdict::{BreachKind, Verdict};
 use report_reader::read_report;
 use std::alloc::{AllocError, Global};
 use task_model::Task;
-use transcript_model::{Report, ReportFault};
+use report_text::ReportFault;
+use transcript_model::Report;
 
 /// The verdict that this is wrong.
 fn invalid(line: usize, kind: BreachKind) -> Verdict

@@ -2,3 +2,4 @@ pub mod Texts
 pub mod Forms
 pub mod Faults
 pub mod Places
+pub mod Laws

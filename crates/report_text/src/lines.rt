@@ -3,7 +3,7 @@ ghost use Rattle.std.specs.Prelude.{◌≡◌, [], ◌∷◌, ◌++◌, map, OnO
 ghost use Rattle.std.specs.Fmt.{decimal};
 ghost use Rattle.report_text.specs.Texts.{line, line_text, lines_text, fields_text, call_fields};
 
-use crate::entry::Call;
+use transcript_model::Call;
 use std::alloc::{AllocError, Global};
 use task_model::Name;
 

@@ -4,7 +4,7 @@ ghost use Rattle.std.specs.Fmt.{decimal};
 ghost use Rattle.transcript_model.specs.declared.entry.Entry.TheVariants as entry;
 ghost use Rattle.report_text.specs.Texts.{line, line_text, lines_text, fields_text, tuple_fields, call_fields, use_line, text_of_entry};
 
-use crate::entry::{Call, DreamUse, Entry};
+use transcript_model::{Call, DreamUse, Entry};
 use crate::lines::{
     push_call, push_calls, push_field, push_names, push_number, push_numbered, push_pair,
 };

@@ -3,7 +3,7 @@ ghost use Rattle.std.specs.Prelude.{◌≡◌, ◌<◌, [], ◌∷◌, ◌++◌,
 ghost use Rattle.std.specs.Fmt.{decimal};
 ghost use Rattle.report_text.specs.Texts.{line, line_text, lines_text, fields_text, mode_word, stream_name, shown_pool, pool_line, text_of_head};
 
-use crate::head::{Head, Mode, Pool};
+use transcript_model::{Head, Mode, Pool};
 use crate::lines::{push_field, push_number};
 use std::alloc::{AllocError, Global};
 use task_model::Task;

@@ -3,9 +3,9 @@ ghost use Rattle.std.specs.Prelude.{◌≡◌, [], ◌++◌, map, IfOk, OnOk};
 ghost use Rattle.report_text.specs.Texts.{line_text, lines_text, from_line, text_of_outcome};
 ghost use Rattle.transcript_model.specs.declared.outcome.Outcome.TheVariants as outcome;
 
-use crate::entry::Call;
+use transcript_model::Call;
 use crate::lines::{push_calls, push_field, push_number, push_numbered};
-use crate::outcome::{LimitKind, Origin, Outcome};
+use transcript_model::{LimitKind, Origin, Outcome};
 use std::alloc::{AllocError, Global};
 
 /// The lines of an outcome, each with its line feed, as this version of reports has them: version 1 does not show the

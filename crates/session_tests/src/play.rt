@@ -11,7 +11,7 @@ use instance_queue::Due;
 use session_core::Session;
 use std::alloc::{AllocError, Global};
 use task_model::Task;
-use transcript_model::entry_text;
+use report_text::entry_text;
 
 /// What happens in a round.
 #[derive(Clone, Copy)]

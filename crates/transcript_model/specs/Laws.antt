@@ -10,15 +10,12 @@ use Rattle.task_model.specs.declared.stream.Instance.{Instance}
 use Rattle.task_model.specs.declared.stream.Stream.{Stream}
 use Rattle.task_model.specs.declared.task.Task.{Task}
 use Rattle.task_model.specs.declared.task.Valued.{Valued}
-use Rattle.report_text.specs.Forms.{IsFormed}
 use Rattle.transcript_model.specs.Legal.{IsLegal, MayFollow, asks_of, is_open, is_answer_to}
 use Rattle.transcript_model.specs.Names.{with_names, generated, places_of, instance_of, call_of_instance}
-use Rattle.report_text.specs.Texts.{text_of_report}
 use Rattle.transcript_model.specs.Transcript.{Asked, asked, objects_in, names_of, known_of, notes_of, certified, told_value, note_of, yield_facts}
 use Rattle.transcript_model.specs.declared.entry.Call.{Call}
 use Rattle.transcript_model.specs.declared.entry.Entry.{Entry}
 use Rattle.transcript_model.specs.declared.entry.Entry.TheVariants as entry
-use Rattle.transcript_model.specs.declared.report.Report.{Report}
 
 -- ---- names
 
@@ -158,9 +155,3 @@ CertifiedObjectsHaveNames =
 -- name, and values are costs.
 abbrev pub WhatIsKnownIsCoherent : Type 0
 WhatIsKnownIsCoherent = (version : ℕ) (task : Task) (entries : List Entry) → IsFit task → IsLegal version task entries → IsCoherent (known_of task entries)
-
--- ---- reports
-
--- The text of a report determines it: reports of the stated forms with equal texts are equal.
-abbrev pub TextsDetermineReports : Type 0
-TextsDetermineReports = (first second : Report) → IsFormed first → IsFormed second → text_of_report first ≡ text_of_report second → first ≡ second

@@ -1,6 +1,6 @@
 //! Laws of the definitions in `specs/`, each the contract of a function that does nothing.
 ghost use Rattle.transcript_model.specs.Examples.{WorkedExamples};
-ghost use Rattle.transcript_model.specs.Laws.{PlacesAreExact, CallsNameInstances, LongerKeeps, LegalGrows, RequestsAddRequests, AnswersAddAnswers, MarksAddNothing, NumbersAreOwn, RequestsAskInstances, NoRequestIsMadeTwice, RequestsHaveNames, CertifiedObjectsHaveNames, WhatIsKnownIsCoherent, TextsDetermineReports};
+ghost use Rattle.transcript_model.specs.Laws.{PlacesAreExact, CallsNameInstances, LongerKeeps, LegalGrows, RequestsAddRequests, AnswersAddAnswers, MarksAddNothing, NumbersAreOwn, RequestsAskInstances, NoRequestIsMadeTwice, RequestsHaveNames, CertifiedObjectsHaveNames, WhatIsKnownIsCoherent};
 
 /// In a table of distinct names exactly these objects have these names.
 pub fn places_are_exact()
@@ -66,12 +66,6 @@ pub fn certified_objects_have_names()
 /// names.
 pub fn what_is_known_is_coherent()
     ensures { WhatIsKnownIsCoherent }
-{}
-
-/// The text of a report determines it: reports whose names, values and numbers have the stated forms differ only where
-/// their texts do.
-pub fn texts_determine_reports()
-    ensures { TextsDetermineReports }
 {}
 
 /// The worked examples of the definitions hold.
