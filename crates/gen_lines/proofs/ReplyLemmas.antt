@@ -7,8 +7,7 @@ use Rattle.std.proofs.lemmas.Bool.Decides.{nat_tests}
 use Rattle.gen_lines.specs.declared.answer.Wanted.{Wanted}
 use Rattle.gen_lines.specs.declared.answer.Wanted.TheVariants.{Outputs, Number}
 use Rattle.gen_lines.specs.declared.answer.Why.TheVariants.{Word, Count, Value}
-use Rattle.gen_lines.specs.Laws.{IsRight}
-use Rattle.gen_lines.specs.Reply.{Reply, yields, number, bad, reply_of, reply_of_fields, fields, given_reply, yield_reply, number_reply, end_reply, word_of, parted, has_bars, joined, are_of_width, is_value, is_number}
+use Rattle.gen_lines.specs.Reply.{Reply, yields, number, bad, reply_of, reply_of_fields, fields, given_reply, yield_reply, number_reply, end_reply, word_of, parted, has_bars, joined, are_of_width, is_value, is_number, IsRight}
 use Rattle.gen_lines.proofs.ReplyTupleLemmas.{and_both, joined_length, parts_of}
 
 -- a choice by two tests is one of three

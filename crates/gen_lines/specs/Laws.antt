@@ -1,10 +1,10 @@
 -- Laws of the definitions. Each is the contract of a public function of `laws.rt`, and so is proved.
-use Rattle.std.specs.Prelude.{◌≡◌, ℕ, ◌*◌, ◌<◌, ◌≤◌, List, ◌∷◌, ◌++◌, length, Bool, true, false, not, ◌&&◌, nat_le, ◌^◌, map}
+use Rattle.std.specs.Prelude.{◌≡◌, ℕ, ◌<◌, ◌≤◌, List, ◌∷◌, ◌++◌, length, Bool, true, false, not, ◌&&◌, nat_le, ◌^◌, map}
 use Rattle.std.specs.List.{join_with_byte, list_all}
 use Rattle.gen_lines.specs.Cutting.{Cut, IsWhole}
 use Rattle.gen_lines.specs.Lines.{lines_of}
 use Rattle.gen_lines.specs.Request.{request_of, request_words, stream_name}
-use Rattle.gen_lines.specs.Reply.{fields, is_filled, is_space, is_value, reply_of, yields, number}
+use Rattle.gen_lines.specs.Reply.{IsRight, fields, is_filled, is_space, reply_of, yields, number}
 use Rattle.task_model.specs.Streams.{name_at}
 use Rattle.task_model.specs.declared.stream.Instance.{Instance}
 use Rattle.task_model.specs.declared.task.Task.{Task}
@@ -20,15 +20,6 @@ is_word text = is_filled text && list_all (λ b. not (is_space b)) text
 
 abbrev pub WordsAreFields : Type 0
 WordsAreFields = (words : List (List ℕ)) → list_all is_word words ≡ true → fields (join_with_byte 32 words) ≡ words
-
--- a number of tuples and their values, as a stream with so many outputs may give them
-pub record IsRight (outputs : ℕ) (several : Bool) (tuples : ℕ) (values : List (List ℕ)) : Type 0 where
-  pub some : 1 ≤ tuples
-  pub few : tuples ≤ 16
-  pub one : several ≡ false → tuples ≡ 1
-  pub test : outputs ≡ 0 → tuples ≡ 1
-  pub count : length values ≡ tuples * outputs
-  pub valid : list_all is_value values ≡ true
 
 abbrev pub YieldsAreRight : Type 0
 YieldsAreRight = (line : List ℕ) (outputs : ℕ) (several : Bool) (tuples : ℕ) (values : List (List ℕ)) → reply_of line (Outputs outputs several) ≡ yields tuples values → IsRight outputs several tuples values

@@ -1,5 +1,5 @@
 -- What a line answers, and to which kind of request.
-use Rattle.std.specs.Prelude.{ℕ, Bool, true, false, ◌&&◌, ◌||◌, not, ◌==◌, nat_le, nat_lt, List, [], ◌∷◌, ◌++◌, length, filter, codes, if◌then◌else◌}
+use Rattle.std.specs.Prelude.{◌≡◌, ℕ, ◌*◌, ◌≤◌, Bool, true, false, ◌&&◌, ◌||◌, not, ◌==◌, nat_le, nat_lt, List, [], ◌∷◌, ◌++◌, length, filter, codes, if◌then◌else◌}
 use Rattle.std.specs.List.{slice_split, list_all}
 use Rattle.std.specs.Char.{is_ascii_digit}
 use Rattle.std.specs.Str.{bytes_eq}
@@ -106,3 +106,14 @@ reply_of_fields wanted (word ∷ given) =
 -- What a line says to a request of this kind; of several faults the first of Word, Count and Value is told.
 abbrev pub reply_of : List ℕ → Wanted → Reply
 reply_of line wanted = reply_of_fields wanted (fields line)
+
+-- ---- right answers
+
+-- a number of tuples and their values, as a stream with so many outputs may give them
+pub record IsRight (outputs : ℕ) (several : Bool) (tuples : ℕ) (values : List (List ℕ)) : Type 0 where
+  pub some : 1 ≤ tuples
+  pub few : tuples ≤ 16
+  pub one : several ≡ false → tuples ≡ 1
+  pub test : outputs ≡ 0 → tuples ≡ 1
+  pub count : length values ≡ tuples * outputs
+  pub valid : list_all is_value values ≡ true

@@ -17,7 +17,7 @@ use Rattle.task_model.specs.declared.fact.Kind.TheVariants.{Predicate, Sort}
 use Rattle.task_model.specs.declared.stream.Instance.{Instance}
 use Rattle.task_model.specs.declared.stream.Stream.{Stream}
 use Rattle.task_model.specs.declared.task.Task.{Task}
-use Rattle.instance_queue.specs.Found.{is_due_of, instance_at, found_at, found_under, found_from}
+use Rattle.instance_queue.specs.Found.{instance_at, found_at, found_under, found_from}
 
 -- ---- lists
 
@@ -148,22 +148,22 @@ has_object known sort object e = into_mapped (object_with sort) known.facts (typ
 
 module _ (known : Known) (notes : List Note) where
   module _ (stream : Stream) (place : ℕ) where
-    at_inputs : (inputs : List ℕ) (i : Instance) → Contains (found_at known notes stream place inputs) i → (i ≡ instance_at known notes stream place inputs) × (is_due_of known notes stream i ≡ true)
-    at_inputs inputs i m = by (is_due_of known notes stream (instance_at known notes stream place inputs)) refl m
+    at_inputs : (inputs : List ℕ) (i : Instance) → Contains (found_at known notes stream place inputs) i → (i ≡ instance_at known notes stream place inputs) × (is_due_at known notes stream i ≡ true)
+    at_inputs inputs i m = by (is_due_at known notes stream (instance_at known notes stream place inputs)) refl m
       where
-        by : (b : Bool) → is_due_of known notes stream (instance_at known notes stream place inputs) ≡ b → Contains (cond b (instance_at known notes stream place inputs ∷ []) []) i → (i ≡ instance_at known notes stream place inputs) × (is_due_of known notes stream i ≡ true)
-        by true e n = let same = only_one (instance_at known notes stream place inputs) i n in (sym same, ap (is_due_of known notes stream) (sym same) ∙ e)
+        by : (b : Bool) → is_due_at known notes stream (instance_at known notes stream place inputs) ≡ b → Contains (cond b (instance_at known notes stream place inputs ∷ []) []) i → (i ≡ instance_at known notes stream place inputs) × (is_due_at known notes stream i ≡ true)
+        by true e n = let same = only_one (instance_at known notes stream place inputs) i n in (sym same, ap (is_due_at known notes stream) (sym same) ∙ e)
         by false e n = absurd (not_in_nil i n)
 
     -- it is an instance of the stream, is due, and its inputs begin so
-    pub found_is : (inputs sorts : List ℕ) (i : Instance) → Contains (found_under known notes stream place inputs sorts) i → (more : List ℕ) × (i ≡ instance_at known notes stream place (inputs ++ more)) × (is_due_of known notes stream i ≡ true)
+    pub found_is : (inputs sorts : List ℕ) (i : Instance) → Contains (found_under known notes stream place inputs sorts) i → (more : List ℕ) × (i ≡ instance_at known notes stream place (inputs ++ more)) × (is_due_at known notes stream i ≡ true)
     found_is inputs [] i m = let r = at_inputs inputs i m in ([], r.0 ∙ ap (instance_at known notes stream place) (sym (append-nil inputs)), r.1)
     found_is inputs (sort ∷ sorts) i m =
         let r = from_flat (λ o. found_under known notes stream place (inputs ++ o ∷ []) sorts) (objects_of known.facts sort) i m in
         let s = found_is (inputs ++ r.0 ∷ []) sorts i r.2 in
         (r.0 ∷ s.0, s.1 ∙ ap (instance_at known notes stream place) (append_assoc inputs (r.0 ∷ []) s.0), s.2)
 
-    pub is_found : (inputs sorts more : List ℕ) → have_types known more sorts ≡ true → is_due_of known notes stream (instance_at known notes stream place (inputs ++ more)) ≡ true → Contains (found_under known notes stream place inputs sorts) (instance_at known notes stream place (inputs ++ more))
+    pub is_found : (inputs sorts more : List ℕ) → have_types known more sorts ≡ true → is_due_at known notes stream (instance_at known notes stream place (inputs ++ more)) ≡ true → Contains (found_under known notes stream place inputs sorts) (instance_at known notes stream place (inputs ++ more))
     is_found inputs [] [] types due =
         let here = instance_at known notes stream place (inputs ++ []) in
         let all = append-nil inputs in
@@ -176,14 +176,14 @@ module _ (known : Known) (notes : List Note) where
         let rest = second_so (has_type known o sort) (have_types known os sorts) types in
         into_flat (λ x. found_under known notes stream place (inputs ++ x ∷ []) sorts) (objects_of known.facts sort) o (instance_at known notes stream place (inputs ++ o ∷ os)) (has_object known sort o one)
         (subst (λ xs. Contains (found_under known notes stream place (inputs ++ o ∷ []) sorts) (instance_at known notes stream place xs)) joined
-        (is_found (inputs ++ o ∷ []) sorts os rest (ap (λ xs. is_due_of known notes stream (instance_at known notes stream place xs)) joined ∙ due)))
+        (is_found (inputs ++ o ∷ []) sorts os rest (ap (λ xs. is_due_at known notes stream (instance_at known notes stream place xs)) joined ∙ due)))
 
     same_next : (xs : List ℕ) (a b : ℕ) (more other : List ℕ) → (xs ++ a ∷ []) ++ more ≡ (xs ++ b ∷ []) ++ other → a ≡ b
     same_next [] a b more other e = cc
     same_next (x ∷ xs) a b more other e = same_next xs a b more other (let f : (xs ++ a ∷ []) ++ more ≡ (xs ++ b ∷ []) ++ other = cc in f)
 
     pub found_distinct : AreDistinct known.facts → (inputs sorts : List ℕ) → AreDistinct (found_under known notes stream place inputs sorts)
-    found_distinct d inputs [] = by (is_due_of known notes stream (instance_at known notes stream place inputs))
+    found_distinct d inputs [] = by (is_due_at known notes stream (instance_at known notes stream place inputs))
       where
         by : (b : Bool) → AreDistinct (cond b (instance_at known notes stream place inputs ∷ []) [])
         by true = distinct_cons (instance_at known notes stream place inputs) [] distinct_nil (not_in_nil (instance_at known notes stream place inputs))
@@ -197,7 +197,7 @@ module _ (known : Known) (notes : List Note) where
 
   -- ---- what is found of all streams
 
-  pub found_stream : (place : ℕ) (ss : List Stream) (i : Instance) → Contains (found_from known notes place ss) i → (k : ℕ) × (s : Stream) × (i.stream ≡ place + k) × (slice_get ss k ≡ Some s) × (is_due_of known notes s i ≡ true)
+  pub found_stream : (place : ℕ) (ss : List Stream) (i : Instance) → Contains (found_from known notes place ss) i → (k : ℕ) × (s : Stream) × (i.stream ≡ place + k) × (slice_get ss k ≡ Some s) × (is_due_at known notes s i ≡ true)
   found_stream place [] i m = absurd (not_in_nil i m)
   found_stream place (s ∷ ss) i m =
       elim (Contains-append_cases (found_under known notes s place [] s.inputs) (found_from known notes (place + 1) ss) i m) [
@@ -205,7 +205,7 @@ module _ (known : Known) (notes : List Note) where
         | inr t ↦ let r = found_stream (place + 1) ss i t in (suc r.0, r.1, r.2 ∙ (let e : (place + 1) + r.0 ≡ place + suc r.0 = omega arith in e), r.3, r.4)
       ]
 
-  pub in_found : (place : ℕ) (ss : List Stream) (k : ℕ) (s : Stream) (i : Instance) → slice_get ss k ≡ Some s → i.stream ≡ place + k → have_types known i.inputs s.inputs ≡ true → is_due_of known notes s i ≡ true → Contains (found_from known notes place ss) i
+  pub in_found : (place : ℕ) (ss : List Stream) (k : ℕ) (s : Stream) (i : Instance) → slice_get ss k ≡ Some s → i.stream ≡ place + k → have_types known i.inputs s.inputs ≡ true → is_due_at known notes s i ≡ true → Contains (found_from known notes place ss) i
   in_found place [] k s i at is types due = absurd (cc)
   in_found place (t ∷ ts) zero s i at is types due =
       let same : t ≡ s = cc in
@@ -213,7 +213,7 @@ module _ (known : Known) (notes : List Note) where
       let whole : i ≡ instance_at known notes t place i.inputs = λ j. record { stream = here j; inputs = i.inputs } in
       Contains-append_left (found_under known notes t place [] t.inputs) (found_from known notes (place + 1) ts) i
       (subst (Contains (found_under known notes t place [] t.inputs)) (sym whole)
-      (is_found t place [] t.inputs i.inputs (ap (λ (u : Stream). have_types known i.inputs u.inputs) same ∙ types) ((λ j. is_due_of known notes (same j) (sym whole j)) ∙ due)))
+      (is_found t place [] t.inputs i.inputs (ap (λ (u : Stream). have_types known i.inputs u.inputs) same ∙ types) ((λ j. is_due_at known notes (same j) (sym whole j)) ∙ due)))
   in_found place (t ∷ ts) (suc k) s i at is types due =
       Contains-append_right (found_under known notes t place [] t.inputs) (found_from known notes (place + 1) ts) i
       (in_found (place + 1) ts k s i at (is ∙ (let e : place + suc k ≡ (place + 1) + k = omega arith in e)) types due)

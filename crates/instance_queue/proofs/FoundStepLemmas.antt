@@ -8,7 +8,7 @@ use Rattle.task_model.specs.Known.{Known}
 use Rattle.task_model.specs.Streams.{Note}
 use Rattle.task_model.specs.declared.stream.Instance.{Instance}
 use Rattle.task_model.specs.declared.stream.Stream.{Stream}
-use Rattle.instance_queue.specs.Found.{asks_of, due_of, instance_at, is_due_of, found_at, found_under, found_from, Overflows}
+use Rattle.instance_queue.specs.Found.{asks_of, due_of, instance_at, found_at, found_under, found_from, Overflows}
 use Rattle.instance_queue.specs.declared.due.Due.{Due}
 use Rattle.instance_queue.specs.declared.due.QueueFault.{QueueFault}
 use Rattle.instance_queue.specs.declared.due.QueueFault.TheVariants.{TooManyInstances, Memory}
@@ -18,7 +18,7 @@ overflows_more m n TooManyInstances le h = omega (arith, le, h)
 overflows_more m n Memory le h = tt
 
 -- an ask that is due is what is found at its inputs
-pub found_here : (known : Known) (notes : List Note) (stream : Stream) (place : ℕ) (inputs : List ℕ) (dues : List Due) (due : Due) → is_due_of known notes stream (instance_at known notes stream place inputs) ≡ true → due ≡ due_of notes (instance_at known notes stream place inputs) → dues ++ due ∷ [] ≡ dues ++ asks_of notes (found_at known notes stream place inputs)
+pub found_here : (known : Known) (notes : List Note) (stream : Stream) (place : ℕ) (inputs : List ℕ) (dues : List Due) (due : Due) → is_due_at known notes stream (instance_at known notes stream place inputs) ≡ true → due ≡ due_of notes (instance_at known notes stream place inputs) → dues ++ due ∷ [] ≡ dues ++ asks_of notes (found_at known notes stream place inputs)
 found_here known notes stream place inputs dues due is same = ap (λ d. dues ++ d ∷ []) same ∙ sym (ap (λ b. dues ++ asks_of notes (cond b (instance_at known notes stream place inputs ∷ []) [])) is)
 
 -- ---- one object more

@@ -2,7 +2,7 @@
 use Rattle.std.specs.Prelude.{◌<◌, ◌+◌, ℕ, List, [], ◌∷◌, ◌++◌, map, Bool, ◌&&◌, not, if◌then◌else◌}
 use Rattle.std.specs.List.{flat_map}
 use Rattle.task_model.specs.Known.{Known, objects_of}
-use Rattle.task_model.specs.Streams.{Note, yields_of, is_finished, is_reachable}
+use Rattle.task_model.specs.Streams.{Note, yields_of, is_due_at}
 use Rattle.task_model.specs.declared.stream.Instance.{Instance}
 use Rattle.task_model.specs.declared.stream.Stream.{Stream}
 use Rattle.instance_queue.specs.declared.due.Due.{Due}
@@ -17,16 +17,12 @@ abbrev pub asks_of : List Note → List Instance → List Due
 asks_of notes = map (due_of notes)
 
 module _ (known : Known) (notes : List Note) where
-  -- whether an instance of the stream is reachable and unfinished
-  abbrev pub is_due_of : Stream → Instance → Bool
-  is_due_of stream instance = is_reachable stream known instance && not (is_finished stream notes instance)
-
   module _ (stream : Stream) (place : ℕ) where
     abbrev pub instance_at : List ℕ → Instance
     instance_at inputs = record { stream = place; inputs = inputs }
 
     abbrev pub found_at : List ℕ → List Instance
-    found_at inputs = if is_due_of stream (instance_at inputs) then instance_at inputs ∷ [] else []
+    found_at inputs = if is_due_at known notes stream (instance_at inputs) then instance_at inputs ∷ [] else []
 
     -- those whose inputs begin with these and go on with objects of these types
     abbrev pub found_under : List ℕ → List ℕ → List Instance

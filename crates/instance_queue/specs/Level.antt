@@ -1,27 +1,12 @@
 -- Which asks are due, with their turns, and when there are too many.
-use Rattle.std.specs.Prelude.{◌≡◌, ◌≤◌, ℕ, List, map, length, All, Bool, false, Option, None, Some, slice_get}
+use Rattle.std.specs.Prelude.{◌≡◌, ◌≤◌, ℕ, List, map, length, All}
 use Rattle.task_model.specs.Known.{Known}
-use Rattle.task_model.specs.Streams.{Note, AreDue, MoreAreDue, yields_of, is_finished, is_reachable}
+use Rattle.task_model.specs.Streams.{Note, AreDue, MoreAreDue, yields_of}
 use Rattle.task_model.specs.declared.stream.Instance.{Instance}
-use Rattle.task_model.specs.declared.stream.Stream.{Stream}
 use Rattle.task_model.specs.declared.task.Task.{Task}
 use Rattle.instance_queue.specs.declared.due.Due.{Due}
 use Rattle.instance_queue.specs.declared.due.QueueFault.{QueueFault}
 use Rattle.instance_queue.specs.declared.due.QueueFault.TheVariants.{TooManyInstances, Memory}
-
--- what the test says of the instance's stream, and false where the task has no such stream
-abbrev pub of_stream : Task → (Stream → Bool) → ℕ → Bool
-of_stream task test stream = of (slice_get task.streams stream)
-  where
-    of : Option Stream → Bool
-    of (Some s) = test s
-    of None = false
-
-abbrev pub is_finished_in : Task → List Note → Instance → Bool
-is_finished_in task notes instance = of_stream task (λ s. is_finished s notes instance) instance.stream
-
-abbrev pub is_reachable_in : Task → Known → Instance → Bool
-is_reachable_in task known instance = of_stream task (λ s. is_reachable s known instance) instance.stream
 
 abbrev pub instances_of : List Due → List Instance
 instances_of = map (λ (d : Due). d.instance)

@@ -1,7 +1,7 @@
 //! The instances that are due, found by going through all tuples of objects that have the inputs' types.
 ghost use Rattle.std.specs.Prelude.{◌≡◌, ◌≤◌, ◌+◌, ◌++◌, length, IfOk, IfErr, OnOk};
 ghost use Rattle.task_model.specs.Fit.{IsFit};
-ghost use Rattle.instance_queue.specs.Found.{asks_of, is_due_of, found_at, found_under, found_from, Overflows};
+ghost use Rattle.instance_queue.specs.Found.{asks_of, found_at, found_under, found_from, Overflows};
 ghost use Rattle.instance_queue.specs.Level.{AreDueInTurn, ComesOf};
 ghost use Rattle.instance_queue.specs.Readable.{IsReadableStream};
 
@@ -29,7 +29,7 @@ struct Search<'a> {
 /// Whether an instance of the stream is reachable and unfinished.
 fn is_due(search: &Search<'_>, instance: &Instance) -> bool
     requires { IsReadableStream search.now.stream.now }
-    ensures { result ≡ is_due_of search.now.facts.now.known search.now.queue.now search.now.stream.now instance.now }
+    ensures { result ≡ is_due_at search.now.facts.now.known search.now.queue.now search.now.stream.now instance.now }
 {
     is_reachable(search.alloc, search.stream, search.facts, instance)
         && !search.queue.is_finished(search.stream, instance)

@@ -49,9 +49,9 @@ impl Model for Queue {
 impl Queue {
     ghost use Rattle.std.specs.Prelude.{◌≡◌, ◌<◌, ◌++◌, ◌∷◌, [], IfOk, IfErr, OnOk, OnErr};
     ghost use Rattle.task_model.specs.Fit.{IsFit};
-    ghost use Rattle.task_model.specs.Streams.{Note, Yielded, Ended, yields_of, is_finished};
+    ghost use Rattle.task_model.specs.Streams.{Note, Yielded, Ended, yields_of, is_finished, at_stream, is_due as due, is_reachable as reaches};
     ghost use Rattle.instance_queue.specs.Notes.{tally_of, note_of};
-    ghost use Rattle.instance_queue.specs.Level.{AreDueInTurn, ComesOf, is_finished_in, is_reachable_in};
+    ghost use Rattle.instance_queue.specs.Level.{AreDueInTurn, ComesOf};
 
     /// The queue in which nothing is noted, with room for an instance of each stream. Fails only where
     /// memory is wanting.
@@ -151,7 +151,8 @@ impl Queue {
     /// Whether nothing more comes of the instance: it has ended, or it is one of a test, a stream without
     /// outputs or a value, and has yielded. Of a stream that the task hasn't nothing has finished.
     pub fn finished(&self, task: &Task, instance: &Instance) -> bool
-        ensures { result ≡ is_finished_in task.now self.now instance.now }
+        ensures { result ≡ at_stream task.now instance.now.stream false
+            (λ stream. is_finished stream self.now instance.now) }
     {
         match stream_of(task, instance.stream) {
             Some(stream) => self.is_finished(stream, instance),
@@ -163,10 +164,26 @@ impl Queue {
     /// facts are known (PDDLStream 2020). It takes no memory.
     pub fn reachable(&self, task: &Task, facts: &Facts, instance: &Instance) -> bool
         requires { IsFit task.now }
-        ensures { result ≡ is_reachable_in task.now facts.now.known instance.now }
+        ensures { result ≡ at_stream task.now instance.now.stream false
+            (λ stream. reaches stream facts.now.known instance.now) }
     {
         match stream_of(task, instance.stream) {
             Some(stream) => is_reachable(self.alloc, stream, facts, instance),
+            None => false,
+        }
+    }
+
+    /// Whether the instance may be asked for its next tuple: its stream is one of the task's, it is reachable and it
+    /// hasn't finished (PDDLStream 2020; what finishes an instance is this project's). It takes no memory.
+    pub fn is_due(&self, task: &Task, facts: &Facts, instance: &Instance) -> bool
+        requires { IsFit task.now }
+        ensures { result ≡ due task.now facts.now.known self.now instance.now }
+    {
+        match stream_of(task, instance.stream) {
+            Some(stream) => {
+                is_reachable(self.alloc, stream, facts, instance)
+                    && !self.is_finished(stream, instance)
+            }
             None => false,
         }
     }

@@ -7,14 +7,13 @@ use Rattle.io_world.specs.Faults.{Extends}
 use Rattle.io_world.specs.Talks.{Event, started}
 use Rattle.session_core.proofs.SessionLemmas.{count_joined, count_one}
 use Rattle.task_model.specs.declared.task.Task.{Task}
-use Rattle.transcript_model.specs.Legal.{HasNoneOpen, asks_of, is_answer_to, is_ask, is_ask_of, is_open}
+use Rattle.transcript_model.specs.Legal.{HasNoneOpen, asks_of, is_answer_to, is_ask, is_ask_of, is_open, is_level}
 use Rattle.transcript_model.specs.declared.entry.Entry.{Entry}
 use Rattle.transcript_model.specs.declared.entry.Entry.TheVariants as entry
 use Rattle.transcript_model.specs.declared.head.Head.{Head}
 use Rattle.transcript_model.specs.declared.head.Pool.{Pool}
 use Rattle.level_run.proofs.BreakingLemmas.{breaks_join, tells_map, tells_of}
 use Rattle.lemmas.proofs.Pigeonhole.{get_append}
-use Rattle.level_run.specs.Reports.{is_level}
 use Rattle.level_run.proofs.CallsRunLemmas.{stops_none, asks_behind, asks_marked, unasked}
 use Rattle.std.proofs.lemmas.List.Elements.{All-append}
 use Rattle.io_world.proofs.TalksLemmas.{extends_more}

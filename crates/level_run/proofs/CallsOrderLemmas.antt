@@ -3,7 +3,7 @@ use Rattle.std.proofs.Common.{◌≡◌, ℕ, suc, arith, true, List, [], ◌∷
 use Rattle.std.specs.List.{All}
 use Rattle.std.proofs.lemmas.List.Elements.{All-append}
 use Rattle.io_world.specs.Talks.{Event, IsGiven, IsTaken}
-use Rattle.session_core.specs.Session.{is_answer}
+use Rattle.transcript_model.specs.Legal.{is_answer}
 use Rattle.session_core.specs.declared.pools.Workers.{Workers}
 use Rattle.task_model.specs.declared.task.Task.{Task}
 use Rattle.transcript_model.specs.declared.entry.Entry.{Entry}

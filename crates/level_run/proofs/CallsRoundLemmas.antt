@@ -13,7 +13,8 @@ use Rattle.io_world.specs.Talks.{Talk, Event, silence, spelled, heard_more, IsGi
 use Rattle.io_world.proofs.TalksLemmas.{extends_none}
 use Rattle.session_core.proofs.LearningLemmas.{take_next}
 use Rattle.session_core.proofs.SessionLemmas.{count_joined, count_one}
-use Rattle.session_core.specs.Session.{IsSession, begun, is_answer}
+use Rattle.session_core.specs.Session.{IsSession, begun}
+use Rattle.transcript_model.specs.Legal.{is_answer}
 use Rattle.session_core.specs.Slots.{Slot, answers_of}
 use Rattle.session_core.specs.State.{State, with_slots}
 use Rattle.session_core.specs.declared.pools.Workers.{Workers}

@@ -4,7 +4,6 @@ use Rattle.std.proofs.lemmas.List.Elements.{filter-append}
 use Rattle.instance_queue.specs.declared.due.Due.{Due}
 use Rattle.session_core.proofs.SessionLemmas.{count_joined, count_one}
 use Rattle.session_core.specs.Pools.{child_for}
-use Rattle.session_core.specs.Session.{is_answer}
 use Rattle.session_core.specs.Slots.{Slot, asks_from, slot_for, slots_from, wanted_at}
 use Rattle.session_core.specs.declared.pools.Workers.{Workers}
 use Rattle.task_model.specs.Fit.{IsFit}
@@ -12,7 +11,7 @@ use Rattle.task_model.specs.declared.stream.Instance.{Instance}
 use Rattle.task_model.specs.declared.task.Task.{Task}
 use Rattle.transcript_model.proofs.CallNameLemmas.{call_names_instance}
 use Rattle.transcript_model.proofs.NamesLemmas.{and_then_some, map_some}
-use Rattle.transcript_model.specs.Legal.{asks_of, is_ask}
+use Rattle.transcript_model.specs.Legal.{asks_of, is_ask, is_answer}
 use Rattle.transcript_model.specs.Names.{call_of_instance, places_of, stream_named}
 use Rattle.transcript_model.specs.declared.entry.Entry.{Entry}
 use Rattle.transcript_model.specs.declared.entry.Entry.TheVariants as entry

@@ -4,14 +4,13 @@ use Rattle.session_core.proofs.SessionLemmas.{count_joined, count_one}
 use Rattle.task_model.specs.Streams.{yields_of}
 use Rattle.task_model.specs.declared.stream.Instance.{Instance}
 use Rattle.task_model.specs.declared.task.Task.{Task}
-use Rattle.transcript_model.specs.Legal.{is_answer_to}
+use Rattle.transcript_model.specs.Legal.{is_answer_to, is_level}
 use Rattle.transcript_model.specs.Names.{call_of_instance}
 use Rattle.transcript_model.specs.Rounds.{AreAnswers, AreRoundsRun, requests, requests_from}
 use Rattle.transcript_model.specs.Transcript.{names_of, notes_of}
 use Rattle.transcript_model.specs.declared.entry.Entry.{Entry}
 use Rattle.transcript_model.specs.declared.entry.Entry.TheVariants as entry
 use Rattle.transcript_model.specs.declared.head.Head.{Head}
-use Rattle.level_run.specs.Reports.{is_level}
 use Rattle.level_run.specs.Turns.{EndsBatch, RunsLevel}
 use Rattle.level_run.specs.declared.ending.Batch.{Batch}
 use Rattle.level_run.specs.declared.ending.Batch.TheVariants.{CallsSpent}

@@ -3,7 +3,7 @@ use Rattle.std.proofs.Common.{◌≡◌, ℕ, ◌<◌, arith, List, [], count_by
 use Rattle.std.proofs.lemmas.List.{append-nil}
 use Rattle.std.specs.Io.KnownBytes.{Appends}
 use Rattle.task_model.specs.declared.task.Task.{Task}
-use Rattle.transcript_model.specs.Legal.{HasNoneOpen, IsLegal, asks_of}
+use Rattle.transcript_model.specs.Legal.{HasNoneOpen, IsLegal, asks_of, is_level}
 use Rattle.report_text.specs.Texts.{text_of_head}
 use Rattle.transcript_model.specs.declared.entry.Entry.{Entry}
 use Rattle.transcript_model.specs.declared.head.Head.{Head}
@@ -19,7 +19,7 @@ use Rattle.level_run.specs.Breaking.{HasLevel, LevelBreaks, LogBroken, RunBreaks
 use Rattle.level_run.specs.Calls.{LogRan, LogStops, Runs}
 use Rattle.level_run.proofs.TalkingLemmas.{broken_unasked}
 use Rattle.level_run.specs.Dialogue.{BrokenOff, Dialogue, IsSaid, replies_of, requests_of, workers_in}
-use Rattle.level_run.specs.Reports.{IsBroken, IsReported, IsRun, WasToWrite, is_level, text_of_end, text_so_far, whole_text}
+use Rattle.level_run.specs.Reports.{IsBroken, IsReported, IsRun, WasToWrite, text_of_end, text_so_far, whole_text}
 use Rattle.level_run.specs.Rolling.{Goes, Stopped}
 use Rattle.level_run.specs.Stops.{Misses}
 use Rattle.level_run.specs.Turns.{IsFrontOfRun}

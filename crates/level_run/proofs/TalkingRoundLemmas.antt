@@ -16,14 +16,14 @@ use Rattle.session_core.proofs.LearningLemmas.{front_at, there_at, take_next}
 use Rattle.session_core.proofs.RoundBeginLemmas.{child_served}
 use Rattle.session_core.proofs.SlotsLemmas.{at_own, at_other, own_slot}
 use Rattle.session_core.specs.Heard.{heard_at, heard_by, is_bad_at, number_at}
-use Rattle.session_core.specs.Session.{IsSession, AreSlotsFor, MayBeginRound, begun, is_answer}
+use Rattle.session_core.specs.Session.{IsSession, AreSlotsFor, MayBeginRound, begun}
 use Rattle.session_core.specs.Slots.{Slot, answers_of, asks_from, at_child, entry_of, fault_of, heard_slot, is_slot_of, reply_to, sent_slot, slots_from}
 use Rattle.session_core.specs.State.{State, after_line, after_sent, with_slots}
 use Rattle.session_core.specs.declared.fault.Heard.TheVariants as heard
 use Rattle.session_core.specs.declared.pools.Workers.{Workers}
 use Rattle.lemmas.proofs.Members.{member_at}
 use Rattle.task_model.specs.declared.task.Task.{Task}
-use Rattle.transcript_model.specs.Legal.{IsLegal, is_open}
+use Rattle.transcript_model.specs.Legal.{IsLegal, is_open, is_answer}
 use Rattle.transcript_model.specs.declared.entry.Entry.{Entry}
 use Rattle.transcript_model.specs.declared.entry.Entry.TheVariants as entry
 use Rattle.level_run.proofs.DialogueRequestLemmas.{AreAsks, AreReplies, all_replies, asks_are, closed_by, last_join, no_replies, no_requests, replies_join, requests_front, requests_join, requests_long, slots_ask}

@@ -14,7 +14,8 @@ use Rattle.shown_plan.proofs.ShownLemmas.{valid_named, true_outcome}
 use Rattle.shown_plan.specs.Shown.{AreNamedSteps, ShowsPlan}
 use Rattle.task_model.specs.Known.{Known, IsCoherent}
 use Rattle.task_model.specs.Plans.{IsSolvable, IsValid, IsFar, IsReached, MoreThan}
-use Rattle.task_model.specs.Streams.{IsDue, AreDue, MoreAreDue, Note}
+use Rattle.task_model.proofs.StreamsLemmas.{nothing_due}
+use Rattle.task_model.specs.Streams.{IsDue, MoreAreDue, NothingIsDue, Note}
 use Rattle.task_model.specs.declared.stream.Instance.{Instance}
 use Rattle.task_model.specs.declared.task.GroundAction.{GroundAction}
 use Rattle.task_model.specs.declared.task.Plan.{Plan}
@@ -100,7 +101,7 @@ module _ (task : Task) (s : State) (works : s.failed ≡ false) (learnt : IsLear
       room = tt;
     }
 
-    pub no_plan_sure : ¬ (IsSolvable task (known_of task s.entries)) → ¬ (MoreThan head.states (IsReached task (known_of task s.entries))) → AreDue task (known_of task s.entries) (notes_of task s.entries) [] → IsSure head task s.entries outcome.NoPlan
+    pub no_plan_sure : ¬ (IsSolvable task (known_of task s.entries)) → ¬ (MoreThan head.states (IsReached task (known_of task s.entries))) → NothingIsDue task (known_of task s.entries) (notes_of task s.entries) → IsSure head task s.entries outcome.NoPlan
     no_plan_sure none few due = record {
       holds = record {
         closed = record { legal = subst (λ v. IsLegal v task s.entries) of.version h.legal; none_open = h.none_open; finished = due };
@@ -113,8 +114,8 @@ module _ (task : Task) (s : State) (works : s.failed ≡ false) (learnt : IsLear
 
 -- ---- the list of what is due
 
-pub none_due : (task : Task) (known : Known) (notes : List Note) (dues : List Due) → AreDueInTurn task known notes dues → dues ≡ [] → AreDue task known notes []
-none_due task known notes dues turn empty = subst (λ ds. AreDue task known notes (instances_of ds)) empty turn.due
+pub none_due : (task : Task) (known : Known) (notes : List Note) (dues : List Due) → AreDueInTurn task known notes dues → dues ≡ [] → NothingIsDue task known notes
+none_due task known notes dues turn empty = nothing_due task known notes (instances_of dues) turn.due (ap instances_of empty)
 
 pub empty_of : {A : Type 0} (xs : List A) → (length xs == 0) ≡ true → xs ≡ []
 empty_of [] e = refl

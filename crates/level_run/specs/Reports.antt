@@ -43,10 +43,6 @@ text_so_far task head entries = text_of_head task head ++ flat_map text_of_entry
 abbrev pub whole_text : Task → Head → List Entry → Outcome → List ℕ
 whole_text task head entries o = text_so_far task head entries ++ text_of_end head.version o
 
-abbrev pub is_level : Entry → Bool
-is_level entry.Level = true
-is_level e = false
-
 -- ---- what was written
 
 -- A legal transcript that is a list of whole turns of incremental mode, or one after a batch that was cut, each of which begins

@@ -8,13 +8,11 @@ use Rattle.level_course.proofs.CoursesStepLemmas.{turns_lead}
 use Rattle.level_course.proofs.CoursesLemmas.{due_once, leads_apart, leads_once}
 use Rattle.level_course.specs.Agendas.{Agenda, place_in}
 use Rattle.level_course.specs.Courses.{Course, IsCourseStep, at_first}
-use Rattle.session_core.specs.Learning.{answered_number}
-use Rattle.session_core.specs.Session.{is_answer}
 use Rattle.task_model.specs.Streams.{MoreAreDue, yields_of}
 use Rattle.task_model.specs.declared.stream.Instance.{Instance}
 use Rattle.task_model.specs.declared.task.Task.{Task}
 use Rattle.transcript_ledger.specs.declared.ledger.Ledger.{Ledger}
-use Rattle.transcript_model.specs.Legal.{MayFollow, asks_of, is_answer_to, is_ask}
+use Rattle.transcript_model.specs.Legal.{MayFollow, asks_of, is_answer_to, is_ask, is_answer, answered_number}
 use Rattle.transcript_model.specs.Names.{call_of_instance}
 use Rattle.transcript_model.specs.Rounds.{Limits, requests_from}
 use Rattle.transcript_model.specs.Transcript.{known_of, names_of, notes_of}

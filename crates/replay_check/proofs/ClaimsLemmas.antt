@@ -4,7 +4,8 @@ use Rattle.std.proofs.lemmas.List.{length-map}
 use Rattle.lemmas.proofs.Pigeonhole.{pigeons}
 use Rattle.instance_queue.specs.Level.{AreDueInTurn, instances_of}
 use Rattle.instance_queue.specs.declared.due.Due.{Due}
-use Rattle.task_model.specs.Streams.{AreDue, IsDue, MoreAreDue}
+use Rattle.task_model.proofs.StreamsLemmas.{nothing_due}
+use Rattle.task_model.specs.Streams.{AreDue, IsDue, MoreAreDue, NothingIsDue}
 use Rattle.task_model.specs.declared.stream.Instance.{Instance}
 use Rattle.task_model.specs.declared.task.Task.{Task}
 use Rattle.transcript_ledger.specs.Ledgers.{IsLedger}
@@ -40,29 +41,27 @@ module _ (version : ℕ) (task : Task) (entries : List Entry) (l : Ledger) (h : 
       (due.each d.instance).0 (0, omega arith, refl)
 
   -- nothing is due where it is
-  pub none_due : (dues : List Due) → AreDueInTurn task l.facts.known l.queue dues → dues ≡ [] → AreDue task (known_of task entries) (notes_of task entries) []
-  none_due dues turn is = all_due [] (subst (AreDueInTurn task l.facts.known l.queue) is turn)
+  pub none_due : (dues : List Due) → AreDueInTurn task l.facts.known l.queue dues → dues ≡ [] → NothingIsDue task (known_of task entries) (notes_of task entries)
+  none_due dues turn is = nothing_due task (known_of task entries) (notes_of task entries) (instances_of dues) (all_due dues turn) (ap instances_of is)
 
   -- where something is due, it isn't so that nothing is
-  pub not_none_due : (dues : List Due) (d : Due) (more : List Due) → AreDueInTurn task l.facts.known l.queue dues → dues ≡ d ∷ more → AreDue task (known_of task entries) (notes_of task entries) [] → ⊥
-  not_none_due dues d more turn is none = no_member d.instance ((none.each d.instance).1 (some_due dues d more turn is))
-    where
-      no_member : (i : Instance) → Contains [] i → ⊥
-      no_member i m = omega (arith, m.1)
+  pub not_none_due : (dues : List Due) (d : Due) (more : List Due) → AreDueInTurn task l.facts.known l.queue dues → dues ≡ d ∷ more → NothingIsDue task (known_of task entries) (notes_of task entries) → ⊥
+  not_none_due dues d more turn is none = none d.instance (some_due dues d more turn is)
 
   -- where too much is due, it isn't so that nothing is
-  pub not_none_more : MoreAreDue 1000000 task (known_of task entries) (notes_of task entries) → AreDue task (known_of task entries) (notes_of task entries) [] → ⊥
-  not_none_more more none =
-      let le = pigeons more.0 [] more.2 (λ i m. (none.each i).1 (more.3 i m)) in
-      let many = more.1 in
-      omega (arith, le, many)
+  pub not_none_more : MoreAreDue 1000000 task (known_of task entries) (notes_of task entries) → NothingIsDue task (known_of task entries) (notes_of task entries) → ⊥
+  not_none_more more none = some_member more.0 more.1 (λ i m. none i (more.3 i m))
+    where
+      some_member : (is : List Instance) → 1000000 < length is → ((i : Instance) → Contains is i → ⊥) → ⊥
+      some_member [] many each = omega (arith, many)
+      some_member (i ∷ is) many each = each i (0, omega arith, refl)
 
   -- where the list of what is due has a member, it isn't so that nothing is due
-  pub not_none_some : (dues : List Due) → 0 < length dues → AreDueInTurn task l.facts.known l.queue dues → AreDue task (known_of task entries) (notes_of task entries) [] → ⊥
+  pub not_none_some : (dues : List Due) → 0 < length dues → AreDueInTurn task l.facts.known l.queue dues → NothingIsDue task (known_of task entries) (notes_of task entries) → ⊥
   not_none_some [] some turn none = omega (arith, some)
   not_none_some (d ∷ more) some turn none = not_none_due (d ∷ more) d more turn refl none
 
   -- where the list has none, nothing is due
-  pub none_due_at : (dues : List Due) → length dues ≡ 0 → AreDueInTurn task l.facts.known l.queue dues → AreDue task (known_of task entries) (notes_of task entries) []
+  pub none_due_at : (dues : List Due) → length dues ≡ 0 → AreDueInTurn task l.facts.known l.queue dues → NothingIsDue task (known_of task entries) (notes_of task entries)
   none_due_at [] empty turn = none_due [] turn refl
   none_due_at (d ∷ more) empty turn = absurd (omega (arith, empty))

@@ -11,8 +11,6 @@ use Rattle.level_course.specs.Agendas.{Agenda, Starts, nothing_to_do, place_in, 
 use Rattle.level_course.specs.Courses.{Course, IsCourseStep, Leads, Opens, at_first}
 use Rattle.level_course.specs.Pools.{AllWork}
 use Rattle.session_core.proofs.SessionLemmas.{count_joined, count_one}
-use Rattle.session_core.specs.Learning.{answered_number}
-use Rattle.session_core.specs.Session.{is_answer}
 use Rattle.task_model.specs.Known.{Known}
 use Rattle.task_model.specs.Streams.{AreDue, Note, yields_of}
 use Rattle.task_model.specs.declared.stream.Instance.{Instance}
@@ -25,7 +23,7 @@ use Rattle.transcript_model.proofs.LegalPrefixLemmas.{asked-kept}
 use Rattle.transcript_model.proofs.LegalNumberLemmas.{next_is_fresh}
 use Rattle.transcript_model.proofs.LegalStepLemmas.{answer_adds, mark_adds, request_adds}
 use Rattle.transcript_model.specs.Laws.{AddsAnswer, AddsMark, AddsRequest}
-use Rattle.transcript_model.specs.Legal.{IsRightAsk, MayFollow, asks_of, is_answer_to, is_ask_of, is_open}
+use Rattle.transcript_model.specs.Legal.{IsRightAsk, MayFollow, asks_of, is_answer_to, is_ask_of, is_open, is_answer, answered_number}
 use Rattle.transcript_model.specs.Names.{call_of_instance}
 use Rattle.transcript_model.specs.Rounds.{Limits, Share, requests_from}
 use Rattle.report_text.specs.Texts.{entry_lines}

@@ -8,15 +8,13 @@ use Rattle.instance_queue.specs.declared.due.Due.{Due}
 use Rattle.level_course.specs.Agendas.{Starts, with_answer, with_asked}
 use Rattle.level_course.specs.Pools.{shares_of}
 use Rattle.session_core.proofs.LearningLemmas.{take_next}
-use Rattle.session_core.specs.Learning.{answered_number}
-use Rattle.session_core.specs.Session.{is_answer}
 use Rattle.lemmas.proofs.Members.{member_at}
 use Rattle.task_model.specs.Streams.{MoreAreDue}
 use Rattle.task_model.specs.declared.stream.Instance.{Instance}
 use Rattle.transcript_ledger.specs.Ledgers.{IsLedger}
 use Rattle.transcript_ledger.specs.Talks.{IsAskedBy}
 use Rattle.report_text.specs.Forms.{IsFormedEntry}
-use Rattle.transcript_model.specs.Legal.{IsRightAsk, MayFollow, asks_of, is_ask}
+use Rattle.transcript_model.specs.Legal.{IsRightAsk, MayFollow, asks_of, is_ask, is_answer, answered_number}
 use Rattle.transcript_model.specs.Turns.{MayBegin}
 use Rattle.transcript_model.specs.declared.entry.Call.{Call}
 use Rattle.transcript_model.specs.declared.entry.Entry.{Entry}

@@ -1,7 +1,7 @@
 -- What is wrong with a report, line by line. There is one case for each kind.
 use Rattle.std.specs.Prelude.{◌≡◌, ◌⊎◌, ℕ, ◌+◌, ◌<◌, ◌≤◌, List, [], ◌∷◌, ◌++◌, length, take, true, false, Some, slice_get}
 use Rattle.task_model.specs.declared.task.Task.{Task}
-use Rattle.transcript_model.specs.Legal.{MayFollow, is_ask}
+use Rattle.transcript_model.specs.Legal.{MayFollow, is_ask, is_answer}
 use Rattle.transcript_model.specs.Outcomes.{AreOrigins, IsTrueOutcome}
 use Rattle.transcript_model.specs.Rounds.{Limits}
 use Rattle.transcript_model.specs.Turns.{AreTurnsOf, Stage, between}
@@ -15,7 +15,6 @@ use Rattle.transcript_model.specs.declared.outcome.Origin.{Origin}
 use Rattle.transcript_model.specs.declared.outcome.Outcome.{Outcome}
 use Rattle.transcript_model.specs.declared.outcome.Outcome.TheVariants as outcome
 use Rattle.transcript_model.specs.declared.report.Report.{Report}
-use Rattle.session_core.specs.Session.{is_answer}
 use Rattle.replay_check.specs.Heads.{are_fit_limits, are_served, is_fit_pool, limits_in}
 use Rattle.replay_check.specs.Lines.{line_behind_pools, line_of, outcome_line}
 use Rattle.replay_check.specs.Plans.{CanRun, IsPlan}

@@ -1,7 +1,7 @@
 -- What a replay may say of a text.
 use Rattle.std.specs.Prelude.{◌≡◌, ◌⊎◌, ℕ, ◌<◌, List, []}
 use Rattle.task_model.specs.Plans.{IsReached, MoreThan}
-use Rattle.task_model.specs.Streams.{AreDue}
+use Rattle.task_model.specs.Streams.{NothingIsDue}
 use Rattle.task_model.specs.declared.task.Task.{Task}
 use Rattle.report_text.specs.Faults.{IsFirstFault}
 use Rattle.report_text.specs.Forms.{IsFormed}
@@ -27,7 +27,7 @@ use Rattle.replay_check.specs.declared.verdict.Verdict.TheVariants.{Valid, Inval
 -- More than so many states are reached. So it isn't decided that there is no plan, where nothing is due; nor, where the report
 -- allows more states, that more than those are reached.
 abbrev pub IsUndecidedClaim : ℕ → ℕ → Task → List Entry → Outcome → Type 0
-IsUndecidedClaim limit states task entries outcome.NoPlan = AreDue task (known_of task entries) (notes_of task entries) [] × MoreThan limit (IsReached task (known_of task entries))
+IsUndecidedClaim limit states task entries outcome.NoPlan = NothingIsDue task (known_of task entries) (notes_of task entries) × MoreThan limit (IsReached task (known_of task entries))
 IsUndecidedClaim limit states task entries (outcome.Limit States) = (limit < states) × MoreThan limit (IsReached task (known_of task entries))
 IsUndecidedClaim limit states task entries o = ⊥
 

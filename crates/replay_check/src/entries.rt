@@ -2,7 +2,7 @@
 ghost use Rattle.std.specs.Prelude.{◌≡◌, ℕ, ◌<◌, ◌≤◌, ◌+◌, length, All, Some, slice_get, take, IfOk, IfSome, IfNone, [], IsTrue};
 ghost use Rattle.replay_check.specs.Walks.{CanTake, IsTaken, IsWalked};
 ghost use Rattle.replay_check.specs.Standings.{AreBounds, IsNextRequest, IsStanding};
-ghost use Rattle.session_core.specs.Learning.{answered_number as number_in};
+ghost use Rattle.transcript_model.specs.Legal.{answered_number as number_in};
 ghost use Rattle.report_text.specs.Forms.{IsFormedEntry};
 ghost use Rattle.transcript_model.specs.declared.entry.Entry.TheVariants as entry;
 

@@ -6,10 +6,8 @@ use Rattle.std.proofs.lemmas.Option.{slice_get-map}
 use Rattle.std.specs.Cmp.{first_so}
 use Rattle.std.specs.List.{list_any, list_all, flat_map}
 use Rattle.std.specs.Option.{option_map}
-use Rattle.gen_lines.specs.Laws.{IsRight}
-use Rattle.gen_lines.specs.Reply.{is_value}
+use Rattle.gen_lines.specs.Reply.{is_value, IsRight}
 use Rattle.session_core.proofs.SessionLemmas.{count_joined}
-use Rattle.session_core.specs.Session.{is_answer}
 use Rattle.task_model.proofs.KnownLemmas.{numbers_decided}
 use Rattle.lemmas.proofs.Members.{member_at}
 use Rattle.task_model.specs.Fit.{IsFit, is_name}
@@ -23,7 +21,7 @@ use Rattle.transcript_model.proofs.NamedObjectLemmas.{all_joined, passes_all}
 use Rattle.transcript_model.proofs.LegalNumberLemmas.{any_at, any_kept, number_below}
 use Rattle.transcript_model.proofs.NamesLemmas.{and_then_some, map_some, place_at, position_at}
 use Rattle.report_text.specs.Forms.{AreTuples, IsFormedCall, IsFormedEntry, IsObject}
-use Rattle.transcript_model.specs.Legal.{IsLegal, asks_of, has_several, is_answer_to, is_ask_of, is_open}
+use Rattle.transcript_model.specs.Legal.{IsLegal, asks_of, has_several, is_answer_to, is_ask_of, is_open, is_answer}
 use Rattle.transcript_model.specs.Names.{generated, instance_of, place_of, places_of, stream_named, with_name, with_names}
 use Rattle.transcript_model.specs.Transcript.{names_of, objects_in}
 use Rattle.transcript_model.specs.declared.entry.Call.{Call}

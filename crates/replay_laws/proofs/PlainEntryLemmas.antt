@@ -5,12 +5,11 @@ use Rattle.std.proofs.lemmas.List.Folds.{list_all-append}
 use Rattle.std.specs.List.{list_all, flat_map}
 use Rattle.std.specs.Option.{option_map_or}
 use Rattle.session_core.proofs.SessionLemmas.{count_joined, count_one}
-use Rattle.session_core.specs.Session.{is_answer}
 use Rattle.task_model.specs.Streams.{Note, Yielded, Ended, yields_of, is_yield_of}
 use Rattle.task_model.specs.declared.stream.Instance.{Instance}
 use Rattle.task_model.specs.declared.task.Task.{Task}
 use Rattle.transcript_model.proofs.LegalNumberLemmas.{asks_more}
-use Rattle.transcript_model.specs.Legal.{IsLegal, MayFollow, asks_of, is_answer_to}
+use Rattle.transcript_model.specs.Legal.{IsLegal, MayFollow, asks_of, is_answer_to, is_answer}
 use Rattle.transcript_model.specs.Names.{call_of_instance}
 use Rattle.transcript_model.specs.Rounds.{Limits, AreAnswers, AreRounds, AreRoundsRun, calls_left, requests, requests_from}
 use Rattle.transcript_model.specs.Transcript.{Asked, asked, names_of, note_of, notes_of}

@@ -23,16 +23,15 @@ use Rattle.transcript_model.proofs.NamedObjectLemmas.{constants_few, fit_stream_
 use Rattle.transcript_model.proofs.LegalNumberLemmas.{asks_more, number_below, waiting_of, next_is_fresh}
 use Rattle.transcript_model.proofs.LegalStepLemmas.{answer_adds, request_adds, mark_adds}
 use Rattle.transcript_model.proofs.NamesLemmas.{same_some}
-use Rattle.transcript_model.specs.Laws.{known_with, notes_with, is_mark}
-use Rattle.transcript_model.specs.Legal.{IsLegal, MayFollow, IsRightAsk, IsRightGot, asks_of, is_ask_of, is_answer_to, is_open}
+use Rattle.transcript_model.specs.Legal.{IsLegal, MayFollow, IsRightAsk, IsRightGot, asks_of, is_ask_of, is_answer_to, is_open, is_answer, answered_number, is_mark}
 use Rattle.transcript_model.specs.Names.{generated}
-use Rattle.transcript_model.specs.Transcript.{Asked, asked, objects_in, names_of, known_of, notes_of, note_of}
+use Rattle.transcript_model.specs.Transcript.{Asked, asked, objects_in, names_of, known_of, notes_of, note_of, known_with, notes_with}
 use Rattle.transcript_model.specs.declared.entry.Entry.{Entry}
 use Rattle.transcript_model.specs.declared.entry.Entry.TheVariants as entry
 use Rattle.session_core.proofs.SessionLemmas.{count_joined, count_one}
 use Rattle.session_core.proofs.LearningTupleLemmas.{length_with_names}
-use Rattle.session_core.specs.Learning.{CanLearn, MayLearn, IsRoomAfter, answered_number}
-use Rattle.session_core.specs.Session.{Asks, is_answer}
+use Rattle.session_core.specs.Learning.{CanLearn, MayLearn, IsRoomAfter}
+use Rattle.session_core.specs.Session.{Asks}
 
 -- ---- lists
 

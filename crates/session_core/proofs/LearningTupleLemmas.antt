@@ -12,9 +12,8 @@ use Rattle.task_model.specs.declared.task.Task.{Task}
 use Rattle.transcript_model.proofs.CallNameLemmas.{places_exact}
 use Rattle.transcript_model.proofs.LegalPrefixLemmas.{facts_then}
 use Rattle.transcript_model.proofs.NamesLemmas.{places_kept, with_names-front, with_names-then}
-use Rattle.transcript_model.specs.Laws.{known_with}
 use Rattle.transcript_model.specs.Names.{generated, places_of, with_name, with_names}
-use Rattle.transcript_model.specs.Transcript.{Asked, tuple_facts, yield_facts}
+use Rattle.transcript_model.specs.Transcript.{Asked, tuple_facts, yield_facts, known_with}
 use Rattle.transcript_model.specs.declared.entry.Entry.TheVariants as entry
 
 mapped : {A B C : Type 0} (f : B → C) (g : A → B) (xs : List A) → map f (map g xs) ≡ map (λ x. f (g x)) xs

@@ -39,7 +39,7 @@ use Rattle.transcript_model.specs.declared.entry.Entry.{Entry}
 use Rattle.transcript_model.specs.declared.entry.Entry.TheVariants as entry
 use Rattle.session_core.proofs.RoundCloseLemmas.{close_kept}
 use Rattle.session_core.proofs.ReadyRoundLemmas.{fits_same, workers_fit}
-use Rattle.session_core.specs.Learning.{answered_number}
+use Rattle.transcript_model.specs.Legal.{answered_number}
 use Rattle.session_core.specs.Ready.{AreReady, IsNextRound}
 use Rattle.session_core.specs.Session.{IsSession, IsLearnt, IsRoundOf, AreSlotsFor, Asks, MayBeginRound}
 use Rattle.session_core.specs.Slots.{Slot, streams_of, asks_from, entry_of, answers_of, all_answered}

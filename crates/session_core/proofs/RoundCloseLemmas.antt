@@ -26,13 +26,13 @@ use Rattle.transcript_model.proofs.LegalLemmas.{grows}
 use Rattle.transcript_model.proofs.LegalPrefixLemmas.{asked-kept, names_of-distinct}
 use Rattle.transcript_model.proofs.LegalNumberLemmas.{next_is_fresh, number_below}
 use Rattle.transcript_model.proofs.LegalStepLemmas.{request_adds, answer_adds}
-use Rattle.transcript_model.specs.Legal.{IsLegal, MayFollow, IsRightAsk, HasNoneOpen, is_open, is_ask_of, is_answer_to, asks_of, has_several}
+use Rattle.transcript_model.specs.Legal.{IsLegal, MayFollow, IsRightAsk, HasNoneOpen, is_open, is_ask_of, is_answer_to, asks_of, has_several, is_answer}
 use Rattle.transcript_model.specs.Names.{call_of_instance, instance_of}
 use Rattle.transcript_model.specs.Transcript.{Asked, asked, names_of, known_of, notes_of}
 use Rattle.transcript_model.specs.declared.entry.Entry.{Entry}
 use Rattle.transcript_model.specs.declared.entry.Entry.TheVariants as entry
 use Rattle.session_core.proofs.SessionLemmas.{count_joined, count_one}
-use Rattle.session_core.specs.Session.{IsSession, AreSlotsFor, Asks, is_answer}
+use Rattle.session_core.specs.Session.{IsSession, AreSlotsFor, Asks}
 use Rattle.session_core.specs.Slots.{Slot, wanted_of, wanted_at, ask_for, asks_from, entry_of, answers_of, all_answered}
 use Rattle.session_core.specs.State.{State, after_close}
 

@@ -8,12 +8,11 @@ use Rattle.task_model.specs.declared.stream.Instance.{Instance}
 use Rattle.task_model.specs.declared.task.Task.{Task}
 use Rattle.transcript_model.proofs.LegalLemmas.{grows}
 use Rattle.transcript_model.proofs.LegalStepLemmas.{mark_adds}
-use Rattle.transcript_model.specs.Laws.{is_mark}
-use Rattle.transcript_model.specs.Legal.{MayFollow}
+use Rattle.transcript_model.specs.Legal.{MayFollow, is_answer, is_mark}
 use Rattle.transcript_model.specs.Transcript.{asked, known_of, notes_of}
 use Rattle.transcript_model.specs.declared.entry.Entry.{Entry}
 use Rattle.transcript_model.specs.declared.entry.Entry.TheVariants as entry
-use Rattle.session_core.specs.Session.{IsSession, IsRoundOf, IsSlotFor, AreSlotsFor, Asks, is_answer}
+use Rattle.session_core.specs.Session.{IsSession, IsRoundOf, IsSlotFor, AreSlotsFor, Asks}
 use Rattle.session_core.specs.Slots.{Slot, sent_slot, heard_slot, at_child, is_slot_of}
 use Rattle.session_core.specs.State.{State, with_slots, after_mark}
 

@@ -6,18 +6,11 @@ use Rattle.task_model.specs.Streams.{Note}
 use Rattle.task_model.specs.declared.stream.Instance.{Instance}
 use Rattle.task_model.specs.declared.stream.Stream.{Stream}
 use Rattle.task_model.specs.declared.task.Task.{Task}
-use Rattle.transcript_model.specs.Legal.{IsLegal, asks_of}
+use Rattle.transcript_model.specs.Legal.{IsLegal, asks_of, is_answer}
 use Rattle.transcript_model.specs.Transcript.{Asked}
 use Rattle.transcript_model.specs.declared.entry.Entry.{Entry}
 use Rattle.transcript_model.specs.declared.entry.Entry.TheVariants as entry
-use Rattle.session_core.specs.Session.{Asks, is_answer}
-
--- the number of the request that an entry answers, if it is an answer
-abbrev pub answered_number : Entry → Option ℕ
-answered_number (entry.Got n tuples values) = Some n
-answered_number (entry.Value n value) = Some n
-answered_number (entry.End n) = Some n
-answered_number e = None
+use Rattle.session_core.specs.Session.{Asks}
 
 -- there is room for so many tuples of so many values, each as wide as the stream says
 pub record IsRoomFor (known : Known) (notes : List Note) (stream : Stream) (tuples : ℕ) (values : List (List ℕ)) : Type 0 where

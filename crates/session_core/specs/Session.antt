@@ -32,12 +32,6 @@ pub record IsFitHead (task : Task) (head : Head) : Type 0 where
 
 -- ---- sessions
 
-abbrev pub is_answer : Entry → Bool
-is_answer (entry.Got number tuples values) = true
-is_answer (entry.Value number value) = true
-is_answer (entry.End number) = true
-is_answer e = false
-
 -- The slot has this number, it wants what its instance's stream may answer, and its answer is what some line says.
 pub record IsSlotFor (task : Task) (version number : ℕ) (due : Due) (slot : Slot) : Type 0 where
   pub numbered : slot.number ≡ number

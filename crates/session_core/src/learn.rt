@@ -1,10 +1,10 @@
 //! What answers certify, put behind what is known, and what they tell, put behind the notes.
 ghost use Rattle.std.specs.Prelude.{◌≡◌, ◌≤◌, ◌+◌, ◌<◌, ◌++◌, [], length, take, replicate, OnOk};
 ghost use Rattle.task_model.specs.Streams.{Yielded};
-ghost use Rattle.transcript_model.specs.Laws.{known_with, notes_with};
-ghost use Rattle.transcript_model.specs.Transcript.{known_of, notes_of};
+ghost use Rattle.transcript_model.specs.Transcript.{known_of, notes_of, known_with, notes_with};
 ghost use Rattle.transcript_model.specs.declared.entry.Entry.TheVariants as entry;
-ghost use Rattle.session_core.specs.Learning.{MayLearn, CanLearn, answered_number};
+ghost use Rattle.session_core.specs.Learning.{MayLearn, CanLearn};
+ghost use Rattle.transcript_model.specs.Legal.{answered_number};
 
 use certify::{learn_tuple, learn_value};
 use fact_store::Facts;

@@ -2,3 +2,4 @@ pub mod StateLemmas
 pub mod StepsLemmas
 pub mod KnownLemmas
 pub mod TruthSlotLemmas
+pub mod StreamsLemmas

@@ -7,7 +7,7 @@ use Rattle.std.specs.Ordering.{nat_cmp}
 use Rattle.task_model.specs.Known.{Known, with_facts, with_values}
 use Rattle.lemmas.specs.Lists.{AreAscending, numbers_from}
 use Rattle.task_model.specs.Plans.{IsValid, IsSolvable, IsReached, MoreThan}
-use Rattle.task_model.specs.Streams.{Note, IsDue, instance_cmp, same_instance, certified_by, worth_by, is_reachable}
+use Rattle.task_model.specs.Streams.{Note, IsDue, at_stream, instance_cmp, same_instance, certified_by, worth_by, is_reachable}
 use Rattle.task_model.specs.declared.fact.Fact.{Fact}
 use Rattle.task_model.specs.declared.stream.Instance.{Instance}
 use Rattle.task_model.specs.declared.stream.Stream.{Stream}
@@ -22,21 +22,13 @@ pub record Entry : Type 0 where
   pub instance : Instance
   pub outputs : List ℕ
 
--- what holds of the entry's stream, if the task has it
-abbrev pub of_stream : {A : Type 0} → Task → A → (Stream → A) → Entry → A
-of_stream {A} task default f entry = of (slice_get task.streams entry.instance.stream)
-  where
-    of : Option Stream → A
-    of (Some stream) = f stream
-    of None = default
-
 -- an entry certifies what a yield of its outputs would
 abbrev pub entry_facts : Task → Entry → List Fact
-entry_facts task entry = of_stream task [] (λ stream. certified_by task.domain stream entry.instance.inputs entry.outputs) entry
+entry_facts task entry = at_stream task entry.instance.stream [] (λ stream. certified_by task.domain stream entry.instance.inputs entry.outputs)
 
 -- an entry of a cost stream gives its term the value 0
 abbrev pub entry_values : Task → Entry → List Valued
-entry_values task entry = of_stream task [] (λ stream. worth_by stream entry.instance.inputs 0) entry
+entry_values task entry = at_stream task entry.instance.stream [] (λ stream. worth_by stream entry.instance.inputs 0)
 
 -- ---- placeholders
 
@@ -57,7 +49,8 @@ entry_names j (entry ∷ entries) = placeholders j 1 (length entry.outputs) ++ e
 -- The outputs are objects of their own: those after the table of names and the earlier entries' outputs.
 abbrev pub HasFreshOutputs : Task → Known → List Entry → Entry → Type 0
 HasFreshOutputs task known before entry =
-    entry.outputs ≡ of_stream task [] (λ stream. numbers_from (length known.names + sum_by (λ (e : Entry). length e.outputs) before) (length stream.outputs)) entry
+    let first = length known.names + sum_by (λ (e : Entry). length e.outputs) before in
+    entry.outputs ≡ at_stream task entry.instance.stream [] (λ stream. numbers_from first (length stream.outputs))
 
 -- What is known where some entries of the list are supposed besides. The whole list's placeholders have names.
 abbrev pub supposing : Task → Known → List Entry → List Entry → Known
@@ -89,7 +82,7 @@ AreSupposed task known notes tried (suc passes) entries =
 module _ (task : Task) (known : Known) (list : List Entry) where
   -- its inputs' types and its domain facts are known, or certified by the entries before it
   abbrev pub is_supported : List Entry → Entry → Bool
-  is_supported before entry = of_stream task false (λ stream. is_reachable stream (supposing task known list before) entry.instance) entry
+  is_supported before entry = at_stream task entry.instance.stream false (λ stream. is_reachable stream (supposing task known list before) entry.instance)
 
   -- each entry has support among those before it
   abbrev pub HaveSupport : List Entry → Type 0

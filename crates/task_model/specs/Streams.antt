@@ -1,6 +1,6 @@
 -- Stream instances: what they certify, and when they may be asked (PDDLStream 2020; the order of asks,
 -- and what finishes an instance, are this project's).
-use Rattle.std.specs.Prelude.{◌≡◌, ℕ, ◌<◌, List, [], ◌∷◌, ◌++◌, map, length, Bool, true, false, ◌&&◌, ◌||◌, ◌==◌, Option, None, Some, is_none, slice_get, unwrap_or, Contains, count_by, ◌↔◌}
+use Rattle.std.specs.Prelude.{◌≡◌, ℕ, ◌<◌, List, [], ◌∷◌, ◌++◌, map, length, Bool, true, false, not, ◌&&◌, ◌||◌, ◌==◌, Option, None, Some, is_none, slice_get, unwrap_or, Contains, count_by, ◌↔◌}
 use Rattle.std.specs.List.{list_any, list_all}
 use Rattle.std.specs.Ordering.{ordering_then, nat_cmp}
 use Rattle.std.specs.Cmp.Lexicographic.{slice_cmp}
@@ -82,7 +82,23 @@ is_finished stream notes instance = list_any (is_end_of instance) notes || (is_t
 abbrev pub is_reachable : Stream → Known → Instance → Bool
 is_reachable stream known instance = have_types known instance.inputs stream.inputs && list_all (λ p. is_fact known.facts (fact_of (slots_of instance.inputs) p)) stream.domain
 
--- it is of a stream of the task, is reachable and hasn't finished
+-- what is said of the task's stream at this place, and something else where it has none there
+abbrev pub at_stream : {A : Type 0} → Task → ℕ → A → (Stream → A) → A
+at_stream {A} task place other said = of (slice_get task.streams place)
+  where
+    of : Option Stream → A
+    of (Some stream) = said stream
+    of None = other
+
+-- the instance is reachable and hasn't finished, where it is one of this stream
+abbrev pub is_due_at : Known → List Note → Stream → Instance → Bool
+is_due_at known notes stream instance = is_reachable stream known instance && not (is_finished stream notes instance)
+
+-- the instance is of a stream of the task, is reachable and hasn't finished
+abbrev pub is_due : Task → Known → List Note → Instance → Bool
+is_due task known notes instance = at_stream task instance.stream false (λ stream. is_due_at known notes stream instance)
+
+-- `is_due` with the stream that it speaks of: the instance is of a stream of the task, is reachable and hasn't finished
 pub record IsDue (task : Task) (known : Known) (notes : List Note) (instance : Instance) : Type 0 where
   pub stream : Stream
   pub named : slice_get task.streams instance.stream ≡ Some stream
@@ -100,6 +116,10 @@ instance_cmp names a b = ordering_then (nat_cmp a.stream b.stream) (slice_cmp (s
 pub record AreDue (task : Task) (known : Known) (notes : List Note) (instances : List Instance) : Type 0 where
   pub each : (i : Instance) → Contains instances i ↔ IsDue task known notes i
   pub ascend : AreAscending (instance_cmp known.names) instances
+
+-- no instance is due
+abbrev pub NothingIsDue : Task → Known → List Note → Type 0
+NothingIsDue task known notes = (i : Instance) → ¬ (IsDue task known notes i)
 
 -- more than so many instances are due
 abbrev pub MoreAreDue : ℕ → Task → Known → List Note → Type 0

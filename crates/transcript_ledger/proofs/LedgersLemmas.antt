@@ -5,8 +5,8 @@ use Rattle.std.proofs.lemmas.List.Sums.{length-filter}
 use Rattle.std.specs.List.{list_any}
 use Rattle.session_core.proofs.LearningLemmas.{answer_at}
 use Rattle.session_core.proofs.SessionLemmas.{count_joined, count_one}
-use Rattle.session_core.specs.Learning.{CanLearn, answered_number}
-use Rattle.session_core.specs.Session.{Asks, is_answer}
+use Rattle.session_core.specs.Learning.{CanLearn}
+use Rattle.session_core.specs.Session.{Asks}
 use Rattle.task_model.specs.declared.stream.Instance.{Instance}
 use Rattle.task_model.specs.declared.stream.Stream.{Stream}
 use Rattle.task_model.specs.declared.task.Task.{Task}
@@ -15,7 +15,7 @@ use Rattle.transcript_model.proofs.LegalPrefixLemmas.{asked-kept}
 use Rattle.transcript_model.proofs.LegalNumberLemmas.{next_is_fresh}
 use Rattle.transcript_model.proofs.LegalStepLemmas.{answer_adds, request_adds}
 use Rattle.transcript_model.proofs.NamesLemmas.{same_some}
-use Rattle.transcript_model.specs.Legal.{IsRightAsk, MayFollow, asks_of, is_answer_to, is_ask, is_ask_of, is_open}
+use Rattle.transcript_model.specs.Legal.{IsRightAsk, MayFollow, asks_of, is_answer_to, is_ask, is_ask_of, is_open, is_answer, answered_number}
 use Rattle.transcript_model.specs.Names.{instance_of}
 use Rattle.transcript_model.specs.Transcript.{Asked, asked, known_of, names_of, notes_of}
 use Rattle.transcript_model.specs.declared.entry.Call.{Call}

@@ -3,14 +3,12 @@ use Rattle.std.proofs.Common.{◌≡◌, ℕ, ◌+◌, ◌-◌, ◌*◌, ◌==�
 use Rattle.std.proofs.lemmas.List.Elements.{All-head, All-tail}
 use Rattle.std.specs.Cmp.{first_so, second_so}
 use Rattle.std.specs.List.{list_all}
-use Rattle.gen_lines.specs.Laws.{IsRight}
-use Rattle.gen_lines.specs.Reply.{is_value}
+use Rattle.gen_lines.specs.Reply.{is_value, IsRight}
 use Rattle.session_core.proofs.LearningLemmas.{there_at}
-use Rattle.session_core.specs.Learning.{answered_number}
 use Rattle.task_model.specs.declared.task.Task.{Task}
 use Rattle.transcript_model.proofs.NamesLemmas.{same_some}
 use Rattle.report_text.specs.Forms.{AreTuples, IsFormedEntry}
-use Rattle.transcript_model.specs.Legal.{MayFollow, has_several, is_open}
+use Rattle.transcript_model.specs.Legal.{MayFollow, has_several, is_open, answered_number}
 use Rattle.transcript_model.specs.Transcript.{Asked, asked}
 use Rattle.transcript_model.specs.declared.entry.Entry.{Entry}
 use Rattle.transcript_model.specs.declared.entry.Entry.TheVariants as entry

@@ -4,11 +4,11 @@ use Rattle.std.proofs.Math.ListN.{take-append-drop}
 use Rattle.std.specs.Cmp.{first_so, second_so}
 use Rattle.std.specs.List.{list_any}
 use Rattle.instance_queue.proofs.NotesLemmas.{instances_same}
-use Rattle.instance_queue.specs.Level.{is_finished_in, is_reachable_in}
 use Rattle.session_core.proofs.LearningLemmas.{take_next, there_at}
 use Rattle.session_core.proofs.SessionLemmas.{count_joined}
+use Rattle.task_model.proofs.StreamsLemmas.{due_holds, due_passes}
 use Rattle.task_model.specs.Known.{Known, same_numbers}
-use Rattle.task_model.specs.Streams.{IsDue, Note, is_finished, is_reachable, same_instance, yields_of}
+use Rattle.task_model.specs.Streams.{IsDue, is_due, same_instance, yields_of}
 use Rattle.task_model.specs.declared.stream.Instance.{Instance}
 use Rattle.task_model.specs.declared.stream.Stream.{Stream}
 use Rattle.task_model.specs.declared.task.Task.{Task}
@@ -38,18 +38,6 @@ not_false false e = refl
 pub all_of : (a b : Bool) → a ≡ true → b ≡ true → (a && b) ≡ true
 all_of true b p q = q
 all_of false b p q = p
-
--- ---- what is due
-
-due_by : (task : Task) (known : Known) (notes : List Note) (i : Instance) (o : Option Stream) → slice_get task.streams i.stream ≡ o → is_reachable_in task known i ≡ true → is_finished_in task notes i ≡ false → IsDue task known notes i
-due_by task known notes i None is reach finished = let r : false ≡ true = rw is at reach in absurd (no r)
-due_by task known notes i (Some s) is reach finished = let r : is_reachable s known i ≡ true = rw is at reach in let f : is_finished s notes i ≡ false = rw is at finished in record { stream = s; named = is; reachable = r; unfinished = f }
-
-reach_of : (task : Task) (known : Known) (notes : List Note) (i : Instance) → IsDue task known notes i → is_reachable_in task known i ≡ true
-reach_of task known notes i d = let named : slice_get task.streams i.stream ≡ Some d.stream = d.named in rw named d.reachable
-
-unfinished_of : (task : Task) (known : Known) (notes : List Note) (i : Instance) → IsDue task known notes i → is_finished_in task notes i ≡ false
-unfinished_of task known notes i d = let named : slice_get task.streams i.stream ≡ Some d.stream = d.named in rw named d.unfinished
 
 -- ---- open requests
 
@@ -111,11 +99,8 @@ module _ (version : ℕ) (task : Task) (before : List Entry) (l : Ledger) (h : I
   abbrev turn_test : Bool
   turn_test = turn == yields_of l.queue i
 
-  abbrev reach_test : Bool
-  reach_test = is_reachable_in task l.facts.known i
-
-  abbrev ended_test : Bool
-  ended_test = not (is_finished_in task l.queue i)
+  abbrev due_test : Bool
+  due_test = is_due task l.facts.known l.queue i
 
   abbrev idle_test : Bool
   idle_test = not (is_waiting l.asked.items l.unanswered.items i)
@@ -155,17 +140,16 @@ module _ (version : ℕ) (task : Task) (before : List Entry) (l : Ledger) (h : I
 
   pub passes : may_ask task l number turn i ≡ true → IsRightAsk task before number turn call
   passes e =
-      let after_next = second_so next_test (turn_test && (reach_test && (ended_test && idle_test))) e in
-      let after_turn = second_so turn_test (reach_test && (ended_test && idle_test)) after_next in
-      let after_reach = second_so reach_test (ended_test && idle_test) after_turn in
-      let due : IsDue task l.facts.known l.queue i = due_by task l.facts.known l.queue i (slice_get task.streams i.stream) refl (first_so reach_test (ended_test && idle_test) after_turn) (not_true (is_finished_in task l.queue i) (first_so ended_test idle_test after_reach)) in
+      let after_next = second_so next_test (turn_test && (due_test && idle_test)) e in
+      let after_turn = second_so turn_test (due_test && idle_test) after_next in
+      let due : IsDue task l.facts.known l.queue i = due_holds task l.facts.known l.queue i (first_so due_test idle_test after_turn) in
       record {
-        next = eqb-true number (length l.asked.items + 1) (first_so next_test (turn_test && (reach_test && (ended_test && idle_test))) e) ∙ ap (λ m. m + 1) h.counted;
+        next = eqb-true number (length l.asked.items + 1) (first_so next_test (turn_test && (due_test && idle_test)) e) ∙ ap (λ m. m + 1) h.counted;
         instance = i;
         named = named;
         due = subst (λ k. IsDue task k (notes_of task before) i) h.known (subst (λ ns. IsDue task l.facts.known ns i) h.notes due);
-        closed = idle (not_true (is_waiting l.asked.items l.unanswered.items i) (second_so ended_test idle_test after_reach));
-        turned = eqb-true turn (yields_of l.queue i) (first_so turn_test (reach_test && (ended_test && idle_test)) after_next) ∙ ap (λ ns. yields_of ns i) h.notes;
+        closed = idle (not_true (is_waiting l.asked.items l.unanswered.items i) (second_so due_test idle_test after_turn));
+        turned = eqb-true turn (yields_of l.queue i) (first_so turn_test (due_test && idle_test) after_next) ∙ ap (λ ns. yields_of ns i) h.notes;
       }
 
   pub must_pass : IsRightAsk task before number turn call → may_ask task l number turn i ≡ true
@@ -173,7 +157,6 @@ module _ (version : ℕ) (task : Task) (before : List Entry) (l : Ledger) (h : I
       let same : right.instance ≡ i = same_some (instance_of task (names_of task before) call) right.instance i right.named named in
       let due : IsDue task l.facts.known l.queue i = subst (λ k. IsDue task k l.queue i) (sym h.known) (subst (λ ns. IsDue task (known_of task before) ns i) (sym h.notes) (subst (λ j. IsDue task (known_of task before) (notes_of task before) j) same right.due)) in
       let closed : HasNoRequestOpen task before i = subst (HasNoRequestOpen task before) same right.closed in
-      all_of next_test (turn_test && (reach_test && (ended_test && idle_test))) (eq-eqb number (length l.asked.items + 1) (right.next ∙ ap (λ m. m + 1) (sym h.counted)))
-      (all_of turn_test (reach_test && (ended_test && idle_test)) (eq-eqb turn (yields_of l.queue i) (right.turned ∙ ap (yields_of (notes_of task before)) same ∙ ap (λ ns. yields_of ns i) (sym h.notes)))
-      (all_of reach_test (ended_test && idle_test) (reach_of task l.facts.known l.queue i due)
-      (all_of ended_test idle_test (not_false (is_finished_in task l.queue i) (unfinished_of task l.facts.known l.queue i due)) (not_false (is_waiting l.asked.items l.unanswered.items i) (waits_not closed)))))
+      all_of next_test (turn_test && (due_test && idle_test)) (eq-eqb number (length l.asked.items + 1) (right.next ∙ ap (λ m. m + 1) (sym h.counted)))
+      (all_of turn_test (due_test && idle_test) (eq-eqb turn (yields_of l.queue i) (right.turned ∙ ap (yields_of (notes_of task before)) same ∙ ap (λ ns. yields_of ns i) (sym h.notes)))
+      (all_of due_test idle_test (due_passes task l.facts.known l.queue i due) (not_false (is_waiting l.asked.items l.unanswered.items i) (waits_not closed))))

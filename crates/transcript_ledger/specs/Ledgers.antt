@@ -5,10 +5,10 @@ use Rattle.task_model.specs.Fit.{IsFit}
 use Rattle.task_model.specs.Streams.{same_instance}
 use Rattle.task_model.specs.declared.stream.Instance.{Instance}
 use Rattle.task_model.specs.declared.task.Task.{Task}
-use Rattle.transcript_model.specs.Legal.{IsLegal, asks_of, is_open}
+use Rattle.transcript_model.specs.Legal.{IsLegal, asks_of, is_open, is_answer}
 use Rattle.transcript_model.specs.Transcript.{known_of, notes_of}
 use Rattle.transcript_model.specs.declared.entry.Entry.{Entry}
-use Rattle.session_core.specs.Session.{Asks, is_answer}
+use Rattle.session_core.specs.Session.{Asks}
 use Rattle.transcript_ledger.specs.declared.ledger.Ledger.{Ledger}
 
 -- the number is one of these

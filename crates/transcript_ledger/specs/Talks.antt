@@ -1,10 +1,9 @@
 -- The tests of a request and of an answer, over what is kept of the entries so far.
 use Rattle.std.specs.Prelude.{◌≡◌, ℕ, ◌+◌, ◌*◌, ◌-◌, ◌≤◌, List, length, map, Bool, true, false, not, ◌&&◌, ◌==◌, Option, Some, None, slice_get, is_none}
-use Rattle.instance_queue.specs.Level.{is_finished_in, is_reachable_in}
 use Rattle.gen_lines.specs.Request.{stream_name}
 use Rattle.std.specs.Cmp.Lexicographic.{pointwise}
 use Rattle.task_model.specs.Known.{same_numbers}
-use Rattle.task_model.specs.Streams.{Note, name_at, yields_of}
+use Rattle.task_model.specs.Streams.{Note, is_due, name_at, yields_of}
 use Rattle.task_model.specs.declared.stream.Instance.{Instance}
 use Rattle.task_model.specs.declared.stream.Stream.{Stream}
 use Rattle.task_model.specs.declared.task.Task.{Task}
@@ -20,7 +19,7 @@ use Rattle.transcript_ledger.specs.declared.ledger.Ledger.{Ledger}
 -- the request has the next number, the instance is due, none of its requests is open, and the turn is how many tuples it gave
 abbrev pub may_ask : Task → Ledger → ℕ → ℕ → Instance → Bool
 may_ask task l number turn i =
-    (number == length l.asked.items + 1) && ((turn == yields_of l.queue i) && (is_reachable_in task l.facts.known i && (not (is_finished_in task l.queue i) && not (is_waiting l.asked.items l.unanswered.items i))))
+    (number == length l.asked.items + 1) && ((turn == yields_of l.queue i) && (is_due task l.facts.known l.queue i && not (is_waiting l.asked.items l.unanswered.items i)))
 
 -- the stream may give this answer, whose tuples are of equal width
 abbrev pub may_give : Stream → Entry → Bool

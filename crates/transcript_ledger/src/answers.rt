@@ -3,9 +3,8 @@ ghost use Rattle.std.specs.Prelude.{◌≡◌, ◌≤◌, ◌↔◌, ℕ, List, 
 ghost use Rattle.task_model.specs.Fit.{IsFit};
 ghost use Rattle.transcript_ledger.specs.Ledgers.{IsLedger};
 ghost use Rattle.transcript_ledger.specs.Talks.{may_answer as passes, may_give as gives};
-ghost use Rattle.session_core.specs.Learning.{answered_number};
 ghost use Rattle.report_text.specs.Forms.{IsFormedEntry};
-ghost use Rattle.transcript_model.specs.Legal.{MayFollow};
+ghost use Rattle.transcript_model.specs.Legal.{MayFollow, answered_number};
 ghost use Rattle.transcript_model.specs.declared.entry.Entry.{Entry as AnyEntry};
 
 use crate::ledger::Ledger;

@@ -20,8 +20,7 @@ fn may_ask(task: &Task, ledger: &Ledger, number: u32, turn: u32, instance: &Inst
 {
     number as usize == ledger.asked.len() + 1
         && turn == ledger.queue.yields(instance)
-        && ledger.queue.reachable(task, &ledger.facts, instance)
-        && !ledger.queue.finished(task, instance)
+        && ledger.queue.is_due(task, &ledger.facts, instance)
         && !ledger.is_waiting(instance)
 }
 

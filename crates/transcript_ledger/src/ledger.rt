@@ -40,9 +40,8 @@ fn left_out(alloc: Global, numbers: &[u32], number: u32) -> Result<Vec<u32>, All
 impl Ledger {
     ghost use Rattle.std.specs.Prelude.{ℕ, ◌+◌, ◌≤◌, ◌<◌, ◌∷◌, [], ◌++◌, length, take, true, Some, slice_get, OnOk, List};
     ghost use Rattle.transcript_ledger.specs.Ledgers.{IsLedger, is_among, is_waiting as waits, asked_it};
-    ghost use Rattle.session_core.specs.Learning.{answered_number};
     ghost use Rattle.task_model.specs.Fit.{IsFit};
-    ghost use Rattle.transcript_model.specs.Legal.{IsRightAsk, MayFollow};
+    ghost use Rattle.transcript_model.specs.Legal.{IsRightAsk, MayFollow, answered_number};
     ghost use Rattle.transcript_model.specs.Names.{instance_of};
     ghost use Rattle.transcript_model.specs.Transcript.{names_of};
     ghost use Rattle.transcript_model.specs.declared.entry.Call.{Call as AnyCall};

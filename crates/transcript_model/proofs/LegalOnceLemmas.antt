@@ -14,10 +14,9 @@ use Rattle.task_model.specs.Streams.{Note, Yielded, Ended, same_instance, is_yie
 use Rattle.task_model.specs.declared.stream.Instance.{Instance}
 use Rattle.task_model.specs.declared.stream.Stream.{Stream}
 use Rattle.task_model.specs.declared.task.Task.{Task}
-use Rattle.transcript_model.specs.Laws.{notes_with}
 use Rattle.transcript_model.specs.Legal.{IsLegal, MayFollow, IsRightAsk, is_ask_of, is_answer_to, is_open}
 use Rattle.transcript_model.specs.Names.{instance_of}
-use Rattle.transcript_model.specs.Transcript.{Asked, asked, names_of, notes_of, note_of}
+use Rattle.transcript_model.specs.Transcript.{Asked, asked, names_of, notes_of, note_of, notes_with}
 use Rattle.transcript_model.specs.declared.entry.Call.{Call}
 use Rattle.transcript_model.specs.declared.entry.Entry.{Entry}
 use Rattle.transcript_model.specs.declared.entry.Entry.TheVariants as entry

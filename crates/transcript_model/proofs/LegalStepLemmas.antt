@@ -11,8 +11,8 @@ use Rattle.task_model.specs.Streams.{Yielded, Ended, worth_by}
 use Rattle.task_model.specs.declared.stream.Instance.{Instance}
 use Rattle.task_model.specs.declared.stream.Stream.{Stream}
 use Rattle.task_model.specs.declared.task.Task.{Task}
-use Rattle.transcript_model.specs.Laws.{ChangesNothing, AddsRequest, AddsAnswer, AddsMark, is_mark}
-use Rattle.transcript_model.specs.Legal.{IsLegal, IsRightAsk, is_ask, asks_of, is_ask_of, is_answer_to, is_open}
+use Rattle.transcript_model.specs.Laws.{ChangesNothing, AddsRequest, AddsAnswer, AddsMark}
+use Rattle.transcript_model.specs.Legal.{IsLegal, IsRightAsk, is_ask, asks_of, is_ask_of, is_answer_to, is_open, is_mark}
 use Rattle.transcript_model.specs.Names.{with_names, generated, instance_of}
 use Rattle.transcript_model.specs.Transcript.{Asked, asked, call_in, call_of, objects_in, names_of, known_of, notes_of, certified, told_value, note_of, yield_facts}
 use Rattle.transcript_model.specs.declared.entry.Call.{Call}

@@ -6,7 +6,7 @@ use Rattle.task_model.specs.Dreams as dreams
 use Rattle.task_model.specs.Dreams.{AreSupposed, IsDream, HasNoDream, supposing, instances_of}
 use Rattle.task_model.specs.Known.{Known}
 use Rattle.lemmas.specs.Lists.{AreDistinct}
-use Rattle.task_model.specs.Streams.{Note, IsDue, is_reachable, is_finished, same_instance}
+use Rattle.task_model.specs.Streams.{Note, IsDue, is_due, same_instance}
 use Rattle.task_model.specs.declared.stream.Instance.{Instance}
 use Rattle.task_model.specs.declared.stream.Stream.{Stream}
 use Rattle.task_model.specs.declared.task.GroundAction.{GroundAction}
@@ -92,12 +92,9 @@ module _ (task : Task) (entries : List Entry) (real : ℕ) where
   abbrev pub become : List Sent → dreams.Entry → Option Instance
   become sent e = option_map (λ inputs. record { stream = e.instance.stream; inputs = inputs }) (all_replaced sent e.instance.inputs)
 
-  abbrev pub is_due : Instance → Bool
-  is_due i = option_map_or (λ (s : Stream). is_reachable s (known_of task entries) i && not (is_finished s (notes_of task entries) i)) (slice_get task.streams i.stream) false
-
   -- the instance that an entry has become, if that is due and none of these
   abbrev pub ready : List Sent → List Instance → dreams.Entry → Option Instance
-  ready sent taken e = option_and_then (λ i. if is_due i && not (list_any (same_instance i) taken) then Some i else None) (become sent e)
+  ready sent taken e = option_and_then (λ i. if is_due task (known_of task entries) (notes_of task entries) i && not (list_any (same_instance i) taken) then Some i else None) (become sent e)
 
   -- The entries that are asked next, with numbers from this one on: in order those that have become instances that are due and
   -- weren't asked in this dream. Of several that have become one instance it is the first.

@@ -11,7 +11,7 @@ use Rattle.transcript_model.specs.Dreaming.{Sent, next_sent}
 use Rattle.transcript_model.specs.Legal.{asks_of, is_open}
 use Rattle.transcript_model.specs.Names.{call_of_instance}
 use Rattle.transcript_model.specs.Outcomes.{has_value, tuple_with}
-use Rattle.transcript_model.specs.Plain.{reply_in, answers_from}
+use Rattle.transcript_model.specs.Tables.{reply_in, answers_to}
 use Rattle.transcript_model.specs.Rounds.{fits}
 use Rattle.transcript_model.specs.Transcript.{asked, names_of, known_of, notes_of}
 use Rattle.transcript_model.specs.declared.entry.Call.{Call}
@@ -79,4 +79,4 @@ pub record WorkedExamples : Type 0 where
   -- a table answers by its first row, and without one that nothing more comes
   pub row : reply_in (record { call = ask_price; turn = 0; reply = ends } ∷ record { call = look_at_cup; turn = 0; reply = yields 1 (codes "v" ∷ []) } ∷ []) look_at_cup 0 ≡ yields 1 (codes "v" ∷ [])
   pub no_row : reply_in [] look_at_cup 0 ≡ ends
-  pub answers : answers_from [] (entry.Ask 1 0 look_at_cup ∷ []) ≡ entry.End 1 ∷ []
+  pub answers : answers_to (reply_in []) (entry.Ask 1 0 look_at_cup ∷ []) ≡ entry.End 1 ∷ []

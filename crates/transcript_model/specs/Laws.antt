@@ -4,7 +4,7 @@ use Rattle.std.specs.List.{flat_map}
 use Rattle.task_model.specs.Fit.{IsFit}
 use Rattle.task_model.specs.Known.{Known, IsCoherent, IsIn, with_facts, with_values}
 use Rattle.lemmas.specs.Lists.{AreDistinct}
-use Rattle.task_model.specs.Streams.{Note, Yielded, Ended, certified_by, worth_by}
+use Rattle.task_model.specs.Streams.{certified_by, worth_by}
 use Rattle.task_model.specs.declared.fact.Fact.{Fact}
 use Rattle.task_model.specs.declared.stream.Instance.{Instance}
 use Rattle.task_model.specs.declared.stream.Stream.{Stream}
@@ -55,21 +55,6 @@ LegalGrows = (version : ℕ) (task : Task) (entries : List Entry) → GrowsLegal
 
 -- ---- one entry more
 
--- what is known after an answer to this request
-abbrev pub known_with : Task → Known → Asked → Entry → Known
-known_with task known a (entry.Got n tuples values) =
-    let names = with_names known.names (map generated values) in
-    record { names = names; facts = with_facts known.facts (yield_facts task names a tuples values); values = known.values }
-known_with task known a (entry.Value n value) = record { names = known.names; facts = known.facts; values = with_values known.values (worth_by a.stream a.instance.inputs value) }
-known_with task known a e = known
-
--- what is noted after an answer to this request
-abbrev pub notes_with : List Note → Asked → Entry → List Note
-notes_with notes a (entry.Got n tuples values) = notes ++ replicate tuples (Yielded a.instance)
-notes_with notes a (entry.Value n value) = notes ++ Ended a.instance ∷ []
-notes_with notes a (entry.End n) = notes ++ Ended a.instance ∷ []
-notes_with notes a e = notes
-
 -- nothing that was known, noted or asked changes
 pub record ChangesNothing (task : Task) (before after : List Entry) : Type 0 where
   pub known : known_of task after ≡ known_of task before
@@ -98,14 +83,6 @@ pub record AddsAnswer (task : Task) (before : List Entry) (e : Entry) (number : 
 abbrev pub AnswersAddAnswers : Type 0
 AnswersAddAnswers =
     (version : ℕ) (task : Task) (before : List Entry) (e : Entry) (number : ℕ) (a : Asked) → IsFit task → IsLegal version task before → is_answer_to number e ≡ true → asked task before number ≡ Some a → AddsAnswer task before e number a
-
--- neither a request nor an answer
-abbrev pub is_mark : Entry → Bool
-is_mark (entry.Ask number turn call) = false
-is_mark (entry.Got number tuples values) = false
-is_mark (entry.Value number value) = false
-is_mark (entry.End number) = false
-is_mark e = true
 
 -- Any other entry changes nothing.
 pub record AddsMark (task : Task) (before after : List Entry) : Type 0 where

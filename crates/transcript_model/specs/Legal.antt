@@ -1,8 +1,8 @@
 -- Which transcripts are legal, and which are closed.
-use Rattle.std.specs.Prelude.{◌≡◌, ℕ, ◌+◌, ◌≤◌, ◌==◌, List, [], take, length, count_by, Bool, true, false, not, ◌&&◌, Some, slice_get, is_none}
+use Rattle.std.specs.Prelude.{◌≡◌, ℕ, ◌+◌, ◌≤◌, ◌==◌, List, [], take, length, count_by, Bool, true, false, not, ◌&&◌, Option, None, Some, slice_get, is_none}
 use Rattle.std.specs.List.{list_any}
-use Rattle.gen_lines.specs.Laws.{IsRight}
-use Rattle.task_model.specs.Streams.{IsDue, AreDue, yields_of}
+use Rattle.gen_lines.specs.Reply.{IsRight}
+use Rattle.task_model.specs.Streams.{IsDue, NothingIsDue, yields_of}
 use Rattle.task_model.specs.declared.stream.Instance.{Instance}
 use Rattle.task_model.specs.declared.task.Task.{Task}
 use Rattle.transcript_model.specs.Names.{instance_of}
@@ -16,6 +16,32 @@ use Rattle.transcript_model.specs.declared.entry.Entry.TheVariants as entry
 abbrev pub is_ask : Entry → Bool
 is_ask (entry.Ask number turn call) = true
 is_ask e = false
+
+-- the number of the request that an entry answers, if it is an answer
+abbrev pub answered_number : Entry → Option ℕ
+answered_number (entry.Got number tuples values) = Some number
+answered_number (entry.Value number value) = Some number
+answered_number (entry.End number) = Some number
+answered_number e = None
+
+abbrev pub is_answer : Entry → Bool
+is_answer (entry.Got number tuples values) = true
+is_answer (entry.Value number value) = true
+is_answer (entry.End number) = true
+is_answer e = false
+
+-- a level begins here
+abbrev pub is_level : Entry → Bool
+is_level entry.Level = true
+is_level e = false
+
+-- neither a request nor an answer
+abbrev pub is_mark : Entry → Bool
+is_mark (entry.Ask number turn call) = false
+is_mark (entry.Got number tuples values) = false
+is_mark (entry.Value number value) = false
+is_mark (entry.End number) = false
+is_mark e = true
 
 -- how many requests there are
 abbrev pub asks_of : List Entry → ℕ
@@ -94,4 +120,4 @@ IsLegal version task entries = (k : ℕ) (e : Entry) → slice_get entries k ≡
 pub record IsClosed (version : ℕ) (task : Task) (entries : List Entry) : Type 0 where
   pub legal : IsLegal version task entries
   pub none_open : HasNoneOpen entries
-  pub finished : AreDue task (known_of task entries) (notes_of task entries) []
+  pub finished : NothingIsDue task (known_of task entries) (notes_of task entries)

@@ -6,6 +6,7 @@ pub mod Legal
 pub mod Names
 pub mod Outcomes
 pub mod Plain
+pub mod Tables
 pub mod Rounds
 pub mod Transcript
 pub mod Turns

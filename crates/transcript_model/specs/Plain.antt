@@ -1,70 +1,82 @@
 -- A plain run: what incremental mode comes to, without pools, rounds, bytes or a limit of states.
-use Rattle.std.specs.Prelude.{ℕ, ◌+◌, ◌-◌, ◌<◌, ◌≤◌, ◌==◌, List, [], ◌∷◌, ◌++◌, length, take, Bool, ◌&&◌, if◌then◌else◌}
-use Rattle.gen_lines.specs.Reply.{Reply, yields, number, ends, bad}
-use Rattle.task_model.specs.Known.{same_numbers}
-use Rattle.std.specs.Cmp.Lexicographic.{pointwise}
+use Rattle.std.specs.Prelude.{◌≡◌, ℕ, ◌+◌, ◌-◌, ◌<◌, ◌≤◌, List, [], ◌∷◌, ◌++◌, filter, length, take, Option, None, Some, count_by}
 use Rattle.task_model.specs.Plans.{IsSolvable}
-use Rattle.task_model.specs.Streams.{AreDue, MoreAreDue}
+use Rattle.task_model.specs.Streams.{AreDue, MoreAreDue, NothingIsDue}
 use Rattle.task_model.specs.declared.stream.Instance.{Instance}
 use Rattle.task_model.specs.declared.task.Task.{Task}
-use Rattle.transcript_model.specs.Legal.{asks_of}
+use Rattle.transcript_model.specs.Legal.{asks_of, is_answer, is_ask, is_level}
 use Rattle.transcript_model.specs.Rounds.{requests}
+use Rattle.transcript_model.specs.Tables.{Answers, answers_to}
 use Rattle.transcript_model.specs.Transcript.{known_of, notes_of}
-use Rattle.transcript_model.specs.declared.entry.Call.{Call}
 use Rattle.transcript_model.specs.declared.entry.Entry.{Entry}
 use Rattle.transcript_model.specs.declared.entry.Entry.TheVariants as entry
-
--- ---- tables of answers
-
--- the answer to a call, where so many tuples were given before
-pub record Row : Type 0 where
-  pub call : Call
-  pub turn : ℕ
-  pub reply : Reply
-
-abbrev pub same_call : Call → Call → Bool
-same_call a b = same_numbers a.name b.name && pointwise same_numbers a.args b.args
-
--- the first row's answer; without a row it is that nothing more comes
-abbrev pub reply_in : List Row → Call → ℕ → Reply
-reply_in [] call turn = ends
-reply_in (row ∷ rows) call turn = if same_call row.call call && (row.turn == turn) then row.reply else reply_in rows call turn
-
-abbrev pub entry_of_reply : ℕ → Reply → List Entry
-entry_of_reply n (yields tuples values) = entry.Got n tuples values ∷ []
-entry_of_reply n (number value) = entry.Value n value ∷ []
-entry_of_reply n ends = entry.End n ∷ []
-entry_of_reply n (bad why) = []
-
--- the table's answers to the requests among these entries, in order
-abbrev pub answers_from : List Row → List Entry → List Entry
-answers_from table [] = []
-answers_from table (e ∷ entries) = answer e ++ answers_from table entries
-  where
-    answer : Entry → List Entry
-    answer (entry.Ask n turn call) = entry_of_reply n (reply_in table call turn)
-    answer e = []
+use Rattle.transcript_model.specs.declared.outcome.LimitKind.{LimitKind}
+use Rattle.transcript_model.specs.declared.outcome.LimitKind.TheVariants as limit
+use Rattle.transcript_model.specs.declared.outcome.Outcome.{Outcome}
+use Rattle.transcript_model.specs.declared.outcome.Outcome.TheVariants as outcome
 
 -- ---- runs
 
 -- what a plain run ends with
-pub data Kind : Type 0 where
-  plan : Kind
-  no_plan : Kind
-  limit_calls : Kind
-  limit_instances : Kind
+pub data PlainEnd : Type 0 where
+  plan : PlainEnd
+  no_plan : PlainEnd
+  limit_calls : PlainEnd
+  limit_instances : PlainEnd
 
--- a level: its requests, as many as calls are left, and then the table's answers
-abbrev pub level_of : Task → List Row → ℕ → List Entry → List Instance → List Entry
-level_of task table calls before list =
+-- a level: its requests, as many as calls are left, and then the answers to them
+abbrev pub level_of : Task → Answers → ℕ → List Entry → List Instance → List Entry
+level_of task answers calls before list =
     let asks = requests task before (take (calls - asks_of before) list) in
-    entry.Level ∷ asks ++ answers_from table asks
+    entry.Level ∷ asks ++ answers_to answers asks
+
+-- No plan exists, and these instances are due: some, and not too many.
+pub record GoesOn (task : Task) (before : List Entry) (list : List Instance) : Type 0 where
+  pub unsolvable : ¬ (IsSolvable task (known_of task before))
+  pub due : AreDue task (known_of task before) (notes_of task before) list
+  pub some : 0 < length list
+  pub few : length list ≤ 1000000
 
 -- The entries of a plain run behind these, and what it ends with. The entries of a level are its requests and then its answers.
-pub data IsPlainRun (task : Task) (table : List Row) (calls : ℕ) : List Entry → List Entry → Kind → Type 0 where
-  solved : {before : List Entry} → IsSolvable task (known_of task before) → IsPlainRun task table calls before [] plan
-  too_many : {before : List Entry} → ¬ (IsSolvable task (known_of task before)) → MoreAreDue 1000000 task (known_of task before) (notes_of task before) → IsPlainRun task table calls before [] limit_instances
-  closed : {before : List Entry} → ¬ (IsSolvable task (known_of task before)) → AreDue task (known_of task before) (notes_of task before) [] → IsPlainRun task table calls before [] no_plan
-  spent : {before : List Entry} (list : List Instance) → ¬ (IsSolvable task (known_of task before)) → AreDue task (known_of task before) (notes_of task before) list → 0 < length list → length list ≤ 1000000 → calls ≤ asks_of before → IsPlainRun task table calls before [] limit_calls
-  cut : {before : List Entry} (list : List Instance) → ¬ (IsSolvable task (known_of task before)) → AreDue task (known_of task before) (notes_of task before) list → length list ≤ 1000000 → asks_of before < calls → calls < asks_of before + length list → IsPlainRun task table calls before (level_of task table calls before list) limit_calls
-  level : {before rest : List Entry} {kind : Kind} (list : List Instance) → ¬ (IsSolvable task (known_of task before)) → AreDue task (known_of task before) (notes_of task before) list → 0 < length list → length list ≤ 1000000 → asks_of before + length list ≤ calls → IsPlainRun task table calls (before ++ level_of task table calls before list) rest kind → IsPlainRun task table calls before (level_of task table calls before list ++ rest) kind
+pub data IsPlainRun (task : Task) (answers : Answers) (calls : ℕ) : List Entry → List Entry → PlainEnd → Type 0 where
+  solved : {before : List Entry} → IsSolvable task (known_of task before) → IsPlainRun task answers calls before [] plan
+  too_many : {before : List Entry} → ¬ (IsSolvable task (known_of task before))
+      → MoreAreDue 1000000 task (known_of task before) (notes_of task before) → IsPlainRun task answers calls before [] limit_instances
+  closed : {before : List Entry} → ¬ (IsSolvable task (known_of task before))
+      → NothingIsDue task (known_of task before) (notes_of task before) → IsPlainRun task answers calls before [] no_plan
+  spent : {before : List Entry} (list : List Instance) → GoesOn task before list
+      → calls ≤ asks_of before → IsPlainRun task answers calls before [] limit_calls
+  cut : {before : List Entry} (list : List Instance) → GoesOn task before list
+      → asks_of before < calls → calls < asks_of before + length list
+      → IsPlainRun task answers calls before (level_of task answers calls before list) limit_calls
+  level : {before rest : List Entry} {end : PlainEnd} (list : List Instance) → GoesOn task before list
+      → asks_of before + length list ≤ calls → IsPlainRun task answers calls (before ++ level_of task answers calls before list) rest end
+      → IsPlainRun task answers calls before (level_of task answers calls before list ++ rest) end
+
+-- ---- runs that are as plain ones
+
+-- the same requests and the same answers, each in one order, and as many levels
+pub record SaysSame (entries others : List Entry) : Type 0 where
+  pub asks : filter is_ask entries ≡ filter is_ask others
+  pub answers : filter is_answer entries ≡ filter is_answer others
+  pub levels : count_by is_level entries ≡ count_by is_level others
+
+-- what a plain run ends with where an incremental one ends so; nothing of the limit of states, which plain runs don't have
+abbrev pub end_of : Outcome → Option PlainEnd
+end_of (outcome.Plan steps cost from) = Some plan
+end_of outcome.NoPlan = Some no_plan
+end_of (outcome.Limit kind) = of kind
+  where
+    of : LimitKind → Option PlainEnd
+    of limit.Calls = Some limit_calls
+    of limit.Instances = Some limit_instances
+    of limit.States = None
+
+-- There is a plain run that says the same, knows the same in the end, and ends in the same way.
+pub record IsAsPlain (task : Task) (answers : Answers) (calls : ℕ) (entries : List Entry) (o : Outcome) : Type 0 where
+  pub plain : List Entry
+  pub end : PlainEnd
+  pub run : IsPlainRun task answers calls [] plain end
+  pub same : SaysSame entries plain
+  pub known : known_of task entries ≡ known_of task plain
+  pub ends : end_of o ≡ Some end

@@ -1,5 +1,5 @@
 -- What a transcript says: its requests, what their answers certify, and what each instance was told.
-use Rattle.std.specs.Prelude.{ℕ, zero, suc, ◌==◌, List, [], ◌∷◌, map, length, take, drop, replicate, Option, None, Some, slice_get, unwrap_or, if◌then◌else◌}
+use Rattle.std.specs.Prelude.{ℕ, zero, suc, ◌==◌, List, [], ◌∷◌, ◌++◌, map, length, take, drop, replicate, Option, None, Some, slice_get, unwrap_or, if◌then◌else◌}
 use Rattle.std.specs.List.{flat_map}
 use Rattle.std.specs.Option.{option_map, option_and_then, option_or, option_map_or}
 use Rattle.task_model.specs.Initial.{declared_names, initial_known}
@@ -91,4 +91,25 @@ notes_of task entries = flat_map (note_of task entries) entries
 -- what is known after the transcript: what is known at first, and what the answers certify
 abbrev pub known_of : Task → List Entry → Known
 known_of task entries =
-    record { names = names_of task entries; facts = with_facts (initial_known task).facts (flat_map (certified task entries) entries); values = with_values (initial_known task).values (flat_map (told_value task entries) entries) }
+    record {
+      names = names_of task entries;
+      facts = with_facts (initial_known task).facts (flat_map (certified task entries) entries);
+      values = with_values (initial_known task).values (flat_map (told_value task entries) entries);
+    }
+
+-- ---- one answer more
+
+-- what is known after an answer to this request
+abbrev pub known_with : Task → Known → Asked → Entry → Known
+known_with task known a (entry.Got n tuples values) =
+    let names = with_names known.names (map generated values) in
+    record { names = names; facts = with_facts known.facts (yield_facts task names a tuples values); values = known.values }
+known_with task known a (entry.Value n value) = record { names = known.names; facts = known.facts; values = with_values known.values (worth_by a.stream a.instance.inputs value) }
+known_with task known a e = known
+
+-- what is noted after an answer to this request
+abbrev pub notes_with : List Note → Asked → Entry → List Note
+notes_with notes a (entry.Got n tuples values) = notes ++ replicate tuples (Yielded a.instance)
+notes_with notes a (entry.Value n value) = notes ++ Ended a.instance ∷ []
+notes_with notes a (entry.End n) = notes ++ Ended a.instance ∷ []
+notes_with notes a e = notes

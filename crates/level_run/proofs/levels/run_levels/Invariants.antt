@@ -4,7 +4,7 @@ use Rattle.session_core.specs.Session.{IsLearnt, IsOf, IsSession}
 use Rattle.level_run.proofs.TurnsLemmas.{Standing}
 use Rattle.level_run.proofs.levels.run_levels.Given as goal
 use Rattle.level_run.specs.Held.{is_running}
-use Rattle.level_run.specs.Reports.{is_level}
+use Rattle.transcript_model.specs.Legal.{is_level}
 use Rattle.level_run.specs.Rolling.{Goes}
 use Rattle.level_run.specs.Breaking.{HasLevel}
 use Rattle.level_run.specs.Calls.{Runs}

@@ -3,8 +3,7 @@ use Rattle.std.proofs.lemmas.Option.{slice_get_within, slice_get-get_or, get_or_
 use Rattle.fact_store.specs.Store.{Store}
 use Rattle.task_model.specs.Known.{Known}
 use Rattle.task_model.specs.Streams.{Note}
-use Rattle.transcript_model.specs.Laws.{known_with, notes_with}
-use Rattle.transcript_model.specs.Transcript.{Asked, known_of, notes_of}
+use Rattle.transcript_model.specs.Transcript.{Asked, known_of, notes_of, known_with, notes_with}
 use Rattle.transcript_model.specs.declared.entry.Entry.{Entry}
 use Rattle.session_core.proofs.LearningLemmas.{IsAnswerAt, answer_at, other_at, request_read}
 use Rattle.session_core.specs.Learning.{MayLearn}

@@ -6,9 +6,8 @@ use Rattle.certify.specs.Outputs.{AreNamed}
 use Rattle.task_model.specs.Known.{IsIn, with_facts}
 use Rattle.task_model.specs.Streams.{certified_by}
 use Rattle.transcript_model.proofs.NamedObjectLemmas.{fit_stream_at}
-use Rattle.transcript_model.specs.Laws.{known_with}
 use Rattle.transcript_model.specs.Names.{generated, with_names}
-use Rattle.transcript_model.specs.Transcript.{Asked}
+use Rattle.transcript_model.specs.Transcript.{Asked, known_with}
 use Rattle.transcript_model.specs.declared.entry.Entry.TheVariants as entry
 use Rattle.session_core.proofs.LearningTupleLemmas.{one_less, tuple_learnt, length_with_names}
 use Rattle.session_core.proofs.learn.learn_tuples.Goals as goal

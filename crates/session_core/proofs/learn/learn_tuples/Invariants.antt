@@ -1,6 +1,6 @@
 use Rattle.std.proofs.Common.{◌≡◌, ◌≤◌, ◌+◌, ◌-◌, ◌*◌, ◌<◌, length, All}
 use Rattle.task_model.specs.Known.{IsIn}
-use Rattle.transcript_model.specs.Laws.{known_with}
+use Rattle.transcript_model.specs.Transcript.{known_with}
 use Rattle.transcript_model.specs.declared.entry.Entry.TheVariants as entry
 use Rattle.session_core.proofs.learn.learn_tuples.Given as goal
 

@@ -1,6 +1,5 @@
 use Rattle.std.proofs.Common.{◌≡◌, ◌∙◌, ◌↔◌, IsTrue, Some, IfSome, slice_get, take, sym, subst, true, false}
-use Rattle.session_core.specs.Learning.{answered_number}
-use Rattle.transcript_model.specs.Legal.{MayFollow}
+use Rattle.transcript_model.specs.Legal.{MayFollow, answered_number}
 use Rattle.replay_check.proofs.WalksLemmas.{answer_out_of_order, answer_refused, answer_taken, entry_formed, entry_there}
 use Rattle.replay_check.proofs.entries.Standing.take_answer.Goals as goal
 use Rattle.replay_check.proofs.entries.Standing.take_answer.Goals.{After-may_answer}
