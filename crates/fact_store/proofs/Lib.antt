@@ -1,4 +1,4 @@
-mod Passing
+mod ObjectsLemmas
 pub mod InitialLemmas
 pub mod EqualityLemmas
 pub mod StoreLemmas

@@ -1,4 +1,4 @@
-mod Judging
+mod ReplaysLemmas
 pub mod AskedLemmas
 pub mod RunsLemmas
 pub mod CompleteLemmas

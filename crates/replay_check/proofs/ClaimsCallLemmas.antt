@@ -64,13 +64,7 @@ module _ (b : Bounds) (limit : ℕ) (task : Task) (entries : List Entry) (l : Le
 
     -- something is due, or nothing
     pub past_some : (dues : List Due) → AreDueInTurn task l.facts.known l.queue dues → IsSaid (claim_of (not (length dues == 0)))
-    past_some [] turn = (λ p. not_due p.instance p.due, λ none. none)
-      where
-        not_due : (i : Instance) → IsDue task (known_of task entries) (notes_of task entries) i → ⊥
-        not_due i due =
-            let none = none_due_at b.version task entries l h [] refl turn in
-            let m = (none.each i).1 due in
-            omega (arith, m.1)
+    past_some [] turn = (λ p. none_due_at b.version task entries l h [] refl turn p.instance p.due, λ none. none)
     past_some (d ∷ more) turn =
         let not_empty : (length (d ∷ more) == 0) ≡ false = ne_eqb (length (d ∷ more)) 0 (λ e. omega (arith, e)) in
         subst (λ is. IsSaid (claim_of (not is))) (sym not_empty) (past d.instance (some_due b.version task entries l h (d ∷ more) d more turn refl))

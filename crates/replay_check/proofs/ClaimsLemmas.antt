@@ -1,5 +1,5 @@
 -- Claims of outcomes, from what is kept of the entries.
-use Rattle.std.proofs.Common.{◌≡◌, ℕ, ◌<◌, List, [], ◌∷◌, length, refl, subst, arith, Contains}
+use Rattle.std.proofs.Common.{◌≡◌, ℕ, ◌<◌, List, [], ◌∷◌, length, refl, ap, subst, arith, Contains}
 use Rattle.std.proofs.lemmas.List.{length-map}
 use Rattle.lemmas.proofs.Pigeonhole.{pigeons}
 use Rattle.instance_queue.specs.Level.{AreDueInTurn, instances_of}

@@ -7,4 +7,3 @@ pub mod NamedObjectLemmas
 pub mod LegalNumberLemmas
 pub mod NamesLemmas
 pub mod LegalOnceLemmas
-mod Writing

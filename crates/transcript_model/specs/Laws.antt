@@ -10,9 +10,9 @@ use Rattle.task_model.specs.declared.stream.Instance.{Instance}
 use Rattle.task_model.specs.declared.stream.Stream.{Stream}
 use Rattle.task_model.specs.declared.task.Task.{Task}
 use Rattle.task_model.specs.declared.task.Valued.{Valued}
-use Rattle.transcript_model.specs.Legal.{IsLegal, MayFollow, asks_of, is_open, is_answer_to}
+use Rattle.transcript_model.specs.Legal.{IsLegal, MayFollow, asks_of, is_open, is_answer_to, is_mark}
 use Rattle.transcript_model.specs.Names.{with_names, generated, places_of, instance_of, call_of_instance}
-use Rattle.transcript_model.specs.Transcript.{Asked, asked, objects_in, names_of, known_of, notes_of, certified, told_value, note_of, yield_facts}
+use Rattle.transcript_model.specs.Transcript.{Asked, asked, known_with, notes_with, objects_in, names_of, known_of, notes_of, certified, told_value, note_of, yield_facts}
 use Rattle.transcript_model.specs.declared.entry.Call.{Call}
 use Rattle.transcript_model.specs.declared.entry.Entry.{Entry}
 use Rattle.transcript_model.specs.declared.entry.Entry.TheVariants as entry
