@@ -4,9 +4,8 @@ use Rattle.std.proofs.Math.Seq.{drop-cons}
 use Rattle.std.proofs.lemmas.List.{map-append, append-nil, length-append}
 use Rattle.std.specs.List.{list_any, flat_map}
 use Rattle.fact_store.proofs.StoreLemmas.{in_more}
-use Rattle.fact_store.specs.Store.{with_name}
 use Rattle.task_model.specs.Initial.{type_facts}
-use Rattle.task_model.specs.Known.{IsIn, same_numbers, with_fact, with_facts}
+use Rattle.task_model.specs.Known.{IsIn, same_numbers, with_fact, with_facts, with_name}
 use Rattle.task_model.specs.Streams.{output_types}
 use Rattle.task_model.specs.declared.domain.Domain.{Domain}
 use Rattle.task_model.specs.declared.fact.Fact.{Fact}

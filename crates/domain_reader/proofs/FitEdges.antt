@@ -2,11 +2,11 @@
 use Rattle.std.proofs.Common.{◌≡◌, ℕ, zero, suc, ◌<◌, Bool, true, ◌==◌, List, [], ◌∷◌, ◌++◌, length, refl, sym, ap, ◌∙◌, subst, arith, ◌⊎◌, inl, inr, slice_get}
 use Rattle.std.specs.List.{list_any}
 use Rattle.std.proofs.lemmas.Bool.{or_cases, eqb-true}
-use Rattle.lemmas.specs.Lists.{LeadsAlong}
+use Rattle.lemmas.specs.Lists.{LeadsAlong, has_number}
 use Rattle.form_reader.specs.declared.fault.Fault.{Fault}
 use Rattle.form_reader.specs.declared.fault.InputKind.{InputKind}
 use Rattle.name_tables.specs.Declarations.{number_put}
-use Rattle.name_tables.specs.Graphs.{HasWay, has_number, leads}
+use Rattle.name_tables.specs.Graphs.{HasWay, leads}
 use Rattle.name_tables.proofs.GraphsOrderLemmas.{in_with, with_in}
 use Rattle.name_tables.proofs.FitDeclared.{put_behind}
 use Rattle.name_tables.proofs.NoFaultLemmas.{some_fault}

@@ -6,7 +6,7 @@ use Rattle.std.proofs.lemmas.Bool.{or_cases, or_left, eqb-true, false_from_ne_tr
 use Rattle.std.proofs.lemmas.Option.{slice_get_within}
 use Rattle.sexpr_text.specs.Trees.{Trees, nothing, word, list, size}
 use Rattle.task_model.specs.Fit.{AreFitSorts, AreNames, are_places, is_name}
-use Rattle.lemmas.specs.Lists.{LeadsAlong}
+use Rattle.lemmas.specs.Lists.{LeadsAlong, has_number}
 use Rattle.task_model.specs.declared.domain.Sort as sort
 use Rattle.form_reader.specs.declared.fault.InputKind.TheVariants.{TypeCycle, Unknown}
 use Rattle.form_reader.specs.declared.groups.Spot.{Spot}
@@ -21,7 +21,7 @@ use Rattle.form_reader.specs.declared.words.WordSort.TheVariants.{Name}
 use Rattle.lemmas.proofs.Members.{push_cases}
 use Rattle.name_tables.specs.Declarations.{number_put}
 use Rattle.name_tables.specs.declared.vocabulary.Vocabulary.{Vocabulary}
-use Rattle.name_tables.specs.Graphs.{HasWay, ascending, has_number, leads}
+use Rattle.name_tables.specs.Graphs.{HasWay, ascending, leads}
 use Rattle.name_tables.specs.Names.{has_name, with_name}
 use Rattle.name_tables.specs.Variables.{is_named, named_sorts, named_words, seen_after, sort_of, types_names, unless}
 use Rattle.name_tables.proofs.GraphsOrderLemmas.{Ascends, ascending_in, ascends_all, ascends_places, in_ascending, number_any}

@@ -10,7 +10,7 @@ use Rattle.std.specs.List.{list_all, flat_map}
 use Rattle.lemmas.proofs.Members.{place_of}
 use Rattle.task_model.specs.Fit.{has_arity, is_predicate, is_fit_fact, is_fit_value, is_derived_role}
 use Rattle.task_model.specs.Initial.{type_facts, declared_types, declared_names, is_static, initial_known}
-use Rattle.task_model.specs.Known.{Known, IsIn, type_fact, with_fact, with_facts, with_values}
+use Rattle.task_model.specs.Known.{Known, IsIn, type_fact, with_fact, with_facts, with_values, with_name}
 use Rattle.lemmas.specs.Lists.{AreDistinct, numbers_from}
 use Rattle.task_model.specs.Roles.{role_of}
 use Rattle.task_model.specs.declared.domain.Declared.{Declared}
@@ -22,7 +22,6 @@ use Rattle.task_model.specs.declared.task.Task.{Task}
 use Rattle.task_model.specs.declared.task.Valued.{Valued}
 use Rattle.fact_store.proofs.StoreLemmas.{with_name-new}
 use Rattle.fact_store.proofs.NamePlaceLemmas.{mapped_push}
-use Rattle.fact_store.specs.Store.{with_name}
 
 -- ---- facts
 

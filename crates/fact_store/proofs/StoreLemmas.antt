@@ -7,10 +7,10 @@ use Rattle.std.specs.Bool.{Decides}
 use Rattle.std.specs.Cmp.{IsEquivalence, decided, first_so, second_so}
 use Rattle.task_model.proofs.KnownLemmas.{numbers_decided, with_fact-is}
 use Rattle.lemmas.proofs.Members.{distinct_push}
-use Rattle.task_model.specs.Known.{Known, IsCoherent, IsIn, same_numbers, same_value, is_fact, with_fact, with_value}
+use Rattle.task_model.specs.Known.{Known, IsCoherent, IsIn, same_numbers, same_value, is_fact, with_fact, with_value, with_name}
 use Rattle.task_model.specs.declared.fact.Fact.{Fact}
 use Rattle.task_model.specs.declared.task.Valued.{Valued}
-use Rattle.fact_store.specs.Store.{Store, with_name, same_store}
+use Rattle.fact_store.specs.Store.{Store, same_store}
 
 pub on_err : {T E : Type 0} (r : Result T E) (P : Type 0) → P → OnErr r P
 on_err (Ok x) P p = tt

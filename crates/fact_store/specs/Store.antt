@@ -14,10 +14,6 @@ pub record Store : Type 0 where
   pub known : Known
   pub coherent : IsCoherent known
 
--- the names with this one behind them, unless it is there
-abbrev pub with_name : List (List ℕ) → List ℕ → List (List ℕ)
-with_name names name = if list_any (same_numbers name) names then names else names ++ name ∷ []
-
 -- ---- two stores that know the same are equal
 
 pub coherent_prop : (known : Known) → IsProp (IsCoherent known)

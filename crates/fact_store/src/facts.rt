@@ -37,8 +37,7 @@ impl Model for Facts {
 impl Facts {
     ghost use Rattle.std.specs.Prelude.{◌≡◌, ◌<◌, ◌≤◌, ◌++◌, ◌∷◌, [], not, length, slice_get, All, Contains, Some, IfSome, IfNone, IfOk, OnOk, OnErr};
     ghost use Rattle.std.specs.List.{list_any};
-    ghost use Rattle.task_model.specs.Known.{IsIn, is_fact, with_fact, objects_of, same_value, with_value};
-    ghost use Rattle.fact_store.specs.Store.{with_name};
+    ghost use Rattle.task_model.specs.Known.{IsIn, is_fact, with_fact, objects_of, same_value, with_value, with_name};
     ghost use Rattle.task_model.specs.Fit.{IsFit};
     ghost use Rattle.task_model.specs.Initial.{initial_known};
 

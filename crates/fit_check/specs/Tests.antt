@@ -143,10 +143,6 @@ item_leads domain from to = mentions_head (slice_get domain.derived from) (slice
 
 -- ---- slots
 
-abbrev pub is_slot : ℕ → Term → Bool
-is_slot slot (Slot n) = n == slot
-is_slot slot (Object o) = false
-
 -- an output of the second type may be an input of the first, as far as types say
 abbrev pub is_type_of : Domain → ℕ → ℕ → Bool
 is_type_of domain input output = list_any (λ s. s == input) (sorts_with domain output)

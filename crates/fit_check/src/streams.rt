@@ -5,6 +5,7 @@ ghost use Rattle.task_model.specs.Fit as fit;
 ghost use Rattle.lemmas.specs.Lists.{numbers_from};
 ghost use Rattle.task_model.specs.Roles as roles;
 ghost use Rattle.fit_check.specs.Tests as tests;
+ghost use Rattle.task_model.specs.Truth.{is_slot as names_slot};
 
 use crate::conditions::is_fit_application;
 use crate::domain::are_fit_patterns;
@@ -96,7 +97,7 @@ pub(crate) fn are_fit_streams(task: &Task) -> bool
 
 /// Whether the term is the slot.
 fn is_slot(slot: usize, term: Term) -> bool
-    ensures { result ≡ tests.is_slot slot term }
+    ensures { result ≡ names_slot slot term }
 {
     match term {
         Term::Slot(number) => number as usize == slot,
@@ -106,14 +107,14 @@ fn is_slot(slot: usize, term: Term) -> bool
 
 /// Whether the slot is one of the terms.
 fn has_slot(slot: usize, terms: &[Term]) -> bool
-    ensures { result ≡ list_any (tests.is_slot slot) terms.now }
+    ensures { result ≡ list_any (names_slot slot) terms.now }
 {
     terms.iter().any(|term| is_slot(slot, *term))
 }
 
 /// Whether the slot stands in one of the atoms.
 fn is_used(slot: usize, patterns: &[Pattern]) -> bool
-    ensures { result ≡ list_any (λ p. list_any (tests.is_slot slot) p.args) patterns.now }
+    ensures { result ≡ list_any (λ p. list_any (names_slot slot) p.args) patterns.now }
 {
     patterns
         .iter()

@@ -15,10 +15,14 @@ stream_name task stream = of (slice_get task.streams stream)
     of (Some found) = found.name
     of None = []
 
--- `next`, how many tuples the instance has given, its stream, and its inputs by the names of this table
+-- `next`, how many tuples were given before, the name of the stream, and those of the inputs
+abbrev pub request_line : ℕ → List ℕ → List (List ℕ) → List (List ℕ)
+request_line turn name args = codes "next" ∷ decimal turn ∷ name ∷ args
+
+-- the words of the request for an instance that has given so many tuples, by the names of this table
 abbrev pub request_words : Task → List (List ℕ) → ℕ → Instance → List (List ℕ)
 request_words task names number instance =
-    codes "next" ∷ decimal number ∷ stream_name task instance.stream ∷ map (name_at names) instance.inputs
+    request_line number (stream_name task instance.stream) (map (name_at names) instance.inputs)
 
 -- The request for an instance: these words with a space between each two, and a line feed.
 abbrev pub request_of : Task → List (List ℕ) → ℕ → Instance → List ℕ

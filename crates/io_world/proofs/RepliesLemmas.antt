@@ -6,7 +6,8 @@ use Rattle.std.proofs.lemmas.List.{append-nil, map-append}
 use Rattle.std.proofs.lemmas.List.Elements.{All-append}
 use Rattle.std.proofs.lemmas.List.Folds.{list_any-append}
 use Rattle.std.proofs.lemmas.Grind.{flat_map-append}
-use Rattle.io_world.specs.Replies.{IsLine, lines_text, ReplyState, HearsByte, Replies}
+use Rattle.io_world.specs.Replies.{IsLine, ReplyState, HearsByte, Replies}
+use Rattle.lemmas.specs.Lists.{lines_text}
 
 -- nothing was asked yet
 pub none_asked : (answers : List ℕ → List ℕ) (old new : ReplyState) → new ≡ old → IsLine new.request → Replies answers [] old new

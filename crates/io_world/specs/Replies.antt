@@ -1,4 +1,5 @@
 -- Requests that are lines, and their answers.
+use Rattle.lemmas.specs.Lists.{lines_text}
 use Rattle.std.specs.Prelude.{◌≡◌, ℕ, true, false, List, [], ◌∷◌, ◌++◌, ◌==◌, map, length, if◌then◌else◌}
 use Rattle.std.specs.List.{list_any, flat_map, All}
 
@@ -9,10 +10,6 @@ IsLine bytes = list_any (λ byte. byte == 10) bytes ≡ false
 -- a line feed is among these bytes
 abbrev pub HasLine : List ℕ → Type 0
 HasLine bytes = list_any (λ byte. byte == 10) bytes ≡ true
-
--- the lines, each with its line feed
-abbrev pub lines_text : List (List ℕ) → List ℕ
-lines_text lines = flat_map (λ line. line ++ 10 ∷ []) lines
 
 -- `end` and a line feed
 abbrev pub end_line : List ℕ

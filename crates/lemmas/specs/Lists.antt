@@ -1,5 +1,6 @@
--- Lists in which a member's place counts.
-use Rattle.std.specs.Prelude.{◌≡◌, ℕ, zero, suc, ◌+◌, ◌<◌, List, [], ◌∷◌, Bool, true, Some, slice_get}
+-- Lists in which a member's place counts, and lists of numbers and of lines.
+use Rattle.std.specs.Prelude.{◌≡◌, ℕ, zero, suc, ◌+◌, ◌<◌, ◌==◌, List, [], ◌∷◌, ◌++◌, Bool, true, Some, slice_get}
+use Rattle.std.specs.List.{flat_map, list_any}
 use Rattle.std.specs.declared.cmp.Ordering.{Ordering}
 use Rattle.std.specs.declared.cmp.Ordering.TheVariants.{Less}
 
@@ -20,3 +21,11 @@ numbers_from first (suc n) = first ∷ numbers_from (first + 1) n
 abbrev pub LeadsAlong : {A : Type 0} → (A → A → Bool) → A → List A → A → Type 0
 LeadsAlong leads from [] to = leads from to ≡ true
 LeadsAlong leads from (next ∷ more) to = (leads from next ≡ true) × LeadsAlong leads next more to
+
+-- the number is one of these
+abbrev pub has_number : List ℕ → ℕ → Bool
+has_number numbers n = list_any (λ m. n == m) numbers
+
+-- the lines, each with its line feed
+abbrev pub lines_text : List (List ℕ) → List ℕ
+lines_text lines = flat_map (λ line. line ++ 10 ∷ []) lines

@@ -1,4 +1,5 @@
 -- What is said with children: who is asked what, and which line each answer is.
+use Rattle.gen_lines.specs.Request.{request_line}
 use Rattle.std.specs.Prelude.{◌≡◌, ℕ, ◌<◌, ◌≤◌, ◌==◌, ◌⊎◌, List, [], ◌∷◌, ◌++◌, length, take, drop, filter, map, codes, count_by, Bool, Option, Some, slice_get, unwrap_or, if◌then◌else◌, IfSome}
 use Rattle.std.specs.Fmt.{decimal}
 use Rattle.std.specs.List.{flat_map, join_with_byte}
@@ -30,7 +31,7 @@ pub record Request : Type 0 where
 
 -- its bytes: `next`, its turn, its stream and its inputs with a space between each two, and a line feed
 abbrev pub text_of_request : Request → List ℕ
-text_of_request r = join_with_byte 32 (codes "next" ∷ decimal r.turn ∷ r.call.name ∷ r.call.args) ++ 10 ∷ []
+text_of_request r = join_with_byte 32 (request_line r.turn r.call.name r.call.args) ++ 10 ∷ []
 
 -- the place of the call's stream
 abbrev pub stream_of : Task → Call → ℕ

@@ -4,8 +4,8 @@ use Rattle.std.proofs.lemmas.Bool.{eqb-true}
 use Rattle.std.proofs.lemmas.List.{take-append-drop, take-append-le, take_all}
 use Rattle.std.proofs.lemmas.Option.{slice_get_within, slice_get_cases, get_or_from_slice_get}
 use Rattle.std.proofs.Math.Seq.{take-suc}
-use Rattle.lemmas.specs.Lists.{LeadsAlong}
-use Rattle.name_tables.specs.Graphs.{AreReached, HasWay, has_number, leads, next_of, with_number, with_numbers}
+use Rattle.lemmas.specs.Lists.{LeadsAlong, has_number}
+use Rattle.name_tables.specs.Graphs.{AreReached, HasWay, leads, next_of, with_number, with_numbers}
 
 or_cases : (x y : Bool) → x || y ≡ true → (x ≡ true) ⊎ (y ≡ true)
 or_cases true y h = inl refl

@@ -4,7 +4,8 @@ use Rattle.std.specs.Cmp.{first_so, second_so}
 use Rattle.std.specs.List.{list_any, list_all}
 use Rattle.std.proofs.lemmas.Bool.{and_from, eqb-false, or_cases, or_left, or_right, ne_eqb}
 use Rattle.task_model.specs.Fit.{are_places, is_short}
-use Rattle.name_tables.specs.Graphs.{ascending, ascending_with, has_number}
+use Rattle.name_tables.specs.Graphs.{ascending, ascending_with}
+use Rattle.lemmas.specs.Lists.{has_number}
 
 -- They ascend, from the one number on, and all are below the other.
 abbrev pub Ascends : ℕ → ℕ → List ℕ → Type 0

@@ -10,7 +10,8 @@ use Rattle.transcript_model.specs.Transcript.{known_of, notes_of}
 use Rattle.transcript_model.specs.declared.entry.Entry.{Entry}
 use Rattle.transcript_model.specs.declared.outcome.LimitKind.TheVariants.{Calls}
 use Rattle.transcript_model.specs.declared.outcome.Outcome.TheVariants as outcome
-use Rattle.transcript_ledger.specs.Ledgers.{IsLedger, is_among}
+use Rattle.transcript_ledger.specs.Ledgers.{IsLedger}
+use Rattle.lemmas.specs.Lists.{has_number}
 use Rattle.transcript_ledger.specs.declared.ledger.Ledger.{Ledger}
 use Rattle.replay_check.proofs.ClaimsLemmas.{more_due, none_due_at, some_due}
 use Rattle.replay_check.specs.Claims.{IsJudged, claim_of}
@@ -22,14 +23,14 @@ use Rattle.replay_check.specs.declared.claims.Claim.TheVariants.{True, False}
 -- ---- numbers that wait
 
 -- a list that has a number has its first
-has_first : (m : ℕ) (ms : List ℕ) → is_among (m ∷ ms) m ≡ true
-has_first m ms = ap (λ (b : Bool). b || is_among ms m) (eq-eqb m m refl)
+has_first : (m : ℕ) (ms : List ℕ) → has_number (m ∷ ms) m ≡ true
+has_first m ms = ap (λ (b : Bool). b || has_number ms m) (eq-eqb m m refl)
 
-some_among : (numbers : List ℕ) → 0 < length numbers → ((n : ℕ) → is_among numbers n ≡ false) → ⊥
+some_among : (numbers : List ℕ) → 0 < length numbers → ((n : ℕ) → has_number numbers n ≡ false) → ⊥
 some_among [] some none = omega (arith, some)
 some_among (m ∷ ms) some none = let both : true ≡ false = sym (has_first m ms) ∙ none m in absurd (cc)
 
-none_among : (numbers : List ℕ) → length numbers ≡ 0 → (n : ℕ) → is_among numbers n ≡ false
+none_among : (numbers : List ℕ) → length numbers ≡ 0 → (n : ℕ) → has_number numbers n ≡ false
 none_among [] empty n = refl
 none_among (m ∷ ms) empty n = absurd (omega (arith, empty))
 

@@ -7,7 +7,7 @@ use Rattle.std.specs.List.{flat_map}
 use Rattle.task_model.specs.declared.task.Task.{Task}
 use Rattle.report_text.proofs.FormsLemmas.{report_text}
 use Rattle.transcript_model.specs.Rounds.{Limits}
-use Rattle.report_text.specs.Texts.{Line, do_line, done_line, entry_lines, from_line, head_lines, line, line_text, lines_text, outcome_lines, pool_line, text_of_report}
+use Rattle.report_text.specs.Texts.{Line, do_line, done_line, entry_lines, from_line, head_lines, line, line_text, lines_text, outcome_lines, pool_line, text_of_report, lines_of_report}
 use Rattle.transcript_model.specs.declared.entry.Call.{Call}
 use Rattle.transcript_model.specs.declared.entry.Entry.{Entry}
 use Rattle.transcript_model.specs.declared.entry.Entry.TheVariants as entry
@@ -18,7 +18,7 @@ use Rattle.transcript_model.specs.declared.outcome.Outcome.TheVariants as outcom
 use Rattle.transcript_model.specs.declared.report.Report.{Report}
 use Rattle.replay_check.specs.Breaches.{BreaksFrom, BreaksOutcome}
 use Rattle.replay_check.specs.Findings.{IsFirstWrong, NoneEarlier}
-use Rattle.replay_check.specs.Lines.{outcome_line, report_lines}
+use Rattle.replay_check.specs.Lines.{outcome_line}
 use Rattle.replay_check.specs.declared.verdict.BreachKind.{BreachKind}
 use Rattle.replay_check.specs.declared.verdict.BreachKind.TheVariants as kind
 
@@ -34,10 +34,10 @@ lines_long (l ∷ lines) =
     omega (arith, rest, sum, own)
 
 -- a report has at most as many lines as bytes
-pub report_short : (r : Report) (bytes : List ℕ) → text_of_report r ≡ bytes → length (report_lines r) ≤ length bytes
+pub report_short : (r : Report) (bytes : List ℕ) → text_of_report r ≡ bytes → length (lines_of_report r) ≤ length bytes
 report_short r bytes is =
-    let long = lines_long (report_lines r) in
-    let same : length (lines_text (report_lines r)) ≡ length bytes = ap length (sym (report_text r) ∙ is) in
+    let long = lines_long (lines_of_report r) in
+    let same : length (lines_text (lines_of_report r)) ≡ length bytes = ap length (sym (report_text r) ∙ is) in
     omega (arith, long, same)
 
 -- ---- entries
@@ -80,7 +80,7 @@ lines_past xs j within =
 -- ---- all lines
 
 -- the lines of the head, of the entries, of the outcome, and the last
-pub report_count : (r : Report) → length (report_lines r) ≡ outcome_line r + length (outcome_lines r.version r.outcome)
+pub report_count : (r : Report) → length (lines_of_report r) ≡ outcome_line r + length (outcome_lines r.version r.outcome)
 report_count r =
     let h = head_lines r.version r.mode r.calls r.states r.depth r.pools in
     let es = flat_map entry_lines r.entries in

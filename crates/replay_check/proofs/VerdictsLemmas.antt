@@ -25,7 +25,8 @@ use Rattle.replay_check.specs.Findings.{IsFound, NoneEarlier}
 use Rattle.replay_check.specs.Headed.{IsHeaded}
 use Rattle.replay_check.specs.Heads.{AreFitPoolLines, IsFitHead, are_fit_limits, are_new, is_fit_pool, limits_in, served_by, share_in, workers_in}
 use Rattle.replay_check.specs.Kinds.{breach_number}
-use Rattle.replay_check.specs.Lines.{Precedes, line_behind_pools, line_of, outcome_line, report_lines}
+use Rattle.replay_check.specs.Lines.{Precedes, line_behind_pools, line_of, outcome_line}
+use Rattle.report_text.specs.Texts.{lines_of_report}
 use Rattle.replay_check.specs.Standings.{AreBounds, IsStanding, limits_by}
 use Rattle.replay_check.specs.Verdicts.{IsReportVerdict, IsUndecidedClaim, NonePrecedes}
 use Rattle.replay_check.specs.Walks.{IsWrongAt}
@@ -239,7 +240,7 @@ module _ (b : Bounds) (r : Report) (limit : ℕ) (bounds : AreBounds b) (head : 
     outcome_at = let lines = stands.lines in omega (arith, lines)
 
     -- the line that is told is one of the report's
-    pub end_line_few : (offset : ℕ) (k : BreachKind) → IsFound (limits_by b) limit task r.entries r.outcome (finding.Breaks offset k) → length (report_lines r) < 2 ^ 31 → length r.pools + 3 + length r.entries + offset < 2 ^ 31
+    pub end_line_few : (offset : ℕ) (k : BreachKind) → IsFound (limits_by b) limit task r.entries r.outcome (finding.Breaks offset k) → length (lines_of_report r) < 2 ^ 31 → length r.pools + 3 + length r.entries + offset < 2 ^ 31
     end_line_few offset k w short =
         let few = offset_few (limits_by b) limit task r.entries r.version r.outcome offset k w in
         let count = report_count r in

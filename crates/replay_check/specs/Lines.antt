@@ -18,10 +18,6 @@ line_of r place = line_behind_pools r + length (flat_map entry_lines (take place
 abbrev pub outcome_line : Report → ℕ
 outcome_line r = line_behind_pools r + length (flat_map entry_lines r.entries)
 
--- all lines of a report
-abbrev pub report_lines : Report → List Line
-report_lines r = head_lines r.version r.mode r.calls r.states r.depth r.pools ++ (flat_map entry_lines r.entries ++ (outcome_lines r.version r.outcome ++ done_line ∷ []))
-
 -- Of two breaches the one in the earlier line is told, and in one line the one of the smaller kind.
 abbrev pub Precedes : ℕ → BreachKind → ℕ → BreachKind → Type 0
 Precedes line kind other than = (line < other) ⊎ ((line ≡ other) × (breach_number kind < breach_number than))

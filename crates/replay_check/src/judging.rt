@@ -1,7 +1,7 @@
 //! Reports, replayed.
 ghost use Rattle.std.specs.Prelude.{◌≡◌, ◌<◌, ◌≤◌, ◌^◌, length, IfOk};
 ghost use Rattle.replay_check.specs.Heads.{IsFitHead, limits_in};
-ghost use Rattle.replay_check.specs.Lines.{report_lines};
+ghost use Rattle.report_text.specs.Texts.{lines_of_report};
 ghost use Rattle.replay_check.specs.Standings.{AreBounds, IsStanding, limits_by};
 ghost use Rattle.replay_check.specs.Verdicts.{IsReportVerdict, IsVerdict};
 ghost use Rattle.replay_check.specs.declared.verdict.Verdict.TheVariants.{Invalid};
@@ -40,7 +40,7 @@ fn judge_end(
     requires bounds { AreBounds bounds.now }
     requires head { IsFitHead bounds.now.task.now report.now }
     requires limits { limits_in bounds.now.task.now report.now ≡ limits_by bounds.now }
-    requires lines { length (report_lines report.now) < 2 ^ 31 }
+    requires lines { length (lines_of_report report.now) < 2 ^ 31 }
     requires standing { IsStanding bounds.now report.now.entries standing.now }
     requires some { 1 ≤ limit }
     requires few { limit ≤ 200000 }
@@ -61,7 +61,7 @@ fn judge_rest(bounds: &Bounds<'_>, report: &Report, limit: u32) -> Result<Verdic
     requires head { IsFitHead bounds.now.task.now report.now }
     requires limits { limits_in bounds.now.task.now report.now ≡ limits_by bounds.now }
     requires formed { IsFormed report.now }
-    requires lines { length (report_lines report.now) < 2 ^ 31 }
+    requires lines { length (lines_of_report report.now) < 2 ^ 31 }
     requires some { 1 ≤ limit }
     requires few { limit ≤ 200000 }
     ensures { IfOk result (IsReportVerdict limit bounds.now.task.now report.now) }
@@ -76,7 +76,7 @@ fn judge_rest(bounds: &Bounds<'_>, report: &Report, limit: u32) -> Result<Verdic
 fn judge(alloc: Global, task: &Task, report: &Report, limit: u32) -> Result<Verdict, AllocError>
     requires fit { IsFit task.now }
     requires formed { IsFormed report.now }
-    requires lines { length (report_lines report.now) < 2 ^ 31 }
+    requires lines { length (lines_of_report report.now) < 2 ^ 31 }
     requires some { 1 ≤ limit }
     requires few { limit ≤ 200000 }
     ensures { IfOk result (IsReportVerdict limit task.now report.now) }

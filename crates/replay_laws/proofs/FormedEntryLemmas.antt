@@ -12,7 +12,7 @@ use Rattle.task_model.proofs.KnownLemmas.{numbers_decided}
 use Rattle.lemmas.proofs.Members.{member_at}
 use Rattle.task_model.specs.Fit.{IsFit, is_name}
 use Rattle.task_model.specs.Initial.{declared_names}
-use Rattle.task_model.specs.Known.{same_numbers}
+use Rattle.task_model.specs.Known.{same_numbers, with_name}
 use Rattle.task_model.specs.declared.stream.Instance.{Instance}
 use Rattle.task_model.specs.declared.stream.Stream.{Stream}
 use Rattle.task_model.specs.declared.task.Task.{Task}
@@ -22,7 +22,7 @@ use Rattle.transcript_model.proofs.LegalNumberLemmas.{any_at, any_kept, number_b
 use Rattle.transcript_model.proofs.NamesLemmas.{and_then_some, map_some, place_at, position_at}
 use Rattle.report_text.specs.Forms.{AreTuples, IsFormedCall, IsFormedEntry, IsObject}
 use Rattle.transcript_model.specs.Legal.{IsLegal, asks_of, has_several, is_answer_to, is_ask_of, is_open, is_answer}
-use Rattle.transcript_model.specs.Names.{generated, instance_of, place_of, places_of, stream_named, with_name, with_names}
+use Rattle.transcript_model.specs.Names.{generated, instance_of, place_of, places_of, stream_named, with_names}
 use Rattle.transcript_model.specs.Transcript.{names_of, objects_in}
 use Rattle.transcript_model.specs.declared.entry.Call.{Call}
 use Rattle.transcript_model.specs.declared.entry.Entry.{Entry}

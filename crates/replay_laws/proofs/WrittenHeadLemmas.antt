@@ -24,7 +24,8 @@ use Rattle.transcript_model.proofs.NamesLemmas.{and_then_some, at_left, map_some
 use Rattle.transcript_model.proofs.LegalOnceLemmas.{cut_at}
 use Rattle.transcript_model.specs.Names.{stream_named}
 use Rattle.transcript_model.specs.Rounds.{limits_of, share_of}
-use Rattle.report_text.specs.Texts.{shown_pool, stream_name}
+use Rattle.report_text.specs.Texts.{shown_pool}
+use Rattle.gen_lines.specs.Request.{stream_name}
 use Rattle.transcript_model.specs.declared.entry.Entry.{Entry}
 use Rattle.transcript_model.specs.declared.head.Head.{Head}
 use Rattle.transcript_model.specs.declared.head.Pool.{Pool}

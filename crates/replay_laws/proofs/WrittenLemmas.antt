@@ -17,7 +17,8 @@ use Rattle.task_model.specs.declared.task.Task.{Task}
 use Rattle.report_text.specs.Forms.{IsFormed, IsFormedEntry, IsFormedPool, IsName}
 use Rattle.transcript_model.specs.Outcomes.{IsTrueOutcome, MayStand}
 use Rattle.transcript_model.specs.Rounds.{Limits, limits_of}
-use Rattle.report_text.specs.Texts.{done_line, line_text, lines_text, outcome_lines, shown_pool, stream_name, text_of_outcome, text_of_report}
+use Rattle.report_text.specs.Texts.{done_line, line_text, lines_text, outcome_lines, shown_pool, text_of_outcome, text_of_report}
+use Rattle.gen_lines.specs.Request.{stream_name}
 use Rattle.transcript_model.specs.Transcript.{known_of}
 use Rattle.transcript_model.specs.Turns.{AreTurnsOf, Stage, between, after_cut, inside}
 use Rattle.transcript_model.specs.declared.entry.Entry.{Entry}

@@ -3,13 +3,13 @@ use Rattle.std.proofs.Common.{◌≡◌, ℕ, inl, inr, arith, List, [], ◌∷�
 use Rattle.std.specs.List.{flat_map}
 use Rattle.report_text.specs.Forms.{IsFormedPool, IsFormed}
 use Rattle.report_text.specs.Places.{first, limits, pools, entries, last, planning, cost_line, IsPath}
-use Rattle.report_text.specs.Texts.{Line, do_line, from_line, entry_lines, outcome_lines, pool_line, done_line}
+use Rattle.report_text.specs.Texts.{Line, do_line, from_line, entry_lines, outcome_lines, pool_line, done_line, lines_of_report}
 use Rattle.transcript_model.specs.declared.head.PoolLine.{PoolLine}
 use Rattle.transcript_model.specs.declared.outcome.Outcome.{Outcome}
 use Rattle.transcript_model.specs.declared.outcome.Outcome.TheVariants as outcome
 use Rattle.transcript_model.specs.declared.report.Report.{Report}
 use Rattle.report_text.proofs.PlacesPathLemmas.{path_then}
-use Rattle.report_reader.specs.Body.{IsEnding, ending_line, ending_place, ending_of, IsBody, body_lines, outcome_rest, IsOutcomeOf, IsFirst, first_of, IsLimits, limits_line_of, lines_of_report}
+use Rattle.report_reader.specs.Body.{IsEnding, ending_line, ending_place, ending_of, IsBody, body_lines, outcome_rest, IsOutcomeOf, IsFirst, first_of, IsLimits, limits_line_of}
 use Rattle.report_reader.specs.Finding.{TakesLine, TakesAll, shown_lines, Stops}
 use Rattle.report_reader.specs.Splits.{fields_of}
 use Rattle.report_reader.specs.declared.body_line.Ending.{Ending}

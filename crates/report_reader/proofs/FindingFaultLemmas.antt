@@ -8,12 +8,11 @@ use Rattle.gen_lines.specs.Reply.{is_space}
 use Rattle.report_text.specs.Faults.{whole_lines, IsFirstFault}
 use Rattle.report_text.specs.Forms.{IsFormed}
 use Rattle.report_text.specs.Places.{Place, first, behind, line_body, IsStuck, StopsAfter}
-use Rattle.report_text.specs.Texts.{text_of_report}
+use Rattle.report_text.specs.Texts.{text_of_report, lines_of_report}
 use Rattle.transcript_model.specs.declared.report.Report.{Report}
 use Rattle.report_text.proofs.FormsLemmas.{report_lines}
 use Rattle.report_text.proofs.PlacesPathLemmas.{report_path}
 use Rattle.report_text.proofs.FaultsLemmas.{stops_fault, leftover_fault, lines_report}
-use Rattle.report_reader.specs.Body.{lines_of_report}
 use Rattle.report_reader.specs.Finding.{IsHeld, Stops}
 use Rattle.report_reader.specs.Splits.{field_lines, fields_of}
 use Rattle.report_reader.proofs.SplitsLemmas.{cut_fields, joined_lines}

@@ -191,8 +191,3 @@ pub record IsLimits (l : Limits) : Type 0 where
 
 abbrev pub limits_line_of : Limits → Line
 limits_line_of l = limits_line l.calls l.states l.depth
-
--- ---- reports
-
-abbrev pub lines_of_report : Report → List Line
-lines_of_report r = head_lines r.version r.mode r.calls r.states r.depth r.pools ++ (flat_map entry_lines r.entries ++ (outcome_lines r.version r.outcome ++ done_line ∷ []))

@@ -2,7 +2,7 @@
 ghost use Rattle.std.specs.Prelude.{IfOk};
 ghost use Rattle.report_text.specs.Forms.{IsFormed};
 ghost use Rattle.report_text.specs.Places.{first};
-ghost use Rattle.report_reader.specs.Body.{lines_of_report};
+ghost use Rattle.report_text.specs.Texts.{lines_of_report};
 ghost use Rattle.report_reader.specs.Finding.{PartReads};
 
 use crate::body_reader::{Body, body_in};

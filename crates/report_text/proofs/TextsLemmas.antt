@@ -9,7 +9,8 @@ use Rattle.std.proofs.lemmas.Nat.{div-add-mod'}
 use Rattle.std.proofs.lemmas.Option.{slice_get_read}
 use Rattle.task_model.specs.declared.stream.Stream.{Stream}
 use Rattle.task_model.specs.declared.task.Task.{Task}
-use Rattle.report_text.specs.Texts.{Line, line, line_text, lines_text, fields_text, tuples_of, stream_name}
+use Rattle.report_text.specs.Texts.{Line, line, line_text, lines_text, fields_text, tuples_of}
+use Rattle.gen_lines.specs.Request.{stream_name}
 
 pub flat_map_next : {X A : Type 0} (f : X → List A) (xs : List X) (i : ℕ) (x : X) → i < length xs → x ≡ get_or xs i x → flat_map f (take (i + 1) xs) ≡ flat_map f (take i xs) ++ f x
 flat_map_next f xs i x lt is =

@@ -1,4 +1,5 @@
 -- Where a text is no report: its first line that isn't of a form at its place.
+use Rattle.lemmas.specs.Lists.{lines_text}
 use Rattle.std.specs.Prelude.{◌≡◌, ℕ, ◌+◌, ◌-◌, ◌<◌, ◌≤◌, List, [], ◌∷◌, ◌++◌, length, take}
 use Rattle.std.specs.List.{flat_map, slice_split}
 use Rattle.gen_lines.specs.Lines.{is_feed, ended}
@@ -12,17 +13,13 @@ use Rattle.transcript_model.specs.declared.report.Report.{Report}
 abbrev pub whole_lines : List ℕ → List (List ℕ)
 whole_lines bytes = ended (slice_split is_feed bytes)
 
--- the lines, each with its line feed
-abbrev pub joined : List (List ℕ) → List ℕ
-joined lines = flat_map (λ line. line ++ 10 ∷ []) lines
-
 -- the bytes are the text of a report of the stated forms
 abbrev pub IsReport : List ℕ → Type 0
 IsReport bytes = (r : Report) × IsFormed r × (text_of_report r ≡ bytes)
 
 -- some report begins with these lines
 abbrev pub BeginsReport : List (List ℕ) → Type 0
-BeginsReport lines = (rest : List ℕ) × IsReport (joined lines ++ rest)
+BeginsReport lines = (rest : List ℕ) × IsReport (lines_text lines ++ rest)
 
 -- The first line, from 1, up to which no report begins so. Where a report begins with all lines that end with a line feed but
 -- the bytes are none, this is the line behind them: a missing one, or one without a line feed.

@@ -2,7 +2,7 @@
 use Rattle.std.specs.Prelude.{ℕ, zero, suc, ◌-◌, ◌/◌, List, [], ◌∷◌, ◌++◌, map, length, take, drop, codes, ◌==◌, if◌then◌else◌, Option, Some, None, slice_get}
 use Rattle.std.specs.Fmt.{decimal}
 use Rattle.std.specs.List.{flat_map}
-use Rattle.task_model.specs.declared.stream.Stream.{Stream}
+use Rattle.gen_lines.specs.Request.{stream_name}
 use Rattle.task_model.specs.declared.task.Task.{Task}
 use Rattle.transcript_model.specs.declared.entry.Call.{Call}
 use Rattle.transcript_model.specs.declared.entry.DreamUse.{DreamUse}
@@ -105,13 +105,6 @@ mode_word Focused = codes "focused"
 mode_word Binding = codes "binding"
 mode_word Adaptive = codes "adaptive"
 
-abbrev pub stream_name : Task → ℕ → List ℕ
-stream_name task stream = of (slice_get task.streams stream)
-  where
-    of : Option Stream → List ℕ
-    of (Some s) = s.name
-    of None = []
-
 -- a pool as a report shows it
 abbrev pub shown_pool : Task → Pool → PoolLine
 shown_pool task pool = record { workers = pool.workers; streams = map (stream_name task) pool.streams }
@@ -130,6 +123,12 @@ text_of_head task head = lines_text (head_lines head.version head.mode head.call
 
 abbrev pub done_line : Line
 done_line = line (codes "done") []
+
+-- all lines of a report
+abbrev pub lines_of_report : Report → List Line
+lines_of_report r =
+    head_lines r.version r.mode r.calls r.states r.depth r.pools
+        ++ (flat_map entry_lines r.entries ++ (outcome_lines r.version r.outcome ++ done_line ∷ []))
 
 -- the head, the transcript, the outcome, and `done`
 abbrev pub text_of_report : Report → List ℕ

@@ -1,7 +1,8 @@
 //! How the head of a report is written.
 ghost use Rattle.std.specs.Prelude.{◌≡◌, ◌<◌, [], ◌∷◌, ◌++◌, All, length, map, codes, IfOk, OnOk};
 ghost use Rattle.std.specs.Fmt.{decimal};
-ghost use Rattle.report_text.specs.Texts.{line, line_text, lines_text, fields_text, mode_word, stream_name, shown_pool, pool_line, text_of_head};
+ghost use Rattle.report_text.specs.Texts.{line, line_text, lines_text, fields_text, mode_word, shown_pool, pool_line, text_of_head};
+ghost use Rattle.gen_lines.specs.Request.{stream_name};
 
 use transcript_model::{Head, Mode, Pool};
 use crate::lines::{push_field, push_number};

@@ -3,14 +3,14 @@ use Rattle.std.proofs.Common.{◌≡◌, ℕ, zero, suc, ◌+◌, ◌<◌, true,
 use Rattle.std.proofs.lemmas.Bool.{or_left}
 use Rattle.sexpr_text.specs.Trees.{Trees, nothing, word, list}
 use Rattle.task_model.specs.Fit.{leads, stream_leads}
-use Rattle.lemmas.specs.Lists.{LeadsAlong}
+use Rattle.lemmas.specs.Lists.{LeadsAlong, has_number}
 use Rattle.task_model.specs.declared.domain.Domain.{Domain}
 use Rattle.task_model.specs.declared.stream.Stream as stream
 use Rattle.task_model.specs.declared.task.Task.{Task}
 use Rattle.form_reader.specs.declared.fault.Fault.{Fault}
 use Rattle.form_reader.specs.declared.keys.Keyed.{Keyed}
 use Rattle.form_reader.specs.Rows.{tail_of}
-use Rattle.name_tables.specs.Graphs.{HasWay, has_number}
+use Rattle.name_tables.specs.Graphs.{HasWay}
 use Rattle.name_tables.specs.Graphs as graphs
 use Rattle.name_tables.specs.declared.vocabulary.Vocabulary.{Vocabulary}
 use Rattle.name_tables.proofs.Members.{any_append_left, any_append_right}

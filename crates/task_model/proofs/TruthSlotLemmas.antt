@@ -2,8 +2,8 @@
 use Rattle.std.proofs.Common.{◌≡◌, ℕ, ◌+◌, zero, suc, Bool, true, false, not, ◌&&◌, ◌||◌, ◌==◌, List, [], ◌∷◌, length, refl, sym, ap, ◌∙◌, arith, slice_index, slice_set, eq-eqb}
 use Rattle.std.specs.List.{list_any}
 use Rattle.task_model.specs.Condition.{Condition, Conditions, Atom, Equal, All as every, Any, Not, Exists, none, more}
-use Rattle.task_model.specs.Laws.{is_slot, touches, any_touches}
-use Rattle.task_model.specs.Truth.{object_of, objects_at, some_tuple, truth, all_true, any_true}
+use Rattle.task_model.specs.Laws.{touches, any_touches}
+use Rattle.task_model.specs.Truth.{object_of, objects_at, some_tuple, truth, all_true, any_true, is_slot}
 use Rattle.task_model.specs.declared.condition.Term.{Term}
 use Rattle.task_model.specs.declared.condition.Term.TheVariants.{Slot, Object}
 

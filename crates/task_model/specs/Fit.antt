@@ -6,6 +6,7 @@ use Rattle.task_model.specs.Condition.{Condition, Conditions, Atom, Equal, All a
 use Rattle.task_model.specs.Initial.{declared_names, sorts_with}
 use Rattle.lemmas.specs.Lists.{AreDistinct, LeadsAlong, numbers_from}
 use Rattle.task_model.specs.Roles.{role_of}
+use Rattle.task_model.specs.Truth.{is_slot}
 use Rattle.task_model.specs.declared.condition.Term.{Term}
 use Rattle.task_model.specs.declared.condition.Term.TheVariants.{Slot, Object}
 use Rattle.task_model.specs.declared.domain.Action.{Action}
@@ -251,11 +252,7 @@ is_fit_stream domain s =
 
 -- the slot stands in one of the atoms
 abbrev pub is_used : ℕ → List Pattern → Bool
-is_used slot patterns = list_any (λ (p : Pattern). list_any is_slot p.args) patterns
-  where
-    is_slot : Term → Bool
-    is_slot (Slot n) = n == slot
-    is_slot (Object o) = false
+is_used slot patterns = list_any (λ (p : Pattern). list_any (is_slot slot) p.args) patterns
 
 -- an output of this type may be an input of that type; the type `object` counts only for an input in no domain atom
 abbrev pub is_fed : Domain → Stream → ℕ → List ℕ → ℕ → Bool

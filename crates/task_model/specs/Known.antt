@@ -14,10 +14,14 @@ pub record Known : Type 0 where
   pub facts : List Fact
   pub values : List Valued
 
--- ---- facts
-
 abbrev pub same_numbers : List ℕ → List ℕ → Bool
 same_numbers = pointwise nat_eq
+
+-- the names with this one behind them, unless it is there
+abbrev pub with_name : List (List ℕ) → List ℕ → List (List ℕ)
+with_name names name = if list_any (same_numbers name) names then names else names ++ name ∷ []
+
+-- ---- facts
 
 abbrev pub same_kind : Kind → Kind → Bool
 same_kind Predicate Predicate = true

@@ -10,7 +10,7 @@ use Rattle.lemmas.specs.Lists.{AreDistinct}
 use Rattle.task_model.specs.Plans.{Executes, IsReached, IsReachedWithin, MoreThan}
 use Rattle.task_model.specs.State.{Atoms, contains}
 use Rattle.task_model.specs.Steps.{atom_of, effect_of}
-use Rattle.task_model.specs.Truth.{truth, slots_of}
+use Rattle.task_model.specs.Truth.{truth, slots_of, is_slot}
 use Rattle.task_model.specs.declared.condition.Term.{Term}
 use Rattle.task_model.specs.declared.condition.Term.TheVariants.{Slot, Object}
 use Rattle.task_model.specs.declared.domain.Action.{Action}
@@ -20,10 +20,6 @@ use Rattle.task_model.specs.declared.task.GroundAction.{GroundAction}
 use Rattle.task_model.specs.declared.task.Task.{Task}
 
 -- ---- slots
-
-abbrev pub is_slot : ℕ → Term → Bool
-is_slot n (Slot m) = m == n
-is_slot n (Object o) = false
 
 -- the slot stands in one of the condition's terms
 abbrev mutual

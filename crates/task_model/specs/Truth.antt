@@ -18,6 +18,11 @@ use Rattle.task_model.specs.declared.domain.Role.TheVariants as role
 abbrev pub slots_of : List ℕ → List ℕ
 slots_of args = args ++ replicate (16 - length args) 0
 
+-- the term is this slot
+abbrev pub is_slot : ℕ → Term → Bool
+is_slot slot (Slot n) = n == slot
+is_slot slot (Object o) = false
+
 -- the object that a term stands for
 abbrev pub object_of : List ℕ → Term → ℕ
 object_of slots (Slot n) = slice_index slots n

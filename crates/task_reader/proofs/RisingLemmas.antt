@@ -2,7 +2,8 @@
 use Rattle.std.proofs.Common.{◌≡◌, ℕ, ◌+◌, ◌<◌, ◌≤◌, ◌||◌, true, false, cond, ◌==◌, nat_lt, List, [], ◌∷◌, refl, subst, sym, arith, ◌⊎◌, inl, inr, ltb-true, ltb-false, eqb-true, eq-eqb}
 use Rattle.std.proofs.lemmas.Bool.{eqb-false, or_cases, or_left, or_right}
 use Rattle.name_tables.proofs.GraphsOrderLemmas.{ascending_in, in_ascending}
-use Rattle.name_tables.specs.Graphs.{ascending, ascending_with, has_number}
+use Rattle.name_tables.specs.Graphs.{ascending, ascending_with}
+use Rattle.lemmas.specs.Lists.{has_number}
 
 -- they ascend, from this number on
 abbrev pub Rises : ℕ → List ℕ → Type 0

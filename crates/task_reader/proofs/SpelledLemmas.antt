@@ -4,7 +4,7 @@ use Rattle.std.specs.List.{list_any}
 use Rattle.sexpr_text.specs.Reading.{reading}
 use Rattle.sexpr_text.specs.Trees.{Trees}
 use Rattle.sexpr_text.specs.declared.fault.TextFault.{TextFault}
-use Rattle.lemmas.specs.Lists.{numbers_from}
+use Rattle.lemmas.specs.Lists.{numbers_from, has_number}
 use Rattle.task_model.specs.Roles.{role_of}
 use Rattle.task_model.specs.declared.domain.Domain.{Domain}
 use Rattle.task_model.specs.declared.domain.Action.{Action}
@@ -19,7 +19,7 @@ use Rattle.task_model.specs.declared.task.Task.{Task}
 use Rattle.form_reader.specs.declared.fault.Fault.{Fault}
 use Rattle.form_reader.specs.declared.fault.InputKind.{InputKind}
 use Rattle.form_reader.specs.Faults.{least_fault}
-use Rattle.name_tables.specs.Graphs.{AreReached, HasWay, has_number}
+use Rattle.name_tables.specs.Graphs.{AreReached, HasWay}
 use Rattle.name_tables.specs.declared.vocabulary.Vocabulary.{Vocabulary}
 use Rattle.domain_reader.specs.Cycles.{AreSorts, CycleFaults, IsAbove, cyclic, free, more_sorts, no_more, no_sorts, type_edges}
 use Rattle.domain_reader.specs.Domains as domains

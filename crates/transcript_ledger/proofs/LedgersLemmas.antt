@@ -21,7 +21,8 @@ use Rattle.transcript_model.specs.Transcript.{Asked, asked, known_of, names_of, 
 use Rattle.transcript_model.specs.declared.entry.Call.{Call}
 use Rattle.transcript_model.specs.declared.entry.Entry.{Entry}
 use Rattle.transcript_model.specs.declared.entry.Entry.TheVariants as entry
-use Rattle.transcript_ledger.specs.Ledgers.{IsLedger, is_among}
+use Rattle.transcript_ledger.specs.Ledgers.{IsLedger}
+use Rattle.lemmas.specs.Lists.{has_number}
 use Rattle.transcript_ledger.specs.Numbers.{without}
 use Rattle.transcript_ledger.specs.declared.ledger.Ledger.{Ledger}
 
@@ -65,17 +66,17 @@ no e = absurd (cc)
 
 -- by the three tests
 abbrev Without : ℕ → ℕ → ℕ → List ℕ → Bool → Bool → Bool → Type 0
-Without n k m ms first here same = is_among (without n ms) k ≡ (is_among ms k && not same) → is_among (cond (not first) (m ∷ without n ms) (without n ms)) k ≡ ((here || is_among ms k) && not same)
+Without n k m ms first here same = has_number (without n ms) k ≡ (has_number ms k && not same) → has_number (cond (not first) (m ∷ without n ms) (without n ms)) k ≡ ((here || has_number ms k) && not same)
 
 without_by : (n k m : ℕ) (ms : List ℕ) (first here same : Bool) → (n == m) ≡ first → (k == m) ≡ here → (k == n) ≡ same → Without n k m ms first here same
-without_by n k m ms true true true e f g rest = rest ∙ and_none (is_among ms k)
+without_by n k m ms true true true e f g rest = rest ∙ and_none (has_number ms k)
 without_by n k m ms true true false e f g rest = absurd (no (sym (not_same n k m e f) ∙ g))
 without_by n k m ms true false same e f g rest = rest
 without_by n k m ms false true true e f g rest = absurd (no (sym (eq-eqb n m (sym (eqb-true k n g) ∙ eqb-true k m f)) ∙ e))
-without_by n k m ms false true false e f g rest = ap (λ b. b || is_among (without n ms) k) f
-without_by n k m ms false false same e f g rest = ap (λ b. b || is_among (without n ms) k) f ∙ rest
+without_by n k m ms false true false e f g rest = ap (λ b. b || has_number (without n ms) k) f
+without_by n k m ms false false same e f g rest = ap (λ b. b || has_number (without n ms) k) f ∙ rest
 
-among_without : (n k : ℕ) (ms : List ℕ) → is_among (without n ms) k ≡ (is_among ms k && not (k == n))
+among_without : (n k : ℕ) (ms : List ℕ) → has_number (without n ms) k ≡ (has_number ms k && not (k == n))
 among_without n k [] = refl
 among_without n k (m ∷ ms) = without_by n k m ms (n == m) (k == m) (k == n) refl refl refl (among_without n k ms)
 
@@ -88,7 +89,7 @@ some_count p (x ∷ xs) e = omega (arith, count_joined p (x ∷ []) xs, count_on
     by false rest e = omega (arith, rest e)
 
 -- a number that is there is left out
-fewer : (n : ℕ) (ms : List ℕ) → is_among ms n ≡ true → length (without n ms) + 1 ≤ length ms
+fewer : (n : ℕ) (ms : List ℕ) → has_number ms n ≡ true → length (without n ms) + 1 ≤ length ms
 fewer n ms there = omega (arith, length-filter_both (λ m. not (n == m)) (λ m. n == m) twice ms, length-filter (λ m. n == m) ms, some_count (λ m. n == m) ms there)
   where
     twice : (m : ℕ) → (n == m) ≡ not (not (n == m))
@@ -116,7 +117,7 @@ ask_kept version turn task before call l new i h right named facts queue asked_i
       notes = queue ∙ h.notes ∙ sym adds.same.notes;
       counted = ap length asked_is ∙ (let e : length (l.asked.items ++ i ∷ []) ≡ asks_of (before ++ entry.Ask number turn call ∷ []) = omega (arith, length-append l.asked.items (i ∷ []), h.counted, adds.asks) in e);
       asks = λ k j at. asks_by k j (at_push l.asked.items i j k (ap (λ is. slice_get is k) (sym asked_is) ∙ at)) right.due.stream streamed adds.here;
-      unanswered = λ n. ap (λ ms. is_among ms n) unanswered_is ∙ any_push (λ m. n == m) l.unanswered.items number ∙ (λ t. h.unanswered n t || (n == number)) ∙ sym (adds.waiting n);
+      unanswered = λ n. ap (λ ms. has_number ms n) unanswered_is ∙ any_push (λ m. n == m) l.unanswered.items number ∙ (λ t. h.unanswered n t || (n == number)) ∙ sym (adds.waiting n);
       answered = omega (arith, ap length unanswered_is, length-append l.unanswered.items (number ∷ []), h.answered, adds.asks, count_joined is_answer before (e ∷ []), count_one is_answer e);
     }
   where
@@ -215,7 +216,7 @@ module _ (version : ℕ) (task : Task) (before : List Entry) (l : Ledger) (e : E
         notes = notes;
         counted = ap length asked_is ∙ can.counted;
         asks = λ k i at. can.asks k i (ap (λ is. slice_get is k) (sym asked_is) ∙ at);
-        unanswered = λ k. ap (λ ms. is_among ms k) unanswered_is ∙ among_without n k l.unanswered.items ∙ (λ t. h.unanswered k t && not (k == n)) ∙ sym (adds.waiting k);
+        unanswered = λ k. ap (λ ms. has_number ms k) unanswered_is ∙ among_without n k l.unanswered.items ∙ (λ t. h.unanswered k t && not (k == n)) ∙ sym (adds.waiting k);
         answered = omega (arith, ap length unanswered_is, left, h.answered, one_more, same_asks);
       }
 

@@ -13,7 +13,8 @@ use Rattle.transcript_model.specs.Transcript.{Asked, asked}
 use Rattle.transcript_model.specs.declared.entry.Entry.{Entry}
 use Rattle.transcript_model.specs.declared.entry.Entry.TheVariants as entry
 use Rattle.transcript_ledger.proofs.TalksAskLemmas.{all_of, no, opened}
-use Rattle.transcript_ledger.specs.Ledgers.{IsLedger, is_among}
+use Rattle.transcript_ledger.specs.Ledgers.{IsLedger}
+use Rattle.lemmas.specs.Lists.{has_number}
 use Rattle.transcript_ledger.specs.Talks.{may_answer, may_give}
 use Rattle.transcript_ledger.specs.declared.ledger.Ledger.{Ledger}
 
@@ -58,15 +59,15 @@ module _ (version : ℕ) (task : Task) (before : List Entry) (l : Ledger) (h : I
   -- the test is that of the stream that was asked
   test_is : (n : ℕ) (e : Entry) → is_open before n ≡ true → (f : Found n) → may_answer task l n e ≡ may_give f.request.stream e
   test_is n e waits f =
-      let among : is_among l.unanswered.items n ≡ true = h.unanswered n ∙ waits in
+      let among : has_number l.unanswered.items n ≡ true = h.unanswered n ∙ waits in
       let at : slice_get l.asked.items (n - 1) ≡ Some f.request.instance = f.at in
       let streamed : slice_get task.streams f.request.instance.stream ≡ Some f.request.stream = f.streamed in
       rw among (rw at (rw streamed refl))
 
   is_waiting : (n : ℕ) (e : Entry) → may_answer task l n e ≡ true → is_open before n ≡ true
-  is_waiting n e passed = by (is_among l.unanswered.items n) refl
+  is_waiting n e passed = by (has_number l.unanswered.items n) refl
     where
-      by : (b : Bool) → is_among l.unanswered.items n ≡ b → is_open before n ≡ true
+      by : (b : Bool) → has_number l.unanswered.items n ≡ b → is_open before n ≡ true
       by true is = sym (h.unanswered n) ∙ is
       by false is = let r : false ≡ true = rw is at passed in absurd (no r)
 

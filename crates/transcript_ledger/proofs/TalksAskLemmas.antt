@@ -20,7 +20,8 @@ use Rattle.transcript_model.specs.Transcript.{Asked, asked, known_of, names_of, 
 use Rattle.transcript_model.specs.declared.entry.Call.{Call}
 use Rattle.transcript_model.specs.declared.entry.Entry.{Entry}
 use Rattle.transcript_model.specs.declared.entry.Entry.TheVariants as entry
-use Rattle.transcript_ledger.specs.Ledgers.{IsLedger, asked_it, is_among, is_waiting}
+use Rattle.transcript_ledger.specs.Ledgers.{IsLedger, asked_it, is_waiting}
+use Rattle.lemmas.specs.Lists.{has_number}
 use Rattle.transcript_ledger.specs.Talks.{may_ask}
 use Rattle.transcript_ledger.specs.declared.ledger.Ledger.{Ledger}
 
@@ -117,7 +118,7 @@ module _ (version : ℕ) (task : Task) (before : List Entry) (l : Ledger) (h : I
           let back : n ≡ n - 1 + 1 = omega (arith, within.0) in
           let known : asked task before n ≡ Some (record { stream = its.stream; instance = there.0 }) = ap (asked task before) back ∙ its.asks in
           let is : there.0 ≡ i = ap (λ (x : Asked). x.instance) (same_some (asked task before n) (record { stream = its.stream; instance = there.0 }) a known was) ∙ same in
-          let among : is_among l.unanswered.items n ≡ true = h.unanswered n ∙ e in
+          let among : has_number l.unanswered.items n ≡ true = h.unanswered n ∙ e in
           let it = such (λ m. n == m) l.unanswered.items among in
           let number_is : it.member ≡ n = sym (eqb-true n it.member it.passes_it) in
           let passes_it : asked_it l.asked.items i it.member ≡ true = ap (asked_it l.asked.items i) number_is ∙ asked_yes l.asked.items i there.0 n there.1 is in

@@ -1,4 +1,5 @@
 -- What is kept of the entries so far.
+use Rattle.lemmas.specs.Lists.{has_number}
 use Rattle.std.specs.Prelude.{◌≡◌, ℕ, ◌+◌, ◌-◌, ◌≤◌, List, length, Bool, false, ◌==◌, count_by, Option, Some, None, slice_get}
 use Rattle.std.specs.List.{list_any}
 use Rattle.task_model.specs.Fit.{IsFit}
@@ -10,10 +11,6 @@ use Rattle.transcript_model.specs.Transcript.{known_of, notes_of}
 use Rattle.transcript_model.specs.declared.entry.Entry.{Entry}
 use Rattle.session_core.specs.Session.{Asks}
 use Rattle.transcript_ledger.specs.declared.ledger.Ledger.{Ledger}
-
--- the number is one of these
-abbrev pub is_among : List ℕ → ℕ → Bool
-is_among numbers n = list_any (λ m. n == m) numbers
 
 -- the request of this number asked the instance
 abbrev pub asked_it : List Instance → Instance → ℕ → Bool
@@ -36,5 +33,5 @@ pub record IsLedger (version : ℕ) (task : Task) (entries : List Entry) (l : Le
   pub notes : l.queue ≡ notes_of task entries
   pub counted : length l.asked.items ≡ asks_of entries
   pub asks : (k : ℕ) (i : Instance) → slice_get l.asked.items k ≡ Some i → Asks task entries (k + 1) i
-  pub unanswered : (n : ℕ) → is_among l.unanswered.items n ≡ is_open entries n
+  pub unanswered : (n : ℕ) → has_number l.unanswered.items n ≡ is_open entries n
   pub answered : count_by is_answer entries + length l.unanswered.items ≤ asks_of entries

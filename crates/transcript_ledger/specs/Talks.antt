@@ -13,7 +13,8 @@ use Rattle.transcript_model.specs.Transcript.{names_of}
 use Rattle.transcript_model.specs.declared.entry.Call.{Call}
 use Rattle.transcript_model.specs.declared.entry.Entry.{Entry}
 use Rattle.transcript_model.specs.declared.entry.Entry.TheVariants as entry
-use Rattle.transcript_ledger.specs.Ledgers.{is_among, is_waiting}
+use Rattle.transcript_ledger.specs.Ledgers.{is_waiting}
+use Rattle.lemmas.specs.Lists.{has_number}
 use Rattle.transcript_ledger.specs.declared.ledger.Ledger.{Ledger}
 
 -- the request has the next number, the instance is due, none of its requests is open, and the turn is how many tuples it gave
@@ -29,7 +30,7 @@ may_give stream e = true
 
 -- the request of this number is open, and its stream may give this answer
 abbrev pub may_answer : Task → Ledger → ℕ → Entry → Bool
-may_answer task l number e = is_among l.unanswered.items number && asked (slice_get l.asked.items (number - 1))
+may_answer task l number e = has_number l.unanswered.items number && asked (slice_get l.asked.items (number - 1))
   where
     streamed : Option Stream → Bool
     streamed (Some stream) = may_give stream e

@@ -39,7 +39,8 @@ fn left_out(alloc: Global, numbers: &[u32], number: u32) -> Result<Vec<u32>, All
 
 impl Ledger {
     ghost use Rattle.std.specs.Prelude.{ℕ, ◌+◌, ◌≤◌, ◌<◌, ◌∷◌, [], ◌++◌, length, take, true, Some, slice_get, OnOk, List};
-    ghost use Rattle.transcript_ledger.specs.Ledgers.{IsLedger, is_among, is_waiting as waits, asked_it};
+    ghost use Rattle.transcript_ledger.specs.Ledgers.{IsLedger, is_waiting as waits, asked_it};
+    ghost use Rattle.lemmas.specs.Lists.{has_number};
     ghost use Rattle.task_model.specs.Fit.{IsFit};
     ghost use Rattle.transcript_model.specs.Legal.{IsRightAsk, MayFollow, answered_number};
     ghost use Rattle.transcript_model.specs.Names.{instance_of};
@@ -63,7 +64,7 @@ impl Ledger {
 
     /// Whether the request of this number has no answer yet.
     pub fn is_open(&self, number: u32) -> bool
-        ensures { result ≡ is_among self.now.unanswered.items number }
+        ensures { result ≡ has_number self.now.unanswered.items number }
     {
         self.unanswered.iter().any(|n| number == *n)
     }

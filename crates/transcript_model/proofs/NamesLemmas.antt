@@ -9,11 +9,11 @@ use Rattle.std.specs.List.{list_any, position, position_from}
 use Rattle.std.specs.Option.{option_and_then}
 use Rattle.task_model.proofs.KnownLemmas.{numbers_decided}
 use Rattle.lemmas.proofs.Members.{distinct_push, place_of as place_in}
-use Rattle.task_model.specs.Known.{same_numbers}
+use Rattle.task_model.specs.Known.{same_numbers, with_name}
 use Rattle.lemmas.specs.Lists.{AreDistinct}
 use Rattle.task_model.specs.declared.stream.Instance.{Instance}
 use Rattle.task_model.specs.declared.task.Task.{Task}
-use Rattle.transcript_model.specs.Names.{with_name, with_names, place_of, places_of, stream_named, instance_of}
+use Rattle.transcript_model.specs.Names.{with_names, place_of, places_of, stream_named, instance_of}
 use Rattle.transcript_model.specs.declared.entry.Call.{Call}
 
 -- ---- options

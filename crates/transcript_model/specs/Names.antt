@@ -3,16 +3,12 @@ use Rattle.std.specs.Prelude.{ℕ, List, [], ◌∷◌, ◌++◌, map, Option, S
 use Rattle.std.specs.List.{list_any, position}
 use Rattle.std.specs.Option.{option_map, option_and_then}
 use Rattle.gen_lines.specs.Request.{stream_name}
-use Rattle.task_model.specs.Known.{same_numbers}
+use Rattle.task_model.specs.Known.{same_numbers, with_name}
 use Rattle.task_model.specs.Streams.{name_at}
 use Rattle.task_model.specs.declared.stream.Instance.{Instance}
 use Rattle.task_model.specs.declared.stream.Stream.{Stream}
 use Rattle.task_model.specs.declared.task.Task.{Task}
 use Rattle.transcript_model.specs.declared.entry.Call.{Call}
-
--- the names with this one behind them, unless it is there
-abbrev pub with_name : List (List ℕ) → List ℕ → List (List ℕ)
-with_name names name = if list_any (same_numbers name) names then names else names ++ name ∷ []
 
 -- the names with each of these behind them in turn
 abbrev pub with_names : List (List ℕ) → List (List ℕ) → List (List ℕ)

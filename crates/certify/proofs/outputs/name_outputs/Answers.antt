@@ -4,7 +4,7 @@ use Rattle.certify.proofs.OutputsLemmas.{named_kept, named_push, names_more, len
 use Rattle.certify.proofs.outputs.name_outputs.Goals as goal
 use Rattle.certify.specs.Outputs.{AreNamed}
 use Rattle.transcript_model.specs.Names.{generated, with_names}
-use Rattle.fact_store.specs.Store.{with_name}
+use Rattle.task_model.specs.Known.{with_name}
 
 pub loop-value-preserved : goal.loop-value-preserved
 loop-value-preserved c =

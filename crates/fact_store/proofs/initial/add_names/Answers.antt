@@ -1,7 +1,7 @@
 use Rattle.std.proofs.Common.{◌∙◌}
 use Rattle.fact_store.proofs.InitialLemmas.{name_next}
 use Rattle.fact_store.proofs.initial.add_names.Goals as goal
-use Rattle.fact_store.specs.Store.{with_name}
+use Rattle.task_model.specs.Known.{with_name}
 
 pub loop-declared-preserved : goal.loop-declared-preserved
 loop-declared-preserved c = record {

@@ -2,7 +2,7 @@ use Rattle.std.proofs.Common.{◌≡◌, ◌∙◌, ◌≤◌, [], Some, refl, l
 use Rattle.gen_lines.specs.Lines.{unfinished}
 use Rattle.report_text.specs.Forms.{IsFormed}
 use Rattle.report_text.specs.Places.{first}
-use Rattle.report_reader.specs.Body.{lines_of_report}
+use Rattle.report_text.specs.Texts.{lines_of_report}
 use Rattle.report_reader.specs.Finding.{PartReads, Stops}
 use Rattle.report_reader.specs.Splits.{field_lines}
 use Rattle.report_reader.proofs.FindingFaultLemmas.{stop_is_fault, left_is_fault, rest_is_fault, report_is_text, few_lines, told_line}
