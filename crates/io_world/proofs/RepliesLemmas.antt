@@ -7,7 +7,7 @@ use Rattle.std.proofs.lemmas.List.Elements.{All-append}
 use Rattle.std.proofs.lemmas.List.Folds.{list_any-append}
 use Rattle.std.proofs.lemmas.Grind.{flat_map-append}
 use Rattle.io_world.specs.Replies.{IsLine, ReplyState, HearsByte, Replies}
-use Rattle.lemmas.specs.Lists.{lines_text}
+use Rattle.lemmas.specs.Lists.{lines_with_feeds}
 
 -- nothing was asked yet
 pub none_asked : (answers : List ℕ → List ℕ) (old new : ReplyState) → new ≡ old → IsLine new.request → Replies answers [] old new
@@ -22,8 +22,8 @@ none_asked answers old new same line =
     })
 
 -- one line more
-pub lines_text-more : (lines : List (List ℕ)) (line : List ℕ) → lines_text (lines ++ line ∷ []) ≡ lines_text lines ++ (line ++ 10 ∷ [])
-lines_text-more lines line = flat_map-append (λ l. l ++ 10 ∷ []) lines (line ∷ []) ∙ ap (λ tail. lines_text lines ++ tail) (append-nil (line ++ 10 ∷ []))
+pub lines_with_feeds-more : (lines : List (List ℕ)) (line : List ℕ) → lines_with_feeds (lines ++ line ∷ []) ≡ lines_with_feeds lines ++ (line ++ 10 ∷ [])
+lines_with_feeds-more lines line = flat_map-append (λ l. l ++ 10 ∷ []) lines (line ∷ []) ∙ ap (λ tail. lines_with_feeds lines ++ tail) (append-nil (line ++ 10 ∷ []))
 
 single : (line : List ℕ) → IsLine line → All IsLine (line ∷ [])
 single line here zero d below = here
@@ -33,17 +33,17 @@ single line here (suc k) d below = absurd (omega arith)
 ended : (answers : List ℕ → List ℕ) (bytes : List ℕ) (old now : ReplyState) → Replies answers bytes old now → Replies answers (bytes ++ 10 ∷ []) old (record { request = []; pending = now.pending ++ (answers now.request ++ 10 ∷ []) })
 ended answers bytes old now so_far = record {
   requests = so_far.requests ++ now.request ∷ [];
-  split = sym (append_assoc old.request bytes (10 ∷ [])) ∙ ap (λ front. front ++ 10 ∷ []) so_far.split ∙ append_assoc (lines_text so_far.requests) now.request (10 ∷ []) ∙ sym (lines_text-more so_far.requests now.request) ∙ sym (append-nil (lines_text (so_far.requests ++ now.request ∷ [])));
+  split = sym (append_assoc old.request bytes (10 ∷ [])) ∙ ap (λ front. front ++ 10 ∷ []) so_far.split ∙ append_assoc (lines_with_feeds so_far.requests) now.request (10 ∷ []) ∙ sym (lines_with_feeds-more so_far.requests now.request) ∙ sym (append-nil (lines_with_feeds (so_far.requests ++ now.request ∷ [])));
   lines = All-append IsLine so_far.requests (now.request ∷ []) so_far.lines (single now.request so_far.rest);
   rest = refl;
-  answered = ap (λ front. front ++ (answers now.request ++ 10 ∷ [])) so_far.answered ∙ append_assoc old.pending (lines_text (map answers so_far.requests)) (answers now.request ++ 10 ∷ []) ∙ ap (λ tail. old.pending ++ tail) (sym (lines_text-more (map answers so_far.requests) (answers now.request)) ∙ ap lines_text (sym (map-append answers so_far.requests (now.request ∷ []))));
+  answered = ap (λ front. front ++ (answers now.request ++ 10 ∷ [])) so_far.answered ∙ append_assoc old.pending (lines_with_feeds (map answers so_far.requests)) (answers now.request ++ 10 ∷ []) ∙ ap (λ tail. old.pending ++ tail) (sym (lines_with_feeds-more (map answers so_far.requests) (answers now.request)) ∙ ap lines_with_feeds (sym (map-append answers so_far.requests (now.request ∷ []))));
 }
 
 -- a byte of a request
 continued : (answers : List ℕ → List ℕ) (bytes : List ℕ) (byte : ℕ) (old now : ReplyState) → (byte == 10) ≡ false → Replies answers bytes old now → Replies answers (bytes ++ byte ∷ []) old (record { request = now.request ++ byte ∷ []; pending = now.pending })
 continued answers bytes byte old now other so_far = record {
   requests = so_far.requests;
-  split = sym (append_assoc old.request bytes (byte ∷ [])) ∙ ap (λ front. front ++ byte ∷ []) so_far.split ∙ append_assoc (lines_text so_far.requests) now.request (byte ∷ []);
+  split = sym (append_assoc old.request bytes (byte ∷ [])) ∙ ap (λ front. front ++ byte ∷ []) so_far.split ∙ append_assoc (lines_with_feeds so_far.requests) now.request (byte ∷ []);
   lines = so_far.lines;
   rest = rw (list_any-append (λ x. x == 10) now.request (byte ∷ [])) (rw so_far.rest (rw other refl));
   answered = so_far.answered;

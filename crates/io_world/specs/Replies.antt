@@ -1,5 +1,5 @@
 -- Requests that are lines, and their answers.
-use Rattle.lemmas.specs.Lists.{lines_text}
+use Rattle.lemmas.specs.Lists.{lines_with_feeds}
 use Rattle.std.specs.Prelude.{◌≡◌, ℕ, true, false, List, [], ◌∷◌, ◌++◌, ◌==◌, map, length, if◌then◌else◌}
 use Rattle.std.specs.List.{list_any, flat_map, All}
 
@@ -31,10 +31,10 @@ HearsByte answers byte old new = new ≡ (if byte == 10 then record { request = 
 -- with these bytes so many requests became whole, and each was answered
 pub record Replies (answers : List ℕ → List ℕ) (bytes : List ℕ) (old new : ReplyState) : Type 0 where
   pub requests : List (List ℕ)
-  pub split : old.request ++ bytes ≡ lines_text requests ++ new.request
+  pub split : old.request ++ bytes ≡ lines_with_feeds requests ++ new.request
   pub lines : All IsLine requests
   pub rest : IsLine new.request
-  pub answered : new.pending ≡ old.pending ++ lines_text (map answers requests)
+  pub answered : new.pending ≡ old.pending ++ lines_with_feeds (map answers requests)
 
 -- what the next read may give: the answers that are pending, and `end` where none is
 abbrev pub next_bytes : ReplyState → List ℕ

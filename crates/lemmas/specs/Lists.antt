@@ -27,5 +27,5 @@ abbrev pub has_number : List ℕ → ℕ → Bool
 has_number numbers n = list_any (λ m. n == m) numbers
 
 -- the lines, each with its line feed
-abbrev pub lines_text : List (List ℕ) → List ℕ
-lines_text lines = flat_map (λ line. line ++ 10 ∷ []) lines
+abbrev pub lines_with_feeds : List (List ℕ) → List ℕ
+lines_with_feeds lines = flat_map (λ line. line ++ 10 ∷ []) lines

@@ -8,7 +8,7 @@ use Rattle.report_text.proofs.LineTextLemmas.{read_lines, lines_read}
 use Rattle.report_text.proofs.FormsLemmas.{report_lines, report_text, report_clear}
 use Rattle.report_text.proofs.TextsReadBack.{lines_determine}
 use Rattle.report_text.specs.Faults.{BeginsReport, IsFirstFault, IsReport, whole_lines}
-use Rattle.lemmas.specs.Lists.{lines_text}
+use Rattle.lemmas.specs.Lists.{lines_with_feeds}
 use Rattle.report_text.specs.Forms.{IsFormed}
 use Rattle.report_text.specs.Texts.{text_of_report}
 use Rattle.transcript_model.specs.declared.report.Report.{Report}
@@ -35,10 +35,10 @@ begins_front lines n m le begins =
     let front = take n (take m lines) in
     let back = drop n (take m lines) in
     let parts : take m lines ≡ front ++ back = sym (take-append-drop n (take m lines)) in
-    let text : lines_text (take m lines) ++ begins.0 ≡ lines_text front ++ (lines_text back ++ begins.0) =
-    ap (λ ls. lines_text ls ++ begins.0) parts ∙ ap (λ t. t ++ begins.0) (flat_map-append (λ line. line ++ 10 ∷ []) front back) ∙ append_assoc (lines_text front) (lines_text back) begins.0 in
-    let there : IsReport (lines_text front ++ (lines_text back ++ begins.0)) = subst IsReport text begins.1 in
-    subst (λ ls. BeginsReport ls) (twice lines n m le) (lines_text back ++ begins.0, there)
+    let text : lines_with_feeds (take m lines) ++ begins.0 ≡ lines_with_feeds front ++ (lines_with_feeds back ++ begins.0) =
+    ap (λ ls. lines_with_feeds ls ++ begins.0) parts ∙ ap (λ t. t ++ begins.0) (flat_map-append (λ line. line ++ 10 ∷ []) front back) ∙ append_assoc (lines_with_feeds front) (lines_with_feeds back) begins.0 in
+    let there : IsReport (lines_with_feeds front ++ (lines_with_feeds back ++ begins.0)) = subst IsReport text begins.1 in
+    subst (λ ls. BeginsReport ls) (twice lines n m le) (lines_with_feeds back ++ begins.0, there)
   where
     twice : (xs : List (List ℕ)) (j k : ℕ) → j ≤ k → take j (take k xs) ≡ take j xs
     twice xs zero k le = refl

@@ -8,7 +8,7 @@ use Rattle.std.specs.Cmp.{first_so, second_so}
 use Rattle.std.specs.List.{list_all, slice_split, onto_first}
 use Rattle.gen_lines.specs.Lines.{is_feed, ended, open_part, unfinished}
 use Rattle.report_text.specs.Faults.{whole_lines, IsReport, BeginsReport, IsFirstFault}
-use Rattle.lemmas.specs.Lists.{lines_text}
+use Rattle.lemmas.specs.Lists.{lines_with_feeds}
 use Rattle.report_text.specs.Places.{Place, first, limits, pools, entries, dream, plan, cost, origins, last, behind, IsBodyStep, IsLineStep, IsPath, line_body, IsTextStep, IsTextPath, IsStuck, StopsAfter}
 use Rattle.report_text.specs.Texts.{Line, line_text, lines_text, text_of_report}
 use Rattle.transcript_model.specs.declared.report.Report.{Report}
@@ -21,11 +21,11 @@ use Rattle.report_text.proofs.PlacesPathLemmas.{report_path, path_report, path_t
 -- ---- the lines of a text
 
 -- lines that have no line feed, each with one behind it, and then more
-parts_of : (lines : List (List ℕ)) (rest : List ℕ) → All (λ line. All (λ b. is_feed b ≡ false) line) lines → slice_split is_feed (lines_text lines ++ rest) ≡ lines ++ slice_split is_feed rest
+parts_of : (lines : List (List ℕ)) (rest : List ℕ) → All (λ line. All (λ b. is_feed b ≡ false) line) lines → slice_split is_feed (lines_with_feeds lines ++ rest) ≡ lines ++ slice_split is_feed rest
 parts_of [] rest all = refl
 parts_of (l ∷ ls) rest all =
-    let whole : lines_text (l ∷ ls) ++ rest ≡ l ++ 10 ∷ (lines_text ls ++ rest) = append_assoc (l ++ 10 ∷ []) (lines_text ls) rest ∙ append_assoc l (10 ∷ []) (lines_text ls ++ rest) in
-    ap (slice_split is_feed) whole ∙ slice_split_at is_feed l 10 (lines_text ls ++ rest) (all 0 l (omega arith)) refl ∙ ap (λ ps. l ∷ ps) (parts_of ls rest (λ k d lt. all (suc k) d (omega arith)))
+    let whole : lines_with_feeds (l ∷ ls) ++ rest ≡ l ++ 10 ∷ (lines_with_feeds ls ++ rest) = append_assoc (l ++ 10 ∷ []) (lines_with_feeds ls) rest ∙ append_assoc l (10 ∷ []) (lines_with_feeds ls ++ rest) in
+    ap (slice_split is_feed) whole ∙ slice_split_at is_feed l 10 (lines_with_feeds ls ++ rest) (all 0 l (omega arith)) refl ∙ ap (λ ps. l ∷ ps) (parts_of ls rest (λ k d lt. all (suc k) d (omega arith)))
 
 ended_more : (xs ys : List (List ℕ)) → 0 < length ys → ended (xs ++ ys) ≡ xs ++ ended ys
 ended_more [] ys some = refl
@@ -40,7 +40,7 @@ some_parts bytes = omega (arith, length-slice_split is_feed bytes)
 lines_written : (lines : List Line) → list_all is_clear lines ≡ true → whole_lines (lines_text lines) ≡ map line_body lines
 lines_written lines clear = ap ended (feeds_cut lines clear) ∙ ended_more (map line_body lines) ([] ∷ []) (omega arith) ∙ append-nil (map line_body lines)
 
-joined_text : (lines : List Line) → lines_text (map line_body lines) ≡ lines_text lines
+joined_text : (lines : List Line) → lines_with_feeds (map line_body lines) ≡ lines_text lines
 joined_text [] = refl
 joined_text (l ∷ ls) = ap (λ t. line_text l ++ t) (joined_text ls)
 
@@ -156,7 +156,7 @@ begins : (texts : List (List ℕ)) (m : Place) → IsTextPath first texts m → 
 begins texts m (lines, is, path) =
     let rest = completes m (path_live first lines m tt path) in
     let r = path_report (lines ++ rest.0) (path_then first lines rest.0 m behind path rest.1) in
-    (lines_text rest.0, (r.0, r.1, report_text r.0 ∙ ap lines_text r.2 ∙ flat_map-append line_text lines rest.0 ∙ ap (λ t. t ++ lines_text rest.0) (sym (joined_text lines) ∙ ap lines_text is)))
+    (lines_text rest.0, (r.0, r.1, report_text r.0 ∙ ap lines_text r.2 ∙ flat_map-append line_text lines rest.0 ∙ ap (λ t. t ++ lines_text rest.0) (sym (joined_text lines) ∙ ap lines_with_feeds is)))
 
 -- no report begins with these lines and the one at which reading is stuck
 stuck_there : (front : List (List ℕ)) (text : List ℕ) (m : Place) → IsTextPath first front m → ((n : Place) → ¬ (IsTextStep m text n)) → (more : List (List ℕ)) (bytes : List ℕ) → whole_lines bytes ≡ front ++ text ∷ more → ¬ (IsReport bytes)
@@ -199,16 +199,16 @@ stops_fault bytes k s = by_rest (drop k (whole_lines bytes)) refl s.stuck
           upto = omega (arith, s.within);
           before = subst (λ m. BeginsReport (take m (whole_lines bytes))) (sym (minus_one k)) (begins (take k (whole_lines bytes)) s.at s.path);
           here = λ le more.
-              let there : whole_lines (lines_text (take (k + 1) (whole_lines bytes)) ++ more.0) ≡ take k (whole_lines bytes) ++ text ∷ ended (slice_split is_feed more.0) =
+              let there : whole_lines (lines_with_feeds (take (k + 1) (whole_lines bytes)) ++ more.0) ≡ take k (whole_lines bytes) ++ text ∷ ended (slice_split is_feed more.0) =
               ap ended (parts_of (take (k + 1) (whole_lines bytes)) more.0 (lines_free bytes (k + 1))) ∙ ended_more (take (k + 1) (whole_lines bytes)) (slice_split is_feed more.0) (some_parts more.0) ∙ ap (λ ts. ts ++ ended (slice_split is_feed more.0)) next ∙ append_assoc (take k (whole_lines bytes)) (text ∷ []) (ended (slice_split is_feed more.0)) in
-              stuck_there (take k (whole_lines bytes)) text s.at s.path stuck (ended (slice_split is_feed more.0)) (lines_text (take (k + 1) (whole_lines bytes)) ++ more.0) there more.1;
+              stuck_there (take k (whole_lines bytes)) text s.at s.path stuck (ended (slice_split is_feed more.0)) (lines_with_feeds (take (k + 1) (whole_lines bytes)) ++ more.0) there more.1;
           none = stuck_there (take k (whole_lines bytes)) text s.at s.path stuck later bytes (sym (take-append-drop k (whole_lines bytes)) ∙ ap (λ ts. take k (whole_lines bytes) ++ ts) e);
         }
 
 -- ---- the text is its lines and what is behind them
 
 abbrev whole : List (List ℕ) → List ℕ
-whole parts = lines_text (ended parts) ++ open_part parts
+whole parts = lines_with_feeds (ended parts) ++ open_part parts
 
 whole_feed : (parts : List (List ℕ)) → 0 < length parts → whole ([] ∷ parts) ≡ 10 ∷ whole parts
 whole_feed [] some = absurd (omega arith)
@@ -219,7 +219,7 @@ whole_other x [] some = absurd (omega arith)
 whole_other x (p ∷ []) some = refl
 whole_other x (p ∷ q ∷ ps) some = refl
 
-pub text_parts : (bytes : List ℕ) → lines_text (whole_lines bytes) ++ unfinished bytes ≡ bytes
+pub text_parts : (bytes : List ℕ) → lines_with_feeds (whole_lines bytes) ++ unfinished bytes ≡ bytes
 text_parts [] = refl
 text_parts (x ∷ xs) =
     elim (is_feed x) as (λ c. is_feed x ≡ c → whole (cond c ([] ∷ slice_split is_feed xs) (onto_first x (slice_split is_feed xs))) ≡ x ∷ xs) [
@@ -230,7 +230,7 @@ text_parts (x ∷ xs) =
 -- lines that are those of a report, with nothing behind them, are its text
 pub lines_report : (r : Report) (bytes : List ℕ) → whole_lines bytes ≡ map line_body (report_lines r) → unfinished bytes ≡ [] → text_of_report r ≡ bytes
 lines_report r bytes lines none =
-    report_text r ∙ sym (joined_text (report_lines r)) ∙ ap lines_text (sym lines) ∙ sym (append-nil (lines_text (whole_lines bytes))) ∙ ap (λ t. lines_text (whole_lines bytes) ++ t) (sym none) ∙ text_parts bytes
+    report_text r ∙ sym (joined_text (report_lines r)) ∙ ap lines_with_feeds (sym lines) ∙ sym (append-nil (lines_with_feeds (whole_lines bytes))) ∙ ap (λ t. lines_with_feeds (whole_lines bytes) ++ t) (sym none) ∙ text_parts bytes
 
 -- a report's text ends with a line feed
 report_ends : (bytes : List ℕ) → IsReport bytes → unfinished bytes ≡ []

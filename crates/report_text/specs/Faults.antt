@@ -1,5 +1,5 @@
 -- Where a text is no report: its first line that isn't of a form at its place.
-use Rattle.lemmas.specs.Lists.{lines_text}
+use Rattle.lemmas.specs.Lists.{lines_with_feeds}
 use Rattle.std.specs.Prelude.{◌≡◌, ℕ, ◌+◌, ◌-◌, ◌<◌, ◌≤◌, List, [], ◌∷◌, ◌++◌, length, take}
 use Rattle.std.specs.List.{flat_map, slice_split}
 use Rattle.gen_lines.specs.Lines.{is_feed, ended}
@@ -19,7 +19,7 @@ IsReport bytes = (r : Report) × IsFormed r × (text_of_report r ≡ bytes)
 
 -- some report begins with these lines
 abbrev pub BeginsReport : List (List ℕ) → Type 0
-BeginsReport lines = (rest : List ℕ) × IsReport (lines_text lines ++ rest)
+BeginsReport lines = (rest : List ℕ) × IsReport (lines_with_feeds lines ++ rest)
 
 -- The first line, from 1, up to which no report begins so. Where a report begins with all lines that end with a line feed but
 -- the bytes are none, this is the line behind them: a missing one, or one without a line feed.
