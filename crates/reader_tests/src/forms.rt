@@ -1,8 +1,9 @@
-//! Which texts are refused, and where. In each text the byte `@` marks the place of the fault and is no part of it.
-use crate::refused_domains::{DOMAINS, NUMBER, SHAPE, UNSUPPORTED};
-use crate::{Fault, InputKind, TextKind, check_form};
+//! Which texts are refused for their forms, and where.
+use crate::marked::{Marked, unmarked};
+use crate::refused_forms::{DOMAINS, NUMBER, SHAPE, UNSUPPORTED};
+use form_reader::{Fault, InputKind, TextKind, check_form};
 use sexpr_text::read_tree;
-use std::alloc::{AllocError, Global};
+use std::alloc::Global;
 use std::test::Fail;
 
 /// Problems, each with the fault that is answered.
@@ -252,21 +253,7 @@ const RIGHT: [(TextKind, &[u8]); 12] = [
     ),
 ];
 
-/// The text without its mark, and the place of the mark, if it has one.
-fn unmarked(alloc: Global, marked: &[u8]) -> Result<(Vec<u8>, Option<usize>), AllocError> {
-    let mut text = Vec::new(alloc);
-    let mut place = None;
-    for byte in marked {
-        if *byte == b'@' {
-            place = Some(text.len());
-        } else {
-            text.push(*byte)?;
-        }
-    }
-    Ok((text, place))
-}
-
-/// Reads the text and compares its fault with the marked one.
+/// Whether the fault of the text is the marked one.
 fn is_refused_so(
     alloc: Global,
     text: TextKind,
@@ -279,27 +266,24 @@ fn is_refused_so(
     Ok(check_form(text, &tree) == wanted)
 }
 
-#[test]
-fn domains_have_the_marked_fault(rt: HostRuntime) -> Result<(), Fail> {
-    for (kind, marked) in DOMAINS {
-        assert!(rt; is_refused_so(rt.alloc(), TextKind::Domain, kind, marked)?);
+/// The place of the first of these texts whose fault isn't the marked one.
+fn first_wrong(alloc: Global, text: TextKind, rows: &[Marked]) -> Result<Option<usize>, Fail> {
+    for (number, (kind, marked)) in rows.iter().enumerate() {
+        if !is_refused_so(alloc, text, *kind, marked)? {
+            return Ok(Some(number));
+        }
     }
-    Ok(())
+    Ok(None)
 }
 
 #[test]
-fn problems_have_the_marked_fault(rt: HostRuntime) -> Result<(), Fail> {
-    for (kind, marked) in PROBLEMS {
-        assert!(rt; is_refused_so(rt.alloc(), TextKind::Problem, kind, marked)?);
-    }
-    Ok(())
-}
-
-#[test]
-fn stream_files_have_the_marked_fault(rt: HostRuntime) -> Result<(), Fail> {
-    for (kind, marked) in STREAMS {
-        assert!(rt; is_refused_so(rt.alloc(), TextKind::Streams, kind, marked)?);
-    }
+fn texts_of_each_kind_have_the_marked_fault(rt: HostRuntime) -> Result<(), Fail> {
+    assert_eq!(rt; first_wrong(rt.alloc(), TextKind::Domain, &DOMAINS)?, None);
+    assert_eq!(rt;
+        first_wrong(rt.alloc(), TextKind::Problem, &PROBLEMS)?,
+        None
+    );
+    assert_eq!(rt; first_wrong(rt.alloc(), TextKind::Streams, &STREAMS)?, None);
     Ok(())
 }
 

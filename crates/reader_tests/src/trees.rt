@@ -1,5 +1,5 @@
 //! What a text gives, byte for byte.
-use crate::{Front, TextFault, Tree, alone, front_of, read_tree};
+use sexpr_text::{Front, TextFault, Tree, alone, front_of, read_tree};
 use std::alloc::AllocError;
 use std::fmt::Write;
 use std::str;

@@ -1,7 +1,7 @@
 //! Which texts are refused, with the printed name of the kind and the place.
-use crate::{FaultKind, InputRefusal, domain_in, problem_in, streams_in};
 use form_reader::InputKind;
 use std::test::Fail;
+use task_reader::{FaultKind, InputRefusal, domain_in, problem_in, streams_in};
 
 /// The name of the kind, and the place.
 fn told(refusal: InputRefusal) -> (&'static [u8], usize) {

@@ -1,28 +1,14 @@
-//! Which domains are refused, and where, and what a domain holds. In each refused text the byte `@` marks the place of
-//! the fault and is no part of it.
-use crate::read_domain;
+//! Which domains are refused, and where, and what a domain holds.
+use crate::marked::{fault_at, unmarked};
 use crate::refused_domains::REFUSED;
+use crate::shown::{write_formula, write_name, write_numbers, write_patterns, write_terms};
+use domain_reader::read_domain;
 use form_reader::{InputFault, InputKind};
 use sexpr_text::read_tree;
 use std::alloc::{AllocError, Global};
 use std::fmt::Write;
-use std::str;
 use std::test::Fail;
-use task_model::{CostTerm, Domain, Formula, FormulaNode, Name, Pattern, Role, Term};
-
-/// The text without its mark, and the place of the mark, if it has one.
-fn unmarked(alloc: Global, marked: &[u8]) -> Result<(Vec<u8>, Option<usize>), AllocError> {
-    let mut text = Vec::new(alloc);
-    let mut place = None;
-    for byte in marked {
-        if *byte == b'@' {
-            place = Some(text.len());
-        } else {
-            text.push(*byte)?;
-        }
-    }
-    Ok((text, place))
-}
+use task_model::{CostTerm, Domain, Role};
 
 /// The fault of a domain, and the marked one.
 fn faults_of(
@@ -32,8 +18,7 @@ fn faults_of(
 ) -> Result<(Option<InputFault>, Option<InputFault>), Fail> {
     let (bytes, place) = unmarked(alloc, marked)?;
     let tree = read_tree(alloc, bytes.as_slice())?;
-    let wanted = place.map(|place| InputFault::At { place, kind });
-    Ok((read_domain(alloc, &tree).err(), wanted))
+    Ok((read_domain(alloc, &tree).err(), fault_at(place, kind)))
 }
 
 #[test]
@@ -72,80 +57,6 @@ fn the_65th_derived_predicate_is_one_too_many(rt: HostRuntime) -> Result<(), Fai
         kind: InputKind::TooMany,
     };
     assert_eq!(rt; read_domain(rt.alloc(), &tree).err(), Some(wanted));
-    Ok(())
-}
-
-/// Writes a name.
-fn write_name(out: &mut String, name: &Name) -> Result<(), AllocError> {
-    let letters = str::from_utf8(name.bytes()).unwrap_or("?");
-    write!(out, " {letters}")
-}
-
-/// Writes terms, a slot as `?N` and an object as `N`.
-fn write_terms(out: &mut String, terms: &[Term]) -> Result<(), AllocError> {
-    for term in terms {
-        match term {
-            Term::Slot(slot) => write!(out, " ?{slot}")?,
-            Term::Object(object) => write!(out, " {}", object.place())?,
-        }
-    }
-    Ok(())
-}
-
-/// Writes atoms as `[PRED TERMS]`.
-fn write_patterns(out: &mut String, patterns: &[Pattern]) -> Result<(), AllocError> {
-    for pattern in patterns {
-        write!(out, " [{}", pattern.pred)?;
-        write_terms(out, pattern.args.as_slice())?;
-        write!(out, "]")?;
-    }
-    Ok(())
-}
-
-/// Writes a condition, as deep as `depth` says.
-fn write_formula(out: &mut String, formula: &Formula, depth: usize) -> Result<(), AllocError> {
-    if depth == 0 {
-        return Ok(());
-    }
-    match &formula.node {
-        FormulaNode::Atom { pred, args } => {
-            write!(out, " [{pred}")?;
-            write_terms(out, args.as_slice())?;
-        }
-        FormulaNode::Equal(first, second) => {
-            write!(out, " [=")?;
-            write_terms(out, &[*first, *second])?;
-        }
-        FormulaNode::All(parts) => {
-            write!(out, " [and")?;
-            for part in parts {
-                write_formula(out, part, depth - 1)?;
-            }
-        }
-        FormulaNode::Any(parts) => {
-            write!(out, " [or")?;
-            for part in parts {
-                write_formula(out, part, depth - 1)?;
-            }
-        }
-        FormulaNode::Not(part) => {
-            write!(out, " [not")?;
-            write_formula(out, part, depth - 1)?;
-        }
-        FormulaNode::Exists { first, sorts, body } => {
-            write!(out, " [exists {first}:")?;
-            write_numbers(out, sorts.as_slice())?;
-            write_formula(out, body, depth - 1)?;
-        }
-    }
-    write!(out, "]")
-}
-
-/// Writes numbers.
-fn write_numbers(out: &mut String, numbers: &[u32]) -> Result<(), AllocError> {
-    for number in numbers {
-        write!(out, " {number}")?;
-    }
     Ok(())
 }
 

@@ -1,34 +1,20 @@
-//! Which problems are refused, and where, and what a problem holds. In each refused text the byte `@` marks the place of
-//! the fault and is no part of it.
-use crate::read_problem;
+//! Which problems are refused, and where, and what a problem holds.
+use crate::marked::{fault_at, unmarked};
 use crate::refused_problems::{DOMAIN, REFUSED};
-use form_reader::{InputFault, InputKind};
+use crate::shown::{write_formula, write_name, write_numbers};
 use domain_reader::read_domain;
+use form_reader::{InputFault, InputKind};
+use problem_reader::read_problem;
 use sexpr_text::read_tree;
 use std::alloc::{AllocError, Global};
 use std::fmt::Write;
-use std::str;
 use std::test::Fail;
-use task_model::{Domain, Fact, Formula, FormulaNode, Name, Obj, Problem, Term, Valued};
-
-/// The text without its mark, and the place of the mark, if it has one.
-fn unmarked(alloc: Global, marked: &[u8]) -> Result<(Vec<u8>, Option<usize>), AllocError> {
-    let mut text = Vec::new(alloc);
-    let mut place = None;
-    for byte in marked {
-        if *byte == b'@' {
-            place = Some(text.len());
-        } else {
-            text.push(*byte)?;
-        }
-    }
-    Ok((text, place))
-}
+use task_model::{Domain, Fact, Obj, Problem, Valued};
 
 /// The domain of a text.
-fn domain_of(alloc: Global, text: &[u8]) -> Result<Domain, Fail> {
+fn domain_of(alloc: Global, text: &[u8]) -> Result<Box<Domain>, Fail> {
     let tree = read_tree(alloc, text)?;
-    Ok(read_domain(alloc, &tree)?)
+    Ok(Box::new(alloc, read_domain(alloc, &tree)?)?)
 }
 
 /// The fault of a problem, and the marked one.
@@ -40,8 +26,10 @@ fn faults_of(
 ) -> Result<(Option<InputFault>, Option<InputFault>), Fail> {
     let (bytes, place) = unmarked(alloc, marked)?;
     let tree = read_tree(alloc, bytes.as_slice())?;
-    let wanted = place.map(|place| InputFault::At { place, kind });
-    Ok((read_problem(alloc, &tree, domain).err(), wanted))
+    Ok((
+        read_problem(alloc, &tree, domain).err(),
+        fault_at(place, kind),
+    ))
 }
 
 #[test]
@@ -50,70 +38,6 @@ fn problems_have_the_marked_fault(rt: HostRuntime) -> Result<(), Fail> {
     for (kind, marked) in REFUSED {
         let (fault, wanted) = faults_of(rt.alloc(), &domain, kind, marked)?;
         assert_eq!(rt; fault, wanted);
-    }
-    Ok(())
-}
-
-/// Writes a name.
-fn write_name(out: &mut String, name: &Name) -> Result<(), AllocError> {
-    let letters = str::from_utf8(name.bytes()).unwrap_or("?");
-    write!(out, " {letters}")
-}
-
-/// Writes terms, a slot as `?N` and an object as `N`.
-fn write_terms(out: &mut String, terms: &[Term]) -> Result<(), AllocError> {
-    for term in terms {
-        match term {
-            Term::Slot(slot) => write!(out, " ?{slot}")?,
-            Term::Object(object) => write!(out, " {}", object.place())?,
-        }
-    }
-    Ok(())
-}
-
-/// Writes a condition, as deep as `depth` says.
-fn write_formula(out: &mut String, formula: &Formula, depth: usize) -> Result<(), AllocError> {
-    if depth == 0 {
-        return Ok(());
-    }
-    match &formula.node {
-        FormulaNode::Atom { pred, args } => {
-            write!(out, " [{pred}")?;
-            write_terms(out, args.as_slice())?;
-        }
-        FormulaNode::Equal(first, second) => {
-            write!(out, " [=")?;
-            write_terms(out, &[*first, *second])?;
-        }
-        FormulaNode::All(parts) => {
-            write!(out, " [and")?;
-            for part in parts {
-                write_formula(out, part, depth - 1)?;
-            }
-        }
-        FormulaNode::Any(parts) => {
-            write!(out, " [or")?;
-            for part in parts {
-                write_formula(out, part, depth - 1)?;
-            }
-        }
-        FormulaNode::Not(part) => {
-            write!(out, " [not")?;
-            write_formula(out, part, depth - 1)?;
-        }
-        FormulaNode::Exists { first, sorts, body } => {
-            write!(out, " [exists {first}:")?;
-            write_numbers(out, sorts.as_slice())?;
-            write_formula(out, body, depth - 1)?;
-        }
-    }
-    write!(out, "]")
-}
-
-/// Writes numbers.
-fn write_numbers(out: &mut String, numbers: &[u32]) -> Result<(), AllocError> {
-    for number in numbers {
-        write!(out, " {number}")?;
     }
     Ok(())
 }
