@@ -8,11 +8,7 @@ mod effects;
 mod items;
 mod once;
 mod reader;
-#[cfg(test)]
-mod refused_domains;
 mod tables;
-#[cfg(test)]
-mod tests;
 
 pub use once::check_second_items;
 pub use reader::read_domain;

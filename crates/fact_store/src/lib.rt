@@ -7,6 +7,3 @@ mod scan;
 
 pub use facts::Facts;
 pub use initial::add_supertypes;
-
-#[cfg(test)]
-mod tests;

@@ -10,10 +10,6 @@ mod items;
 mod keys;
 pub mod laws;
 mod refused;
-#[cfg(test)]
-mod refused_domains;
-#[cfg(test)]
-mod tests;
 mod texts;
 mod words;
 

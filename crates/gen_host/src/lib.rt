@@ -11,6 +11,3 @@ pub use box_host::BoxHost;
 pub use child::ChildGen;
 pub use generator::Generator;
 pub use members::add_idle;
-
-#[cfg(test)]
-mod tests;

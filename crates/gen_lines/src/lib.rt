@@ -13,6 +13,3 @@ pub use answer::{Answer, Wanted, Why, answer_of};
 pub use line_buf::{LINE_BYTES, LineBuf, Seen};
 pub use request::request_text;
 pub use spans::Spans;
-
-#[cfg(test)]
-mod tests;

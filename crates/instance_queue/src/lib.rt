@@ -6,8 +6,6 @@ mod level;
 mod order;
 mod queue;
 mod reach;
-#[cfg(test)]
-mod tests;
 
 pub use due::{Due, QueueFault};
 pub use queue::Queue;

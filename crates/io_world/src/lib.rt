@@ -48,6 +48,3 @@ pub use sure_host::SureHost;
 pub use sure_sink::SureSink;
 pub use conversation::{hear_line, send_all};
 pub use whole_writes::write_all;
-
-#[cfg(test)]
-mod tests;

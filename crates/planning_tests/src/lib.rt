@@ -1,7 +1,9 @@
-//! Tests that cross crates: truth, steps, plans, facts and requests over tasks that are built by hand.
+//! Tests of planning: states and facts, truth, steps, plans and requests.
 #![tactic(auto)]
 
 pub mod build;
+#[cfg(test)]
+mod facts;
 #[cfg(test)]
 mod fault;
 #[cfg(test)]
@@ -13,4 +15,8 @@ mod known;
 #[cfg(test)]
 mod requests;
 #[cfg(test)]
+mod stores;
+#[cfg(test)]
 mod unfit;
+#[cfg(test)]
+mod values;

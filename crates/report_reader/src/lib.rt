@@ -17,8 +17,3 @@ mod tuples;
 mod whole;
 
 pub use reader::read_report;
-
-#[cfg(test)]
-mod form_tests;
-#[cfg(test)]
-mod tests;

@@ -2,48 +2,27 @@
 use crate::outcome::Outcome;
 use best_first::{Blind, Estimate, Found, exceeds, search};
 use fact_store::Facts;
-use fit_check::is_fit;
 use grounder::applicable;
 use plan_check::initial;
-use std::alloc::{AllocError, AllocFailed, Global};
-use task_model::{GroundAction, Task};
+use std::alloc::{AllocError, Global};
+use std::test::Fail;
+use task_model::GroundAction;
+use worked_tasks::{Texts, task};
 
-/// Why nothing is said of a task.
-#[derive(Clone, Copy, Debug, PartialEq, Eq)]
-pub enum Fault {
-    /// The task isn't fit, or there is no such limit.
-    Unfit,
-    /// No plan was found.
-    NoPlan,
-    /// Memory is wanting.
-    Memory,
-}
-
-impl From<AllocError> for Fault {
-    fn from(_e: AllocError) -> Fault {
-        Fault::Memory
+/// What a search of the task comes to. For a limit that isn't one there is nothing to say.
+fn found(alloc: Global, texts: &Texts<'_>, limit: u32) -> Result<Box<Found>, Fail> {
+    if limit < 1 || limit > 200_000 {
+        return Err(Fail::from(AllocError));
     }
-}
-
-impl<T: Drop> From<AllocFailed<T>> for Fault {
-    fn from(_e: AllocFailed<T>) -> Fault {
-        Fault::Memory
-    }
-}
-
-/// What a search comes to.
-fn found(alloc: Global, task: &Task, limit: u32) -> Result<Box<Found>, Fault> {
-    if limit < 1 || limit > 200_000 || !is_fit(alloc, task)? {
-        return Err(Fault::Unfit);
-    }
-    let facts = Box::new(alloc, Facts::new(alloc, task)?)?;
-    let found = search(alloc, task, &*facts, limit, &mut Blind)?;
+    let task = task(alloc, texts)?;
+    let facts = Box::new(alloc, Facts::new(alloc, &task)?)?;
+    let found = search(alloc, &task, &*facts, limit, &mut Blind)?;
     Ok(Box::new(alloc, found)?)
 }
 
 /// What a search comes to, as plain numbers.
-pub fn searched(alloc: Global, task: &Task, limit: u32) -> Result<Outcome, Fault> {
-    let found = found(alloc, task, limit)?;
+pub fn searched(alloc: Global, texts: &Texts<'_>, limit: u32) -> Result<Outcome, Fail> {
+    let found = found(alloc, texts, limit)?;
     Ok(Outcome::of(&found))
 }
 
@@ -58,41 +37,38 @@ fn shown(alloc: Global, steps: &[GroundAction]) -> Result<Vec<(u32, u32)>, Alloc
     Ok(all)
 }
 
-/// The steps of the plan that is found, each with each of its arguments.
-pub fn steps_found(alloc: Global, task: &Task, limit: u32) -> Result<Vec<(u32, u32)>, Fault> {
-    let found = found(alloc, task, limit)?;
+/// The steps of the plan that is found, each with each of its arguments; none where no plan is found.
+pub fn steps_found(alloc: Global, texts: &Texts<'_>, limit: u32) -> Result<Vec<(u32, u32)>, Fail> {
+    let found = found(alloc, texts, limit)?;
     match &*found {
         Found::Plan(plan, _) => Ok(shown(alloc, plan.steps.as_slice())?),
-        _ => Err(Fault::NoPlan),
+        _ => Ok(Vec::new(alloc)),
     }
 }
 
 /// Whether more states are reached.
-pub fn exceeded(alloc: Global, task: &Task, limit: u32) -> Result<bool, Fault> {
-    if limit < 1 || limit > 200_000 || !is_fit(alloc, task)? {
-        return Err(Fault::Unfit);
+pub fn exceeded(alloc: Global, texts: &Texts<'_>, limit: u32) -> Result<bool, Fail> {
+    if limit < 1 || limit > 200_000 {
+        return Err(Fail::from(AllocError));
     }
-    let facts = Box::new(alloc, Facts::new(alloc, task)?)?;
-    Ok(exceeds(alloc, task, &*facts, limit)?)
+    let task = task(alloc, texts)?;
+    let facts = Box::new(alloc, Facts::new(alloc, &task)?)?;
+    Ok(exceeds(alloc, &task, &*facts, limit)?)
 }
 
 /// The steps that can be taken at first, each with each of its arguments.
-pub fn first_steps(alloc: Global, task: &Task) -> Result<Vec<(u32, u32)>, Fault> {
-    if !is_fit(alloc, task)? {
-        return Err(Fault::Unfit);
-    }
-    let facts = Box::new(alloc, Facts::new(alloc, task)?)?;
-    let state = Box::new(alloc, initial(alloc, task)?)?;
-    let steps = applicable(alloc, task, &*facts, &state)?;
+pub fn first_steps(alloc: Global, texts: &Texts<'_>) -> Result<Vec<(u32, u32)>, Fail> {
+    let task = task(alloc, texts)?;
+    let facts = Box::new(alloc, Facts::new(alloc, &task)?)?;
+    let state = Box::new(alloc, initial(alloc, &task)?)?;
+    let steps = applicable(alloc, &task, &*facts, &state)?;
     Ok(shown(alloc, steps.as_slice())?)
 }
 
 /// What the blind estimate says of the initial state.
-pub fn estimated(alloc: Global, task: &Task) -> Result<u64, Fault> {
-    if !is_fit(alloc, task)? {
-        return Err(Fault::Unfit);
-    }
-    let facts = Box::new(alloc, Facts::new(alloc, task)?)?;
-    let state = Box::new(alloc, initial(alloc, task)?)?;
-    Ok(Blind.estimate(task, &*facts, &state))
+pub fn estimated(alloc: Global, texts: &Texts<'_>) -> Result<u64, Fail> {
+    let task = task(alloc, texts)?;
+    let facts = Box::new(alloc, Facts::new(alloc, &task)?)?;
+    let state = Box::new(alloc, initial(alloc, &task)?)?;
+    Ok(Blind.estimate(&task, &*facts, &state))
 }

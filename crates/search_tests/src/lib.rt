@@ -1,10 +1,8 @@
-//! Tests of searching: applicable actions and plans over tasks that are built by hand.
+//! Tests of searching: applicable actions and plans.
 #![tactic(auto)]
 
 #[cfg(test)]
 mod asked;
-#[cfg(test)]
-mod keep;
-#[cfg(test)]
-mod lamps;
 pub mod outcome;
+#[cfg(test)]
+mod searches;

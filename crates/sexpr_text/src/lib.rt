@@ -13,8 +13,6 @@ mod front;
 mod nest;
 mod reader;
 mod scanner;
-#[cfg(test)]
-mod tests;
 mod text;
 mod tree;
 

@@ -5,6 +5,3 @@ mod same;
 pub mod store;
 
 pub use store::StateStore;
-
-#[cfg(test)]
-mod tests;

@@ -24,6 +24,3 @@ pub use seq::Seq;
 pub use state::State;
 pub use stream::{Instance, Stream, Worth};
 pub use task::{GroundAction, Plan, Problem, Task, Valued};
-
-#[cfg(test)]
-mod tests;

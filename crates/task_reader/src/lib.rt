@@ -6,11 +6,7 @@
 
 pub mod laws;
 mod refusal;
-#[cfg(test)]
-mod refused_texts;
 mod texts;
-#[cfg(test)]
-mod worked_texts;
 
 pub use refusal::{FaultKind, InputRefusal};
 pub use texts::{domain_in, problem_in, streams_in};

@@ -1,4 +1,0 @@
-use Rattle.domain_reader.proofs.tests.+write_formula.Given as goal
-
-abbrev pub decreases-write_formula : goal.decreases-write_formula
-decreases-write_formula l = l.depth

@@ -1,4 +1,0 @@
-// What the forms answer, on examples.
-mod children;
-mod devices;
-mod memory;
