@@ -1,6 +1,6 @@
 -- Types and what they are under, gone through from the front.
 use Rattle.std.proofs.Common.{◌≡◌, ℕ, zero, suc, ◌+◌, ◌<◌, ◌≤◌, List, [], ◌∷◌, ◌++◌, length, drop, refl, sym, ap, subst, ◌∙◌, append_assoc, drop-cons, arith}
-use Rattle.std.proofs.lemmas.List.{drop_all}
+use Rattle.std.proofs.lemmas.List.{drop_all, append-nil}
 use Rattle.std.proofs.lemmas.Option.{unwrap_or-slice_get}
 use Rattle.task_model.specs.declared.domain.Sort as sort
 use Rattle.name_tables.specs.Names.{name_at}
@@ -46,10 +46,6 @@ sorts_more edges names list new k name above so_far lt is up pushed =
     let whole : list ++ record { name = name; above = above } ∷ rest ≡ new ++ rest = sym (append_assoc list (record { name = name; above = above } ∷ []) rest) ∙ ap (λ xs. xs ++ rest) (sym pushed) in
     subst (AreSorts edges 0 names) whole (so_far (record { name = name; above = above } ∷ rest) (subst (λ ns. AreSorts edges k ns (record { name = name; above = above } ∷ rest)) (sym front) (more_sorts up r)))
 
-append_none : {A : Type 0} (xs : List A) → xs ++ [] ≡ xs
-append_none [] = refl
-append_none (x ∷ xs) = ap (λ ys. x ∷ ys) (append_none xs)
-
 pub sorts_all : (edges names : List (List ℕ)) (list : List sort.Sort) (k : ℕ) → Before edges names k list → length names ≤ k → AreSorts edges 0 names list
 sorts_all edges names list k so_far le =
-    subst (AreSorts edges 0 names) (append_none list) (so_far [] (subst (λ ns. AreSorts edges k ns []) (sym (drop_all k names le)) no_sorts))
+    subst (AreSorts edges 0 names) (append-nil list) (so_far [] (subst (λ ns. AreSorts edges k ns []) (sym (drop_all k names le)) no_sorts))

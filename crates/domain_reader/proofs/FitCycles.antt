@@ -3,6 +3,8 @@ use Rattle.std.proofs.Common.{◌≡◌, ℕ, zero, suc, ◌<◌, Bool, true, fa
 use Rattle.std.specs.Cmp.{first_so, second_so}
 use Rattle.std.specs.List.{list_any}
 use Rattle.std.proofs.lemmas.Bool.{or_cases, or_left}
+use Rattle.lemmas.proofs.Members.{append_nil_first, append_nil_second}
+use Rattle.lemmas.proofs.ListTests.{any_append_right}
 use Rattle.sexpr_text.specs.Trees.{Trees, nothing, word, list}
 use Rattle.task_model.specs.Condition.{Condition, Conditions, Atom, All as every, Any, Not}
 use Rattle.task_model.specs.Fit.{any_mentions, depends, mentions}
@@ -29,8 +31,6 @@ use Rattle.name_tables.specs.Variables.{named_words, variables_names}
 use Rattle.name_tables.specs.Vocabulary.{arity_of}
 use Rattle.name_tables.specs.declared.vocabulary.Vocabulary.{Vocabulary}
 use Rattle.name_tables.proofs.FitDeclared.{put_behind}
-use Rattle.name_tables.proofs.Members.{any_append_right}
-use Rattle.name_tables.proofs.NoFaultLemmas.{none_first, none_second}
 use Rattle.name_tables.proofs.NamesLemmas.{place_within}
 use Rattle.domain_reader.proofs.FitItems.{AreClean, IsClean}
 use Rattle.domain_reader.proofs.FitEdges.{is_candidate, none_cyclic, put_gets, put_keeps}
@@ -135,7 +135,7 @@ module _ (v : Vocabulary) (from b : ℕ) where
   atom_place : (scope : List (List ℕ)) (place : ℕ) (text : List ℕ) (at : ℕ) (rest : Trees) → application_names v.predicates v.objects scope place (word text at rest) ≡ [] → (declared_place v.predicates text == b) ≡ true → place_of text predicates ≡ Some b
   atom_place scope place text at rest n same =
       let uses = use_names (arity_of v.predicates text) (width rest) at place in
-      let found = place_used v.predicates (place_of text predicates) (width rest) at place (none_first uses (terms_names v.objects scope rest) n) in
+      let found = place_used v.predicates (place_of text predicates) (width rest) at place (append_nil_first uses (terms_names v.objects scope rest) n) in
       found.1 ∙ ap Some (ap (λ o. unwrap_or o 0) (sym found.1) ∙ eqb-true (declared_place v.predicates text) b same)
 
   mutual
@@ -144,8 +144,8 @@ module _ (v : Vocabulary) (from b : ℕ) where
     conditions_reach scope (word text at rest) n h = conditions_reach scope rest n h
     conditions_reach scope (list items at rest) n h =
         elim (or_cases (mentions b (condition_of v scope items)) (any_mentions b (conditions_of v scope rest)) h) [
-          | inl e ↦ reaches_list predicates from b items at rest (condition_reaches scope at items (none_first (condition_names v scope at items) (conditions_names v scope rest) n) e)
-          | inr e ↦ reaches_behind predicates from b items at rest (conditions_reach scope rest (none_second (condition_names v scope at items) (conditions_names v scope rest) n) e)
+          | inl e ↦ reaches_list predicates from b items at rest (condition_reaches scope at items (append_nil_first (condition_names v scope at items) (conditions_names v scope rest) n) e)
+          | inr e ↦ reaches_behind predicates from b items at rest (conditions_reach scope rest (append_nil_second (condition_names v scope at items) (conditions_names v scope rest) n) e)
         ]
 
     condition_reaches : (scope : List (List ℕ)) (place : ℕ) (ts : Trees) → condition_names v scope place ts ≡ [] → mentions b (condition_of v scope ts) ≡ true → ReachesList predicates from b ts
@@ -168,13 +168,13 @@ module _ (v : Vocabulary) (from b : ℕ) where
     single_reaches : (scope : List (List ℕ)) (ts : Trees) → conditions_names v scope ts ≡ [] → mentions b (single_of v scope ts) ≡ true → Reaches predicates from b ts
     single_reaches scope nothing n h = absurd (cc)
     single_reaches scope (word text at rest) n h = absurd (cc)
-    single_reaches scope (list items at rest) n h = reaches_list predicates from b items at rest (condition_reaches scope at items (none_first (condition_names v scope at items) (conditions_names v scope rest) n) h)
+    single_reaches scope (list items at rest) n h = reaches_list predicates from b items at rest (condition_reaches scope at items (append_nil_first (condition_names v scope at items) (conditions_names v scope rest) n) h)
 
     exists_reaches : (scope : List (List ℕ)) (ts : Trees) → exists_names v scope ts ≡ [] → mentions b (exists_of v scope ts) ≡ true → Reaches predicates from b ts
     exists_reaches scope nothing n h = absurd (cc)
     exists_reaches scope (word text at rest) n h = absurd (cc)
     exists_reaches scope (list items at rest) n h =
-        reaches_behind predicates from b items at rest (single_reaches (scope ++ named_words Start items) rest (none_second (variables_names v.sorts (length scope) items) (conditions_names v (scope ++ named_words Start items) rest) n) h)
+        reaches_behind predicates from b items at rest (single_reaches (scope ++ named_words Start items) rest (append_nil_second (variables_names v.sorts (length scope) items) (conditions_names v (scope ++ named_words Start items) rest) n) h)
 
 -- ---- the edges of a domain's items
 

@@ -1,6 +1,7 @@
 -- The items of a domain without faults, and how large they are.
 use Rattle.std.proofs.Common.{◌≡◌, ℕ, ◌-◌, ◌≤◌, true, List, [], codes, refl, arith}
 use Rattle.std.specs.Str.{bytes_eq}
+use Rattle.lemmas.proofs.Members.{append_nil_first, append_nil_second}
 use Rattle.sexpr_text.specs.Trees.{Trees, nothing, word, list, depth, size}
 use Rattle.task_model.specs.Fit.{is_name}
 use Rattle.form_reader.specs.declared.items.Item.{Item}
@@ -12,7 +13,7 @@ use Rattle.form_reader.specs.Rows.{end_faults, head_of, inner_of, one_faults, ta
 use Rattle.form_reader.specs.Texts.{define_faults, form_faults, title_faults, title_of, titled_faults}
 use Rattle.name_tables.specs.Sizes.{IsBounded}
 use Rattle.name_tables.specs.declared.vocabulary.Vocabulary.{Vocabulary}
-use Rattle.name_tables.proofs.NoFaultLemmas.{chosen, none_first, none_second, some_fault}
+use Rattle.name_tables.proofs.NoFaultLemmas.{chosen, some_fault}
 use Rattle.domain_reader.specs.Names.{body_names, items_names}
 use Rattle.domain_reader.specs.Tables.{body_of, name_of}
 
@@ -66,8 +67,8 @@ titled_formed : (place at : ℕ) (ts rest : Trees) (w : List ℕ) (here : ℕ) �
 titled_formed place at nothing rest w here e = absurd (some_fault (shape place) [] e)
 titled_formed place at (word v there more) rest w here e = absurd (some_fault (shape there) [] e)
 titled_formed place at (list items there more) rest w here e = record {
-  items = none_second (title_faults Domain there items) (items_faults Domain more) e;
-  named = title_named there items (none_first (title_faults Domain there items) (items_faults Domain more) e);
+  items = append_nil_second (title_faults Domain there items) (items_faults Domain more) e;
+  named = title_named there items (append_nil_first (title_faults Domain there items) (items_faults Domain more) e);
 }
 
 define_formed : (at : ℕ) (ts rest : Trees) → define_faults Domain at ts ≡ [] → IsFormed (list ts at rest)
@@ -103,6 +104,6 @@ items_clean v heads nothing f n = tt
 items_clean v heads (word w at rest) f n = items_clean v heads rest (absurd (some_fault (shape at) [] f)) n
 items_clean v heads (list items at rest) f n =
     let own = body_names v heads (item_of Domain (head_of items)) (tail_of items) in (
-      item_clean v heads at items (none_first (item_faults Domain at items) (items_faults Domain rest) f) (none_first own (items_names v heads rest) n),
-      items_clean v heads rest (none_second (item_faults Domain at items) (items_faults Domain rest) f) (none_second own (items_names v heads rest) n),
+      item_clean v heads at items (append_nil_first (item_faults Domain at items) (items_faults Domain rest) f) (append_nil_first own (items_names v heads rest) n),
+      items_clean v heads rest (append_nil_second (item_faults Domain at items) (items_faults Domain rest) f) (append_nil_second own (items_names v heads rest) n),
     )

@@ -4,6 +4,7 @@ use Rattle.std.specs.Cmp.{first_so, second_so}
 use Rattle.std.specs.List.{list_any, list_all}
 use Rattle.std.proofs.lemmas.Bool.{or_cases, or_left, eqb-true, false_from_ne_true}
 use Rattle.std.proofs.lemmas.Option.{slice_get_within}
+use Rattle.std.proofs.lemmas.Map.Keys.{any_passes_from_place}
 use Rattle.sexpr_text.specs.Trees.{Trees, nothing, word, list, size}
 use Rattle.task_model.specs.Fit.{AreFitSorts, AreNames, are_places, is_name}
 use Rattle.lemmas.specs.Lists.{LeadsAlong}
@@ -19,6 +20,7 @@ use Rattle.form_reader.specs.Rows.{after_word, groups_faults, head_of, is_dash, 
 use Rattle.form_reader.specs.Faults.{shape}
 use Rattle.form_reader.specs.declared.words.WordSort.TheVariants.{Name}
 use Rattle.lemmas.proofs.Members.{push_cases}
+use Rattle.lemmas.proofs.ListTests.{all_from, any_append_left, any_append_right}
 use Rattle.name_tables.specs.Declarations.{number_put}
 use Rattle.name_tables.specs.declared.vocabulary.Vocabulary.{Vocabulary}
 use Rattle.name_tables.specs.Graphs.{HasWay, ascending, has_number, leads}
@@ -26,7 +28,6 @@ use Rattle.name_tables.specs.Names.{has_name, with_name}
 use Rattle.name_tables.specs.Variables.{is_named, named_sorts, named_words, seen_after, sort_of, types_names, unless}
 use Rattle.name_tables.proofs.GraphsOrderLemmas.{Ascends, ascending_in, ascends_all, ascends_places, in_ascending, number_any}
 use Rattle.name_tables.proofs.FitGroups.{sort_places}
-use Rattle.name_tables.proofs.Members.{all_from, any_append_left, any_append_right, any_at}
 use Rattle.name_tables.proofs.NamesLemmas.{name_found, name_there, same_name}
 use Rattle.name_tables.proofs.NoFaultLemmas.{chosen}
 use Rattle.domain_reader.proofs.FitItems.{AreClean, IsClean}
@@ -323,7 +324,7 @@ module _ (size : ℕ) (edges names : List (List ℕ)) (all : List sort.Sort) (L 
       within b w = way_within edges (λ n. n < size) u.within k w.between b w.steps
 
       number_there : (ns : List ℕ) (j b : ℕ) → slice_get ns j ≡ Some b → has_number ns b ≡ true
-      number_there ns j b e = any_at (λ m. b == m) ns j b e (eq-eqb b b refl)
+      number_there ns j b e = any_passes_from_place (λ m. b == m) ns j b e (eq-eqb b b refl)
 
   sorts_fit : AreNames names → slice_get names 0 ≡ Some (codes "object") → AreFitSorts all
   sorts_fit are_names object = record {

@@ -14,6 +14,8 @@ use Rattle.std.specs.declared.cmp.Ordering.{Ordering}
 use Rattle.std.specs.declared.cmp.Ordering.TheVariants.{Less, Equal, Greater}
 use Rattle.task_model.proofs.KnownLemmas.{numbers_decided, fact_member}
 use Rattle.lemmas.proofs.Members.{member_at}
+use Rattle.lemmas.proofs.Bools.{not_both}
+use Rattle.lemmas.proofs.Ascending.{then_equal}
 use Rattle.task_model.specs.Known.{Known, IsCoherent, IsIn, type_fact}
 use Rattle.lemmas.specs.Lists.{AreDistinct, AreAscending}
 use Rattle.task_model.specs.Streams.{Note, IsDue, instance_cmp, name_at, same_instance}
@@ -37,11 +39,6 @@ pub dues_ranked : (names : List (List ℕ)) → IsStrictWeakOrder (comes_before 
 dues_ranked names = ranks_by (instances_total names) (λ (d : Due). d.instance)
 
 -- ---- equal in the order
-
-both_equal : (o p : Ordering) → ordering_then o p ≡ Equal → (o ≡ Equal) × (p ≡ Equal)
-both_equal Less p e = absurd (cc)
-both_equal Equal p e = (refl, e)
-both_equal Greater p e = absurd (cc)
 
 numbers_tie : (x y : ℕ) → nat_cmp x y ≡ Equal → x ≡ y
 numbers_tie x y e = eqb-true x y (unsigned_ties x y ∙ ap is_eq e)
@@ -88,14 +85,11 @@ due_in task known notes c i d = typed_in known c i.inputs d.stream.inputs (first
 
 pub same_dues : (task : Task) (known : Known) (notes : List Note) → IsCoherent known → (a b : Instance) → IsDue task known notes a → IsDue task known notes b → instance_cmp known.names a b ≡ Equal → a ≡ b
 same_dues task known notes c a b da db e =
-    let both = both_equal (nat_cmp a.stream b.stream) (slice_cmp (slice_cmp nat_cmp) (map (name_at known.names) a.inputs) (map (name_at known.names) b.inputs)) e in
+    let both = then_equal (nat_cmp a.stream b.stream) (slice_cmp (slice_cmp nat_cmp) (map (name_at known.names) a.inputs) (map (name_at known.names) b.inputs)) e in
     let inputs = same_objects known.names c.names a.inputs b.inputs (due_in task known notes c a da) (due_in task known notes c b db) (texts_tie _ _ both.1) in
     λ i. record { stream = numbers_tie a.stream b.stream both.0 i; inputs = inputs i }
 
 -- ---- distinct members, also after a sort
-
-no_true_false : (b : Bool) → b ≡ true → b ≡ false → ⊥
-no_true_false b t f = absurd (cc)
 
 test_apart : (a b : Instance) → ¬ (a ≡ b) → same_instance a b ≡ false
 test_apart a b ne = by (same_instance a b) refl
@@ -124,7 +118,7 @@ by_test xs d i j x at_i at_j =
     apart : (i j : ℕ) → slice_get xs i ≡ Some x → slice_get xs j ≡ Some x → i < j → ⊥
     apart i j at_i at_j below =
         let f = apart_from_distinct same_instance xs i j x d below (slice_get_within xs j x at_j) in
-        no_true_false (same_instance x x) (instance_itself x) ((λ k. same_instance (sym (get_or_from_slice_get xs i x x at_i) k) (sym (get_or_from_slice_get xs j x x at_j) k)) ∙ f)
+        not_both (same_instance x x) (instance_itself x) ((λ k. same_instance (sym (get_or_from_slice_get xs i x x at_i) k) (sym (get_or_from_slice_get xs j x x at_j) k)) ∙ f)
 
 pub distinct_permuted : (xs ys : List Instance) → IsPermutation xs ys → AreDistinct xs → AreDistinct ys
 distinct_permuted xs ys p d = by_test ys (IsDistinct-IsPermutation same_instance instances_equivalence.symm xs ys p (tested xs d))
@@ -162,4 +156,4 @@ ascending task known notes c ys due d up i j a b below at_i at_j =
         absurd (omega (arith, below, place))
     by Greater e not_back =
         let back : instance_cmp known.names b a ≡ Less = (instances_total known.names).antisymm b a ∙ ap ordering_reverse e in
-        absurd (no_true_false (is_lt (instance_cmp known.names b a)) (ap is_lt back) not_back)
+        absurd (not_both (is_lt (instance_cmp known.names b a)) (ap is_lt back) not_back)

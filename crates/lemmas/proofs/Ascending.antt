@@ -4,7 +4,8 @@ use Rattle.std.proofs.lemmas.List.Elements.{Contains-append_left, Contains-appen
 use Rattle.std.specs.List.{flat_map, AllByRecursion}
 use Rattle.std.specs.List.Sorted.{IsStrictlySortedBy}
 use Rattle.std.specs.declared.cmp.Ordering.{Ordering}
-use Rattle.std.specs.declared.cmp.Ordering.TheVariants.{Less}
+use Rattle.std.specs.declared.cmp.Ordering.TheVariants.{Less, Equal, Greater}
+use Rattle.std.specs.Ordering.{ordering_then}
 use Rattle.lemmas.proofs.Members.{member_at}
 use Rattle.lemmas.specs.Lists.{AreAscending}
 
@@ -81,3 +82,13 @@ ascending cmp (x ∷ xs) p zero (suc j) a b h e f =
     subst (λ w. cmp w b ≡ Less) same (all_at (λ y. cmp x y ≡ Less) xs p.0 b (member_at xs j b f))
 ascending cmp (x ∷ xs) p (suc i) zero a b h e f = absurd (omega arith)
 ascending cmp (x ∷ xs) p (suc i) (suc j) a b h e f = ascending cmp xs p.1 i j a b (omega arith) e f
+
+-- ---- orderings
+
+pub then_equal : (r s : Ordering) → ordering_then r s ≡ Equal → (r ≡ Equal) × (s ≡ Equal)
+then_equal Less s e = absurd (cc)
+then_equal Equal s e = (refl, e)
+then_equal Greater s e = absurd (cc)
+
+pub less_greater : Less ≡ Greater → ⊥
+less_greater e = absurd (cc)

@@ -13,7 +13,8 @@ use Rattle.transcript_model.specs.declared.entry.Entry.TheVariants as entry
 use Rattle.transcript_model.specs.declared.head.Head.{Head}
 use Rattle.transcript_model.specs.declared.head.Pool.{Pool}
 use Rattle.level_run.proofs.BreakingLemmas.{breaks_join, tells_map, tells_of}
-use Rattle.lemmas.proofs.Pigeonhole.{get_append}
+use Rattle.lemmas.proofs.Bools.{or_false}
+use Rattle.lemmas.proofs.Members.{get_append}
 use Rattle.level_run.specs.Reports.{is_level}
 use Rattle.level_run.proofs.CallsRunLemmas.{stops_none, asks_behind, asks_marked, unasked}
 use Rattle.std.proofs.lemmas.List.Elements.{All-append}
@@ -71,12 +72,8 @@ none_marked : (before more : List Entry) → (more ≡ []) ⊎ (more ≡ entry.L
 none_marked before more (inl is) none = subst (λ es. HasNoneOpen (before ++ es)) (sym is) (subst HasNoneOpen (sym (append-nil before)) none)
 none_marked before more (inr is) none = subst (λ es. HasNoneOpen (before ++ es)) (sym is) (λ n. same n ∙ none n)
   where
-    or_no : (b : Bool) → (b || false) ≡ b
-    or_no true = refl
-    or_no false = refl
-
     same : (n : ℕ) → is_open (before ++ entry.Level ∷ []) n ≡ is_open before n
-    same n = rw (list_any-append (is_ask_of n) before (entry.Level ∷ []), list_any-append (is_answer_to n) before (entry.Level ∷ []), or_no (list_any (is_ask_of n) before), or_no (list_any (is_answer_to n) before)) refl
+    same n = rw (list_any-append (is_ask_of n) before (entry.Level ∷ []), list_any-append (is_answer_to n) before (entry.Level ∷ []), or_false (list_any (is_ask_of n) before), or_false (list_any (is_answer_to n) before)) refl
 
 -- no call was made
 pub quiet_breaks : (task : Task) (head : Head) (before : List Entry) (fault : RunFault) (log : Option (List Event)) → Tells (HasNoneOpen before) fault [] → (more : List Entry) → (more ≡ []) ⊎ (more ≡ entry.Level ∷ []) → RunBreaks task head before fault log log more

@@ -1,7 +1,7 @@
 -- The calls of a round.
 use Rattle.std.proofs.Common.{◌≡◌, ℕ, zero, suc, ◌+◌, ◌<◌, ◌≤◌, arith, Bool, true, false, cond, List, [], ◌∷◌, ◌++◌, length, take, count_by, Option, Some, refl, sym, subst, ap, ◌∙◌, append_assoc, slice_get, IfSome, ◌||◌}
 use Rattle.std.specs.List.{All, list_any}
-use Rattle.std.proofs.lemmas.List.{length-append, length-map}
+use Rattle.std.proofs.lemmas.List.{length-append, length-map, nil_from_length}
 use Rattle.std.proofs.lemmas.List.Elements.{All-take}
 use Rattle.std.proofs.lemmas.List.Splits.{length-slice_split}
 use Rattle.std.specs.Io.BufRead.{strip_last}
@@ -48,14 +48,10 @@ none_fed (b ∷ bs) e = by (none_fed bs) (is_feed b) refl e
         let rest : list_any is_feed bs ≡ false = ap (λ t. t || list_any is_feed bs) (sym is) ∙ any in
         omega (arith, count_joined is_feed (b ∷ []) bs, count_one is_feed b, none, later rest)
 
-empty_of : {A : Type 0} (xs : List A) → length xs ≡ 0 → xs ≡ []
-empty_of [] e = refl
-empty_of (x ∷ xs) e = absurd (omega (arith, e))
-
 -- bytes without a line feed add no line
 pub still_part : (kept bytes : List ℕ) → lines_of kept ≡ [] → IsLine bytes → lines_of (kept ++ bytes) ≡ []
 still_part kept bytes none line =
-    empty_of (lines_of (kept ++ bytes)) (omega (arith, lines_counted (kept ++ bytes), count_joined is_feed kept bytes, lines_counted kept, ap length none, none_fed bytes line))
+    nil_from_length (lines_of (kept ++ bytes)) (omega (arith, lines_counted (kept ++ bytes), count_joined is_feed kept bytes, lines_counted kept, ap length none, none_fed bytes line))
 
 -- ---- the reads of one child
 

@@ -2,6 +2,7 @@
 use Rattle.std.proofs.Common.{◌≡◌, ℕ, zero, suc, ◌+◌, ◌<◌, ◌≤◌, arith, All, true, List, [], ◌∷◌, ◌++◌, map, length, take, drop, Some, slice_get, refl, sym, subst, ap, ◌∙◌, append_assoc, ◌⊎◌, inl, inr, eq-eqb}
 use Rattle.std.proofs.lemmas.List.Elements.{All-nil, All-cons}
 use Rattle.std.proofs.lemmas.List.{append-nil, length-map, length-take-le}
+use Rattle.lemmas.proofs.Numbers.{plus_zero}
 use Rattle.instance_queue.specs.Level.{instances_of}
 use Rattle.instance_queue.specs.declared.due.Due.{Due}
 use Rattle.level_course.proofs.PoolsLemmas.{cuts}
@@ -105,11 +106,7 @@ answers_asks number (suc n) (e ∷ es) are = asks_more (e ∷ []) es ∙ (λ k. 
 round_asks : (task : Task) (before now : List Entry) (round : List Instance) → IsRound task before round now → asks_of (before ++ now) ≡ asks_of before + length round
 round_asks task before now round (answers, is, are) =
     asks_more before now ∙ ap (λ n. asks_of before + n)
-    (ap asks_of is ∙ asks_more (requests task before round) answers ∙ (λ k. requests_asks task before (asks_of before + 1) round k + answers_asks (asks_of before + 1) (length round) answers are k) ∙ plus_none (length round))
-  where
-    plus_none : (n : ℕ) → n + 0 ≡ n
-    plus_none n = omega arith
-
+    (ap asks_of is ∙ asks_more (requests task before round) answers ∙ (λ k. requests_asks task before (asks_of before + 1) round k + answers_asks (asks_of before + 1) (length round) answers are k) ∙ plus_zero (length round))
 -- ---- batches
 
 -- a front of a batch's next round is one of the batch

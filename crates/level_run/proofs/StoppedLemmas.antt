@@ -197,17 +197,9 @@ pub on_ok : {T E : Type 0} (r : Result T E) (P : Type 0) → P → OnOk r P
 on_ok (Ok x) P p = p
 on_ok (Err e) P p = tt
 
-pub on_err : {T E : Type 0} (r : Result T E) (P : Type 0) → P → OnErr r P
-on_err (Ok x) P p = tt
-on_err (Err e) P p = p
-
 pub ok_map : {T E : Type 0} (r : Result T E) (P Q : Type 0) → (P → Q) → OnOk r P → OnOk r Q
 ok_map (Ok x) P Q f p = f p
 ok_map (Err e) P Q f p = tt
-
-pub err_map : {T E : Type 0} (r : Result T E) (P Q : E → Type 0) → ((e : E) → P e → Q e) → IfErr r P → IfErr r Q
-err_map (Ok x) P Q f p = tt
-err_map (Err e) P Q f p = f e p
 
 pub err_both : {T E : Type 0} (r : Result T E) (P : E → Type 0) (Q : Type 0) (R : E → Type 0) → ((e : E) → P e → Q → R e) → IfErr r P → OnErr r Q → IfErr r R
 err_both (Ok x) P Q R f p q = tt
@@ -229,8 +221,3 @@ cause_handed {T} {U} failed last first second third now fault r a b c is = recor
 
     rises : Rose last third now → Rose last first now
     rises rose = omega (arith, a, b, rose)
-
--- what holds of each answer holds where there is one
-pub ok_each : {T E : Type 0} (r : Result T E) (P Q : T → Type 0) → ((x : T) → P x → Q x) → IfOk r P → IfOk r Q
-ok_each (Ok x) P Q f p = f x p
-ok_each (Err e) P Q f p = tt

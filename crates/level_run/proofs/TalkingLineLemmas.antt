@@ -1,6 +1,6 @@
 -- Buffers that are filled.
 use Rattle.std.proofs.Common.{◌≡◌, ℕ, zero, suc, ◌+◌, ◌<◌, ◌≤◌, arith, Bool, true, false, cond, List, [], ◌∷◌, ◌++◌, length, take, count_by, Option, Some, None, refl, sym, subst, ap, ◌∙◌, inl, inr, slice_get, unwrap_or, ◌||◌, append-nil, option_map, Result, Ok, Err, OnOk}
-use Rattle.std.proofs.lemmas.Bool.{cases_lt}
+use Rattle.std.proofs.lemmas.Bool.{cases_lt, or_right}
 use Rattle.std.proofs.lemmas.List.{length-append, length-map, length-take-le}
 use Rattle.std.proofs.lemmas.List.Folds.{list_any-append}
 use Rattle.std.proofs.lemmas.List.Splits.{length-slice_split}
@@ -40,14 +40,10 @@ has_line : (bytes : List ℕ) → list_any is_feed bytes ≡ true → lines_of b
 has_line bytes fed none =
     omega (arith, length-map (ended (slice_split is_feed bytes)) (strip_last 13), ap length none, ended_long (slice_split is_feed bytes) (omega (arith, length-slice_split is_feed bytes)), length-slice_split is_feed bytes, feeds bytes fed)
 
-or_later : (a b : Bool) → b ≡ true → (a || b) ≡ true
-or_later true b e = refl
-or_later false b e = e
-
 -- where no line came, the buffer is full
 pub filled : (held room : List ℕ) (count most : ℕ) → length room + length held ≡ most → count ≤ length room → (count < length room → HasLine (take count room)) → lines_of (held ++ take count room) ≡ [] → length (held ++ take count room) ≡ most
 filled held room count most whole within line none = elim (cases_lt count (length room)) [
-  | inl less ↦ absurd (has_line (held ++ take count room) (list_any-append is_feed held (take count room) ∙ or_later (list_any is_feed held) (list_any is_feed (take count room)) (line less)) none)
+  | inl less ↦ absurd (has_line (held ++ take count room) (list_any-append is_feed held (take count room) ∙ or_right (list_any is_feed held) (list_any is_feed (take count room)) (line less)) none)
   | inr more ↦ omega (arith, length-append held (take count room), length-take-le count room within, whole, within, more)
 ]
 

@@ -3,6 +3,7 @@ use Rattle.std.proofs.Common.{◌≡◌, ℕ, zero, suc, ◌+◌, ◌<◌, ◌�
 use Rattle.std.specs.Cmp.{first_so, second_so}
 use Rattle.std.specs.List.{list_all}
 use Rattle.std.proofs.lemmas.Bool.{and_from, false_from_ne_true}
+use Rattle.lemmas.proofs.ListTests.{all_push}
 use Rattle.sexpr_text.specs.Trees.{Trees, nothing, word, list}
 use Rattle.task_model.specs.Fit.{AreFitObjects, AreNames, are_places, is_name}
 use Rattle.lemmas.specs.Lists.{AreDistinct}
@@ -17,7 +18,6 @@ use Rattle.name_tables.specs.Names.{has_name, place_of, with_name}
 use Rattle.name_tables.specs.Variables.{is_named, named_sorts, named_words, seen_after, types_names}
 use Rattle.name_tables.proofs.GraphsOrderLemmas.{Ascends, ascends_places, ascends_with}
 use Rattle.name_tables.proofs.FitGroups.{sort_places, sorts_as_long, words_are_names}
-use Rattle.name_tables.proofs.Members.{all_push}
 use Rattle.name_tables.proofs.NamesLemmas.{distinct_with, name_there, place_named, place_there}
 
 -- ---- one name more

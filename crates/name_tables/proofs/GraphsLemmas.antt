@@ -1,7 +1,7 @@
 -- Which numbers are reached.
 use Rattle.std.proofs.Common.{◌≡◌, ℕ, suc, ◌+◌, ◌≤◌, Bool, true, false, cond, ◌||◌, ◌==◌, List, [], ◌∷◌, ◌++◌, length, take, drop, refl, sym, ap, subst, ◌∙◌, ◌⊎◌, inl, inr, Some, None, slice_get, append_assoc, eq-eqb, arith}
 use Rattle.std.proofs.lemmas.Bool.{eqb-true}
-use Rattle.std.proofs.lemmas.List.{take-append-drop, take-append-le, take_all}
+use Rattle.std.proofs.lemmas.List.{take-append-drop, take-append-le, take_all, append-nil}
 use Rattle.std.proofs.lemmas.Option.{slice_get_within, slice_get_cases, get_or_from_slice_get}
 use Rattle.std.proofs.Math.Seq.{take-suc}
 use Rattle.lemmas.specs.Lists.{LeadsAlong}
@@ -94,11 +94,7 @@ pub record Grows (old new : List ℕ) : Type 0 where
   pub split : new ≡ old ++ more
 
 grows_if : (v : Bool) (ns : List ℕ) (m : ℕ) → Grows ns (cond v ns (ns ++ m ∷ []))
-grows_if true ns m = record { more = []; split = sym (append_none ns) }
-  where
-    append_none : (xs : List ℕ) → xs ++ [] ≡ xs
-    append_none [] = refl
-    append_none (x ∷ xs) = ap (λ ys. x ∷ ys) (append_none xs)
+grows_if true ns m = record { more = []; split = sym (append-nil ns) }
 grows_if false ns m = record { more = m ∷ []; split = refl }
 
 grows_twice : (a b c : List ℕ) → Grows a b → Grows b c → Grows a c

@@ -6,10 +6,11 @@ use Rattle.std.proofs.lemmas.Bool.{cond-true, false≢true}
 use Rattle.std.proofs.lemmas.List.Quantifiers.{position-Some}
 use Rattle.std.proofs.lemmas.Option.{slice_get-get_or}
 use Rattle.std.proofs.lemmas.Slice.Eq.{bytes_eq-Decides}
+use Rattle.std.proofs.lemmas.Map.Keys.{any_passes_from_place}
 use Rattle.lemmas.proofs.Members.{distinct_push, place_of as place_in}
+use Rattle.lemmas.proofs.ListTests.{any_found}
 use Rattle.lemmas.specs.Lists.{AreDistinct}
 use Rattle.name_tables.specs.Names.{has_name, last_place, place_of, with_name}
-use Rattle.name_tables.proofs.Members.{any_at, any_found}
 
 pub same_name : (n m : List ℕ) → bytes_eq n m ≡ true → n ≡ m
 same_name n m e = (bytes_eq-Decides n m).0 e
@@ -39,7 +40,7 @@ place_named name names i e =
     slice_get-get_or names i [] found.0 ∙ ap Some (sym (same_name name (get_or names i []) found.1))
 
 pub name_there : (name : List ℕ) (names : List (List ℕ)) (i : ℕ) → slice_get names i ≡ Some name → has_name name names ≡ true
-name_there name names i e = any_at (bytes_eq name) names i name e (name_itself name name refl)
+name_there name names i e = any_passes_from_place (bytes_eq name) names i name e (name_itself name name refl)
 
 pub name_found : (name : List ℕ) (names : List (List ℕ)) → has_name name names ≡ true → (i : ℕ) × (slice_get names i ≡ Some name)
 name_found name names e = let found = any_found (bytes_eq name) names e in (found.0, found.2 ∙ ap Some (sym (same_name name found.1 found.3)))

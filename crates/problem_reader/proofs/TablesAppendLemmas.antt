@@ -1,6 +1,8 @@
 -- Names that are put behind others.
 use Rattle.std.proofs.Common.{◌≡◌, ℕ, ◌+◌, ◌≤◌, List, [], ◌∷◌, ◌++◌, take, length, refl, sym, ap, subst, ◌∙◌, append_assoc, arith}
 use Rattle.std.proofs.lemmas.Bool.{cond_both}
+use Rattle.std.proofs.lemmas.List.{append-nil}
+use Rattle.lemmas.proofs.Members.{take_append}
 use Rattle.sexpr_text.specs.Trees.{Trees, nothing, word, list, size}
 use Rattle.form_reader.specs.declared.groups.Spot.TheVariants.{Start}
 use Rattle.form_reader.specs.declared.words.WordSort.TheVariants.{Name}
@@ -19,12 +21,8 @@ pub record BeginsWith (ns ms : List (List ℕ)) : Type 0 where
   pub more : List (List ℕ)
   pub split : ms ≡ ns ++ more
 
-pub append_none : {A : Type 0} (xs : List A) → xs ++ [] ≡ xs
-append_none [] = refl
-append_none (x ∷ xs) = ap (λ ys. x ∷ ys) (append_none xs)
-
 pub begins_itself : (ns : List (List ℕ)) → BeginsWith ns ns
-begins_itself ns = record { more = []; split = sym (append_none ns) }
+begins_itself ns = record { more = []; split = sym (append-nil ns) }
 
 pub begins_twice : (ns ms ks : List (List ℕ)) → BeginsWith ns ms → BeginsWith ms ks → BeginsWith ns ks
 begins_twice ns ms ks p q = record { more = p.more ++ q.more; split = q.split ∙ ap (λ xs. xs ++ q.more) p.split ∙ append_assoc ns p.more q.more }
@@ -38,13 +36,9 @@ begins_each t (n ∷ ns) [] = begins_itself t.names
 begins_each t (n ∷ ns) (s ∷ ss) =
     begins_twice t.names (declare t n s).names (declare_each (declare t n s) ns ss).names (subst (BeginsWith t.names) (sym (names_declared t n s)) (begins_with t.names n)) (begins_each (declare t n s) ns ss)
 
-take_front : {A : Type 0} (xs ys : List A) → take (length xs) (xs ++ ys) ≡ xs
-take_front [] ys = refl
-take_front (x ∷ xs) ys = ap (λ zs. x ∷ zs) (take_front xs ys)
-
 -- so they are the first of them
 pub first_ones : (ns ms : List (List ℕ)) → BeginsWith ns ms → ns ≡ take (length ns) ms
-first_ones ns ms b = sym (ap (take (length ns)) b.split ∙ take_front ns b.more)
+first_ones ns ms b = sym (ap (take (length ns)) b.split ∙ take_append ns b.more)
 
 -- ---- how many
 

@@ -4,6 +4,7 @@ use Rattle.std.proofs.lemmas.Bool.Decides.{nat_tests}
 use Rattle.std.proofs.lemmas.List.{length-set}
 use Rattle.std.specs.List.{list_any, position_or_len}
 use Rattle.std.specs.Str.{bytes_eq}
+use Rattle.lemmas.proofs.Positions.{any_within_by, any_within}
 use Rattle.sexpr_text.specs.Trees.{Trees, nothing, word, list}
 use Rattle.task_model.specs.declared.domain.Declared as declared
 use Rattle.form_reader.specs.declared.groups.Spot.{Spot}
@@ -18,16 +19,8 @@ use Rattle.problem_reader.proofs.TablesLemmas.{put, put_append}
 
 -- ---- a name has a place exactly where it is there
 
-there_by : {A : Type 0} (p : A → Bool) (xs : List A) (b : Bool) → list_any p xs ≡ nat_lt (position_or_len p xs) (length xs) → (b || list_any p xs) ≡ nat_lt (cond (not b) (1 + position_or_len p xs) 0) (suc (length xs))
-there_by p xs true e = grind (arith, nat_tests)
-there_by p xs false e = e ∙ grind (arith, nat_tests)
-
-there : {A : Type 0} (p : A → Bool) (xs : List A) → list_any p xs ≡ nat_lt (position_or_len p xs) (length xs)
-there p [] = refl
-there p (x ∷ xs) = there_by p xs (p x) (there p xs)
-
 placed : (n : List ℕ) (ns : List (List ℕ)) → place_of n ns ≡ cond (has_name n ns) (Some (position_or_len (bytes_eq n) ns)) None
-placed n ns = ap (λ b. cond b (Some (position_or_len (bytes_eq n) ns)) None) (sym (there (bytes_eq n) ns))
+placed n ns = ap (λ b. cond b (Some (position_or_len (bytes_eq n) ns)) None) (sym (any_within (bytes_eq n) ns))
 
 -- ---- the names of what is declared
 

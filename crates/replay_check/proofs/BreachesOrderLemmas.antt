@@ -1,6 +1,7 @@
 -- An entry with which no turn goes on, and what is wrong with an entry.
 use Rattle.std.proofs.Common.{◌≡◌, ℕ, ◌+◌, ◌<◌, inl, inr, true, false, List, [], ◌∷◌, ◌++◌, length, refl, sym, ap, subst, ◌∙◌, Some, None, slice_get, arith, eqb-true}
 use Rattle.std.proofs.lemmas.List.{length-map}
+use Rattle.std.proofs.lemmas.Bool.{true≢false}
 use Rattle.lemmas.proofs.Pigeonhole.{pigeons}
 use Rattle.instance_queue.specs.Level.{AreDueInTurn, instances_of}
 use Rattle.instance_queue.specs.declared.due.Due.{Due}
@@ -29,9 +30,6 @@ use Rattle.replay_check.specs.Kinds.{breach_number as kind_number}
 use Rattle.replay_check.specs.Standings.{IsNextRequest, IsWrong, StandsBehind}
 use Rattle.replay_check.specs.declared.verdict.BreachKind.{BreachKind}
 use Rattle.replay_check.specs.declared.verdict.BreachKind.TheVariants as kind
-
-no : true ≡ false → ⊥
-no e = absurd (cc)
 
 -- ---- requests and answers
 
@@ -114,7 +112,7 @@ module _ (limits : Limits) (task : Task) (entries : List Entry) (l : Ledger) (a 
       by (after, inl b) = absurd (let level : answered_number entry.Level ≡ Some n = ap answered_number (sym b.is) ∙ is in cc)
       by (after, inr (inl m)) =
           let first = first_request task entries (asks_of entries + 1) a.to_ask e m.rest m.asks in
-          absurd (no (sym (ap is_ask first.2) ∙ answer_no_ask e n is))
+          absurd (true≢false (sym (ap is_ask first.2) ∙ answer_no_ask e n is))
       by (after, inr (inr g)) =
           let asked = none_to_ask task entries (asks_of entries + 1) a.to_ask g.asked in
           let answers = g.answers in
@@ -139,7 +137,7 @@ module _ (limits : Limits) (task : Task) (entries : List Entry) (l : Ledger) (a 
       by (after, inl b) = no_level b.is
       by (after, inr (inl m)) =
           let first = first_request task entries (asks_of entries + 1) a.to_ask e m.rest m.asks in
-          no (sym (ap is_ask first.2) ∙ no_ask)
+          true≢false (sym (ap is_ask first.2) ∙ no_ask)
       by (after, inr (inr g)) = absurd (let to : Some a.next ≡ None = sym (answer_number e a.next g.to) ∙ no_answer in cc)
 
   -- ---- what is due
@@ -187,7 +185,7 @@ module _ (limits : Limits) (task : Task) (before : List Entry) (e : Entry) where
       first : (other : BreachKind) → kind_number other < kind_number kind.Answer → ¬ (BreaksEntry limits task before e other)
       first kind.Text lt breaks = breaks
       first kind.Head lt breaks = breaks
-      first kind.Ask lt breaks = no (sym breaks.0 ∙ no_ask)
+      first kind.Ask lt breaks = true≢false (sym breaks.0 ∙ no_ask)
       first kind.Answer lt breaks = omega (arith, lt)
       first kind.Order lt breaks = omega (arith, lt)
       first kind.Dream lt breaks = omega (arith, lt)

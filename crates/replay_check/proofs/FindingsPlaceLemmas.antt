@@ -22,11 +22,6 @@ use Rattle.replay_check.specs.declared.entries.Standing.{Standing}
 
 -- ---- whether nothing is to do
 
-pub rests : (n : ℕ) (cut : Bool) → ((n == 0) && not cut) ≡ true → (n ≡ 0) × (cut ≡ false)
-rests zero false e = (refl, refl)
-rests zero true e = absurd (cc)
-rests (suc n) cut e = let busy : (suc n == 0) ≡ false = ne_eqb (suc n) 0 (λ is. omega (arith, is)) in let both : true ≡ false = sym e ∙ ap (λ (b : Bool). b && not cut) busy in absurd (cc)
-
 pub rests_not : (n : ℕ) (cut : Bool) → ((n == 0) && not cut) ≡ false → n ≡ 0 → cut ≡ false → ⊥
 rests_not zero false e none uncut = absurd (cc)
 rests_not zero true e none uncut = absurd (cc)

@@ -4,6 +4,7 @@ use Rattle.std.proofs.lemmas.List.{length-append, length-replicate}
 use Rattle.std.proofs.lemmas.List.Folds.{list_all-append}
 use Rattle.std.specs.List.{list_all, flat_map}
 use Rattle.std.specs.Option.{option_map_or}
+use Rattle.std.proofs.lemmas.Bool.{and_from}
 use Rattle.session_core.proofs.SessionLemmas.{count_joined, count_one}
 use Rattle.session_core.specs.Session.{is_answer}
 use Rattle.task_model.specs.Streams.{Note, Yielded, Ended, yields_of, is_yield_of}
@@ -35,11 +36,8 @@ pub record ArePlain (es : List Entry) (many : ℕ) : Type 0 where
   pub answers : count_by is_answer es ≡ many
   pub asks : asks_of es ≡ many
 
-both : (a b : Bool) → a ≡ true → b ≡ true → (a && b) ≡ true
-both a b ea eb = rw (ea, eb) refl
-
 joined_plain : (xs ys : List Entry) → list_all is_plain xs ≡ true → list_all is_plain ys ≡ true → list_all is_plain (xs ++ ys) ≡ true
-joined_plain xs ys first second = list_all-append is_plain xs ys ∙ both (list_all is_plain xs) (list_all is_plain ys) first second
+joined_plain xs ys first second = list_all-append is_plain xs ys ∙ and_from (list_all is_plain xs) (list_all is_plain ys) first second
 
 requests_plain : (task : Task) (before : List Entry) (number : ℕ) (is : List Instance) → list_all is_plain (requests_from task before number is) ≡ true
 requests_plain task before number [] = refl
@@ -73,7 +71,7 @@ answers_plain number (suc n) (e ∷ es) are =
     let rest = answers_plain (number + 1) n es are.1 in
     let count = count_joined is_answer (e ∷ []) es in
     let asks = asks_more (e ∷ []) es in
-    (both (is_plain e) (list_all is_plain es) here.0 rest.0, omega (arith, here.1, rest.1, count), omega (arith, here.2, rest.2, asks))
+    (and_from (is_plain e) (list_all is_plain es) here.0 rest.0, omega (arith, here.1, rest.1, count), omega (arith, here.2, rest.2, asks))
 
 rounds_plain : (limits : Limits) (task : Task) (rounds : List (List Instance)) (list : List Instance) (before es : List Entry) → AreRounds limits.pools list rounds → AreRoundsRun task before rounds es → ArePlain es (length list)
 rounds_plain limits task [] list before es none run = subst (λ xs. ArePlain xs (length list)) (sym run) (subst (λ is. ArePlain [] (length is)) (sym none) (record { plain = refl; answers = refl; asks = refl }))

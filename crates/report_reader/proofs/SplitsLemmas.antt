@@ -3,6 +3,7 @@ use Rattle.std.proofs.Common.{◌≡◌, ℕ, ◌<◌, ◌^◌, ◌⊎◌, inl, 
 use Rattle.std.specs.Cmp.{first_so, second_so}
 use Rattle.std.specs.List.{list_all, slice_split, join_with_byte}
 use Rattle.std.proofs.lemmas.List.Splits.{join_with_byte-slice_split}
+use Rattle.lemmas.proofs.Numbers.{small_version}
 use Rattle.gen_lines.specs.Reply.{is_space}
 use Rattle.report_text.specs.Places.{Place, first, limits, pools, entries, dream, plan, cost, origins, last, behind, IsBodyStep, IsLineStep, line_body}
 use Rattle.report_text.specs.Texts.{Line, fields_text}
@@ -18,10 +19,6 @@ body_clear v l n (inr (inl a)) = rw (a.4, number_of_32 a.0 a.2, number_of_32 a.1
 body_clear v l n (inr (inr (inl a))) = rw (a.2, number_of_32 a.0 a.1) refl
 body_clear v l n (inr (inr (inr (inl a, b)))) = rw a refl
 body_clear v l n (inr (inr (inr (inr a, b)))) = rw (a.1, limit_clear a.0) refl
-
-small_version : (v : ℕ) → (v ≡ 1) ⊎ (v ≡ 2) → v < 2 ^ 64
-small_version v (inl e) = omega (arith, e)
-small_version v (inr e) = omega (arith, e)
 
 line_clear : (p : Place) (l : Line) (n : Place) → IsLineStep p l n → is_clear l ≡ true
 line_clear first l n a = rw (a.3, number_inked a.0 (small_version a.0 a.2), mode_clear a.1) refl

@@ -194,10 +194,6 @@ tuples_found version bars width values given s h =
     no_empty : (bars + 1) * width ≡ 0 → bars + 1 ≡ 1
     no_empty e = omega (arith, s.some (by_width width e))
 
-pub if_ok : {T E : Type 0} (r : Result T E) (P Q : T → Type 0) → ((x : T) → P x → Q x) → IfOk r P → IfOk r Q
-if_ok (Ok x) P Q so p = so x p
-if_ok (Err e) P Q so p = tt
-
 -- ---- the tests of the code
 
 pub no_parts : (version bars : ℕ) (given : List (List ℕ)) (fields : ℕ) → AreBars version bars given → fields ≡ length given → ¬ ((fields - bars) % (bars + 1) ≡ 0) → AreNoTuples version given

@@ -6,6 +6,9 @@ use Rattle.std.proofs.lemmas.List.{append-nil, map-append, take-append-drop, len
 use Rattle.std.proofs.lemmas.List.Splits.{slice_split_at, length-slice_split}
 use Rattle.std.specs.Cmp.{first_so, second_so}
 use Rattle.std.specs.List.{list_all, slice_split, onto_first}
+use Rattle.std.proofs.lemmas.List.Elements.{All-nil, All-cons}
+use Rattle.lemmas.proofs.Numbers.{small_version}
+use Rattle.lemmas.proofs.ListTests.{all_one}
 use Rattle.gen_lines.specs.Lines.{is_feed, ended, open_part, unfinished}
 use Rattle.report_text.specs.Faults.{whole_lines, joined, IsReport, BeginsReport, IsFirstFault}
 use Rattle.report_text.specs.Places.{Place, first, limits, pools, entries, dream, plan, cost, origins, last, behind, IsBodyStep, IsLineStep, IsPath, line_body, IsTextStep, IsTextPath, IsStuck, StopsAfter}
@@ -14,7 +17,6 @@ use Rattle.transcript_model.specs.declared.report.Report.{Report}
 use Rattle.report_text.proofs.PlacesLemmas.{completes, path_live, step_same}
 use Rattle.report_text.proofs.LineTextLemmas.{is_clear, is_inked, is_space, number_inked, spaces_cut, feeds_cut}
 use Rattle.report_text.proofs.FormsLemmas.{number_of_32, number_of_8, use_clear, step_clear, do_clear, entry_clear, origin_clear, limit_clear, mode_clear, pool_clear, report_lines, report_text, report_clear}
-use Rattle.transcript_model.proofs.NamedObjectLemmas.{all_nil, all_one, all_cons}
 use Rattle.report_text.proofs.PlacesPathLemmas.{report_path, path_report, path_then}
 
 -- ---- the lines of a text
@@ -74,10 +76,6 @@ body_clear version l n (inr (inr (inl a))) = rw (a.2, number_of_32 a.0 a.1) refl
 body_clear version l n (inr (inr (inr (inl a, b)))) = rw a refl
 body_clear version l n (inr (inr (inr (inr a, b)))) = rw (a.1, limit_clear a.0) refl
 
-small_version : (version : ℕ) → (version ≡ 1) ⊎ (version ≡ 2) → version < 2 ^ 64
-small_version version (inl e) = omega (arith, e)
-small_version version (inr e) = omega (arith, e)
-
 line_clear : (p : Place) (l : Line) (n : Place) → IsLineStep p l n → is_clear l ≡ true
 line_clear first l n a = rw (a.3, number_inked a.0 (small_version a.0 a.2), mode_clear a.1) refl
 line_clear (limits version) l n a = rw (a.6, number_of_32 a.0 a.3, number_of_32 a.1 a.4, number_of_8 a.2 a.5) refl
@@ -123,13 +121,13 @@ text_path_same from m n (t ∷ texts) (l ∷ ls, is, path) (k ∷ ks, also, othe
 
 no_feed_first : (x : ℕ) (parts : List (List ℕ)) → is_feed x ≡ false → All (λ line. All (λ b. is_feed b ≡ false) line) parts → All (λ line. All (λ b. is_feed b ≡ false) line) (onto_first x parts)
 no_feed_first x [] e all = all_one (λ line. All (λ b. is_feed b ≡ false) line) (x ∷ []) (all_one (λ b. is_feed b ≡ false) x e)
-no_feed_first x (p ∷ ps) e all = all_cons (λ line. All (λ b. is_feed b ≡ false) line) (x ∷ p) ps (all_cons (λ b. is_feed b ≡ false) x p e (all 0 p (omega arith))) (λ k d lt. all (suc k) d (omega arith))
+no_feed_first x (p ∷ ps) e all = All-cons (λ line. All (λ b. is_feed b ≡ false) line) (x ∷ p) ps (All-cons (λ b. is_feed b ≡ false) x p e (all 0 p (omega arith))) (λ k d lt. all (suc k) d (omega arith))
 
 parts_free : (bytes : List ℕ) → All (λ line. All (λ b. is_feed b ≡ false) line) (slice_split is_feed bytes)
-parts_free [] = all_one (λ line. All (λ b. is_feed b ≡ false) line) [] (all_nil (λ b. is_feed b ≡ false))
+parts_free [] = all_one (λ line. All (λ b. is_feed b ≡ false) line) [] (All-nil (λ b. is_feed b ≡ false))
 parts_free (x ∷ xs) =
     elim (is_feed x) as (λ c. is_feed x ≡ c → All (λ line. All (λ b. is_feed b ≡ false) line) (cond c ([] ∷ slice_split is_feed xs) (onto_first x (slice_split is_feed xs)))) [
-      | true ↦ λ _. all_cons (λ line. All (λ b. is_feed b ≡ false) line) [] (slice_split is_feed xs) (all_nil (λ b. is_feed b ≡ false)) (parts_free xs)
+      | true ↦ λ _. All-cons (λ line. All (λ b. is_feed b ≡ false) line) [] (slice_split is_feed xs) (All-nil (λ b. is_feed b ≡ false)) (parts_free xs)
       | false ↦ λ e. no_feed_first x (slice_split is_feed xs) e (parts_free xs)
     ] refl
 
@@ -145,8 +143,8 @@ lines_free bytes k =
     All-append_front (take k (whole_lines bytes)) (drop k (whole_lines bytes)) (subst (All (λ line. All (λ b. is_feed b ≡ false) line)) (sym (take-append-drop k (whole_lines bytes))) lines)
   where
     All-append_front : (xs ys : List (List ℕ)) → All (λ line. All (λ b. is_feed b ≡ false) line) (xs ++ ys) → All (λ line. All (λ b. is_feed b ≡ false) line) xs
-    All-append_front [] ys all = all_nil (λ line. All (λ b. is_feed b ≡ false) line)
-    All-append_front (x ∷ xs) ys all = all_cons (λ line. All (λ b. is_feed b ≡ false) line) x xs (all 0 x (omega arith)) (All-append_front xs ys (λ k d lt. all (suc k) d (omega arith)))
+    All-append_front [] ys all = All-nil (λ line. All (λ b. is_feed b ≡ false) line)
+    All-append_front (x ∷ xs) ys all = All-cons (λ line. All (λ b. is_feed b ≡ false) line) x xs (all 0 x (omega arith)) (All-append_front xs ys (λ k d lt. all (suc k) d (omega arith)))
 
 -- ---- where reading stops
 

@@ -8,6 +8,8 @@ use Rattle.std.proofs.lemmas.Option.{get_or_from_slice_get}
 use Rattle.std.specs.Cmp.{first_so}
 use Rattle.std.specs.List.{flat_map, list_any}
 use Rattle.std.specs.Option.{option_map_or}
+use Rattle.lemmas.proofs.Options.{same_some}
+use Rattle.lemmas.proofs.ListTests.{get_there}
 use Rattle.certify.proofs.FitStreamLemmas.{fit_parts}
 use Rattle.task_model.specs.Fit.{IsFit}
 use Rattle.task_model.specs.Initial.{declared_names}
@@ -22,7 +24,6 @@ use Rattle.transcript_model.proofs.LegalPrefixLemmas.{names_of-front, asked-late
 use Rattle.transcript_model.proofs.NamedObjectLemmas.{constants_few, fit_stream_at}
 use Rattle.transcript_model.proofs.LegalNumberLemmas.{asks_more, number_below, waiting_of, next_is_fresh}
 use Rattle.transcript_model.proofs.LegalStepLemmas.{answer_adds, request_adds, mark_adds}
-use Rattle.transcript_model.proofs.NamesLemmas.{same_some}
 use Rattle.transcript_model.specs.Laws.{known_with, notes_with, is_mark}
 use Rattle.transcript_model.specs.Legal.{IsLegal, MayFollow, IsRightAsk, IsRightGot, asks_of, is_ask_of, is_answer_to, is_open}
 use Rattle.transcript_model.specs.Names.{generated}
@@ -40,11 +41,6 @@ pub take_next : {A : Type 0} (xs : List A) (k : ℕ) (x : A) → slice_get xs k 
 take_next [] k x at = absurd (cc)
 take_next (y ∷ ys) zero x at = let same : y ≡ x = cc in ap (λ z. z ∷ []) same
 take_next (y ∷ ys) (suc k) x at = ap (λ m. take m (y ∷ ys)) (let e : suc k + 1 ≡ suc (k + 1) = omega arith in e) ∙ ap (λ zs. y ∷ zs) (take_next ys k x at)
-
-pub there_at : {A : Type 0} (xs : List A) (k : ℕ) → k < length xs → (x : A) × (slice_get xs k ≡ Some x)
-there_at [] k lt = absurd (omega arith)
-there_at (x ∷ xs) zero lt = (x, refl)
-there_at (x ∷ xs) (suc k) lt = there_at xs k (omega arith)
 
 pub front_at : {A : Type 0} (xs : List A) (n k : ℕ) (x : A) → slice_get (take n xs) k ≡ Some x → slice_get xs k ≡ Some x
 front_at [] zero k x at = absurd (cc)
@@ -171,7 +167,7 @@ module _ (task : Task) (asked_all : List Instance) (entries : List Entry) (can :
       let below = number_below can.version task before n legal there in
       let all : asks_of entries ≡ asks_of before + asks_of (drop place entries) = ap asks_of (sym (take-append-drop place entries)) ∙ asks_more before (drop place entries) in
       let within : n - 1 < length asked_all = omega (arith, below.0, below.1, all, can.counted) in
-      let stands = there_at asked_all (n - 1) within in
+      let stands = get_there asked_all (n - 1) within in
       let made = can.asks (n - 1) stands.0 stands.1 in
       let back : (n - 1) + 1 ≡ n = omega (arith, below.0) in
       let made_here : asked task entries n ≡ Some (record { stream = made.stream; instance = stands.0 }) = ap (asked task entries) (sym back) ∙ made.asks in

@@ -5,16 +5,14 @@ use Rattle.std.proofs.lemmas.Map.Views.{Contains-from_any, list_any-from_Contain
 use Rattle.std.specs.Bool.{Decides}
 use Rattle.std.specs.Cmp.{IsEquivalence, decided, first_so, second_so, unsigned_Decides}
 use Rattle.std.specs.Cmp.Lexicographic.{pointwise_decides}
+use Rattle.std.proofs.lemmas.Bool.{and_from}
 use Rattle.lemmas.proofs.Members.{distinct_push}
+use Rattle.lemmas.proofs.Bools.{not_both, from_or_false}
 use Rattle.task_model.specs.Known.{same_kind, same_fact, same_numbers, is_fact, with_fact, with_facts}
 use Rattle.task_model.specs.Laws.{AddsFacts}
 use Rattle.task_model.specs.declared.fact.Fact.{Fact}
 use Rattle.task_model.specs.declared.fact.Kind.{Kind}
 use Rattle.task_model.specs.declared.fact.Kind.TheVariants.{Predicate, Sort}
-
-both : (a b : Bool) → a ≡ true → b ≡ true → (a && b) ≡ true
-both true b p q = q
-both false b p q = p
 
 kinds_same : (a b : Kind) → same_kind a b ≡ true → a ≡ b
 kinds_same Predicate Predicate e = refl
@@ -38,7 +36,7 @@ facts_same a b e =
     λ i. record { kind = kinds_same a.kind b.kind kind i; name = eqb-true a.name b.name name i; args = (numbers_decided a.args b.args).0 args i }
 
 fact_itself : (a : Fact) → same_fact a a ≡ true
-fact_itself a = both _ _ (both _ _ (kind_itself a.kind) (eq-eqb a.name a.name refl)) ((numbers_decided a.args a.args).1 refl)
+fact_itself a = and_from _ _ (and_from _ _ (kind_itself a.kind) (eq-eqb a.name a.name refl)) ((numbers_decided a.args a.args).1 refl)
 
 pub fact_decided : (a b : Fact) → Decides (same_fact a b) (a ≡ b)
 fact_decided a b = (facts_same a b, λ e. subst (λ x. same_fact a x ≡ true) e (fact_itself a))
@@ -48,13 +46,6 @@ facts_equivalence = decided same_fact fact_decided
 
 pub fact_member : (facts : List Fact) (fact : Fact) → (is_fact facts fact ≡ true) ↔ Contains facts fact
 fact_member facts fact = (Contains-from_any facts_same fact facts, list_any-from_Contains facts_equivalence fact facts)
-
-not_both : (b : Bool) → b ≡ true → b ≡ false → ⊥
-not_both b t f = absurd (cc)
-
-left_of : (b : Bool) → (b || false) ≡ true → b ≡ true
-left_of true e = e
-left_of false e = e
 
 -- ---- one fact more
 
@@ -74,7 +65,7 @@ with_fact-is facts fact =
     only : (facts : List Fact) (fact q : Fact) → is_fact facts fact ≡ true → Contains (fact ∷ []) q → Contains facts q
     only facts fact q there m =
         let found : (same_fact q fact || false) ≡ true = list_any-from_Contains facts_equivalence q (fact ∷ []) m in
-        let same : q ≡ fact = facts_same q fact (left_of (same_fact q fact) found) in
+        let same : q ≡ fact = facts_same q fact (from_or_false (same_fact q fact) found) in
         subst (Contains facts) (sym same) ((fact_member facts fact).0 there)
 
 -- ---- many facts more
