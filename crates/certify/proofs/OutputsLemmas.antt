@@ -1,6 +1,5 @@
 -- Names and facts, put behind others one after another.
-use Rattle.std.proofs.Common.{◌≡◌, ℕ, zero, suc, ◌+◌, ◌-◌, ◌<◌, ◌≤◌, arith, Bool, true, false, cond, List, [], ◌∷◌, ◌++◌, map, drop, take, length, get_or, refl, sym, subst, ap, ◌∙◌, add-one, Some, slice_get, All}
-use Rattle.std.proofs.Math.Seq.{drop-cons}
+use Rattle.std.proofs.Common.{◌≡◌, ℕ, zero, suc, ◌+◌, ◌-◌, ◌<◌, ◌≤◌, arith, Bool, true, false, cond, List, [], ◌∷◌, ◌++◌, map, drop, take, length, get_or, refl, sym, subst, ap, ◌∙◌, Some, slice_get, All}
 use Rattle.std.proofs.lemmas.List.{map-append, append-nil, length-append, drop_more}
 use Rattle.std.specs.List.{list_any, flat_map}
 use Rattle.lemmas.proofs.Members.{get_append}

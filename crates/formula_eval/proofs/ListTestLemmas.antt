@@ -1,7 +1,7 @@
 -- Lists walked from the front: what is left to see of a test of all, of some, or of pairs.
-use Rattle.std.proofs.Common.{◌≡◌, ◌≢◌, ℕ, zero, suc, ◌<◌, ◌≤◌, Bool, true, false, ◌&&◌, ◌||◌, List, [], ◌∷◌, length, drop, get_or, refl, ap, subst, arith, Some, slice_get}
+use Rattle.std.proofs.Common.{◌≡◌, ◌≢◌, ℕ, zero, suc, ◌<◌, Bool, true, false, ◌&&◌, ◌||◌, List, [], ◌∷◌, length, drop, get_or, refl, ap, arith, Some, slice_get}
 use Rattle.std.specs.List.{list_any, list_all}
-use Rattle.std.specs.Cmp.{first_so, second_so}
+use Rattle.std.specs.Cmp.{second_so}
 use Rattle.std.proofs.lemmas.Option.{same_Some}
 use Rattle.task_model.specs.Known.{Known}
 use Rattle.task_model.specs.Truth.{has_type, have_types}

@@ -1,10 +1,9 @@
 -- Lines that are written piece by piece.
-use Rattle.std.proofs.Common.{◌≡◌, ℕ, zero, suc, ◌+◌, ◌-◌, ◌*◌, ◌<◌, ◌≤◌, arith, add-one, codes, List, [], ◌∷◌, ◌++◌, length, map, take, drop, get_or, Option, Result, Ok, Err, refl, sym, subst, ap, ◌∙◌, append_assoc}
-use Rattle.std.proofs.Math.Nat.{add_comm, suc-mul}
+use Rattle.std.proofs.Common.{◌≡◌, ℕ, zero, suc, ◌+◌, ◌-◌, ◌<◌, arith, codes, List, [], ◌∷◌, ◌++◌, length, map, take, drop, get_or, Option, Result, Ok, Err, refl, sym, subst, ap, ◌∙◌, append_assoc}
 use Rattle.std.proofs.Math.ListN.{take-append-drop}
-use Rattle.std.proofs.Math.Seq.{take-append-add, take-suc}
+use Rattle.std.proofs.Math.Seq.{take-append-add}
 use Rattle.std.proofs.lemmas.Grind.{flat_map-append}
-use Rattle.std.proofs.lemmas.List.{length-append, take-append-le, append-nil}
+use Rattle.std.proofs.lemmas.List.{length-append, take-append-le}
 use Rattle.std.proofs.lemmas.Result.{err_from_is_err_and}
 use Rattle.std.specs.Io.KnownBytes.{Appends}
 use Rattle.std.specs.List.{flat_map}

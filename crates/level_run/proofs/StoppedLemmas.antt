@@ -6,7 +6,7 @@ use Rattle.std.proofs.lemmas.Grind.{flat_map-append}
 use Rattle.std.proofs.lemmas.Result.{err_from_is_err_and}
 use Rattle.std.specs.Io.KnownBytes.{Appends}
 use Rattle.std.specs.List.{flat_map}
-use Rattle.std.specs.Result.{IsErrAnd, IfErr, IfOk, OnErr, OnOk}
+use Rattle.std.specs.Result.{IsErrAnd, IfErr, OnErr, OnOk}
 use Rattle.io_world.specs.Faults.{Rose, HasCause}
 use Rattle.task_model.specs.declared.task.Task.{Task}
 use Rattle.transcript_model.specs.Legal.{IsLegal, is_open}

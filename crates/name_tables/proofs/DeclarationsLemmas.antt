@@ -1,7 +1,7 @@
 -- Lists side by side, gone through from the front.
-use Rattle.std.proofs.Common.{◌≡◌, ℕ, zero, suc, ◌+◌, ◌<◌, ◌≤◌, List, [], ◌∷◌, ◌++◌, length, drop, refl, sym, ap, ◌∙◌, inl, inr, Some, None, slice_get, get_or, append_assoc, drop-cons, arith}
-use Rattle.std.proofs.lemmas.List.{drop_all, append-nil, get_or_default}
-use Rattle.std.proofs.lemmas.Option.{slice_get_past, slice_get_within, slice_get_cases, get_or_from_slice_get, unwrap_or-slice_get}
+use Rattle.std.proofs.Common.{◌≡◌, ℕ, suc, ◌+◌, ◌<◌, List, [], ◌∷◌, ◌++◌, length, drop, refl, sym, ap, ◌∙◌, inl, inr, Some, None, slice_get, append_assoc, drop-cons, arith}
+use Rattle.std.proofs.lemmas.List.{drop_all, append-nil}
+use Rattle.std.proofs.lemmas.Option.{slice_get_within, slice_get_cases, get_or_from_slice_get, unwrap_or-slice_get}
 use Rattle.task_model.specs.declared.domain.Declared as declared
 use Rattle.task_model.specs.declared.domain.Signature.{Signature}
 use Rattle.name_tables.specs.Declarations.{declared_list, signature_list}

@@ -1,11 +1,10 @@
 -- The places of names in tables, and what stands there.
-use Rattle.std.proofs.Common.{◌≡◌, ℕ, zero, suc, ◌+◌, ◌<◌, Bool, true, false, cond, not, ◌||◌, ◌==◌, nat_lt, List, [], ◌∷◌, ◌++◌, map, length, length-append, refl, sym, ap, ◌∙◌, inl, inr, Option, Some, None, slice_get, unwrap_or, eqb-true, eq-eqb, arith}
-use Rattle.std.specs.List.{list_any, position_or_len}
+use Rattle.std.proofs.Common.{◌≡◌, ℕ, zero, suc, ◌+◌, ◌<◌, true, false, cond, ◌==◌, nat_lt, List, [], ◌∷◌, ◌++◌, map, length, length-append, refl, sym, ap, ◌∙◌, inl, inr, Option, Some, None, slice_get, unwrap_or, eqb-true, eq-eqb, arith}
+use Rattle.std.specs.List.{position_or_len}
 use Rattle.std.specs.Str.{bytes_eq}
 use Rattle.std.proofs.lemmas.Bool.{cases_Bool, cond-false, cond-true, lt-ltb, ltb-true, ne_eqb}
-use Rattle.std.proofs.lemmas.Bool.Decides.{nat_tests}
 use Rattle.std.proofs.lemmas.List.Folds.{position_or_len_push}
-use Rattle.lemmas.proofs.Positions.{any_within_by, any_within}
+use Rattle.lemmas.proofs.Positions.{any_within}
 use Rattle.task_model.specs.Fit.{has_arity}
 use Rattle.task_model.specs.declared.domain.Signature.{Signature}
 use Rattle.form_reader.specs.declared.fault.InputKind.TheVariants.{Arity}

@@ -1,5 +1,5 @@
 -- What follows where there are no faults.
-use Rattle.std.proofs.Common.{◌≡◌, ℕ, Bool, true, false, if◌then◌else◌, List, [], ◌∷◌, ◌++◌, refl}
+use Rattle.std.proofs.Common.{◌≡◌, ℕ, Bool, true, false, if◌then◌else◌, List, [], ◌∷◌, refl}
 use Rattle.form_reader.specs.declared.fault.InputKind.{InputKind}
 use Rattle.name_tables.specs.Variables.{unless}
 

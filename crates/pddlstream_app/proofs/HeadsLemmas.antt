@@ -1,6 +1,5 @@
 -- Heads of runs.
-use Rattle.std.proofs.Common.{◌≡◌, ℕ, zero, suc, ◌+◌, ◌<◌, ◌≤◌, ◌==◌, ◌||◌, arith, Bool, true, false, cond, List, [], ◌∷◌, ◌++◌, map, length, string_bytes, refl, sym, subst, ap, ◌∙◌, All, Some, None, slice_get}
-use Rattle.std.proofs.lemmas.Bool.{eqb-false}
+use Rattle.std.proofs.Common.{◌≡◌, ℕ, zero, suc, ◌+◌, ◌<◌, ◌≤◌, ◌==◌, arith, true, cond, List, [], ◌∷◌, ◌++◌, map, length, string_bytes, refl, sym, subst, ap, ◌∙◌, All, Some, None}
 use Rattle.std.proofs.lemmas.List.{length-map}
 use Rattle.std.specs.List.{list_any}
 use Rattle.lemmas.proofs.Numbers.{in_numbers}

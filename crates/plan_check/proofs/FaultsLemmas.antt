@@ -1,6 +1,5 @@
 -- Steps executed one after another.
-use Rattle.std.proofs.Common.{◌≡◌, ℕ, zero, suc, ◌+◌, ◌<◌, List, [], ◌∷◌, ◌++◌, take, length, get_or, refl, sym, ap, subst, arith, Some, slice_get}
-use Rattle.std.proofs.lemmas.Option.{same_Some}
+use Rattle.std.proofs.Common.{◌≡◌, ℕ, suc, ◌+◌, List, [], ◌∷◌, take, refl, sym, subst, arith, Some, slice_get}
 use Rattle.lemmas.proofs.Members.{take_next}
 use Rattle.task_model.proofs.StepsLemmas.{whole_of_parts}
 use Rattle.task_model.specs.Initial.{initial_state}

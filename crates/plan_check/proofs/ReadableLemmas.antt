@@ -1,9 +1,8 @@
 -- Actions of a fit task can be read.
-use Rattle.std.proofs.Common.{◌≡◌, ℕ, zero, suc, ◌≤◌, Bool, true, ◌&&◌, List, [], ◌∷◌, length, refl, subst, Some, slice_get, nat_le}
+use Rattle.std.proofs.Common.{◌≡◌, ℕ, ◌≤◌, true, ◌&&◌, List, [], ◌∷◌, length, refl, Some, slice_get, nat_le}
 use Rattle.std.proofs.lemmas.Bool.{leb-true, and_from}
 use Rattle.std.specs.Cmp.{first_so, second_so}
 use Rattle.std.specs.List.{list_all}
-use Rattle.std.proofs.lemmas.Option.{same_Some}
 use Rattle.lemmas.proofs.ListTests.{all_at}
 use Rattle.task_model.specs.Fit.{IsFitDomain, is_fit_action, are_fit_params, is_fit_condition, are_fit_effects, are_fit_patterns, is_fit_pattern, is_fit_application, is_fit_cost, has_arity, is_short, param_slots}
 use Rattle.lemmas.specs.Lists.{numbers_from}

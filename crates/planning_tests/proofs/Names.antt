@@ -1,5 +1,5 @@
 -- Names of objects, and places among them.
-use Rattle.std.proofs.Common.{◌≡◌, ℕ, zero, suc, ◌<◌, List, [], ◌∷◌, map, length, refl, ap, arith, Some, slice_get, All, sym, subst}
+use Rattle.std.proofs.Common.{◌≡◌, ℕ, ◌<◌, List, [], ◌∷◌, length, refl, arith, All, sym, subst}
 use Rattle.std.proofs.lemmas.List.Elements.{All-cons, All-nil}
 
 pub some_there : {A : Type 0} (xs : List A) → (xs ≡ [] → ⊥) → 0 < length xs

@@ -1,5 +1,5 @@
 -- Where outcomes stand.
-use Rattle.std.proofs.Common.{◌≡◌, ℕ, zero, suc, ◌<◌, inl, inr, List, [], length, refl, sym, ap, ◌∙◌, arith, Bool, true, false, not, ◌&&◌, ◌==◌, ne_eqb}
+use Rattle.std.proofs.Common.{◌≡◌, ℕ, zero, suc, ◌<◌, inl, inr, List, [], length, refl, sym, ap, ◌∙◌, arith, Bool, true, false, not, ◌&&◌, ◌==◌}
 use Rattle.transcript_model.specs.Legal.{HasNoneOpen, is_open}
 use Rattle.transcript_model.specs.Outcomes.{IsPastCalls}
 use Rattle.transcript_model.specs.Turns.{AreTurns, IncrementalTurn, Stage, after_cut, between, inside}

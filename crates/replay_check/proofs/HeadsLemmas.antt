@@ -1,5 +1,5 @@
 -- The first line of a head that breaks a rule.
-use Rattle.std.proofs.Common.{◌≡◌, ℕ, zero, suc, ◌+◌, ◌<◌, ◌≤◌, ◌⊎◌, inl, inr, List, [], ◌∷◌, take, length, refl, sym, ap, subst, ◌∙◌, Some, slice_get, Bool, true, false, arith, IfSome}
+use Rattle.std.proofs.Common.{◌≡◌, ℕ, ◌+◌, ◌<◌, ◌≤◌, ◌⊎◌, inl, inr, List, take, length, refl, sym, ap, subst, ◌∙◌, Some, slice_get, true, false, arith, IfSome}
 use Rattle.std.proofs.lemmas.Bool.{cases_lt}
 use Rattle.lemmas.proofs.Bools.{not_both}
 use Rattle.lemmas.proofs.Members.{get_and_take}

@@ -1,8 +1,7 @@
 -- One member more, behind the others.
 use Rattle.std.proofs.Common.{◌≡◌, ℕ, suc, ◌+◌, ◌<◌, List, [], ◌∷◌, ◌++◌, length, map, refl, sym, subst, ap, ◌∙◌, arith, All, append_assoc, length-append, Some, None}
 use Rattle.std.proofs.lemmas.List.{map-append}
-use Rattle.std.proofs.lemmas.List.Elements.{All-append, All-push}
-use Rattle.lemmas.proofs.ListTests.{all_one}
+use Rattle.std.proofs.lemmas.List.Elements.{All-push}
 use Rattle.report_text.specs.Texts.{Line}
 use Rattle.report_reader.specs.Finding.{HasNo, shown_lines, TakesLine, TakesAll, TakesMany, TakesFewer}
 use Rattle.report_reader.specs.Splits.{fields_of}

@@ -1,5 +1,5 @@
 -- What is written for one member more, and for tuple after tuple.
-use Rattle.std.proofs.Common.{◌≡◌, ℕ, zero, suc, ◌+◌, ◌-◌, ◌*◌, ◌/◌, ◌%◌, ◌<◌, ◌≤◌, arith, codes, List, [], ◌∷◌, ◌++◌, length, map, take, drop, refl, sym, subst, ap, ◌∙◌, append_assoc, append-nil, get_or, slice_get, Some, add-one}
+use Rattle.std.proofs.Common.{◌≡◌, ℕ, zero, suc, ◌+◌, ◌-◌, ◌*◌, ◌/◌, ◌%◌, ◌<◌, ◌≤◌, arith, codes, List, [], ◌∷◌, ◌++◌, length, map, take, drop, refl, sym, ap, ◌∙◌, append_assoc, append-nil, get_or, slice_get, Some, add-one}
 use Rattle.std.specs.List.{flat_map}
 use Rattle.std.proofs.Math.Nat.{add_comm, mul_comm, suc-mul}
 use Rattle.std.proofs.Math.Seq.{take-suc}

@@ -1,5 +1,5 @@
 -- The next round of a list of asks.
-use Rattle.std.proofs.Common.{◌≡◌, ℕ, zero, suc, ◌+◌, ◌-◌, ◌≤◌, ◌<◌, Bool, true, false, cond, List, [], ◌∷◌, ◌++◌, map, length, take, drop, min, refl, sym, ap, subst, ◌∙◌, Option, Some, slice_get, get_or, count_by, arith, nat_le, take_all, All, Contains, ◌&&◌}
+use Rattle.std.proofs.Common.{◌≡◌, ℕ, zero, suc, ◌+◌, ◌-◌, ◌≤◌, ◌<◌, true, false, List, [], ◌∷◌, ◌++◌, map, length, take, drop, min, refl, sym, ap, subst, ◌∙◌, Option, Some, slice_get, get_or, count_by, arith, nat_le, take_all, All, Contains, ◌&&◌}
 use Rattle.std.proofs.Math.ListN.{take-append-drop}
 use Rattle.std.proofs.Math.Seq.{take-take}
 use Rattle.std.proofs.lemmas.Bool.{leb-true, le-leb, lt-leb, and_from, true≢false}

@@ -1,5 +1,5 @@
 -- A closed round leaves a legal transcript with nothing open.
-use Rattle.std.proofs.Common.{◌≡◌, ℕ, zero, suc, ◌+◌, ◌≤◌, ◌<◌, ◌==◌, Bool, true, false, cond, ◌||◌, ◌&&◌, not, ◌⊎◌, inl, inr, List, [], ◌∷◌, ◌++◌, length, take, refl, sym, ap, subst, ◌∙◌, Option, None, Some, slice_get, is_none, arith, count_by, append_assoc, length-append, eqb-true, eq-eqb, All, Contains}
+use Rattle.std.proofs.Common.{◌≡◌, ℕ, zero, suc, ◌+◌, ◌≤◌, ◌<◌, ◌==◌, Bool, true, false, cond, ◌&&◌, not, ◌⊎◌, inl, inr, List, [], ◌∷◌, ◌++◌, length, take, refl, sym, ap, subst, ◌∙◌, Option, None, Some, slice_get, is_none, arith, count_by, append_assoc, length-append, eqb-true, eq-eqb, All, Contains}
 use Rattle.std.proofs.lemmas.List.{append-nil, take-append-le, length-map}
 use Rattle.std.proofs.lemmas.List.Elements.{All-head, All-tail, All-contains}
 use Rattle.std.proofs.lemmas.List.Sums.{count_by-le-length}

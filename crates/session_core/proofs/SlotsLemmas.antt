@@ -1,5 +1,5 @@
 -- Slots and their children.
-use Rattle.std.proofs.Common.{◌≡◌, ℕ, zero, suc, Bool, true, false, cond, ◌==◌, ◌&&◌, not, List, [], ◌∷◌, map, refl, sym, ap, ◌∙◌, Option, Some, slice_get, option_map, is_none, drop, eqb-true, eq-eqb, arith}
+use Rattle.std.proofs.Common.{◌≡◌, ℕ, zero, suc, Bool, true, false, cond, ◌==◌, not, List, [], ◌∷◌, map, refl, sym, ap, ◌∙◌, Some, slice_get, option_map, is_none, drop, eqb-true, eq-eqb, arith}
 use Rattle.std.proofs.Math.ListN.{set}
 use Rattle.std.proofs.lemmas.Option.{slice_get-map}
 use Rattle.std.proofs.lemmas.Bool.{and_parts}

@@ -1,6 +1,5 @@
 -- One pool that serves all streams is fit.
-use Rattle.std.proofs.Common.{◌≡◌, ℕ, zero, suc, ◌+◌, ◌≤◌, ◌<◌, ◌==◌, ◌||◌, Bool, true, false, [], ◌∷◌, ◌++◌, length, refl, sym, ap, subst, ◌∙◌, arith, Some, None, cond, slice_get}
-use Rattle.std.proofs.lemmas.Bool.{eqb-false}
+use Rattle.std.proofs.Common.{◌≡◌, ℕ, zero, suc, ◌+◌, ◌≤◌, ◌<◌, ◌==◌, true, [], ◌∷◌, ◌++◌, length, sym, ap, subst, ◌∙◌, arith, Some, None, cond}
 use Rattle.std.specs.List.{list_any}
 use Rattle.lemmas.proofs.Numbers.{in_numbers}
 use Rattle.lemmas.proofs.Members.{get_single}

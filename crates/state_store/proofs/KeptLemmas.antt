@@ -1,5 +1,5 @@
 -- States are equal where they list the same atoms.
-use Rattle.std.proofs.Common.{◌≡◌, ℕ, suc, ◌<◌, List, [], ◌∷◌, ◌++◌, map, length, refl, sym, ap, ◌∙◌, arith, Some, slice_get}
+use Rattle.std.proofs.Common.{◌≡◌, ℕ, suc, ◌<◌, List, [], ◌∷◌, map, length, refl, sym, ap, ◌∙◌, arith, Some, slice_get}
 use Rattle.std.specs.FinMap as finite
 use Rattle.task_model.specs.State.{Atoms, items, len}
 

@@ -1,5 +1,5 @@
 -- What is known after a legal transcript is coherent.
-use Rattle.std.proofs.Common.{◌≡◌, ℕ, zero, suc, ◌+◌, ◌*◌, ◌≤◌, arith, Bool, true, false, cond, ◌&&◌, ◌==◌, nat_le, nat_lt, List, [], ◌∷◌, ◌++◌, map, filter, take, drop, length, refl, sym, subst, ap, ◌∙◌, Option, Some, None, slice_get, All, Contains, eqb-true, eq-eqb, suc-mul, option_map}
+use Rattle.std.proofs.Common.{◌≡◌, ℕ, zero, suc, ◌+◌, ◌*◌, ◌≤◌, arith, true, false, cond, ◌&&◌, ◌==◌, nat_le, nat_lt, List, [], ◌∷◌, ◌++◌, map, filter, take, drop, length, refl, sym, subst, ap, ◌∙◌, Option, Some, None, slice_get, All, Contains, eqb-true, eq-eqb, suc-mul, option_map}
 use Rattle.std.proofs.lemmas.Bool.{leb-true, and_from}
 use Rattle.std.proofs.lemmas.List.{length-map, length-take-le, length-drop, length-append, take-append-drop}
 use Rattle.std.proofs.lemmas.List.Elements.{All-append, All-contains, Contains-append_left, Contains-append_right, All-nil, All-cons}

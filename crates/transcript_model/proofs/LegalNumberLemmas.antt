@@ -1,13 +1,11 @@
 -- The numbers of requests in a legal transcript.
-use Rattle.std.proofs.Common.{◌≡◌, ℕ, zero, suc, ◌+◌, ◌<◌, ◌≤◌, arith, Bool, true, false, cond, ◌||◌, not, nat_lt, List, [], ◌∷◌, ◌++◌, take, drop, length, refl, subst, ap, ◌∙◌, Some, slice_get, eqb-true, ltb-true, ltb-false}
+use Rattle.std.proofs.Common.{◌≡◌, ℕ, zero, suc, ◌+◌, ◌<◌, ◌≤◌, arith, true, false, cond, not, nat_lt, List, [], ◌∷◌, ◌++◌, take, drop, length, refl, subst, ap, ◌∙◌, Some, slice_get, eqb-true, ltb-true, ltb-false}
 use Rattle.std.proofs.Math.Seq.{take-length}
 use Rattle.std.proofs.lemmas.List.{take-append-drop}
-use Rattle.std.proofs.lemmas.List.Folds.{list_any-append}
 use Rattle.std.proofs.lemmas.List.Sums.{sum_by-append}
 use Rattle.std.proofs.lemmas.Option.{slice_get_within}
 use Rattle.std.specs.Cmp.{first_so}
 use Rattle.std.specs.List.{list_any}
-use Rattle.std.proofs.lemmas.Bool.{or_right}
 use Rattle.lemmas.proofs.ListTests.{any_found, any_append_left}
 use Rattle.task_model.specs.declared.task.Task.{Task}
 use Rattle.transcript_model.specs.Legal.{IsLegal, MayFollow, IsRightAsk, is_ask, asks_of, is_ask_of, is_answer_to, is_open}

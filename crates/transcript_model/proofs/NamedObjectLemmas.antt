@@ -1,10 +1,10 @@
 -- The objects of facts have names.
-use Rattle.std.proofs.Common.{◌≡◌, ℕ, zero, suc, ◌+◌, ◌-◌, ◌<◌, ◌≤◌, arith, Bool, true, false, cond, ◌&&◌, ◌||◌, ◌==◌, not, nat_lt, nat_le, List, [], ◌∷◌, ◌++◌, map, filter, take, length, replicate, get_or, refl, sym, subst, ap, Option, Some, None, slice_get, All, eqb-true, ltb-true, length-append}
+use Rattle.std.proofs.Common.{◌≡◌, ℕ, zero, suc, ◌+◌, ◌-◌, ◌<◌, ◌≤◌, arith, Bool, true, false, cond, ◌&&◌, not, nat_lt, nat_le, List, [], ◌∷◌, ◌++◌, map, filter, take, length, replicate, get_or, refl, sym, subst, ap, Option, Some, None, slice_get, All, ltb-true, length-append}
 use Rattle.std.proofs.lemmas.List.{length-map, length-take, get_or_append_left}
 use Rattle.std.proofs.lemmas.List.Elements.{All-append, All-map, All-filter, All-contains, All-nil}
 use Rattle.std.proofs.lemmas.List.Sums.{AllPass-from_list_all}
 use Rattle.std.specs.Cmp.{first_so, second_so}
-use Rattle.std.specs.List.{list_any, list_all, flat_map, slice_index}
+use Rattle.std.specs.List.{list_all, flat_map, slice_index}
 use Rattle.lemmas.proofs.Numbers.{below_in_numbers}
 use Rattle.lemmas.proofs.ListTests.{all_one}
 use Rattle.task_model.specs.Fit.{IsFit, is_fit_term, is_fit_application, is_fit_pattern, are_fit_patterns, is_fit_stream, is_fit_worth, is_fit_fact, is_predicate, has_arity, is_derived_role, is_short, are_places, are_static_patterns}
