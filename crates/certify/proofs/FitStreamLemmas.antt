@@ -1,25 +1,24 @@
 -- What streams of fit tasks name.
-use Rattle.std.proofs.Common.{◌≡◌, ℕ, zero, suc, ◌+◌, ◌-◌, ◌<◌, ◌≤◌, arith, Bool, true, ◌&&◌, List, [], ◌∷◌, ◌++◌, map, length, get_or, refl, sym, subst, ap, ◌∙◌, All, nat_lt, nat_le, ltb-true, slice_index, replicate, Some}
+use Rattle.std.proofs.Common.{◌≡◌, ℕ, zero, suc, ◌+◌, ◌-◌, ◌<◌, ◌≤◌, arith, Bool, true, ◌&&◌, List, [], ◌∷◌, ◌++◌, map, length, get_or, refl, sym, subst, ap, ◌∙◌, All, nat_lt, nat_le, slice_index, Some}
 use Rattle.std.proofs.lemmas.Bool.{leb-true}
 use Rattle.std.proofs.lemmas.List.{length-append}
 use Rattle.std.proofs.lemmas.List.Elements.{All-append}
 use Rattle.std.specs.Cmp.{first_so, second_so}
 use Rattle.std.specs.List.{list_all}
-use Rattle.lemmas.proofs.Numbers.{below_in_numbers}
 use Rattle.formula_eval.proofs.ReadableLemmas.{few_slots, few_arguments, readable_terms}
 use Rattle.formula_eval.specs.Readable.{is_readable_term}
-use Rattle.task_model.specs.Fit.{IsFitDomain, is_fit_stream, is_fit_pattern, are_fit_patterns, is_fit_application, is_fit_term, has_arity, is_short, are_places, are_static_patterns, is_fit_worth}
+use Rattle.task_model.specs.Fit.{IsFitDomain, is_fit_stream, is_fit_pattern, are_fit_patterns, is_fit_application, has_arity, is_short, are_places, are_static_patterns, is_fit_worth}
 use Rattle.task_model.specs.Known.{IsIn}
 use Rattle.lemmas.specs.Lists.{numbers_from}
 use Rattle.task_model.specs.Streams.{is_empty}
-use Rattle.task_model.specs.Truth.{slots_of, object_of, objects_at}
+use Rattle.task_model.specs.Truth.{slots_of, objects_at}
 use Rattle.task_model.specs.declared.condition.Term.{Term}
-use Rattle.task_model.specs.declared.condition.Term.TheVariants.{Slot, Object}
 use Rattle.task_model.specs.declared.domain.Domain.{Domain}
 use Rattle.task_model.specs.declared.domain.Pattern.{Pattern}
 use Rattle.task_model.specs.declared.domain.Signature.{Signature}
 use Rattle.task_model.specs.declared.stream.Stream.{Stream}
 use Rattle.task_model.specs.declared.stream.Worth.{Worth}
+use Rattle.transcript_model.proofs.NamedObjectLemmas.{terms_named}
 
 -- ---- slots and constants
 
@@ -27,22 +26,6 @@ in_front : (args more : List ℕ) (k : ℕ) → k < length args → slice_index 
 in_front [] more k lt = absurd (omega arith)
 in_front (a ∷ rest) more zero lt = refl
 in_front (a ∷ rest) more (suc k) lt = in_front rest more k (omega arith)
-
-in_names : (names : List (List ℕ)) (object : ℕ) → object < length names → IsIn names object
-in_names [] object lt = absurd (omega arith)
-in_names (n ∷ ns) zero lt = refl
-in_names (n ∷ ns) (suc object) lt = in_names ns object (omega arith)
-
-term_named : (names : List (List ℕ)) (constants : ℕ) (args : List ℕ) (term : Term) → constants ≤ length names → All (IsIn names) args → is_fit_term constants (numbers_from 0 (length args)) term ≡ true → IsIn names (object_of (slots_of args) term)
-term_named names constants args (Slot n) few all e =
-    let below : n < length args = omega (arith, below_in_numbers 0 (length args) n e) in
-    subst (IsIn names) (sym (in_front args (replicate (16 - length args) 0) n below)) (all n 0 below)
-term_named names constants args (Object o) few all e = in_names names o (omega (arith, ltb-true o constants e))
-
-pub terms_named : (names : List (List ℕ)) (constants : ℕ) (args : List ℕ) (terms : List Term) → constants ≤ length names → All (IsIn names) args → list_all (is_fit_term constants (numbers_from 0 (length args))) terms ≡ true → All (IsIn names) (objects_at (slots_of args) terms)
-terms_named names constants args [] few all e k d lt = absurd (omega arith)
-terms_named names constants args (t ∷ ts) few all e zero d lt = term_named names constants args t few all (first_so (is_fit_term constants (numbers_from 0 (length args)) t) _ e)
-terms_named names constants args (t ∷ ts) few all e (suc k) d lt = terms_named names constants args ts few all (second_so (is_fit_term constants (numbers_from 0 (length args)) t) _ e) k d (omega arith)
 
 -- ---- applications
 

@@ -5,6 +5,7 @@ use Rattle.std.specs.List.{list_any, flat_map}
 use Rattle.lemmas.proofs.Members.{get_append}
 use Rattle.fact_store.proofs.StoreLemmas.{in_more}
 use Rattle.fact_store.specs.Store.{with_name}
+use Rattle.task_model.proofs.KnownLemmas.{facts_then}
 use Rattle.task_model.specs.Initial.{type_facts}
 use Rattle.task_model.specs.Known.{IsIn, same_numbers, with_fact, with_facts}
 use Rattle.task_model.specs.Streams.{output_types}
@@ -94,10 +95,6 @@ named_long names (o ∷ os) (v ∷ vs) e =
     ap suc (named_long names os vs rest)
 
 -- ---- facts
-
-pub facts_then : (facts first second : List Fact) → with_facts facts (first ++ second) ≡ with_facts (with_facts facts first) second
-facts_then facts [] second = refl
-facts_then facts (f ∷ first) second = facts_then (with_fact facts f) first second
 
 pub types_more : (domain : Domain) (sorts objects : List ℕ) (i object : ℕ) (facts new : List Fact) → i < length sorts → length objects ≡ length sorts → object ≡ get_or objects i object → new ≡ with_facts facts (type_facts domain (get_or sorts i 0) object) → with_facts new (output_types domain (drop (i + 1) sorts) (drop (i + 1) objects)) ≡ with_facts facts (output_types domain (drop i sorts) (drop i objects))
 types_more domain sorts objects i object facts new lt long o grown =

@@ -11,6 +11,7 @@ use Rattle.lemmas.specs.Lists.{AreDistinct, numbers_from}
 use Rattle.task_model.specs.declared.domain.Action.{Action}
 use Rattle.task_model.specs.declared.domain.Domain as domain
 use Rattle.task_model.specs.declared.domain.Pattern.{Pattern}
+use Rattle.form_reader.proofs.RowsLemmas.{tail_small, inner_small, tail_shallow}
 use Rattle.form_reader.specs.declared.fault.Fault.{Fault}
 use Rattle.form_reader.specs.declared.fault.InputKind.TheVariants.{Duplicate}
 use Rattle.form_reader.specs.declared.groups.Spot.TheVariants.{Start}
@@ -31,10 +32,10 @@ use Rattle.name_tables.proofs.FitConditions.{condition_fits}
 use Rattle.name_tables.proofs.FitGroups.{few_places, scope_bound, sorts_as_long}
 use Rattle.name_tables.proofs.FitTerms.{AreFilled, Knows, filled_first}
 use Rattle.name_tables.proofs.NoFaultLemmas.{chosen, met, some_fault}
-use Rattle.name_tables.proofs.NamesLemmas.{name_there, same_name}
-use Rattle.domain_reader.proofs.FitItems.{AreClean, IsClean, inner_shallow, inner_small, tail_shallow, tail_small}
+use Rattle.name_tables.proofs.NamesLemmas.{name_there, same_name, has_with}
+use Rattle.domain_reader.proofs.FitItems.{AreClean, IsClean, inner_shallow}
 use Rattle.domain_reader.proofs.FitEffects.{ArePlain, IsDone, effect_done, is_free}
-use Rattle.domain_reader.proofs.FitNames.{gets_with, known_with}
+use Rattle.domain_reader.proofs.FitNames.{known_with}
 use Rattle.domain_reader.specs.Domains.{action_of, actions_of, done_by, nothing_done}
 use Rattle.domain_reader.specs.Names.{action_names, is_action, keys_names, once, parameters_of, repeated_names, second_actions, seen_once, value_at, value_names}
 
@@ -214,7 +215,7 @@ new_first seen n ns one fresh new = record {
     | inl e ↦ let there : has_name n seen ≡ true = subst (λ w. has_name w seen ≡ true) (same_name m n e) h in let clash : true ≡ false = sym there ∙ fresh in cc
     | inr e ↦ new.absent m (known_with seen n m h) e
   ];
-  distinct = distinct_first n ns (λ h. new.absent n (gets_with seen n) h) new.distinct;
+  distinct = distinct_first n ns (λ h. new.absent n (has_with seen n) h) new.distinct;
 }
 
 new_names : (v : Vocabulary) (heads seen : List (List ℕ)) (body : Trees) → AreClean v heads body → second_actions seen body ≡ [] → AreNew seen (names (actions_of v body))

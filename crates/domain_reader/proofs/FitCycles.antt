@@ -1,5 +1,5 @@
 -- No derived predicate of a domain without faults rests on itself.
-use Rattle.std.proofs.Common.{◌≡◌, ℕ, zero, suc, ◌<◌, Bool, true, false, ◌&&◌, ◌==◌, if◌then◌else◌, List, [], ◌∷◌, ◌++◌, length, refl, sym, ap, ◌∙◌, subst, arith, ◌⊎◌, inl, inr, Option, Some, None, slice_get, unwrap_or, eqb-true, eq-eqb}
+use Rattle.std.proofs.Common.{◌≡◌, ℕ, suc, ◌<◌, Bool, true, false, ◌&&◌, ◌==◌, if◌then◌else◌, List, [], ◌∷◌, ◌++◌, length, refl, sym, ap, ◌∙◌, subst, arith, ◌⊎◌, inl, inr, Option, Some, None, unwrap_or, eqb-true, eq-eqb}
 use Rattle.std.specs.Cmp.{first_so, second_so}
 use Rattle.std.specs.List.{list_any}
 use Rattle.std.proofs.lemmas.Bool.{or_cases, or_left}
@@ -23,14 +23,13 @@ use Rattle.form_reader.specs.Items.{item_of}
 use Rattle.form_reader.specs.Rows.{head_of, inner_of, tail_of}
 use Rattle.form_reader.specs.Words.{condition_head_of}
 use Rattle.name_tables.specs.Conditions.{condition_by, condition_names, condition_of, conditions_names, conditions_of, equal_of, exists_names, exists_of, single_of, truth}
-use Rattle.name_tables.specs.Declarations.{number_put}
 use Rattle.name_tables.specs.Graphs.{leads}
 use Rattle.name_tables.specs.Names.{place_of}
 use Rattle.name_tables.specs.Terms.{application_names, declared_place, terms_names, terms_of, use_names, width}
 use Rattle.name_tables.specs.Variables.{named_words, variables_names}
 use Rattle.name_tables.specs.Vocabulary.{arity_of}
 use Rattle.name_tables.specs.declared.vocabulary.Vocabulary.{Vocabulary}
-use Rattle.name_tables.proofs.FitDeclared.{put_behind}
+use Rattle.name_tables.proofs.FitDeclared.{put_long}
 use Rattle.name_tables.proofs.NamesLemmas.{place_within}
 use Rattle.domain_reader.proofs.FitItems.{AreClean, IsClean}
 use Rattle.domain_reader.proofs.FitEdges.{is_candidate, none_cyclic, put_gets, put_keeps}
@@ -39,11 +38,6 @@ use Rattle.domain_reader.specs.Cycles.{CycleFaults, bodies_in, body_put, derived
 use Rattle.domain_reader.specs.Domains.{rule_of, rules_of}
 use Rattle.domain_reader.specs.Tables.{headed, is_derived}
 use Rattle.domain_reader.specs.declared.cycles.Candidate.{Candidate}
-
-put_long : (lists : List (List ℕ)) (place n : ℕ) → length (number_put lists place n) ≡ length lists
-put_long [] place n = refl
-put_long (ns ∷ lists) zero n = refl
-put_long (ns ∷ lists) (suc place) n = ap length (put_behind ns lists place n (slice_get lists place)) ∙ ap suc (put_long lists place n)
 
 -- ---- edges of the mentioned predicates
 

@@ -30,7 +30,8 @@ use Rattle.name_tables.specs.declared.vocabulary.Vocabulary.{Vocabulary}
 use Rattle.name_tables.proofs.FitTerms.{AreFilled, Knows, application_fits}
 use Rattle.name_tables.proofs.NoFaultLemmas.{chosen, met, some_fault}
 use Rattle.name_tables.proofs.NamesLemmas.{name_there, place_named, same_name}
-use Rattle.domain_reader.proofs.FitNames.{name_long, predicate_name}
+use Rattle.name_tables.proofs.VariablesWidthLemmas.{name_long}
+use Rattle.domain_reader.proofs.FitNames.{predicate_name}
 use Rattle.domain_reader.proofs.FitRules.{place_used}
 use Rattle.domain_reader.specs.Effects.{Done, added, after_effect, after_effects, changed_names, charged, cost_names, cost_of, effect_names, effects_names, is_derived_name, negated_names, pattern_of, taken}
 

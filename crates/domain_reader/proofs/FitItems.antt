@@ -4,35 +4,22 @@ use Rattle.std.specs.Str.{bytes_eq}
 use Rattle.lemmas.proofs.Members.{append_nil_first, append_nil_second}
 use Rattle.sexpr_text.specs.Trees.{Trees, nothing, word, list, depth, size}
 use Rattle.task_model.specs.Fit.{is_name}
+use Rattle.form_reader.proofs.RowsLemmas.{tail_small, inner_small, tail_shallow}
 use Rattle.form_reader.specs.declared.items.Item.{Item}
 use Rattle.form_reader.specs.declared.items.TextKind.TheVariants.{Domain}
 use Rattle.form_reader.specs.declared.words.WordSort.TheVariants.{Name}
 use Rattle.form_reader.specs.Faults.{shape}
 use Rattle.form_reader.specs.Items.{body_faults, item_faults, item_of, items_faults}
-use Rattle.form_reader.specs.Rows.{end_faults, head_of, inner_of, one_faults, tail_of}
+use Rattle.form_reader.specs.Rows.{head_of, inner_of, one_faults, tail_of}
 use Rattle.form_reader.specs.Texts.{define_faults, form_faults, title_faults, title_of, titled_faults}
 use Rattle.name_tables.specs.Sizes.{IsBounded}
 use Rattle.name_tables.specs.declared.vocabulary.Vocabulary.{Vocabulary}
 use Rattle.name_tables.proofs.NoFaultLemmas.{chosen, some_fault}
+use Rattle.name_tables.proofs.TitleLemmas.{one_name}
 use Rattle.domain_reader.specs.Names.{body_names, items_names}
 use Rattle.domain_reader.specs.Tables.{body_of, name_of}
 
 -- ---- sizes
-
-pub tail_small : (ts : Trees) → size (tail_of ts) ≤ size ts
-tail_small nothing = omega arith
-tail_small (word text at rest) = omega arith
-tail_small (list items at rest) = omega arith
-
-pub inner_small : (ts : Trees) → size (inner_of ts) ≤ size ts
-inner_small nothing = omega arith
-inner_small (word text at rest) = omega arith
-inner_small (list items at rest) = omega arith
-
-pub tail_shallow : (ts : Trees) → depth (tail_of ts) ≤ depth ts
-tail_shallow nothing = omega arith
-tail_shallow (word text at rest) = omega arith
-tail_shallow (list items at rest) = omega arith
 
 pub inner_shallow : (ts : Trees) → depth (inner_of ts) ≤ depth ts - 1
 inner_shallow nothing = omega arith
@@ -56,12 +43,7 @@ pub record IsFormed (t : Trees) : Type 0 where
 title_named : (place : ℕ) (ts : Trees) → title_faults Domain place ts ≡ [] → is_name (head_of (tail_of ts)) ≡ true
 title_named place nothing e = absurd (some_fault (shape place) [] e)
 title_named place (list items at rest) e = absurd (some_fault (shape at) [] e)
-title_named place (word w at rest) e = one place rest (chosen (bytes_eq w (title_of Domain)) (one_faults Name place rest) (shape at) [] e).1
-  where
-    one : (place : ℕ) (ts : Trees) → one_faults Name place ts ≡ [] → is_name (head_of ts) ≡ true
-    one place nothing e = absurd (some_fault (shape place) [] e)
-    one place (word w at rest) e = (chosen (is_name w) (end_faults rest) (shape at) [] e).0
-    one place (list items at rest) e = absurd (some_fault (shape at) [] e)
+title_named place (word w at rest) e = one_name place rest (chosen (bytes_eq w (title_of Domain)) (one_faults Name place rest) (shape at) [] e).1
 
 titled_formed : (place at : ℕ) (ts rest : Trees) (w : List ℕ) (here : ℕ) → titled_faults Domain place ts ≡ [] → IsFormed (list (word w here ts) at rest)
 titled_formed place at nothing rest w here e = absurd (some_fault (shape place) [] e)

@@ -2,13 +2,13 @@
 use Rattle.std.proofs.Common.{◌≡◌, ℕ, ◌+◌, ◌≤◌, true, false, ◌&&◌, not, cond, if◌then◌else◌, nat_le, List, [], ◌∷◌, ◌++◌, codes, length, refl, sym, ap, ◌∙◌, subst, arith, Option, Some, None, slice_get, length-append}
 use Rattle.std.specs.Cmp.{first_so, second_so}
 use Rattle.std.specs.List.{list_all}
-use Rattle.std.proofs.lemmas.Bool.{or_left}
 use Rattle.std.specs.Str.{bytes_eq}
 use Rattle.sexpr_text.specs.Trees.{Trees, nothing, word, list, size}
 use Rattle.lemmas.proofs.Members.{distinct_nil, distinct_push, append_nil_first, append_nil_second}
-use Rattle.lemmas.proofs.ListTests.{any_append_left, any_append_right, all_push}
+use Rattle.lemmas.proofs.ListTests.{any_append_left, all_push}
 use Rattle.task_model.specs.Fit.{is_name}
 use Rattle.lemmas.specs.Lists.{AreDistinct}
+use Rattle.form_reader.proofs.RowsLemmas.{tail_small}
 use Rattle.form_reader.specs.declared.fault.Fault.{Fault}
 use Rattle.form_reader.specs.declared.fault.InputKind.TheVariants.{TooMany}
 use Rattle.form_reader.specs.declared.groups.Spot.{Spot}
@@ -29,8 +29,9 @@ use Rattle.name_tables.specs.declared.vocabulary.Vocabulary.{Vocabulary}
 use Rattle.name_tables.proofs.FitDeclared.{distinct_names, length_names, length_with, named_names, named_with, seen_names}
 use Rattle.name_tables.proofs.FitGroups.{words_are_names}
 use Rattle.name_tables.proofs.NoFaultLemmas.{chosen, met, some_fault}
-use Rattle.name_tables.proofs.NamesLemmas.{distinct_with, name_itself}
-use Rattle.domain_reader.proofs.FitItems.{AreClean, IsClean, tail_small}
+use Rattle.name_tables.proofs.NamesLemmas.{distinct_with}
+use Rattle.name_tables.proofs.VariablesWidthLemmas.{name_long}
+use Rattle.domain_reader.proofs.FitItems.{AreClean, IsClean}
 use Rattle.domain_reader.specs.Names.{declaration_names, functions_names, predicates_names, total_cost_names}
 use Rattle.domain_reader.specs.Tables.{declared_arity, functions_in, no_names, predicates_in, types_in, vocabulary_of, with_item, with_items}
 
@@ -47,11 +48,6 @@ table_more most more names le t = record { distinct = t.distinct; named = t.name
 pub table_with : (most : ℕ) (names : List (List ℕ)) (name : List ℕ) → IsTable most names → is_name name ≡ true → IsTable (most + 1) (with_name names name)
 table_with most names name t one = record { distinct = distinct_with names name t.distinct; named = named_with names name t.named one; few = omega (arith, t.few, length_with names name) }
 
--- a name has a letter
-pub name_long : (name : List ℕ) → is_name name ≡ true → 1 ≤ length name
-name_long [] e = absurd (cc)
-name_long (b ∷ bs) e = omega arith
-
 -- all names of the list are names of the table
 abbrev pub Known : List (List ℕ) → List (List ℕ) → Type 0
 Known names table = (n : List ℕ) → has_name n names ≡ true → has_name n table ≡ true
@@ -62,13 +58,6 @@ known_with names name n h =
       | true ↦ h
       | false ↦ any_append_left (bytes_eq n) names (name ∷ []) h
     ]
-
-pub gets_with : (names : List (List ℕ)) (name : List ℕ) → has_name name (with_name names name) ≡ true
-gets_with names name =
-    elim (has_name name names) as (λ b. has_name name names ≡ b → has_name name (cond b names (names ++ name ∷ [])) ≡ true) [
-      | true ↦ λ t. t
-      | false ↦ λ _. any_append_right (bytes_eq name) names (name ∷ []) (or_left (bytes_eq name name) false (name_itself name name refl))
-    ] refl
 
 -- ---- types
 

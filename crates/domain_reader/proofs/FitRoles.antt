@@ -21,9 +21,9 @@ use Rattle.form_reader.specs.Rows.{head_of, tail_of}
 use Rattle.name_tables.specs.Names.{has_name, place_of, with_name}
 use Rattle.name_tables.specs.declared.vocabulary.Vocabulary.{Vocabulary}
 use Rattle.name_tables.proofs.NoFaultLemmas.{met}
-use Rattle.name_tables.proofs.NamesLemmas.{name_found, name_there, place_named}
+use Rattle.name_tables.proofs.NamesLemmas.{name_found, name_there, place_named, has_with}
 use Rattle.domain_reader.proofs.FitItems.{AreClean, IsClean}
-use Rattle.domain_reader.proofs.FitNames.{Known, gets_with, known_with}
+use Rattle.domain_reader.proofs.FitNames.{Known, known_with}
 use Rattle.domain_reader.proofs.FitRules.{derived_rule, rule_pred, rule_there}
 use Rattle.domain_reader.specs.Domains.{rule_of, rules_of}
 use Rattle.domain_reader.specs.Names.{counts_as_derived, crowded, seen_once, too_many_derived}
@@ -92,8 +92,8 @@ module _ (v : Vocabulary) (clean_heads : List (List ℕ)) where
       record {
         name = headed items;
         place = at;
-        is_head = subst (λ b. has_name (headed items) (heads_in (if b then with_name names (headed items) else names) rest) ≡ true) (sym e) (heads_kept (with_name names (headed items)) rest (headed items) (gets_with names (headed items)));
-        counts = subst (λ b. has_name (headed items) (counted_in predicates (if b then with_name counted (headed items) else counted) rest) ≡ true) (sym counts) (counted_kept predicates (with_name counted (headed items)) rest (headed items) (gets_with counted (headed items)));
+        is_head = subst (λ b. has_name (headed items) (heads_in (if b then with_name names (headed items) else names) rest) ≡ true) (sym e) (heads_kept (with_name names (headed items)) rest (headed items) (has_with names (headed items)));
+        counts = subst (λ b. has_name (headed items) (counted_in predicates (if b then with_name counted (headed items) else counted) rest) ≡ true) (sym counts) (counted_kept predicates (with_name counted (headed items)) rest (headed items) (has_with counted (headed items)));
       }
 
   pub headed_names : (names counted : List (List ℕ)) (body : Trees) (pred : ℕ) → AreClean v clean_heads body → list_any (is_headed pred) (rules_of v body) ≡ true → IsDerivedName v (heads_in names body) (counted_in predicates counted body) pred

@@ -8,6 +8,7 @@ use Rattle.sexpr_text.specs.Trees.{Trees, nothing, word, list, depth, place_of a
 use Rattle.task_model.specs.Fit.{are_fit_params, are_places, has_arity, is_fit_condition, is_fit_item}
 use Rattle.lemmas.specs.Lists.{numbers_from}
 use Rattle.task_model.specs.declared.domain.Domain as domain
+use Rattle.form_reader.proofs.RowsLemmas.{tail_small, tail_shallow}
 use Rattle.form_reader.specs.declared.fault.Fault.{Fault}
 use Rattle.form_reader.specs.declared.fault.InputKind.TheVariants.{TooMany}
 use Rattle.form_reader.specs.declared.groups.Spot.TheVariants.{Start}
@@ -29,7 +30,7 @@ use Rattle.name_tables.proofs.FitConditions.{single_fits}
 use Rattle.name_tables.proofs.FitGroups.{few_places, sorts_as_long}
 use Rattle.name_tables.proofs.FitTerms.{AreFilled, Knows, filled_first, use_there}
 use Rattle.name_tables.proofs.NoFaultLemmas.{some_fault}
-use Rattle.domain_reader.proofs.FitItems.{AreClean, IsClean, tail_shallow, tail_small}
+use Rattle.domain_reader.proofs.FitItems.{AreClean, IsClean}
 use Rattle.domain_reader.proofs.FitNames.{few_declared}
 use Rattle.domain_reader.specs.Domains.{rule_of, rules_of}
 use Rattle.domain_reader.specs.Names.{declaration_names, derived_names, head_names}

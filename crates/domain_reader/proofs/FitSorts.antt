@@ -4,7 +4,6 @@ use Rattle.std.specs.Cmp.{first_so, second_so}
 use Rattle.std.specs.List.{list_any, list_all}
 use Rattle.std.proofs.lemmas.Bool.{or_cases, or_left, eqb-true, false_from_ne_true}
 use Rattle.std.proofs.lemmas.Option.{slice_get_within}
-use Rattle.std.proofs.lemmas.Map.Keys.{any_passes_from_place}
 use Rattle.sexpr_text.specs.Trees.{Trees, nothing, word, list, size}
 use Rattle.task_model.specs.Fit.{AreFitSorts, AreNames, are_places, is_name}
 use Rattle.lemmas.specs.Lists.{LeadsAlong}
@@ -28,11 +27,12 @@ use Rattle.name_tables.specs.Names.{has_name, with_name}
 use Rattle.name_tables.specs.Variables.{is_named, named_sorts, named_words, seen_after, sort_of, types_names, unless}
 use Rattle.name_tables.proofs.GraphsOrderLemmas.{Ascends, ascending_in, ascends_all, ascends_places, in_ascending, number_any}
 use Rattle.name_tables.proofs.FitGroups.{sort_places}
-use Rattle.name_tables.proofs.NamesLemmas.{name_found, name_there, same_name}
+use Rattle.name_tables.proofs.NamesLemmas.{name_found, name_there, same_name, has_with}
 use Rattle.name_tables.proofs.NoFaultLemmas.{chosen}
+use Rattle.name_tables.proofs.GraphsLemmas.{number_there}
 use Rattle.domain_reader.proofs.FitItems.{AreClean, IsClean}
 use Rattle.domain_reader.proofs.FitEdges.{is_candidate, none_cyclic, put_keeps, put_leads, way_joined, way_within}
-use Rattle.domain_reader.proofs.FitNames.{Known, gets_with, known_with, rest_formed, tables_fit}
+use Rattle.domain_reader.proofs.FitNames.{Known, known_with, rest_formed, tables_fit}
 use Rattle.domain_reader.specs.Cycles.{AreSorts, no_sorts, more_sorts, CycleFaults, IsAbove, edge_put, edges_each, edges_in, first_edges, is_types, listed_in, listed_row, type_edges, under_object}
 use Rattle.domain_reader.specs.Tables.{no_names, types_in, with_item, with_items, vocabulary_of}
 use Rattle.domain_reader.specs.declared.cycles.Candidate.{Candidate}
@@ -61,7 +61,7 @@ row_known names table (word text at rest) k =
     (λ other. here other k, row_known (cond (is_dash text) names (with_name names text)) table rest k)
   where
     here : is_dash text ≡ false → Known (types_in (cond (is_dash text) names (with_name names text)) rest) table → has_name text table ≡ true
-    here other known = subst (λ b. Known (types_in (cond b names (with_name names text)) rest) table) other known text (types_kept (with_name names text) rest text (gets_with names text))
+    here other known = subst (λ b. Known (types_in (cond b names (with_name names text)) rest) table) other known text (types_kept (with_name names text) rest text (has_with names text))
 
 dash_no_name : (text : List ℕ) → is_name text ≡ true → is_dash text ≡ false
 dash_no_name text e = false_from_ne_true (is_dash text) (λ h. let f : is_name (codes "-") ≡ true = subst (λ t. is_name t ≡ true) (same_name text (codes "-") h) e in cc)
@@ -322,9 +322,6 @@ module _ (size : ℕ) (edges names : List (List ℕ)) (all : List sort.Sort) (L 
     where
       within : (b : ℕ) → HasWay edges k b → b < size
       within b w = way_within edges (λ n. n < size) u.within k w.between b w.steps
-
-      number_there : (ns : List ℕ) (j b : ℕ) → slice_get ns j ≡ Some b → has_number ns b ≡ true
-      number_there ns j b e = any_passes_from_place (λ m. b == m) ns j b e (eq-eqb b b refl)
 
   sorts_fit : AreNames names → slice_get names 0 ≡ Some (codes "object") → AreFitSorts all
   sorts_fit are_names object = record {

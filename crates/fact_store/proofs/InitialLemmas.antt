@@ -1,5 +1,5 @@
 -- What is known at first, part by part.
-use Rattle.std.proofs.Common.{◌≡◌, ℕ, zero, suc, ◌+◌, ◌<◌, arith, true, ◌&&◌, List, [], ◌∷◌, ◌++◌, map, filter, take, drop, length, get_or, refl, sym, ap, ◌∙◌, add-one, Some, slice_get, All, Contains, ltb-true, not, nat_lt, nat_le, option_map}
+use Rattle.std.proofs.Common.{◌≡◌, ℕ, zero, suc, ◌+◌, ◌<◌, arith, true, ◌&&◌, List, [], ◌∷◌, ◌++◌, map, filter, take, drop, length, get_or, sym, ap, ◌∙◌, add-one, Some, slice_get, All, Contains, ltb-true, not, nat_lt, nat_le, option_map}
 use Rattle.std.proofs.Math.Seq.{drop-cons}
 use Rattle.std.proofs.lemmas.Grind.{flat_map-append}
 use Rattle.std.proofs.lemmas.List.{take-append-drop, take_more, map-append, append-nil, length-map, length-take, map_push}
@@ -9,6 +9,7 @@ use Rattle.std.specs.Cmp.{first_so, second_so}
 use Rattle.std.specs.List.{list_all, flat_map}
 use Rattle.lemmas.proofs.Members.{place_of, get_append}
 use Rattle.lemmas.proofs.Numbers.{length-numbers_from, get-map-numbers}
+use Rattle.task_model.proofs.KnownLemmas.{in_names, facts_then}
 use Rattle.task_model.specs.Fit.{has_arity, is_predicate, is_fit_fact, is_fit_value, is_derived_role}
 use Rattle.task_model.specs.Initial.{type_facts, declared_types, declared_names, is_static, initial_known}
 use Rattle.task_model.specs.Known.{Known, IsIn, type_fact, with_fact, with_facts, with_values}
@@ -25,10 +26,6 @@ use Rattle.fact_store.proofs.StoreLemmas.{with_name-new}
 use Rattle.fact_store.specs.Store.{with_name}
 
 -- ---- facts
-
-facts_then : (facts first second : List Fact) → with_facts facts (first ++ second) ≡ with_facts (with_facts facts first) second
-facts_then facts [] second = refl
-facts_then facts (f ∷ first) second = facts_then (with_fact facts f) first second
 
 pub supertypes_then : (facts : List Fact) (object sort : ℕ) (above : List ℕ) → with_fact (with_facts (with_fact facts (type_fact sort object)) (map (λ s. type_fact s object) above)) (type_fact 0 object) ≡ with_facts facts (map (λ s. type_fact s object) (sort ∷ above ++ 0 ∷ []))
 supertypes_then facts object sort above =
@@ -84,11 +81,6 @@ arity_place : (signatures : List Signature) (place n : ℕ) → has_arity signat
 arity_place [] place n e = absurd (cc)
 arity_place (s ∷ ss) zero n e = omega arith
 arity_place (s ∷ ss) (suc place) n e = omega (arith, arity_place ss place n e)
-
-in_names : (names : List (List ℕ)) (object : ℕ) → object < length names → IsIn names object
-in_names [] object lt = absurd (omega arith)
-in_names (n ∷ ns) zero lt = refl
-in_names (n ∷ ns) (suc object) lt = let below : object < length ns = omega arith in in_names ns object below
 
 pub objects_in : (names : List (List ℕ)) (objects : List ℕ) → list_all (λ o. nat_lt o (length names)) objects ≡ true → All (IsIn names) objects
 objects_in names objects all k d lt = in_names names _ (ltb-true _ _ (AllPass-from_list_all (λ o. nat_lt o (length names)) objects all k d lt))

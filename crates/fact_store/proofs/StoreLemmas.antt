@@ -1,12 +1,10 @@
 -- What is known stays coherent where a name, a fact or a value is put behind the others.
-use Rattle.std.proofs.Common.{◌≡◌, ℕ, zero, suc, true, false, cond, ◌&&◌, ◌==◌, ◌≤◌, ◌⊎◌, inl, inr, List, [], ◌∷◌, ◌++◌, refl, sym, subst, ap, ◌∙◌, Contains, All, eqb-true, eq-eqb, Result, Ok, Err, OnOk, OnErr}
+use Rattle.std.proofs.Common.{◌≡◌, ℕ, zero, suc, true, false, cond, ◌≤◌, ◌⊎◌, inl, inr, List, [], ◌∷◌, ◌++◌, refl, sym, subst, ap, ◌∙◌, Contains, All, Result, Ok, Err, OnOk, OnErr}
 use Rattle.std.proofs.lemmas.List.Elements.{All-append}
 use Rattle.std.proofs.lemmas.Map.Views.{Contains-from_any, list_any-from_Contains}
 use Rattle.std.specs.List.{list_any}
-use Rattle.std.specs.Bool.{Decides}
-use Rattle.std.specs.Cmp.{IsEquivalence, decided, first_so, second_so}
-use Rattle.std.proofs.lemmas.Bool.{and_from}
-use Rattle.task_model.proofs.KnownLemmas.{numbers_decided, with_fact-is}
+use Rattle.std.specs.Cmp.{IsEquivalence, decided}
+use Rattle.task_model.proofs.KnownLemmas.{numbers_decided, with_fact-is, values_equivalence}
 use Rattle.lemmas.proofs.Members.{distinct_push}
 use Rattle.lemmas.proofs.Bools.{not_both}
 use Rattle.lemmas.proofs.ListTests.{all_one}
@@ -88,23 +86,6 @@ fact_kept known facts fact one cases c =
     ]
 
 -- ---- values
-
-values_same : (a b : Valued) → same_value a b ≡ true → a ≡ b
-values_same a b e =
-    let front = first_so ((a.func == b.func) && same_numbers a.args b.args) (a.value == b.value) e in
-    let value = second_so ((a.func == b.func) && same_numbers a.args b.args) (a.value == b.value) e in
-    let func = first_so (a.func == b.func) (same_numbers a.args b.args) front in
-    let args = second_so (a.func == b.func) (same_numbers a.args b.args) front in
-    λ i. record { func = eqb-true a.func b.func func i; args = (numbers_decided a.args b.args).0 args i; value = eqb-true a.value b.value value i }
-
-value_itself : (a : Valued) → same_value a a ≡ true
-value_itself a = and_from _ _ (and_from _ _ (eq-eqb a.func a.func refl) ((numbers_decided a.args a.args).1 refl)) (eq-eqb a.value a.value refl)
-
-value_decided : (a b : Valued) → Decides (same_value a b) (a ≡ b)
-value_decided a b = (values_same a b, λ e. subst (λ x. same_value a x ≡ true) e (value_itself a))
-
-values_equivalence : IsEquivalence same_value
-values_equivalence = decided same_value value_decided
 
 value_pushed : (known : Known) (value : Valued) → value.value ≤ 1000000 → IsCoherent known → IsCoherent (record known { values = with_value known.values value })
 value_pushed known value cost c =

@@ -1,16 +1,10 @@
 -- Lists walked from the front: what is left to see of a test of all, of some, or of pairs.
 use Rattle.std.proofs.Common.{◌≡◌, ◌≢◌, ℕ, zero, suc, ◌<◌, Bool, true, false, ◌&&◌, ◌||◌, List, [], ◌∷◌, length, drop, get_or, refl, ap, arith, Some, slice_get}
 use Rattle.std.specs.List.{list_any, list_all}
-use Rattle.std.specs.Cmp.{second_so}
 use Rattle.std.proofs.lemmas.Option.{same_Some}
+use Rattle.task_model.proofs.TruthLemmas.{have_types-length}
 use Rattle.task_model.specs.Known.{Known}
 use Rattle.task_model.specs.Truth.{has_type, have_types}
-
-pub have_types-length : (known : Known) (objects sorts : List ℕ) → have_types known objects sorts ≡ true → length objects ≡ length sorts
-have_types-length known [] [] e = refl
-have_types-length known [] (s ∷ ss) e = absurd (cc)
-have_types-length known (o ∷ os) [] e = absurd (cc)
-have_types-length known (o ∷ os) (s ∷ ss) e = ap suc (have_types-length known os ss (second_so (has_type known o s) (have_types known os ss) e))
 
 pub have_types-unequal : (known : Known) (objects sorts : List ℕ) → (length objects ≢ length sorts) → false ≡ have_types known objects sorts
 have_types-unequal known objects sorts n = by (have_types known objects sorts) refl

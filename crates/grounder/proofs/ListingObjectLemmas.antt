@@ -7,7 +7,7 @@ use Rattle.std.specs.Cmp.{nat_cmp_total, nat_eq_equiv, unsigned_Decides, unsigne
 use Rattle.std.specs.List.{filter_map, cons_option, dedup}
 use Rattle.std.specs.List.Sorted.{IsPermutation, IsSorted, IsStrictlySortedBy}
 use Rattle.std.specs.Ordering.{nat_cmp}
-use Rattle.task_model.proofs.KnownLemmas.{fact_member}
+use Rattle.task_model.proofs.KnownLemmas.{fact_member, object_itself}
 use Rattle.task_model.specs.Known.{Known, type_fact, object_with, objects_of}
 use Rattle.task_model.specs.Truth.{has_type}
 use Rattle.task_model.specs.declared.fact.Kind.{Kind}
@@ -28,9 +28,6 @@ given sort o Sort name (x ∷ []) e = by (name == sort) refl e
         let same : x ≡ o = cc in
         λ i. record { kind = Sort; name = named i; args = same i ∷ [] }
     by false t e = absurd (cc)
-
-gives : (sort o : ℕ) → object_with sort (type_fact sort o) ≡ Some o
-gives sort o = ap (λ b. if b then Some o else None) ((unsigned_Decides sort sort).1 refl)
 
 from_cons : {A : Type 0} (o : Option A) (ys : List A) (y : A) → Contains (cons_option o ys) y → (o ≡ Some y) ⊎ Contains ys y
 from_cons None ys y c = inr c
@@ -61,7 +58,7 @@ typed_member known sort o = (
       let from = from_filter_map (object_with sort) known.facts o c in
       let f = from.0 in
       (fact_member known.facts (type_fact sort o)).1 (subst (Contains known.facts) (given sort o f.kind f.name f.args from.2) from.1),
-  λ e. in_filter_map (object_with sort) known.facts (type_fact sort o) o ((fact_member known.facts (type_fact sort o)).0 e) (gives sort o),
+  λ e. in_filter_map (object_with sort) known.facts (type_fact sort o) o ((fact_member known.facts (type_fact sort o)).0 e) (object_itself sort o),
 )
 
 -- the objects, sorted and each kept once

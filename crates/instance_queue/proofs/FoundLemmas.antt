@@ -1,11 +1,11 @@
 -- What is found is what is due, each once.
-use Rattle.std.proofs.Common.{◌≡◌, ℕ, zero, suc, ◌+◌, Bool, true, false, cond, ◌&&◌, ◌==◌, not, inl, inr, List, [], ◌∷◌, ◌++◌, refl, sym, ap, subst, ◌∙◌, Option, Some, None, slice_get, arith, append_assoc, Contains, eqb-true, eq-eqb, ◌↔◌}
+use Rattle.std.proofs.Common.{◌≡◌, ℕ, zero, suc, ◌+◌, Bool, true, false, cond, ◌&&◌, ◌==◌, not, inl, inr, List, [], ◌∷◌, ◌++◌, refl, sym, ap, subst, ◌∙◌, Option, Some, None, slice_get, arith, append_assoc, Contains, eqb-true, ◌↔◌}
 use Rattle.std.proofs.lemmas.List.{append-nil}
 use Rattle.std.proofs.lemmas.List.Elements.{Contains-append_left, Contains-append_right, Contains-append_cases}
 use Rattle.std.specs.Cmp.{first_so, second_so}
 use Rattle.std.specs.List.{flat_map, filter_map}
 use Rattle.std.specs.List.{cons_option}
-use Rattle.task_model.proofs.KnownLemmas.{fact_member}
+use Rattle.task_model.proofs.KnownLemmas.{fact_member, object_itself}
 use Rattle.lemmas.proofs.Members.{member_at, place_of, distinct_nil}
 use Rattle.lemmas.proofs.Bools.{and_not_parts}
 use Rattle.lemmas.proofs.Distinct.{distinct_tail}
@@ -105,9 +105,6 @@ object_by sort object Sort name (o ∷ (p ∷ ps)) e = absurd (cc)
 
 object_is : (sort object : ℕ) (f : Fact) → object_with sort f ≡ Some object → f ≡ type_fact sort object
 object_is sort object f e = object_by sort object f.kind f.name f.args e
-
-object_itself : (sort object : ℕ) → object_with sort (type_fact sort object) ≡ Some object
-object_itself sort object = ap (λ b. cond b (Some object) None) (eq-eqb sort sort refl)
 
 pub objects_distinct : (facts : List Fact) (sort : ℕ) → AreDistinct facts → AreDistinct (objects_of facts sort)
 objects_distinct facts sort d = distinct_mapped (object_with sort) facts (λ f g o e1 e2. object_is sort o f e1 ∙ sym (object_is sort o g e2)) d

@@ -1,16 +1,14 @@
 -- Tallies, as notes come.
-use Rattle.std.proofs.Common.{◌≡◌, ℕ, ◌+◌, Bool, true, false, cond, ◌||◌, ◌==◌, nat_lt, List, [], ◌∷◌, ◌++◌, refl, sym, ap, subst, ◌∙◌, Some, arith, eqb-true, eq-eqb, count_by, zero-add}
+use Rattle.std.proofs.Common.{◌≡◌, ℕ, ◌+◌, Bool, true, false, cond, ◌||◌, nat_lt, List, [], ◌∷◌, ◌++◌, refl, sym, ap, subst, ◌∙◌, Some, arith, count_by, zero-add}
 use borrow.Author.Tests.{lt-ltb}
 use Rattle.std.proofs.lemmas.List.Folds.{list_any-append}
 use Rattle.std.proofs.lemmas.List.Sums.{sum_by-append}
 use Rattle.std.specs.Bool.{Decides}
-use Rattle.std.specs.Cmp.{first_so, second_so, IsEquivalence, decided}
+use Rattle.std.specs.Cmp.{IsEquivalence, decided}
 use Rattle.std.specs.List.{list_any}
-use Rattle.std.proofs.lemmas.Bool.{and_from}
 use Rattle.std.proofs.lemmas.List.{map_push}
 use Rattle.indexmap.specs.IndexMap.{IndexMap, get}
-use Rattle.task_model.proofs.KnownLemmas.{numbers_decided}
-use Rattle.task_model.specs.Known.{same_numbers}
+use Rattle.task_model.proofs.StreamsLemmas.{instances_same, instance_itself}
 use Rattle.task_model.specs.Streams.{Note, Yielded, Ended, same_instance, is_yield_of, is_end_of, yields_of}
 use Rattle.task_model.specs.declared.stream.Instance.{Instance}
 use Rattle.instance_queue.specs.Notes.{tally_of, tally_in, note_of, notes_in, AreTallied}
@@ -18,15 +16,6 @@ use Rattle.instance_queue.specs.declared.queue.Noted.{Noted}
 use Rattle.instance_queue.specs.declared.queue.Tally.{Tally}
 
 -- ---- instances
-
-pub instances_same : (a b : Instance) → same_instance a b ≡ true → a ≡ b
-instances_same a b e =
-    let stream = first_so (a.stream == b.stream) (same_numbers a.inputs b.inputs) e in
-    let inputs = second_so (a.stream == b.stream) (same_numbers a.inputs b.inputs) e in
-    λ i. record { stream = eqb-true a.stream b.stream stream i; inputs = (numbers_decided a.inputs b.inputs).0 inputs i }
-
-pub instance_itself : (a : Instance) → same_instance a a ≡ true
-instance_itself a = and_from _ _ (eq-eqb a.stream a.stream refl) ((numbers_decided a.inputs a.inputs).1 refl)
 
 instance_decided : (a b : Instance) → Decides (same_instance a b) (a ≡ b)
 instance_decided a b = (instances_same a b, λ e. subst (λ x. same_instance a x ≡ true) e (instance_itself a))

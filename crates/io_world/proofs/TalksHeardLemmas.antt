@@ -13,7 +13,7 @@ use Rattle.io_world.specs.declared.host.HostFault.{HostFault}
 use Rattle.io_world.proofs.LogsLemmas.{spelled-more}
 use Rattle.io_world.proofs.TalksLemmas.{extends_more}
 
-heard_none : (talk : Option Talk) → talk ≡ option_map (heard_more []) talk
+pub heard_none : (talk : Option Talk) → talk ≡ option_map (heard_more []) talk
 heard_none None = refl
 heard_none (Some talk) = ap (λ bytes. Some (record { written = talk.written; heard = bytes })) (sym (append-nil talk.heard))
 

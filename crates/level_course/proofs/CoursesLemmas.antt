@@ -2,9 +2,7 @@
 use Rattle.std.proofs.Common.{◌≡◌, ℕ, zero, suc, ◌+◌, inl, inr, Bool, List, [], ◌∷◌, ◌++◌, length, take, refl, sym, ap, subst, ◌∙◌, arith, append_assoc}
 use Rattle.std.proofs.lemmas.List.{append-nil}
 use Rattle.lemmas.proofs.Numbers.{zero_suc}
-use Rattle.instance_queue.proofs.InstanceOrderLemmas.{instances_total}
-use Rattle.task_model.specs.Known.{Known}
-use Rattle.task_model.specs.Streams.{AreDue, Note, instance_cmp}
+use Rattle.task_model.proofs.StreamsLemmas.{due_once}
 use Rattle.task_model.specs.declared.stream.Instance.{Instance}
 use Rattle.task_model.specs.declared.task.Task.{Task}
 use Rattle.transcript_model.specs.Legal.{asks_of}
@@ -12,16 +10,10 @@ use Rattle.transcript_model.specs.Rounds.{Limits, calls_left, requests}
 use Rattle.transcript_model.specs.Transcript.{known_of, notes_of}
 use Rattle.transcript_model.specs.Turns.{is_cut}
 use Rattle.transcript_model.specs.declared.entry.Entry.{Entry}
-use Rattle.level_course.proofs.AscendingLemmas.{same_list}
 use Rattle.level_course.proofs.PoolsLemmas.{one_front}
 use Rattle.level_course.specs.Courses.{Course, Opens, IsBehind, IsCourseStep, Leads, with_asks}
 
 -- ---- what is due
-
--- all that is due is one list
-pub due_once : (task : Task) (known : Known) (notes : List Note) (xs ys : List Instance) → AreDue task known notes xs → AreDue task known notes ys → xs ≡ ys
-due_once task known notes xs ys first second =
-    same_list (instance_cmp known.names) (instances_total known.names) xs ys first.ascend second.ascend (λ i m. (second.each i).1 ((first.each i).0 m)) (λ i m. (first.each i).1 ((second.each i).0 m))
 
 -- ---- one place
 
@@ -33,7 +25,7 @@ module _ (limits : Limits) (task : Task) (before : List Entry) where
       ∙ (λ k. record { asks = requests task before (one.0 k); next = asks_of before + 1; answers = length (one.0 k); later = one.1 k; is_cut = cuts k })
       ∙ sym second.is
 
-nothing_left : (e : Entry) (es : List Entry) → [] ≡ e ∷ es → ⊥
+pub nothing_left : (e : Entry) (es : List Entry) → [] ≡ e ∷ es → ⊥
 nothing_left e es h = absurd (cc)
 
 module _ (limits : Limits) (task : Task) (before : List Entry) (c : Course) (e : Entry) (d f : Course) where

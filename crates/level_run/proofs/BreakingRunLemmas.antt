@@ -16,13 +16,14 @@ use Rattle.level_run.proofs.BreakingLemmas.{breaks_join, tells_map, tells_of}
 use Rattle.lemmas.proofs.Bools.{or_false}
 use Rattle.lemmas.proofs.Members.{get_append}
 use Rattle.level_run.specs.Reports.{is_level}
-use Rattle.level_run.proofs.CallsRunLemmas.{stops_none, asks_behind, asks_marked, unasked}
+use Rattle.level_run.proofs.CallsRunLemmas.{stops_none, asks_behind, unasked}
 use Rattle.std.proofs.lemmas.List.Elements.{All-append}
 use Rattle.io_world.proofs.TalksLemmas.{extends_more}
 use Rattle.level_run.specs.Breaking.{Breaks, HasLevel, LevelBreaks, LogBreaks, LogBroken, RunBreaks, Tells, Unstarted, WereStarts, starts_after}
 use Rattle.level_run.specs.Calls.{Follows, IsStop, LogRuns, LogStartsPart, LogStops, Runs, starts_before, starts_of}
 use Rattle.level_run.specs.Dialogue.{workers_in}
 use Rattle.level_run.specs.declared.fault.RunFault.{RunFault}
+use Rattle.level_course.proofs.CoursesStepLemmas.{same_asks}
 
 -- the starts that came before a batch of some asks
 pub same_after : (pools : List Pool) (asked many : ℕ) → 0 < many → starts_before pools asked many ≡ starts_after pools asked
@@ -106,7 +107,7 @@ marked_breaks task head before mid front fault old new marked pushed more broken
     same = append_cancel_left before (entry.Level ∷ []) front (sym marked ∙ pushed)
 
     starts : starts_after head.pools (asks_of (before ++ entry.Level ∷ [])) ≡ starts_after head.pools (asks_of before)
-    starts = ap (starts_after head.pools) (asks_marked before)
+    starts = ap (starts_after head.pools) (same_asks before)
 
     joined : (past later : List Event) → Breaks task head.version (workers_in head) past (before ++ entry.Level ∷ []) more fault later → Breaks task head.version (workers_in head) past before (entry.Level ∷ more) fault later
     joined past later b = breaks_join task head.version (workers_in head) past before (entry.Level ∷ []) more [] later fault ([], [], refl, refl, refl) (subst (λ p. Breaks task head.version (workers_in head) p (before ++ entry.Level ∷ []) more fault later) (sym (append-nil past)) b)
@@ -116,7 +117,7 @@ marked_breaks task head before mid front fault old new marked pushed more broken
 
     by : (log : Option (List Event)) → RunBreaks task head (before ++ entry.Level ∷ []) fault old log more → RunBreaks task head before fault old log (entry.Level ∷ more)
     by None x = tt
-    by (Some after) (past, events, was, came, inl u) = (past, events, was, came, inl (record { first = sym (asks_marked before) ∙ u.first; none = asks_behind more ∙ u.none; were = told events u.were }))
+    by (Some after) (past, events, was, came, inl u) = (past, events, was, came, inl (record { first = sym (same_asks before) ∙ u.first; none = asks_behind more ∙ u.none; were = told events u.were }))
     by (Some after) (past, events, was, came, inr (later, cut, b)) =
         (past, events, was, came, inr (later, cut ∙ ap (λ es. es ++ later) starts, joined (past ++ starts_after head.pools (asks_of before)) later (subst (λ es. Breaks task head.version (workers_in head) (past ++ es) (before ++ entry.Level ∷ []) more fault later) starts b)))
 

@@ -7,6 +7,7 @@ use Rattle.std.proofs.lemmas.List.Splits.{length-slice_split}
 use Rattle.std.specs.Io.BufRead.{strip_last}
 use Rattle.std.specs.List.{slice_split}
 use Rattle.gen_lines.proofs.CuttingLemmas.{whole}
+use Rattle.gen_lines.proofs.LinesLemmas.{ended_length}
 use Rattle.gen_lines.specs.Lines.{ended, is_feed, lines_of}
 use Rattle.io_world.specs.Replies.{IsLine}
 use Rattle.io_world.specs.Talks.{Talk, Event, silence, spelled, heard_more, IsGiven, LogsGiven, LogsTaken, Spells}
@@ -20,7 +21,6 @@ use Rattle.session_core.specs.declared.pools.Workers.{Workers}
 use Rattle.task_model.specs.declared.task.Task.{Task}
 use Rattle.transcript_model.specs.declared.entry.Entry.{Entry}
 use Rattle.level_run.proofs.CallsLemmas.{answer_calls, ask_calls, calls_then, log_one, spelled_join, spelled_reads}
-use Rattle.level_run.proofs.TalkingLineLemmas.{ended_long}
 use Rattle.level_run.proofs.DialogueRequestLemmas.{AreAsks, AreReplies}
 use Rattle.level_run.proofs.DialogueLemmas.{all_lines, count_own}
 use Rattle.level_run.proofs.TalkingRoundLemmas.{front_each, next_is, replies_heard, request_at, requests_heard, requests_sent, round_asks, round_replies, talks_at_heard}
@@ -35,7 +35,7 @@ use Rattle.level_run.specs.Talking.{IsSlotOf, IsTalk, IsTalking, Talks}
 -- there are as many lines as line feeds
 lines_counted : (bytes : List ℕ) → length (lines_of bytes) ≡ count_by is_feed bytes
 lines_counted bytes =
-    omega (arith, length-map (ended (slice_split is_feed bytes)) (strip_last 13), ended_long (slice_split is_feed bytes) (omega (arith, length-slice_split is_feed bytes)), length-slice_split is_feed bytes)
+    omega (arith, length-map (ended (slice_split is_feed bytes)) (strip_last 13), ended_length (slice_split is_feed bytes) (omega (arith, length-slice_split is_feed bytes)), length-slice_split is_feed bytes)
 
 none_fed : (bytes : List ℕ) → list_any is_feed bytes ≡ false → count_by is_feed bytes ≡ 0
 none_fed [] e = refl

@@ -29,6 +29,7 @@ use Rattle.level_run.specs.Turns.{EndsBatch}
 use Rattle.level_run.specs.declared.ending.Batch.{Batch}
 use Rattle.level_run.specs.declared.ending.Batch.TheVariants.{Done, CallsSpent}
 use Rattle.level_run.specs.declared.fault.RunFault.{RunFault}
+use Rattle.level_course.proofs.CoursesStepLemmas.{same_asks}
 
 -- ---- the starts of a pool
 
@@ -164,9 +165,6 @@ batch_runs task head before after asked asks many b old mid new counted of_after
 
 -- ---- a level
 
-pub asks_marked : (before : List Entry) → asks_of (before ++ entry.Level ∷ []) ≡ asks_of before
-asks_marked before = omega (arith, count_joined is_ask before (entry.Level ∷ []), count_one is_ask entry.Level)
-
 pub asks_behind : (more : List Entry) → asks_of (entry.Level ∷ more) ≡ asks_of more
 asks_behind more = omega (arith, count_joined is_ask (entry.Level ∷ []) more, count_one is_ask entry.Level)
 
@@ -179,7 +177,7 @@ runs_marked task head before mid after old new marked runs = record {
 }
   where
     starts : starts_before head.pools (asks_of (before ++ entry.Level ∷ [])) (asks_of runs.more) ≡ starts_before head.pools (asks_of before) (asks_of (entry.Level ∷ runs.more))
-    starts = ap (λ n. starts_before head.pools n (asks_of runs.more)) (asks_marked before) ∙ ap (starts_before head.pools (asks_of before)) (sym (asks_behind runs.more))
+    starts = ap (λ n. starts_before head.pools n (asks_of runs.more)) (same_asks before) ∙ ap (starts_before head.pools (asks_of before)) (sym (asks_behind runs.more))
 
     by : (log : Option (List Event)) → LogRuns task head (before ++ entry.Level ∷ []) runs.more old log → LogRuns task head before (entry.Level ∷ runs.more) old log
     by None l = tt

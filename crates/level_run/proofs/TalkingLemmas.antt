@@ -85,6 +85,7 @@ module _ (task : Task) (version : ℕ) (pools : List Workers) where
 
   pub none_asked : (entries : List Entry) → asks_of entries ≡ 0 → requests_of task pools entries ≡ []
   none_asked entries none = nil_from_length (requests_of task pools entries) (requests_counted task pools [] entries ∙ none)
+
   pub broken_unasked : (entries : List Entry) (spoken : ℕ → Option Talk) → asks_of entries ≡ 0 → IsLegal version task entries → BrokenOff task version pools entries spoken
   broken_unasked entries spoken none legal = record {
     next = [];

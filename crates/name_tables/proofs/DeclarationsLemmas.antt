@@ -12,7 +12,7 @@ drop_step xs i x e =
     let one : i + 1 ≡ suc i = omega arith in
     drop-cons xs i x (slice_get_within xs i x e) ∙ ap (λ y. y ∷ drop (suc i) xs) (get_or_from_slice_get xs i x x e) ∙ ap (λ n. x ∷ drop n xs) (sym one)
 
-name_step : (ns : List (List ℕ)) (i : ℕ) → i < length ns → drop i ns ≡ name_at ns i ∷ drop (i + 1) ns
+pub name_step : (ns : List (List ℕ)) (i : ℕ) → i < length ns → drop i ns ≡ name_at ns i ∷ drop (i + 1) ns
 name_step ns i lt =
     let one : i + 1 ≡ suc i = omega arith in
     drop-cons ns i [] lt ∙ ap (λ y. y ∷ drop (suc i) ns) (sym (unwrap_or-slice_get ns i [])) ∙ ap (λ n. name_at ns i ∷ drop n ns) (sym one)

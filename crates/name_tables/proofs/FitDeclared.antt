@@ -90,7 +90,7 @@ put_ascends size [] place n lt a = tt
 put_ascends size (ns ∷ lists) zero n lt a = (ascends_with 0 size ns n (omega arith) lt a.0, a.1)
 put_ascends size (ns ∷ lists) (suc place) n lt a = subst (AllAscend size) (sym (put_behind ns lists place n (slice_get lists place))) (a.0, put_ascends size lists place n lt a.1)
 
-put_long : (lists : List (List ℕ)) (place n : ℕ) → length (number_put lists place n) ≡ length lists
+pub put_long : (lists : List (List ℕ)) (place n : ℕ) → length (number_put lists place n) ≡ length lists
 put_long [] place n = refl
 put_long (ns ∷ lists) zero n = refl
 put_long (ns ∷ lists) (suc place) n = ap length (put_behind ns lists place n (slice_get lists place)) ∙ ap suc (put_long lists place n)

@@ -19,7 +19,7 @@ use Rattle.name_tables.proofs.NamesLemmas.{place_there, place_within}
 
 -- ---- as many types as names
 
-copies_long : (k n : ℕ) → length (copies k n) ≡ k
+pub copies_long : (k n : ℕ) → length (copies k n) ≡ k
 copies_long zero n = refl
 copies_long (suc k) n = ap suc (copies_long k n)
 

@@ -2,13 +2,13 @@
 use Rattle.std.proofs.Common.{◌≡◌, ℕ, suc, ◌+◌, ◌<◌, ◌≤◌, Bool, true, false, not, cond, ◌||◌, nat_lt, List, [], ◌∷◌, ◌++◌, length, get_or, refl, sym, ap, ◌∙◌, arith, Option, Some, None, slice_get, lt-ltb}
 use Rattle.std.specs.List.{list_any, position_or_len}
 use Rattle.std.specs.Str.{bytes_eq}
-use Rattle.std.proofs.lemmas.Bool.{cond-true, false≢true}
+use Rattle.std.proofs.lemmas.Bool.{cond-true, false≢true, or_left}
 use Rattle.std.proofs.lemmas.List.Quantifiers.{position-Some}
 use Rattle.std.proofs.lemmas.Option.{slice_get-get_or}
 use Rattle.std.proofs.lemmas.Slice.Eq.{bytes_eq-Decides}
 use Rattle.std.proofs.lemmas.Map.Keys.{any_passes_from_place}
 use Rattle.lemmas.proofs.Members.{distinct_push, place_of as place_in}
-use Rattle.lemmas.proofs.ListTests.{any_found}
+use Rattle.lemmas.proofs.ListTests.{any_found, any_append_right}
 use Rattle.lemmas.specs.Lists.{AreDistinct}
 use Rattle.name_tables.specs.Names.{has_name, last_place, place_of, with_name}
 
@@ -85,3 +85,11 @@ last_none at so_far name (n ∷ ns) e =
           | true ↦ λ t. absurd (false≢true (sym other ∙ name_itself n name (sym (same_name name n t))))
           | false ↦ λ _. none
         ] refl
+
+-- a name stands in a table that it was put into
+pub has_with : (names : List (List ℕ)) (name : List ℕ) → has_name name (with_name names name) ≡ true
+has_with names name =
+    elim (has_name name names) as (λ b. has_name name names ≡ b → has_name name (cond b names (names ++ name ∷ [])) ≡ true) [
+      | true ↦ λ t. t
+      | false ↦ λ _. any_append_right (bytes_eq name) names (name ∷ []) (or_left (bytes_eq name name) false (name_itself name name refl))
+    ] refl

@@ -5,11 +5,9 @@ use Rattle.std.specs.List.{list_any}
 use Rattle.lemmas.proofs.Numbers.{in_numbers}
 use Rattle.lemmas.proofs.Members.{get_single}
 use Rattle.lemmas.proofs.ListTests.{all_one}
-use Rattle.instance_queue.proofs.ReadableLemmas as readers
 use Rattle.level_run.specs.Turns.{IsRunnable}
 use Rattle.session_core.specs.Pools.{AreFitPools, serves, server, workers_of}
 use Rattle.session_core.specs.declared.pools.Workers.{Workers}
-use Rattle.task_model.specs.Fit.{IsFit}
 use Rattle.lemmas.specs.Lists.{numbers_from}
 use Rattle.task_model.specs.declared.stream.Stream.{Stream}
 use Rattle.task_model.specs.declared.task.Task.{Task}
@@ -19,9 +17,6 @@ use Rattle.pddlstream_app.specs.Heads.{ArePoolsFor, IsHeadOf, IsPoolOf, all_stre
 use Rattle.pddlstream_app.specs.Words.{IsWithin, held_solve}
 use Rattle.pddlstream_app.specs.Words as words
 use Rattle.pddlstream_app.specs.declared.words.SolveWords as code
-
-pub few_streams : (task : Task) → IsFit task → length task.streams ≤ 8388608
-few_streams = readers.few_streams
 
 -- ---- the places of streams
 

@@ -4,6 +4,7 @@ use Rattle.lemmas.proofs.Members.{append_nil_second}
 use Rattle.sexpr_text.specs.Trees.{Trees, nothing, word, list, depth, size}
 use Rattle.task_model.specs.Fit.{is_fit_condition}
 use Rattle.task_model.specs.declared.domain.Domain.{Domain}
+use Rattle.form_reader.proofs.RowsLemmas.{tail_small, tail_shallow}
 use Rattle.form_reader.specs.declared.items.Item.{Item}
 use Rattle.form_reader.specs.declared.items.Item.TheVariants as item
 use Rattle.form_reader.specs.declared.items.TextKind.TheVariants as text
@@ -19,13 +20,6 @@ use Rattle.name_tables.proofs.Parted.{none_both}
 use Rattle.problem_reader.specs.Names.{body_names, facts_names, items_names}
 use Rattle.problem_reader.specs.Problems.{condition_of, goal_of, init_of, is_goal}
 use Rattle.problem_reader.specs.Values.{is_init, nothing_given, row_names, row_put, values_names}
-use Rattle.problem_reader.proofs.TablesAppendLemmas.{tail_small}
-
--- a tail is no deeper
-pub tail_shallow : (ts : Trees) → depth (tail_of ts) ≤ depth ts
-tail_shallow nothing = omega arith
-tail_shallow (word w at rest) = omega arith
-tail_shallow (list items at rest) = omega arith
 
 module _ (v : Vocabulary) (d : Domain) where
   -- ---- the goal

@@ -2,17 +2,15 @@
 use Rattle.std.proofs.Common.{◌≡◌, ℕ, suc, ◌+◌, ◌<◌, ◌≤◌, Bool, true, false, cond, nat_lt, List, [], ◌∷◌, ◌++◌, map, take, length, refl, sym, ap, subst, ◌∙◌, append_assoc, codes, arith}
 use Rattle.std.specs.Cmp.{first_so, second_so}
 use Rattle.std.specs.List.{list_all}
-use Rattle.std.proofs.lemmas.Bool.{and_from, leb-true, cond-true, cond_both}
+use Rattle.std.proofs.lemmas.Bool.{and_from, leb-true, cond-true}
 use Rattle.std.proofs.lemmas.Option.{slice_get_within}
-use Rattle.std.proofs.lemmas.Slice.Eq.{bytes_eq-Decides}
-use Rattle.std.specs.Str.{bytes_eq}
 use Rattle.std.proofs.lemmas.List.{append-nil}
-use Rattle.std.proofs.lemmas.Map.Keys.{any_passes_from_place}
 use Rattle.sexpr_text.specs.Trees.{Trees, nothing, word, list, size}
 use Rattle.lemmas.proofs.Members.{distinct_nil}
 use Rattle.task_model.specs.Fit.{AreFitObjects, IsFitDomain, are_places, is_name, is_short}
 use Rattle.task_model.specs.declared.domain.Declared as declared
 use Rattle.task_model.specs.declared.domain.Domain.{Domain}
+use Rattle.form_reader.proofs.RowsLemmas.{tail_small}
 use Rattle.form_reader.specs.declared.groups.Spot.TheVariants.{Start}
 use Rattle.form_reader.specs.declared.items.Item.{Item}
 use Rattle.form_reader.specs.declared.items.Item.TheVariants as item
@@ -26,13 +24,14 @@ use Rattle.name_tables.specs.Variables.{named_sorts, named_words, seen_after, ty
 use Rattle.name_tables.specs.declared.vocabulary.Vocabulary.{Vocabulary}
 use Rattle.name_tables.proofs.FitDeclared.{AreTyped, list_long, list_named, typed_each, typed_fit, typed_groups}
 use Rattle.name_tables.proofs.FitGroups.{sorts_as_long}
-use Rattle.name_tables.proofs.NamesFreshLemmas.{AreFresh, fresh_from, get_middle, name_new}
+use Rattle.name_tables.proofs.NamesFreshLemmas.{AreFresh, fresh_from, name_new}
 use Rattle.name_tables.proofs.Parted.{none_both}
+use Rattle.name_tables.proofs.NamesLemmas.{has_with}
 use Rattle.problem_reader.specs.Names.{body_names, items_names}
 use Rattle.problem_reader.specs.Problems.{all_typed, constants_typed, declare_all, no_typed, objects_typed}
 use Rattle.problem_reader.specs.Tables.{is_objects, objects_in, put_constants}
 use Rattle.problem_reader.proofs.TablesObjectLemmas.{names_declared, names_each, seen_put}
-use Rattle.problem_reader.proofs.TablesAppendLemmas.{BeginsWith, begins_each, begins_itself, begins_twice, declared_length, first_ones, tail_small}
+use Rattle.problem_reader.proofs.TablesAppendLemmas.{BeginsWith, begins_each, begins_itself, begins_twice, declared_length, first_ones}
 
 -- ---- constants
 
@@ -43,9 +42,6 @@ constant_names cs = map (λ (c : declared.Declared). c.name) cs
 abbrev pub HaveTypes : List declared.Declared → Type 0
 HaveTypes [] = Unit {0}
 HaveTypes (c ∷ cs) = (0 < length c.sorts) × HaveTypes cs
-
-has_with : (ns : List (List ℕ)) (n : List ℕ) → has_name n (with_name ns n) ≡ true
-has_with ns n = cond_both (has_name n ns) ns (ns ++ n ∷ []) (λ ms. has_name n ms ≡ true) (λ known. known) (λ no. any_passes_from_place (bytes_eq n) (ns ++ n ∷ []) (length ns) n (get_middle ns n []) ((bytes_eq-Decides n n).1 refl))
 
 again : (t : Typed) (n : List ℕ) (ss : List ℕ) → has_name n t.names ≡ true → (declare_all t n ss).names ≡ t.names
 again t n [] e = refl

@@ -3,10 +3,10 @@ use Rattle.std.proofs.Common.{◌≡◌, ℕ, ◌+◌, ◌≤◌, List, [], ◌�
 use Rattle.std.proofs.lemmas.Bool.{cond_both}
 use Rattle.std.proofs.lemmas.List.{append-nil}
 use Rattle.lemmas.proofs.Members.{take_append}
-use Rattle.sexpr_text.specs.Trees.{Trees, nothing, word, list, size}
+use Rattle.sexpr_text.specs.Trees.{Trees, size}
 use Rattle.form_reader.specs.declared.groups.Spot.TheVariants.{Start}
 use Rattle.form_reader.specs.declared.words.WordSort.TheVariants.{Name}
-use Rattle.form_reader.specs.Rows.{groups_faults, tail_of}
+use Rattle.form_reader.specs.Rows.{groups_faults}
 use Rattle.name_tables.specs.Declarations.{Typed, declare, declare_each}
 use Rattle.name_tables.specs.Names.{has_name, with_name}
 use Rattle.name_tables.specs.Variables.{named_sorts, named_words}
@@ -45,9 +45,3 @@ first_ones ns ms b = sym (ap (take (length ns)) b.split ∙ take_append ns b.mor
 -- each declared name takes a byte
 pub declared_length : (sorts : List (List ℕ)) (t : Typed) (place : ℕ) (ts : Trees) → groups_faults Name place Start ts ≡ [] → length (declare_each t (named_words Start ts) (named_sorts sorts Start 0 ts)).names ≤ length t.names + size ts
 declared_length sorts t place ts e = omega (arith, ap length (groups_declared sorts t ts), length_names t.names (named_words Start ts), words_length place Start ts e)
-
--- what stands behind the first takes no more
-pub tail_small : (ts : Trees) → size (tail_of ts) ≤ size ts
-tail_small nothing = omega arith
-tail_small (word w at rest) = omega arith
-tail_small (list items at rest) = omega arith

@@ -6,11 +6,12 @@ use Rattle.lemmas.proofs.Pigeonhole.{pigeons}
 use Rattle.instance_queue.specs.Level.{AreDueInTurn, instances_of}
 use Rattle.instance_queue.specs.declared.due.Due.{Due}
 use Rattle.level_course.proofs.CoursesStepLemmas.{turns_lead}
-use Rattle.level_course.proofs.CoursesLemmas.{due_once, leads_apart, leads_once}
+use Rattle.level_course.proofs.CoursesLemmas.{leads_apart, leads_once, nothing_left}
 use Rattle.level_course.specs.Agendas.{Agenda, place_in}
 use Rattle.level_course.specs.Courses.{Course, IsCourseStep, at_first}
 use Rattle.session_core.specs.Learning.{answered_number}
 use Rattle.session_core.specs.Session.{is_answer}
+use Rattle.task_model.proofs.StreamsLemmas.{due_once}
 use Rattle.task_model.specs.Streams.{MoreAreDue, yields_of}
 use Rattle.task_model.specs.declared.stream.Instance.{Instance}
 use Rattle.task_model.specs.declared.task.Task.{Task}
@@ -33,9 +34,6 @@ use Rattle.replay_check.specs.declared.verdict.BreachKind.TheVariants as kind
 
 -- ---- requests and answers
 
-not_empty : (e : Entry) (es : List Entry) → [] ≡ e ∷ es → ⊥
-not_empty e es h = absurd (cc)
-
 -- where requests are to come, instances are
 none_to_ask : (task : Task) (es : List Entry) (number : ℕ) (is : List Instance) → requests_from task es number is ≡ [] → is ≡ []
 none_to_ask task es number [] e = refl
@@ -43,7 +41,7 @@ none_to_ask task es number (i ∷ is) e = absurd (cc)
 
 -- where this request is the first to come, it is that of the first instance
 first_request : (task : Task) (es : List Entry) (number : ℕ) (is : List Instance) (e : Entry) (rest : List Entry) → requests_from task es number is ≡ e ∷ rest → (i : Instance) × (slice_get is 0 ≡ Some i) × (e ≡ entry.Ask number (yields_of (notes_of task es) i) (call_of_instance task (names_of task es) i))
-first_request task es number [] e rest asks = absurd (not_empty e rest asks)
+first_request task es number [] e rest asks = absurd (nothing_left e rest asks)
 first_request task es number (i ∷ is) e rest asks = (i, refl, let same : e ≡ entry.Ask number (yields_of (notes_of task es) i) (call_of_instance task (names_of task es) i) = cc in same)
 
 ask_is : (number : ℕ) (e : Entry) (turn : ℕ) (call : Call) → e ≡ entry.Ask number turn call → is_ask e ≡ true

@@ -26,7 +26,7 @@ use Rattle.replay_check.specs.declared.verdict.BreachKind.TheVariants as kind
 -- ---- texts
 
 -- each line has a byte at least
-lines_long : (lines : List Line) → length lines ≤ length (lines_text lines)
+pub lines_long : (lines : List Line) → length lines ≤ length (lines_text lines)
 lines_long [] = omega arith
 lines_long (l ∷ lines) =
     let rest = lines_long lines in

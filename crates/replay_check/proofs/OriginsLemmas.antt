@@ -7,7 +7,7 @@ use Rattle.std.specs.List.{list_any, position}
 use Rattle.std.specs.Option.{option_map}
 use Rattle.std.specs.Ordering.{nat_cmp}
 use Rattle.std.proofs.lemmas.Map.Keys.{any_passes_from_place}
-use Rattle.level_course.proofs.AscendingLemmas.{same_list}
+use Rattle.lemmas.proofs.Ascending.{same_list}
 use Rattle.lemmas.proofs.Members.{member_at, place_of, get_take}
 use Rattle.lemmas.proofs.Options.{same_some}
 use Rattle.task_model.specs.Known.{same_numbers}
@@ -79,6 +79,7 @@ module _ (version : ℕ) (task : Task) (entries : List Entry) (legal : IsLegal v
           let y = second.tuple other in
           tuple_once first.value o.number o.tuple p.tuple x.0 y.0 x.1 y.1 x.2
           (subst (λ n. tuple_with first.value n y.0 ≡ Some p.tuple) (sym numbers) (subst (λ v. tuple_with v p.number y.0 ≡ Some p.tuple) (sym values) y.2))
+
 -- ---- one list
 
 abbrev object_of : Origin → List ℕ

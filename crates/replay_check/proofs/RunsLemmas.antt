@@ -1,10 +1,11 @@
 -- The steps that calls stand for, taken one after another.
-use Rattle.std.proofs.Common.{◌≡◌, ℕ, ◌+◌, ◌<◌, List, [], ◌∷◌, ◌++◌, map, length, take, refl, sym, ap, subst, ◌∙◌, Option, Some, None, slice_get, arith, get_or, All, Bool, true, false, option_map, IsSome, unwrap_or}
+use Rattle.std.proofs.Common.{◌≡◌, ℕ, ◌+◌, ◌<◌, List, [], ◌∷◌, ◌++◌, map, length, take, refl, sym, ap, subst, ◌∙◌, Option, Some, None, slice_get, arith, get_or, All, Bool, true, false, option_map, unwrap_or}
 use Rattle.std.proofs.lemmas.List.{map-append, take_more}
 use Rattle.std.proofs.lemmas.List.Elements.{All-head, All-tail}
 use Rattle.std.proofs.lemmas.Option.{slice_get-map, same_Some, none-some}
 use Rattle.task_model.proofs.StepsLemmas.{execution_determined, parts_of_whole, step_determined, whole_of_parts}
 use Rattle.task_model.proofs.KnownLemmas.{numbers_decided}
+use Rattle.task_model.proofs.StreamsLemmas.{named_at}
 use Rattle.task_model.specs.Fit.{IsFit}
 use Rattle.task_model.specs.Initial.{initial_state}
 use Rattle.task_model.specs.Known.{IsCoherent, IsIn, same_numbers}
@@ -44,13 +45,6 @@ names_there names (n ∷ more) (o ∷ os) e =
     let rest : map (slice_get names) os ≡ map Some more = cc in
     let name : name_at names o ≡ n = ap (λ (s : Option (List ℕ)). unwrap_or s []) first in
     λ i. name i ∷ names_there names more os rest i
-
-named_at : (names : List (List ℕ)) (o : ℕ) → IsIn names o → slice_get names o ≡ Some (name_at names o)
-named_at names o known = by (slice_get names o) refl known
-  where
-    by : (s : Option (List ℕ)) → slice_get names o ≡ s → IsSome s → slice_get names o ≡ Some (name_at names o)
-    by None e none = absurd (cc)
-    by (Some n) e some = e ∙ ap Some (sym (ap (λ (t : Option (List ℕ)). unwrap_or t []) e))
 
 there_named : (names : List (List ℕ)) (objects : List ℕ) → All (IsIn names) objects → map (slice_get names) objects ≡ map Some (map (name_at names) objects)
 there_named names [] all = refl

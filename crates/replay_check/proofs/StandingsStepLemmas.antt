@@ -12,6 +12,7 @@ use Rattle.level_course.specs.Agendas.{Agenda, Starts, nothing_to_do, place_in, 
 use Rattle.level_course.specs.Courses.{Course, IsCourseStep, Leads, Opens, at_first}
 use Rattle.level_course.specs.Pools.{AllWork}
 use Rattle.session_core.proofs.SessionLemmas.{count_joined, count_one}
+use Rattle.session_core.proofs.LearningLemmas.{answers_to}
 use Rattle.session_core.specs.Learning.{answered_number}
 use Rattle.session_core.specs.Session.{is_answer}
 use Rattle.task_model.specs.Known.{Known}
@@ -90,18 +91,6 @@ starts_open limits task es list number cut b workers next st =
     }
 
 -- ---- answers
-
-pub answers_it : (e : Entry) (n : ℕ) → answered_number e ≡ Some n → is_answer_to n e ≡ true
-answers_it (entry.Got m tuples values) n is = let same : n ≡ m = cc in eq-eqb n m same
-answers_it (entry.Value m value) n is = let same : n ≡ m = cc in eq-eqb n m same
-answers_it (entry.End m) n is = let same : n ≡ m = cc in eq-eqb n m same
-answers_it (entry.Ask m turn call) n is = absurd (cc)
-answers_it entry.Level n is = absurd (cc)
-answers_it (entry.Dream uses steps) n is = absurd (cc)
-answers_it entry.Nothing n is = absurd (cc)
-answers_it entry.Reset n is = absurd (cc)
-answers_it (entry.Pick m) n is = absurd (cc)
-answers_it (entry.Retire m) n is = absurd (cc)
 
 -- ---- before the first entry
 
@@ -208,7 +197,7 @@ module _ (limits : Limits) (task : Task) (entries : List Entry) (l : Ledger) (a 
     here = asked_here limits.version task entries l e n s.ledger few_asked is may
 
     gives : AddsAnswer task entries e n here.0
-    gives = answer_adds limits.version task entries s.ledger.fit.problem.objects.names.distinct s.ledger.legal n here.0 here.1 e (answers_it e n is)
+    gives = answer_adds limits.version task entries s.ledger.fit.problem.objects.names.distinct s.ledger.legal n here.0 here.1 e (answers_to e n is)
 
     one_line : (d : Entry) → answered_number d ≡ Some n → length (entry_lines d) ≡ 1
     one_line (entry.Got m tuples values) at = refl
@@ -228,6 +217,7 @@ module _ (limits : Limits) (task : Task) (entries : List Entry) (l : Ledger) (a 
         let was : is_open entries m ≡ true = s.waiting m (omega (arith, from)) (omega (arith, upto, same)) in
         let other : (m == n) ≡ false = ne_eqb m n (λ is_n. omega (arith, is_n, next, from)) in
         gives.waiting m ∙ (λ k. was k && not (other k))
+
     waits_yet : (m : ℕ) → is_open (entries ++ e ∷ []) m ≡ true → (a.next + 1 ≤ m) × (m ≤ asks_of (entries ++ e ∷ []))
     waits_yet m waits =
         let parts = and_not_parts (is_open entries m) (m == n) (sym (gives.waiting m) ∙ waits) in
@@ -241,6 +231,7 @@ module _ (limits : Limits) (task : Task) (entries : List Entry) (l : Ledger) (a 
         by (inr le) other from =
             let is_n : m ≡ n = omega (arith, le, from, next) in
             absurd (true≢false (sym (eq-eqb m n is_n) ∙ other))
+
     -- the round has more answers to come
     pub answer_more : (new : Ledger) (b : Agenda) → IsLedger limits.version task (entries ++ e ∷ []) new → 1 < a.answers → b ≡ with_answer a → StandsBehind limits task (entries ++ e ∷ []) new b
     answer_more new b ledger some b_is =
@@ -256,7 +247,7 @@ module _ (limits : Limits) (task : Task) (entries : List Entry) (l : Ledger) (a 
                 asked = ap (requests_from task entries (asks_of entries + 1)) none;
                 left = suc left.0;
                 answers = left.1;
-                to = subst (λ m. is_answer_to m e ≡ true) next (answers_it e n is);
+                to = subst (λ m. is_answer_to m e ≡ true) next (answers_to e n is);
                 behind = λ k. record { asks = requests_from task (entries ++ e ∷ []) (asks_of (entries ++ e ∷ []) + 1) (none k); next = a.next + 1; answers = one_less left.0 left.1 k; later = a.later; is_cut = a.is_cut };
               })));
           count = omega (arith, count, same, some);
@@ -295,7 +286,7 @@ module _ (limits : Limits) (task : Task) (entries : List Entry) (l : Ledger) (a 
                 asked = ap (requests_from task entries (asks_of entries + 1)) none;
                 left = 0;
                 answers = one;
-                to = subst (λ m. is_answer_to m e ≡ true) next (answers_it e n is);
+                to = subst (λ m. is_answer_to m e ≡ true) next (answers_to e n is);
                 behind = starts_open limits task (entries ++ e ∷ []) a.later (a.next + 1) a.is_cut b workers number st;
               })));
           count = omega (arith, b_next, b_answers, number);

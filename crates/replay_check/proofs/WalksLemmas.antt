@@ -1,8 +1,7 @@
 -- An entry is taken, or is wrong.
-use Rattle.std.proofs.Common.{◌≡◌, ℕ, ◌+◌, ◌-◌, ◌<◌, ◌≤◌, ◌⊎◌, inl, inr, true, false, List, [], ◌∷◌, ◌++◌, take, length, nat_lt, refl, sym, ap, subst, ◌∙◌, Option, Some, None, slice_get, get_or, arith}
+use Rattle.std.proofs.Common.{◌≡◌, ℕ, ◌+◌, ◌-◌, ◌<◌, ◌≤◌, ◌⊎◌, inl, inr, true, false, List, [], ◌∷◌, ◌++◌, take, length, nat_lt, refl, sym, subst, ◌∙◌, Option, Some, None, slice_get, arith}
 use Rattle.std.proofs.lemmas.Bool.{cases_lt, false≢true}
 use Rattle.std.proofs.lemmas.List.Elements.{All-contains}
-use Rattle.std.proofs.lemmas.Option.{slice_get-get_or}
 use Rattle.instance_queue.specs.Level.{AreDueInTurn, instances_of}
 use Rattle.instance_queue.specs.declared.due.Due.{Due}
 use Rattle.level_course.specs.Agendas.{Starts, with_answer, with_asked}
@@ -30,9 +29,6 @@ use Rattle.replay_check.specs.declared.bounds.Bounds.{Bounds}
 use Rattle.replay_check.specs.declared.entries.Standing.{Standing}
 use Rattle.replay_check.specs.declared.verdict.BreachKind.{BreachKind}
 use Rattle.replay_check.specs.declared.verdict.BreachKind.TheVariants as kind
-
-pub entry_there : (entries : List Entry) (place : ℕ) (e : Entry) → place < length entries → e ≡ get_or entries place e → slice_get entries place ≡ Some e
-entry_there entries place e within is = slice_get-get_or entries place e within ∙ ap Some (sym is)
 
 pub entry_formed : (b : Bounds) (entries : List Entry) (place : ℕ) (s : Standing) (e : Entry) → CanTake b entries place s → slice_get entries place ≡ Some e → IsFormedEntry b.version e
 entry_formed b entries place s e can there = All-contains (IsFormedEntry b.version) entries e can.formed (member_at entries place e there)

@@ -1,11 +1,11 @@
 -- The outcome that a run writes has the stated form, and so has its whole report.
-use Rattle.std.proofs.Common.{◌≡◌, ℕ, zero, suc, ◌+◌, ◌/◌, ◌<◌, ◌≤◌, ◌^◌, inl, inr, ◌==◌, ◌&&◌, ◌||◌, Bool, true, false, List, [], ◌∷◌, ◌++◌, length, drop, map, All, Contains, refl, sym, ap, subst, ◌∙◌, Option, Some, None, slice_get, IsSome, unwrap_or, arith, codes, eqb-true, if◌then◌else◌}
+use Rattle.std.proofs.Common.{◌≡◌, ℕ, zero, suc, ◌+◌, ◌/◌, ◌<◌, ◌≤◌, ◌^◌, inl, inr, ◌==◌, ◌&&◌, ◌||◌, Bool, true, false, List, [], ◌∷◌, length, drop, map, All, Contains, refl, sym, ap, subst, ◌∙◌, Option, Some, None, slice_get, IsSome, unwrap_or, arith, codes, eqb-true, if◌then◌else◌}
 use Rattle.std.proofs.lemmas.List.{length-append, length-map}
 use Rattle.std.proofs.lemmas.List.Elements.{All-contains, All-map, All-weaker}
 use Rattle.std.proofs.lemmas.Option.{slice_get_within, slice_get-map}
 use Rattle.std.specs.Cmp.{first_so, second_so}
 use Rattle.std.specs.Fmt.{decimal}
-use Rattle.std.specs.List.{list_any, flat_map, position}
+use Rattle.std.specs.List.{list_any, position}
 use Rattle.std.specs.Option.{option_map}
 use Rattle.std.proofs.lemmas.Bool.{true≢false}
 use Rattle.gen_lines.specs.Reply.{is_value}
@@ -28,7 +28,7 @@ use Rattle.report_text.specs.Forms.{IsFormedCall, IsFormedOrigin, IsFormedOutcom
 use Rattle.transcript_model.specs.Legal.{IsLegal}
 use Rattle.transcript_model.specs.Outcomes.{IsOrigin, IsTrueOutcome, IsTruePlan, has_value, tuple_with}
 use Rattle.transcript_model.specs.Rounds.{Limits}
-use Rattle.report_text.specs.Texts.{Line, do_line, from_line, line, line_text, lines_text, outcome_lines}
+use Rattle.report_text.specs.Texts.{do_line, from_line, line, lines_text, outcome_lines}
 use Rattle.transcript_model.specs.Transcript.{known_of, names_of, tuples_in}
 use Rattle.transcript_model.specs.declared.entry.Call.{Call}
 use Rattle.transcript_model.specs.declared.entry.Entry.{Entry}
@@ -36,18 +36,11 @@ use Rattle.transcript_model.specs.declared.entry.Entry.TheVariants as entry
 use Rattle.transcript_model.specs.declared.outcome.Origin.{Origin}
 use Rattle.transcript_model.specs.declared.outcome.Outcome.{Outcome}
 use Rattle.transcript_model.specs.declared.outcome.Outcome.TheVariants as outcome
-use Rattle.replay_laws.proofs.FormedEntryLemmas.{AreFew, answer_few, names_formed}
+use Rattle.report_text.proofs.FormsNameLemmas.{names_formed}
+use Rattle.replay_laws.proofs.FormedEntryLemmas.{AreFew, answer_few}
+use Rattle.replay_check.proofs.LinesLemmas.{lines_long}
 
 -- ---- how long a text is
-
--- each line has a byte at least
-lines_long : (lines : List Line) → length lines ≤ length (lines_text lines)
-lines_long [] = omega arith
-lines_long (l ∷ lines) =
-    let rest = lines_long lines in
-    let sum = length-append (line_text l) (lines_text lines) in
-    let own = length-append (l.first ++ flat_map (λ field. 32 ∷ field) l.more) (10 ∷ []) in
-    omega (arith, rest, sum, own)
 
 -- a plan has fewer steps than its text has bytes
 steps_few : (version cost : ℕ) (calls : List Call) (from : List Origin) → length calls ≤ length (lines_text (outcome_lines version (outcome.Plan calls cost from)))
@@ -157,6 +150,7 @@ module _ (version : ℕ) (task : Task) (fit : IsFit task) (entries : List Entry)
           let found = origin.tuple (λ same. true≢false (sym (ap (λ n. n == 1) same) ∙ e)) in
           let place = place_of entries found.0 found.1 in
           omega (arith, tuple_few origin.value o.number o.tuple place.0 found.0 place.1 found.2)
+
   -- ---- outcomes
 
   pub outcome_formed : (limits : Limits) → limits.version ≡ version → (o : Outcome) → IsTrueOutcome limits task entries o → HasRoom o → length (lines_text (outcome_lines version o)) < 2 ^ 31 → IsFormedOutcome version o

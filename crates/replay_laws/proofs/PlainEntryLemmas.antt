@@ -11,6 +11,7 @@ use Rattle.task_model.specs.Streams.{Note, Yielded, Ended, yields_of, is_yield_o
 use Rattle.task_model.specs.declared.stream.Instance.{Instance}
 use Rattle.task_model.specs.declared.task.Task.{Task}
 use Rattle.transcript_model.proofs.LegalNumberLemmas.{asks_more}
+use Rattle.transcript_model.proofs.RoundsLemmas.{requests_asks}
 use Rattle.transcript_model.specs.Legal.{IsLegal, MayFollow, asks_of, is_answer_to}
 use Rattle.transcript_model.specs.Names.{call_of_instance}
 use Rattle.transcript_model.specs.Rounds.{Limits, AreAnswers, AreRounds, AreRoundsRun, calls_left, requests, requests_from}
@@ -49,12 +50,6 @@ requests_unanswered task before number (i ∷ is) =
     let one = entry.Ask number (yields_of (notes_of task before) i) (call_of_instance task (names_of task before) i) in
     omega (arith, count_joined is_answer (one ∷ []) (requests_from task before (number + 1) is), requests_unanswered task before (number + 1) is)
 
-requests_asked : (task : Task) (before : List Entry) (number : ℕ) (is : List Instance) → asks_of (requests_from task before number is) ≡ length is
-requests_asked task before number [] = refl
-requests_asked task before number (i ∷ is) =
-    let one = entry.Ask number (yields_of (notes_of task before) i) (call_of_instance task (names_of task before) i) in
-    omega (arith, asks_more (one ∷ []) (requests_from task before (number + 1) is), requests_asked task before (number + 1) is)
-
 -- an answer is one entry of them, and no request
 answer_plain : (number : ℕ) (e : Entry) → is_answer_to number e ≡ true → (is_plain e ≡ true) × (count_by is_answer (e ∷ []) ≡ 1) × (asks_of (e ∷ []) ≡ 0)
 answer_plain number (entry.Got n tuples values) is = (refl, refl, refl)
@@ -87,7 +82,7 @@ rounds_plain limits task (round ∷ rounds) list before es (rest, parts, some, f
     let none = requests_unanswered task before (asks_of before + 1) round in
     let made = asks_more (asks ++ answers) later in
     let these = asks_more asks answers in
-    let asked_now = requests_asked task before (asks_of before + 1) round in
+    let asked_now = requests_asks task before (asks_of before + 1) round in
     subst (λ xs. ArePlain xs (length list)) (sym all) (record {
       plain = plain;
       answers = omega (arith, first, second, none, told.1, next.answers, size);

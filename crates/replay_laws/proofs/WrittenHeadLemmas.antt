@@ -1,5 +1,5 @@
 -- The head of a report that a run wrote: it binds the transcript as the run's head does, and fits the task.
-use Rattle.std.proofs.Common.{◌≡◌, ℕ, zero, suc, ◌+◌, ◌<◌, ◌≤◌, ◌==◌, ◌&&◌, not, nat_le, Bool, true, false, List, [], ◌∷◌, ◌++◌, map, length, take, drop, sum_by, All, Contains, refl, sym, ap, subst, ◌∙◌, Some, slice_get, arith, append_assoc, le-leb, eqb-true, if◌then◌else◌}
+use Rattle.std.proofs.Common.{◌≡◌, ℕ, zero, suc, ◌+◌, ◌<◌, ◌≤◌, ◌==◌, ◌&&◌, not, nat_le, Bool, true, false, List, [], ◌∷◌, ◌++◌, map, length, take, drop, sum_by, All, Contains, refl, sym, ap, subst, ◌∙◌, Some, slice_get, arith, append_assoc, le-leb, eqb-true}
 use Rattle.std.proofs.lemmas.List.Concat.{flat_map-append}
 use Rattle.std.proofs.lemmas.List.Elements.{All-head, All-tail, All-take, All-contains}
 use Rattle.std.proofs.lemmas.List.Sums.{sum_by-append}
@@ -8,7 +8,8 @@ use Rattle.std.specs.List.{list_any, filter_map, flat_map}
 use Rattle.std.specs.Option.{option_map}
 use Rattle.std.proofs.lemmas.Map.Keys.{any_passes_from_place}
 use Rattle.replay_check.specs.Heads.{AreFitPoolLines, IsFitHead, are_new, is_fit_pool, limits_in, served_by, share_in, workers_in}
-use Rattle.session_core.specs.Pools.{serves, server, workers_of}
+use Rattle.session_core.proofs.RoundBeginLemmas.{server_is}
+use Rattle.session_core.specs.Pools.{workers_of}
 use Rattle.session_core.specs.declared.pools.Workers.{Workers}
 use Rattle.task_model.proofs.KnownLemmas.{numbers_decided}
 use Rattle.lemmas.proofs.Members.{member_at, get_append}
@@ -181,18 +182,10 @@ module _ (task : Task) (fit : IsFit task) where
 
     -- ---- each stream has a pool
 
-    served_at : (all : List Workers) (stream : ℕ) (w : Workers) → server all stream ≡ Some w → (k : ℕ) × (slice_get all k ≡ Some w) × (serves w stream ≡ true)
-    served_at [] stream w is = absurd (cc)
-    served_at (x ∷ all) stream w is = by (serves x stream) refl is (served_at all stream w)
-      where
-        by : (b : Bool) → serves x stream ≡ b → (if b then Some x else server all stream) ≡ Some w → (server all stream ≡ Some w → (k : ℕ) × (slice_get all k ≡ Some w) × (serves w stream ≡ true)) → (k : ℕ) × (slice_get (x ∷ all) k ≡ Some w) × (serves w stream ≡ true)
-        by true e here later = let same : x ≡ w = cc in (0, here, ap (λ y. serves y stream) (sym same) ∙ e)
-        by false e there later = let r = later there in (suc r.0, r.1, r.2)
-
     is_served : (k : ℕ) (s : Stream) → slice_get task.streams k ≡ Some s → list_any (λ (p : PoolLine). list_any (same_numbers s.name) p.streams) (map (shown_pool task) head.pools) ≡ true
     is_served k s at =
         let pool = can.runnable.fit.pools.served k (slice_get_within task.streams k s at) in
-        let found = served_at (map workers_of head.pools) k pool.0 pool.1 in
+        let found = server_is (map workers_of head.pools) k pool.0 pool.1 in
         let p = map_some workers_of (slice_get head.pools found.0) pool.0 (sym (slice_get-map workers_of head.pools found.0) ∙ found.1) in
         let in_pool : list_any (λ t. t == k) p.0.streams ≡ true = ap (λ (w : Workers). list_any (λ t. t == k) w.streams) p.2 ∙ found.2 in
         let place = any_found (λ t. t == k) p.0.streams in_pool in

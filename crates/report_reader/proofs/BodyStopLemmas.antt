@@ -1,18 +1,18 @@
 -- Where each part of a report stops.
-use Rattle.std.proofs.Common.{◌≡◌, ℕ, zero, suc, ◌+◌, ◌-◌, ◌<◌, ◌^◌, inl, inr, arith, false, List, [], ◌∷◌, ◌++◌, map, length, refl, sym, subst, ap, ◌∙◌, All, append_assoc, length-append, None, Some}
+use Rattle.std.proofs.Common.{◌≡◌, ℕ, zero, suc, ◌+◌, ◌-◌, ◌<◌, ◌^◌, inl, inr, arith, List, [], ◌∷◌, ◌++◌, map, length, refl, sym, subst, ap, ◌∙◌, All, append_assoc, length-append, None, Some}
 use Rattle.std.specs.List.{flat_map}
 use Rattle.std.proofs.lemmas.Grind.{flat_map-append}
 use Rattle.std.proofs.lemmas.List.{map-append, append-nil, length-map}
 use Rattle.std.proofs.lemmas.List.Elements.{All-tail, All-head, All-push}
 use Rattle.report_text.specs.Forms.{IsNumber, IsTerm, IsFormedCall, IsFormedUse, IsFormedEntry, IsFormedOrigin, IsFormedPool}
-use Rattle.report_text.specs.Places.{Place, pools, entries, dream, plan, cost, origins, last, behind, dreaming, planning, dream_line, cost_line, is_dream, IsBodyStep, IsLineStep, IsPath}
+use Rattle.report_text.specs.Places.{Place, pools, entries, dream, plan, cost, origins, last, behind, dreaming, planning, dream_line, cost_line, IsBodyStep, IsLineStep, IsPath}
 use Rattle.report_text.specs.Texts.{Line, use_line, step_line, do_line, from_line, entry_lines, pool_line}
 use Rattle.transcript_model.specs.declared.entry.Call.{Call}
 use Rattle.transcript_model.specs.declared.entry.DreamUse.{DreamUse}
 use Rattle.transcript_model.specs.declared.entry.Entry.{Entry}
 use Rattle.transcript_model.specs.declared.entry.Entry.TheVariants as entry
 use Rattle.transcript_model.specs.declared.outcome.Origin.{Origin}
-use Rattle.report_text.proofs.PlacesPathLemmas.{path_then}
+use Rattle.report_text.proofs.PlacesPathLemmas.{path_then, entries_path}
 use Rattle.report_reader.specs.Body.{HasNoEnd, IsBodyLine, body_line, first_of_lines, IsDream, dream_lines, IsEnding, ending_line, IsReportFront}
 use Rattle.report_reader.specs.Finding.{HasNo, TakesLine, TakesAll, TakesMany, TakesFewer, Stops}
 use Rattle.report_reader.specs.Splits.{fields_of}
@@ -104,26 +104,6 @@ body_stop v old new t =
 
 -- ---- entries
 
-single_front : (v : ℕ) (e : Entry) (l : Line) → IsFormedEntry v e → is_dream e ≡ false → entry_lines e ≡ l ∷ [] → IsPath (entries v) (entry_lines e) (entries v)
-single_front v e l formed single is = subst (λ ls. IsPath (entries v) ls (entries v)) (sym is) (entries v, inl (record { entry = e; formed = formed; single = single; is = is }, refl), refl)
-
-entry_front : (v : ℕ) (e : Entry) → IsFormedEntry v e → IsPath (entries v) (entry_lines e) (entries v)
-entry_front v (entry.Dream us ss) formed =
-    (dreaming v (length us) (length ss), inr (inl (length us, length ss, formed.0, formed.1, refl, refl)), path_then (dreaming v (length us) (length ss)) (map use_line us) (map step_line ss) (dreaming v 0 (length ss)) (entries v) (uses_front v us (length ss) 0 (length us) (omega arith) formed.2) (steps_front v ss 0 (length ss) (omega arith) formed.3))
-entry_front v entry.Level formed = single_front v entry.Level _ formed refl refl
-entry_front v (entry.Ask n t c) formed = single_front v (entry.Ask n t c) _ formed refl refl
-entry_front v (entry.Got n t xs) formed = single_front v (entry.Got n t xs) _ formed refl refl
-entry_front v (entry.Value n x) formed = single_front v (entry.Value n x) _ formed refl refl
-entry_front v (entry.End n) formed = single_front v (entry.End n) _ formed refl refl
-entry_front v entry.Nothing formed = single_front v entry.Nothing _ formed refl refl
-entry_front v entry.Reset formed = single_front v entry.Reset _ formed refl refl
-entry_front v (entry.Pick n) formed = single_front v (entry.Pick n) _ formed refl refl
-entry_front v (entry.Retire n) formed = single_front v (entry.Retire n) _ formed refl refl
-
-pub entries_front : (v : ℕ) (es : List Entry) → All (IsFormedEntry v) es → IsPath (entries v) (flat_map entry_lines es) (entries v)
-entries_front v [] all = refl
-entries_front v (e ∷ es) all = path_then (entries v) (entry_lines e) (flat_map entry_lines es) (entries v) (entries v) (entry_front v e (All-head (IsFormedEntry v) e es all)) (entries_front v es (All-tail (IsFormedEntry v) e es all))
-
 pub some_lines : (e : Entry) → 0 < length (entry_lines e)
 some_lines (entry.Dream us ss) = omega arith
 some_lines entry.Level = omega arith
@@ -150,7 +130,7 @@ front_end v es ending old mid new f formed is =
     ((f.formed, formed), shown_then (flat_map entry_lines es) (ending_line ending ∷ []) new ∙ ap (λ l. map fields_of (flat_map entry_lines es) ++ l) is ∙ f.lines)
 
 pub front_stop : (v : ℕ) (es : List Entry) (old mid new : Rows) → IsReportFront v es old mid → Stops (entries v) mid new → Stops (entries v) old new
-front_stop v es old mid new f s = stops_behind (entries v) (entries v) (flat_map entry_lines es) old mid new (entries_front v es f.formed) f.lines s
+front_stop v es old mid new f s = stops_behind (entries v) (entries v) (flat_map entry_lines es) old mid new (entries_path v es f.formed) f.lines s
 
 -- ---- outcomes
 

@@ -3,12 +3,13 @@ use Rattle.std.proofs.Common.{◌≡◌, ℕ, zero, suc, ◌+◌, ◌-◌, ◌<�
 use Rattle.std.proofs.Math.Seq.{take-length, take-append-add, drop-append-add}
 use Rattle.std.proofs.lemmas.Grind.{flat_map-append}
 use Rattle.std.proofs.lemmas.List.{append-nil, map-append, take-append-drop, length-take-le}
-use Rattle.std.proofs.lemmas.List.Splits.{slice_split_at, length-slice_split}
+use Rattle.std.proofs.lemmas.List.Splits.{slice_split_at}
 use Rattle.std.specs.Cmp.{first_so, second_so}
 use Rattle.std.specs.List.{list_all, slice_split, onto_first}
 use Rattle.std.proofs.lemmas.List.Elements.{All-nil, All-cons}
 use Rattle.lemmas.proofs.Numbers.{small_version}
 use Rattle.lemmas.proofs.ListTests.{all_one}
+use Rattle.gen_lines.proofs.CuttingLemmas.{parts_left}
 use Rattle.gen_lines.specs.Lines.{is_feed, ended, open_part, unfinished}
 use Rattle.report_text.specs.Faults.{whole_lines, joined, IsReport, BeginsReport, IsFirstFault}
 use Rattle.report_text.specs.Places.{Place, first, limits, pools, entries, dream, plan, cost, origins, last, behind, IsBodyStep, IsLineStep, IsPath, line_body, IsTextStep, IsTextPath, IsStuck, StopsAfter}
@@ -33,9 +34,6 @@ ended_more [] ys some = refl
 ended_more (x ∷ []) [] some = absurd (omega arith)
 ended_more (x ∷ []) (y ∷ ys) some = refl
 ended_more (x ∷ z ∷ xs) ys some = ap (λ ps. x ∷ ps) (ended_more (z ∷ xs) ys some)
-
-some_parts : (bytes : List ℕ) → 0 < length (slice_split is_feed bytes)
-some_parts bytes = omega (arith, length-slice_split is_feed bytes)
 
 -- the lines of a report's text are those of the report
 lines_written : (lines : List Line) → list_all is_clear lines ≡ true → whole_lines (lines_text lines) ≡ map line_body lines
@@ -67,7 +65,7 @@ path_front from to (t ∷ front) rest (l ∷ ls, is, path) =
 
 -- ---- lines that may stand are clear, so their texts determine them
 
-body_clear : (version : ℕ) (l : Line) (n : Place) → IsBodyStep version l n → is_clear l ≡ true
+pub body_clear : (version : ℕ) (l : Line) (n : Place) → IsBodyStep version l n → is_clear l ≡ true
 body_clear version l n (inl a) =
     let whole : list_all is_clear (l ∷ []) ≡ true = ap (list_all is_clear) (sym a.0.is) ∙ entry_clear version a.0.entry a.0.formed in
     first_so (is_clear l) true whole
@@ -76,7 +74,7 @@ body_clear version l n (inr (inr (inl a))) = rw (a.2, number_of_32 a.0 a.1) refl
 body_clear version l n (inr (inr (inr (inl a, b)))) = rw a refl
 body_clear version l n (inr (inr (inr (inr a, b)))) = rw (a.1, limit_clear a.0) refl
 
-line_clear : (p : Place) (l : Line) (n : Place) → IsLineStep p l n → is_clear l ≡ true
+pub line_clear : (p : Place) (l : Line) (n : Place) → IsLineStep p l n → is_clear l ≡ true
 line_clear first l n a = rw (a.3, number_inked a.0 (small_version a.0 a.2), mode_clear a.1) refl
 line_clear (limits version) l n a = rw (a.6, number_of_32 a.0 a.3, number_of_32 a.1 a.4, number_of_8 a.2 a.5) refl
 line_clear (pools version) l n (inl a) = ap is_clear a.2 ∙ pool_clear a.0 a.1
@@ -138,7 +136,7 @@ ended_front (p ∷ q ∷ parts) some = ap (λ ps. p ∷ ps) (ended_front (q ∷ 
 
 lines_free : (bytes : List ℕ) (k : ℕ) → All (λ line. All (λ b. is_feed b ≡ false) line) (take k (whole_lines bytes))
 lines_free bytes k =
-    let whole = subst (All (λ line. All (λ b. is_feed b ≡ false) line)) (sym (ended_front (slice_split is_feed bytes) (some_parts bytes))) (parts_free bytes) in
+    let whole = subst (All (λ line. All (λ b. is_feed b ≡ false) line)) (sym (ended_front (slice_split is_feed bytes) (parts_left bytes))) (parts_free bytes) in
     let lines : All (λ line. All (λ b. is_feed b ≡ false) line) (whole_lines bytes) = All-append_front (whole_lines bytes) (unfinished bytes ∷ []) whole in
     All-append_front (take k (whole_lines bytes)) (drop k (whole_lines bytes)) (subst (All (λ line. All (λ b. is_feed b ≡ false) line)) (sym (take-append-drop k (whole_lines bytes))) lines)
   where
@@ -197,7 +195,7 @@ stops_fault bytes k s = by_rest (drop k (whole_lines bytes)) refl s.stuck
           before = subst (λ m. BeginsReport (take m (whole_lines bytes))) (sym (minus_one k)) (begins (take k (whole_lines bytes)) s.at s.path);
           here = λ le more.
               let there : whole_lines (joined (take (k + 1) (whole_lines bytes)) ++ more.0) ≡ take k (whole_lines bytes) ++ text ∷ ended (slice_split is_feed more.0) =
-              ap ended (parts_of (take (k + 1) (whole_lines bytes)) more.0 (lines_free bytes (k + 1))) ∙ ended_more (take (k + 1) (whole_lines bytes)) (slice_split is_feed more.0) (some_parts more.0) ∙ ap (λ ts. ts ++ ended (slice_split is_feed more.0)) next ∙ append_assoc (take k (whole_lines bytes)) (text ∷ []) (ended (slice_split is_feed more.0)) in
+              ap ended (parts_of (take (k + 1) (whole_lines bytes)) more.0 (lines_free bytes (k + 1))) ∙ ended_more (take (k + 1) (whole_lines bytes)) (slice_split is_feed more.0) (parts_left more.0) ∙ ap (λ ts. ts ++ ended (slice_split is_feed more.0)) next ∙ append_assoc (take k (whole_lines bytes)) (text ∷ []) (ended (slice_split is_feed more.0)) in
               stuck_there (take k (whole_lines bytes)) text s.at s.path stuck (ended (slice_split is_feed more.0)) (joined (take (k + 1) (whole_lines bytes)) ++ more.0) there more.1;
           none = stuck_there (take k (whole_lines bytes)) text s.at s.path stuck later bytes (sym (take-append-drop k (whole_lines bytes)) ∙ ap (λ ts. take k (whole_lines bytes) ++ ts) e);
         }
@@ -220,8 +218,8 @@ pub text_parts : (bytes : List ℕ) → joined (whole_lines bytes) ++ unfinished
 text_parts [] = refl
 text_parts (x ∷ xs) =
     elim (is_feed x) as (λ c. is_feed x ≡ c → whole (cond c ([] ∷ slice_split is_feed xs) (onto_first x (slice_split is_feed xs))) ≡ x ∷ xs) [
-      | true ↦ λ e. whole_feed (slice_split is_feed xs) (some_parts xs) ∙ (λ i. sym (eqb-true x 10 e) i ∷ text_parts xs i)
-      | false ↦ λ e. whole_other x (slice_split is_feed xs) (some_parts xs) ∙ ap (λ t. x ∷ t) (text_parts xs)
+      | true ↦ λ e. whole_feed (slice_split is_feed xs) (parts_left xs) ∙ (λ i. sym (eqb-true x 10 e) i ∷ text_parts xs i)
+      | false ↦ λ e. whole_other x (slice_split is_feed xs) (parts_left xs) ∙ ap (λ t. x ∷ t) (text_parts xs)
     ] refl
 
 -- lines that are those of a report, with nothing behind them, are its text

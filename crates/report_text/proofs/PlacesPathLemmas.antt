@@ -33,10 +33,10 @@ uses_path : (version : ℕ) (uses : List DreamUse) (steps : ℕ) → All IsForme
 uses_path version [] steps all = refl
 uses_path version (u ∷ us) steps all = (dreaming version (length us) steps, (u, All-head IsFormedUse u us all, refl, refl), uses_path version us steps (All-tail IsFormedUse u us all))
 
-single_path : (version : ℕ) (e : Entry) (l : Line) → IsFormedEntry version e → is_dream e ≡ false → entry_lines e ≡ l ∷ [] → IsPath (entries version) (entry_lines e) (entries version)
+pub single_path : (version : ℕ) (e : Entry) (l : Line) → IsFormedEntry version e → is_dream e ≡ false → entry_lines e ≡ l ∷ [] → IsPath (entries version) (entry_lines e) (entries version)
 single_path version e l formed single is = subst (λ ls. IsPath (entries version) ls (entries version)) (sym is) (entries version, inl (record { entry = e; formed = formed; single = single; is = is }, refl), refl)
 
-entry_path : (version : ℕ) (e : Entry) → IsFormedEntry version e → IsPath (entries version) (entry_lines e) (entries version)
+pub entry_path : (version : ℕ) (e : Entry) → IsFormedEntry version e → IsPath (entries version) (entry_lines e) (entries version)
 entry_path version (entry.Dream uses steps) formed =
     (dreaming version (length uses) (length steps), inr (inl (length uses, length steps, formed.0, formed.1, refl, refl)), path_then (dreaming version (length uses) (length steps)) (map use_line uses) (map step_line steps) (dreaming version 0 (length steps)) (entries version) (uses_path version uses (length steps) formed.2) (steps_path version steps formed.3))
 entry_path version entry.Level formed = single_path version entry.Level _ formed refl refl
@@ -49,7 +49,7 @@ entry_path version entry.Reset formed = single_path version entry.Reset _ formed
 entry_path version (entry.Pick n) formed = single_path version (entry.Pick n) _ formed refl refl
 entry_path version (entry.Retire n) formed = single_path version (entry.Retire n) _ formed refl refl
 
-entries_path : (version : ℕ) (es : List Entry) → All (IsFormedEntry version) es → IsPath (entries version) (flat_map entry_lines es) (entries version)
+pub entries_path : (version : ℕ) (es : List Entry) → All (IsFormedEntry version) es → IsPath (entries version) (flat_map entry_lines es) (entries version)
 entries_path version [] all = refl
 entries_path version (e ∷ es) all = path_then (entries version) (entry_lines e) (flat_map entry_lines es) (entries version) (entries version) (entry_path version e (All-head (IsFormedEntry version) e es all)) (entries_path version es (All-tail (IsFormedEntry version) e es all))
 

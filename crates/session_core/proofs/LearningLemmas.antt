@@ -70,7 +70,7 @@ few_values t w n a b e = omega (arith, e, mul-le-mul a b)
 
 -- ---- which request is answered
 
-answers_to : (e : Entry) (n : ℕ) → answered_number e ≡ Some n → is_answer_to n e ≡ true
+pub answers_to : (e : Entry) (n : ℕ) → answered_number e ≡ Some n → is_answer_to n e ≡ true
 answers_to (entry.Got m tuples values) n is = let same : n ≡ m = cc in eq-eqb n m same
 answers_to (entry.Value m value) n is = let same : n ≡ m = cc in eq-eqb n m same
 answers_to (entry.End m) n is = let same : n ≡ m = cc in eq-eqb n m same

@@ -5,12 +5,12 @@ use Rattle.std.proofs.Math.ListN.{take-append-drop}
 use Rattle.std.specs.List.{flat_map}
 use Rattle.certify.proofs.OutputsLemmas.{length_with_name}
 use Rattle.certify.specs.Outputs.{AreNamed}
+use Rattle.task_model.proofs.KnownLemmas.{facts_then}
 use Rattle.task_model.specs.Known.{Known, with_facts}
 use Rattle.lemmas.specs.Lists.{AreDistinct}
 use Rattle.task_model.specs.Streams.{Note, certified_by}
 use Rattle.task_model.specs.declared.task.Task.{Task}
 use Rattle.transcript_model.proofs.CallNameLemmas.{places_exact}
-use Rattle.transcript_model.proofs.LegalPrefixLemmas.{facts_then}
 use Rattle.transcript_model.proofs.NamesLemmas.{places_kept, with_names-front, with_names-then}
 use Rattle.transcript_model.specs.Laws.{known_with}
 use Rattle.transcript_model.specs.Names.{generated, places_of, with_name, with_names}

@@ -14,19 +14,19 @@ use Rattle.std.specs.List.{flat_map, list_any, list_all, cons_option}
 use Rattle.std.proofs.lemmas.List.Concat.{flat_map-append}
 use Rattle.gen_lines.specs.Reply as reply
 use Rattle.gen_lines.specs.Reply.{Reply, reply_of}
-use Rattle.instance_queue.proofs.InstanceOrderLemmas.{instances_total}
-use Rattle.instance_queue.proofs.NotesLemmas.{about, instances_same, tally_stays, yielded_some}
+use Rattle.instance_queue.proofs.NotesLemmas.{about, tally_stays, yielded_some}
 use Rattle.instance_queue.specs.Level.{instances_of, AreDueInTurn}
 use Rattle.instance_queue.specs.Notes.{tally_of}
 use Rattle.instance_queue.specs.declared.due.Due.{Due}
 use Rattle.instance_queue.specs.declared.queue.Tally.{Tally}
 use Rattle.task_model.proofs.KnownLemmas.{with_facts-is, fact_member}
+use Rattle.task_model.proofs.StreamsLemmas.{instances_apart, instances_total}
 use Rattle.lemmas.proofs.Members.{member_at, place_of, get_append, get_behind}
 use Rattle.lemmas.proofs.ListTests.{all_one}
 use Rattle.lemmas.proofs.Ascending.{contains_here, contains_later, less_greater}
 use Rattle.task_model.specs.Known.{Known, is_fact, with_facts, type_fact}
 use Rattle.lemmas.specs.Lists.{AreDistinct, AreAscending}
-use Rattle.task_model.specs.Streams.{Note, Yielded, Ended, IsDue, is_reachable, is_end_of, is_yield_of, is_test, same_instance, instance_cmp, yields_of, fact_of}
+use Rattle.task_model.specs.Streams.{Note, Yielded, Ended, IsDue, is_reachable, is_end_of, is_yield_of, is_test, instance_cmp, yields_of, fact_of}
 use Rattle.task_model.specs.Truth.{have_types, has_type, slots_of}
 use Rattle.task_model.specs.declared.domain.Pattern.{Pattern}
 use Rattle.task_model.specs.declared.fact.Fact.{Fact}
@@ -70,6 +70,7 @@ two_parts n dues = ap instances_of (sym (take-append-drop n dues)) ∙ map-appen
 
 less_apart : {A : Type 0} (cmp : A → A → Ordering) → IsTotalOrder cmp → (x : A) → cmp x x ≡ Less → ⊥
 less_apart cmp total x less = let turned : Less ≡ Greater = sym less ∙ total.antisymm x x ∙ ap ordering_reverse less in absurd (less_greater turned)
+
 ascending_distinct : {A : Type 0} (cmp : A → A → Ordering) → IsTotalOrder cmp → (xs : List A) → AreAscending cmp xs → AreDistinct xs
 ascending_distinct cmp total xs ascends i j x at_i at_j = by (nat_lt i j) refl (nat_lt j i) refl
   where
@@ -135,15 +136,12 @@ module _ (known after : Known) (kept : (fact : Fact) → is_fact known.facts fac
 
 -- ---- notes on others
 
-not_same : (i other : Instance) → ¬ (i ≡ other) → same_instance i other ≡ false
-not_same i other apart = elim (same_instance i other) as (λ b. same_instance i other ≡ b → b ≡ false) [ true ↦ λ e. absurd (apart (instances_same i other e)) | false ↦ λ _. refl ] refl
-
 tally_apart : (notes more : List Note) (i : Instance) → All (λ n. ¬ (about n ≡ i)) more → tally_of (notes ++ more) i ≡ tally_of notes i
 tally_apart notes [] i all = ap (λ ns. tally_of ns i) (append-nil notes)
 tally_apart notes (m ∷ ms) i all =
     ap (λ ns. tally_of ns i) (sym (append_assoc notes (m ∷ []) ms))
     ∙ tally_apart (notes ++ m ∷ []) ms i (All-tail (λ n. ¬ (about n ≡ i)) m ms all)
-    ∙ tally_stays notes m i (not_same (about m) i (All-head (λ n. ¬ (about n ≡ i)) m ms all))
+    ∙ tally_stays notes m i (instances_apart (about m) i (All-head (λ n. ¬ (about n ≡ i)) m ms all))
 
 -- ---- the answers of a round
 

@@ -33,6 +33,7 @@ none_fit (p ∷ ps) = and_from (nat_le 0 p.workers) _ (le-leb 0 p.workers (omega
 pub one_fits : (pools : List Workers) (stream : ℕ) → ((k : ℕ) (p : Workers) → slice_get pools k ≡ Some p → 1 ≤ p.workers) → fits_workers pools (stream ∷ []) ≡ true
 one_fits [] stream some = refl
 one_fits (p ∷ ps) stream some = and_from (nat_le (count_by (serves p) (stream ∷ [])) p.workers) _ (le-leb (count_by (serves p) (stream ∷ [])) p.workers (omega (arith, cond_le_one (serves p stream), count_one (serves p) stream, some 0 p refl))) (one_fits ps stream (λ k q at. some (suc k) q at))
+
 pub workers_fit : (pools : List Workers) (streams : List ℕ) → fits_workers pools streams ≡ true → FitWorkers pools streams
 workers_fit [] streams e k p at = absurd (cc)
 workers_fit (q ∷ qs) streams e zero p at =

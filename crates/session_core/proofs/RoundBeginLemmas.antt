@@ -74,7 +74,7 @@ instances_step (u ∷ us) (suc k) d at = ap (λ m. instances_of (take m (u ∷ u
 
 -- ---- children
 
-server_is : (pools : List Workers) (stream : ℕ) (p : Workers) → server pools stream ≡ Some p → (k : ℕ) × (slice_get pools k ≡ Some p) × (serves p stream ≡ true)
+pub server_is : (pools : List Workers) (stream : ℕ) (p : Workers) → server pools stream ≡ Some p → (k : ℕ) × (slice_get pools k ≡ Some p) × (serves p stream ≡ true)
 server_is [] stream p e = absurd (cc)
 server_is (q ∷ qs) stream p e =
     elim (serves q stream) as (λ b. serves q stream ≡ b → cond b (Some q) (server qs stream) ≡ Some p → (k : ℕ) × (slice_get (q ∷ qs) k ≡ Some p) × (serves p stream ≡ true)) [

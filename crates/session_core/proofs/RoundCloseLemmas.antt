@@ -42,6 +42,7 @@ use Rattle.session_core.specs.State.{State, after_close}
 
 no_both : {A : Type 0} (b : Bool) → b ≡ true → b ≡ false → A
 no_both b t f = absurd (not_both b t f)
+
 -- each of these numbers waits for an answer, and asks its due's instance
 abbrev pub AllWait : Task → List Entry → ℕ → List Due → Type 0
 AllWait task before n [] = Unit {0}

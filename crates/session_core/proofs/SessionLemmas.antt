@@ -149,6 +149,7 @@ mark_kept task s e learnt closed mark learns h =
       notes = λ works. h.notes works ∙ sym (front_kept (notes_of task) s e learnt h.learnt learns adds.same.notes);
       round = λ open_now. absurd (not_both s.is_open open_now closed);
     }
+
 -- the state with these entries, so many of which are learnt
 abbrev pub entries_become : State → List Entry → ℕ → State
 entries_become s entries learnt =

@@ -30,6 +30,7 @@ module _ {K : Type 0} (shows : K → List ℕ) where
       twice true b = refl
       twice false b = refl
   put q k x rest more Greater e h = ap (λ b. same_numbers q (shows x) || b) h ∙ or_swap (same_numbers q (shows x)) (same_numbers q (shows k)) (is_among (map shows rest) q)
+
   pub insert_adds : (keys : List K) (k : K) (q : List ℕ) → is_among (map shows (insert_key by_name keys k)) q ≡ (same_numbers q (shows k) || is_among (map shows keys) q)
   insert_adds [] k q = refl
   insert_adds (x ∷ xs) k q = put q k x xs (insert_key by_name xs k) (by_name k x) refl (insert_adds xs k q)

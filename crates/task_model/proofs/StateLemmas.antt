@@ -129,6 +129,7 @@ contains-with_atoms s [] q = refl
 contains-with_atoms s (k ∷ ks) q =
     contains-with_atoms (insert s k) ks q ∙ ap (λ b. list_any (eq_by_cmp atom_cmp q) ks || b) (contains-insert s k q)
     ∙ or_swap (list_any (eq_by_cmp atom_cmp q) ks) (eq_by_cmp atom_cmp q k) (contains s q) ∙ or_assoc (eq_by_cmp atom_cmp q k) (list_any (eq_by_cmp atom_cmp q) ks) (contains s q)
+
 -- the set of a list, put together from its front
 pub with_atoms-empty : (ks : List Atom) → with_atoms empty ks ≡ from_list ks
 with_atoms-empty ks =

@@ -2,6 +2,7 @@
 use Rattle.std.proofs.Common.{◌≡◌, ℕ, ◌+◌, ◌<◌, ◌≤◌, ◌||◌, true, false, cond, ◌==◌, nat_lt, List, [], ◌∷◌, refl, subst, sym, arith, ◌⊎◌, inl, inr, ltb-true, ltb-false, eqb-true, eq-eqb}
 use Rattle.std.proofs.lemmas.Bool.{eqb-false, or_cases, or_left, or_right}
 use Rattle.name_tables.proofs.GraphsOrderLemmas.{ascending_in, in_ascending}
+use Rattle.name_tables.proofs.GraphsLemmas.{no_number}
 use Rattle.name_tables.specs.Graphs.{ascending, ascending_with, has_number}
 
 -- they ascend, from this number on
@@ -65,8 +66,5 @@ one_rise low (n ∷ ns) (m ∷ ms) r s to from =
 pub one_ascending : (ns ms : List ℕ) → ((b : ℕ) → has_number ns b ≡ true → has_number ms b ≡ true) → ((b : ℕ) → has_number ms b ≡ true → has_number ns b ≡ true) → ascending [] ns ≡ ascending [] ms
 one_ascending ns ms to from = one_rise 0 (ascending [] ns) (ascending [] ms) (rises_all [] ns tt) (rises_all [] ms tt) (along ns ms to) (along ms ns from)
   where
-    no_number : (b : ℕ) → has_number [] b ≡ true → ⊥
-    no_number b e = absurd (cc)
-
     along : (xs ys : List ℕ) → ((b : ℕ) → has_number xs b ≡ true → has_number ys b ≡ true) → (b : ℕ) → has_number (ascending [] xs) b ≡ true → has_number (ascending [] ys) b ≡ true
     along xs ys f b h = elim (in_ascending [] xs b h) [ inl e ↦ absurd (no_number b e) | inr e ↦ ascending_in [] ys b (inr (f b e)) ]

@@ -7,7 +7,7 @@ use Rattle.std.proofs.lemmas.Bool.{true≢false}
 use Rattle.lemmas.proofs.Bools.{or_false, and_false, or_assoc}
 use Rattle.lemmas.proofs.Options.{same_some}
 use Rattle.lemmas.proofs.Members.{get_at_length}
-use Rattle.session_core.proofs.LearningLemmas.{answer_at}
+use Rattle.session_core.proofs.LearningLemmas.{answer_at, answers_to}
 use Rattle.session_core.proofs.SessionLemmas.{count_joined, count_one}
 use Rattle.session_core.specs.Learning.{CanLearn, answered_number}
 use Rattle.session_core.specs.Session.{Asks, is_answer}
@@ -18,7 +18,7 @@ use Rattle.transcript_model.proofs.LegalLemmas.{grows}
 use Rattle.transcript_model.proofs.LegalPrefixLemmas.{asked-kept}
 use Rattle.transcript_model.proofs.LegalNumberLemmas.{next_is_fresh}
 use Rattle.transcript_model.proofs.LegalStepLemmas.{answer_adds, request_adds}
-use Rattle.transcript_model.specs.Legal.{IsRightAsk, MayFollow, asks_of, is_answer_to, is_ask, is_ask_of, is_open}
+use Rattle.transcript_model.specs.Legal.{IsRightAsk, MayFollow, asks_of, is_ask, is_ask_of, is_open}
 use Rattle.transcript_model.specs.Names.{instance_of}
 use Rattle.transcript_model.specs.Transcript.{Asked, asked, known_of, names_of, notes_of}
 use Rattle.transcript_model.specs.declared.entry.Call.{Call}
@@ -110,18 +110,6 @@ ask_kept version turn task before call l new i h right named facts queue asked_i
 
 -- ---- an answer
 
-answers_it : (e : Entry) (n : ℕ) → answered_number e ≡ Some n → is_answer_to n e ≡ true
-answers_it (entry.Got m tuples values) n e = let same : m ≡ n = cc in eq-eqb n m (sym same)
-answers_it (entry.Value m value) n e = let same : m ≡ n = cc in eq-eqb n m (sym same)
-answers_it (entry.End m) n e = let same : m ≡ n = cc in eq-eqb n m (sym same)
-answers_it (entry.Ask m turn call) n e = absurd (cc)
-answers_it entry.Level n e = absurd (cc)
-answers_it (entry.Dream uses steps) n e = absurd (cc)
-answers_it entry.Nothing n e = absurd (cc)
-answers_it entry.Reset n e = absurd (cc)
-answers_it (entry.Pick m) n e = absurd (cc)
-answers_it (entry.Retire m) n e = absurd (cc)
-
 is_answer_so : (e : Entry) (n : ℕ) → answered_number e ≡ Some n → is_answer e ≡ true
 is_answer_so (entry.Got m tuples values) n e = refl
 is_answer_so (entry.Value m value) n e = refl
@@ -191,7 +179,7 @@ module _ (version : ℕ) (task : Task) (before : List Entry) (l : Ledger) (e : E
 
   pub answer_kept : (new : Ledger) (a : Asked) → asked task before n ≡ Some a → new.facts.known ≡ known_of task (before ++ e ∷ []) → new.queue ≡ notes_of task (before ++ e ∷ []) → new.asked.items ≡ l.asked.items → new.unanswered.items ≡ without n l.unanswered.items → IsLedger version task (before ++ e ∷ []) new
   answer_kept new a was known notes asked_is unanswered_is =
-      let adds = answer_adds version task before h.fit.problem.objects.names.distinct h.legal n a was e (answers_it e n answers) in
+      let adds = answer_adds version task before h.fit.problem.objects.names.distinct h.legal n a was e (answers_to e n answers) in
       record {
         fit = h.fit;
         legal = (grows version task before).next e h.legal may;

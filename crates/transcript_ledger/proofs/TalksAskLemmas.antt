@@ -7,10 +7,10 @@ use Rattle.std.proofs.lemmas.Bool.{and_from, not-true, not_from_false, false≢t
 use Rattle.std.proofs.lemmas.Map.Keys.{any_passes_from_place}
 use Rattle.lemmas.proofs.Options.{same_some}
 use Rattle.lemmas.proofs.ListTests.{get_there}
-use Rattle.instance_queue.proofs.NotesLemmas.{instances_same}
 use Rattle.instance_queue.specs.Level.{is_finished_in, is_reachable_in}
 use Rattle.session_core.proofs.LearningLemmas.{take_next}
 use Rattle.session_core.proofs.SessionLemmas.{count_joined}
+use Rattle.task_model.proofs.StreamsLemmas.{instances_same}
 use Rattle.task_model.specs.Known.{Known, same_numbers}
 use Rattle.task_model.specs.Streams.{IsDue, Note, is_finished, is_reachable, same_instance, yields_of}
 use Rattle.task_model.specs.declared.stream.Instance.{Instance}

@@ -1,25 +1,25 @@
 -- What is known after a legal transcript is coherent.
-use Rattle.std.proofs.Common.{◌≡◌, ℕ, zero, suc, ◌+◌, ◌*◌, ◌≤◌, arith, true, false, cond, ◌&&◌, ◌==◌, nat_le, nat_lt, List, [], ◌∷◌, ◌++◌, map, filter, take, drop, length, refl, sym, subst, ap, ◌∙◌, Option, Some, None, slice_get, All, Contains, eqb-true, eq-eqb, suc-mul, option_map}
-use Rattle.std.proofs.lemmas.Bool.{leb-true, and_from}
+use Rattle.std.proofs.Common.{◌≡◌, ℕ, zero, suc, ◌+◌, ◌*◌, ◌≤◌, arith, true, false, cond, ◌&&◌, ◌==◌, nat_le, nat_lt, List, [], ◌∷◌, ◌++◌, map, filter, take, drop, length, refl, sym, subst, ap, ◌∙◌, Option, Some, None, slice_get, All, Contains, eqb-true, suc-mul, option_map}
+use Rattle.std.proofs.lemmas.Bool.{leb-true}
 use Rattle.std.proofs.lemmas.List.{length-map, length-take-le, length-drop, length-append, take-append-drop}
 use Rattle.std.proofs.lemmas.List.Elements.{All-append, All-contains, Contains-append_left, Contains-append_right, All-nil, All-cons}
 use Rattle.std.proofs.lemmas.Map.Views.{list_any-from_Contains}
 use Rattle.std.proofs.lemmas.Option.{slice_get_within}
-use Rattle.std.specs.Bool.{Decides}
-use Rattle.std.specs.Cmp.{IsEquivalence, decided, first_so, second_so}
+use Rattle.std.specs.Cmp.{first_so, second_so}
 use Rattle.std.specs.List.{list_any, list_all, flat_map}
 use Rattle.std.specs.Option.{option_and_then, option_or}
-use Rattle.task_model.proofs.KnownLemmas.{numbers_decided, with_facts-is}
+use Rattle.task_model.proofs.KnownLemmas.{with_facts-is, in_names, values_equivalence}
+use Rattle.task_model.proofs.TruthLemmas.{have_types-length}
 use Rattle.lemmas.proofs.Members.{distinct_push, distinct_nil}
 use Rattle.lemmas.proofs.Bools.{not_both}
 use Rattle.lemmas.proofs.Options.{same_some}
 use Rattle.lemmas.proofs.ListTests.{all_one}
 use Rattle.task_model.specs.Fit.{IsFit, is_fit_value, is_short, has_arity}
 use Rattle.task_model.specs.Initial.{declared_names, declared_types, initial_known, is_static}
-use Rattle.task_model.specs.Known.{Known, IsCoherent, IsIn, same_numbers, same_value, with_value, with_values}
+use Rattle.task_model.specs.Known.{IsCoherent, IsIn, same_value, with_value, with_values}
 use Rattle.lemmas.specs.Lists.{AreDistinct}
 use Rattle.task_model.specs.Streams.{worth_by}
-use Rattle.task_model.specs.Truth.{has_type, have_types}
+use Rattle.task_model.specs.Truth.{have_types}
 use Rattle.task_model.specs.declared.domain.Declared.{Declared}
 use Rattle.task_model.specs.declared.stream.Instance.{Instance}
 use Rattle.task_model.specs.declared.stream.Stream.{Stream}
@@ -34,27 +34,10 @@ use Rattle.transcript_model.specs.declared.entry.Call.{Call}
 use Rattle.transcript_model.specs.declared.entry.Entry.{Entry}
 use Rattle.transcript_model.specs.declared.entry.Entry.TheVariants as entry
 use Rattle.transcript_model.proofs.LegalPrefixLemmas.{names_of-front, names_of-distinct, asked-later, values_named, AreNamed, named_places}
-use Rattle.transcript_model.proofs.NamedObjectLemmas.{IsNamed, all_joined, passes_all, in_names, with_facts-all, initial_named, fit_stream_at, certified_named}
+use Rattle.transcript_model.proofs.NamedObjectLemmas.{IsNamed, all_joined, passes_all, with_facts-all, initial_named, fit_stream_at, certified_named}
 use Rattle.transcript_model.proofs.NamesLemmas.{and_then_some, map_some, with_names-front, place_at, instance_kept}
 
 -- ---- values
-
-values_same : (a b : Valued) → same_value a b ≡ true → a ≡ b
-values_same a b e =
-    let front = first_so ((a.func == b.func) && same_numbers a.args b.args) (a.value == b.value) e in
-    let value = second_so ((a.func == b.func) && same_numbers a.args b.args) (a.value == b.value) e in
-    let func = first_so (a.func == b.func) (same_numbers a.args b.args) front in
-    let args = second_so (a.func == b.func) (same_numbers a.args b.args) front in
-    λ i. record { func = eqb-true a.func b.func func i; args = (numbers_decided a.args b.args).0 args i; value = eqb-true a.value b.value value i }
-
-value_itself : (a : Valued) → same_value a a ≡ true
-value_itself a = and_from _ _ (and_from _ _ (eq-eqb a.func a.func refl) ((numbers_decided a.args a.args).1 refl)) (eq-eqb a.value a.value refl)
-
-value_decided : (a b : Valued) → Decides (same_value a b) (a ≡ b)
-value_decided a b = (values_same a b, λ e. subst (λ x. same_value a x ≡ true) e (value_itself a))
-
-values_equivalence : IsEquivalence same_value
-values_equivalence = decided same_value value_decided
 
 with_values-distinct : (values more : List Valued) → AreDistinct values → AreDistinct (with_values values more)
 with_values-distinct values [] distinct = distinct
@@ -102,12 +85,6 @@ instance_in task names call i e =
     let inputs = map_some (λ inputs. record { stream = stream.0; inputs = inputs }) (places_of names call.args) i stream.2 in
     subst (λ (x : Instance). All (IsIn names) x.inputs) inputs.2 (places_in names call.args inputs.0 inputs.1)
 
-typed_many : (known : Known) (objects sorts : List ℕ) → have_types known objects sorts ≡ true → length objects ≡ length sorts
-typed_many known [] [] e = refl
-typed_many known [] (s ∷ ss) e = absurd (cc)
-typed_many known (o ∷ os) [] e = absurd (cc)
-typed_many known (o ∷ os) (s ∷ ss) e = ap suc (typed_many known os ss (second_so (has_type known o s) (have_types known os ss) e))
-
 -- ---- requests
 
 call_at : (xs : List Entry) (n : ℕ) (call : Call) → call_of xs n ≡ Some call → (j : ℕ) × (turn : ℕ) × (slice_get xs j ≡ Some (entry.Ask n turn call))
@@ -140,7 +117,7 @@ module _ (version : ℕ) (task : Task) (entries : List Entry) (fit : IsFit task)
       let typed : have_types (known_of task (take at.0 entries)) right.instance.inputs right.due.stream.inputs ≡ true = first_so (have_types (known_of task (take at.0 entries)) right.instance.inputs right.due.stream.inputs) _ right.due.reachable in
       record {
         streamed = streamed.0;
-        many = (λ i. length (sym same i).inputs) ∙ typed_many (known_of task (take at.0 entries)) right.instance.inputs right.due.stream.inputs typed ∙ ap (λ (s : Stream). length s.inputs) same_stream;
+        many = (λ i. length (sym same i).inputs) ∙ have_types-length (known_of task (take at.0 entries)) right.instance.inputs right.due.stream.inputs typed ∙ ap (λ (s : Stream). length s.inputs) same_stream;
         named = subst (λ (x : Instance). All (IsIn (names_of task entries)) x.inputs) streamed.1 (instance_in task (names_of task entries) call.0 whole.0 call.2);
       }
 

@@ -12,10 +12,10 @@ use Rattle.lemmas.proofs.Bools.{or_true}
 use Rattle.lemmas.proofs.Options.{same_some}
 use Rattle.lemmas.proofs.Members.{get_take}
 use Rattle.lemmas.proofs.ListTests.{any_found}
-use Rattle.task_model.proofs.KnownLemmas.{numbers_decided}
+use Rattle.task_model.proofs.StreamsLemmas.{instance_itself}
 use Rattle.task_model.specs.Initial.{declared_names}
 use Rattle.lemmas.specs.Lists.{AreDistinct}
-use Rattle.task_model.specs.Streams.{Note, Yielded, Ended, same_instance, is_yield_of, is_end_of, yields_of, is_finished}
+use Rattle.task_model.specs.Streams.{Note, Yielded, Ended, is_yield_of, is_end_of, yields_of, is_finished}
 use Rattle.task_model.specs.declared.stream.Instance.{Instance}
 use Rattle.task_model.specs.declared.stream.Stream.{Stream}
 use Rattle.task_model.specs.declared.task.Task.{Task}
@@ -55,9 +55,6 @@ joined xs ys x = sym (append_assoc xs (x ∷ []) ys)
 
 -- ---- notes
 
-instance_itself : (i : Instance) → same_instance i i ≡ true
-instance_itself i = rw (eq-eqb i.stream i.stream refl, (numbers_decided i.inputs i.inputs).1 refl) refl
-
 yields_more : (xs ys : List Note) (i : Instance) → yields_of (xs ++ ys) i ≡ yields_of xs i + yields_of ys i
 yields_more xs ys i = sum_by-append (λ n. cond (is_yield_of i n) 1 0) xs ys
 
@@ -87,6 +84,7 @@ module _ (version : ℕ) (task : Task) (distinct : AreDistinct (declared_names t
           let last : list_any (is_end_of a.instance) (Ended a.instance ∷ []) ≡ true = rw (instance_itself a.instance) refl in
           let before_rest : list_any (is_end_of a.instance) (notes_of task before ++ Ended a.instance ∷ []) ≡ true = rw (list_any-append (is_end_of a.instance) (notes_of task before) (Ended a.instance ∷ []), last) (or_true (list_any (is_end_of a.instance) (notes_of task before))) in
           rw (is, list_any-append (is_end_of a.instance) (notes_of task before ++ Ended a.instance ∷ []) rest, before_rest) refl
+
       by_kind : (e : Entry) → MayFollow version task before e → is_answer_to n e ≡ true → (rest : List Note) → notes_of task (before ++ e ∷ later) ≡ notes_with (notes_of task before) a e ++ rest → (told : Bool) × IsTold (notes_of task before) (notes_of task (before ++ e ∷ later)) a.instance told
       by_kind (entry.Got m tuples values) may answers rest whole =
           let more : yields_of (notes_of task (before ++ entry.Got m tuples values ∷ later)) a.instance ≡ yields_of (notes_of task before) a.instance + yields_of (replicate tuples (Yielded a.instance)) a.instance + yields_of rest a.instance =

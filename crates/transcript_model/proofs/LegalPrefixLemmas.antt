@@ -8,10 +8,10 @@ use Rattle.std.specs.Cmp.{first_so}
 use Rattle.std.specs.List.{list_any, flat_map}
 use Rattle.std.specs.Option.{option_and_then, option_or}
 use Rattle.lemmas.proofs.Members.{member_at, place_of as place_in, get_append}
+use Rattle.task_model.proofs.KnownLemmas.{facts_then}
 use Rattle.task_model.specs.Initial.{declared_names, initial_known}
-use Rattle.task_model.specs.Known.{with_fact, with_facts, with_value, with_values}
+use Rattle.task_model.specs.Known.{with_facts, with_value, with_values}
 use Rattle.lemmas.specs.Lists.{AreDistinct}
-use Rattle.task_model.specs.declared.fact.Fact.{Fact}
 use Rattle.task_model.specs.declared.task.Task.{Task}
 use Rattle.task_model.specs.declared.task.Valued.{Valued}
 use Rattle.transcript_model.specs.Laws.{Continues}
@@ -111,10 +111,6 @@ module _ (version : ℕ) (task : Task) where
   answered entries k n e legal at same = let r = answered_before (take k entries) n e (legal_take entries k legal) (legal k e at) same in (r.0, asked-later task entries k n r.0 r.1)
 
 -- ---- facts and values
-
-pub facts_then : (facts first second : List Fact) → with_facts facts (first ++ second) ≡ with_facts (with_facts facts first) second
-facts_then facts [] second = refl
-facts_then facts (f ∷ first) second = facts_then (with_fact facts f) first second
 
 pub values_then : (values first second : List Valued) → with_values values (first ++ second) ≡ with_values (with_values values first) second
 values_then values [] second = refl

@@ -8,3 +8,4 @@ pub mod LegalNumberLemmas
 pub mod NamesLemmas
 pub mod LegalOnceLemmas
 mod Writing
+pub mod RoundsLemmas

@@ -7,6 +7,7 @@ use Rattle.std.specs.Cmp.{first_so, second_so}
 use Rattle.std.specs.List.{list_all, flat_map, slice_index}
 use Rattle.lemmas.proofs.Numbers.{below_in_numbers}
 use Rattle.lemmas.proofs.ListTests.{all_one}
+use Rattle.task_model.proofs.KnownLemmas.{in_names}
 use Rattle.task_model.specs.Fit.{IsFit, is_fit_term, is_fit_application, is_fit_pattern, are_fit_patterns, is_fit_stream, is_fit_worth, is_fit_fact, is_predicate, has_arity, is_derived_role, is_short, are_places, are_static_patterns}
 use Rattle.task_model.specs.Initial.{type_facts, sorts_with, declared_types, declared_names, is_static, initial_facts}
 use Rattle.task_model.specs.Known.{IsIn, type_fact, is_fact, with_fact, with_facts}
@@ -35,11 +36,6 @@ pub passes_all : {A : Type 0} (p : A → Bool) (P : A → Type 0) (xs : List A) 
 passes_all p P xs so e k d lt = so _ (AllPass-from_list_all p xs e k d lt)
 
 -- ---- names
-
-pub in_names : (names : List (List ℕ)) (object : ℕ) → object < length names → IsIn names object
-in_names [] object lt = absurd (omega arith)
-in_names (n ∷ ns) zero lt = refl
-in_names (n ∷ ns) (suc object) lt = let below : object < length ns = omega arith in in_names ns object below
 
 abbrev pub IsNamed : List (List ℕ) → Fact → Type 0
 IsNamed names f = All (IsIn names) f.args
@@ -93,14 +89,14 @@ initial_named names task fit le =
 
 -- ---- what a yield certifies
 
-term_named : (names : List (List ℕ)) (constants : ℕ) (objects : List ℕ) (t : Term) → constants ≤ length names → All (IsIn names) objects → is_fit_term constants (numbers_from 0 (length objects)) t ≡ true → IsIn names (object_of (slots_of objects) t)
+pub term_named : (names : List (List ℕ)) (constants : ℕ) (objects : List ℕ) (t : Term) → constants ≤ length names → All (IsIn names) objects → is_fit_term constants (numbers_from 0 (length objects)) t ≡ true → IsIn names (object_of (slots_of objects) t)
 term_named names constants objects (Slot n) le all e =
     let below : n < length objects = omega (arith, below_in_numbers 0 (length objects) n e) in
     let is : slice_index (slots_of objects) n ≡ get_or objects n 0 = get_or_append_left objects (replicate (16 - length objects) 0) 0 n below in
     subst (IsIn names) (sym is) (all n 0 below)
 term_named names constants objects (Object o) le all e = in_names names o (omega (arith, ltb-true o constants e))
 
-terms_named : (names : List (List ℕ)) (constants : ℕ) (objects : List ℕ) (terms : List Term) → constants ≤ length names → All (IsIn names) objects → list_all (is_fit_term constants (numbers_from 0 (length objects))) terms ≡ true → All (IsIn names) (objects_at (slots_of objects) terms)
+pub terms_named : (names : List (List ℕ)) (constants : ℕ) (objects : List ℕ) (terms : List Term) → constants ≤ length names → All (IsIn names) objects → list_all (is_fit_term constants (numbers_from 0 (length objects))) terms ≡ true → All (IsIn names) (objects_at (slots_of objects) terms)
 terms_named names constants objects terms le all e = All-map (IsIn names) (object_of (slots_of objects)) terms (passes_all (is_fit_term constants (numbers_from 0 (length objects))) (λ t. IsIn names (object_of (slots_of objects) t)) terms (λ t fits. term_named names constants objects t le all fits) e)
 
 output_types_named : (names : List (List ℕ)) (domain : Domain) (sorts objects : List ℕ) → All (IsIn names) objects → All (IsNamed names) (output_types domain sorts objects)

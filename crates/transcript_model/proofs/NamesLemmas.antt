@@ -59,6 +59,7 @@ from_only p i (z ∷ zs) (suc j) x e t only =
       | true ↦ λ here. let no : 0 ≡ suc j = only 0 z refl here in absurd (omega (arith, no))
       | false ↦ λ here. let sum : (i + 1) + j ≡ i + suc j = omega arith in from_only p (i + 1) zs j x e t (λ m y at passes. suc_same m j (only (suc m) y at passes)) ∙ ap Some sum
     ] refl
+
 pub position_kept : {A : Type 0} (p : A → Bool) (xs ys : List A) (k : ℕ) → position p xs ≡ Some k → position p (xs ++ ys) ≡ Some k
 position_kept p xs ys k e = position_from-zero p (xs ++ ys) ∙ from_kept p 0 xs ys k (sym (position_from-zero p xs) ∙ e)
 

@@ -18,6 +18,7 @@ returns-then-id-scene g c =
     let place = grown_place scene.task.now known scene.seeks_goal scene.limit c.args.tree.now.store c.args.tree.now.links.items c.args.from c.args.id grown in
     let open_end : ¬ (ExploringEnds scene.task.now known scene.seeks_goal grown.after) = λ e. absurd (not_both _ ((c.in_ok-ends.ensures grown.after grown.place).1 e) c.if-branch.false) in
     grown_explored scene.task.now known scene.seeks_goal scene.limit c.args.tree.now.store c.args.tree.now.links.items c.args.from c.args.id grown open_end (omega arith)
+
 pub returns-else-id-scene : goal.returns-else-id-scene
 returns-else-id-scene g c =
     let scene = c.args.scene.now in

@@ -23,6 +23,7 @@ loop-next-init g c =
     let open_end : ¬ (ExploringEnds scene.task.now known scene.seeks_goal (initial_state scene.task.now)) = λ e. absurd (not_both _ ((c.in_ok-ends.ensures (initial_state scene.task.now) here).1 e) c.if-branch.false) in
     let start = explored_start scene.task.now known scene.seeks_goal scene.limit c.requires.some open_end in
     subst (λ ss. IsExplored scene.task.now known scene.seeks_goal scene.limit ss tree.links.items 0) (sym c.in_ok-tree.ensures.states) (subst (λ ls. IsExplored scene.task.now known scene.seeks_goal scene.limit (initial_state scene.task.now ∷ []) ls 0) (sym c.in_ok-tree.ensures.links) start)
+
 pub returns : goal.returns
 returns g c =
     let scene = c.args.scene.now in

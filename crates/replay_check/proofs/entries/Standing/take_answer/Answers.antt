@@ -1,14 +1,15 @@
 use Rattle.std.proofs.Common.{◌≡◌, ◌∙◌, ◌↔◌, IsTrue, Some, IfSome, slice_get, take, sym, subst, true, false}
 use Rattle.std.proofs.lemmas.Bool.{false≢true}
+use Rattle.lemmas.proofs.ListTests.{get_some}
 use Rattle.session_core.specs.Learning.{answered_number}
 use Rattle.transcript_model.specs.Legal.{MayFollow}
-use Rattle.replay_check.proofs.WalksLemmas.{answer_out_of_order, answer_refused, answer_taken, entry_formed, entry_there}
+use Rattle.replay_check.proofs.WalksLemmas.{answer_out_of_order, answer_refused, answer_taken, entry_formed}
 use Rattle.replay_check.proofs.entries.Standing.take_answer.Goals as goal
 use Rattle.replay_check.proofs.entries.Standing.take_answer.Goals.{After-may_answer}
 
 module _ (c : After-may_answer) where
   there : slice_get c.args.entries.now c.args.place ≡ Some c.index-entries-place.result
-  there = entry_there c.args.entries.now c.args.place c.index-entries-place.result c.requires.can.within c.index-entries-place.is
+  there = get_some c.args.entries.now c.args.place c.index-entries-place.result c.requires.can.within c.index-entries-place.is
 
   is_number : answered_number c.index-entries-place.result ≡ Some c.args.number
   is_number = subst (λ o. IfSome o (λ e. answered_number e ≡ Some c.args.number)) there c.requires.here

@@ -22,6 +22,7 @@ returns-then-not-is_next c =
     let said = subst (IsAskedBy b.calls b.task.now before c.args.number c.args.turn c.args.call.now) c.in-Some.is (c.in_ok-asked.ensures b.version before can.standing.ledger) in
     ask_out_of_order b c.args.entries.now c.args.place c.args.self.now can c.args.number c.args.turn c.args.call.now c.requires.here c.in-Some.instance said
     (λ next. false≢true (sym c.if-not-is_next.true ∙ c.is_next.ensures.no next))
+
 pub returns : goal.returns
 returns c =
     let b = c.args.bounds.now in
