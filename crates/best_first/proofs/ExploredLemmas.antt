@@ -5,7 +5,7 @@ use Rattle.std.proofs.lemmas.List.Elements.{All-contains, Contains-append_left}
 use Rattle.std.proofs.lemmas.Option.{slice_get_within}
 use Rattle.grounder.specs.Applicable.{AreApplicable}
 use Rattle.task_model.proofs.StepsLemmas.{step_determined}
-use Rattle.lemmas.proofs.Members.{member_at, place_of, push_cases, distinct_push}
+use Rattle.lemmas.proofs.Members.{member_at, place_of, push_cases, distinct_push, get_append, get_pushed}
 use Rattle.task_model.specs.Initial.{initial_state}
 use Rattle.task_model.specs.Known.{Known}
 use Rattle.task_model.specs.Plans.{Executes, IsGoal, IsReached, IsReachedWithin, MoreThan}
@@ -16,7 +16,8 @@ use Rattle.task_model.specs.declared.task.Task.{Task}
 use Rattle.best_first.specs.Explored.{IsLink, IsTree, ExploringEnds, IsExplored, IsGrown, IsMet, IsBeyond}
 use Rattle.best_first.specs.Outcome.{IsAll}
 use Rattle.best_first.specs.declared.tree.Link.{Link}
-use Rattle.lemmas.proofs.Pigeonhole.{one_at, get_append, get_pushed, all_by_place, pigeons}
+use Rattle.lemmas.proofs.Pigeonhole.{pigeons}
+use Rattle.lemmas.proofs.ListTests.{one_there, all_by_place}
 use Rattle.best_first.proofs.ReachedLemmas.{within_more, within_reached, within_none, initially, within_step, within_last}
 
 pub on_ok : {T E P : Type 0} (r : Result T E) → P → OnOk r P
@@ -215,7 +216,7 @@ module _ (task : Task) (known : Known) where
             sought = ends.0;
             tree = tree_now;
             few = omega (arith, many, e.few);
-            goal = λ s at. subst (IsGoal task known) (one_at (g.before ++ g.after ∷ []) (length (g.earlier ++ g.link ∷ [])) g.after s (get_pushed g.before g.after (length (g.earlier ++ g.link ∷ [])) many) at) ends.1;
+            goal = λ s at. subst (IsGoal task known) (one_there (g.before ++ g.after ∷ []) (length (g.earlier ++ g.link ∷ [])) g.after s (get_pushed g.before g.after (length (g.earlier ++ g.link ∷ [])) many) at) ends.1;
             others = λ n s h at is.
                 elim (push_cases g.before g.after n s at) [
                   | inl k ↦ e.none_ends n s k (ends.0, is)
@@ -268,7 +269,7 @@ module _ (task : Task) (known : Known) where
             | inl earlier ↦ subst (λ ss. Contains ss after) (sym grows.1) (Contains-append_left states grows.0 after (is.kept n other after cost earlier found taken))
             | inr now ↦
                 let place : n ≡ count = omega arith in
-                let same : other ≡ step = one_at steps count other step (subst (λ k. slice_get steps k ≡ Some other) place found) at in
+                let same : other ≡ step = one_there steps count other step (subst (λ k. slice_get steps k ≡ Some other) place found) at in
                 let there = step_determined task known state leads.0 after step leads.1 cost leads.2 (subst (λ x. IsStep task known state x after cost) same taken) in
                 subst (Contains new) there.0 leads.3
           ];
@@ -289,7 +290,7 @@ module _ (task : Task) (known : Known) where
                 | inl earlier ↦ e.expanded n s after step cost earlier at taken
                 | inr now ↦
                     let place : n ≡ from = omega arith in
-                    let same : s ≡ state = one_at states from s state (subst (λ k. slice_get states k ≡ Some s) place at) is.here in
+                    let same : s ≡ state = one_there states from s state (subst (λ k. slice_get states k ≡ Some s) place at) is.here in
                     let taken_here = subst (λ b. IsStep task known b step after cost) same taken in
                     let listed = place_of steps step (are.every step (after, cost, taken_here)) in
                     is.kept listed.0 step after cost (omega (arith, slice_get_within steps listed.0 step listed.1, end)) listed.1 taken_here

@@ -2,6 +2,7 @@
 use Rattle.std.proofs.Common.{◌≡◌, ℕ, zero, suc, ◌+◌, ◌<◌, ◌≤◌, inl, inr, Bool, List, [], ◌∷◌, ◌++◌, length, take, reverse, refl, sym, ap, subst, ◌∙◌, arith, Some, slice_get}
 use Rattle.std.proofs.lemmas.Bool.{cases_order}
 use Rattle.std.proofs.lemmas.List.{reverse-append}
+use Rattle.lemmas.proofs.ListTests.{one_there}
 use Rattle.task_model.proofs.StepsLemmas.{step_determined}
 use Rattle.task_model.specs.Initial.{initial_state}
 use Rattle.task_model.specs.Known.{Known}
@@ -14,7 +15,6 @@ use Rattle.best_first.specs.Answer.{IsFoundPlan}
 use Rattle.best_first.specs.Explored.{IsTree, IsMet}
 use Rattle.best_first.specs.Links.{FollowsLink}
 use Rattle.best_first.specs.declared.tree.Link.{Link}
-use Rattle.lemmas.proofs.Pigeonhole.{one_at}
 
 -- a way is longer by the step before it
 pub follows_back : (links : List Link) (n : ℕ) (link : Link) (step : GroundAction) (steps before : List GroundAction) (to total : ℕ) → slice_get links n ≡ Some link → step ≡ link.step → before ≡ steps ++ step ∷ [] → FollowsLink links (n + 1) (reverse steps) to total → FollowsLink links link.parent (reverse before) to (total + link.cost)
@@ -35,7 +35,7 @@ module _ (task : Task) (known : Known) (states : List Atoms) (links : List Link)
   first_step from before step n link here at parent is =
       let l = tree.each n link at in
       let earlier : link.parent ≤ n = tree.earlier.earlier n link at in
-      let same : l.before ≡ before = one_at states from l.before before (subst (λ k. slice_get states k ≡ Some l.before) parent l.from) here in
+      let same : l.before ≡ before = one_there states from l.before before (subst (λ k. slice_get states k ≡ Some l.before) parent l.from) here in
       let taken : IsStep task known before link.step l.after link.cost = subst (λ b. IsStep task known b link.step l.after link.cost) same l.step in
       record { after = l.after; later = omega arith; to = l.to; is = subst (λ x. IsStep task known before x l.after link.cost) is taken }
 

@@ -1,55 +1,31 @@
 -- What streams of fit tasks name.
-use Rattle.std.proofs.Common.{◌≡◌, ℕ, zero, suc, ◌+◌, ◌-◌, ◌<◌, ◌≤◌, arith, Bool, true, false, ◌&&◌, ◌||◌, ◌==◌, List, [], ◌∷◌, ◌++◌, map, length, get_or, refl, sym, subst, ap, ◌∙◌, All, nat_lt, nat_le, eqb-true, ltb-true, slice_index, replicate, Some}
+use Rattle.std.proofs.Common.{◌≡◌, ℕ, zero, suc, ◌+◌, ◌-◌, ◌<◌, ◌≤◌, arith, Bool, true, ◌&&◌, List, [], ◌∷◌, ◌++◌, map, length, get_or, refl, sym, subst, ap, ◌∙◌, All, nat_lt, nat_le, slice_index, Some}
 use Rattle.std.proofs.lemmas.Bool.{leb-true}
 use Rattle.std.proofs.lemmas.List.{length-append}
 use Rattle.std.proofs.lemmas.List.Elements.{All-append}
 use Rattle.std.specs.Cmp.{first_so, second_so}
-use Rattle.std.specs.List.{list_any, list_all}
+use Rattle.std.specs.List.{list_all}
 use Rattle.formula_eval.proofs.ReadableLemmas.{few_slots, few_arguments, readable_terms}
 use Rattle.formula_eval.specs.Readable.{is_readable_term}
-use Rattle.task_model.specs.Fit.{IsFitDomain, is_fit_stream, is_fit_pattern, are_fit_patterns, is_fit_application, is_fit_term, has_arity, is_short, are_places, are_static_patterns, is_fit_worth}
+use Rattle.task_model.specs.Fit.{IsFitDomain, is_fit_stream, is_fit_pattern, are_fit_patterns, is_fit_application, has_arity, is_short, are_places, are_static_patterns, is_fit_worth}
 use Rattle.task_model.specs.Known.{IsIn}
 use Rattle.lemmas.specs.Lists.{numbers_from}
 use Rattle.task_model.specs.Streams.{is_empty}
-use Rattle.task_model.specs.Truth.{slots_of, object_of, objects_at}
+use Rattle.task_model.specs.Truth.{slots_of, objects_at}
 use Rattle.task_model.specs.declared.condition.Term.{Term}
-use Rattle.task_model.specs.declared.condition.Term.TheVariants.{Slot, Object}
 use Rattle.task_model.specs.declared.domain.Domain.{Domain}
 use Rattle.task_model.specs.declared.domain.Pattern.{Pattern}
 use Rattle.task_model.specs.declared.domain.Signature.{Signature}
 use Rattle.task_model.specs.declared.stream.Stream.{Stream}
 use Rattle.task_model.specs.declared.stream.Worth.{Worth}
+use Rattle.transcript_model.proofs.NamedObjectLemmas.{terms_named}
 
 -- ---- slots and constants
-
-number_below : (first n k : ℕ) → list_any (λ slot. slot == k) (numbers_from first n) ≡ true → k < first + n
-number_below first zero k e = absurd (cc)
-number_below first (suc n) k e =
-    elim (first == k) as (λ b. (first == k) ≡ b → (b || list_any (λ slot. slot == k) (numbers_from (first + 1) n)) ≡ true → k < first + suc n) [
-      | true ↦ λ same _. omega (arith, eqb-true first k same)
-      | false ↦ λ _ rest. omega (arith, number_below (first + 1) n k rest)
-    ] refl e
 
 in_front : (args more : List ℕ) (k : ℕ) → k < length args → slice_index (args ++ more) k ≡ get_or args k 0
 in_front [] more k lt = absurd (omega arith)
 in_front (a ∷ rest) more zero lt = refl
 in_front (a ∷ rest) more (suc k) lt = in_front rest more k (omega arith)
-
-in_names : (names : List (List ℕ)) (object : ℕ) → object < length names → IsIn names object
-in_names [] object lt = absurd (omega arith)
-in_names (n ∷ ns) zero lt = refl
-in_names (n ∷ ns) (suc object) lt = in_names ns object (omega arith)
-
-term_named : (names : List (List ℕ)) (constants : ℕ) (args : List ℕ) (term : Term) → constants ≤ length names → All (IsIn names) args → is_fit_term constants (numbers_from 0 (length args)) term ≡ true → IsIn names (object_of (slots_of args) term)
-term_named names constants args (Slot n) few all e =
-    let below : n < length args = omega (arith, number_below 0 (length args) n e) in
-    subst (IsIn names) (sym (in_front args (replicate (16 - length args) 0) n below)) (all n 0 below)
-term_named names constants args (Object o) few all e = in_names names o (omega (arith, ltb-true o constants e))
-
-pub terms_named : (names : List (List ℕ)) (constants : ℕ) (args : List ℕ) (terms : List Term) → constants ≤ length names → All (IsIn names) args → list_all (is_fit_term constants (numbers_from 0 (length args))) terms ≡ true → All (IsIn names) (objects_at (slots_of args) terms)
-terms_named names constants args [] few all e k d lt = absurd (omega arith)
-terms_named names constants args (t ∷ ts) few all e zero d lt = term_named names constants args t few all (first_so (is_fit_term constants (numbers_from 0 (length args)) t) _ e)
-terms_named names constants args (t ∷ ts) few all e (suc k) d lt = terms_named names constants args ts few all (second_so (is_fit_term constants (numbers_from 0 (length args)) t) _ e) k d (omega arith)
 
 -- ---- applications
 
@@ -115,9 +91,6 @@ fit_parts domain s e =
       worth = second_so (a && b && c && d && f && g && h && i) j e;
     }
 
-all_of : {A : Type 0} (P : A → Type 0) (xs ys : List A) → All P xs → All P ys → All P (xs ++ ys)
-all_of P xs ys all more = All-append P xs ys all more
-
 -- the certified atoms of a fit stream, where inputs and outputs have names
 module _ (domain : Domain) (fit : IsFitDomain domain) (names : List (List ℕ)) (constants : length domain.constants ≤ length names) (s : Stream) (parts : HasFitParts domain s) (inputs outputs : List ℕ) (some : length inputs ≡ length s.inputs) (others : length outputs ≡ length s.outputs) where
   pub few_args : length (inputs ++ outputs) ≤ 16
@@ -126,7 +99,7 @@ module _ (domain : Domain) (fit : IsFitDomain domain) (names : List (List ℕ)) 
   pub plain_certified : All (IsIn names) inputs → All (IsIn names) outputs → ArePlain names (inputs ++ outputs) s.certified
   plain_certified first second =
       let long : length (inputs ++ outputs) ≡ length s.inputs + length s.outputs = omega (arith, length-append inputs outputs) in
-      plain_patterns domain fit names constants (inputs ++ outputs) few_args (all_of (IsIn names) inputs outputs first second) s.certified
+      plain_patterns domain fit names constants (inputs ++ outputs) few_args (All-append (IsIn names) inputs outputs first second) s.certified
       (subst (λ n. list_all (is_fit_pattern domain (length domain.constants) (numbers_from 0 n)) s.certified ≡ true) (sym long) parts.certified)
 
 -- the term of a fit cost stream

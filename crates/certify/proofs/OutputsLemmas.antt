@@ -1,7 +1,6 @@
 -- Names and facts, put behind others one after another.
-use Rattle.std.proofs.Common.{◌≡◌, ℕ, zero, suc, ◌+◌, ◌-◌, ◌<◌, ◌≤◌, arith, Bool, true, false, cond, List, [], ◌∷◌, ◌++◌, map, drop, take, length, get_or, refl, sym, subst, ap, ◌∙◌, add-one, Some, slice_get, All}
-use Rattle.std.proofs.Math.Seq.{drop-cons}
-use Rattle.std.proofs.lemmas.List.{map-append, append-nil, length-append}
+use Rattle.std.proofs.Common.{◌≡◌, ℕ, zero, suc, ◌+◌, ◌-◌, ◌<◌, ◌≤◌, arith, Bool, true, false, cond, List, [], ◌∷◌, ◌++◌, map, drop, take, length, get_or, refl, sym, subst, ap, ◌∙◌, Some, slice_get, All}
+use Rattle.std.proofs.lemmas.List.{map-append, append-nil, length-append, drop_more}
 use Rattle.std.specs.List.{list_any, flat_map}
 use Rattle.fact_store.proofs.StoreLemmas.{in_more}
 use Rattle.task_model.specs.Initial.{type_facts}
@@ -11,25 +10,19 @@ use Rattle.task_model.specs.declared.domain.Domain.{Domain}
 use Rattle.task_model.specs.declared.fact.Fact.{Fact}
 use Rattle.certify.specs.Outputs.{AreNamed}
 use Rattle.transcript_model.specs.Names.{generated, with_names}
+use Rattle.lemmas.proofs.Members.{get_append}
+use Rattle.task_model.proofs.KnownLemmas.{facts_then}
 
 -- ---- lists
 
-pub left : {A : Type 0} (xs : List A) (i : ℕ) (d : A) → i < length xs → drop i xs ≡ get_or xs i d ∷ drop (i + 1) xs
-left xs i d lt = drop-cons xs i d lt ∙ (λ j. get_or xs i d ∷ drop (sym (add-one i) j) xs)
-
 -- ---- names
-
-stays_left : {A : Type 0} (xs ys : List A) (k : ℕ) (x : A) → slice_get xs k ≡ Some x → slice_get (xs ++ ys) k ≡ Some x
-stays_left [] ys k x e = absurd (cc)
-stays_left (z ∷ zs) ys zero x e = e
-stays_left (z ∷ zs) ys (suc k) x e = stays_left zs ys k x e
 
 -- a name keeps its place
 pub place_kept : (names : List (List ℕ)) (name : List ℕ) (k : ℕ) (x : List ℕ) → slice_get names k ≡ Some x → slice_get (with_name names name) k ≡ Some x
 place_kept names name k x e =
     elim (list_any (same_numbers name) names) as (λ b. slice_get (cond b names (names ++ name ∷ [])) k ≡ Some x) [
       | true ↦ e
-      | false ↦ stays_left names (name ∷ []) k x e
+      | false ↦ get_append names (name ∷ []) k x e
     ]
 
 in_kept : (names : List (List ℕ)) (name : List ℕ) (object : ℕ) → IsIn names object → IsIn (with_name names name) object
@@ -65,7 +58,7 @@ names_grow names [] = omega arith
 names_grow names (name ∷ more) = omega (arith, at_least names name, names_grow (with_name names name) more)
 
 pub names_more : (names : List (List ℕ)) (values : List (List ℕ)) (i : ℕ) (value : List ℕ) → i < length values → value ≡ get_or values i value → with_names (with_name names (generated value)) (map generated (drop (i + 1) values)) ≡ with_names names (map generated (drop i values))
-names_more names values i value lt is = ap (λ vs. with_names names (map generated vs)) (sym (left values i value lt ∙ ap (λ v. v ∷ drop (i + 1) values) (sym is)))
+names_more names values i value lt is = ap (λ vs. with_names names (map generated vs)) (sym (drop_more values i value lt ∙ ap (λ v. v ∷ drop (i + 1) values) (sym is)))
 
 -- ---- objects with their values' names
 
@@ -102,19 +95,15 @@ named_long names (o ∷ os) (v ∷ vs) e =
 
 -- ---- facts
 
-pub facts_then : (facts first second : List Fact) → with_facts facts (first ++ second) ≡ with_facts (with_facts facts first) second
-facts_then facts [] second = refl
-facts_then facts (f ∷ first) second = facts_then (with_fact facts f) first second
-
 pub types_more : (domain : Domain) (sorts objects : List ℕ) (i object : ℕ) (facts new : List Fact) → i < length sorts → length objects ≡ length sorts → object ≡ get_or objects i object → new ≡ with_facts facts (type_facts domain (get_or sorts i 0) object) → with_facts new (output_types domain (drop (i + 1) sorts) (drop (i + 1) objects)) ≡ with_facts facts (output_types domain (drop i sorts) (drop i objects))
 types_more domain sorts objects i object facts new lt long o grown =
     let below : i < length objects = omega arith in
-    let first : drop i sorts ≡ get_or sorts i 0 ∷ drop (i + 1) sorts = left sorts i 0 lt in
-    let second : drop i objects ≡ object ∷ drop (i + 1) objects = left objects i object below ∙ ap (λ x. x ∷ drop (i + 1) objects) (sym o) in
+    let first : drop i sorts ≡ get_or sorts i 0 ∷ drop (i + 1) sorts = drop_more sorts i 0 lt in
+    let second : drop i objects ≡ object ∷ drop (i + 1) objects = drop_more objects i object below ∙ ap (λ x. x ∷ drop (i + 1) objects) (sym o) in
     ap (λ fs. with_facts fs (output_types domain (drop (i + 1) sorts) (drop (i + 1) objects))) grown
     ∙ sym (facts_then facts (type_facts domain (get_or sorts i 0) object) (output_types domain (drop (i + 1) sorts) (drop (i + 1) objects)))
     ∙ (λ j. with_facts facts (output_types domain (sym first j) (sym second j)))
 
 pub atoms_more : {A : Type 0} (f : A → Fact) (xs : List A) (i : ℕ) (x : A) (facts new : List Fact) → i < length xs → x ≡ get_or xs i x → new ≡ with_fact facts (f x) → with_facts new (map f (drop (i + 1) xs)) ≡ with_facts facts (map f (drop i xs))
 atoms_more f xs i x facts new lt is grown =
-    ap (λ fs. with_facts fs (map f (drop (i + 1) xs))) grown ∙ ap (λ ys. with_facts facts (map f ys)) (sym (left xs i x lt ∙ ap (λ y. y ∷ drop (i + 1) xs) (sym is)))
+    ap (λ fs. with_facts fs (map f (drop (i + 1) xs))) grown ∙ ap (λ ys. with_facts facts (map f ys)) (sym (drop_more xs i x lt ∙ ap (λ y. y ∷ drop (i + 1) xs) (sym is)))

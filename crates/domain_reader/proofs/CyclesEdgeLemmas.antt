@@ -1,8 +1,8 @@
 -- Types and what they are under, gone through from the front.
-use Rattle.std.proofs.Common.{◌≡◌, ℕ, zero, suc, ◌+◌, ◌<◌, ◌≤◌, List, [], ◌∷◌, ◌++◌, length, drop, refl, sym, ap, subst, ◌∙◌, append_assoc, drop-cons, arith}
-use Rattle.std.proofs.lemmas.List.{drop_all}
-use Rattle.std.proofs.lemmas.Option.{unwrap_or-slice_get}
+use Rattle.std.proofs.Common.{◌≡◌, ℕ, zero, suc, ◌+◌, ◌<◌, ◌≤◌, List, [], ◌∷◌, ◌++◌, length, drop, refl, sym, ap, subst, ◌∙◌, append_assoc, arith}
+use Rattle.std.proofs.lemmas.List.{drop_all, append-nil}
 use Rattle.task_model.specs.declared.domain.Sort as sort
+use Rattle.name_tables.proofs.DeclarationsLemmas.{name_step}
 use Rattle.name_tables.specs.Names.{name_at}
 use Rattle.domain_reader.specs.Cycles.{AreSorts, no_sorts, more_sorts, IsAbove, first_edge, first_edges, no_edges, under_object}
 
@@ -17,11 +17,6 @@ from_next k ns = let one : k + 1 ≡ suc k = omega arith in ap (λ m. edges_from
 from_step : (k : ℕ) (n : List ℕ) (ns : List (List ℕ)) → edges_from k (n ∷ ns) ≡ first_edge k ∷ edges_from (k + 1) ns
 from_step zero n ns = refl
 from_step (suc k) n ns = ap (λ es. (0 ∷ []) ∷ es) (sym (from_next (suc k) ns))
-
-name_step : (ns : List (List ℕ)) (i : ℕ) → i < length ns → drop i ns ≡ name_at ns i ∷ drop (i + 1) ns
-name_step ns i lt =
-    let one : i + 1 ≡ suc i = omega arith in
-    drop-cons ns i [] lt ∙ ap (λ y. y ∷ drop (suc i) ns) (sym (unwrap_or-slice_get ns i [])) ∙ ap (λ n. name_at ns i ∷ drop n ns) (sym one)
 
 pub edges_more : (ns edges new : List (List ℕ)) (k : ℕ) (own : List ℕ) → first_edges ns ≡ edges ++ edges_from k (drop k ns) → k < length ns → own ≡ first_edge k → new ≡ edges ++ own ∷ [] → first_edges ns ≡ new ++ edges_from (k + 1) (drop (k + 1) ns)
 edges_more ns edges new k own so_far lt is pushed =
@@ -46,10 +41,6 @@ sorts_more edges names list new k name above so_far lt is up pushed =
     let whole : list ++ record { name = name; above = above } ∷ rest ≡ new ++ rest = sym (append_assoc list (record { name = name; above = above } ∷ []) rest) ∙ ap (λ xs. xs ++ rest) (sym pushed) in
     subst (AreSorts edges 0 names) whole (so_far (record { name = name; above = above } ∷ rest) (subst (λ ns. AreSorts edges k ns (record { name = name; above = above } ∷ rest)) (sym front) (more_sorts up r)))
 
-append_none : {A : Type 0} (xs : List A) → xs ++ [] ≡ xs
-append_none [] = refl
-append_none (x ∷ xs) = ap (λ ys. x ∷ ys) (append_none xs)
-
 pub sorts_all : (edges names : List (List ℕ)) (list : List sort.Sort) (k : ℕ) → Before edges names k list → length names ≤ k → AreSorts edges 0 names list
 sorts_all edges names list k so_far le =
-    subst (AreSorts edges 0 names) (append_none list) (so_far [] (subst (λ ns. AreSorts edges k ns []) (sym (drop_all k names le)) no_sorts))
+    subst (AreSorts edges 0 names) (append-nil list) (so_far [] (subst (λ ns. AreSorts edges k ns []) (sym (drop_all k names le)) no_sorts))

@@ -1,20 +1,16 @@
 -- What is answered of lists of faults side by side.
-use Rattle.std.proofs.Common.{◌≡◌, List, [], ◌++◌, refl, sym, subst, ap, ◌∙◌, Option, Some, None}
+use Rattle.std.proofs.Common.{◌≡◌, ◌++◌, refl, sym, subst, ap, ◌∙◌, Option, Some, None}
 use Rattle.sexpr_text.specs.Trees.{Trees}
 use Rattle.form_reader.specs.declared.fault.Fault.{Fault}
-use Rattle.form_reader.specs.Faults.{Answers, first, least_fault}
+use Rattle.form_reader.specs.Faults.{first, least_fault}
 use Rattle.form_reader.proofs.FaultsFirstLemmas.{first_append}
-use Rattle.form_reader.proofs.FaultsLeastLemmas.{least_answers}
+use Rattle.form_reader.proofs.FaultsLeastLemmas.{none_is_none}
 use Rattle.name_tables.specs.declared.vocabulary.Vocabulary.{Vocabulary}
 use Rattle.form_reader.specs.declared.items.TextKind.TheVariants.{Domain as Domain'}
 use Rattle.form_reader.specs.Texts.{form_faults}
 use Rattle.task_model.specs.declared.domain.Domain.{Domain}
 use Rattle.domain_reader.specs.Domains.{AnswersDerived, AnswersNames, AnswersTypes, AreNameFaults, IsDomainAnswered, IsDomainBy, IsDomainRead, domain_names, of_names, plain_names}
 use Rattle.domain_reader.specs.Tables.{body_of, vocabulary_of}
-
--- no fault is answered only where there is none
-pub none_is_none : (fs : List Fault) → least_fault fs ≡ None → fs ≡ []
-none_is_none fs e = subst (Answers fs) e (least_answers fs)
 
 pub all_names : (v : Vocabulary) (body : Trees) (plain types answered : Option Fault) → plain ≡ least_fault (plain_names v body) → AnswersTypes v body plain types → AnswersDerived v body types answered → AnswersNames v body answered
 all_names v body plain types answered e t d =

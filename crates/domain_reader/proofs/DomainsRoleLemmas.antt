@@ -1,5 +1,6 @@
 -- Roles of predicates.
 use Rattle.std.proofs.Common.{◌≡◌, ℕ, suc, ◌+◌, ◌-◌, ◌<◌, ◌≤◌, Bool, true, false, ◌||◌, ◌==◌, List, [], ◌∷◌, ◌++◌, length, map, refl, sym, ap, ◌∙◌, append_assoc, arith}
+use Rattle.std.proofs.lemmas.List.{append-nil}
 use Rattle.lemmas.specs.Lists.{numbers_from}
 use Rattle.task_model.specs.Roles.{role_of}
 use Rattle.task_model.specs.declared.domain.Domain.{Domain}
@@ -21,11 +22,7 @@ roles_more d list new k role so_far lt is pushed =
     let rest : List Role = map (role_of d) (numbers_from (k + 1) (length d.predicates - (k + 1))) in
     so_far ∙ ap (λ n. list ++ map (role_of d) (numbers_from k n)) less ∙ ap (λ r. list ++ r ∷ rest) (sym is) ∙ sym (append_assoc list (role ∷ []) rest) ∙ ap (λ xs. xs ++ rest) (sym pushed)
 
-append_none : {A : Type 0} (xs : List A) → xs ++ [] ≡ xs
-append_none [] = refl
-append_none (x ∷ xs) = ap (λ ys. x ∷ ys) (append_none xs)
-
 pub roles_all : (d : Domain) (list : List Role) (k : ℕ) → roles_of d ≡ list ++ map (role_of d) (numbers_from k (length d.predicates - k)) → length d.predicates ≤ k → list ≡ roles_of d
 roles_all d list k so_far le =
     let none : length d.predicates - k ≡ 0 = omega arith in
-    sym (so_far ∙ ap (λ n. list ++ map (role_of d) (numbers_from k n)) none ∙ append_none list)
+    sym (so_far ∙ ap (λ n. list ++ map (role_of d) (numbers_from k n)) none ∙ append-nil list)

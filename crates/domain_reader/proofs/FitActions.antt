@@ -4,12 +4,14 @@ use Rattle.std.specs.List.{list_all}
 use Rattle.std.specs.Str.{bytes_eq}
 use Rattle.std.proofs.lemmas.Bool.{and_from, not-true, or_cases}
 use Rattle.sexpr_text.specs.Trees.{Trees, nothing, word, list, depth, size}
-use Rattle.lemmas.proofs.Members.{distinct_nil}
+use Rattle.lemmas.proofs.Members.{distinct_nil, append_nil_first, append_nil_second}
+use Rattle.lemmas.proofs.ListTests.{all_append}
 use Rattle.task_model.specs.Fit.{AreNames, are_fit_effects, are_fit_params, are_places, is_fit_action, is_fit_condition, is_fit_pattern, is_name, is_short}
 use Rattle.lemmas.specs.Lists.{AreDistinct, numbers_from}
 use Rattle.task_model.specs.declared.domain.Action.{Action}
 use Rattle.task_model.specs.declared.domain.Domain as domain
 use Rattle.task_model.specs.declared.domain.Pattern.{Pattern}
+use Rattle.form_reader.proofs.RowsLemmas.{tail_small, inner_small, tail_shallow}
 use Rattle.form_reader.specs.declared.fault.Fault.{Fault}
 use Rattle.form_reader.specs.declared.fault.InputKind.TheVariants.{Duplicate}
 use Rattle.form_reader.specs.declared.groups.Spot.TheVariants.{Start}
@@ -29,12 +31,11 @@ use Rattle.name_tables.specs.declared.vocabulary.Vocabulary.{Vocabulary}
 use Rattle.name_tables.proofs.FitConditions.{condition_fits}
 use Rattle.name_tables.proofs.FitGroups.{few_places, scope_bound, sorts_as_long}
 use Rattle.name_tables.proofs.FitTerms.{AreFilled, Knows, filled_first}
-use Rattle.name_tables.proofs.Members.{all_append}
-use Rattle.name_tables.proofs.NoFaultLemmas.{chosen, met, none_first, none_second, some_fault}
-use Rattle.name_tables.proofs.NamesLemmas.{name_there, same_name}
-use Rattle.domain_reader.proofs.FitItems.{AreClean, IsClean, inner_shallow, inner_small, tail_shallow, tail_small}
+use Rattle.name_tables.proofs.NoFaultLemmas.{chosen, met, some_fault}
+use Rattle.name_tables.proofs.NamesLemmas.{name_there, same_name, has_with}
+use Rattle.domain_reader.proofs.FitItems.{AreClean, IsClean, inner_shallow}
 use Rattle.domain_reader.proofs.FitEffects.{ArePlain, IsDone, effect_done, is_free}
-use Rattle.domain_reader.proofs.FitNames.{gets_with, known_with}
+use Rattle.domain_reader.proofs.FitNames.{known_with}
 use Rattle.domain_reader.specs.Domains.{action_of, actions_of, done_by, nothing_done}
 use Rattle.domain_reader.specs.Names.{action_names, is_action, keys_names, once, parameters_of, repeated_names, second_actions, seen_once, value_at, value_names}
 
@@ -67,14 +68,14 @@ module _ (v : Vocabulary) (heads scope : List (List ℕ)) (name : List ℕ) (k :
   key_value place before (word text at (list items there rest)) f n =
       let own = key_of keyed.Action text in
       let valued : value_faults own there items ++ keys_faults keyed.Action place rest ≡ [] = behind_key own at (λ j. valued_faults keyed.Action place j (list items there rest)) f in
-      let more = key_value place own rest (none_second (value_faults own there items) (keys_faults keyed.Action place rest) valued) (none_second (value_names v heads scope own there items) (keys_names v heads scope own rest) n) in
+      let more = key_value place own rest (append_nil_second (value_faults own there items) (keys_faults keyed.Action place rest) valued) (append_nil_second (value_names v heads scope own there items) (keys_names v heads scope own rest) n) in
       elim (bytes_eq text name) as (λ b. bytes_eq text name ≡ b → IsValue v heads scope k (if b then items else value_at name rest)) [
         | true ↦ λ e.
             let same : own ≡ k = ap (key_of keyed.Action) (same_name text name e) ∙ known in
             record {
               place = there;
-              formed = subst (λ j. value_faults j there items ≡ []) same (none_first (value_faults own there items) (keys_faults keyed.Action place rest) valued);
-              named = subst (λ j. value_names v heads scope j there items ≡ []) same (none_first (value_names v heads scope own there items) (keys_names v heads scope own rest) n);
+              formed = subst (λ j. value_faults j there items ≡ []) same (append_nil_first (value_faults own there items) (keys_faults keyed.Action place rest) valued);
+              named = subst (λ j. value_names v heads scope j there items ≡ []) same (append_nil_first (value_names v heads scope own there items) (keys_names v heads scope own rest) n);
             }
         | false ↦ λ _. more
       ] refl
@@ -111,7 +112,7 @@ action_by v heads place nothing f n = absurd (some_fault (shape place) [] f)
 action_by v heads place (list items at rest) f n = absurd (some_fault (shape at) [] f)
 action_by v heads place (word text at rest) f n =
     let parts = chosen (is_name text) (keys_faults keyed.Action place rest) (shape at) [] f in
-    record { named = parts.0; place = place; keys_formed = parts.1; keys_named = none_second (repeated_names [] rest) (keys_names v heads (named_words Start (parameters_of rest)) key.NoKey rest) n }
+    record { named = parts.0; place = place; keys_formed = parts.1; keys_named = append_nil_second (repeated_names [] rest) (keys_names v heads (named_words Start (parameters_of rest)) key.NoKey rest) n }
 
 clean_action : (v : Vocabulary) (heads : List (List ℕ)) (it : Item) (rest : Trees) → is_action it ≡ true → IsClean v heads it rest → IsAction v heads rest
 clean_action v heads item.Action rest e c = action_by v heads c.place rest c.formed c.named
@@ -148,9 +149,9 @@ module _ (v : Vocabulary) (d : domain.Domain) (knows : Knows v d (length d.const
       let doubles = doubles_names [] Start vars in
       let counts = scope_names 0 Start vars in
       let long : length params ≡ length scope = sorts_as_long v.sorts vars in
-      let few : length scope ≤ 16 = omega (arith, scope_bound 0 Start vars (omega arith) (none_second (types ++ doubles) counts given.named)) in
+      let few : length scope ≤ 16 = omega (arith, scope_bound 0 Start vars (omega arith) (append_nil_second (types ++ doubles) counts given.named)) in
       let places : are_places (length d.sorts) params ≡ true =
-      subst (λ n. are_places n params ≡ true) (sym knows.sorts) (few_places v.sorts knows.typed vars (omega (arith, few)) (none_first types doubles (none_first (types ++ doubles) counts given.named))) in
+      subst (λ n. are_places n params ≡ true) (sym knows.sorts) (few_places v.sorts knows.typed vars (omega (arith, few)) (append_nil_first types doubles (append_nil_first (types ++ doubles) counts given.named))) in
       let slots : AreFilled filled (length scope) = subst (AreFilled filled) long (filled_first (length params)) in
       let condition = value_at (codes ":precondition") keys in
       let effect = value_at (codes ":effect") keys in
@@ -214,7 +215,7 @@ new_first seen n ns one fresh new = record {
     | inl e ↦ let there : has_name n seen ≡ true = subst (λ w. has_name w seen ≡ true) (same_name m n e) h in let clash : true ≡ false = sym there ∙ fresh in cc
     | inr e ↦ new.absent m (known_with seen n m h) e
   ];
-  distinct = distinct_first n ns (λ h. new.absent n (gets_with seen n) h) new.distinct;
+  distinct = distinct_first n ns (λ h. new.absent n (has_with seen n) h) new.distinct;
 }
 
 new_names : (v : Vocabulary) (heads seen : List (List ℕ)) (body : Trees) → AreClean v heads body → second_actions seen body ≡ [] → AreNew seen (names (actions_of v body))
@@ -226,8 +227,8 @@ new_names v heads seen (list items at rest) c n =
     elim (is_action it) as (λ b. is_action it ≡ b → once b name at seen ++ second_actions (seen_once b name seen) rest ≡ [] → AreNew seen (names ((if b then action_of v (tail_of items) ∷ [] else []) ++ actions_of v rest))) [
       | true ↦ λ e m.
           let own = once true name at seen in
-          let fresh : has_name name seen ≡ false = not-true (has_name name seen) (met (not (has_name name seen)) Duplicate at (none_first own (second_actions (with_name seen name) rest) m)) in
-          new_first seen name (names (actions_of v rest)) (clean_action v heads it (tail_of items) e c.0).named fresh (new_names v heads (with_name seen name) rest c.1 (none_second own (second_actions (with_name seen name) rest) m))
+          let fresh : has_name name seen ≡ false = not-true (has_name name seen) (met (not (has_name name seen)) Duplicate at (append_nil_first own (second_actions (with_name seen name) rest) m)) in
+          new_first seen name (names (actions_of v rest)) (clean_action v heads it (tail_of items) e c.0).named fresh (new_names v heads (with_name seen name) rest c.1 (append_nil_second own (second_actions (with_name seen name) rest) m))
       | false ↦ λ e m. new_names v heads seen rest c.1 m
     ] refl n
 

@@ -1,8 +1,10 @@
 -- No derived predicate of a domain without faults rests on itself.
-use Rattle.std.proofs.Common.{◌≡◌, ℕ, zero, suc, ◌<◌, Bool, true, false, ◌&&◌, ◌==◌, if◌then◌else◌, List, [], ◌∷◌, ◌++◌, length, refl, sym, ap, ◌∙◌, subst, arith, ◌⊎◌, inl, inr, Option, Some, None, slice_get, unwrap_or, eqb-true, eq-eqb}
+use Rattle.std.proofs.Common.{◌≡◌, ℕ, suc, ◌<◌, Bool, true, false, ◌&&◌, ◌==◌, if◌then◌else◌, List, [], ◌∷◌, ◌++◌, length, refl, sym, ap, ◌∙◌, subst, arith, ◌⊎◌, inl, inr, Option, Some, None, unwrap_or, eqb-true, eq-eqb}
 use Rattle.std.specs.Cmp.{first_so, second_so}
 use Rattle.std.specs.List.{list_any}
 use Rattle.std.proofs.lemmas.Bool.{or_cases, or_left}
+use Rattle.lemmas.proofs.Members.{append_nil_first, append_nil_second}
+use Rattle.lemmas.proofs.ListTests.{any_append_right}
 use Rattle.sexpr_text.specs.Trees.{Trees, nothing, word, list}
 use Rattle.task_model.specs.Condition.{Condition, Conditions, Atom, All as every, Any, Not}
 use Rattle.task_model.specs.Fit.{any_mentions, depends, mentions}
@@ -21,16 +23,13 @@ use Rattle.form_reader.specs.Items.{item_of}
 use Rattle.form_reader.specs.Rows.{head_of, inner_of, tail_of}
 use Rattle.form_reader.specs.Words.{condition_head_of}
 use Rattle.name_tables.specs.Conditions.{condition_by, condition_names, condition_of, conditions_names, conditions_of, equal_of, exists_names, exists_of, single_of, truth}
-use Rattle.name_tables.specs.Declarations.{number_put}
 use Rattle.name_tables.specs.Graphs.{leads}
 use Rattle.name_tables.specs.Names.{place_of}
 use Rattle.name_tables.specs.Terms.{application_names, declared_place, terms_names, terms_of, use_names, width}
 use Rattle.name_tables.specs.Variables.{named_words, variables_names}
 use Rattle.name_tables.specs.Vocabulary.{arity_of}
 use Rattle.name_tables.specs.declared.vocabulary.Vocabulary.{Vocabulary}
-use Rattle.name_tables.proofs.FitDeclared.{put_behind}
-use Rattle.name_tables.proofs.Members.{any_append_right}
-use Rattle.name_tables.proofs.NoFaultLemmas.{none_first, none_second}
+use Rattle.name_tables.proofs.FitDeclared.{put_long}
 use Rattle.name_tables.proofs.NamesLemmas.{place_within}
 use Rattle.domain_reader.proofs.FitItems.{AreClean, IsClean}
 use Rattle.domain_reader.proofs.FitEdges.{is_candidate, none_cyclic, put_gets, put_keeps}
@@ -39,11 +38,6 @@ use Rattle.domain_reader.specs.Cycles.{CycleFaults, bodies_in, body_put, derived
 use Rattle.domain_reader.specs.Domains.{rule_of, rules_of}
 use Rattle.domain_reader.specs.Tables.{headed, is_derived}
 use Rattle.domain_reader.specs.declared.cycles.Candidate.{Candidate}
-
-put_long : (lists : List (List ℕ)) (place n : ℕ) → length (number_put lists place n) ≡ length lists
-put_long [] place n = refl
-put_long (ns ∷ lists) zero n = refl
-put_long (ns ∷ lists) (suc place) n = ap length (put_behind ns lists place n (slice_get lists place)) ∙ ap suc (put_long lists place n)
 
 -- ---- edges of the mentioned predicates
 
@@ -135,7 +129,7 @@ module _ (v : Vocabulary) (from b : ℕ) where
   atom_place : (scope : List (List ℕ)) (place : ℕ) (text : List ℕ) (at : ℕ) (rest : Trees) → application_names v.predicates v.objects scope place (word text at rest) ≡ [] → (declared_place v.predicates text == b) ≡ true → place_of text predicates ≡ Some b
   atom_place scope place text at rest n same =
       let uses = use_names (arity_of v.predicates text) (width rest) at place in
-      let found = place_used v.predicates (place_of text predicates) (width rest) at place (none_first uses (terms_names v.objects scope rest) n) in
+      let found = place_used v.predicates (place_of text predicates) (width rest) at place (append_nil_first uses (terms_names v.objects scope rest) n) in
       found.1 ∙ ap Some (ap (λ o. unwrap_or o 0) (sym found.1) ∙ eqb-true (declared_place v.predicates text) b same)
 
   mutual
@@ -144,8 +138,8 @@ module _ (v : Vocabulary) (from b : ℕ) where
     conditions_reach scope (word text at rest) n h = conditions_reach scope rest n h
     conditions_reach scope (list items at rest) n h =
         elim (or_cases (mentions b (condition_of v scope items)) (any_mentions b (conditions_of v scope rest)) h) [
-          | inl e ↦ reaches_list predicates from b items at rest (condition_reaches scope at items (none_first (condition_names v scope at items) (conditions_names v scope rest) n) e)
-          | inr e ↦ reaches_behind predicates from b items at rest (conditions_reach scope rest (none_second (condition_names v scope at items) (conditions_names v scope rest) n) e)
+          | inl e ↦ reaches_list predicates from b items at rest (condition_reaches scope at items (append_nil_first (condition_names v scope at items) (conditions_names v scope rest) n) e)
+          | inr e ↦ reaches_behind predicates from b items at rest (conditions_reach scope rest (append_nil_second (condition_names v scope at items) (conditions_names v scope rest) n) e)
         ]
 
     condition_reaches : (scope : List (List ℕ)) (place : ℕ) (ts : Trees) → condition_names v scope place ts ≡ [] → mentions b (condition_of v scope ts) ≡ true → ReachesList predicates from b ts
@@ -168,13 +162,13 @@ module _ (v : Vocabulary) (from b : ℕ) where
     single_reaches : (scope : List (List ℕ)) (ts : Trees) → conditions_names v scope ts ≡ [] → mentions b (single_of v scope ts) ≡ true → Reaches predicates from b ts
     single_reaches scope nothing n h = absurd (cc)
     single_reaches scope (word text at rest) n h = absurd (cc)
-    single_reaches scope (list items at rest) n h = reaches_list predicates from b items at rest (condition_reaches scope at items (none_first (condition_names v scope at items) (conditions_names v scope rest) n) h)
+    single_reaches scope (list items at rest) n h = reaches_list predicates from b items at rest (condition_reaches scope at items (append_nil_first (condition_names v scope at items) (conditions_names v scope rest) n) h)
 
     exists_reaches : (scope : List (List ℕ)) (ts : Trees) → exists_names v scope ts ≡ [] → mentions b (exists_of v scope ts) ≡ true → Reaches predicates from b ts
     exists_reaches scope nothing n h = absurd (cc)
     exists_reaches scope (word text at rest) n h = absurd (cc)
     exists_reaches scope (list items at rest) n h =
-        reaches_behind predicates from b items at rest (single_reaches (scope ++ named_words Start items) rest (none_second (variables_names v.sorts (length scope) items) (conditions_names v (scope ++ named_words Start items) rest) n) h)
+        reaches_behind predicates from b items at rest (single_reaches (scope ++ named_words Start items) rest (append_nil_second (variables_names v.sorts (length scope) items) (conditions_names v (scope ++ named_words Start items) rest) n) h)
 
 -- ---- the edges of a domain's items
 

@@ -2,6 +2,7 @@
 use Rattle.std.proofs.Common.{◌≡◌, true, [], ◌++◌, map, length, sym, subst, arith, le-leb, Result, Ok, Err, IfOk}
 use Rattle.std.specs.List.{list_all}
 use Rattle.std.proofs.lemmas.Bool.{and_from}
+use Rattle.lemmas.proofs.Members.{append_nil_first, append_nil_second}
 use Rattle.sexpr_text.specs.declared.tree.Tree.{Tree}
 use Rattle.sexpr_text.specs.Trees.{Trees, nothing, tree}
 use Rattle.task_model.specs.Fit.{AreNames, IsFitDomain, is_fit_action, is_fit_item, is_name, is_short}
@@ -12,7 +13,6 @@ use Rattle.form_reader.specs.declared.fault.InputKind.TheVariants.{DerivedCycle,
 use Rattle.form_reader.specs.declared.items.TextKind.TheVariants as text
 use Rattle.name_tables.specs.Sizes.{IsBounded}
 use Rattle.name_tables.specs.declared.vocabulary.Vocabulary.{Vocabulary}
-use Rattle.name_tables.proofs.NoFaultLemmas.{none_first, none_second}
 use Rattle.name_tables.proofs.OneTreeLemmas.{tree_there}
 use Rattle.domain_reader.proofs.FitItems.{AreClean, body_shallow, body_small, items_clean, text_formed}
 use Rattle.domain_reader.proofs.FitActions.{actions_fit, actions_long, actions_named}
@@ -44,17 +44,17 @@ all_named v body n =
     let actions = second_actions [] body in
     let many = too_many_derived v.predicates.names [] body in
     let whole : plain_names v body ++ n.types ++ n.derived ≡ [] = sym n.all in
-    let front : plain_names v body ++ n.types ≡ [] = none_first (plain_names v body ++ n.types) n.derived whole in
-    let plain : plain_names v body ≡ [] = none_first (plain_names v body) n.types front in
-    let five : items ++ twice ++ predicates ++ functions ++ actions ≡ [] = none_first (items ++ twice ++ predicates ++ functions ++ actions) many plain in
-    let four : items ++ twice ++ predicates ++ functions ≡ [] = none_first (items ++ twice ++ predicates ++ functions) actions five in
-    let three : items ++ twice ++ predicates ≡ [] = none_first (items ++ twice ++ predicates) functions four in
+    let front : plain_names v body ++ n.types ≡ [] = append_nil_first (plain_names v body ++ n.types) n.derived whole in
+    let plain : plain_names v body ≡ [] = append_nil_first (plain_names v body) n.types front in
+    let five : items ++ twice ++ predicates ++ functions ++ actions ≡ [] = append_nil_first (items ++ twice ++ predicates ++ functions ++ actions) many plain in
+    let four : items ++ twice ++ predicates ++ functions ≡ [] = append_nil_first (items ++ twice ++ predicates ++ functions) actions five in
+    let three : items ++ twice ++ predicates ≡ [] = append_nil_first (items ++ twice ++ predicates) functions four in
     record {
-      items = none_first items twice (none_first (items ++ twice) predicates three);
-      actions = none_second (items ++ twice ++ predicates ++ functions) actions five;
-      few = none_second (items ++ twice ++ predicates ++ functions ++ actions) many plain;
-      types = subst (CycleFaults TypeCycle (type_edges v.sorts body) (listed_in v.sorts [] body)) (none_second (plain_names v body) n.types front) n.types_right;
-      derived = subst (CycleFaults DerivedCycle (derived_edges v.predicates.names body) (derived_in v.predicates.names body)) (none_second (plain_names v body ++ n.types) n.derived whole) n.derived_right;
+      items = append_nil_first items twice (append_nil_first (items ++ twice) predicates three);
+      actions = append_nil_second (items ++ twice ++ predicates ++ functions) actions five;
+      few = append_nil_second (items ++ twice ++ predicates ++ functions ++ actions) many plain;
+      types = subst (CycleFaults TypeCycle (type_edges v.sorts body) (listed_in v.sorts [] body)) (append_nil_second (plain_names v body) n.types front) n.types_right;
+      derived = subst (CycleFaults DerivedCycle (derived_edges v.predicates.names body) (derived_in v.predicates.names body)) (append_nil_second (plain_names v body ++ n.types) n.derived whole) n.derived_right;
     }
 
 pub fit_domain : (t : Trees) (d : Domain) → (t ≡ nothing → ⊥) → IsDomainRead t d → IsBounded t → IsFitDomain d

@@ -6,6 +6,8 @@ use Rattle.std.specs.Char.{is_ascii_digit}
 use Rattle.std.specs.Str.{bytes_eq}
 use Rattle.std.specs.Str.Parse.{digits_value}
 use Rattle.std.proofs.lemmas.Bool.{and_from, not-true, not_from_false, false_from_ne_true}
+use Rattle.lemmas.proofs.Members.{append_nil_first, append_nil_second}
+use Rattle.lemmas.proofs.ListTests.{all_push}
 use Rattle.sexpr_text.specs.Trees.{Trees, nothing, word, list, size}
 use Rattle.task_model.specs.Fit.{is_derived_role, is_fit_application, is_fit_cost, is_fit_pattern, is_name}
 use Rattle.task_model.specs.Roles.{role_of}
@@ -26,10 +28,10 @@ use Rattle.name_tables.specs.Variables.{unless}
 use Rattle.name_tables.specs.Vocabulary.{arity_of}
 use Rattle.name_tables.specs.declared.vocabulary.Vocabulary.{Vocabulary}
 use Rattle.name_tables.proofs.FitTerms.{AreFilled, Knows, application_fits}
-use Rattle.name_tables.proofs.Members.{all_push}
-use Rattle.name_tables.proofs.NoFaultLemmas.{chosen, met, none_first, none_second, some_fault}
+use Rattle.name_tables.proofs.NoFaultLemmas.{chosen, met, some_fault}
 use Rattle.name_tables.proofs.NamesLemmas.{name_there, place_named, same_name}
-use Rattle.domain_reader.proofs.FitNames.{name_long, predicate_name}
+use Rattle.name_tables.proofs.VariablesWidthLemmas.{name_long}
+use Rattle.domain_reader.proofs.FitNames.{predicate_name}
 use Rattle.domain_reader.proofs.FitRules.{place_used}
 use Rattle.domain_reader.specs.Effects.{Done, added, after_effect, after_effects, changed_names, charged, cost_names, cost_of, effect_names, effects_names, is_derived_name, negated_names, pattern_of, taken}
 
@@ -130,7 +132,7 @@ module _ (v : Vocabulary) (d : domain.Domain) (knows : Knows v d (length d.const
   pattern_fits : (place : ℕ) (items : Trees) → application_faults Predicate Term place items ≡ [] → changed_names v heads scope place items ≡ [] → fits (pattern_of v scope items) ≡ true
   pattern_fits place items f n =
       (λ i. is_fit_application (knows.predicates i) (knows.objects_long i) filled (declared_place v.predicates (head_of items)) (terms_of v.objects scope (tail_of items)))
-      ∙ application_fits v.predicates v.objects scope filled slots Predicate Term place items f (none_first (application_names v.predicates v.objects scope place items) (unless (not (marked (head_of items))) EffectOnStatic place) n)
+      ∙ application_fits v.predicates v.objects scope filled slots Predicate Term place items f (append_nil_first (application_names v.predicates v.objects scope place items) (unless (not (marked (head_of items))) EffectOnStatic place) n)
 
   pattern_free : (place : ℕ) (items : Trees) → application_faults Predicate Term place items ≡ [] → changed_names v heads scope place items ≡ [] → is_free d (pattern_of v scope items) ≡ true
   pattern_free place nothing f n = absurd (some_fault (shape place) [] f)
@@ -139,9 +141,9 @@ module _ (v : Vocabulary) (d : domain.Domain) (knows : Knows v d (length d.const
       let application = application_names v.predicates v.objects scope place (word text at rest) in
       let bound = unless (not (marked text)) EffectOnStatic place in
       let uses = use_names (arity_of v.predicates text) (width rest) at place in
-      let found = place_used v.predicates (place_of text v.predicates.names) (width rest) at place (none_first uses (terms_names v.objects scope rest) (none_first application bound n)) in
+      let found = place_used v.predicates (place_of text v.predicates.names) (width rest) at place (append_nil_first uses (terms_names v.objects scope rest) (append_nil_first application bound n)) in
       let there : has_name text v.predicates.names ≡ true = name_there text v.predicates.names found.0 (place_named text v.predicates.names found.0 found.1) in
-      let free : marked text ≡ false = not-true (marked text) (met (not (marked text)) EffectOnStatic place (none_second application bound n)) in
+      let free : marked text ≡ false = not-true (marked text) (met (not (marked text)) EffectOnStatic place (append_nil_second application bound n)) in
       let absent : has_name text heads ≡ false = false_from_ne_true (has_name text heads) (λ h. let m : marked text ≡ true = and_from (has_name text heads) (has_name text v.predicates.names) h there in cc) in
       not_from_false (is_derived_role (role_of d (declared_place v.predicates text))) (ap (λ o. is_derived_role (role_of d (unwrap_or o 0))) found.1 ∙ plain text found.0 found.1 absent)
 
@@ -152,7 +154,7 @@ module _ (v : Vocabulary) (d : domain.Domain) (knows : Knows v d (length d.const
       subst (λ b. nat_le (if b then digits_value 10 text else 0) 1000000 ≡ true) (sym counts) (digits_few text counts)
   cost_fits place (list items at rest) f n =
       (λ i. is_fit_application (knows.functions i) (knows.objects_long i) filled (declared_place v.functions (head_of items)) (terms_of v.objects scope (tail_of items)))
-      ∙ application_fits v.functions v.objects scope filled slots Name Term at items (none_first (application_faults Name Term at items) (end_faults rest) f) n
+      ∙ application_fits v.functions v.objects scope filled slots Name Term at items (append_nil_first (application_faults Name Term at items) (end_faults rest) f) n
 
   abbrev Fit : ℕ → Done → Type 0
   Fit = IsDone d filled
@@ -197,15 +199,15 @@ module _ (v : Vocabulary) (d : domain.Domain) (knows : Knows v d (length d.const
   negated_done most place c text nothing f n i = absurd (some_fault (shape place) [] f)
   negated_done most place c text (word w at rest) f n i = absurd (some_fault (shape at) [] f)
   negated_done most place c text (list items at rest) f n i =
-      done_more d filled (most + 1) (most + (length text + (size items + 2 + size rest))) (taken v scope c items) (omega arith) (take_done most at c items (none_first (application_faults Predicate Term at items) (end_faults rest) f) n i)
+      done_more d filled (most + 1) (most + (length text + (size items + 2 + size rest))) (taken v scope c items) (omega arith) (take_done most at c items (append_nil_first (application_faults Predicate Term at items) (end_faults rest) f) n i)
 
   increased_done : (most place : ℕ) (c : Done) (text : List ℕ) (ts : Trees) → effect_head_of text ≡ head.Increase → increase_faults place ts ≡ [] → cost_names v scope (tail_of ts) ≡ [] → Fit most c → Fit (most + (length text + size ts)) (charged v scope c (tail_of ts))
   increased_done most place c text nothing h f n i = absurd (some_fault (shape place) [] f)
   increased_done most place c text (word w at rest) h f n i = absurd (some_fault (shape at) [] f)
   increased_done most place c text (list items at rest) h f n i =
       let parts : total_cost_faults at items ++ cost_faults place rest ≡ [] = unless_other (is_other_function items) (unsupported place) [] (total_cost_faults at items ++ cost_faults place rest) f in
-      let long : 10 ≤ size items = total_cost_long at items (none_first (total_cost_faults at items) (cost_faults place rest) parts) in
-      done_more d filled (most + 16) (most + (length text + (size items + 2 + size rest))) (charged v scope c rest) (omega (arith, increase_long text h)) (charge_done most place c rest (none_second (total_cost_faults at items) (cost_faults place rest) parts) n i)
+      let long : 10 ≤ size items = total_cost_long at items (append_nil_first (total_cost_faults at items) (cost_faults place rest) parts) in
+      done_more d filled (most + 16) (most + (length text + (size items + 2 + size rest))) (charged v scope c rest) (omega (arith, increase_long text h)) (charge_done most place c rest (append_nil_second (total_cost_faults at items) (cost_faults place rest) parts) n i)
 
   atom_done : (most place at : ℕ) (c : Done) (text : List ℕ) (rest : Trees) → application_faults Predicate Term place (word text at rest) ≡ [] → changed_names v heads scope place (word text at rest) ≡ [] → Fit most c → Fit (most + (length text + size rest)) (added v scope c (word text at rest))
   atom_done most place at c text rest f n i =
@@ -218,9 +220,9 @@ module _ (v : Vocabulary) (d : domain.Domain) (knows : Knows v d (length d.const
     effects_done most c (word text at rest) f n i = absurd (some_fault (shape at) [] f)
     effects_done most c (list items at rest) f n i =
         let c' = after_effect v scope c items in
-        let one = effect_done most at c items (none_first (effect_faults at items) (effects_faults rest) f) (none_first (effect_names v heads scope at items) (effects_names v heads scope rest) n) i in
+        let one = effect_done most at c items (append_nil_first (effect_faults at items) (effects_faults rest) f) (append_nil_first (effect_names v heads scope at items) (effects_names v heads scope rest) n) i in
         done_more d filled (most + size items + size rest) (most + (size items + 2 + size rest)) (after_effects v scope c' rest) (omega arith)
-        (effects_done (most + size items) c' rest (none_second (effect_faults at items) (effects_faults rest) f) (none_second (effect_names v heads scope at items) (effects_names v heads scope rest) n) one)
+        (effects_done (most + size items) c' rest (append_nil_second (effect_faults at items) (effects_faults rest) f) (append_nil_second (effect_names v heads scope at items) (effects_names v heads scope rest) n) one)
 
     pub effect_done : (most place : ℕ) (c : Done) (ts : Trees) → effect_faults place ts ≡ [] → effect_names v heads scope place ts ≡ [] → Fit most c → Fit (most + size ts) (after_effect v scope c ts)
     effect_done most place c nothing f n i = done_more d filled most (most + 0) c (omega arith) i

@@ -1,37 +1,25 @@
 -- The items of a domain without faults, and how large they are.
 use Rattle.std.proofs.Common.{◌≡◌, ℕ, ◌-◌, ◌≤◌, true, List, [], codes, refl, arith}
 use Rattle.std.specs.Str.{bytes_eq}
+use Rattle.lemmas.proofs.Members.{append_nil_first, append_nil_second}
 use Rattle.sexpr_text.specs.Trees.{Trees, nothing, word, list, depth, size}
 use Rattle.task_model.specs.Fit.{is_name}
+use Rattle.form_reader.proofs.RowsLemmas.{tail_small, inner_small, tail_shallow}
 use Rattle.form_reader.specs.declared.items.Item.{Item}
 use Rattle.form_reader.specs.declared.items.TextKind.TheVariants.{Domain}
 use Rattle.form_reader.specs.declared.words.WordSort.TheVariants.{Name}
 use Rattle.form_reader.specs.Faults.{shape}
 use Rattle.form_reader.specs.Items.{body_faults, item_faults, item_of, items_faults}
-use Rattle.form_reader.specs.Rows.{end_faults, head_of, inner_of, one_faults, tail_of}
+use Rattle.form_reader.specs.Rows.{head_of, inner_of, one_faults, tail_of}
 use Rattle.form_reader.specs.Texts.{define_faults, form_faults, title_faults, title_of, titled_faults}
 use Rattle.name_tables.specs.Sizes.{IsBounded}
 use Rattle.name_tables.specs.declared.vocabulary.Vocabulary.{Vocabulary}
-use Rattle.name_tables.proofs.NoFaultLemmas.{chosen, none_first, none_second, some_fault}
+use Rattle.name_tables.proofs.NoFaultLemmas.{chosen, some_fault}
+use Rattle.name_tables.proofs.TitleLemmas.{one_name}
 use Rattle.domain_reader.specs.Names.{body_names, items_names}
 use Rattle.domain_reader.specs.Tables.{body_of, name_of}
 
 -- ---- sizes
-
-pub tail_small : (ts : Trees) → size (tail_of ts) ≤ size ts
-tail_small nothing = omega arith
-tail_small (word text at rest) = omega arith
-tail_small (list items at rest) = omega arith
-
-pub inner_small : (ts : Trees) → size (inner_of ts) ≤ size ts
-inner_small nothing = omega arith
-inner_small (word text at rest) = omega arith
-inner_small (list items at rest) = omega arith
-
-pub tail_shallow : (ts : Trees) → depth (tail_of ts) ≤ depth ts
-tail_shallow nothing = omega arith
-tail_shallow (word text at rest) = omega arith
-tail_shallow (list items at rest) = omega arith
 
 pub inner_shallow : (ts : Trees) → depth (inner_of ts) ≤ depth ts - 1
 inner_shallow nothing = omega arith
@@ -55,19 +43,14 @@ pub record IsFormed (t : Trees) : Type 0 where
 title_named : (place : ℕ) (ts : Trees) → title_faults Domain place ts ≡ [] → is_name (head_of (tail_of ts)) ≡ true
 title_named place nothing e = absurd (some_fault (shape place) [] e)
 title_named place (list items at rest) e = absurd (some_fault (shape at) [] e)
-title_named place (word w at rest) e = one place rest (chosen (bytes_eq w (title_of Domain)) (one_faults Name place rest) (shape at) [] e).1
-  where
-    one : (place : ℕ) (ts : Trees) → one_faults Name place ts ≡ [] → is_name (head_of ts) ≡ true
-    one place nothing e = absurd (some_fault (shape place) [] e)
-    one place (word w at rest) e = (chosen (is_name w) (end_faults rest) (shape at) [] e).0
-    one place (list items at rest) e = absurd (some_fault (shape at) [] e)
+title_named place (word w at rest) e = one_name place rest (chosen (bytes_eq w (title_of Domain)) (one_faults Name place rest) (shape at) [] e).1
 
 titled_formed : (place at : ℕ) (ts rest : Trees) (w : List ℕ) (here : ℕ) → titled_faults Domain place ts ≡ [] → IsFormed (list (word w here ts) at rest)
 titled_formed place at nothing rest w here e = absurd (some_fault (shape place) [] e)
 titled_formed place at (word v there more) rest w here e = absurd (some_fault (shape there) [] e)
 titled_formed place at (list items there more) rest w here e = record {
-  items = none_second (title_faults Domain there items) (items_faults Domain more) e;
-  named = title_named there items (none_first (title_faults Domain there items) (items_faults Domain more) e);
+  items = append_nil_second (title_faults Domain there items) (items_faults Domain more) e;
+  named = title_named there items (append_nil_first (title_faults Domain there items) (items_faults Domain more) e);
 }
 
 define_formed : (at : ℕ) (ts rest : Trees) → define_faults Domain at ts ≡ [] → IsFormed (list ts at rest)
@@ -103,6 +86,6 @@ items_clean v heads nothing f n = tt
 items_clean v heads (word w at rest) f n = items_clean v heads rest (absurd (some_fault (shape at) [] f)) n
 items_clean v heads (list items at rest) f n =
     let own = body_names v heads (item_of Domain (head_of items)) (tail_of items) in (
-      item_clean v heads at items (none_first (item_faults Domain at items) (items_faults Domain rest) f) (none_first own (items_names v heads rest) n),
-      items_clean v heads rest (none_second (item_faults Domain at items) (items_faults Domain rest) f) (none_second own (items_names v heads rest) n),
+      item_clean v heads at items (append_nil_first (item_faults Domain at items) (items_faults Domain rest) f) (append_nil_first own (items_names v heads rest) n),
+      items_clean v heads rest (append_nil_second (item_faults Domain at items) (items_faults Domain rest) f) (append_nil_second own (items_names v heads rest) n),
     )

@@ -2,12 +2,13 @@
 use Rattle.std.proofs.Common.{◌≡◌, ℕ, ◌+◌, ◌≤◌, true, false, ◌&&◌, not, cond, if◌then◌else◌, nat_le, List, [], ◌∷◌, ◌++◌, codes, length, refl, sym, ap, ◌∙◌, subst, arith, Option, Some, None, slice_get, length-append}
 use Rattle.std.specs.Cmp.{first_so, second_so}
 use Rattle.std.specs.List.{list_all}
-use Rattle.std.proofs.lemmas.Bool.{or_left}
 use Rattle.std.specs.Str.{bytes_eq}
 use Rattle.sexpr_text.specs.Trees.{Trees, nothing, word, list, size}
-use Rattle.lemmas.proofs.Members.{distinct_nil, distinct_push}
+use Rattle.lemmas.proofs.Members.{distinct_nil, distinct_push, append_nil_first, append_nil_second}
+use Rattle.lemmas.proofs.ListTests.{any_append_left, all_push}
 use Rattle.task_model.specs.Fit.{is_name}
 use Rattle.lemmas.specs.Lists.{AreDistinct}
+use Rattle.form_reader.proofs.RowsLemmas.{tail_small}
 use Rattle.form_reader.specs.declared.fault.Fault.{Fault}
 use Rattle.form_reader.specs.declared.fault.InputKind.TheVariants.{TooMany}
 use Rattle.form_reader.specs.declared.groups.Spot.{Spot}
@@ -27,10 +28,10 @@ use Rattle.name_tables.specs.Variables.{doubles_names, is_named, named_words, se
 use Rattle.name_tables.specs.declared.vocabulary.Vocabulary.{Vocabulary}
 use Rattle.name_tables.proofs.FitDeclared.{distinct_names, length_names, length_with, named_names, named_with, seen_names}
 use Rattle.name_tables.proofs.FitGroups.{words_are_names}
-use Rattle.name_tables.proofs.Members.{all_push, any_append_left, any_append_right}
-use Rattle.name_tables.proofs.NoFaultLemmas.{chosen, met, none_first, none_second, some_fault}
-use Rattle.name_tables.proofs.NamesLemmas.{distinct_with, name_itself}
-use Rattle.domain_reader.proofs.FitItems.{AreClean, IsClean, tail_small}
+use Rattle.name_tables.proofs.NoFaultLemmas.{chosen, met, some_fault}
+use Rattle.name_tables.proofs.NamesLemmas.{distinct_with}
+use Rattle.name_tables.proofs.VariablesWidthLemmas.{name_long}
+use Rattle.domain_reader.proofs.FitItems.{AreClean, IsClean}
 use Rattle.domain_reader.specs.Names.{declaration_names, functions_names, predicates_names, total_cost_names}
 use Rattle.domain_reader.specs.Tables.{declared_arity, functions_in, no_names, predicates_in, types_in, vocabulary_of, with_item, with_items}
 
@@ -47,11 +48,6 @@ table_more most more names le t = record { distinct = t.distinct; named = t.name
 pub table_with : (most : ℕ) (names : List (List ℕ)) (name : List ℕ) → IsTable most names → is_name name ≡ true → IsTable (most + 1) (with_name names name)
 table_with most names name t one = record { distinct = distinct_with names name t.distinct; named = named_with names name t.named one; few = omega (arith, t.few, length_with names name) }
 
--- a name has a letter
-pub name_long : (name : List ℕ) → is_name name ≡ true → 1 ≤ length name
-name_long [] e = absurd (cc)
-name_long (b ∷ bs) e = omega arith
-
 -- all names of the list are names of the table
 abbrev pub Known : List (List ℕ) → List (List ℕ) → Type 0
 Known names table = (n : List ℕ) → has_name n names ≡ true → has_name n table ≡ true
@@ -62,13 +58,6 @@ known_with names name n h =
       | true ↦ h
       | false ↦ any_append_left (bytes_eq n) names (name ∷ []) h
     ]
-
-pub gets_with : (names : List (List ℕ)) (name : List ℕ) → has_name name (with_name names name) ≡ true
-gets_with names name =
-    elim (has_name name names) as (λ b. has_name name names ≡ b → has_name name (cond b names (names ++ name ∷ [])) ≡ true) [
-      | true ↦ λ t. t
-      | false ↦ λ _. any_append_right (bytes_eq name) names (name ∷ []) (or_left (bytes_eq name name) false (name_itself name name refl))
-    ] refl
 
 -- ---- types
 
@@ -152,17 +141,17 @@ head_named head place (word text at rest) names e = names text (chosen (is_of he
 
 -- a declaration has at most 8 variables
 pub few_declared : (sorts : List (List ℕ)) (place : ℕ) (vars : Trees) → declaration_names sorts place vars ≡ [] → nat_le (length (named_words Start vars)) 8 ≡ true
-few_declared sorts place vars e = met (nat_le (length (named_words Start vars)) 8) TooMany place (none_second (types_names sorts Start vars ++ doubles_names [] Start vars) (unless (nat_le (length (named_words Start vars)) 8) TooMany place) e)
+few_declared sorts place vars e = met (nat_le (length (named_words Start vars)) 8) TooMany place (append_nil_second (types_names sorts Start vars ++ doubles_names [] Start vars) (unless (nat_le (length (named_words Start vars)) 8) TooMany place) e)
 
 pub predicates_signed : (most : ℕ) (sorts : List (List ℕ)) (s : Signed) (ts : Trees) → IsSigned most s → predicates_faults ts ≡ [] → predicates_names sorts ts ≡ [] → IsSigned (most + size ts) (predicates_in s ts)
 predicates_signed most sorts s nothing i f n = signed_more most (most + 0) s (omega arith) i
 predicates_signed most sorts s (word text at rest) i f n = absurd (some_fault (shape at) [] f)
 predicates_signed most sorts s (list items at rest) i f n =
-    let name = head_named Predicate at items predicate_name (none_first (declaration_faults Predicate at items) (predicates_faults rest) f) in
-    let few = few_declared sorts at (tail_of items) (none_first (declaration_names sorts at (tail_of items)) (predicates_names sorts rest) n) in
+    let name = head_named Predicate at items predicate_name (append_nil_first (declaration_faults Predicate at items) (predicates_faults rest) f) in
+    let few = few_declared sorts at (tail_of items) (append_nil_first (declaration_names sorts at (tail_of items)) (predicates_names sorts rest) n) in
     let s' = with_signature s (head_of items) (length (named_words Start (tail_of items))) in
     signed_more (most + 1 + size rest) (most + (size items + 2 + size rest)) (predicates_in s' rest) (omega arith)
-    (predicates_signed (most + 1) sorts s' rest (signed_with most s (head_of items) (length (named_words Start (tail_of items))) i name few) (none_second (declaration_faults Predicate at items) (predicates_faults rest) f) (none_second (declaration_names sorts at (tail_of items)) (predicates_names sorts rest) n))
+    (predicates_signed (most + 1) sorts s' rest (signed_with most s (head_of items) (length (named_words Start (tail_of items))) i name few) (append_nil_second (declaration_faults Predicate at items) (predicates_faults rest) f) (append_nil_second (declaration_names sorts at (tail_of items)) (predicates_names sorts rest) n))
 
 few_arguments : (name : List ℕ) (vars : Trees) → nat_le (length (named_words Start vars)) 8 ≡ true → nat_le (declared_arity name vars) 8 ≡ true
 few_arguments name vars few =
@@ -179,8 +168,8 @@ word_behind spot text at behind e = by (function_word_fault spot text at) e
     by (Some x) f = absurd (some_fault x [] f)
 
 list_formed : (spot : Spot) (items : Trees) (at : ℕ) (behind : List Fault) → function_list_faults spot items at behind ≡ [] → (declaration_faults Name at items ≡ []) × (behind ≡ [])
-list_formed Start items at behind e = (none_first (declaration_faults Name at items) behind e, none_second (declaration_faults Name at items) behind e)
-list_formed Named items at behind e = (none_first (declaration_faults Name at items) behind e, none_second (declaration_faults Name at items) behind e)
+list_formed Start items at behind e = (append_nil_first (declaration_faults Name at items) behind e, append_nil_second (declaration_faults Name at items) behind e)
+list_formed Named items at behind e = (append_nil_first (declaration_faults Name at items) behind e, append_nil_second (declaration_faults Name at items) behind e)
 list_formed Typed items at behind e = absurd (some_fault (list_fault Typed items at) [] e)
 
 pub functions_signed : (most place : ℕ) (spot : Spot) (sorts : List (List ℕ)) (s : Signed) (ts : Trees) → IsSigned most s → functions_faults place spot ts ≡ [] → functions_names sorts ts ≡ [] → IsSigned (most + size ts) (functions_in s ts)
@@ -190,12 +179,12 @@ functions_signed most place spot sorts s (word text at rest) i f n =
 functions_signed most place spot sorts s (list items at rest) i f n =
     let formed = list_formed spot items at (functions_faults place Named rest) f in
     let own = total_cost_names at items ++ declaration_names sorts at (tail_of items) in
-    let declared = none_second (total_cost_names at items) (declaration_names sorts at (tail_of items)) (none_first own (functions_names sorts rest) n) in
+    let declared = append_nil_second (total_cost_names at items) (declaration_names sorts at (tail_of items)) (append_nil_first own (functions_names sorts rest) n) in
     let name = head_named Name at items (λ text e. e) formed.0 in
     let few = few_declared sorts at (tail_of items) declared in
     let s' = with_signature s (head_of items) (declared_arity (head_of items) (tail_of items)) in
     signed_more (most + 1 + size rest) (most + (size items + 2 + size rest)) (functions_in s' rest) (omega arith)
-    (functions_signed (most + 1) place Named sorts s' rest (signed_with most s (head_of items) (declared_arity (head_of items) (tail_of items)) i name (few_arguments (head_of items) (tail_of items) few)) formed.1 (none_second own (functions_names sorts rest) n))
+    (functions_signed (most + 1) place Named sorts s' rest (signed_with most s (head_of items) (declared_arity (head_of items) (tail_of items)) i name (few_arguments (head_of items) (tail_of items) few)) formed.1 (append_nil_second own (functions_names sorts rest) n))
 
 -- ---- all tables
 

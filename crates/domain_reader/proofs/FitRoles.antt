@@ -5,6 +5,7 @@ use Rattle.std.proofs.lemmas.Bool.{and_from, or_cases, or_left, or_right, eqb-fa
 use Rattle.std.proofs.lemmas.List.{length-map}
 use Rattle.std.proofs.lemmas.List.Sums.{sum_by-cons}
 use Rattle.std.proofs.lemmas.Option.{same_Some}
+use Rattle.lemmas.proofs.Members.{append_nil_first, append_nil_second}
 use Rattle.sexpr_text.specs.Trees.{Trees, nothing, word, list}
 use Rattle.task_model.specs.Fit.{is_derived_role}
 use Rattle.lemmas.specs.Lists.{numbers_from}
@@ -19,10 +20,10 @@ use Rattle.form_reader.specs.Items.{item_of}
 use Rattle.form_reader.specs.Rows.{head_of, tail_of}
 use Rattle.name_tables.specs.Names.{has_name, place_of, with_name}
 use Rattle.name_tables.specs.declared.vocabulary.Vocabulary.{Vocabulary}
-use Rattle.name_tables.proofs.NoFaultLemmas.{met, none_first, none_second}
-use Rattle.name_tables.proofs.NamesLemmas.{name_found, name_there, place_named}
+use Rattle.name_tables.proofs.NoFaultLemmas.{met}
+use Rattle.name_tables.proofs.NamesLemmas.{name_found, name_there, place_named, has_with}
 use Rattle.domain_reader.proofs.FitItems.{AreClean, IsClean}
-use Rattle.domain_reader.proofs.FitNames.{Known, gets_with, known_with}
+use Rattle.domain_reader.proofs.FitNames.{Known, known_with}
 use Rattle.domain_reader.proofs.FitRules.{derived_rule, rule_pred, rule_there}
 use Rattle.domain_reader.specs.Domains.{rule_of, rules_of}
 use Rattle.domain_reader.specs.Names.{counts_as_derived, crowded, seen_once, too_many_derived}
@@ -91,8 +92,8 @@ module _ (v : Vocabulary) (clean_heads : List (List ℕ)) where
       record {
         name = headed items;
         place = at;
-        is_head = subst (λ b. has_name (headed items) (heads_in (if b then with_name names (headed items) else names) rest) ≡ true) (sym e) (heads_kept (with_name names (headed items)) rest (headed items) (gets_with names (headed items)));
-        counts = subst (λ b. has_name (headed items) (counted_in predicates (if b then with_name counted (headed items) else counted) rest) ≡ true) (sym counts) (counted_kept predicates (with_name counted (headed items)) rest (headed items) (gets_with counted (headed items)));
+        is_head = subst (λ b. has_name (headed items) (heads_in (if b then with_name names (headed items) else names) rest) ≡ true) (sym e) (heads_kept (with_name names (headed items)) rest (headed items) (has_with names (headed items)));
+        counts = subst (λ b. has_name (headed items) (counted_in predicates (if b then with_name counted (headed items) else counted) rest) ≡ true) (sym counts) (counted_kept predicates (with_name counted (headed items)) rest (headed items) (has_with counted (headed items)));
       }
 
   pub headed_names : (names counted : List (List ℕ)) (body : Trees) (pred : ℕ) → AreClean v clean_heads body → list_any (is_headed pred) (rules_of v body) ≡ true → IsDerivedName v (heads_in names body) (counted_in predicates counted body) pred
@@ -132,8 +133,8 @@ counted_few predicates names (list items at rest) few n =
     elim (counts_as_derived predicates items) as (λ b. crowded b (headed items) at names ++ too_many_derived predicates (seen_once b (headed items) names) rest ≡ [] → length (counted_in predicates (seen_once b (headed items) names) rest) ≤ 64) [
       | true ↦ λ m.
           let own = crowded true (headed items) at names in
-          let room : (has_name (headed items) names || not (length names == 64)) ≡ true = met (has_name (headed items) names || not (length names == 64)) TooMany at (none_first own (too_many_derived predicates (with_name names (headed items)) rest) m) in
-          counted_few predicates (with_name names (headed items)) rest (grown names (headed items) few room) (none_second own (too_many_derived predicates (with_name names (headed items)) rest) m)
+          let room : (has_name (headed items) names || not (length names == 64)) ≡ true = met (has_name (headed items) names || not (length names == 64)) TooMany at (append_nil_first own (too_many_derived predicates (with_name names (headed items)) rest) m) in
+          counted_few predicates (with_name names (headed items)) rest (grown names (headed items) few room) (append_nil_second own (too_many_derived predicates (with_name names (headed items)) rest) m)
       | false ↦ λ m. counted_few predicates names rest few m
     ] n
   where

@@ -2,10 +2,13 @@
 use Rattle.std.proofs.Common.{◌≡◌, ℕ, ◌+◌, ◌≤◌, true, false, ◌&&◌, nat_le, if◌then◌else◌, List, [], ◌∷◌, ◌++◌, length, refl, sym, ap, ◌∙◌, subst, arith, Option, Some, None, unwrap_or, le-leb, leb-true}
 use Rattle.std.specs.List.{list_all}
 use Rattle.std.proofs.lemmas.Bool.{and_from}
+use Rattle.lemmas.proofs.Members.{append_nil_first, append_nil_second}
+use Rattle.lemmas.proofs.ListTests.{all_append}
 use Rattle.sexpr_text.specs.Trees.{Trees, nothing, word, list, depth, place_of as tree_place, size}
 use Rattle.task_model.specs.Fit.{are_fit_params, are_places, has_arity, is_fit_condition, is_fit_item}
 use Rattle.lemmas.specs.Lists.{numbers_from}
 use Rattle.task_model.specs.declared.domain.Domain as domain
+use Rattle.form_reader.proofs.RowsLemmas.{tail_small, tail_shallow}
 use Rattle.form_reader.specs.declared.fault.Fault.{Fault}
 use Rattle.form_reader.specs.declared.fault.InputKind.TheVariants.{TooMany}
 use Rattle.form_reader.specs.declared.groups.Spot.TheVariants.{Start}
@@ -26,9 +29,8 @@ use Rattle.name_tables.specs.declared.vocabulary.Vocabulary.{Vocabulary}
 use Rattle.name_tables.proofs.FitConditions.{single_fits}
 use Rattle.name_tables.proofs.FitGroups.{few_places, sorts_as_long}
 use Rattle.name_tables.proofs.FitTerms.{AreFilled, Knows, filled_first, use_there}
-use Rattle.name_tables.proofs.Members.{all_append}
-use Rattle.name_tables.proofs.NoFaultLemmas.{none_first, none_second, some_fault}
-use Rattle.domain_reader.proofs.FitItems.{AreClean, IsClean, tail_shallow, tail_small}
+use Rattle.name_tables.proofs.NoFaultLemmas.{some_fault}
+use Rattle.domain_reader.proofs.FitItems.{AreClean, IsClean}
 use Rattle.domain_reader.proofs.FitNames.{few_declared}
 use Rattle.domain_reader.specs.Domains.{rule_of, rules_of}
 use Rattle.domain_reader.specs.Names.{declaration_names, derived_names, head_names}
@@ -65,9 +67,9 @@ rule_headed v (word w at rest) r = absurd (some_fault (shape at) [] r.formed)
 rule_headed v (list items at rest) r = record {
   place = r.place;
   head_place = at;
-  body_formed = none_second (declaration_faults Predicate at items) (single_faults r.place rest) r.formed;
-  head_named = none_first (head_names v at items) (conditions_names v (named_words Start (tail_of items)) rest) r.named;
-  body_named = none_second (head_names v at items) (conditions_names v (named_words Start (tail_of items)) rest) r.named;
+  body_formed = append_nil_second (declaration_faults Predicate at items) (single_faults r.place rest) r.formed;
+  head_named = append_nil_first (head_names v at items) (conditions_names v (named_words Start (tail_of items)) rest) r.named;
+  body_named = append_nil_second (head_names v at items) (conditions_names v (named_words Start (tail_of items)) rest) r.named;
 }
 
 module _ (v : Vocabulary) (rest : Trees) (h : IsHeaded v rest) where
@@ -84,13 +86,13 @@ module _ (v : Vocabulary) (rest : Trees) (h : IsHeaded v rest) where
   declares = declaration_names v.sorts h.head_place vars
 
   front : uses ++ declares ≡ []
-  front = none_first (uses ++ declares) (scope_names 0 Start vars) h.head_named
+  front = append_nil_first (uses ++ declares) (scope_names 0 Start vars) h.head_named
 
   no_use : uses ≡ []
-  no_use = none_first uses declares front
+  no_use = append_nil_first uses declares front
 
   no_declared : declares ≡ []
-  no_declared = none_second uses declares front
+  no_declared = append_nil_second uses declares front
 
   -- the predicate is there
   head_there : (p : ℕ) × (place_of (head_of head) v.predicates.names ≡ Some p)
@@ -102,7 +104,7 @@ module _ (v : Vocabulary) (rest : Trees) (h : IsHeaded v rest) where
   types : types_names v.sorts Start vars ≡ []
   types =
       let bound = unless (nat_le (length (named_words Start vars)) 8) TooMany h.head_place in
-      none_first (types_names v.sorts Start vars) (doubles_names [] Start vars) (none_first (types_names v.sorts Start vars ++ doubles_names [] Start vars) bound no_declared)
+      append_nil_first (types_names v.sorts Start vars) (doubles_names [] Start vars) (append_nil_first (types_names v.sorts Start vars ++ doubles_names [] Start vars) bound no_declared)
 
 -- ---- the predicate of an item
 

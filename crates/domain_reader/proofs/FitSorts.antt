@@ -19,6 +19,7 @@ use Rattle.form_reader.specs.Rows.{after_word, groups_faults, head_of, is_dash, 
 use Rattle.form_reader.specs.Faults.{shape}
 use Rattle.form_reader.specs.declared.words.WordSort.TheVariants.{Name}
 use Rattle.lemmas.proofs.Members.{push_cases}
+use Rattle.lemmas.proofs.ListTests.{all_from, any_append_left, any_append_right}
 use Rattle.name_tables.specs.Declarations.{number_put}
 use Rattle.name_tables.specs.declared.vocabulary.Vocabulary.{Vocabulary}
 use Rattle.name_tables.specs.Graphs.{HasWay, ascending, leads}
@@ -26,12 +27,12 @@ use Rattle.name_tables.specs.Names.{has_name, with_name}
 use Rattle.name_tables.specs.Variables.{is_named, named_sorts, named_words, seen_after, sort_of, types_names, unless}
 use Rattle.name_tables.proofs.GraphsOrderLemmas.{Ascends, ascending_in, ascends_all, ascends_places, in_ascending, number_any}
 use Rattle.name_tables.proofs.FitGroups.{sort_places}
-use Rattle.name_tables.proofs.Members.{all_from, any_append_left, any_append_right, any_at}
-use Rattle.name_tables.proofs.NamesLemmas.{name_found, name_there, same_name}
+use Rattle.name_tables.proofs.NamesLemmas.{name_found, name_there, same_name, has_with}
 use Rattle.name_tables.proofs.NoFaultLemmas.{chosen}
+use Rattle.name_tables.proofs.GraphsLemmas.{number_there}
 use Rattle.domain_reader.proofs.FitItems.{AreClean, IsClean}
 use Rattle.domain_reader.proofs.FitEdges.{is_candidate, none_cyclic, put_keeps, put_leads, way_joined, way_within}
-use Rattle.domain_reader.proofs.FitNames.{Known, gets_with, known_with, rest_formed, tables_fit}
+use Rattle.domain_reader.proofs.FitNames.{Known, known_with, rest_formed, tables_fit}
 use Rattle.domain_reader.specs.Cycles.{AreSorts, no_sorts, more_sorts, CycleFaults, IsAbove, edge_put, edges_each, edges_in, first_edges, is_types, listed_in, listed_row, type_edges, under_object}
 use Rattle.domain_reader.specs.Tables.{no_names, types_in, with_item, with_items, vocabulary_of}
 use Rattle.domain_reader.specs.declared.cycles.Candidate.{Candidate}
@@ -60,7 +61,7 @@ row_known names table (word text at rest) k =
     (λ other. here other k, row_known (cond (is_dash text) names (with_name names text)) table rest k)
   where
     here : is_dash text ≡ false → Known (types_in (cond (is_dash text) names (with_name names text)) rest) table → has_name text table ≡ true
-    here other known = subst (λ b. Known (types_in (cond b names (with_name names text)) rest) table) other known text (types_kept (with_name names text) rest text (gets_with names text))
+    here other known = subst (λ b. Known (types_in (cond b names (with_name names text)) rest) table) other known text (types_kept (with_name names text) rest text (has_with names text))
 
 dash_no_name : (text : List ℕ) → is_name text ≡ true → is_dash text ≡ false
 dash_no_name text e = false_from_ne_true (is_dash text) (λ h. let f : is_name (codes "-") ≡ true = subst (λ t. is_name t ≡ true) (same_name text (codes "-") h) e in cc)
@@ -321,9 +322,6 @@ module _ (size : ℕ) (edges names : List (List ℕ)) (all : List sort.Sort) (L 
     where
       within : (b : ℕ) → HasWay edges k b → b < size
       within b w = way_within edges (λ n. n < size) u.within k w.between b w.steps
-
-      number_there : (ns : List ℕ) (j b : ℕ) → slice_get ns j ≡ Some b → has_number ns b ≡ true
-      number_there ns j b e = any_at (λ m. b == m) ns j b e (eq-eqb b b refl)
 
   sorts_fit : AreNames names → slice_get names 0 ≡ Some (codes "object") → AreFitSorts all
   sorts_fit are_names object = record {

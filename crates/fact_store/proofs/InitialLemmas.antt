@@ -1,13 +1,13 @@
 -- What is known at first, part by part.
-use Rattle.std.proofs.Common.{◌≡◌, ℕ, zero, suc, ◌+◌, ◌<◌, arith, Bool, true, ◌&&◌, List, [], ◌∷◌, ◌++◌, map, filter, take, drop, length, get_or, refl, sym, subst, ap, ◌∙◌, add-one, Some, slice_get, All, Contains, ltb-true, not, nat_lt, nat_le, option_map}
+use Rattle.std.proofs.Common.{◌≡◌, ℕ, zero, suc, ◌+◌, ◌<◌, arith, true, ◌&&◌, List, [], ◌∷◌, ◌++◌, map, filter, take, drop, length, get_or, sym, ap, ◌∙◌, add-one, Some, slice_get, All, Contains, ltb-true, not, nat_lt, nat_le, option_map}
 use Rattle.std.proofs.Math.Seq.{drop-cons}
 use Rattle.std.proofs.lemmas.Grind.{flat_map-append}
-use Rattle.std.proofs.lemmas.List.{take-append-drop, take_more, map-append, append-nil, length-map, length-take}
+use Rattle.std.proofs.lemmas.List.{take-append-drop, take_more, map-append, append-nil, length-map, length-take, map_push}
 use Rattle.std.proofs.lemmas.List.Sums.{AllPass-from_list_all}
 use Rattle.std.proofs.lemmas.Option.{slice_get-get_or, slice_get-map, slice_get_within}
 use Rattle.std.specs.Cmp.{first_so, second_so}
 use Rattle.std.specs.List.{list_all, flat_map}
-use Rattle.lemmas.proofs.Members.{place_of}
+use Rattle.lemmas.proofs.Members.{place_of, get_append}
 use Rattle.task_model.specs.Fit.{has_arity, is_predicate, is_fit_fact, is_fit_value, is_derived_role}
 use Rattle.task_model.specs.Initial.{type_facts, declared_types, declared_names, is_static, initial_known}
 use Rattle.task_model.specs.Known.{Known, IsIn, type_fact, with_fact, with_facts, with_values, with_name}
@@ -21,13 +21,10 @@ use Rattle.task_model.specs.declared.fact.Fact.{Fact}
 use Rattle.task_model.specs.declared.task.Task.{Task}
 use Rattle.task_model.specs.declared.task.Valued.{Valued}
 use Rattle.fact_store.proofs.StoreLemmas.{with_name-new}
-use Rattle.fact_store.proofs.NamePlaceLemmas.{mapped_push}
+use Rattle.lemmas.proofs.Numbers.{length-numbers_from, get-map-numbers}
+use Rattle.task_model.proofs.KnownLemmas.{in_names, facts_then}
 
 -- ---- facts
-
-facts_then : (facts first second : List Fact) → with_facts facts (first ++ second) ≡ with_facts (with_facts facts first) second
-facts_then facts [] second = refl
-facts_then facts (f ∷ first) second = facts_then (with_fact facts f) first second
 
 pub supertypes_then : (facts : List Fact) (object sort : ℕ) (above : List ℕ) → with_fact (with_facts (with_fact facts (type_fact sort object)) (map (λ s. type_fact s object) above)) (type_fact 0 object) ≡ with_facts facts (map (λ s. type_fact s object) (sort ∷ above ++ 0 ∷ []))
 supertypes_then facts object sort above =
@@ -54,21 +51,16 @@ object_more domain xs i x facts new lt is grown =
 
 -- ---- names
 
-stays_left : {A : Type 0} (xs ys : List A) (k : ℕ) (x : A) → slice_get xs k ≡ Some x → slice_get (xs ++ ys) k ≡ Some x
-stays_left [] ys k x e = absurd (cc)
-stays_left (z ∷ zs) ys zero x e = e
-stays_left (z ∷ zs) ys (suc k) x e = stays_left zs ys k x e
-
 -- the next name is a new one
 pub name_next : {A : Type 0} (f : A → List ℕ) (xs : List A) (i : ℕ) (x : A) → AreDistinct (map f xs) → i < length xs → x ≡ get_or xs i x → with_name (map f (take i xs)) (f x) ≡ map f (take (i + 1) xs)
 name_next f xs i x distinct lt is =
-    sym (with_name-new (map f (take i xs)) (f x) absent) ∙ sym (mapped_push f (take i xs) x) ∙ ap (map f) (ap (λ y. take i xs ++ y ∷ []) is ∙ sym (take_more xs i x lt))
+    sym (with_name-new (map f (take i xs)) (f x) absent) ∙ sym (map_push f (take i xs) x) ∙ ap (map f) (ap (λ y. take i xs ++ y ∷ []) is ∙ sym (take_more xs i x lt))
   where
     absent : ¬ (Contains (map f (take i xs)) (f x))
     absent m =
         let earlier = place_of (map f (take i xs)) (f x) m in
         let whole : map f (take i xs) ++ map f (drop i xs) ≡ map f xs = sym (map-append f (take i xs) (drop i xs)) ∙ ap (map f) (take-append-drop i xs) in
-        let there : slice_get (map f xs) earlier.0 ≡ Some (f x) = ap (λ ys. slice_get ys earlier.0) (sym whole) ∙ stays_left (map f (take i xs)) (map f (drop i xs)) earlier.0 (f x) earlier.1 in
+        let there : slice_get (map f xs) earlier.0 ≡ Some (f x) = ap (λ ys. slice_get ys earlier.0) (sym whole) ∙ get_append (map f (take i xs)) (map f (drop i xs)) earlier.0 (f x) earlier.1 in
         let here : slice_get (map f xs) i ≡ Some (f x) = slice_get-map f xs i ∙ ap (λ o. option_map f o) (slice_get-get_or xs i x lt ∙ ap Some (sym is)) in
         let same : earlier.0 ≡ i = distinct earlier.0 i (f x) there here in
         let below : earlier.0 < length (map f (take i xs)) = slice_get_within (map f (take i xs)) earlier.0 (f x) earlier.1 in
@@ -76,35 +68,18 @@ name_next f xs i x distinct lt is =
 
 -- ---- roles
 
-length-numbers_from : (m n : ℕ) → length (numbers_from m n) ≡ n
-length-numbers_from m zero = refl
-length-numbers_from m (suc n) = ap suc (length-numbers_from (m + 1) n)
-
-number_at : {A : Type 0} (f : ℕ → A) (m n k : ℕ) (d : A) → k < n → get_or (map f (numbers_from m n)) k d ≡ f (m + k)
-number_at f m zero k d lt = absurd (omega arith)
-number_at f m (suc n) zero d lt = let e : m ≡ m + 0 = omega arith in ap f e
-number_at f m (suc n) (suc k) d lt = let below : k < n = omega arith in let e : (m + 1) + k ≡ m + suc k = omega arith in number_at f (m + 1) n k d below ∙ ap f e
-
 pub roles_length : (domain : Domain) → domain.roles ≡ map (role_of domain) (numbers_from 0 (length domain.predicates)) → length domain.roles ≡ length domain.predicates
 roles_length domain is = ap length is ∙ length-map (numbers_from 0 (length domain.predicates)) (role_of domain) ∙ length-numbers_from 0 (length domain.predicates)
 
 pub role_is : (domain : Domain) (pred : ℕ) (d : Role) → domain.roles ≡ map (role_of domain) (numbers_from 0 (length domain.predicates)) → pred < length domain.predicates → get_or domain.roles pred d ≡ role_of domain pred
-role_is domain pred d is lt = let e : 0 + pred ≡ pred = omega arith in ap (λ rs. get_or rs pred d) is ∙ number_at (role_of domain) 0 (length domain.predicates) pred d lt ∙ ap (role_of domain) e
+role_is domain pred d is lt = let e : 0 + pred ≡ pred = omega arith in ap (λ rs. get_or rs pred d) is ∙ get-map-numbers (role_of domain) 0 (length domain.predicates) pred d lt ∙ ap (role_of domain) e
 
 -- ---- fit facts and values
-
-pub fit_at : {A : Type 0} (p : A → Bool) (xs : List A) (i : ℕ) (x : A) → list_all p xs ≡ true → i < length xs → x ≡ get_or xs i x → p x ≡ true
-fit_at p xs i x all lt is = subst (λ y. p y ≡ true) (sym is) (AllPass-from_list_all p xs all i x lt)
 
 arity_place : (signatures : List Signature) (place n : ℕ) → has_arity signatures place n ≡ true → place < length signatures
 arity_place [] place n e = absurd (cc)
 arity_place (s ∷ ss) zero n e = omega arith
 arity_place (s ∷ ss) (suc place) n e = omega (arith, arity_place ss place n e)
-
-in_names : (names : List (List ℕ)) (object : ℕ) → object < length names → IsIn names object
-in_names [] object lt = absurd (omega arith)
-in_names (n ∷ ns) zero lt = refl
-in_names (n ∷ ns) (suc object) lt = let below : object < length ns = omega arith in in_names ns object below
 
 pub objects_in : (names : List (List ℕ)) (objects : List ℕ) → list_all (λ o. nat_lt o (length names)) objects ≡ true → All (IsIn names) objects
 objects_in names objects all k d lt = in_names names _ (ltb-true _ _ (AllPass-from_list_all (λ o. nat_lt o (length names)) objects all k d lt))

@@ -1,8 +1,9 @@
 -- Names and their places.
-use Rattle.std.proofs.Common.{◌≡◌, ℕ, ◌+◌, Bool, true, false, cond, ◌||◌, List, [], ◌∷◌, ◌++◌, map, length, refl, sym, subst, ap, ◌∙◌, Some, slice_get, Contains, option_map, ◌⊎◌, inl, inr, Result, Ok, Err, is_ok, ◌<◌, ◌≤◌, arith}
-use Rattle.std.proofs.lemmas.List.{length_push}
+use Rattle.std.proofs.Common.{◌≡◌, ℕ, ◌+◌, Bool, true, false, cond, List, [], ◌∷◌, ◌++◌, map, length, refl, sym, subst, ap, ◌∙◌, Some, slice_get, Contains, option_map, ◌⊎◌, inl, inr, Result, Ok, Err, is_ok, ◌<◌, ◌≤◌, arith}
+use Rattle.std.proofs.lemmas.List.{length_push, map_push}
 use Rattle.std.proofs.lemmas.Option.{slice_get-map}
 use Rattle.std.specs.List.{list_any, find}
+use Rattle.lemmas.proofs.MappedTests.{any_mapped}
 use Rattle.task_model.proofs.KnownLemmas.{numbers_decided}
 use Rattle.task_model.specs.Known.{same_numbers}
 use Rattle.fact_store.proofs.StoreLemmas.{name_found, name_absent}
@@ -15,11 +16,6 @@ find_passes p (y ∷ ys) x e =
       | true ↦ λ t f. let same : y ≡ x = cc in subst (λ z. p z ≡ true) same t
       | false ↦ λ t f. find_passes p ys x f
     ] refl e
-
--- where a mapped list is searched
-pub any_mapped : {A B : Type 0} (f : A → B) (p : B → Bool) (xs : List A) → list_any (λ x. p (f x)) xs ≡ list_any p (map f xs)
-any_mapped f p [] = refl
-any_mapped f p (x ∷ xs) = ap (λ b. p (f x) || b) (any_mapped f p xs)
 
 module _ {A : Type 0} (bytes_of : A → List ℕ) (keys : List A) (names : List (List ℕ)) (same : map bytes_of keys ≡ names) (name : List ℕ) where
   -- the name stands where the key stands that is found
@@ -35,20 +31,11 @@ module _ {A : Type 0} (bytes_of : A → List ℕ) (keys : List A) (names : List 
       let not_there : list_any (same_numbers name) names ≡ false = ap (list_any (same_numbers name)) (sym same) ∙ sym (any_mapped bytes_of (same_numbers name) keys) ∙ absent in
       absurd (cc)
 
--- the name that was put behind the others has the next number
-pub name_at_end : {A : Type 0} (xs : List A) (x : A) → slice_get (xs ++ x ∷ []) (length xs) ≡ Some x
-name_at_end [] x = refl
-name_at_end (y ∷ ys) x = name_at_end ys x
-
-pub mapped_push : {A B : Type 0} (f : A → B) (xs : List A) (x : A) → map f (xs ++ x ∷ []) ≡ map f xs ++ f x ∷ []
-mapped_push f [] x = refl
-mapped_push f (y ∷ ys) x = ap (λ zs. f y ∷ zs) (mapped_push f ys x)
-
 -- a new key is put behind the others, as its name is
 pub key_pushed : {A : Type 0} (bytes_of : A → List ℕ) (old new : List A) (key : A) (names : List (List ℕ)) (name : List ℕ) → map bytes_of old ≡ names → bytes_of key ≡ name → ¬ (Contains names name) → new ≡ cond (list_any (λ k. same_numbers (bytes_of key) (bytes_of k)) old) old (old ++ key ∷ []) → map bytes_of new ≡ names ++ name ∷ []
 key_pushed bytes_of old new key names name same is absent grown =
     let none : list_any (λ k. same_numbers (bytes_of key) (bytes_of k)) old ≡ false = any_mapped bytes_of (same_numbers (bytes_of key)) old ∙ (λ i. list_any (same_numbers (is i)) (same i)) ∙ name_absent names name absent in
-    ap (map bytes_of) (grown ∙ ap (λ b. cond b old (old ++ key ∷ [])) none) ∙ mapped_push bytes_of old key ∙ (λ i. same i ++ is i ∷ [])
+    ap (map bytes_of) (grown ∙ ap (λ b. cond b old (old ++ key ∷ [])) none) ∙ map_push bytes_of old key ∙ (λ i. same i ++ is i ∷ [])
 
 -- what a push onto names that kept their members leaves
 pub pushed_or_not : {E : Type 0} (r : Result (Unit {0}) E) (old kept new : List (List ℕ)) (name : List ℕ) → kept ≡ old → new ≡ cond (is_ok r) (kept ++ name ∷ []) kept → (new ≡ old ++ name ∷ []) ⊎ (new ≡ old)

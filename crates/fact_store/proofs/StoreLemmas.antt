@@ -1,33 +1,27 @@
 -- What is known stays coherent where a name, a fact or a value is put behind the others.
-use Rattle.std.proofs.Common.{◌≡◌, ℕ, zero, suc, Bool, true, false, cond, ◌&&◌, ◌==◌, ◌≤◌, ◌⊎◌, inl, inr, List, [], ◌∷◌, ◌++◌, refl, sym, subst, ap, ◌∙◌, Contains, All, eqb-true, eq-eqb, Result, Ok, Err, OnOk, OnErr, arith}
+use Rattle.std.proofs.Common.{◌≡◌, ℕ, zero, suc, true, false, cond, ◌≤◌, ◌⊎◌, inl, inr, List, [], ◌∷◌, ◌++◌, refl, sym, subst, ap, ◌∙◌, Contains, All, Result, Ok, Err, OnOk, OnErr}
 use Rattle.std.proofs.lemmas.List.Elements.{All-append}
 use Rattle.std.proofs.lemmas.Map.Views.{Contains-from_any, list_any-from_Contains}
 use Rattle.std.specs.List.{list_any}
-use Rattle.std.specs.Bool.{Decides}
-use Rattle.std.specs.Cmp.{IsEquivalence, decided, first_so, second_so}
-use Rattle.task_model.proofs.KnownLemmas.{numbers_decided, with_fact-is}
+use Rattle.std.specs.Cmp.{IsEquivalence, decided}
+use Rattle.task_model.proofs.KnownLemmas.{numbers_decided, with_fact-is, values_equivalence}
 use Rattle.lemmas.proofs.Members.{distinct_push}
 use Rattle.task_model.specs.Known.{Known, IsCoherent, IsIn, same_numbers, same_value, is_fact, with_fact, with_value, with_name}
 use Rattle.task_model.specs.declared.fact.Fact.{Fact}
 use Rattle.task_model.specs.declared.task.Valued.{Valued}
 use Rattle.fact_store.specs.Store.{Store, same_store}
-
-pub on_err : {T E : Type 0} (r : Result T E) (P : Type 0) → P → OnErr r P
-on_err (Ok x) P p = tt
-on_err (Err e) P p = p
+use Rattle.lemmas.proofs.Bools.{not_both}
+use Rattle.lemmas.proofs.ListTests.{all_one}
 
 -- what a call leaves: the list with one more, or as it was
 pub grown : {T E A : Type 0} (r : Result T E) (old put more new : List A) → put ≡ more → OnOk r (new ≡ put) → OnErr r (new ≡ old) → (new ≡ more) ⊎ (new ≡ old)
 grown (Ok x) old put more new same ok err = inl (ok ∙ same)
 grown (Err e) old put more new same ok err = inr err
 
-no_true_false : (b : Bool) → b ≡ true → b ≡ false → ⊥
-no_true_false b t f = absurd (cc)
-
 -- ---- names
 
 pub in_more : (names more : List (List ℕ)) (object : ℕ) → IsIn names object → IsIn (names ++ more) object
-in_more [] more object h = absurd (no_true_false false h refl)
+in_more [] more object h = absurd (not_both false h refl)
 in_more (n ∷ ns) more zero h = refl
 in_more (n ∷ ns) more (suc object) h = in_more ns more object h
 
@@ -66,10 +60,6 @@ name_kept known names name absent cases c =
       | inr e ↦ subst (λ ns. IsCoherent (record known { names = ns })) (sym e) c
     ]
 
-all_one : {A : Type 0} (P : A → Type 0) (x : A) → P x → All P (x ∷ [])
-all_one P x p zero d l = p
-all_one P x p (suc k) d l = absurd (omega arith)
-
 -- ---- facts
 
 objects_kept : (names : List (List ℕ)) (facts : List Fact) (fact : Fact) → All (IsIn names) fact.args → All (λ (f : Fact). All (IsIn names) f.args) facts → All (λ (f : Fact). All (IsIn names) f.args) (with_fact facts fact)
@@ -97,27 +87,6 @@ fact_kept known facts fact one cases c =
 
 -- ---- values
 
-both : (a b : Bool) → a ≡ true → b ≡ true → (a && b) ≡ true
-both true b p q = q
-both false b p q = p
-
-values_same : (a b : Valued) → same_value a b ≡ true → a ≡ b
-values_same a b e =
-    let front = first_so ((a.func == b.func) && same_numbers a.args b.args) (a.value == b.value) e in
-    let value = second_so ((a.func == b.func) && same_numbers a.args b.args) (a.value == b.value) e in
-    let func = first_so (a.func == b.func) (same_numbers a.args b.args) front in
-    let args = second_so (a.func == b.func) (same_numbers a.args b.args) front in
-    λ i. record { func = eqb-true a.func b.func func i; args = (numbers_decided a.args b.args).0 args i; value = eqb-true a.value b.value value i }
-
-value_itself : (a : Valued) → same_value a a ≡ true
-value_itself a = both _ _ (both _ _ (eq-eqb a.func a.func refl) ((numbers_decided a.args a.args).1 refl)) (eq-eqb a.value a.value refl)
-
-value_decided : (a b : Valued) → Decides (same_value a b) (a ≡ b)
-value_decided a b = (values_same a b, λ e. subst (λ x. same_value a x ≡ true) e (value_itself a))
-
-values_equivalence : IsEquivalence same_value
-values_equivalence = decided same_value value_decided
-
 value_pushed : (known : Known) (value : Valued) → value.value ≤ 1000000 → IsCoherent known → IsCoherent (record known { values = with_value known.values value })
 value_pushed known value cost c =
     elim (list_any (same_value value) known.values) as (λ b. list_any (same_value value) known.values ≡ b → IsCoherent (record known { values = cond b known.values (known.values ++ value ∷ []) })) [
@@ -125,7 +94,7 @@ value_pushed known value cost c =
       | false ↦ λ absent. record {
         names = c.names;
         facts = c.facts;
-        values = distinct_push known.values value c.values (λ m. no_true_false _ (list_any-from_Contains values_equivalence value known.values m) absent);
+        values = distinct_push known.values value c.values (λ m. not_both _ (list_any-from_Contains values_equivalence value known.values m) absent);
         objects = c.objects;
         costs = All-append (λ (v : Valued). v.value ≤ 1000000) known.values (value ∷ []) c.costs (all_one (λ (v : Valued). v.value ≤ 1000000) value cost);
       }

@@ -5,6 +5,7 @@ use Rattle.lemmas.specs.Lists.{numbers_from}
 use Rattle.fit_check.specs.Filled.{places_of}
 use Rattle.std.proofs.lemmas.Bool.{eq-eqb, ne_eqb, cases_eq, cases_lt}
 use Rattle.std.proofs.lemmas.List.Folds.{list_any-append}
+use Rattle.lemmas.proofs.Numbers.{in_numbers}
 
 -- ---- which numbers are there
 
@@ -43,18 +44,6 @@ next_up zero rest = refl
 next_up (suc count) rest = ap (λ bs. true ∷ bs) (next_up count rest)
 
 -- ---- slots that are added
-
--- a number is among so many from this one on
-pub in_numbers : (first count n : ℕ) → first ≤ n → n < first + count → list_any (λ slot. slot == n) (numbers_from first count) ≡ true
-in_numbers first zero n low high = absurd (omega arith)
-in_numbers first (suc count) n low high =
-    elim (first == n) as (λ b. (first == n) ≡ b → (b || list_any (λ slot. slot == n) (numbers_from (first + 1) count)) ≡ true) [
-      | true ↦ λ e. refl
-      | false ↦ λ e. in_numbers (first + 1) count n (omega (arith, differ e)) (omega arith)
-    ] refl
-  where
-    differ : (first == n) ≡ false → (first ≡ n → ⊥)
-    differ e same = absurd (let t : (first == n) ≡ true = eq-eqb first n same in cc)
 
 pub not_in_numbers : (first count n : ℕ) → (first ≤ n → first + count ≤ n) → list_any (λ slot. slot == n) (numbers_from first count) ≡ false
 not_in_numbers first zero n out = refl

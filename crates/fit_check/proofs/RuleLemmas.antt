@@ -2,11 +2,12 @@
 use Rattle.std.proofs.Common.{◌≡◌, ℕ, true, ◌&&◌, ◌==◌, List, [], ◌∷◌, refl, sym, ap, ◌∙◌, subst, Option, Some, None, slice_get, eqb-true, eq-eqb}
 use Rattle.std.specs.Cmp.{first_so, second_so}
 use Rattle.std.proofs.lemmas.Bool.{and_from}
+use Rattle.std.proofs.lemmas.Map.Keys.{any_passes_from_place}
 use Rattle.task_model.specs.Fit.{depends, mentions}
 use Rattle.lemmas.specs.Lists.{LeadsAlong}
 use Rattle.task_model.specs.declared.domain.Derived.{Derived}
 use Rattle.task_model.specs.declared.domain.Domain.{Domain}
-use Rattle.lemmas.proofs.ListTests.{any_found, any_at, one_there}
+use Rattle.lemmas.proofs.ListTests.{any_found, one_there}
 use Rattle.lemmas.proofs.Walks.{Way}
 use Rattle.fit_check.specs.Cycles.{IsAcyclic}
 use Rattle.fit_check.specs.Tests.{item_leads, mentions_head}
@@ -51,7 +52,7 @@ to_items domain (x ∷ xs) from to h =
     )
 
 depends_by : (domain : Domain) (i : ℕ) (d : Derived) (pred : ℕ) → HasItem domain i d → mentions pred d.body ≡ true → depends domain d.pred pred ≡ true
-depends_by domain i d pred f h = any_at (λ (x : Derived). (x.pred == d.pred) && mentions pred x.body) domain.derived i d f (and_from (d.pred == d.pred) (mentions pred d.body) (eq-eqb d.pred d.pred refl) h)
+depends_by domain i d pred f h = any_passes_from_place (λ (x : Derived). (x.pred == d.pred) && mentions pred x.body) domain.derived i d f (and_from (d.pred == d.pred) (mentions pred d.body) (eq-eqb d.pred d.pred refl) h)
 
 to_predicates : (domain : Domain) (between : List ℕ) (i j : ℕ) → LeadsAlong (item_leads domain) i between j → (d : Derived) × (e : Derived) × HasItem domain i d × HasItem domain j e × Way (depends domain) d.pred e.pred
 to_predicates domain [] i j h =

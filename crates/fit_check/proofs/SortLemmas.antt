@@ -3,12 +3,13 @@ use Rattle.std.proofs.Common.{◌≡◌, ℕ, zero, suc, ◌+◌, Bool, true, fa
 use Rattle.std.specs.Cmp.{first_so, second_so}
 use Rattle.std.specs.List.{list_any, list_all}
 use Rattle.std.proofs.lemmas.Bool.{and_from, not-true, not_from_false}
+use Rattle.std.proofs.lemmas.Map.Keys.{any_passes_from_place}
 use Rattle.task_model.proofs.KnownLemmas.{numbers_decided}
 use Rattle.task_model.specs.Fit as fit
 use Rattle.task_model.specs.Known.{same_numbers}
 use Rattle.task_model.specs.Streams.{is_empty}
 use Rattle.task_model.specs.declared.domain.Sort.{Sort}
-use Rattle.lemmas.proofs.ListTests.{any_found, any_at, all_at, all_from}
+use Rattle.lemmas.proofs.ListTests.{any_found, all_at, all_from}
 use Rattle.fit_check.proofs.TestsNameLemmas.{distinct_if, different_if}
 use Rattle.fit_check.specs.Tests as tests
 
@@ -65,13 +66,13 @@ closed_if all e k a b s t gs ma gt mb =
 
 among_from : (o : Option Sort) (above : List ℕ) → ((t : Sort) → o ≡ Some t → (b : ℕ) → list_any (λ n. n == b) t.above ≡ true → list_any (λ n. n == b) above ≡ true) → tests.are_among o above ≡ true
 among_from None above each = refl
-among_from (Some t) above each = all_from (λ b. list_any (λ n. n == b) above) t.above (λ j b g. each t refl b (any_at (λ n. n == b) t.above j b g (eq-eqb b b refl)))
+among_from (Some t) above each = all_from (λ b. list_any (λ n. n == b) above) t.above (λ j b g. each t refl b (any_passes_from_place (λ n. n == b) t.above j b g (eq-eqb b b refl)))
 
 closed_from : (all : List Sort) → ((k a b : ℕ) (s t : Sort) → slice_get all k ≡ Some s → list_any (λ n. n == a) s.above ≡ true → slice_get all a ≡ Some t → list_any (λ n. n == b) t.above ≡ true → list_any (λ n. n == b) s.above ≡ true) → list_all (tests.is_closed all) all ≡ true
 closed_from all closed =
     all_from (tests.is_closed all) all
     (λ k s gs. all_from (λ a. tests.are_among (slice_get all a) s.above) s.above
-    (λ i a ga. among_from (slice_get all a) s.above (λ t gt b mb. closed k a b s t gs (any_at (λ n. n == a) s.above i a ga (eq-eqb a a refl)) gt mb)))
+    (λ i a ga. among_from (slice_get all a) s.above (λ t gt b mb. closed k a b s t gs (any_passes_from_place (λ n. n == a) s.above i a ga (eq-eqb a a refl)) gt mb)))
 
 -- ---- all of it
 

@@ -3,16 +3,17 @@ use Rattle.std.proofs.Common.{◌≡◌, ℕ, zero, suc, ◌+◌, add-one, true,
 use Rattle.std.specs.Cmp.{first_so, second_so}
 use Rattle.std.specs.List.{list_any}
 use Rattle.std.proofs.lemmas.Bool.{and_from, not-true}
+use Rattle.std.proofs.lemmas.Map.Keys.{any_passes_from_place}
 use Rattle.task_model.proofs.KnownLemmas.{numbers_decided}
 use Rattle.task_model.specs.Known.{same_numbers}
 use Rattle.lemmas.specs.Lists.{AreDistinct}
-use Rattle.lemmas.proofs.ListTests.{any_found, any_at, any_mapped}
+use Rattle.lemmas.proofs.ListTests.{any_found, any_mapped}
 use Rattle.fit_check.specs.Tests.{are_different}
 
 absent : (name : List ℕ) (names : List (List ℕ)) (j : ℕ) (x : List ℕ) → not (list_any (same_numbers name) names) ≡ true → Some name ≡ Some x → slice_get names j ≡ Some x → ⊥
 absent name names j x none here e =
     let same : name ≡ x = cc in
-    let there : list_any (same_numbers name) names ≡ true = any_at (same_numbers name) names j x e ((numbers_decided name x).1 same) in
+    let there : list_any (same_numbers name) names ≡ true = any_passes_from_place (same_numbers name) names j x e ((numbers_decided name x).1 same) in
     let nowhere : list_any (same_numbers name) names ≡ false = not-true (list_any (same_numbers name) names) none in
     absurd (cc)
 

@@ -3,6 +3,7 @@ use Rattle.std.proofs.Common.{◌≡◌, ℕ, zero, suc, ◌+◌, true, false, n
 use Rattle.std.specs.Cmp.{first_so, second_so}
 use Rattle.std.specs.List.{list_any}
 use Rattle.std.proofs.lemmas.Bool.{and_from, not-true, not_from_false, both_ways}
+use Rattle.std.proofs.lemmas.Map.Keys.{any_passes_from_place}
 use Rattle.task_model.proofs.KnownLemmas.{numbers_decided}
 use Rattle.task_model.specs.Known.{same_numbers}
 use Rattle.lemmas.specs.Lists.{numbers_from}
@@ -11,7 +12,7 @@ use Rattle.task_model.specs.declared.domain.Domain.{Domain}
 use Rattle.task_model.specs.declared.domain.Role.{Role}
 use Rattle.task_model.specs.declared.domain.Role.TheVariants.{Static, Fluent, Derived}
 use Rattle.task_model.specs.declared.task.Valued.{Valued}
-use Rattle.lemmas.proofs.ListTests.{any_found, any_at}
+use Rattle.lemmas.proofs.ListTests.{any_found}
 use Rattle.fit_check.specs.Tests as tests
 
 -- ---- roles
@@ -60,7 +61,7 @@ equal_if v w e func args =
 none_differs : (v : Valued) (vs : List Valued) → not (list_any (tests.differ v) vs) ≡ true → (j : ℕ) (w : Valued) → slice_get vs j ≡ Some w → tests.differ v w ≡ false
 none_differs v vs none j w g =
     elim (tests.differ v w) as (λ b. tests.differ v w ≡ b → tests.differ v w ≡ false) [
-      | true ↦ λ t. absurd (both_ways (list_any (tests.differ v) vs) (not-true (list_any (tests.differ v) vs) none) (any_at (tests.differ v) vs j w g t))
+      | true ↦ λ t. absurd (both_ways (list_any (tests.differ v) vs) (not-true (list_any (tests.differ v) vs) none) (any_passes_from_place (tests.differ v) vs j w g t))
       | false ↦ λ f. f
     ] refl
 

@@ -67,3 +67,7 @@ answered f fs (Some g) l = record { among = l.among; first = l.first }
 pub least_answers : (fs : List Fault) → Answers fs (least_fault fs)
 least_answers [] = refl
 least_answers (f ∷ fs) = answered f fs (first (Some f) fs) (led f fs)
+
+-- no fault is answered only where there is none
+pub none_is_none : (fs : List Fault) → least_fault fs ≡ None → fs ≡ []
+none_is_none fs e = subst (Answers fs) e (least_answers fs)

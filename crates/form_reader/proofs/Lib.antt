@@ -1,3 +1,4 @@
 pub mod WordsLemmas
 pub mod FaultsFirstLemmas
 pub mod FaultsLeastLemmas
+pub mod RowsLemmas

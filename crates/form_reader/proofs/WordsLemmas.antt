@@ -1,27 +1,11 @@
 -- What a word of digits is read as.
-use Rattle.std.proofs.Common.{◌≡◌, ℕ, ◌<◌, ◌^◌, Bool, true, false, nat_le, List, [], ◌∷◌, refl, subst, arith, rules, Result, Err}
+use Rattle.std.proofs.Common.{◌≡◌, ℕ, true, false, List, [], ◌∷◌, refl, subst, arith, Result, Err}
 use Rattle.std.specs.List.{list_all}
 use Rattle.std.specs.Char.{is_ascii_digit}
-use Rattle.std.specs.Str.{IsUtf8}
 use Rattle.std.specs.Str.Parse.{ParsesUnsigned, digits_value}
-use Rattle.std.proofs.lemmas.Str.{IsUtf8-from_ascii}
-use Rattle.std.proofs.lemmas.Fmt.{IsAscii-from_digits}
-use Rattle.std.proofs.lemmas.Str.Parse.{IsDigitsTest, IsNumeralModel, numerals_by_value, parse_digits}
-use Rattle.std.proofs.lemmas.Bool.Decides.{nat_tests}
+use Rattle.std.proofs.lemmas.Str.Parse.{parse_digits}
+use Rattle.lemmas.proofs.Digits.{too_large, own}
 use Rattle.form_reader.specs.Words.{is_number}
-
-tells_digits : IsDigitsTest (λ ds. list_all is_ascii_digit ds ≡ true)
-tells_digits = search rules
-
-pub own : IsNumeralModel (λ ds. list_all is_ascii_digit ds ≡ true) (digits_value 10)
-own = numerals_by_value _ tells_digits
-
-pub digits_are_text : (word : List ℕ) → list_all is_ascii_digit word ≡ true → IsUtf8 word
-digits_are_text word e = IsUtf8-from_ascii word (IsAscii-from_digits word (own.to word e))
-
-too_large : (b : Bool) (v : ℕ) → (v < 2 ^ 32 → ⊥) → b ≡ nat_le v 1000000 → b ≡ false
-too_large true v h e = absurd (h (grind (arith, nat_tests, e)))
-too_large false v h e = refl
 
 refused : {E : Type 0} (word : List ℕ) (e : E) → list_all is_ascii_digit word ≡ true → ParsesUnsigned 32 10 word (Err e) → is_number word ≡ false
 unfolding is_number

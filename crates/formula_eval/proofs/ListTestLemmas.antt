@@ -1,15 +1,10 @@
 -- Lists walked from the front: what is left to see of a test of all, of some, or of pairs.
-use Rattle.std.proofs.Common.{◌≡◌, ◌≢◌, ℕ, zero, suc, ◌<◌, ◌≤◌, Bool, true, false, ◌&&◌, ◌||◌, List, [], ◌∷◌, length, drop, get_or, refl, ap, subst, arith, Some, slice_get}
+use Rattle.std.proofs.Common.{◌≡◌, ◌≢◌, ℕ, zero, suc, ◌<◌, Bool, true, false, ◌&&◌, ◌||◌, List, [], ◌∷◌, length, drop, get_or, refl, ap, arith, Some, slice_get}
 use Rattle.std.specs.List.{list_any, list_all}
-use Rattle.std.specs.Cmp.{first_so, second_so}
+use Rattle.std.proofs.lemmas.Option.{same_Some}
+use Rattle.task_model.proofs.TruthLemmas.{have_types-length}
 use Rattle.task_model.specs.Known.{Known}
 use Rattle.task_model.specs.Truth.{has_type, have_types}
-
-pub have_types-length : (known : Known) (objects sorts : List ℕ) → have_types known objects sorts ≡ true → length objects ≡ length sorts
-have_types-length known [] [] e = refl
-have_types-length known [] (s ∷ ss) e = absurd (cc)
-have_types-length known (o ∷ os) [] e = absurd (cc)
-have_types-length known (o ∷ os) (s ∷ ss) e = ap suc (have_types-length known os ss (second_so (has_type known o s) (have_types known os ss) e))
 
 pub have_types-unequal : (known : Known) (objects sorts : List ℕ) → (length objects ≢ length sorts) → false ≡ have_types known objects sorts
 have_types-unequal known objects sorts n = by (have_types known objects sorts) refl
@@ -26,30 +21,10 @@ have_types-drop known (o ∷ os) (s ∷ ss) (suc i) h k = have_types-drop known 
 
 pub list_all-drop : {A : Type 0} (p : A → Bool) (xs : List A) (i : ℕ) (x : A) → slice_get xs i ≡ Some x → list_all p (drop i xs) ≡ (p x && list_all p (drop (suc i) xs))
 list_all-drop p [] i x e = absurd (cc)
-list_all-drop p (y ∷ ys) zero x e = ap (λ z. p z && list_all p ys) (some_same y x e)
-  where
-    some_same : {A : Type 0} (a b : A) → Some a ≡ Some b → a ≡ b
-    some_same a b e = cc
+list_all-drop p (y ∷ ys) zero x e = ap (λ z. p z && list_all p ys) (same_Some y x e)
 list_all-drop p (y ∷ ys) (suc i) x e = list_all-drop p ys i x e
 
 pub list_any-drop : {A : Type 0} (p : A → Bool) (xs : List A) (i : ℕ) (x : A) → slice_get xs i ≡ Some x → list_any p (drop i xs) ≡ (p x || list_any p (drop (suc i) xs))
 list_any-drop p [] i x e = absurd (cc)
-list_any-drop p (y ∷ ys) zero x e = ap (λ z. p z || list_any p ys) (some_same y x e)
-  where
-    some_same : {A : Type 0} (a b : A) → Some a ≡ Some b → a ≡ b
-    some_same a b e = cc
+list_any-drop p (y ∷ ys) zero x e = ap (λ z. p z || list_any p ys) (same_Some y x e)
 list_any-drop p (y ∷ ys) (suc i) x e = list_any-drop p ys i x e
-
-pub list_all-at : {A : Type 0} (p : A → Bool) (xs : List A) (i : ℕ) (x : A) → list_all p xs ≡ true → slice_get xs i ≡ Some x → p x ≡ true
-list_all-at p [] i x all e = absurd (cc)
-list_all-at p (y ∷ ys) zero x all e = subst (λ z. p z ≡ true) (some_same y x e) (first_so (p y) (list_all p ys) all)
-  where
-    some_same : {A : Type 0} (a b : A) → Some a ≡ Some b → a ≡ b
-    some_same a b e = cc
-list_all-at p (y ∷ ys) (suc i) x all e = list_all-at p ys i x (second_so (p y) (list_all p ys) all) e
-
-pub drop-all : {A : Type 0} (xs : List A) (i : ℕ) → length xs ≤ i → drop i xs ≡ []
-drop-all [] zero h = refl
-drop-all [] (suc i) h = refl
-drop-all (x ∷ xs) zero h = absurd (omega arith)
-drop-all (x ∷ xs) (suc i) h = drop-all xs i (omega arith)

@@ -1,7 +1,11 @@
 -- Fit tasks: their roles, and that their conditions can be read.
-use Rattle.std.proofs.Common.{◌≡◌, ℕ, zero, suc, ◌+◌, ◌<◌, ◌≤◌, Bool, true, false, ◌&&◌, ◌||◌, ◌==◌, List, [], ◌∷◌, ◌++◌, map, length, get_or, refl, sym, ap, ◌∙◌, subst, arith, nat_lt, nat_le, eqb-true}
+use Rattle.std.proofs.Common.{◌≡◌, ℕ, zero, suc, ◌+◌, ◌<◌, ◌≤◌, true, false, ◌&&◌, ◌||◌, ◌==◌, List, [], ◌∷◌, ◌++◌, length, get_or, refl, ap, ◌∙◌, subst, arith, nat_lt, nat_le, eqb-true}
 use Rattle.std.specs.Cmp.{first_so, second_so}
 use Rattle.std.specs.List.{list_any, list_all}
+use Rattle.std.proofs.lemmas.Bool.{and_from}
+use Rattle.std.proofs.lemmas.List.{append-nil, length-map}
+use Rattle.lemmas.proofs.Numbers.{length-numbers_from, get-map-numbers}
+use Rattle.lemmas.proofs.ListTests.{all_at_or}
 use Rattle.task_model.specs.Condition.{Condition, Conditions, Atom, Equal, All as every, Any, Not, Exists, none, more}
 use Rattle.task_model.specs.Fit.{IsFitDomain, has_arity, is_fit_term, is_sound, are_sound, count_of, is_fit_condition, are_places, is_fit_item, are_fit_params, is_short}
 use Rattle.task_model.specs.Known.{Known}
@@ -23,21 +27,8 @@ use borrow.Author.Tests.{ltb-true, leb-true, lt-ltb}
 
 -- ---- roles
 
-length-numbers_from : (first n : ℕ) → length (numbers_from first n) ≡ n
-length-numbers_from first zero = refl
-length-numbers_from first (suc n) = ap suc (length-numbers_from (first + 1) n)
-
-length-map : {A B : Type 0} (f : A → B) (xs : List A) → length (map f xs) ≡ length xs
-length-map f [] = refl
-length-map f (x ∷ xs) = ap suc (length-map f xs)
-
-get-map-numbers : {B : Type 0} (f : ℕ → B) (first n k : ℕ) (d : B) → k < n → get_or (map f (numbers_from first n)) k d ≡ f (first + k)
-get-map-numbers f first zero k d h = absurd (omega arith)
-get-map-numbers f first (suc n) zero d h = ap f (omega arith)
-get-map-numbers f first (suc n) (suc k) d h = get-map-numbers f (first + 1) n k d (omega arith) ∙ ap f (omega arith)
-
 pub roles_length : (domain : Domain) → IsFitDomain domain → length domain.roles ≡ length domain.predicates
-roles_length domain fit = ap length fit.roles ∙ length-map (role_of domain) _ ∙ length-numbers_from 0 (length domain.predicates)
+roles_length domain fit = ap length fit.roles ∙ length-map _ (role_of domain) ∙ length-numbers_from 0 (length domain.predicates)
 
 pub role_kept : (domain : Domain) → IsFitDomain domain → (k : ℕ) (d : Role) → k < length domain.predicates → get_or domain.roles k d ≡ role_of domain k
 role_kept domain fit k d h = ap (λ rs. get_or rs k d) fit.roles ∙ get-map-numbers (role_of domain) 0 (length domain.predicates) k d h ∙ ap (role_of domain) (omega arith)
@@ -67,10 +58,6 @@ module _ (domain : Domain) (known : Known) (state : Atoms) (pred : ℕ) (args : 
 
 -- ---- conditions of fit tasks
 
-pub both : (a b : Bool) → a ≡ true → b ≡ true → (a && b) ≡ true
-both true b p q = q
-both false b p q = p
-
 below_sixteen : (filled : List ℕ) (n : ℕ) → list_all (λ s. nat_lt s 16) filled ≡ true → list_any (λ slot. slot == n) filled ≡ true → nat_lt n 16 ≡ true
 below_sixteen [] n all some = absurd (cc)
 below_sixteen (s ∷ ss) n all some =
@@ -81,7 +68,7 @@ below_sixteen (s ∷ ss) n all some =
 
 pub fit_slots : (first n : ℕ) (filled : List ℕ) → first + n ≤ 16 → list_all (λ s. nat_lt s 16) filled ≡ true → list_all (λ s. nat_lt s 16) (numbers_from first n ++ filled) ≡ true
 fit_slots first zero filled h all = all
-fit_slots first (suc n) filled h all = both (nat_lt first 16) _ (lt-ltb first 16 (omega arith)) (fit_slots (first + 1) n filled (omega arith) all)
+fit_slots first (suc n) filled h all = and_from (nat_lt first 16) _ (lt-ltb first 16 (omega arith)) (fit_slots (first + 1) n filled (omega arith) all)
 
 readable_term : (objects : ℕ) (filled : List ℕ) (t : Term) → list_all (λ s. nat_lt s 16) filled ≡ true → is_fit_term objects filled t ≡ true → is_readable_term t ≡ true
 readable_term objects filled (Slot n) all fit = below_sixteen filled n all fit
@@ -90,7 +77,7 @@ readable_term objects filled (Object o) all fit = refl
 pub readable_terms : (objects : ℕ) (filled : List ℕ) (ts : List Term) → list_all (λ s. nat_lt s 16) filled ≡ true → list_all (is_fit_term objects filled) ts ≡ true → list_all is_readable_term ts ≡ true
 readable_terms objects filled [] all fit = refl
 readable_terms objects filled (t ∷ ts) all fit =
-    both _ _ (readable_term objects filled t all (first_so (is_fit_term objects filled t) _ fit)) (readable_terms objects filled ts all (second_so (is_fit_term objects filled t) _ fit))
+    and_from _ _ (readable_term objects filled t all (first_so (is_fit_term objects filled t) _ fit)) (readable_terms objects filled ts all (second_so (is_fit_term objects filled t) _ fit))
 
 -- what has an arity is a place of the list
 pub has_place : (all : List Signature) (place n : ℕ) → has_arity all place n ≡ true → nat_lt place (length all) ≡ true
@@ -109,9 +96,9 @@ module _ (domain : Domain) (few : list_all (λ (s : Signature). nat_le s.arity 8
     readable_of_sound (Atom pred args) filled all e =
         let arity = first_so (has_arity domain.predicates pred (length args)) _ e in
         let terms = second_so (has_arity domain.predicates pred (length args)) _ e in
-        both _ _ (both _ _ (has_place domain.predicates pred (length args) arity) (few_arguments domain.predicates pred (length args) few arity)) (readable_terms objects filled args all terms)
+        and_from _ _ (and_from _ _ (has_place domain.predicates pred (length args) arity) (few_arguments domain.predicates pred (length args) few arity)) (readable_terms objects filled args all terms)
     readable_of_sound (Equal s t) filled all e =
-        both _ _ (readable_term objects filled s all (first_so (is_fit_term objects filled s) _ e)) (readable_term objects filled t all (second_so (is_fit_term objects filled s) _ e))
+        and_from _ _ (readable_term objects filled s all (first_so (is_fit_term objects filled s) _ e)) (readable_term objects filled t all (second_so (is_fit_term objects filled s) _ e))
     readable_of_sound (every parts) filled all e = readable_of_sounds parts filled all (second_so (nat_le (count_of parts) 8388608) _ e)
     readable_of_sound (Any parts) filled all e = readable_of_sounds parts filled all (second_so (nat_le (count_of parts) 8388608) _ e)
     readable_of_sound (Not part) filled all e = readable_of_sound part filled all e
@@ -119,20 +106,16 @@ module _ (domain : Domain) (few : list_all (λ (s : Signature). nat_le s.arity 8
         let front = first_so (nat_le (first + length sorts) 16 && are_places (length domain.sorts) sorts) _ e in
         let within = first_so (nat_le (first + length sorts) 16) _ front in
         let rest = second_so (nat_le (first + length sorts) 16 && are_places (length domain.sorts) sorts) _ e in
-        both _ _ within (readable_of_sound body _ (fit_slots first (length sorts) filled (leb-true (first + length sorts) 16 within) all) rest)
+        and_from _ _ within (readable_of_sound body _ (fit_slots first (length sorts) filled (leb-true (first + length sorts) 16 within) all) rest)
 
     readable_of_sounds : (cs : Conditions) (filled : List ℕ) → list_all (λ s. nat_lt s 16) filled ≡ true → are_sound domain objects cs filled ≡ true → are_readable domain cs ≡ true
     readable_of_sounds none filled all e = refl
     readable_of_sounds (more part parts) filled all e =
-        both _ _ (readable_of_sound part filled all (first_so (is_sound domain objects part filled) _ e)) (readable_of_sounds parts filled all (second_so (is_sound domain objects part filled) _ e))
-
-nothing_more : (xs : List ℕ) → xs ++ [] ≡ xs
-nothing_more [] = refl
-nothing_more (x ∷ xs) = ap (λ ys. x ∷ ys) (nothing_more xs)
+        and_from _ _ (readable_of_sound part filled all (first_so (is_sound domain objects part filled) _ e)) (readable_of_sounds parts filled all (second_so (is_sound domain objects part filled) _ e))
 
 -- the first slots, at most sixteen of them
 pub few_slots : (n : ℕ) → n ≤ 16 → list_all (λ s. nat_lt s 16) (numbers_from 0 n) ≡ true
-few_slots n few = subst (λ xs. list_all (λ s. nat_lt s 16) xs ≡ true) (nothing_more (numbers_from 0 n)) (fit_slots 0 n [] (omega arith) refl)
+few_slots n few = subst (λ xs. list_all (λ s. nat_lt s 16) xs ≡ true) (append-nil (numbers_from 0 n)) (fit_slots 0 n [] (omega arith) refl)
 
 -- a condition that is fit where at most sixteen slots are filled can be read
 pub fit_readable : (domain : Domain) → IsFitDomain domain → (objects n : ℕ) → n ≤ 16 → (c : Condition) → is_fit_condition domain objects (numbers_from 0 n) c ≡ true → is_readable domain c ≡ true
@@ -141,13 +124,8 @@ fit_readable domain fit objects n few c e =
 
 -- ---- items
 
-pub all_at : {A : Type 0} (p : A → Bool) (xs : List A) (i : ℕ) (x : A) → list_all p xs ≡ true → i < length xs → x ≡ get_or xs i x → p x ≡ true
-all_at p [] i x all h e = absurd (omega arith)
-all_at p (y ∷ ys) zero x all h e = subst (λ z. p z ≡ true) (sym e) (first_so (p y) (list_all p ys) all)
-all_at p (y ∷ ys) (suc i) x all h e = all_at p ys i x (second_so (p y) (list_all p ys) all) (omega arith) e
-
 pub fit_item : (domain : Domain) → IsFitDomain domain → (i : ℕ) (d : Derived) → i < length domain.derived → d ≡ get_or domain.derived i d → is_fit_item domain d ≡ true
-fit_item domain fit i d h e = all_at (is_fit_item domain) domain.derived i d (second_so (is_short domain.derived) _ fit.items) h e
+fit_item domain fit i d h e = all_at_or (is_fit_item domain) domain.derived i d (second_so (is_short domain.derived) _ fit.items) h e
 
 pub item_params : (domain : Domain) (d : Derived) → is_fit_item domain d ≡ true → length d.params ≤ 16
 item_params domain d e =

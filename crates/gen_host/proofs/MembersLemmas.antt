@@ -2,24 +2,13 @@
 use Rattle.std.proofs.Common.{◌≡◌, ℕ, zero, suc, ◌+◌, ◌*◌, ◌<◌, ◌≤◌, min, Bool, true, false, ◌&&◌, nat_lt, if◌then◌else◌, List, [], ◌∷◌, length, get_or, refl, arith, Result, take, ◌++◌, subst, ap, ◌∙◌, length-take}
 use Rattle.std.specs.List.{sum_by}
 use Rattle.std.proofs.Math.ListN.{set}
-use Rattle.std.proofs.lemmas.Bool.{ltb-true, ltb-false, le-ltb, lt-ltb}
+use Rattle.std.proofs.lemmas.Bool.{ltb-true, ltb-false, le-ltb, lt-ltb, and_right}
 use Rattle.std.proofs.lemmas.List.{length-set, take_more}
 use Rattle.std.proofs.lemmas.List.Sums.{sum_by-set, sum_by-cons, sum_by_more}
+use Rattle.std.specs.Cmp.{first_so, second_so}
 use native.Mathlib.Nat.{suc-mul, mul-le-mul_right}
 use Rattle.io_world.specs.Faults.{HasCause}
 use Rattle.gen_host.specs.Members.{all_below, total}
-
-and_left : (a b : Bool) → (a && b) ≡ true → a ≡ true
-and_left true b both = refl
-and_left false b both = both
-
-and_right : (a b : Bool) → (a && b) ≡ true → b ≡ true
-and_right true b both = both
-and_right false b both = cc
-
-and_false : (a b : Bool) → b ≡ false → (a && b) ≡ false
-and_false true b none = none
-and_false false b none = refl
 
 and_next : (a b c : Bool) → (b ≡ false → c ≡ false) → (a && b) ≡ false → (a && c) ≡ false
 and_next true b c next none = next none
@@ -29,13 +18,13 @@ and_next false b c next none = refl
 pub below_sum : {B : Type 0} (last : ℕ) (count : B → ℕ) (xs : List B) → all_below last count xs ≡ true → sum_by count xs ≤ length xs * last
 below_sum last count [] all = omega arith
 below_sum last count (x ∷ xs) all =
-    let here : count x < last = ltb-true (count x) last (and_left (nat_lt (count x) last) (all_below last count xs) all) in
-    let rest = below_sum last count xs (and_right (nat_lt (count x) last) (all_below last count xs) all) in
+    let here : count x < last = ltb-true (count x) last (first_so (nat_lt (count x) last) (all_below last count xs) all) in
+    let rest = below_sum last count xs (second_so (nat_lt (count x) last) (all_below last count xs) all) in
     omega (arith, rest, suc-mul (length xs) last, sum_by-cons count x xs)
 
 and_here : (a b c : Bool) → (a ≡ false → b ≡ false) → (a && c) ≡ false → (b && c) ≡ false
 and_here true b true next none = cc
-and_here true b false next none = and_false b false refl
+and_here true b false next none = and_right b false refl
 and_here false b c next none = rw (next refl) refl
 
 not_below_here : (last old new : ℕ) → old ≤ new → nat_lt old last ≡ false → nat_lt new last ≡ false
@@ -54,10 +43,10 @@ not_below last count (x ∷ xs) (suc i) y d within rises none =
 -- each of those that are all below is
 below_at : {B : Type 0} (last : ℕ) (count : B → ℕ) (xs : List B) (i : ℕ) (y : B) → i < length xs → all_below last count (set xs i y) ≡ true → count y < last
 below_at last count [] i y within all = absurd (omega arith)
-below_at last count (x ∷ xs) zero y within all = ltb-true (count y) last (and_left (nat_lt (count y) last) (all_below last count xs) all)
+below_at last count (x ∷ xs) zero y within all = ltb-true (count y) last (first_so (nat_lt (count y) last) (all_below last count xs) all)
 below_at last count (x ∷ xs) (suc i) y within all =
     let lower : i < length xs = omega arith in
-    below_at last count xs i y lower (and_right (nat_lt (count x) last) (all_below last count (set xs i y)) all)
+    below_at last count xs i y lower (second_so (nat_lt (count x) last) (all_below last count (set xs i y)) all)
 
 -- what the total was, and what it is
 pub record Risen (last length before now : ℕ) (old new : ℕ) : Type 0 where
@@ -98,7 +87,7 @@ caused n last failed count xs i old new result size within here one =
 all_below-append : {B : Type 0} (last : ℕ) (count : B → ℕ) (xs : List B) (y : B) → all_below last count xs ≡ true → count y < last → all_below last count (xs ++ y ∷ []) ≡ true
 all_below-append last count [] y all here = rw (lt-ltb (count y) last here) refl
 all_below-append last count (x ∷ xs) y all here =
-    rw (and_left (nat_lt (count x) last) (all_below last count xs) all) (all_below-append last count xs y (and_right (nat_lt (count x) last) (all_below last count xs) all) here)
+    rw (first_so (nat_lt (count x) last) (all_below last count xs) all) (all_below-append last count xs y (second_so (nat_lt (count x) last) (all_below last count xs) all) here)
 
 -- one more that is below
 pub below_more : {B : Type 0} (last : ℕ) (count : B → ℕ) (xs : List B) (i : ℕ) (d : B) → i < length xs → all_below last count (take i xs) ≡ true → count (get_or xs i d) < last → all_below last count (take (i + 1) xs) ≡ true
@@ -110,7 +99,7 @@ one_above last count [] i d within above = absurd (omega arith)
 one_above last count (x ∷ xs) zero d within above = rw (le-ltb (count x) last above) refl
 one_above last count (x ∷ xs) (suc i) d within above =
     let lower : i < length xs = omega arith in
-    and_false (nat_lt (count x) last) (all_below last count xs) (one_above last count xs i d lower above)
+    and_right (nat_lt (count x) last) (all_below last count xs) (one_above last count xs i d lower above)
 
 -- the total where one isn't below, and where all are
 pub total_above : {B : Type 0} (n last : ℕ) (count : B → ℕ) (xs : List B) (i : ℕ) (d : B) → length xs ≡ n → i < length xs → last ≤ count (get_or xs i d) → n * last ≡ total last count xs

@@ -28,7 +28,7 @@ split_later held later lt =
     let back : drop (n + 1) (held ++ later) ≡ drop (n + 1) held ++ later = drop-append-le (n + 1) held later (omega arith) in
     slice_split_first is_feed (held ++ later) 0 longer ∙ rw (same, front, back) refl
 
-parts_left : (bytes : List ℕ) → 0 < length (slice_split is_feed bytes)
+pub parts_left : (bytes : List ℕ) → 0 < length (slice_split is_feed bytes)
 parts_left bytes = omega (arith, length-slice_split is_feed bytes)
 
 open_cons : (part : List ℕ) (parts : List (List ℕ)) → 0 < length parts → open_part (part ∷ parts) ≡ open_part parts

@@ -11,6 +11,11 @@ pub ended_cons : (part : List ℕ) (parts : List (List ℕ)) → 0 < length part
 ended_cons part [] h = absurd (omega arith)
 ended_cons part (next ∷ parts) h = refl
 
+pub ended_length : (parts : List (List ℕ)) → 0 < length parts → length (ended parts) + 1 ≡ length parts
+ended_length [] some = absurd (omega (arith, some))
+ended_length (part ∷ []) some = refl
+ended_length (part ∷ next ∷ parts) some = omega (arith, ended_length (next ∷ parts) (omega arith))
+
 pub lines_none : (held : List ℕ) → position is_feed held ≡ None → lines_of held ≡ []
 lines_none held e = rw (split_whole is_feed held (not_found is_feed held e)) refl
 

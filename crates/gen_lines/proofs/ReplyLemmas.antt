@@ -8,7 +8,8 @@ use Rattle.gen_lines.specs.declared.answer.Wanted.{Wanted}
 use Rattle.gen_lines.specs.declared.answer.Wanted.TheVariants.{Outputs, Number}
 use Rattle.gen_lines.specs.declared.answer.Why.TheVariants.{Word, Count, Value}
 use Rattle.gen_lines.specs.Reply.{Reply, yields, number, bad, reply_of, reply_of_fields, fields, given_reply, yield_reply, number_reply, end_reply, word_of, parted, has_bars, joined, are_of_width, is_value, is_number, IsRight}
-use Rattle.gen_lines.proofs.ReplyTupleLemmas.{and_both, joined_length, parts_of}
+use Rattle.gen_lines.proofs.ReplyTupleLemmas.{joined_length, parts_of}
+use Rattle.std.proofs.lemmas.Bool.{and_parts}
 
 -- a choice by two tests is one of three
 pub data OneOf (x y z r : Reply) : Type 0 where
@@ -48,7 +49,7 @@ right_of : (outputs : ℕ) (several : Bool) (given : List (List ℕ)) (tuples : 
 right_of outputs several given tuples values f =
     let all = parted (has_bars outputs several) given in
     let whole = parts_of (has_bars outputs several) given in
-    let both = and_both _ (nat_le (length all) 16) f.right in
+    let both = and_parts _ (nat_le (length all) 16) f.right in
     record {
       some = omega (arith, f.count, ap length whole.same);
       few = grind (arith, nat_tests, both.1, f.count);
@@ -85,7 +86,7 @@ by_number false m n e = absurd cc
 small : (field : List ℕ) → is_number field ≡ true → digits_value 10 field ≤ 1000000
 unfolding is_number
 small field e =
-    let both = and_both _ (nat_le (digits_value 10 field) 1000000) e in
+    let both = and_parts _ (nat_le (digits_value 10 field) 1000000) e in
     grind (arith, nat_tests, both.1)
 
 number_small : (given : List (List ℕ)) (n : ℕ) → number_reply given ≡ number n → n ≤ 1000000

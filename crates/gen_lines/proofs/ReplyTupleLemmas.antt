@@ -3,6 +3,7 @@ use Rattle.std.proofs.Common.{◌≡◌, ℕ, ◌+◌, ◌*◌, ◌≤◌, Bool,
 use Rattle.std.proofs.Math.Nat.{suc-mul}
 use Rattle.std.specs.List.{list_all, slice_split, onto_first}
 use Rattle.std.proofs.lemmas.Bool.Decides.{nat_tests}
+use Rattle.std.proofs.lemmas.Bool.{and_parts}
 use Rattle.gen_lines.specs.Reply.{parted, parts_here, is_bar, joined, are_of_width}
 use Rattle.gen_lines.specs.Told.{count_of}
 
@@ -125,14 +126,10 @@ pub joined_other : (field : List ℕ) (tuples : List (List (List ℕ))) → Part
 joined_other field [] p = absurd (let e = p.same in cc)
 joined_other field (tuple ∷ tuples) p = refl
 
-pub and_both : (a b : Bool) → (a && b) ≡ true → (a ≡ true) × (b ≡ true)
-and_both true b e = (refl, e)
-and_both false b e = absurd cc
-
 pub joined_length : (width : ℕ) (tuples : List (List (List ℕ))) → list_all (λ t. length t == width) tuples ≡ true → length (joined tuples) ≡ length tuples * width
 joined_length width [] e = omega arith
 joined_length width (tuple ∷ tuples) e =
-    let both = and_both (length tuple == width) _ e in
+    let both = and_parts (length tuple == width) _ e in
     let first : length tuple ≡ width = grind (arith, nat_tests, both.0) in
     let rest = joined_length width tuples both.1 in
     omega (arith, length-append tuple (joined tuples), suc-mul (length tuples) width)
@@ -150,7 +147,7 @@ pub record Counted (width : ℕ) (tuples : List (List (List ℕ))) (n : ℕ) : T
 pub counted : (width : ℕ) (tuples : List (List (List ℕ))) (n : ℕ) → count_of width tuples ≡ Some n → Counted width tuples n
 counted width tuples n e =
     let found = counted_by (are_of_width width tuples) (length tuples) n e in
-    let both = and_both _ (nat_le (length tuples) 16) found.0 in
+    let both = and_parts _ (nat_le (length tuples) 16) found.0 in
     record {
       right = found.0;
       count = found.1;

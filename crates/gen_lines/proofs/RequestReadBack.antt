@@ -9,6 +9,9 @@ use Rattle.std.proofs.lemmas.Fmt.{digits_decimal, decimal_nonempty}
 use Rattle.std.proofs.lemmas.List.Folds.{list_all-append}
 use Rattle.std.proofs.lemmas.List.Splits.{slice_split_at, length-slice_split}
 use Rattle.std.proofs.lemmas.List.Sums.{AllPass-from_list_all}
+use Rattle.std.proofs.lemmas.Bool.{and_parts}
+use Rattle.lemmas.proofs.Bools.{and_false}
+use Rattle.lemmas.proofs.ListTests.{all_weaker}
 use Rattle.task_model.specs.Streams.{name_at}
 use Rattle.task_model.specs.declared.stream.Instance.{Instance}
 use Rattle.task_model.specs.declared.task.Task.{Task}
@@ -17,8 +20,7 @@ use Rattle.gen_lines.specs.Lines.{is_feed, lines_of}
 use Rattle.gen_lines.specs.Reply.{is_filled, is_space}
 use Rattle.gen_lines.specs.Request.{request_words, stream_name}
 use Rattle.gen_lines.proofs.LinesLemmas.{ended_cons}
-use Rattle.gen_lines.proofs.ReplyDigitLemmas.{own}
-use Rattle.gen_lines.proofs.ReplyTupleLemmas.{and_both}
+use Rattle.lemmas.proofs.Digits.{own}
 use Rattle.gen_lines.proofs.FieldWordLemmas.{words_are_fields}
 
 abbrev visible : ℕ → Bool
@@ -28,24 +30,18 @@ visible b = nat_le 33 b && nat_le b 126
 abbrev stays : ℕ → Bool
 stays b = nat_le 32 b
 
-weaker : (p q : ℕ → Bool) → ((b : ℕ) → p b ≡ true → q b ≡ true) → (text : List ℕ) → list_all p text ≡ true → list_all q text ≡ true
-weaker p q so [] e = refl
-weaker p q so (b ∷ bs) e =
-    let both = and_both (p b) (list_all p bs) e in
-    rw (so b both.0, weaker p q so bs both.1) refl
-
 stays_if_visible : (b : ℕ) → visible b ≡ true → stays b ≡ true
-stays_if_visible b e = let both = and_both (nat_le 33 b) (nat_le b 126) e in grind (arith, nat_tests, both.0)
+stays_if_visible b e = let both = and_parts (nat_le 33 b) (nat_le b 126) e in grind (arith, nat_tests, both.0)
 
 no_space_if_visible : (b : ℕ) → visible b ≡ true → not (is_space b) ≡ true
 no_space_if_visible b e =
-    let both = and_both (nat_le 33 b) (nat_le b 126) e in
+    let both = and_parts (nat_le 33 b) (nat_le b 126) e in
     let no : (b == 32) ≡ false = grind (arith, nat_tests, both.0) in
     rw no refl
 
 visible_if_digit : (b : ℕ) → is_ascii_digit b ≡ true → visible b ≡ true
 visible_if_digit b e =
-    let both = and_both (nat_le 48 b) (nat_le b 57) e in
+    let both = and_parts (nat_le 48 b) (nat_le b 57) e in
     let low : nat_le 33 b ≡ true = grind (arith, nat_tests, both.0) in
     let high : nat_le b 126 ≡ true = grind (arith, nat_tests, both.1) in
     rw (low, high) refl
@@ -55,28 +51,24 @@ no_feed b e = grind (arith, nat_tests, e)
 
 word_if_printed : (text : List ℕ) → is_printed text ≡ true → is_word text ≡ true
 word_if_printed text e =
-    let both = and_both (is_filled text) (list_all visible text) e in
-    rw (both.0, weaker visible (λ b. not (is_space b)) no_space_if_visible text both.1) refl
+    let both = and_parts (is_filled text) (list_all visible text) e in
+    rw (both.0, all_weaker visible (λ b. not (is_space b)) no_space_if_visible text both.1) refl
 
 words_if_printed : (words : List (List ℕ)) → list_all is_printed words ≡ true → list_all is_word words ≡ true
 words_if_printed [] e = refl
 words_if_printed (word ∷ words) e =
-    let both = and_both (is_printed word) (list_all is_printed words) e in
+    let both = and_parts (is_printed word) (list_all is_printed words) e in
     rw (word_if_printed word both.0, words_if_printed words both.1) refl
 
 word_stays : (word : List ℕ) → is_printed word ≡ true → list_all stays word ≡ true
-word_stays word e = weaker visible stays stays_if_visible word (and_both (is_filled word) (list_all visible word) e).1
+word_stays word e = all_weaker visible stays stays_if_visible word (and_parts (is_filled word) (list_all visible word) e).1
 
 joined_stays : (words : List (List ℕ)) → list_all is_printed words ≡ true → list_all stays (join_with_byte 32 words) ≡ true
 joined_stays [] e = refl
-joined_stays (word ∷ []) e = word_stays word (and_both (is_printed word) true e).0
+joined_stays (word ∷ []) e = word_stays word (and_parts (is_printed word) true e).0
 joined_stays (word ∷ next ∷ words) e =
-    let both = and_both (is_printed word) (list_all is_printed (next ∷ words)) e in
+    let both = and_parts (is_printed word) (list_all is_printed (next ∷ words)) e in
     rw (list_all-append, word_stays word both.0, joined_stays (next ∷ words) both.1) refl
-
-and_no : (a : Bool) → (a && false) ≡ false
-and_no true = refl
-and_no false = refl
 
 no_return : (text : List ℕ) → list_all stays text ≡ true → strip_last 13 text ≡ text
 no_return [] e = refl
@@ -84,7 +76,7 @@ no_return (b ∷ bs) e =
     let last = length (b ∷ bs) - 1 in
     let high = AllPass-from_list_all stays (b ∷ bs) e last 0 (omega arith) in
     let no : (get_or (b ∷ bs) last 0 == 13) ≡ false = grind (arith, nat_tests, high) in
-    rw (no, and_no (nat_lt 0 (length (b ∷ bs)))) refl
+    rw (no, and_false (nat_lt 0 (length (b ∷ bs)))) refl
 
 line_of_text : (text later : List ℕ) → list_all stays text ≡ true → lines_of ((text ++ 10 ∷ []) ++ later) ≡ text ∷ lines_of later
 line_of_text text later e =
@@ -97,7 +89,7 @@ line_of_text text later e =
 number_printed : (n : ℕ) → n < 2 ^ 64 → is_printed (decimal n) ≡ true
 number_printed n lt =
     let filled : is_filled (decimal n) ≡ true = is_filled_if_long (decimal n) (decimal_nonempty n lt) in
-    rw (filled, weaker is_ascii_digit visible visible_if_digit (decimal n) (digits_decimal own n lt)) refl
+    rw (filled, all_weaker is_ascii_digit visible visible_if_digit (decimal n) (digits_decimal own n lt)) refl
   where
     is_filled_if_long : (text : List ℕ) → 0 < length text → is_filled text ≡ true
     is_filled_if_long [] h = absurd (omega arith)

@@ -1,9 +1,9 @@
 -- The steps that are listed are those that can be taken.
-use Rattle.std.proofs.Common.{◌≡◌, ℕ, ◌+◌, ◌<◌, ◌≤◌, ◌⊎◌, inl, inr, Bool, true, false, ◌&&◌, List, [], ◌∷◌, ◌++◌, length, append_assoc, refl, sym, ap, ◌∙◌, subst, arith, Option, Some, None, is_some, slice_get, Contains, if◌then◌else◌}
+use Rattle.std.proofs.Common.{◌≡◌, ℕ, ◌+◌, ◌<◌, ◌≤◌, ◌⊎◌, inl, inr, Bool, true, false, List, [], ◌∷◌, ◌++◌, length, append_assoc, refl, sym, ap, ◌∙◌, subst, arith, Option, Some, None, is_some, slice_get, Contains, if◌then◌else◌}
 use Rattle.std.proofs.lemmas.List.{append-nil}
-use Rattle.std.proofs.lemmas.Bool.{cases_lt}
+use Rattle.std.proofs.lemmas.Bool.{cases_lt, and_from, false≢true}
 use Rattle.std.proofs.lemmas.List.Elements.{All-contains_itself, Contains-append_left, Contains-append_right, Contains-append_cases}
-use Rattle.std.proofs.lemmas.Option.{slice_get_within}
+use Rattle.std.proofs.lemmas.Option.{slice_get_within, same_Some}
 use Rattle.std.specs.Cmp.{first_so, second_so, nat_cmp_is}
 use Rattle.std.specs.Cmp.Lexicographic.{slice_cmp}
 use Rattle.std.specs.List.{AllByRecursion}
@@ -29,10 +29,6 @@ TakenFrom [] (o ∷ t) = ⊥
 TakenFrom (objects ∷ choices) [] = ⊥
 TakenFrom (objects ∷ choices) (o ∷ t) = Contains objects o × TakenFrom choices t
 
-both : (a b : Bool) → a ≡ true → b ≡ true → (a && b) ≡ true
-both true b p q = q
-both false b p q = p
-
 taken_typed : (known : Known) (sorts : List ℕ) (choices : List (List ℕ)) (t : List ℕ) → AreChoices known sorts choices → TakenFrom choices t → have_types known t sorts ≡ true
 taken_typed known [] [] [] are taken = refl
 taken_typed known [] [] (o ∷ t) are taken = absurd taken
@@ -40,7 +36,7 @@ taken_typed known [] (os ∷ choices) t are taken = absurd are
 taken_typed known (sort ∷ sorts) [] t are taken = absurd are
 taken_typed known (sort ∷ sorts) (os ∷ choices) [] are taken = absurd taken
 taken_typed known (sort ∷ sorts) (os ∷ choices) (o ∷ t) are taken =
-    both (has_type known o sort) (have_types known t sorts) ((are.0.members o).0 taken.0) (taken_typed known sorts choices t are.1 taken.1)
+    and_from (has_type known o sort) (have_types known t sorts) ((are.0.members o).0 taken.0) (taken_typed known sorts choices t are.1 taken.1)
 
 typed_taken : (known : Known) (sorts : List ℕ) (choices : List (List ℕ)) (t : List ℕ) → AreChoices known sorts choices → have_types known t sorts ≡ true → TakenFrom choices t
 typed_taken known [] [] [] are typed = tt
@@ -76,9 +72,6 @@ some_value (Some x) e = (x, refl)
 is_some-of : {A : Type 0} (o : Option A) (x : A) → o ≡ Some x → is_some o ≡ true
 is_some-of o x e = ap is_some e
 
-some_same : {A : Type 0} (x y : A) → Some x ≡ Some y → x ≡ y
-some_same x y e = cc
-
 module _ (task : Task) (known : Known) (state : Atoms) (number : ℕ) (action : Action) where
   abbrev step_of : List ℕ → GroundAction
   step_of args = record { action = number; args = args }
@@ -110,10 +103,7 @@ module _ (task : Task) (known : Known) (state : Atoms) (number : ℕ) (action : 
     where
       by : (b : Bool) → takes args ≡ b → Contains (if b then step_of args ∷ [] else []) (step_of (args ++ []))
       by true e = subst (λ xs. Contains (step_of args ∷ []) (step_of xs)) (sym (append-nil args)) (contains_here (step_of args) [])
-      by false e = absurd (no (sym e ∙ ap takes (sym (append-nil args)) ∙ can))
-        where
-          no : false ≡ true → ⊥
-          no e = cc
+      by false e = absurd (false≢true (sym e ∙ ap takes (sym (append-nil args)) ∙ can))
   lists args [] (o ∷ t) taken can = absurd taken
   lists args (objects ∷ choices) [] taken can = absurd taken
   lists args (objects ∷ choices) (o ∷ t) taken can =
@@ -155,13 +145,13 @@ module _ (task : Task) (known : Known) (state : Atoms) (number : ℕ) (action : 
         (ap (λ (s : GroundAction). s.action) at.2, subst (IsApplicable task known state) (sym at.2) (effect_of action at.0 state, value.0, is));
     every = λ step same can.
         let s = can.2 in
-        let here : s.action ≡ action = some_same _ _ (sym s.named ∙ ap (slice_get task.domain.actions) same ∙ named) in
+        let here : s.action ≡ action = same_Some _ _ (sym s.named ∙ ap (slice_get task.domain.actions) same ∙ named) in
         let typed : have_types known step.args action.params ≡ true = ap (λ (a : Action). have_types known step.args a.params) (sym here) ∙ s.typed in
         let condition : is_true task.domain known state action.condition (slots_of step.args) ≡ true = ap (λ (a : Action). is_true task.domain known state a.condition (slots_of step.args)) (sym here) ∙ s.condition in
         let costs : is_some (cost_of task known action step.args) ≡ true = is_some-of _ can.1 (ap (λ (a : Action). cost_of task known a step.args) (sym here) ∙ s.costs) in
         let taken = typed_taken known action.params choices step.args are typed in
         let is : step_of step.args ≡ step = λ i. record { action = sym same i; args = step.args } in
-        subst (Contains (listed [] choices)) is (lists [] choices step.args taken (both _ _ condition costs));
+        subst (Contains (listed [] choices)) is (lists [] choices step.args taken (and_from _ _ condition costs));
   }
 
 -- ---- the steps of all actions

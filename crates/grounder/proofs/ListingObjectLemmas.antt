@@ -1,14 +1,13 @@
 -- The objects of a type are those that have it.
-use Rattle.std.proofs.Common.{◌≡◌, ℕ, suc, ◌⊎◌, inl, inr, Bool, true, false, ◌==◌, nat_eq, List, [], ◌∷◌, ◌++◌, length, take, refl, sym, ap, ◌∙◌, subst, Option, None, Some, slice_get, Contains, ◌↔◌, if◌then◌else◌}
-use Rattle.std.proofs.Math.Seq.{take-suc}
+use Rattle.std.proofs.Common.{◌≡◌, ℕ, suc, ◌⊎◌, inl, inr, Bool, true, false, ◌==◌, nat_eq, List, [], ◌∷◌, ◌++◌, length, refl, sym, ap, ◌∙◌, subst, Option, None, Some, Contains, ◌↔◌, if◌then◌else◌}
 use Rattle.std.proofs.lemmas.List.Kept.{IsStrictlySortedBy-dedup, Contains-dedup, Contains-from_dedup}
 use Rattle.std.proofs.lemmas.List.Sorted.{IsPermutation-sym, Contains-permutation}
-use Rattle.std.proofs.lemmas.Option.{slice_get_within, get_or_from_slice_get}
+use Rattle.std.proofs.lemmas.Option.{same_Some, none-some}
 use Rattle.std.specs.Cmp.{nat_cmp_total, nat_eq_equiv, unsigned_Decides, unsigned_ties}
 use Rattle.std.specs.List.{filter_map, cons_option, dedup}
 use Rattle.std.specs.List.Sorted.{IsPermutation, IsSorted, IsStrictlySortedBy}
 use Rattle.std.specs.Ordering.{nat_cmp}
-use Rattle.task_model.proofs.KnownLemmas.{fact_member}
+use Rattle.task_model.proofs.KnownLemmas.{fact_member, object_itself}
 use Rattle.task_model.specs.Known.{Known, type_fact, object_with, objects_of}
 use Rattle.task_model.specs.Truth.{has_type}
 use Rattle.task_model.specs.declared.fact.Kind.{Kind}
@@ -30,23 +29,14 @@ given sort o Sort name (x ∷ []) e = by (name == sort) refl e
         λ i. record { kind = Sort; name = named i; args = same i ∷ [] }
     by false t e = absurd (cc)
 
-gives : (sort o : ℕ) → object_with sort (type_fact sort o) ≡ Some o
-gives sort o = ap (λ b. if b then Some o else None) ((unsigned_Decides sort sort).1 refl)
-
-none_some : {A : Type 0} (x : A) → None ≡ Some x → ⊥
-none_some x e = cc
-
-some_same : {A : Type 0} (x y : A) → Some x ≡ Some y → x ≡ y
-some_same x y e = cc
-
 from_cons : {A : Type 0} (o : Option A) (ys : List A) (y : A) → Contains (cons_option o ys) y → (o ≡ Some y) ⊎ Contains ys y
 from_cons None ys y c = inr c
 from_cons (Some x) ys y c = elim (contains_cases x ys y c) [ inl same ↦ inl (ap Some same) | inr k ↦ inr k ]
 
 in_cons : {A : Type 0} (o : Option A) (ys : List A) (y : A) → (o ≡ Some y) ⊎ Contains ys y → Contains (cons_option o ys) y
-in_cons None ys y (inl e) = absurd (none_some y e)
+in_cons None ys y (inl e) = absurd (none-some y e)
 in_cons None ys y (inr k) = k
-in_cons (Some x) ys y (inl e) = subst (λ z. Contains (z ∷ ys) y) (sym (some_same x y e)) (contains_here y ys)
+in_cons (Some x) ys y (inl e) = subst (λ z. Contains (z ∷ ys) y) (sym (same_Some x y e)) (contains_here y ys)
 in_cons (Some x) ys y (inr k) = contains_later x ys y k
 
 from_filter_map : {A B : Type 0} (h : A → Option B) (xs : List A) (y : B) → Contains (filter_map h xs) y → (x : A) × Contains xs x × (h x ≡ Some y)
@@ -68,7 +58,7 @@ typed_member known sort o = (
       let from = from_filter_map (object_with sort) known.facts o c in
       let f = from.0 in
       (fact_member known.facts (type_fact sort o)).1 (subst (Contains known.facts) (given sort o f.kind f.name f.args from.2) from.1),
-  λ e. in_filter_map (object_with sort) known.facts (type_fact sort o) o ((fact_member known.facts (type_fact sort o)).0 e) (gives sort o),
+  λ e. in_filter_map (object_with sort) known.facts (type_fact sort o) o ((fact_member known.facts (type_fact sort o)).0 e) (object_itself sort o),
 )
 
 -- the objects, sorted and each kept once
@@ -82,9 +72,6 @@ sorted_objects known sort xs sorted ys all moved rise once = record {
 }
 
 -- ---- going on by one
-
-pub take-next : {A : Type 0} (xs : List A) (i : ℕ) (x : A) → slice_get xs i ≡ Some x → take (suc i) xs ≡ take i xs ++ x ∷ []
-take-next xs i x e = take-suc xs i x (slice_get_within xs i x e) ∙ ap (λ z. take i xs ++ z ∷ []) (get_or_from_slice_get xs i x x e)
 
 pub choices_push : (known : Known) (sorts : List ℕ) (choices : List (List ℕ)) (sort : ℕ) (objects : List ℕ) → AreChoices known sorts choices → AreObjectsOf known sort objects → AreChoices known (sorts ++ sort ∷ []) (choices ++ objects ∷ [])
 choices_push known [] [] sort objects are more = (more, tt)

@@ -1,11 +1,10 @@
 -- What is found is what is due, each once.
-use Rattle.std.proofs.Common.{◌≡◌, ℕ, zero, suc, ◌+◌, Bool, true, false, cond, ◌&&◌, ◌==◌, not, ◌⊎◌, inl, inr, List, [], ◌∷◌, ◌++◌, refl, sym, ap, subst, ◌∙◌, Option, Some, None, slice_get, arith, append_assoc, Contains, eqb-true, eq-eqb, ◌↔◌}
+use Rattle.std.proofs.Common.{◌≡◌, ℕ, zero, suc, ◌+◌, Bool, true, false, cond, ◌&&◌, ◌==◌, not, inl, inr, List, [], ◌∷◌, ◌++◌, refl, sym, ap, subst, ◌∙◌, Option, Some, None, slice_get, arith, append_assoc, Contains, eqb-true, ◌↔◌}
 use Rattle.std.proofs.lemmas.List.{append-nil}
 use Rattle.std.proofs.lemmas.List.Elements.{Contains-append_left, Contains-append_right, Contains-append_cases}
 use Rattle.std.specs.Cmp.{first_so, second_so}
-use Rattle.std.specs.List.{flat_map, filter_map}
-use Rattle.std.specs.List.{cons_option}
-use Rattle.task_model.proofs.KnownLemmas.{fact_member}
+use Rattle.std.specs.List.{flat_map, filter_map, cons_option}
+use Rattle.task_model.proofs.KnownLemmas.{fact_member, object_itself}
 use Rattle.lemmas.proofs.Members.{member_at, place_of, distinct_nil}
 use Rattle.task_model.specs.Known.{Known, type_fact, object_with, objects_of}
 use Rattle.lemmas.specs.Lists.{AreDistinct}
@@ -18,11 +17,11 @@ use Rattle.task_model.specs.declared.stream.Instance.{Instance}
 use Rattle.task_model.specs.declared.stream.Stream.{Stream}
 use Rattle.task_model.specs.declared.task.Task.{Task}
 use Rattle.instance_queue.specs.Found.{instance_at, found_at, found_under, found_from}
+use Rattle.lemmas.proofs.Bools.{and_not_parts}
+use Rattle.lemmas.proofs.Distinct.{distinct_tail}
+use Rattle.lemmas.proofs.Ascending.{contains_here, contains_later, contains_cases, contains_none, from_flat_map, in_flat_map}
 
 -- ---- lists
-
-not_in_nil : {A : Type 0} (y : A) → Contains [] y → ⊥
-not_in_nil y m = absurd (omega (arith, m.1))
 
 pub only_one : {A : Type 0} (x y : A) → Contains (x ∷ []) y → x ≡ y
 only_one x y m = by (place_of (x ∷ []) y m)
@@ -30,35 +29,6 @@ only_one x y m = by (place_of (x ∷ []) y m)
     by : (k : ℕ) × (slice_get (x ∷ []) k ≡ Some y) → x ≡ y
     by (zero, at) = cc
     by (suc k, at) = absurd (cc)
-
-pub at_head : {A : Type 0} (x : A) (xs : List A) → Contains (x ∷ xs) x
-at_head x xs = member_at (x ∷ xs) 0 x refl
-
-pub in_tail : {A : Type 0} (x y : A) (xs : List A) → Contains xs y → Contains (x ∷ xs) y
-in_tail x y xs m = Contains-append_right (x ∷ []) xs y m
-
-pub head_or_tail : {A : Type 0} (x y : A) (xs : List A) → Contains (x ∷ xs) y → (x ≡ y) ⊎ Contains xs y
-head_or_tail x y xs m = elim (Contains-append_cases (x ∷ []) xs y m) [ inl h ↦ inl (only_one x y h) | inr t ↦ inr t ]
-
--- a member of what is put together comes from a part
-pub from_flat : {A B : Type 0} (f : A → List B) (xs : List A) (y : B) → Contains (flat_map f xs) y → (x : A) × Contains xs x × Contains (f x) y
-from_flat f [] y m = absurd (not_in_nil y m)
-from_flat f (x ∷ xs) y m =
-    elim (Contains-append_cases (f x) (flat_map f xs) y m) [
-      | inl here ↦ (x, at_head x xs, here)
-      | inr there ↦ let r = from_flat f xs y there in (r.0, in_tail x r.0 xs r.1, r.2)
-    ]
-
-pub into_flat : {A B : Type 0} (f : A → List B) (xs : List A) (x : A) (y : B) → Contains xs x → Contains (f x) y → Contains (flat_map f xs) y
-into_flat f [] x y m n = absurd (not_in_nil x m)
-into_flat f (z ∷ zs) x y m n =
-    elim (head_or_tail z x zs m) [
-      | inl e ↦ Contains-append_left (f z) (flat_map f zs) y (subst (λ w. Contains (f w) y) (sym e) n)
-      | inr t ↦ Contains-append_right (f z) (flat_map f zs) y (into_flat f zs x y t n)
-    ]
-
-pub distinct_tail : {A : Type 0} (x : A) (xs : List A) → AreDistinct (x ∷ xs) → AreDistinct xs
-distinct_tail x xs d i j y at_i at_j = let e : suc i ≡ suc j = d (suc i) (suc j) y at_i at_j in omega arith
 
 pub head_is_new : {A : Type 0} (x : A) (xs : List A) → AreDistinct (x ∷ xs) → Contains xs x → ⊥
 head_is_new x xs d m = let p = place_of xs x m in let e : 0 ≡ suc p.0 = d 0 (suc p.0) x refl p.1 in absurd (omega arith)
@@ -72,40 +42,40 @@ distinct_cons x xs d absent (suc i) (suc j) y at_i at_j = ap suc (d i j y at_i a
 pub distinct_append : {A : Type 0} (xs ys : List A) → AreDistinct xs → AreDistinct ys → ((z : A) → Contains xs z → Contains ys z → ⊥) → AreDistinct (xs ++ ys)
 distinct_append [] ys d e apart = e
 distinct_append (x ∷ xs) ys d e apart =
-    distinct_cons x (xs ++ ys) (distinct_append xs ys (distinct_tail x xs d) e (λ z m n. apart z (in_tail x z xs m) n))
-    (λ m. elim (Contains-append_cases xs ys x m) [ inl h ↦ head_is_new x xs d h | inr t ↦ apart x (at_head x xs) t ])
+    distinct_cons x (xs ++ ys) (distinct_append xs ys (distinct_tail x xs d) e (λ z m n. apart z (contains_later x xs z m) n))
+    (λ m. elim (Contains-append_cases xs ys x m) [ inl h ↦ head_is_new x xs d h | inr t ↦ apart x (contains_here x xs) t ])
 
 -- parts without common members, each of distinct members, put together
 pub distinct_flat : {A B : Type 0} (f : A → List B) (xs : List A) → AreDistinct xs → ((x : A) → AreDistinct (f x)) → ((x y : A) (z : B) → Contains (f x) z → Contains (f y) z → x ≡ y) → AreDistinct (flat_map f xs)
 distinct_flat f [] d each apart = distinct_nil
 distinct_flat f (x ∷ xs) d each apart =
     distinct_append (f x) (flat_map f xs) (each x) (distinct_flat f xs (distinct_tail x xs d) each apart)
-    (λ z m n. let r = from_flat f xs z n in head_is_new x xs d (subst (Contains xs) (sym (apart x r.0 z m r.2)) r.1))
+    (λ z m n. let r = from_flat_map f xs z n in head_is_new x xs d (subst (Contains xs) (sym (apart x r.0 z m r.2)) r.1))
 
 module _ {A B : Type 0} (h : A → Option B) where
   pub from_mapped : (xs : List A) (y : B) → Contains (filter_map h xs) y → (x : A) × Contains xs x × (h x ≡ Some y)
-  from_mapped [] y m = absurd (not_in_nil y m)
+  from_mapped [] y m = absurd (contains_none y m)
   from_mapped (x ∷ xs) y m =
       elim (h x) as (λ o. h x ≡ o → Contains (cons_option o (filter_map h xs)) y → (z : A) × Contains (x ∷ xs) z × (h z ≡ Some y)) [
-        | None ↦ λ e n. let r = from_mapped xs y n in (r.0, in_tail x r.0 xs r.1, r.2)
+        | None ↦ λ e n. let r = from_mapped xs y n in (r.0, contains_later x xs r.0 r.1, r.2)
         | Some w ↦ λ e n.
-            elim (head_or_tail w y (filter_map h xs) n) [
-              | inl same ↦ (x, at_head x xs, e ∙ ap Some same)
-              | inr t ↦ let r = from_mapped xs y t in (r.0, in_tail x r.0 xs r.1, r.2)
+            elim (contains_cases w (filter_map h xs) y n) [
+              | inl same ↦ (x, contains_here x xs, e ∙ ap Some same)
+              | inr t ↦ let r = from_mapped xs y t in (r.0, contains_later x xs r.0 r.1, r.2)
             ]
       ] refl m
 
   pub into_mapped : (xs : List A) (x : A) (y : B) → Contains xs x → h x ≡ Some y → Contains (filter_map h xs) y
-  into_mapped [] x y m e = absurd (not_in_nil x m)
+  into_mapped [] x y m e = absurd (contains_none x m)
   into_mapped (z ∷ zs) x y m e =
-      elim (head_or_tail z x zs m) [
-        | inl same ↦ subst (λ o. Contains (cons_option o (filter_map h zs)) y) (sym (ap h same ∙ e)) (at_head y (filter_map h zs))
+      elim (contains_cases z zs x m) [
+        | inl same ↦ subst (λ o. Contains (cons_option o (filter_map h zs)) y) (sym (ap h same ∙ e)) (contains_here y (filter_map h zs))
         | inr t ↦ later (h z) (into_mapped zs x y t e)
       ]
     where
       later : (o : Option B) → Contains (filter_map h zs) y → Contains (cons_option o (filter_map h zs)) y
       later None n = n
-      later (Some w) n = in_tail w y (filter_map h zs) n
+      later (Some w) n = contains_later w (filter_map h zs) y n
 
   pub distinct_mapped : (xs : List A) → ((x z : A) (y : B) → h x ≡ Some y → h z ≡ Some y → x ≡ z) → AreDistinct xs → AreDistinct (filter_map h xs)
   distinct_mapped [] one d = distinct_nil
@@ -135,9 +105,6 @@ object_by sort object Sort name (o ∷ (p ∷ ps)) e = absurd (cc)
 object_is : (sort object : ℕ) (f : Fact) → object_with sort f ≡ Some object → f ≡ type_fact sort object
 object_is sort object f e = object_by sort object f.kind f.name f.args e
 
-object_itself : (sort object : ℕ) → object_with sort (type_fact sort object) ≡ Some object
-object_itself sort object = ap (λ b. cond b (Some object) None) (eq-eqb sort sort refl)
-
 pub objects_distinct : (facts : List Fact) (sort : ℕ) → AreDistinct facts → AreDistinct (objects_of facts sort)
 objects_distinct facts sort d = distinct_mapped (object_with sort) facts (λ f g o e1 e2. object_is sort o f e1 ∙ sym (object_is sort o g e2)) d
 
@@ -153,13 +120,13 @@ module _ (known : Known) (notes : List Note) where
       where
         by : (b : Bool) → is_due_at known notes stream (instance_at known notes stream place inputs) ≡ b → Contains (cond b (instance_at known notes stream place inputs ∷ []) []) i → (i ≡ instance_at known notes stream place inputs) × (is_due_at known notes stream i ≡ true)
         by true e n = let same = only_one (instance_at known notes stream place inputs) i n in (sym same, ap (is_due_at known notes stream) (sym same) ∙ e)
-        by false e n = absurd (not_in_nil i n)
+        by false e n = absurd (contains_none i n)
 
     -- it is an instance of the stream, is due, and its inputs begin so
     pub found_is : (inputs sorts : List ℕ) (i : Instance) → Contains (found_under known notes stream place inputs sorts) i → (more : List ℕ) × (i ≡ instance_at known notes stream place (inputs ++ more)) × (is_due_at known notes stream i ≡ true)
     found_is inputs [] i m = let r = at_inputs inputs i m in ([], r.0 ∙ ap (instance_at known notes stream place) (sym (append-nil inputs)), r.1)
     found_is inputs (sort ∷ sorts) i m =
-        let r = from_flat (λ o. found_under known notes stream place (inputs ++ o ∷ []) sorts) (objects_of known.facts sort) i m in
+        let r = from_flat_map (λ o. found_under known notes stream place (inputs ++ o ∷ []) sorts) (objects_of known.facts sort) i m in
         let s = found_is (inputs ++ r.0 ∷ []) sorts i r.2 in
         (r.0 ∷ s.0, s.1 ∙ ap (instance_at known notes stream place) (append_assoc inputs (r.0 ∷ []) s.0), s.2)
 
@@ -167,14 +134,14 @@ module _ (known : Known) (notes : List Note) where
     is_found inputs [] [] types due =
         let here = instance_at known notes stream place (inputs ++ []) in
         let all = append-nil inputs in
-        subst (λ xs. Contains (found_at known notes stream place xs) here) all (subst (λ b. Contains (cond b (here ∷ []) []) here) (sym due) (at_head here []))
+        subst (λ xs. Contains (found_at known notes stream place xs) here) all (subst (λ b. Contains (cond b (here ∷ []) []) here) (sym due) (contains_here here []))
     is_found inputs [] (o ∷ os) types due = absurd (cc)
     is_found inputs (sort ∷ sorts) [] types due = absurd (cc)
     is_found inputs (sort ∷ sorts) (o ∷ os) types due =
         let joined : (inputs ++ o ∷ []) ++ os ≡ inputs ++ o ∷ os = append_assoc inputs (o ∷ []) os in
         let one = first_so (has_type known o sort) (have_types known os sorts) types in
         let rest = second_so (has_type known o sort) (have_types known os sorts) types in
-        into_flat (λ x. found_under known notes stream place (inputs ++ x ∷ []) sorts) (objects_of known.facts sort) o (instance_at known notes stream place (inputs ++ o ∷ os)) (has_object known sort o one)
+        in_flat_map (λ x. found_under known notes stream place (inputs ++ x ∷ []) sorts) (objects_of known.facts sort) o (instance_at known notes stream place (inputs ++ o ∷ os)) (has_object known sort o one)
         (subst (λ xs. Contains (found_under known notes stream place (inputs ++ o ∷ []) sorts) (instance_at known notes stream place xs)) joined
         (is_found (inputs ++ o ∷ []) sorts os rest (ap (λ xs. is_due_at known notes stream (instance_at known notes stream place xs)) joined ∙ due)))
 
@@ -186,7 +153,7 @@ module _ (known : Known) (notes : List Note) where
     found_distinct d inputs [] = by (is_due_at known notes stream (instance_at known notes stream place inputs))
       where
         by : (b : Bool) → AreDistinct (cond b (instance_at known notes stream place inputs ∷ []) [])
-        by true = distinct_cons (instance_at known notes stream place inputs) [] distinct_nil (not_in_nil (instance_at known notes stream place inputs))
+        by true = distinct_cons (instance_at known notes stream place inputs) [] distinct_nil (contains_none (instance_at known notes stream place inputs))
         by false = distinct_nil
     found_distinct d inputs (sort ∷ sorts) =
         distinct_flat (λ o. found_under known notes stream place (inputs ++ o ∷ []) sorts) (objects_of known.facts sort) (objects_distinct known.facts sort d) (λ o. found_distinct d (inputs ++ o ∷ []) sorts)
@@ -198,7 +165,7 @@ module _ (known : Known) (notes : List Note) where
   -- ---- what is found of all streams
 
   pub found_stream : (place : ℕ) (ss : List Stream) (i : Instance) → Contains (found_from known notes place ss) i → (k : ℕ) × (s : Stream) × (i.stream ≡ place + k) × (slice_get ss k ≡ Some s) × (is_due_at known notes s i ≡ true)
-  found_stream place [] i m = absurd (not_in_nil i m)
+  found_stream place [] i m = absurd (contains_none i m)
   found_stream place (s ∷ ss) i m =
       elim (Contains-append_cases (found_under known notes s place [] s.inputs) (found_from known notes (place + 1) ss) i m) [
         | inl h ↦ let r = found_is s place [] s.inputs i h in (0, s, ap (λ (j : Instance). j.stream) r.1 ∙ (let e : place ≡ place + 0 = omega arith in e), refl, r.2)
@@ -230,11 +197,6 @@ module _ (known : Known) (notes : List Note) where
 
 -- ---- what is found of a task
 
-reached : (a b : Bool) → (a && not b) ≡ true → (a ≡ true) × (b ≡ false)
-reached true true e = absurd (cc)
-reached true false e = (refl, refl)
-reached false b e = absurd (cc)
-
 unfinished : (a b : Bool) → a ≡ true → b ≡ false → (a && not b) ≡ true
 unfinished true true p q = absurd (cc)
 unfinished true false p q = refl
@@ -245,7 +207,7 @@ found_is_due task known notes i = (
   λ m.
       let r = found_stream known notes 0 task.streams i m in
       let at : slice_get task.streams i.stream ≡ Some r.1 = ap (slice_get task.streams) (r.2 ∙ (let e : 0 + r.0 ≡ r.0 = omega arith in e)) ∙ r.3 in
-      let both = reached (is_reachable r.1 known i) (is_finished r.1 notes i) r.4 in
+      let both = and_not_parts (is_reachable r.1 known i) (is_finished r.1 notes i) r.4 in
       record { stream = r.1; named = at; reachable = both.0; unfinished = both.1 },
   λ d.
       in_found known notes 0 task.streams i.stream d.stream i d.named (let e : i.stream ≡ 0 + i.stream = omega arith in e) (first_so (have_types known i.inputs d.stream.inputs) _ d.reachable) (unfinished (is_reachable d.stream known i) (is_finished d.stream notes i) d.reachable d.unfinished),

@@ -1,19 +1,22 @@
 -- The order of instances, and that what is sorted by it ascends.
-use Rattle.std.proofs.Common.{◌≡◌, ℕ, ◌<◌, Bool, true, false, inl, inr, List, [], ◌∷◌, map, length, get_or, refl, sym, ap, ◌∙◌, Option, Some, None, slice_get, option_map, unwrap_or, IsSome, arith, Contains, All, eqb-true}
+use Rattle.std.proofs.Common.{◌≡◌, ℕ, ◌<◌, Bool, true, false, inl, inr, List, [], ◌∷◌, map, length, get_or, refl, sym, ap, ◌∙◌, Option, Some, None, slice_get, option_map, arith, Contains, All, eqb-true}
 use Rattle.std.proofs.lemmas.Bool.{cases_lt}
 use Rattle.std.proofs.lemmas.List.Elements.{All-nil, All-cons, All-head, All-tail, All-contains}
 use Rattle.std.proofs.lemmas.List.Sorted.{ranks_by, sorted_far}
 use Rattle.std.proofs.lemmas.Map.Keys.{IsDistinct-from_apart, apart_from_distinct, IsDistinct-IsPermutation}
 use Rattle.std.proofs.lemmas.Option.{slice_get_within, get_or_from_slice_get, slice_get-get_or, slice_get-map}
-use Rattle.std.specs.Cmp.{IsTotalOrder, IsStrictWeakOrder, then_total, on_total, nat_cmp_total, first_so, second_so, unsigned_ties}
-use Rattle.std.specs.Cmp.Lexicographic.{slice_cmp, lists_total, lists_ties, nat_list_cmp_total, pointwise_decides}
+use Rattle.std.specs.Cmp.{IsStrictWeakOrder, first_so, second_so, unsigned_ties}
+use Rattle.std.specs.Cmp.Lexicographic.{slice_cmp, lists_ties, pointwise_decides}
 use Rattle.std.specs.List.{IsDistinct}
 use Rattle.std.specs.List.Sorted.{IsPermutation, IsSortedBy}
-use Rattle.std.specs.Ordering.{is_lt, is_eq, nat_cmp, ordering_then, ordering_reverse}
+use Rattle.std.specs.Ordering.{is_lt, is_eq, nat_cmp, ordering_reverse}
 use Rattle.std.specs.declared.cmp.Ordering.{Ordering}
 use Rattle.std.specs.declared.cmp.Ordering.TheVariants.{Less, Equal, Greater}
 use Rattle.task_model.proofs.KnownLemmas.{numbers_decided, fact_member}
+use Rattle.task_model.proofs.StreamsLemmas.{named_at, instance_itself, instances_apart, instances_total}
 use Rattle.lemmas.proofs.Members.{member_at}
+use Rattle.lemmas.proofs.Bools.{not_both}
+use Rattle.lemmas.proofs.Ascending.{then_equal}
 use Rattle.task_model.specs.Known.{Known, IsCoherent, IsIn, type_fact}
 use Rattle.lemmas.specs.Lists.{AreDistinct, AreAscending}
 use Rattle.task_model.specs.Streams.{Note, IsDue, instance_cmp, name_at, same_instance}
@@ -21,14 +24,11 @@ use Rattle.task_model.specs.Truth.{have_types, has_type}
 use Rattle.task_model.specs.declared.fact.Fact.{Fact}
 use Rattle.task_model.specs.declared.stream.Instance.{Instance}
 use Rattle.task_model.specs.declared.task.Task.{Task}
-use Rattle.instance_queue.proofs.NotesLemmas.{instances_same, instance_itself, instances_equivalence}
+use Rattle.instance_queue.proofs.NotesLemmas.{instances_equivalence}
 use Rattle.instance_queue.specs.Level.{instances_of}
 use Rattle.instance_queue.specs.declared.due.Due.{Due}
 
 -- ---- a total order
-
-pub instances_total : (names : List (List ℕ)) → IsTotalOrder (instance_cmp names)
-instances_total names = then_total (on_total (λ (i : Instance). i.stream) nat_cmp_total) (on_total (λ (i : Instance). map (name_at names) i.inputs) (lists_total nat_list_cmp_total))
 
 abbrev pub comes_before : List (List ℕ) → Due → Due → Bool
 comes_before names x y = is_lt (instance_cmp names x.instance y.instance)
@@ -38,11 +38,6 @@ dues_ranked names = ranks_by (instances_total names) (λ (d : Due). d.instance)
 
 -- ---- equal in the order
 
-both_equal : (o p : Ordering) → ordering_then o p ≡ Equal → (o ≡ Equal) × (p ≡ Equal)
-both_equal Less p e = absurd (cc)
-both_equal Equal p e = (refl, e)
-both_equal Greater p e = absurd (cc)
-
 numbers_tie : (x y : ℕ) → nat_cmp x y ≡ Equal → x ≡ y
 numbers_tie x y e = eqb-true x y (unsigned_ties x y ∙ ap is_eq e)
 
@@ -51,17 +46,6 @@ texts_tie xs ys e = (pointwise_decides numbers_decided xs ys).0 (lists_ties (sli
 
 -- ---- names tell objects apart
 
-has_name : (names : List (List ℕ)) (object : ℕ) → IsIn names object → slice_get names object ≡ Some (name_at names object)
-has_name names object h = by (slice_get names object) refl h
-  where
-    by : (o : Option (List ℕ)) → slice_get names object ≡ o → IsIn names object → slice_get names object ≡ Some (name_at names object)
-    by None e i = absurd (no (slice_get names object) e i)
-      where
-        no : (o : Option (List ℕ)) → o ≡ None → IsSome o → ⊥
-        no None e i = absurd (cc)
-        no (Some x) e i = absurd (cc)
-    by (Some x) e i = e ∙ sym (ap (λ o. Some (unwrap_or o [])) e)
-
 same_objects : (names : List (List ℕ)) → AreDistinct names → (xs ys : List ℕ) → All (IsIn names) xs → All (IsIn names) ys → map (name_at names) xs ≡ map (name_at names) ys → xs ≡ ys
 same_objects names d [] [] h g e = refl
 same_objects names d [] (y ∷ ys) h g e = absurd (cc)
@@ -69,7 +53,7 @@ same_objects names d (x ∷ xs) [] h g e = absurd (cc)
 same_objects names d (x ∷ xs) (y ∷ ys) h g e =
     let first : name_at names x ≡ name_at names y = cc in
     let rest : map (name_at names) xs ≡ map (name_at names) ys = cc in
-    let same : x ≡ y = d x y (name_at names y) (has_name names x (All-head (IsIn names) x xs h) ∙ ap Some first) (has_name names y (All-head (IsIn names) y ys g)) in
+    let same : x ≡ y = d x y (name_at names y) (named_at names x (All-head (IsIn names) x xs h) ∙ ap Some first) (named_at names y (All-head (IsIn names) y ys g)) in
     λ i. same i ∷ same_objects names d xs ys (All-tail (IsIn names) x xs h) (All-tail (IsIn names) y ys g) rest i
 
 one_in : (known : Known) → IsCoherent known → (object sort : ℕ) → has_type known object sort ≡ true → IsIn known.names object
@@ -88,27 +72,17 @@ due_in task known notes c i d = typed_in known c i.inputs d.stream.inputs (first
 
 pub same_dues : (task : Task) (known : Known) (notes : List Note) → IsCoherent known → (a b : Instance) → IsDue task known notes a → IsDue task known notes b → instance_cmp known.names a b ≡ Equal → a ≡ b
 same_dues task known notes c a b da db e =
-    let both = both_equal (nat_cmp a.stream b.stream) (slice_cmp (slice_cmp nat_cmp) (map (name_at known.names) a.inputs) (map (name_at known.names) b.inputs)) e in
+    let both = then_equal (nat_cmp a.stream b.stream) (slice_cmp (slice_cmp nat_cmp) (map (name_at known.names) a.inputs) (map (name_at known.names) b.inputs)) e in
     let inputs = same_objects known.names c.names a.inputs b.inputs (due_in task known notes c a da) (due_in task known notes c b db) (texts_tie _ _ both.1) in
     λ i. record { stream = numbers_tie a.stream b.stream both.0 i; inputs = inputs i }
 
 -- ---- distinct members, also after a sort
 
-no_true_false : (b : Bool) → b ≡ true → b ≡ false → ⊥
-no_true_false b t f = absurd (cc)
-
-test_apart : (a b : Instance) → ¬ (a ≡ b) → same_instance a b ≡ false
-test_apart a b ne = by (same_instance a b) refl
-  where
-    by : (t : Bool) → same_instance a b ≡ t → same_instance a b ≡ false
-    by true e = absurd (ne (instances_same a b e))
-    by false e = e
-
 tested : (xs : List Instance) → AreDistinct xs → IsDistinct same_instance xs
 tested xs d =
     IsDistinct-from_apart same_instance xs
     (λ i j z below within.
-    test_apart (get_or xs i z) (get_or xs j z)
+    instances_apart (get_or xs i z) (get_or xs j z)
     (λ same.
     let i_in : i < length xs = omega (arith, below, within) in
     let e : i ≡ j = d i j (get_or xs j z) (slice_get-get_or xs i z i_in ∙ ap Some same) (slice_get-get_or xs j z within) in
@@ -124,7 +98,7 @@ by_test xs d i j x at_i at_j =
     apart : (i j : ℕ) → slice_get xs i ≡ Some x → slice_get xs j ≡ Some x → i < j → ⊥
     apart i j at_i at_j below =
         let f = apart_from_distinct same_instance xs i j x d below (slice_get_within xs j x at_j) in
-        no_true_false (same_instance x x) (instance_itself x) ((λ k. same_instance (sym (get_or_from_slice_get xs i x x at_i) k) (sym (get_or_from_slice_get xs j x x at_j) k)) ∙ f)
+        not_both (same_instance x x) (instance_itself x) ((λ k. same_instance (sym (get_or_from_slice_get xs i x x at_i) k) (sym (get_or_from_slice_get xs j x x at_j) k)) ∙ f)
 
 pub distinct_permuted : (xs ys : List Instance) → IsPermutation xs ys → AreDistinct xs → AreDistinct ys
 distinct_permuted xs ys p d = by_test ys (IsDistinct-IsPermutation same_instance instances_equivalence.symm xs ys p (tested xs d))
@@ -162,4 +136,4 @@ ascending task known notes c ys due d up i j a b below at_i at_j =
         absurd (omega (arith, below, place))
     by Greater e not_back =
         let back : instance_cmp known.names b a ≡ Less = (instances_total known.names).antisymm b a ∙ ap ordering_reverse e in
-        absurd (no_true_false (is_lt (instance_cmp known.names b a)) (ap is_lt back) not_back)
+        absurd (not_both (is_lt (instance_cmp known.names b a)) (ap is_lt back) not_back)

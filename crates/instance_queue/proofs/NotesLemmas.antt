@@ -1,14 +1,14 @@
 -- Tallies, as notes come.
-use Rattle.std.proofs.Common.{◌≡◌, ℕ, ◌+◌, Bool, true, false, cond, ◌&&◌, ◌||◌, ◌==◌, nat_lt, List, [], ◌∷◌, ◌++◌, refl, sym, ap, subst, ◌∙◌, Some, arith, eqb-true, eq-eqb, count_by, map, zero-add}
+use Rattle.std.proofs.Common.{◌≡◌, ℕ, ◌+◌, Bool, true, false, cond, ◌||◌, nat_lt, List, [], ◌∷◌, ◌++◌, refl, sym, ap, subst, ◌∙◌, Some, arith, count_by, zero-add}
 use borrow.Author.Tests.{lt-ltb}
 use Rattle.std.proofs.lemmas.List.Folds.{list_any-append}
 use Rattle.std.proofs.lemmas.List.Sums.{sum_by-append}
 use Rattle.std.specs.Bool.{Decides}
-use Rattle.std.specs.Cmp.{first_so, second_so, IsEquivalence, decided}
+use Rattle.std.specs.Cmp.{IsEquivalence, decided}
 use Rattle.std.specs.List.{list_any}
+use Rattle.std.proofs.lemmas.List.{map_push}
 use Rattle.indexmap.specs.IndexMap.{IndexMap, get}
-use Rattle.task_model.proofs.KnownLemmas.{numbers_decided}
-use Rattle.task_model.specs.Known.{same_numbers}
+use Rattle.task_model.proofs.StreamsLemmas.{instances_same, instance_itself}
 use Rattle.task_model.specs.Streams.{Note, Yielded, Ended, same_instance, is_yield_of, is_end_of, yields_of}
 use Rattle.task_model.specs.declared.stream.Instance.{Instance}
 use Rattle.instance_queue.specs.Notes.{tally_of, tally_in, note_of, notes_in, AreTallied}
@@ -16,19 +16,6 @@ use Rattle.instance_queue.specs.declared.queue.Noted.{Noted}
 use Rattle.instance_queue.specs.declared.queue.Tally.{Tally}
 
 -- ---- instances
-
-both : (a b : Bool) → a ≡ true → b ≡ true → (a && b) ≡ true
-both true b p q = q
-both false b p q = p
-
-pub instances_same : (a b : Instance) → same_instance a b ≡ true → a ≡ b
-instances_same a b e =
-    let stream = first_so (a.stream == b.stream) (same_numbers a.inputs b.inputs) e in
-    let inputs = second_so (a.stream == b.stream) (same_numbers a.inputs b.inputs) e in
-    λ i. record { stream = eqb-true a.stream b.stream stream i; inputs = (numbers_decided a.inputs b.inputs).0 inputs i }
-
-pub instance_itself : (a : Instance) → same_instance a a ≡ true
-instance_itself a = both _ _ (eq-eqb a.stream a.stream refl) ((numbers_decided a.inputs a.inputs).1 refl)
 
 instance_decided : (a b : Instance) → Decides (same_instance a b) (a ≡ b)
 instance_decided a b = (instances_same a b, λ e. subst (λ x. same_instance a x ≡ true) e (instance_itself a))
@@ -123,14 +110,10 @@ yielded_some notes i = some_counted (is_yield_of i) notes
 pub about_noted : (noted : Noted) → about (note_of noted) ≡ noted.instance
 about_noted noted = elim noted.ended as (λ b. about (note_of (record { instance = noted.instance; ended = b })) ≡ noted.instance) [ true ↦ refl | false ↦ refl ]
 
-mapped_push : {A B : Type 0} (f : A → B) (xs : List A) (x : A) → map f (xs ++ x ∷ []) ≡ map f xs ++ f x ∷ []
-mapped_push f [] x = refl
-mapped_push f (y ∷ ys) x = ap (λ zs. f y ∷ zs) (mapped_push f ys x)
-
 pub noted_more : {S : Type 0} (old new : IndexMap Instance Tally S) (were are : List Noted) (noted : Noted) (key : Instance) (tally : Tally) (notes : List Note) → AreTallied old (notes_in were) → notes_in were ≡ notes → tally ≡ tally_of (notes ++ note_of noted ∷ []) noted.instance → are ≡ were ++ noted ∷ [] → key ≡ noted.instance → ((q : Instance) → get same_instance new q ≡ cond (same_instance key q) (Some tally) (get same_instance old q)) → AreTallied new (notes_in are)
 noted_more old new were are noted key tally notes was view now more is found =
     let same : key ≡ about (note_of noted) = is ∙ sym (about_noted noted) in
-    subst (AreTallied new) (sym (ap notes_in more ∙ mapped_push note_of were noted))
+    subst (AreTallied new) (sym (ap notes_in more ∙ map_push note_of were noted))
     (tallied_more old new (notes_in were) (note_of noted) tally was
     (now ∙ (λ k. tally_of (sym view k ++ note_of noted ∷ []) (sym (about_noted noted) k)))
     (λ q. found q ∙ ap (λ k. cond (same_instance k q) (Some tally) (get same_instance old q)) same))

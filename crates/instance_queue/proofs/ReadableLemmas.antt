@@ -1,14 +1,14 @@
 -- Streams of fit tasks can be read.
-use Rattle.std.proofs.Common.{◌≡◌, ℕ, suc, ◌+◌, ◌≤◌, true, ◌&&◌, List, [], ◌∷◌, length, refl, ap, Some, slice_get, nat_le, arith}
+use Rattle.std.proofs.Common.{◌≡◌, ℕ, ◌+◌, ◌≤◌, true, ◌&&◌, List, [], ◌∷◌, length, refl, Some, slice_get, nat_le, arith}
 use Rattle.std.proofs.lemmas.Option.{slice_get_within, get_or_from_slice_get}
 use Rattle.std.proofs.Common.{sym}
 use Rattle.std.specs.Cmp.{first_so, second_so}
 use Rattle.std.specs.List.{list_all}
-use Rattle.formula_eval.proofs.ReadableLemmas.{all_at, both, few_arguments, few_slots, readable_terms}
+use Rattle.std.proofs.lemmas.Bool.{and_from}
+use Rattle.lemmas.proofs.ListTests.{all_at_or}
+use Rattle.formula_eval.proofs.ReadableLemmas.{few_arguments, few_slots, readable_terms}
 use Rattle.task_model.specs.Fit.{IsFit, IsFitDomain, has_arity, is_fit_pattern, is_fit_term, are_fit_patterns, are_static_patterns, is_fit_worth, is_fit_stream, is_short, are_places}
-use Rattle.task_model.specs.Known.{Known}
 use Rattle.lemmas.specs.Lists.{numbers_from}
-use Rattle.task_model.specs.Truth.{have_types, has_type}
 use Rattle.task_model.specs.declared.domain.Domain.{Domain}
 use Rattle.task_model.specs.declared.domain.Pattern.{Pattern}
 use Rattle.task_model.specs.declared.stream.Stream.{Stream}
@@ -23,14 +23,14 @@ readable_patterns domain fit objects n few (p ∷ ps) all =
     let rest = second_so (is_fit_pattern domain objects (numbers_from 0 n) p) (list_all (is_fit_pattern domain objects (numbers_from 0 n)) ps) all in
     let arity = first_so (has_arity domain.predicates p.pred (length p.args)) (list_all (is_fit_term objects (numbers_from 0 n)) p.args) one in
     let terms = second_so (has_arity domain.predicates p.pred (length p.args)) (list_all (is_fit_term objects (numbers_from 0 n)) p.args) one in
-    both _ _
-    (both _ _ (few_arguments domain.predicates p.pred (length p.args) fit.predicates.arities arity) (readable_terms objects (numbers_from 0 n) p.args (few_slots n few) terms))
+    and_from _ _
+    (and_from _ _ (few_arguments domain.predicates p.pred (length p.args) fit.predicates.arities arity) (readable_terms objects (numbers_from 0 n) p.args (few_slots n few) terms))
     (readable_patterns domain fit objects n few ps rest)
 
 -- a stream of a fit task is fit
 pub fit_stream_at : (task : Task) → IsFit task → (place : ℕ) (s : Stream) → slice_get task.streams place ≡ Some s → is_fit_stream task.domain s ≡ true
 fit_stream_at task fit place s at =
-    all_at (is_fit_stream task.domain) task.streams place s (second_so (is_short task.streams) (list_all (is_fit_stream task.domain) task.streams) fit.streams.each) (slice_get_within task.streams place s at) (sym (get_or_from_slice_get task.streams place s s at))
+    all_at_or (is_fit_stream task.domain) task.streams place s (second_so (is_short task.streams) (list_all (is_fit_stream task.domain) task.streams) fit.streams.each) (slice_get_within task.streams place s at) (sym (get_or_from_slice_get task.streams place s s at))
 
 pub few_streams : (task : Task) → IsFit task → length task.streams ≤ 8388608
 few_streams task fit = leb-true (length task.streams) 8388608 (first_so (is_short task.streams) (list_all (is_fit_stream task.domain) task.streams) fit.streams.each)
@@ -64,10 +64,3 @@ pub fit_readable_stream : (task : Task) → IsFit task → (place : ℕ) (s : St
 fit_readable_stream task fit place s at =
     let one = fit_stream_at task fit place s at in
     record { narrow = narrow_inputs task.domain s one; patterns = readable_domain task.domain s one fit.domain }
-
--- as many objects as types
-pub have_types_long : (known : Known) (objects sorts : List ℕ) → have_types known objects sorts ≡ true → length objects ≡ length sorts
-have_types_long known [] [] e = refl
-have_types_long known [] (s ∷ ss) e = absurd (cc)
-have_types_long known (o ∷ os) [] e = absurd (cc)
-have_types_long known (o ∷ os) (s ∷ ss) e = ap suc (have_types_long known os ss (second_so (has_type known o s) (have_types known os ss) e))

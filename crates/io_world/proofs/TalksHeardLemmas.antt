@@ -5,14 +5,15 @@ use Rattle.std.proofs.lemmas.Bool.{eq-eqb}
 use Rattle.std.proofs.lemmas.Bool.Decides.{eqb_tells}
 use Rattle.std.proofs.lemmas.List.{append-nil, take-append-le, drop-append-le, length-take-le}
 use Rattle.std.proofs.lemmas.List.Elements.{All-append}
+use Rattle.lemmas.proofs.ListTests.{all_one}
 use borrow.Rule.Slice.PartMut.{put_mid, post_of}
 use Rattle.io_world.specs.Replies.{IsLine}
 use Rattle.io_world.specs.Talks.{Talk, Event, heard, silence, heard_more, spelled, Hears, IsGiven, Gives, Logs, LogsGiven, LogsGivenPart, Same}
 use Rattle.io_world.specs.declared.host.HostFault.{HostFault}
 use Rattle.io_world.proofs.LogsLemmas.{spelled-more}
-use Rattle.io_world.proofs.TalksLemmas.{single, extends_more}
+use Rattle.io_world.proofs.TalksLemmas.{extends_more}
 
-heard_none : (talk : Option Talk) → talk ≡ option_map (heard_more []) talk
+pub heard_none : (talk : Option Talk) → talk ≡ option_map (heard_more []) talk
 heard_none None = refl
 heard_none (Some talk) = ap (λ bytes. Some (record { written = talk.written; heard = bytes })) (sym (append-nil talk.heard))
 
@@ -34,7 +35,7 @@ AtMost child held events = IsLine (held ++ (spelled child silence events).heard)
 -- one read more
 pub gives_more : (child room : ℕ) (held xs piece zs : List ℕ) (events : List Event) → zs ≡ xs ++ piece → IsLine (held ++ xs) → Gives child held xs events → Gives child held zs (events ++ heard child room (Ok piece) ∷ [])
 gives_more child room held xs piece zs events all line so_far = record {
-  each = All-append (IsGiven child) events (heard child room (Ok piece) ∷ []) so_far.each (single (IsGiven child) (heard child room (Ok piece)) refl);
+  each = All-append (IsGiven child) events (heard child room (Ok piece) ∷ []) so_far.each (all_one (IsGiven child) (heard child room (Ok piece)) refl);
   spells = spelled-more child silence events (heard child room (Ok piece)) ∙ rw (eq-eqb child child refl) (ap (heard_more piece) so_far.spells ∙ ap (λ bytes. heard_more bytes silence) (sym all));
   early = λ k below. elim (eqb_tells k (length events)) as (λ w. AtMost child held (take k (events ++ heard child room (Ok piece) ∷ []))) [
     | inl same ↦ subst (AtMost child held) (sym (ap (λ m. take m (events ++ heard child room (Ok piece) ∷ [])) same.1 ∙ take-append_seam events (heard child room (Ok piece) ∷ []))) (subst (λ (talk : Talk). IsLine (held ++ talk.heard)) (sym so_far.spells) line)

@@ -1,9 +1,9 @@
 -- What is said in several calls.
-use Rattle.std.proofs.Common.{◌≡◌, ℕ, zero, suc, ◌<◌, ◌≤◌, List, [], ◌∷◌, ◌++◌, length, take, Option, Some, None, Ok, refl, sym, ap, ◌∙◌, append_assoc, arith, option_map}
-use Rattle.std.specs.List.{All}
+use Rattle.std.proofs.Common.{◌≡◌, ℕ, ◌<◌, ◌≤◌, List, [], ◌∷◌, ◌++◌, length, take, Option, Some, None, Ok, refl, sym, ap, ◌∙◌, append_assoc, option_map}
 use Rattle.std.proofs.lemmas.Bool.{eq-eqb}
 use Rattle.std.proofs.lemmas.List.{append-nil}
 use Rattle.std.proofs.lemmas.List.Elements.{All-append}
+use Rattle.lemmas.proofs.ListTests.{all_one}
 use Rattle.io_world.specs.Faults.{Extends}
 use Rattle.io_world.specs.Talks.{Talk, Event, wrote, silence, wrote_more, Writes, IsTaken, Takes, Logs, LogsTaken}
 use Rattle.io_world.proofs.LogsLemmas.{spelled-more}
@@ -40,14 +40,10 @@ writes_more child old mid new xs ys zs all first second = record {
   others = λ k other. second.others k other ∙ first.others k other;
 }
 
-pub single : {A : Type 0} (P : A → Type 0) (x : A) → P x → All P (x ∷ [])
-single P x here zero d below = here
-single P x here (suc k) d below = absurd (omega arith)
-
 -- one write more that was taken
 pub takes_more : (child n : ℕ) (xs piece zs : List ℕ) (events : List Event) → zs ≡ xs ++ take n piece → 0 < n → n ≤ length piece → Takes child xs events → Takes child zs (events ++ wrote child piece (Ok n) ∷ [])
 takes_more child n xs piece zs events all some within so_far = record {
-  each = All-append (IsTaken child) events (wrote child piece (Ok n) ∷ []) so_far.each (single (IsTaken child) (wrote child piece (Ok n)) (refl, some, within));
+  each = All-append (IsTaken child) events (wrote child piece (Ok n) ∷ []) so_far.each (all_one (IsTaken child) (wrote child piece (Ok n)) (refl, some, within));
   spells = spelled-more child silence events (wrote child piece (Ok n)) ∙ rw (eq-eqb child child refl) (ap (wrote_more (take n piece)) so_far.spells ∙ ap (λ bytes. wrote_more bytes silence) (sym all));
 }
 

@@ -5,3 +5,9 @@ pub mod Pigeonhole
 pub mod Ascending
 pub mod Positions
 pub mod MappedTests
+pub mod Bools
+pub mod Options
+pub mod Results
+pub mod Numbers
+pub mod Distinct
+pub mod Digits

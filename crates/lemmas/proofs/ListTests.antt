@@ -1,11 +1,10 @@
 -- Members of lists, and tests of all or some.
-use Rattle.std.proofs.Common.{◌≡◌, ℕ, zero, suc, ◌+◌, add-one, ◌<◌, ◌≤◌, Bool, true, false, ◌&&◌, ◌||◌, List, [], ◌∷◌, map, drop, length, get_or, refl, sym, ap, ◌∙◌, subst, arith, Some, slice_get}
+use Rattle.std.proofs.Common.{◌≡◌, ℕ, zero, suc, ◌+◌, add-one, ◌<◌, Bool, true, false, ◌&&◌, ◌||◌, List, [], ◌∷◌, map, drop, ◌++◌, length, get_or, refl, sym, ap, ◌∙◌, subst, arith, Some, slice_get, All, inl, inr}
 use Rattle.std.specs.Cmp.{first_so, second_so}
 use Rattle.std.specs.List.{list_any, list_all}
-use Rattle.std.proofs.lemmas.Bool.{or_left, or_right, and_from}
-
-some_same : {A : Type 0} (a b : A) → Some a ≡ Some b → a ≡ b
-some_same a b e = cc
+use Rattle.std.proofs.lemmas.Bool.{or_left, or_right, or_cases, and_from}
+use Rattle.std.proofs.lemmas.Option.{same_Some, slice_get-get_or}
+use Rattle.std.proofs.lemmas.List.Sums.{AllPass-from_list_all}
 
 -- some member passes
 pub any_found : {A : Type 0} (p : A → Bool) (xs : List A) → list_any p xs ≡ true → (i : ℕ) × (x : A) × (slice_get xs i ≡ Some x) × (p x ≡ true)
@@ -16,15 +15,10 @@ any_found p (x ∷ xs) e =
       | false ↦ λ _ rest. let found = any_found p xs rest in (suc found.0, found.1, found.2, found.3)
     ] refl e
 
-pub any_at : {A : Type 0} (p : A → Bool) (xs : List A) (i : ℕ) (x : A) → slice_get xs i ≡ Some x → p x ≡ true → list_any p xs ≡ true
-any_at p [] i x e t = absurd (cc)
-any_at p (y ∷ ys) zero x e t = or_left (p y) (list_any p ys) (subst (λ z. p z ≡ true) (sym (some_same y x e)) t)
-any_at p (y ∷ ys) (suc i) x e t = or_right (p y) (list_any p ys) (any_at p ys i x e t)
-
 -- each member passes
 pub all_at : {A : Type 0} (p : A → Bool) (xs : List A) (i : ℕ) (x : A) → list_all p xs ≡ true → slice_get xs i ≡ Some x → p x ≡ true
 all_at p [] i x all e = absurd (cc)
-all_at p (y ∷ ys) zero x all e = subst (λ z. p z ≡ true) (some_same y x e) (first_so (p y) (list_all p ys) all)
+all_at p (y ∷ ys) zero x all e = subst (λ z. p z ≡ true) (same_Some y x e) (first_so (p y) (list_all p ys) all)
 all_at p (y ∷ ys) (suc i) x all e = all_at p ys i x (second_so (p y) (list_all p ys) all) e
 
 pub all_from : {A : Type 0} (p : A → Bool) (xs : List A) → ((i : ℕ) (x : A) → slice_get xs i ≡ Some x → p x ≡ true) → list_all p xs ≡ true
@@ -52,7 +46,7 @@ get_there (y ∷ ys) zero h = (y, refl)
 get_there (y ∷ ys) (suc i) h = get_there ys i (omega arith)
 
 pub one_there : {A : Type 0} (xs : List A) (i : ℕ) (x y : A) → slice_get xs i ≡ Some x → slice_get xs i ≡ Some y → x ≡ y
-one_there xs i x y e f = some_same x y (sym e ∙ f)
+one_there xs i x y e f = same_Some x y (sym e ∙ f)
 
 -- what is left to see from a place on
 pub any_from : {A : Type 0} (p : A → Bool) (xs : List A) (i : ℕ) (x : A) → slice_get xs i ≡ Some x → list_any p (drop i xs) ≡ (p x || list_any p (drop (i + 1) xs))
@@ -60,11 +54,38 @@ any_from p xs i x e = from xs i e ∙ ap (λ n. p x || list_any p (drop n xs)) (
   where
     from : (xs : List _) (i : ℕ) → slice_get xs i ≡ Some x → list_any p (drop i xs) ≡ (p x || list_any p (drop (suc i) xs))
     from [] i e = absurd (cc)
-    from (y ∷ ys) zero e = ap (λ z. p z || list_any p ys) (some_same y x e)
+    from (y ∷ ys) zero e = ap (λ z. p z || list_any p ys) (same_Some y x e)
     from (y ∷ ys) (suc i) e = from ys i e
 
-pub none_left : {A : Type 0} (xs : List A) (i : ℕ) → length xs ≤ i → drop i xs ≡ []
-none_left [] zero h = refl
-none_left [] (suc i) h = refl
-none_left (x ∷ xs) zero h = absurd (omega arith)
-none_left (x ∷ xs) (suc i) h = none_left xs i (omega arith)
+-- ---- what holds of each member
+
+pub all_one : {A : Type 0} (P : A → Type 0) (x : A) → P x → All P (x ∷ [])
+all_one P x p zero d lt = p
+all_one P x p (suc k) d lt = absurd (omega arith)
+
+pub all_by_place : {A : Type 0} (P : A → Type 0) (xs : List A) → ((n : ℕ) (x : A) → slice_get xs n ≡ Some x → P x) → All P xs
+all_by_place P xs each k d h = each k _ (slice_get-get_or xs k d h)
+
+-- ---- lists put together
+
+pub any_append_left : {A : Type 0} (p : A → Bool) (xs ys : List A) → list_any p xs ≡ true → list_any p (xs ++ ys) ≡ true
+any_append_left p [] ys e = absurd (cc)
+any_append_left p (x ∷ xs) ys e = elim (or_cases (p x) (list_any p xs) e) [ inl t ↦ or_left (p x) (list_any p (xs ++ ys)) t | inr t ↦ or_right (p x) (list_any p (xs ++ ys)) (any_append_left p xs ys t) ]
+
+pub any_append_right : {A : Type 0} (p : A → Bool) (xs ys : List A) → list_any p ys ≡ true → list_any p (xs ++ ys) ≡ true
+any_append_right p [] ys e = e
+any_append_right p (x ∷ xs) ys e = or_right (p x) (list_any p (xs ++ ys)) (any_append_right p xs ys e)
+
+pub all_append : {A : Type 0} (p : A → Bool) (xs ys : List A) → list_all p xs ≡ true → list_all p ys ≡ true → list_all p (xs ++ ys) ≡ true
+all_append p [] ys e f = f
+all_append p (x ∷ xs) ys e f = and_from (p x) (list_all p (xs ++ ys)) (first_so (p x) (list_all p xs) e) (all_append p xs ys (second_so (p x) (list_all p xs) e) f)
+
+pub all_push : {A : Type 0} (p : A → Bool) (xs : List A) (x : A) → list_all p xs ≡ true → p x ≡ true → list_all p (xs ++ x ∷ []) ≡ true
+all_push p xs x e t = all_append p xs (x ∷ []) e (and_from (p x) true t refl)
+
+pub all_weaker : (p q : ℕ → Bool) → ((b : ℕ) → p b ≡ true → q b ≡ true) → (text : List ℕ) → list_all p text ≡ true → list_all q text ≡ true
+all_weaker p q so [] e = refl
+all_weaker p q so (b ∷ bs) e = and_from (q b) (list_all q bs) (so b (first_so (p b) (list_all p bs) e)) (all_weaker p q so bs (second_so (p b) (list_all p bs) e))
+
+pub all_at_or : {A : Type 0} (p : A → Bool) (xs : List A) (i : ℕ) (x : A) → list_all p xs ≡ true → i < length xs → x ≡ get_or xs i x → p x ≡ true
+all_at_or p xs i x all lt is = subst (λ y. p y ≡ true) (sym is) (AllPass-from_list_all p xs all i x lt)

@@ -2,6 +2,7 @@
 use Rattle.std.proofs.Common.{◌≡◌, ℕ, suc, ◌+◌, Bool, true, false, not, cond, ◌||◌, nat_lt, List, [], ◌∷◌, ◌++◌, map, length, refl, ap, ◌∙◌, Some, None, position}
 use Rattle.std.specs.List.{list_any, position_or_len}
 use Rattle.std.specs.Str.{bytes_eq}
+use Rattle.std.proofs.lemmas.List.{map_push}
 
 pub any_mapped : {A B : Type 0} (f : A → B) (p : B → Bool) (xs : List A) → list_any (λ x. p (f x)) xs ≡ list_any p (map f xs)
 any_mapped f p [] = refl
@@ -18,10 +19,6 @@ length_mapped f (x ∷ xs) = ap (λ n. suc n) (length_mapped f xs)
 pub position_mapped : {A B : Type 0} (f : A → B) (p : B → Bool) (xs : List A) → position (λ x. p (f x)) xs ≡ position p (map f xs)
 position_mapped f p xs = λ i. cond (nat_lt (prefix_mapped f p xs i) (length_mapped f xs i)) (Some (prefix_mapped f p xs i)) None
 
-mapped_push : {A B : Type 0} (f : A → B) (xs : List A) (x : A) → map f (xs ++ x ∷ []) ≡ map f xs ++ f x ∷ []
-mapped_push f [] x = refl
-mapped_push f (y ∷ ys) x = ap (λ zs. f y ∷ zs) (mapped_push f ys x)
-
 module _ {A : Type 0} (f : A → List ℕ) (old : List A) (key : A) (names : List (List ℕ)) (name : List ℕ) (same : map f old ≡ names) (is : f key ≡ name) where
   pub key_there : list_any (λ k. bytes_eq (f key) (f k)) old ≡ list_any (bytes_eq name) names
   key_there = any_mapped f (bytes_eq (f key)) old ∙ (λ i. list_any (bytes_eq (is i)) (same i))
@@ -32,4 +29,4 @@ module _ {A : Type 0} (f : A → List ℕ) (old : List A) (key : A) (names : Lis
     where
       either : (b : Bool) → map f (cond b old (old ++ key ∷ [])) ≡ cond b names (names ++ name ∷ [])
       either true = same
-      either false = mapped_push f old key ∙ (λ i. same i ++ is i ∷ [])
+      either false = map_push f old key ∙ (λ i. same i ++ is i ∷ [])

@@ -1,6 +1,6 @@
 -- The first place at which a test passes.
-use Rattle.std.proofs.Common.{◌≡◌, ℕ, ◌+◌, ◌<◌, ◌≤◌, Bool, true, false, not, cond, List, [], ◌∷◌, length, refl, arith, Some, None, position, nat_lt, unwrap_or}
-use Rattle.std.specs.List.{slice_split, position_or_len, prefix_len, onto_first}
+use Rattle.std.proofs.Common.{◌≡◌, ℕ, ◌+◌, ◌<◌, ◌≤◌, Bool, true, false, not, cond, ◌||◌, ◌∙◌, suc, List, [], ◌∷◌, length, refl, arith, Some, None, position, nat_lt, unwrap_or}
+use Rattle.std.specs.List.{list_any, slice_split, position_or_len, prefix_len, onto_first}
 use Rattle.std.proofs.lemmas.Bool.Decides.{nat_tests}
 use Rattle.std.proofs.lemmas.List.Sums.{prefix_len-le-length}
 
@@ -44,3 +44,12 @@ or_length false m n le e = grind (arith, nat_tests, e)
 -- the place, or the length where there is none
 pub position_or : (p : ℕ → Bool) (xs : List ℕ) → unwrap_or (position p xs) (length xs) ≡ position_or_len p xs
 position_or p xs = or_length _ _ _ (prefix_len-le-length (λ x. not (p x)) xs) refl
+
+any_within_by : {A : Type 0} (p : A → Bool) (xs : List A) (b : Bool) → list_any p xs ≡ nat_lt (position_or_len p xs) (length xs) → (b || list_any p xs) ≡ nat_lt (cond (not b) (1 + position_or_len p xs) 0) (suc (length xs))
+any_within_by p xs true e = grind (arith, nat_tests)
+any_within_by p xs false e = e ∙ grind (arith, nat_tests)
+
+-- a member passes exactly where the place of the first is within
+pub any_within : {A : Type 0} (p : A → Bool) (xs : List A) → list_any p xs ≡ nat_lt (position_or_len p xs) (length xs)
+any_within p [] = refl
+any_within p (x ∷ xs) = any_within_by p xs (p x) (any_within p xs)

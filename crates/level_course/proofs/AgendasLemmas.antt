@@ -1,9 +1,9 @@
 -- What the code of a level's course shows: lists that are passed one by one, and fronts of them.
-use Rattle.std.proofs.Common.{◌≡◌, ℕ, zero, suc, ◌+◌, ◌-◌, ◌<◌, ◌≤◌, true, false, ◌&&◌, List, [], ◌∷◌, ◌++◌, map, length, take, drop, refl, sym, ap, subst, ◌∙◌, arith, get_or, nat_le, count_by, append_assoc, drop-cons, add-one}
+use Rattle.std.proofs.Common.{◌≡◌, ℕ, zero, suc, ◌+◌, ◌-◌, ◌<◌, ◌≤◌, true, false, ◌&&◌, List, [], ◌∷◌, ◌++◌, length, take, drop, refl, sym, ap, subst, ◌∙◌, arith, get_or, nat_le, count_by, append_assoc, drop-cons, add-one}
 use Rattle.std.proofs.Math.ListN.{take-append-drop, length-drop}
 use Rattle.std.proofs.Math.Seq.{drop-nil}
-use Rattle.std.proofs.lemmas.Bool.{le-leb, lt-leb}
-use Rattle.std.proofs.lemmas.List.{append-nil, length-map, length-take-le, take-map, drop-take}
+use Rattle.std.proofs.lemmas.Bool.{le-leb, lt-leb, true≢false}
+use Rattle.std.proofs.lemmas.List.{append-nil, length-map, length-take-le, take-map, drop-take, drop-map}
 use Rattle.instance_queue.specs.Level.{instances_of}
 use Rattle.instance_queue.specs.declared.due.Due.{Due}
 use Rattle.task_model.specs.declared.stream.Instance.{Instance}
@@ -20,11 +20,6 @@ use Rattle.level_course.specs.declared.shares.Share.{Share}
 pub left : {A : Type 0} (xs : List A) (k : ℕ) (x : A) → k < length xs → x ≡ get_or xs k x → drop k xs ≡ x ∷ drop (k + 1) xs
 left xs k x lt is = drop-cons xs k x lt ∙ (λ i. sym is i ∷ drop (sym (add-one k) i) xs)
 
-pub drop_map : {A B : Type 0} (f : A → B) (n : ℕ) (xs : List A) → drop n (map f xs) ≡ map f (drop n xs)
-drop_map f zero xs = refl
-drop_map f (suc n) [] = refl
-drop_map f (suc n) (x ∷ xs) = drop_map f n xs
-
 drop_one : {A : Type 0} (n : ℕ) (xs : List A) → drop (suc n) xs ≡ drop 1 (drop n xs)
 drop_one zero xs = refl
 drop_one (suc n) [] = refl
@@ -32,7 +27,7 @@ drop_one (suc n) (x ∷ xs) = drop_one n xs
 
 -- behind one member more
 pub behind_next : (n : ℕ) (dues : List Due) → instances_of (drop (n + 1) dues) ≡ drop 1 (instances_of (drop n dues))
-behind_next n dues = ap (λ m. instances_of (drop m dues)) (add-one n) ∙ ap instances_of (drop_one n dues) ∙ sym (drop_map (λ (d : Due). d.instance) 1 (drop n dues))
+behind_next n dues = ap (λ m. instances_of (drop m dues)) (add-one n) ∙ ap instances_of (drop_one n dues) ∙ sym (drop-map (λ (d : Due). d.instance) 1 (drop n dues))
 
 -- so many are between two places
 pub between_places : (from to : ℕ) (dues : List Due) → to ≤ length dues → length (instances_of (drop from (take to dues))) ≡ to - from
@@ -65,12 +60,9 @@ full_from pools taken (i ∷ is) (suc k) stuck =
     subst (λ xs. IsFull pools xs (drop k is)) (append_assoc taken (i ∷ []) (take k is))
     (full_from pools (taken ++ i ∷ []) is k (λ lt. ap (fits pools) (append_assoc taken (i ∷ []) (take (suc k) is)) ∙ stuck (omega (arith, lt))))
 
-no : true ≡ false → ⊥
-no e = absurd (cc)
-
 some_front : (pools : List rounds.Share) (list : List Instance) (k : ℕ) → fits pools (take (suc k) list) ≡ false → AllWork pools → 0 < length list → 0 < k
 some_front pools [] k stuck workers lt = absurd (omega (arith, lt))
-some_front pools (i ∷ is) zero stuck workers lt = absurd (no (sym (one_fits pools i workers) ∙ stuck))
+some_front pools (i ∷ is) zero stuck workers lt = absurd (true≢false (sym (one_fits pools i workers) ∙ stuck))
 some_front pools (i ∷ is) (suc k) stuck workers lt = omega arith
 
 -- a front that fits, where with the next one it doesn't
@@ -109,7 +101,7 @@ next_round pools s count sound last asked front =
     let long : length (take count list) ≡ count = length-take-le count list front.within in
     let to_ask : instances_of (drop s.asked (take (s.round + count) dues)) ≡ take count list =
     ap (λ n. instances_of (drop n (take (s.round + count) dues))) asked ∙ ap instances_of (drop-take s.round count dues) ∙ sym (take-map name count (drop s.round dues)) in
-    let later : instances_of (drop (s.round + count) dues) ≡ drop count list = ap instances_of (sym (drop_more s.round count dues)) ∙ sym (drop_map name count (drop s.round dues)) in
+    let later : instances_of (drop (s.round + count) dues) ≡ drop count list = ap instances_of (sym (drop_more s.round count dues)) ∙ sym (drop-map name count (drop s.round dues)) in
     let next : s.before + (s.answered + 1) + 1 ≡ s.before + s.answered + 1 + 1 = omega arith in
     let answers : s.round + count - (s.answered + 1) ≡ length (take count list) = omega (arith, last, long) in
     record {
@@ -134,7 +126,7 @@ first_round pools s list is none first front =
     let name = λ (d : Due). d.instance in
     let long : length (take s.round (instances_of dues)) ≡ s.round = length-take-le s.round (instances_of dues) front.within in
     let to_ask : instances_of (drop s.asked (take s.round dues)) ≡ take s.round (instances_of dues) = ap (λ n. instances_of (drop n (take s.round dues))) none ∙ sym (take-map name s.round dues) in
-    let later : instances_of (drop s.round dues) ≡ drop s.round (instances_of dues) = sym (drop_map name s.round dues) in
+    let later : instances_of (drop s.round dues) ≡ drop s.round (instances_of dues) = sym (drop-map name s.round dues) in
     let next : s.before + s.answered + 1 ≡ s.before + 1 = omega (arith, first) in
     let answers : s.round - s.answered ≡ length (take s.round (instances_of dues)) = omega (arith, first, long) in
     record {

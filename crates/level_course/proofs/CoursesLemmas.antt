@@ -1,9 +1,8 @@
 -- Entries that lead somewhere: parts of them, and that they lead to one place.
 use Rattle.std.proofs.Common.{◌≡◌, ℕ, zero, suc, ◌+◌, inl, inr, Bool, List, [], ◌∷◌, ◌++◌, length, take, refl, sym, ap, subst, ◌∙◌, arith, append_assoc}
 use Rattle.std.proofs.lemmas.List.{append-nil}
-use Rattle.instance_queue.proofs.InstanceOrderLemmas.{instances_total}
-use Rattle.task_model.specs.Known.{Known}
-use Rattle.task_model.specs.Streams.{AreDue, Note, instance_cmp}
+use Rattle.lemmas.proofs.Numbers.{zero_suc}
+use Rattle.task_model.proofs.StreamsLemmas.{due_once}
 use Rattle.task_model.specs.declared.stream.Instance.{Instance}
 use Rattle.task_model.specs.declared.task.Task.{Task}
 use Rattle.transcript_model.specs.Legal.{asks_of}
@@ -11,16 +10,10 @@ use Rattle.transcript_model.specs.Rounds.{Limits, calls_left, requests}
 use Rattle.transcript_model.specs.Transcript.{known_of, notes_of}
 use Rattle.transcript_model.specs.Turns.{is_cut}
 use Rattle.transcript_model.specs.declared.entry.Entry.{Entry}
-use Rattle.level_course.proofs.AscendingLemmas.{same_list}
 use Rattle.level_course.proofs.PoolsLemmas.{one_front}
 use Rattle.level_course.specs.Courses.{Course, Opens, IsBehind, IsCourseStep, Leads, with_asks}
 
 -- ---- what is due
-
--- all that is due is one list
-pub due_once : (task : Task) (known : Known) (notes : List Note) (xs ys : List Instance) → AreDue task known notes xs → AreDue task known notes ys → xs ≡ ys
-due_once task known notes xs ys first second =
-    same_list (instance_cmp known.names) (instances_total known.names) xs ys first.ascend second.ascend (λ i m. (second.each i).1 ((first.each i).0 m)) (λ i m. (first.each i).1 ((second.each i).0 m))
 
 -- ---- one place
 
@@ -32,17 +25,14 @@ module _ (limits : Limits) (task : Task) (before : List Entry) where
       ∙ (λ k. record { asks = requests task before (one.0 k); next = asks_of before + 1; answers = length (one.0 k); later = one.1 k; is_cut = cuts k })
       ∙ sym second.is
 
-nothing_left : (e : Entry) (es : List Entry) → [] ≡ e ∷ es → ⊥
+pub nothing_left : (e : Entry) (es : List Entry) → [] ≡ e ∷ es → ⊥
 nothing_left e es h = absurd (cc)
-
-none_more : (n : ℕ) → 0 ≡ suc n → ⊥
-none_more n e = omega (arith, e)
 
 module _ (limits : Limits) (task : Task) (before : List Entry) (c : Course) (e : Entry) (d f : Course) where
   behind_once : (left also : ℕ) → left ≡ also → IsBehind limits task (before ++ e ∷ []) c left d → IsBehind limits task (before ++ e ∷ []) c also f → d ≡ f
   behind_once zero zero same first second = opens_once limits task (before ++ e ∷ []) c.later c.later c.is_cut c.is_cut d f refl refl first second
-  behind_once zero (suc n) same first second = absurd (none_more n same)
-  behind_once (suc n) zero same first second = absurd (none_more n (sym same))
+  behind_once zero (suc n) same first second = absurd (zero_suc n same)
+  behind_once (suc n) zero same first second = absurd (zero_suc n (sym same))
   behind_once (suc n) (suc m) same first second = first ∙ (λ k. record { asks = []; next = c.next + 1; answers = same k; later = c.later; is_cut = c.is_cut }) ∙ sym second
 
   step_once : IsCourseStep limits task before c e d → IsCourseStep limits task before c e f → d ≡ f
@@ -51,13 +41,13 @@ module _ (limits : Limits) (task : Task) (before : List Entry) (c : Course) (e :
       opens_once limits task (before ++ e ∷ []) (take (calls_left limits before) a.may.list) (take (calls_left limits before) b.may.list) (is_cut limits before a.may.list) (is_cut limits before b.may.list) d f
       (ap (take (calls_left limits before)) lists) (ap (λ (is : List Instance). is_cut limits before is) lists) a.opens b.opens
   step_once (inl a) (inr (inl b)) = absurd (omega (arith, a.resting, b.more))
-  step_once (inl a) (inr (inr b)) = absurd (none_more b.left (sym a.resting ∙ b.answers))
+  step_once (inl a) (inr (inr b)) = absurd (zero_suc b.left (sym a.resting ∙ b.answers))
   step_once (inr (inl a)) (inl b) = absurd (omega (arith, b.resting, a.more))
   step_once (inr (inl a)) (inr (inl b)) =
       let rests : a.rest ≡ b.rest = let both : e ∷ a.rest ≡ e ∷ b.rest = sym a.asks ∙ b.asks in cc in
       a.is ∙ ap (with_asks c) rests ∙ sym b.is
   step_once (inr (inl a)) (inr (inr b)) = absurd (nothing_left e a.rest (sym b.asked ∙ a.asks))
-  step_once (inr (inr a)) (inl b) = absurd (none_more a.left (sym b.resting ∙ a.answers))
+  step_once (inr (inr a)) (inl b) = absurd (zero_suc a.left (sym b.resting ∙ a.answers))
   step_once (inr (inr a)) (inr (inl b)) = absurd (nothing_left e b.rest (sym a.asked ∙ b.asks))
   step_once (inr (inr a)) (inr (inr b)) = behind_once a.left b.left (let both : suc a.left ≡ suc b.left = sym a.answers ∙ b.answers in omega (arith, both)) a.behind b.behind
 

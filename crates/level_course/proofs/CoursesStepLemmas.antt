@@ -1,6 +1,7 @@
 -- Whole turns, entry by entry.
 use Rattle.std.proofs.Common.{◌≡◌, ℕ, zero, suc, ◌+◌, ◌-◌, ◌<◌, inl, inr, Bool, true, false, List, [], ◌∷◌, ◌++◌, length, take, refl, sym, if◌then◌else◌, ap, subst, ◌∙◌, arith, append_assoc}
 use Rattle.std.proofs.lemmas.List.Sums.{sum_by-append}
+use Rattle.task_model.proofs.StreamsLemmas.{due_once}
 use Rattle.task_model.specs.declared.stream.Instance.{Instance}
 use Rattle.task_model.specs.declared.task.Task.{Task}
 use Rattle.transcript_model.specs.Legal.{asks_of, is_ask}
@@ -10,7 +11,7 @@ use Rattle.transcript_model.specs.Turns.{AreTurns, IncrementalTurn, IsLevel, May
 use Rattle.transcript_model.specs.declared.entry.Entry.{Entry}
 use Rattle.transcript_model.specs.declared.entry.Entry.TheVariants as entry
 use Rattle.level_course.proofs.PoolsLemmas.{none_fit}
-use Rattle.level_course.proofs.CoursesLemmas.{due_once, leads_apart, leads_then}
+use Rattle.level_course.proofs.CoursesLemmas.{leads_apart, leads_then}
 use Rattle.level_course.specs.Courses.{Course, Opens, Leads, with_asks}
 use Rattle.level_course.specs.Laws.{IsAt}
 

@@ -1,6 +1,7 @@
 -- Entries that lead somewhere are turns, the last of which may stop.
 use Rattle.std.proofs.Common.{◌≡◌, ℕ, zero, suc, ◌+◌, ◌-◌, ◌<◌, ◌≤◌, inl, inr, Bool, true, false, List, [], ◌∷◌, ◌++◌, length, take, refl, sym, ap, subst, ◌∙◌, arith, append_assoc, All, eq-eqb}
-use Rattle.std.proofs.lemmas.List.{append-nil, length-append}
+use Rattle.std.proofs.lemmas.List.{append-nil, length-append, nil_from_length}
+use Rattle.std.proofs.lemmas.Bool.{true≢false}
 use Rattle.task_model.specs.declared.stream.Instance.{Instance}
 use Rattle.task_model.specs.declared.task.Task.{Task}
 use Rattle.transcript_model.specs.Legal.{asks_of, is_answer_to}
@@ -28,10 +29,6 @@ pub record Finishes (limits : Limits) (task : Task) (c : Course) (before es : Li
   pub rounds : List (List Instance)
   pub cut : AreRounds limits.pools c.later rounds
   pub run : AreRoundsRun task (before ++ (c.asks ++ answers)) rounds later
-
-empty : {A : Type 0} (xs : List A) → length xs ≡ 0 → xs ≡ []
-empty [] e = refl
-empty (x ∷ xs) e = absurd (omega (arith, e))
 
 none_there : (number : ℕ) (answers : List Entry) → AreAnswers number 0 answers → answers ≡ []
 none_there number [] all = refl
@@ -78,7 +75,7 @@ opened_tidy limits task before list cut c o none =
     let nothing : length o.rest ≡ 0 = by list o.parts o.some short in
     let asks : c.asks ≡ requests task before o.round = λ i. (o.is i).asks in
     let later : c.later ≡ o.rest = λ i. (o.is i).later in
-    (asks ∙ ap (requests task before) (empty o.round short), later ∙ empty o.rest nothing)
+    (asks ∙ ap (requests task before) (nil_from_length o.round short), later ∙ nil_from_length o.rest nothing)
   where
     by : (is : List Instance) → is ≡ o.round ++ o.rest → (0 < length is → 0 < length o.round) → length o.round ≡ 0 → length o.rest ≡ 0
     by [] e some short = omega (arith, ap length e, length-append o.round o.rest)
@@ -231,10 +228,7 @@ level_of limits task c m before es e b f =
 -- behind a batch that was cut nothing comes
 nothing_more : (limits : Limits) (task : Task) (m d : Course) (before rest : List Entry) → m.answers ≡ 0 → m.is_cut ≡ true → Leads limits task m before rest d → (rest ≡ []) × (m ≡ d)
 nothing_more limits task m d before [] none cut leads = (refl, leads)
-nothing_more limits task m d before (e ∷ es) none cut (n, inl b, more) = absurd (let both : true ≡ false = sym cut ∙ b.uncut in not_both both)
-  where
-    not_both : true ≡ false → ⊥
-    not_both e = absurd (cc)
+nothing_more limits task m d before (e ∷ es) none cut (n, inl b, more) = absurd (let both : true ≡ false = sym cut ∙ b.uncut in true≢false both)
 nothing_more limits task m d before (e ∷ es) none cut (n, inr (inl r), more) = absurd (omega (arith, none, r.more))
 nothing_more limits task m d before (e ∷ es) none cut (n, inr (inr a), more) = absurd (omega (arith, none, a.answers))
 

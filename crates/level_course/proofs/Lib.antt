@@ -1,4 +1,3 @@
-pub mod AscendingLemmas
 pub mod PoolsLemmas
 pub mod CoursesLemmas
 pub mod CoursesStepLemmas

@@ -1,16 +1,13 @@
 -- The longest front of a list that fits: there is one, and only one.
-use Rattle.std.proofs.Common.{◌≡◌, ℕ, zero, suc, ◌<◌, ◌≤◌, Bool, true, false, ◌&&◌, cond, List, [], ◌∷◌, ◌++◌, length, refl, sym, ap, subst, ◌∙◌, All, arith, nat_le, count_by, append_assoc}
-use Rattle.std.proofs.lemmas.Bool.{leb-true, le-leb}
+use Rattle.std.proofs.Common.{◌≡◌, ℕ, zero, suc, ◌<◌, ◌≤◌, Bool, true, false, cond, List, [], ◌∷◌, ◌++◌, length, refl, sym, ap, subst, ◌∙◌, All, arith, nat_le, count_by, append_assoc}
+use Rattle.std.proofs.lemmas.Bool.{leb-true, le-leb, and_from, false≢true}
 use Rattle.std.proofs.lemmas.List.{length-append}
 use Rattle.std.proofs.lemmas.List.Sums.{sum_by-append}
 use Rattle.std.proofs.lemmas.List.Elements.{All-head, All-tail}
 use Rattle.std.specs.Cmp.{first_so, second_so}
+use Rattle.lemmas.proofs.Bools.{cond_le_one}
 use Rattle.task_model.specs.declared.stream.Instance.{Instance}
 use Rattle.transcript_model.specs.Rounds.{Share, IsFull, AreRounds, fits, serves}
-
-both : (a b : Bool) → a ≡ true → b ≡ true → (a && b) ≡ true
-both true b p q = q
-both false b p q = p
 
 count_front : (f : Instance → Bool) (xs ys : List Instance) → count_by f xs ≤ count_by f (xs ++ ys)
 count_front f xs ys = omega (arith, sum_by-append (λ x. cond (f x) 1 0) xs ys)
@@ -20,24 +17,20 @@ pub fits_front : (pools : List Share) (xs ys : List Instance) → fits pools (xs
 fits_front [] xs ys fit = refl
 fits_front (p ∷ ps) xs ys fit =
     let here = leb-true (count_by (serves p) (xs ++ ys)) p.workers (first_so (nat_le (count_by (serves p) (xs ++ ys)) p.workers) (fits ps (xs ++ ys)) fit) in
-    both (nat_le (count_by (serves p) xs) p.workers) (fits ps xs)
+    and_from (nat_le (count_by (serves p) xs) p.workers) (fits ps xs)
     (le-leb (count_by (serves p) xs) p.workers (omega (arith, here, count_front (serves p) xs ys)))
     (fits_front ps xs ys (second_so (nat_le (count_by (serves p) (xs ++ ys)) p.workers) (fits ps (xs ++ ys)) fit))
 
 pub none_fit : (pools : List Share) → fits pools [] ≡ true
 none_fit [] = refl
-none_fit (p ∷ ps) = both (nat_le 0 p.workers) (fits ps []) (le-leb 0 p.workers (omega arith)) (none_fit ps)
-
-few : (b : Bool) → cond {A = ℕ} b 1 0 ≤ 1
-few true = omega arith
-few false = omega arith
+none_fit (p ∷ ps) = and_from (nat_le 0 p.workers) (fits ps []) (le-leb 0 p.workers (omega arith)) (none_fit ps)
 
 -- one instance fits where each pool has a worker
 pub one_fits : (pools : List Share) (i : Instance) → All (λ (p : Share). 1 ≤ p.workers) pools → fits pools (i ∷ []) ≡ true
 one_fits [] i some = refl
 one_fits (p ∷ ps) i some =
-    both (nat_le (count_by (serves p) (i ∷ [])) p.workers) (fits ps (i ∷ []))
-    (le-leb (count_by (serves p) (i ∷ [])) p.workers (omega (arith, few (serves p i), All-head (λ (q : Share). 1 ≤ q.workers) p ps some)))
+    and_from (nat_le (count_by (serves p) (i ∷ [])) p.workers) (fits ps (i ∷ []))
+    (le-leb (count_by (serves p) (i ∷ [])) p.workers (omega (arith, cond_le_one (serves p i), All-head (λ (q : Share). 1 ≤ q.workers) p ps some)))
     (one_fits ps i (All-tail (λ (q : Share). 1 ≤ q.workers) p ps some))
 
 -- ---- there is one
@@ -65,9 +58,6 @@ front_of pools (i ∷ is) workers = front_from pools (i ∷ []) is (omega arith)
 
 -- ---- there is only one
 
-no : false ≡ true → ⊥
-no e = absurd (cc)
-
 -- Of two fronts of a list one is a front of the other.
 pub data Compared (xs us ys vs : List Instance) : Type 0 where
   same : xs ≡ ys → us ≡ vs → Compared xs us ys vs
@@ -90,7 +80,7 @@ stops : (pools : List Share) (xs us ys vs : List Instance) (i : Instance) (is : 
 stops pools xs us ys vs i is full f r fit =
     let stuck : fits pools (xs ++ i ∷ []) ≡ false = subst (IsFull pools xs) r full in
     let whole : fits pools ((xs ++ i ∷ []) ++ is) ≡ true = ap (fits pools) (append_assoc xs (i ∷ []) is ∙ sym f) ∙ fit in
-    no (sym stuck ∙ fits_front pools (xs ++ i ∷ []) is whole)
+    false≢true (sym stuck ∙ fits_front pools (xs ++ i ∷ []) is whole)
 
 -- two longest fronts of a list are one
 pub one_front : (pools : List Share) (xs us ys vs : List Instance) → xs ++ us ≡ ys ++ vs → fits pools xs ≡ true → fits pools ys ≡ true → IsFull pools xs us → IsFull pools ys vs → (xs ≡ ys) × (us ≡ vs)

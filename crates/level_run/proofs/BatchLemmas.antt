@@ -2,10 +2,9 @@
 use Rattle.std.proofs.Common.{◌≡◌, true, ℕ, zero, suc, ◌+◌, ◌-◌, ◌<◌, arith, List, [], ◌∷◌, ◌++◌, map, length, take, drop, refl, sym, subst, ap, ◌∙◌, append_assoc, inl, inr}
 use Rattle.std.proofs.lemmas.Bool.{cases_lt}
 use Rattle.std.proofs.Math.Seq.{take-add}
-use Rattle.std.proofs.lemmas.List.{append-nil, take-map, drop-take, length-take, length-map}
+use Rattle.std.proofs.lemmas.List.{append-nil, take-map, drop-take, length-take, length-map, drop-map, map-map}
 use Rattle.instance_queue.specs.Level.{instances_of}
 use Rattle.instance_queue.specs.declared.due.Due.{Due}
-use Rattle.session_core.proofs.SlotsLemmas.{map_map}
 use Rattle.session_core.specs.Pools.{workers_of}
 use Rattle.session_core.specs.Ready as ready
 use Rattle.session_core.specs.Ready.{IsNextRound, calls_left}
@@ -19,17 +18,12 @@ use Rattle.transcript_model.specs.Rounds.{IsBatch, IsRound, AreRounds, IsFull, f
 use Rattle.transcript_model.specs.declared.entry.Entry.{Entry}
 use Rattle.transcript_model.specs.declared.head.Head.{Head}
 
-drop_map : {A B : Type 0} (f : A → B) (n : ℕ) (xs : List A) → drop n (map f xs) ≡ map f (drop n xs)
-drop_map f zero xs = refl
-drop_map f (suc n) [] = refl
-drop_map f (suc n) (x ∷ xs) = drop_map f n xs
-
 less : (a b c : ℕ) → a - (b + c) ≡ a - b - c
 less a b c = omega arith
 
 -- the pools of the head, as a session has them
 pools_same : (head : Head) (s : State) → IsOf head s → map ready.share_of s.pools ≡ map share_of head.pools
-pools_same head s of = ap (map ready.share_of) of.pools ∙ map_map ready.share_of workers_of head.pools
+pools_same head s of = ap (map ready.share_of) of.pools ∙ map-map ready.share_of workers_of head.pools
 
 pub batch_none : (head : Head) (task : Task) (before : List Entry) (list : List Instance) → take (rounds.calls_left (limits_of head) before) list ≡ [] → IsBatch (limits_of head) task before list []
 batch_none head task before list e = record { rounds = []; cut = e; run = refl }
@@ -47,7 +41,7 @@ module _ (head : Head) (task : Task) (s : State) (dues : List Due) (count : ℕ)
   list_is : take left (instances_of dues) ≡ instances_of (take count dues) ++ take (left - count) (instances_of (drop count dues))
   list_is =
       ap (λ m. take m (instances_of dues)) whole ∙ take-add count (left - count) (instances_of dues)
-      ∙ (λ i. take-map (λ (d : Due). d.instance) count dues i ++ take (left - count) (drop_map (λ (d : Due). d.instance) count dues i))
+      ∙ (λ i. take-map (λ (d : Due). d.instance) count dues i ++ take (left - count) (drop-map (λ (d : Due). d.instance) count dues i))
 
   rest_is : instances_of (drop count (take (calls_left s) dues)) ≡ take (left - count) (instances_of (drop count dues))
   rest_is =

@@ -1,5 +1,5 @@
 -- The calls of a run that stops: with its starts.
-use Rattle.std.proofs.Common.{◌≡◌, ◌||◌, Bool, true, false, ℕ, zero, suc, ◌+◌, ◌<◌, arith, List, [], ◌∷◌, ◌++◌, take, count_by, Option, Some, None, Err, refl, sym, subst, ap, ◌∙◌, append_assoc, inl, inr, ◌⊎◌}
+use Rattle.std.proofs.Common.{◌≡◌, ℕ, zero, suc, ◌+◌, ◌<◌, arith, List, [], ◌∷◌, ◌++◌, take, count_by, Option, Some, None, Err, refl, sym, subst, ap, ◌∙◌, append_assoc, inl, inr, ◌⊎◌}
 use Rattle.std.proofs.lemmas.List.{append-nil, append_cancel_left}
 use Rattle.std.proofs.lemmas.List.Folds.{list_any-append}
 use Rattle.std.specs.List.{list_any}
@@ -13,14 +13,16 @@ use Rattle.transcript_model.specs.declared.entry.Entry.TheVariants as entry
 use Rattle.transcript_model.specs.declared.head.Head.{Head}
 use Rattle.transcript_model.specs.declared.head.Pool.{Pool}
 use Rattle.level_run.proofs.BreakingLemmas.{breaks_join, tells_map, tells_of}
-use Rattle.lemmas.proofs.Pigeonhole.{get_append}
-use Rattle.level_run.proofs.CallsRunLemmas.{stops_none, asks_behind, asks_marked, unasked}
+use Rattle.level_run.proofs.CallsRunLemmas.{stops_none, asks_behind, unasked}
 use Rattle.std.proofs.lemmas.List.Elements.{All-append}
 use Rattle.io_world.proofs.TalksLemmas.{extends_more}
 use Rattle.level_run.specs.Breaking.{Breaks, HasLevel, LevelBreaks, LogBreaks, LogBroken, RunBreaks, Tells, Unstarted, WereStarts, starts_after}
 use Rattle.level_run.specs.Calls.{Follows, IsStop, LogRuns, LogStartsPart, LogStops, Runs, starts_before, starts_of}
 use Rattle.level_run.specs.Dialogue.{workers_in}
 use Rattle.level_run.specs.declared.fault.RunFault.{RunFault}
+use Rattle.lemmas.proofs.Bools.{or_false}
+use Rattle.lemmas.proofs.Members.{get_append}
+use Rattle.level_course.proofs.CoursesStepLemmas.{same_asks}
 
 -- the starts that came before a batch of some asks
 pub same_after : (pools : List Pool) (asked many : ℕ) → 0 < many → starts_before pools asked many ≡ starts_after pools asked
@@ -70,12 +72,8 @@ none_marked : (before more : List Entry) → (more ≡ []) ⊎ (more ≡ entry.L
 none_marked before more (inl is) none = subst (λ es. HasNoneOpen (before ++ es)) (sym is) (subst HasNoneOpen (sym (append-nil before)) none)
 none_marked before more (inr is) none = subst (λ es. HasNoneOpen (before ++ es)) (sym is) (λ n. same n ∙ none n)
   where
-    or_no : (b : Bool) → (b || false) ≡ b
-    or_no true = refl
-    or_no false = refl
-
     same : (n : ℕ) → is_open (before ++ entry.Level ∷ []) n ≡ is_open before n
-    same n = rw (list_any-append (is_ask_of n) before (entry.Level ∷ []), list_any-append (is_answer_to n) before (entry.Level ∷ []), or_no (list_any (is_ask_of n) before), or_no (list_any (is_answer_to n) before)) refl
+    same n = rw (list_any-append (is_ask_of n) before (entry.Level ∷ []), list_any-append (is_answer_to n) before (entry.Level ∷ []), or_false (list_any (is_ask_of n) before), or_false (list_any (is_answer_to n) before)) refl
 
 -- no call was made
 pub quiet_breaks : (task : Task) (head : Head) (before : List Entry) (fault : RunFault) (log : Option (List Event)) → Tells (HasNoneOpen before) fault [] → (more : List Entry) → (more ≡ []) ⊎ (more ≡ entry.Level ∷ []) → RunBreaks task head before fault log log more
@@ -108,7 +106,7 @@ marked_breaks task head before mid front fault old new marked pushed more broken
     same = append_cancel_left before (entry.Level ∷ []) front (sym marked ∙ pushed)
 
     starts : starts_after head.pools (asks_of (before ++ entry.Level ∷ [])) ≡ starts_after head.pools (asks_of before)
-    starts = ap (starts_after head.pools) (asks_marked before)
+    starts = ap (starts_after head.pools) (same_asks before)
 
     joined : (past later : List Event) → Breaks task head.version (workers_in head) past (before ++ entry.Level ∷ []) more fault later → Breaks task head.version (workers_in head) past before (entry.Level ∷ more) fault later
     joined past later b = breaks_join task head.version (workers_in head) past before (entry.Level ∷ []) more [] later fault ([], [], refl, refl, refl) (subst (λ p. Breaks task head.version (workers_in head) p (before ++ entry.Level ∷ []) more fault later) (sym (append-nil past)) b)
@@ -118,7 +116,7 @@ marked_breaks task head before mid front fault old new marked pushed more broken
 
     by : (log : Option (List Event)) → RunBreaks task head (before ++ entry.Level ∷ []) fault old log more → RunBreaks task head before fault old log (entry.Level ∷ more)
     by None x = tt
-    by (Some after) (past, events, was, came, inl u) = (past, events, was, came, inl (record { first = sym (asks_marked before) ∙ u.first; none = asks_behind more ∙ u.none; were = told events u.were }))
+    by (Some after) (past, events, was, came, inl u) = (past, events, was, came, inl (record { first = sym (same_asks before) ∙ u.first; none = asks_behind more ∙ u.none; were = told events u.were }))
     by (Some after) (past, events, was, came, inr (later, cut, b)) =
         (past, events, was, came, inr (later, cut ∙ ap (λ es. es ++ later) starts, joined (past ++ starts_after head.pools (asks_of before)) later (subst (λ es. Breaks task head.version (workers_in head) (past ++ es) (before ++ entry.Level ∷ []) more fault later) starts b)))
 

@@ -1,7 +1,8 @@
 -- How calls follow a transcript, one entry after another.
-use Rattle.std.proofs.Common.{◌≡◌, ℕ, suc, arith, true, if◌then◌else◌, List, [], ◌∷◌, ◌++◌, Option, Some, None, Ok, Err, refl, sym, subst, ap, ◌∙◌, append_assoc, eq-eqb}
+use Rattle.std.proofs.Common.{◌≡◌, ℕ, arith, true, if◌then◌else◌, List, [], ◌∷◌, ◌++◌, Option, Some, None, Ok, Err, refl, sym, subst, ap, ◌∙◌, append_assoc, eq-eqb}
 use Rattle.std.specs.List.{All}
 use Rattle.std.proofs.lemmas.List.{append-nil, append_cancel_left}
+use Rattle.std.proofs.lemmas.List.Elements.{All-tail}
 use Rattle.io_world.specs.Faults.{Extends}
 use Rattle.io_world.specs.Talks.{Talk, Event, started, wrote, heard, stopped, silence, spelled, said_after, heard_more, IsGiven, Takes}
 use Rattle.session_core.specs.declared.pools.Workers.{Workers}
@@ -19,16 +20,13 @@ pub spelled_join : (child : ℕ) (talk : Talk) (xs ys : List Event) → spelled 
 spelled_join child talk [] ys = refl
 spelled_join child talk (e ∷ xs) ys = spelled_join child (said_after child talk e) xs ys
 
-all_later : {A : Type 0} (P : A → Type 0) (x : A) (xs : List A) → All P (x ∷ xs) → All P xs
-all_later P x xs all k d below = all (suc k) d (omega (arith, below))
-
 -- reads add to what was heard
 pub spelled_reads : (child : ℕ) (talk : Talk) (events : List Event) → All (IsGiven child) events → spelled child talk events ≡ heard_more (spelled child silence events).heard talk
 spelled_reads child talk [] all = ap (λ bytes. let t : Talk = record { written = talk.written; heard = bytes } in t) (sym (append-nil talk.heard))
 spelled_reads child talk (heard k room (Ok bytes) ∷ events) all =
     let own : k ≡ child = all 0 (heard k room (Ok bytes)) (omega arith) in
     let here : (t : Talk) → said_after child t (heard k room (Ok bytes)) ≡ heard_more bytes t = λ t. ap (λ b. if b then heard_more bytes t else t) (eq-eqb k child own) in
-    let rest = all_later (IsGiven child) (heard k room (Ok bytes)) events all in
+    let rest = All-tail (IsGiven child) (heard k room (Ok bytes)) events all in
     let first : (spelled child silence (heard k room (Ok bytes) ∷ events)).heard ≡ bytes ++ (spelled child silence events).heard =
     ap (λ (t : Talk). t.heard) (ap (λ t. spelled child t events) (here silence) ∙ spelled_reads child (heard_more bytes silence) events rest) in
     ap (λ t. spelled child t events) (here talk)

@@ -1,12 +1,13 @@
 -- The calls of a round.
 use Rattle.std.proofs.Common.{◌≡◌, ℕ, zero, suc, ◌+◌, ◌<◌, ◌≤◌, arith, Bool, true, false, cond, List, [], ◌∷◌, ◌++◌, length, take, count_by, Option, Some, refl, sym, subst, ap, ◌∙◌, append_assoc, slice_get, IfSome, ◌||◌}
 use Rattle.std.specs.List.{All, list_any}
-use Rattle.std.proofs.lemmas.List.{length-append, length-map}
+use Rattle.std.proofs.lemmas.List.{length-append, length-map, nil_from_length}
 use Rattle.std.proofs.lemmas.List.Elements.{All-take}
 use Rattle.std.proofs.lemmas.List.Splits.{length-slice_split}
 use Rattle.std.specs.Io.BufRead.{strip_last}
 use Rattle.std.specs.List.{slice_split}
 use Rattle.gen_lines.proofs.CuttingLemmas.{whole}
+use Rattle.gen_lines.proofs.LinesLemmas.{ended_length}
 use Rattle.gen_lines.specs.Lines.{ended, is_feed, lines_of}
 use Rattle.io_world.specs.Replies.{IsLine}
 use Rattle.io_world.specs.Talks.{Talk, Event, silence, spelled, heard_more, IsGiven, LogsGiven, LogsTaken, Spells}
@@ -21,7 +22,6 @@ use Rattle.session_core.specs.declared.pools.Workers.{Workers}
 use Rattle.task_model.specs.declared.task.Task.{Task}
 use Rattle.transcript_model.specs.declared.entry.Entry.{Entry}
 use Rattle.level_run.proofs.CallsLemmas.{answer_calls, ask_calls, calls_then, log_one, spelled_join, spelled_reads}
-use Rattle.level_run.proofs.TalkingLineLemmas.{ended_long}
 use Rattle.level_run.proofs.DialogueRequestLemmas.{AreAsks, AreReplies}
 use Rattle.level_run.proofs.DialogueLemmas.{all_lines, count_own}
 use Rattle.level_run.proofs.TalkingRoundLemmas.{front_each, next_is, replies_heard, request_at, requests_heard, requests_sent, round_asks, round_replies, talks_at_heard}
@@ -36,7 +36,7 @@ use Rattle.level_run.specs.Talking.{IsSlotOf, IsTalk, IsTalking, Talks}
 -- there are as many lines as line feeds
 lines_counted : (bytes : List ℕ) → length (lines_of bytes) ≡ count_by is_feed bytes
 lines_counted bytes =
-    omega (arith, length-map (ended (slice_split is_feed bytes)) (strip_last 13), ended_long (slice_split is_feed bytes) (omega (arith, length-slice_split is_feed bytes)), length-slice_split is_feed bytes)
+    omega (arith, length-map (ended (slice_split is_feed bytes)) (strip_last 13), ended_length (slice_split is_feed bytes) (omega (arith, length-slice_split is_feed bytes)), length-slice_split is_feed bytes)
 
 none_fed : (bytes : List ℕ) → list_any is_feed bytes ≡ false → count_by is_feed bytes ≡ 0
 none_fed [] e = refl
@@ -49,14 +49,10 @@ none_fed (b ∷ bs) e = by (none_fed bs) (is_feed b) refl e
         let rest : list_any is_feed bs ≡ false = ap (λ t. t || list_any is_feed bs) (sym is) ∙ any in
         omega (arith, count_joined is_feed (b ∷ []) bs, count_one is_feed b, none, later rest)
 
-empty_of : {A : Type 0} (xs : List A) → length xs ≡ 0 → xs ≡ []
-empty_of [] e = refl
-empty_of (x ∷ xs) e = absurd (omega (arith, e))
-
 -- bytes without a line feed add no line
 pub still_part : (kept bytes : List ℕ) → lines_of kept ≡ [] → IsLine bytes → lines_of (kept ++ bytes) ≡ []
 still_part kept bytes none line =
-    empty_of (lines_of (kept ++ bytes)) (omega (arith, lines_counted (kept ++ bytes), count_joined is_feed kept bytes, lines_counted kept, ap length none, none_fed bytes line))
+    nil_from_length (lines_of (kept ++ bytes)) (omega (arith, lines_counted (kept ++ bytes), count_joined is_feed kept bytes, lines_counted kept, ap length none, none_fed bytes line))
 
 -- ---- the reads of one child
 

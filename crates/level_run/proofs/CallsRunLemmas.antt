@@ -6,11 +6,12 @@ use Rattle.std.proofs.lemmas.Grind.{flat_map-append}
 use Rattle.std.proofs.lemmas.List.{append-nil, take-append-le}
 use Rattle.std.proofs.lemmas.List.Elements.{All-append}
 use Rattle.std.proofs.lemmas.Option.{slice_get_within}
-use Rattle.lemmas.proofs.Pigeonhole.{get_append}
+use Rattle.lemmas.proofs.Members.{get_append}
+use Rattle.lemmas.proofs.ListTests.{all_one}
 use Rattle.io_world.specs.Faults.{Extends}
 use Rattle.io_world.specs.Talks.{Event, started, stopped, Logs}
 use Rattle.io_world.specs.declared.host.HostFault.{HostFault}
-use Rattle.io_world.proofs.TalksLemmas.{extends_more, extends_none, single}
+use Rattle.io_world.proofs.TalksLemmas.{extends_more, extends_none}
 use Rattle.session_core.proofs.SessionLemmas.{count_joined, count_one}
 use Rattle.task_model.specs.declared.task.Task.{Task}
 use Rattle.transcript_model.specs.Legal.{asks_of, is_ask}
@@ -28,6 +29,7 @@ use Rattle.level_run.specs.Turns.{EndsBatch}
 use Rattle.level_run.specs.declared.ending.Batch.{Batch}
 use Rattle.level_run.specs.declared.ending.Batch.TheVariants.{Done, CallsSpent}
 use Rattle.level_run.specs.declared.fault.RunFault.{RunFault}
+use Rattle.level_course.proofs.CoursesStepLemmas.{same_asks}
 
 -- ---- the starts of a pool
 
@@ -163,9 +165,6 @@ batch_runs task head before after asked asks many b old mid new counted of_after
 
 -- ---- a level
 
-pub asks_marked : (before : List Entry) → asks_of (before ++ entry.Level ∷ []) ≡ asks_of before
-asks_marked before = omega (arith, count_joined is_ask before (entry.Level ∷ []), count_one is_ask entry.Level)
-
 pub asks_behind : (more : List Entry) → asks_of (entry.Level ∷ more) ≡ asks_of more
 asks_behind more = omega (arith, count_joined is_ask (entry.Level ∷ []) more, count_one is_ask entry.Level)
 
@@ -178,7 +177,7 @@ runs_marked task head before mid after old new marked runs = record {
 }
   where
     starts : starts_before head.pools (asks_of (before ++ entry.Level ∷ [])) (asks_of runs.more) ≡ starts_before head.pools (asks_of before) (asks_of (entry.Level ∷ runs.more))
-    starts = ap (λ n. starts_before head.pools n (asks_of runs.more)) (asks_marked before) ∙ ap (starts_before head.pools (asks_of before)) (sym (asks_behind runs.more))
+    starts = ap (λ n. starts_before head.pools n (asks_of runs.more)) (same_asks before) ∙ ap (starts_before head.pools (asks_of before)) (sym (asks_behind runs.more))
 
     by : (log : Option (List Event)) → LogRuns task head (before ++ entry.Level ∷ []) runs.more old log → LogRuns task head before (entry.Level ∷ runs.more) old log
     by None l = tt
@@ -236,7 +235,7 @@ stops_none log = ([], λ k d below. absurd (omega (arith, below)), extends_none 
 
 pub stops_more : (child : ℕ) (answer : Result (Unit {0}) HostFault) (old mid new : Option (List Event)) → LogStops old mid → Logs mid new (stopped child answer) → LogStops old new
 stops_more child answer old mid new (stops, each, grows) log =
-    (stops ++ stopped child answer ∷ [], All-append IsStop stops (stopped child answer ∷ []) each (single IsStop (stopped child answer) tt), extends_more old mid new stops (stopped child answer ∷ []) grows log)
+    (stops ++ stopped child answer ∷ [], All-append IsStop stops (stopped child answer ∷ []) each (all_one IsStop (stopped child answer) tt), extends_more old mid new stops (stopped child answer ∷ []) grows log)
 
 -- two batches, one after the other
 pub runs_then : (task : Task) (head : Head) (a b : List Entry) (old mid new : Option (List Event)) → Runs task head [] a old mid → Runs task head a b mid new → Runs task head [] b old new

@@ -4,7 +4,6 @@ use Rattle.std.proofs.lemmas.Grind.{flat_map-append}
 use Rattle.std.proofs.lemmas.List.{append-nil, length-append, take-append-le}
 use Rattle.std.proofs.lemmas.Option.{slice_get_within}
 use Rattle.std.specs.List.{after_first}
-use Rattle.lemmas.proofs.Pigeonhole.{get_append, get_pushed}
 use Rattle.gen_lines.proofs.CuttingLemmas.{whole}
 use Rattle.gen_lines.specs.Cutting.{pushed, took}
 use Rattle.gen_lines.specs.Lines.{is_feed, lines_of}
@@ -17,9 +16,9 @@ use Rattle.session_core.proofs.LearningLemmas.{take_next}
 use Rattle.session_core.proofs.SessionLemmas.{count_joined, count_one}
 use Rattle.session_core.specs.Slots.{entry_of}
 use Rattle.session_core.specs.declared.pools.Workers.{Workers}
-use Rattle.lemmas.proofs.Members.{push_cases}
+use Rattle.lemmas.proofs.Members.{push_cases, get_append, get_pushed}
+use Rattle.lemmas.proofs.Options.{same_some}
 use Rattle.task_model.specs.declared.task.Task.{Task}
-use Rattle.transcript_model.proofs.NamesLemmas.{same_some}
 use Rattle.transcript_model.specs.Legal.{IsLegal}
 use Rattle.transcript_model.specs.declared.entry.Entry.{Entry}
 use Rattle.level_run.specs.Dialogue.{AreSaid, BrokenOff, Dialogue, HasBadLine, IsBadLine, IsOneOf, IsSaid, Request, bytes_to, count_to, further_requests, is_to, replies_of, requests_of, text_of_request, wanted_by}

@@ -1,14 +1,16 @@
 -- Lines that are written piece by piece.
-use Rattle.std.proofs.Common.{◌≡◌, ℕ, zero, suc, ◌+◌, ◌-◌, ◌*◌, ◌<◌, ◌≤◌, arith, add-one, codes, List, [], ◌∷◌, ◌++◌, length, map, take, drop, get_or, Option, Result, Ok, Err, refl, sym, subst, ap, ◌∙◌, append_assoc}
-use Rattle.std.proofs.Math.Nat.{add_comm, suc-mul}
+use Rattle.std.proofs.Common.{◌≡◌, ℕ, zero, suc, ◌+◌, ◌-◌, ◌<◌, arith, codes, List, [], ◌∷◌, ◌++◌, length, map, take, drop, get_or, Option, Result, Ok, Err, refl, sym, subst, ap, ◌∙◌, append_assoc}
 use Rattle.std.proofs.Math.ListN.{take-append-drop}
-use Rattle.std.proofs.Math.Seq.{take-append-add, take-suc}
+use Rattle.std.proofs.Math.Seq.{take-append-add}
 use Rattle.std.proofs.lemmas.Grind.{flat_map-append}
-use Rattle.std.proofs.lemmas.List.{length-append, take-append-le, append-nil}
+use Rattle.std.proofs.lemmas.List.{length-append, take-append-le}
 use Rattle.std.proofs.lemmas.Result.{err_from_is_err_and}
 use Rattle.std.specs.Io.KnownBytes.{Appends}
 use Rattle.std.specs.List.{flat_map}
 use Rattle.std.specs.Result.{IsErrAnd, IfErr, OnOk}
+use Rattle.std.proofs.lemmas.List.Folds.{flat_map-map}
+use Rattle.lemmas.proofs.Numbers.{suc_minus_one}
+use Rattle.lemmas.proofs.Members.{flat_map_next}
 use Rattle.report_text.specs.Texts.{Line, fields_text, line, line_text, lines_text, tuples_of}
 use Rattle.level_run.proofs.StoppedLemmas.{appends_none, appends_then}
 use Rattle.level_run.specs.Pieces.{CutOff, Prints}
@@ -45,31 +47,16 @@ pub prints_last : {T : Type 0} (r : Result T RunFault) (old mid new : Option (Li
 prints_last (Ok x) old mid new xs ys all whole first rest = subst (Appends old new) (sym whole) (appends_then old mid new xs ys first rest)
 prints_last (Err fault) old mid new xs ys all whole first (why, cut) = (why, subst (CutOff old new) (sym whole) (cut_then old mid new xs ys first cut))
 
--- one member more
-pub flat_map_next : {X A : Type 0} (f : X → List A) (xs : List X) (i : ℕ) (x : X) → i < length xs → x ≡ get_or xs i x → flat_map f (take (i + 1) xs) ≡ flat_map f (take i xs) ++ f x
-flat_map_next f xs i x lt is =
-    let one : take (i + 1) xs ≡ take i xs ++ x ∷ [] = rw add-one (take-suc xs i x lt ∙ ap (λ y. take i xs ++ y ∷ []) (sym is)) in
-    rw (one, flat_map-append) (ap (λ t. flat_map f (take i xs) ++ t) (append-nil (f x)))
-
 -- what is printed up to a member, that member, and the others
 pub around : {X A : Type 0} (f : X → List A) (xs : List X) (i : ℕ) (x : X) → i < length xs → x ≡ get_or xs i x → flat_map f xs ≡ (flat_map f (take i xs) ++ f x) ++ flat_map f (drop (i + 1) xs)
 around f xs i x lt is =
     ap (flat_map f) (sym (take-append-drop (i + 1) xs)) ∙ flat_map-append f (take (i + 1) xs) (drop (i + 1) xs)
     ∙ ap (λ t. t ++ flat_map f (drop (i + 1) xs)) (flat_map_next f xs i x lt is)
 
-flat_map_map : {X B A : Type 0} (f : B → List A) (g : X → B) (xs : List X) → flat_map f (map g xs) ≡ flat_map (λ y. f (g y)) xs
-flat_map_map f g [] = refl
-flat_map_map f g (x ∷ xs) = ap (λ t. f (g x) ++ t) (flat_map_map f g xs)
-
--- the same, where each member is a line
-pub lines_next : {X B A : Type 0} (f : B → List A) (g : X → B) (xs : List X) (i : ℕ) (x : X) → i < length xs → x ≡ get_or xs i x → flat_map f (map g (take (i + 1) xs)) ≡ flat_map f (map g (take i xs)) ++ f (g x)
-lines_next f g xs i x lt is =
-    flat_map_map f g (take (i + 1) xs) ∙ flat_map_next (λ y. f (g y)) xs i x lt is ∙ ap (λ t. t ++ f (g x)) (sym (flat_map_map f g (take i xs)))
-
 pub lines_around : {X B A : Type 0} (f : B → List A) (g : X → B) (xs : List X) (i : ℕ) (x : X) → i < length xs → x ≡ get_or xs i x → flat_map f (map g xs) ≡ (flat_map f (map g (take i xs)) ++ f (g x)) ++ flat_map f (map g (drop (i + 1) xs))
 lines_around f g xs i x lt is =
-    flat_map_map f g xs ∙ around (λ y. f (g y)) xs i x lt is
-    ∙ (λ k. (sym (flat_map_map f g (take i xs)) k ++ f (g x)) ++ sym (flat_map_map f g (drop (i + 1) xs)) k)
+    flat_map-map f g xs ∙ around (λ y. f (g y)) xs i x lt is
+    ∙ (λ k. (sym (flat_map-map f g (take i xs)) k ++ f (g x)) ++ sym (flat_map-map f g (drop (i + 1) xs)) k)
 
 -- what was printed, in the words of clauses of their own
 pub printed_all : {T : Type 0} (r : Result T RunFault) (old new : Option (List ℕ)) (bytes : List ℕ) → Prints r old new bytes → OnOk r (Appends old new bytes)
@@ -120,21 +107,10 @@ lines_three l first second = ap (λ t. line_text l ++ t) (flat_map-append line_t
 
 -- ---- tuples
 
-minus_one : (n : ℕ) → suc n - 1 ≡ n
-minus_one n = omega arith
-
 -- the next tuple and a bar, and the tuples behind them
 pub tuples_step : (width bars : ℕ) (rest : List (List ℕ)) → 0 < bars → fields_text (tuples_of width bars rest) ≡ (fields_text (take width rest) ++ 32 ∷ codes "|") ++ fields_text (tuples_of width (bars - 1) (drop width rest))
 tuples_step width zero rest lt = absurd (omega arith)
 tuples_step width (suc bars) rest lt =
     flat_map-append (λ field. 32 ∷ field) (take width rest) (codes "|" ∷ tuples_of width bars (drop width rest))
     ∙ sym (append_assoc (fields_text (take width rest)) (32 ∷ codes "|") (fields_text (tuples_of width bars (drop width rest))))
-    ∙ ap (λ n. (fields_text (take width rest) ++ 32 ∷ codes "|") ++ fields_text (tuples_of width n (drop width rest))) (sym (minus_one bars))
-
--- enough is left for the tuples behind the next
-pub enough_next : (width bars size : ℕ) → 0 < bars → width + bars * width ≤ size → width + (bars - 1) * width ≤ size - width
-enough_next width zero size lt enough = absurd (omega arith)
-enough_next width (suc bars) size lt enough = rw (minus_one bars) (next (bars * width) (subst (λ t. width + t ≤ size) (suc-mul bars width ∙ add_comm (bars * width) width) enough))
-  where
-    next : (others : ℕ) → width + (width + others) ≤ size → width + others ≤ size - width
-    next others all = omega arith
+    ∙ ap (λ n. (fields_text (take width rest) ++ 32 ∷ codes "|") ++ fields_text (tuples_of width n (drop width rest))) (sym (suc_minus_one bars))

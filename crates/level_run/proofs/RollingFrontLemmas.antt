@@ -1,7 +1,8 @@
 -- Fronts of rounds, batches, levels and runs: what was written could have gone on.
-use Rattle.std.proofs.Common.{◌≡◌, ℕ, zero, suc, ◌+◌, ◌<◌, ◌≤◌, arith, All, true, List, [], ◌∷◌, ◌++◌, map, length, take, drop, Some, slice_get, refl, sym, subst, ap, ◌∙◌, append_assoc, ◌⊎◌, inl, inr, eq-eqb}
+use Rattle.std.proofs.Common.{◌≡◌, ℕ, zero, suc, ◌+◌, ◌<◌, ◌≤◌, arith, All, List, [], ◌∷◌, ◌++◌, map, length, take, drop, Some, slice_get, refl, sym, subst, ap, ◌∙◌, append_assoc, ◌⊎◌, inl, inr, eq-eqb}
 use Rattle.std.proofs.lemmas.List.Elements.{All-nil, All-cons}
 use Rattle.std.proofs.lemmas.List.{append-nil, length-map, length-take-le}
+use Rattle.lemmas.proofs.Numbers.{plus_zero}
 use Rattle.instance_queue.specs.Level.{instances_of}
 use Rattle.instance_queue.specs.declared.due.Due.{Due}
 use Rattle.level_course.proofs.PoolsLemmas.{cuts}
@@ -10,14 +11,12 @@ use Rattle.session_core.specs.Ready.{IsNextRound}
 use Rattle.session_core.specs.Session.{IsOf, IsSession}
 use Rattle.session_core.specs.State.{State}
 use Rattle.session_core.specs.declared.pools.Workers.{Workers}
-use Rattle.task_model.specs.Streams.{yields_of}
 use Rattle.task_model.specs.declared.stream.Instance.{Instance}
 use Rattle.task_model.specs.declared.task.Task.{Task}
 use Rattle.transcript_model.proofs.LegalNumberLemmas.{asks_more}
-use Rattle.transcript_model.specs.Legal.{IsLegal, asks_of, is_answer_to}
-use Rattle.transcript_model.specs.Names.{call_of_instance}
-use Rattle.transcript_model.specs.Rounds.{AreAnswers, AreRoundsRun, IsBatch, IsRound, Limits, Share, calls_left, limits_of, requests, requests_from, share_of}
-use Rattle.transcript_model.specs.Transcript.{names_of, notes_of}
+use Rattle.transcript_model.proofs.RoundsLemmas.{requests_asks, answers_asks}
+use Rattle.transcript_model.specs.Legal.{IsLegal, asks_of}
+use Rattle.transcript_model.specs.Rounds.{AreAnswers, AreRoundsRun, IsBatch, IsRound, Limits, Share, calls_left, limits_of, requests, share_of}
 use Rattle.transcript_model.specs.Turns.{AreTurns, AreTurnsOf, IncrementalTurn, Stage, between, inside, is_cut, none_left, stopped}
 use Rattle.transcript_model.specs.declared.entry.Entry.{Entry}
 use Rattle.transcript_model.specs.declared.entry.Entry.TheVariants as entry
@@ -79,36 +78,10 @@ all_work (p ∷ ps) some = All-cons (λ (q : Share). 1 ≤ q.workers) (share_of 
 
 -- ---- how many requests a round has
 
-requests_asks : (task : Task) (before : List Entry) (number : ℕ) (round : List Instance) → asks_of (requests_from task before number round) ≡ length round
-requests_asks task before number [] = refl
-requests_asks task before number (i ∷ is) =
-    omega (arith, asks_more (entry.Ask number (yields_of (notes_of task before) i) (call_of_instance task (names_of task before) i) ∷ []) (requests_from task before (number + 1) is), requests_asks task before (number + 1) is)
-
-answer_asks : (number : ℕ) (e : Entry) → is_answer_to number e ≡ true → asks_of (e ∷ []) ≡ 0
-answer_asks number (entry.Ask n turn call) is = absurd (cc)
-answer_asks number (entry.Got n tuples values) is = refl
-answer_asks number (entry.Value n value) is = refl
-answer_asks number (entry.End n) is = refl
-answer_asks number entry.Level is = refl
-answer_asks number (entry.Dream uses steps) is = refl
-answer_asks number entry.Nothing is = refl
-answer_asks number entry.Reset is = refl
-answer_asks number (entry.Pick n) is = refl
-answer_asks number (entry.Retire n) is = refl
-
-answers_asks : (number n : ℕ) (es : List Entry) → AreAnswers number n es → asks_of es ≡ 0
-answers_asks number zero [] are = refl
-answers_asks number zero (e ∷ es) are = absurd are
-answers_asks number (suc n) [] are = absurd are
-answers_asks number (suc n) (e ∷ es) are = asks_more (e ∷ []) es ∙ (λ k. answer_asks number e are.0 k + answers_asks (number + 1) n es are.1 k)
-
 round_asks : (task : Task) (before now : List Entry) (round : List Instance) → IsRound task before round now → asks_of (before ++ now) ≡ asks_of before + length round
 round_asks task before now round (answers, is, are) =
     asks_more before now ∙ ap (λ n. asks_of before + n)
-    (ap asks_of is ∙ asks_more (requests task before round) answers ∙ (λ k. requests_asks task before (asks_of before + 1) round k + answers_asks (asks_of before + 1) (length round) answers are k) ∙ plus_none (length round))
-  where
-    plus_none : (n : ℕ) → n + 0 ≡ n
-    plus_none n = omega arith
+    (ap asks_of is ∙ asks_more (requests task before round) answers ∙ (λ k. requests_asks task before (asks_of before + 1) round k + answers_asks (asks_of before + 1) (length round) answers are k) ∙ plus_zero (length round))
 
 -- ---- batches
 

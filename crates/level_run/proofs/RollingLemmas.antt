@@ -1,10 +1,11 @@
 -- An open round: one request more is sent, one answer more is heard.
 use Rattle.std.proofs.Common.{◌≡◌, ℕ, zero, suc, ◌+◌, ◌<◌, ◌≤◌, arith, Bool, true, false, not, ◌&&◌, List, [], ◌∷◌, ◌++◌, map, length, take, Option, Some, None, refl, sym, subst, ap, ◌∙◌, append_assoc, ◌⊎◌, inl, inr, slice_get, option_map, is_none, nat_lt, unwrap_or, eqb-true, eq-eqb}
 use Rattle.std.proofs.lemmas.Bool.{lt-ltb, le-ltb, ltb-true, ltb-false}
-use Rattle.std.proofs.lemmas.List.{take-map, length-map, length-take}
+use Rattle.std.proofs.lemmas.List.{take-map, length-map, length-take, map-map}
 use Rattle.std.proofs.lemmas.Option.{slice_get-map, slice_get_within}
 use Rattle.std.specs.Option.{is_some}
 use Rattle.std.specs.List.{cons_option}
+use Rattle.lemmas.proofs.Options.{same_some}
 use Rattle.gen_lines.specs.Reply as reply
 use Rattle.gen_lines.specs.Reply.{Reply}
 use Rattle.instance_queue.specs.Level.{instances_of}
@@ -18,7 +19,7 @@ use Rattle.transcript_model.specs.declared.entry.Entry.TheVariants as entry
 use Rattle.session_core.proofs.LearningLemmas.{front_at}
 use Rattle.session_core.proofs.RoundBeginLemmas.{child_served, children_distinct}
 use Rattle.session_core.proofs.StateLemmas.{bad_is}
-use Rattle.session_core.proofs.SlotsLemmas.{children_of, children_kept, child_kept, map_at, map_map, own_slot, at_own, at_other, same_some}
+use Rattle.session_core.proofs.SlotsLemmas.{children_of, children_kept, child_kept, map_at, own_slot, at_own, at_other}
 use Rattle.session_core.specs.Heard.{is_bad_at, number_at}
 use Rattle.session_core.specs.Pools.{HasChild}
 use Rattle.session_core.specs.Session.{IsSession, MayBeginRound, begun}
@@ -209,7 +210,7 @@ module _ (s : State) (running : ℕ → Bool) (sent place : ℕ) (r : IsRolling 
 
     pub front_same : take place (finished (map (at_child t.child (heard_slot line)) s.slots)) ≡ take place (finished s.slots)
     front_same =
-        take-map printed place (map g s.slots) ∙ ap (map printed) (take-map g place s.slots) ∙ map_map printed g (take place s.slots)
+        take-map printed place (map g s.slots) ∙ ap (map printed) (take-map g place s.slots) ∙ map-map printed g (take place s.slots)
         ∙ map_at (λ u. printed (g u)) printed (take place s.slots) (λ k u is. ap printed (at_other t.child (heard_slot line) u (elsewhere k u is)))
         ∙ sym (take-map printed place s.slots)
       where

@@ -6,7 +6,7 @@ use Rattle.std.proofs.lemmas.Grind.{flat_map-append}
 use Rattle.std.proofs.lemmas.Result.{err_from_is_err_and}
 use Rattle.std.specs.Io.KnownBytes.{Appends}
 use Rattle.std.specs.List.{flat_map}
-use Rattle.std.specs.Result.{IsErrAnd, IfErr, IfOk, OnErr, OnOk}
+use Rattle.std.specs.Result.{IsErrAnd, IfErr, OnErr, OnOk}
 use Rattle.io_world.specs.Faults.{Rose, HasCause}
 use Rattle.task_model.specs.declared.task.Task.{Task}
 use Rattle.transcript_model.specs.Legal.{IsLegal, is_open}
@@ -197,17 +197,9 @@ pub on_ok : {T E : Type 0} (r : Result T E) (P : Type 0) → P → OnOk r P
 on_ok (Ok x) P p = p
 on_ok (Err e) P p = tt
 
-pub on_err : {T E : Type 0} (r : Result T E) (P : Type 0) → P → OnErr r P
-on_err (Ok x) P p = tt
-on_err (Err e) P p = p
-
 pub ok_map : {T E : Type 0} (r : Result T E) (P Q : Type 0) → (P → Q) → OnOk r P → OnOk r Q
 ok_map (Ok x) P Q f p = f p
 ok_map (Err e) P Q f p = tt
-
-pub err_map : {T E : Type 0} (r : Result T E) (P Q : E → Type 0) → ((e : E) → P e → Q e) → IfErr r P → IfErr r Q
-err_map (Ok x) P Q f p = tt
-err_map (Err e) P Q f p = f e p
 
 pub err_both : {T E : Type 0} (r : Result T E) (P : E → Type 0) (Q : Type 0) (R : E → Type 0) → ((e : E) → P e → Q → R e) → IfErr r P → OnErr r Q → IfErr r R
 err_both (Ok x) P Q R f p q = tt
@@ -229,8 +221,3 @@ cause_handed {T} {U} failed last first second third now fault r a b c is = recor
 
     rises : Rose last third now → Rose last first now
     rises rose = omega (arith, a, b, rose)
-
--- what holds of each answer holds where there is one
-pub ok_each : {T E : Type 0} (r : Result T E) (P Q : T → Type 0) → ((x : T) → P x → Q x) → IfOk r P → IfOk r Q
-ok_each (Ok x) P Q f p = f x p
-ok_each (Err e) P Q f p = tt

@@ -1,6 +1,6 @@
 -- What was said, between two rounds.
 use Rattle.std.proofs.Common.{◌≡◌, ℕ, ◌<◌, arith, Bool, true, false, List, [], ◌∷◌, ◌++◌, length, Option, refl, sym, subst, ap, ◌∙◌, IfSome}
-use Rattle.std.proofs.lemmas.List.{append-nil}
+use Rattle.std.proofs.lemmas.List.{append-nil, nil_from_length}
 use Rattle.gen_lines.specs.Cutting.{fresh}
 use Rattle.io_world.specs.Talks.{Talk}
 use Rattle.session_core.specs.declared.pools.Workers.{Workers}
@@ -84,11 +84,7 @@ module _ (task : Task) (version : ℕ) (pools : List Workers) where
   -- ---- where nothing was asked
 
   pub none_asked : (entries : List Entry) → asks_of entries ≡ 0 → requests_of task pools entries ≡ []
-  none_asked entries none = empty (requests_of task pools entries) (requests_counted task pools [] entries ∙ none)
-    where
-      empty : {A : Type 0} (xs : List A) → length xs ≡ 0 → xs ≡ []
-      empty [] e = refl
-      empty (x ∷ xs) e = absurd (omega (arith, e))
+  none_asked entries none = nil_from_length (requests_of task pools entries) (requests_counted task pools [] entries ∙ none)
 
   pub broken_unasked : (entries : List Entry) (spoken : ℕ → Option Talk) → asks_of entries ≡ 0 → IsLegal version task entries → BrokenOff task version pools entries spoken
   broken_unasked entries spoken none legal = record {
@@ -116,8 +112,4 @@ module _ (task : Task) (version : ℕ) (pools : List Workers) where
       empty = none_asked entries none
 
       unanswered : replies_of entries ≡ []
-      unanswered = bare (replies_of entries) (t.even ∙ ap length empty)
-        where
-          bare : {A : Type 0} (xs : List A) → length xs ≡ 0 → xs ≡ []
-          bare [] e = refl
-          bare (x ∷ xs) e = absurd (omega (arith, e))
+      unanswered = nil_from_length (replies_of entries) (t.even ∙ ap length empty)

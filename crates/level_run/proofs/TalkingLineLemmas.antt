@@ -1,15 +1,17 @@
 -- Buffers that are filled.
-use Rattle.std.proofs.Common.{◌≡◌, ℕ, zero, suc, ◌+◌, ◌<◌, ◌≤◌, arith, Bool, true, false, cond, List, [], ◌∷◌, ◌++◌, length, take, count_by, Option, Some, None, refl, sym, subst, ap, ◌∙◌, inl, inr, slice_get, unwrap_or, ◌||◌, append-nil, option_map, Result, Ok, Err, OnOk}
-use Rattle.std.proofs.lemmas.Bool.{cases_lt}
+use Rattle.std.proofs.Common.{◌≡◌, ℕ, zero, suc, ◌+◌, ◌<◌, ◌≤◌, arith, Bool, true, false, cond, List, [], ◌∷◌, ◌++◌, length, take, count_by, Option, refl, sym, subst, ap, ◌∙◌, inl, inr, slice_get, unwrap_or, ◌||◌, append-nil, Result, Ok, Err, OnOk}
+use Rattle.std.proofs.lemmas.Bool.{cases_lt, or_right}
 use Rattle.std.proofs.lemmas.List.{length-append, length-map, length-take-le}
 use Rattle.std.proofs.lemmas.List.Folds.{list_any-append}
 use Rattle.std.proofs.lemmas.List.Splits.{length-slice_split}
 use Rattle.std.specs.Io.BufRead.{strip_last}
 use Rattle.std.specs.List.{after_first, list_any, slice_split}
+use Rattle.gen_lines.proofs.LinesLemmas.{ended_length}
 use Rattle.gen_lines.specs.Lines.{ended, is_feed, lines_of}
 use Rattle.gen_lines.specs.declared.answer.Why.TheVariants.{TooLong}
+use Rattle.io_world.proofs.TalksHeardLemmas.{heard_none}
 use Rattle.io_world.specs.Replies.{HasLine}
-use Rattle.io_world.specs.Talks.{Talk, Hears, heard_more}
+use Rattle.io_world.specs.Talks.{Talk, Hears}
 use Rattle.session_core.proofs.SessionLemmas.{count_joined, count_one}
 use Rattle.session_core.specs.Heard.{is_bad_at, number_at}
 use Rattle.session_core.specs.Slots.{Slot}
@@ -17,11 +19,6 @@ use Rattle.session_core.specs.State.{State, after_line}
 use Rattle.level_run.specs.Talking.{Misheard, TakesAnswer}
 use Rattle.level_run.specs.declared.fault.RunFault.{RunFault}
 use Rattle.level_run.specs.declared.fault.RunFault.TheVariants.{Answer}
-
-pub ended_long : (parts : List (List ℕ)) → 0 < length parts → length (ended parts) + 1 ≡ length parts
-ended_long [] some = absurd (omega (arith, some))
-ended_long (part ∷ []) some = refl
-ended_long (part ∷ next ∷ parts) some = omega (arith, ended_long (next ∷ parts) (omega arith))
 
 feeds : (bytes : List ℕ) → list_any is_feed bytes ≡ true → 1 ≤ count_by is_feed bytes
 feeds [] e = absurd (cc)
@@ -38,16 +35,12 @@ feeds (b ∷ bs) e = by (feeds bs) (is_feed b) refl e
 -- bytes with a line feed have a line
 has_line : (bytes : List ℕ) → list_any is_feed bytes ≡ true → lines_of bytes ≡ [] → ⊥
 has_line bytes fed none =
-    omega (arith, length-map (ended (slice_split is_feed bytes)) (strip_last 13), ap length none, ended_long (slice_split is_feed bytes) (omega (arith, length-slice_split is_feed bytes)), length-slice_split is_feed bytes, feeds bytes fed)
-
-or_later : (a b : Bool) → b ≡ true → (a || b) ≡ true
-or_later true b e = refl
-or_later false b e = e
+    omega (arith, length-map (ended (slice_split is_feed bytes)) (strip_last 13), ap length none, ended_length (slice_split is_feed bytes) (omega (arith, length-slice_split is_feed bytes)), length-slice_split is_feed bytes, feeds bytes fed)
 
 -- where no line came, the buffer is full
 pub filled : (held room : List ℕ) (count most : ℕ) → length room + length held ≡ most → count ≤ length room → (count < length room → HasLine (take count room)) → lines_of (held ++ take count room) ≡ [] → length (held ++ take count room) ≡ most
 filled held room count most whole within line none = elim (cases_lt count (length room)) [
-  | inl less ↦ absurd (has_line (held ++ take count room) (list_any-append is_feed held (take count room) ∙ or_later (list_any is_feed held) (list_any is_feed (take count room)) (line less)) none)
+  | inl less ↦ absurd (has_line (held ++ take count room) (list_any-append is_feed held (take count room) ∙ or_right (list_any is_feed held) (list_any is_feed (take count room)) (line less)) none)
   | inr more ↦ omega (arith, length-append held (take count room), length-take-le count room within, whole, within, more)
 ]
 
@@ -61,12 +54,8 @@ none_held (x ∷ xs) one none is (suc k) = none_held xs one (λ j. none (suc j))
 
 -- ---- lines that are held
 
-heard_nothing : (talk : Option Talk) → talk ≡ option_map (heard_more []) talk
-heard_nothing None = refl
-heard_nothing (Some talk) = ap (λ bytes. Some (record { written = talk.written; heard = bytes })) (sym (append-nil talk.heard))
-
 hears_none : (child : ℕ) (spoken : ℕ → Option Talk) → Hears child [] spoken spoken
-hears_none child spoken = record { here = heard_nothing (spoken child); others = λ k other. refl }
+hears_none child spoken = record { here = heard_none (spoken child); others = λ k other. refl }
 
 -- a line that was held is taken
 pub takes_kept : {T E : Type 0} (r : Result T E) (old new : State) (child : ℕ) (kept left line : List ℕ) (spoken : ℕ → Option Talk) → OnOk r (new ≡ after_line old child line false) → OnOk r (is_bad_at old.slots child line ≡ false) → lines_of kept ≡ line ∷ lines_of (after_first is_feed kept) → length line < 1025 → left ≡ after_first is_feed kept → OnOk r (TakesAnswer old child new kept left spoken spoken)

@@ -12,7 +12,7 @@ use Rattle.gen_lines.specs.declared.answer.Why.TheVariants.{TooLong}
 use Rattle.instance_queue.specs.Level.{instances_of}
 use Rattle.instance_queue.specs.declared.due.Due.{Due}
 use Rattle.io_world.specs.Talks.{Talk, Hears, Writes}
-use Rattle.session_core.proofs.LearningLemmas.{front_at, there_at, take_next}
+use Rattle.session_core.proofs.LearningLemmas.{front_at, take_next}
 use Rattle.session_core.proofs.RoundBeginLemmas.{child_served}
 use Rattle.session_core.proofs.SlotsLemmas.{at_own, at_other, own_slot}
 use Rattle.session_core.specs.Heard.{heard_at, heard_by, is_bad_at, number_at}
@@ -21,7 +21,8 @@ use Rattle.session_core.specs.Slots.{Slot, answers_of, asks_from, at_child, entr
 use Rattle.session_core.specs.State.{State, after_line, after_sent, with_slots}
 use Rattle.session_core.specs.declared.fault.Heard.TheVariants as heard
 use Rattle.session_core.specs.declared.pools.Workers.{Workers}
-use Rattle.lemmas.proofs.Members.{member_at}
+use Rattle.lemmas.proofs.Members.{member_at, get_behind}
+use Rattle.lemmas.proofs.ListTests.{get_there}
 use Rattle.task_model.specs.declared.task.Task.{Task}
 use Rattle.transcript_model.specs.Legal.{IsLegal, is_open, is_answer}
 use Rattle.transcript_model.specs.declared.entry.Entry.{Entry}
@@ -181,7 +182,7 @@ module _ (task : Task) (s : State) (place : ℕ) (kept : ℕ → List ℕ) (old 
   -- the request of this place
   pub request_at : (a : AreSlotsOf task s) → (r : Request) × (slice_get (requests_of task s.pools s.asks) place ≡ Some r) × IsSlotOf task s.version s.pools r t
   request_at a =
-      let f = there_at (requests_of task s.pools s.asks) place (omega (arith, a.many, slice_get_within s.slots place t at)) in
+      let f = get_there (requests_of task s.pools s.asks) place (omega (arith, a.many, slice_get_within s.slots place t at)) in
       (f.0, f.1, a.each place f.0 t f.1 at)
 
   pub talking_sent : IsTalking task s place 0 kept old → Writes t.child t.request old new → IsTalking task (after_sent s t.child) (place + 1) 0 kept new
@@ -214,10 +215,6 @@ module _ (task : Task) (s : State) (place : ℕ) (kept : ℕ → List ℕ) (old 
           ∙ ap (λ rs. rs ++ r.0 ∷ []) (sym (requests_sent task s.pools s.entries s.asks k.closed asks place))
 
 -- ---- one answer more
-
-get_behind : {A : Type 0} (xs ys : List A) (n : ℕ) (x : A) → slice_get ys n ≡ Some x → slice_get (xs ++ ys) (length xs + n) ≡ Some x
-get_behind [] ys n x at = ap (slice_get ys) (let e : 0 + n ≡ n = omega arith in e) ∙ at
-get_behind (y ∷ xs) ys n x at = ap (slice_get (y ∷ (xs ++ ys))) (let e : suc (length xs) + n ≡ suc (length xs + n) = omega arith in e) ∙ get_behind xs ys n x at
 
 -- how many answers are printed
 printed_many : (slots : List Slot) (place : ℕ) → place < length slots → length (take place (finished slots)) ≡ place

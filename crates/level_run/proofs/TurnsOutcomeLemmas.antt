@@ -1,10 +1,10 @@
 -- Outcomes that are true.
 use Rattle.std.proofs.Common.{◌≡◌, ℕ, ◌^◌, ◌<◌, ◌≤◌, arith, List, [], ◌∷◌, length, take, refl, sym, subst, ap, ◌∙◌, false, true, ◌==◌, eqb-true, ◌+◌, Vec, Global}
 use Rattle.std.proofs.Math.Seq.{take-length}
+use Rattle.lemmas.proofs.Ascending.{contains_here}
 use Rattle.best_first.specs.Answer.{HasPlan, IsFoundPlan, IsLimit}
 use Rattle.best_first.specs.declared.found.Found.{Found}
 use Rattle.best_first.specs.declared.found.Found.TheVariants as found
-use Rattle.instance_queue.proofs.FoundLemmas.{at_head}
 use Rattle.instance_queue.specs.Level.{AreDueInTurn, instances_of}
 use Rattle.instance_queue.specs.declared.due.Due.{Due}
 use Rattle.session_core.specs.Ready.{AreReady}
@@ -128,7 +128,7 @@ filled_of (x ∷ xs) e = omega arith
 -- something is due where the list isn't empty
 pub first_of : (task : Task) (entries : List Entry) (dues : List Due) → AreReady task entries dues → 0 < length dues → (i : Instance) × IsDue task (known_of task entries) (notes_of task entries) i
 first_of task entries [] ready some = absurd (omega (arith, some))
-first_of task entries (d ∷ ds) ready some = (d.instance, ready.due d.instance (at_head d.instance (instances_of ds)))
+first_of task entries (d ∷ ds) ready some = (d.instance, ready.due d.instance (contains_here d.instance (instances_of ds)))
 
 -- ---- what a search has found
 

@@ -3,6 +3,7 @@ use Rattle.std.proofs.Common.{◌≡◌, ℕ, ◌+◌, ◌<◌, ◌≤◌, true,
 use Rattle.std.specs.Cmp.{first_so, second_so}
 use Rattle.std.specs.List.{list_all}
 use Rattle.std.proofs.lemmas.Bool.{and_from}
+use Rattle.lemmas.proofs.Members.{append_nil_first, append_nil_second}
 use Rattle.sexpr_text.specs.Trees.{Trees, nothing, word, list, depth, size}
 use Rattle.task_model.specs.Condition.{Condition, Conditions, Atom, All as every, Any, Not, Exists}
 use Rattle.task_model.specs.Fit.{are_places, are_sound, count_of, depth_of, depths_of, is_fit_application, is_fit_condition, is_fit_term, is_sound}
@@ -24,7 +25,7 @@ use Rattle.name_tables.specs.Variables.{doubles_names, named_sorts, named_words,
 use Rattle.name_tables.specs.declared.vocabulary.Vocabulary.{Vocabulary}
 use Rattle.name_tables.proofs.FitGroups.{few_places, scope_bound, sorts_as_long}
 use Rattle.name_tables.proofs.FitTerms.{AreFilled, Knows, application_fits, filled_more, terms_fit}
-use Rattle.name_tables.proofs.NoFaultLemmas.{none_first, none_second, some_fault}
+use Rattle.name_tables.proofs.NoFaultLemmas.{some_fault}
 
 -- ---- what a head chooses
 
@@ -82,8 +83,8 @@ module _ (v : Vocabulary) (domain : Domain) (objects : ℕ) (knows : Knows v dom
   exists_sound scope filled items body few n sound =
       let doubles = doubles_names [] Start items in
       let scopes = scope_names (length scope) Start items in
-      let types : types_names v.sorts Start items ≡ [] = none_first (types_names v.sorts Start items) doubles (none_first (types_names v.sorts Start items ++ doubles) scopes n) in
-      let room : length scope + length (named_words Start items) ≤ 16 = scope_bound (length scope) Start items few (none_second (types_names v.sorts Start items ++ doubles) scopes n) in
+      let types : types_names v.sorts Start items ≡ [] = append_nil_first (types_names v.sorts Start items) doubles (append_nil_first (types_names v.sorts Start items ++ doubles) scopes n) in
+      let room : length scope + length (named_words Start items) ≤ 16 = scope_bound (length scope) Start items few (append_nil_second (types_names v.sorts Start items ++ doubles) scopes n) in
       let long : length (named_sorts v.sorts Start 0 items) ≡ length (named_words Start items) = sorts_as_long v.sorts items in
       let places : are_places (length domain.sorts) (named_sorts v.sorts Start 0 items) ≡ true =
       subst (λ k. are_places k (named_sorts v.sorts Start 0 items) ≡ true) (sym knows.sorts) (few_places v.sorts knows.typed items (omega arith) types) in
@@ -101,8 +102,8 @@ module _ (v : Vocabulary) (domain : Domain) (objects : ℕ) (knows : Knows v dom
     conditions_sound scope filled slots few (word text at rest) small f n = absurd (some_fault (shape at) [] f)
     conditions_sound scope filled slots few (list items at rest) small f n =
         and_from (is_sound domain objects (condition_of v scope items) filled) (are_sound domain objects (conditions_of v scope rest) filled)
-        (condition_sound scope filled slots few at items (omega arith) (none_first (condition_faults at items) (conditions_faults rest) f) (none_first (condition_names v scope at items) (conditions_names v scope rest) n))
-        (conditions_sound scope filled slots few rest (omega arith) (none_second (condition_faults at items) (conditions_faults rest) f) (none_second (condition_names v scope at items) (conditions_names v scope rest) n))
+        (condition_sound scope filled slots few at items (omega arith) (append_nil_first (condition_faults at items) (conditions_faults rest) f) (append_nil_first (condition_names v scope at items) (conditions_names v scope rest) n))
+        (conditions_sound scope filled slots few rest (omega arith) (append_nil_second (condition_faults at items) (conditions_faults rest) f) (append_nil_second (condition_names v scope at items) (conditions_names v scope rest) n))
 
     pub condition_sound : (scope : List (List ℕ)) (filled : List ℕ) → AreFilled filled (length scope) → length scope ≤ 16 → (place : ℕ) (ts : Trees) → size ts ≤ 8388608 → condition_faults place ts ≡ [] → condition_names v scope place ts ≡ [] → is_sound domain objects (condition_of v scope ts) filled ≡ true
     condition_sound scope filled slots few place nothing small f n = refl
@@ -126,15 +127,15 @@ module _ (v : Vocabulary) (domain : Domain) (objects : ℕ) (knows : Knows v dom
     single_sound scope filled slots few place nothing small f n = absurd (some_fault (shape place) [] f)
     single_sound scope filled slots few place (word text at rest) small f n = absurd (some_fault (shape at) [] f)
     single_sound scope filled slots few place (list items at rest) small f n =
-        condition_sound scope filled slots few at items (omega arith) (none_first (condition_faults at items) (end_faults rest) f) (none_first (condition_names v scope at items) (conditions_names v scope rest) n)
+        condition_sound scope filled slots few at items (omega arith) (append_nil_first (condition_faults at items) (end_faults rest) f) (append_nil_first (condition_names v scope at items) (conditions_names v scope rest) n)
 
     exists_all : (scope : List (List ℕ)) (filled : List ℕ) → AreFilled filled (length scope) → length scope ≤ 16 → (place : ℕ) (ts : Trees) → size ts ≤ 8388608 → exists_faults place ts ≡ [] → exists_names v scope ts ≡ [] → is_sound domain objects (exists_of v scope ts) filled ≡ true
     exists_all scope filled slots few place nothing small f n = absurd (some_fault (shape place) [] f)
     exists_all scope filled slots few place (word text at rest) small f n = absurd (some_fault (shape at) [] f)
     exists_all scope filled slots few place (list items at rest) small f n =
-        exists_sound scope filled items (single_of v (scope ++ named_words Start items) rest) few (none_first (variables_names v.sorts (length scope) items) (conditions_names v (scope ++ named_words Start items) rest) n)
-        (λ room. single_sound (scope ++ named_words Start items) (numbers_from (length scope) (length (named_sorts v.sorts Start 0 items)) ++ filled) (filled_inside scope filled items slots) room place rest (omega arith) (none_second (groups_faults Variable at Start items) (single_faults place rest) f)
-        (none_second (variables_names v.sorts (length scope) items) (conditions_names v (scope ++ named_words Start items) rest) n))
+        exists_sound scope filled items (single_of v (scope ++ named_words Start items) rest) few (append_nil_first (variables_names v.sorts (length scope) items) (conditions_names v (scope ++ named_words Start items) rest) n)
+        (λ room. single_sound (scope ++ named_words Start items) (numbers_from (length scope) (length (named_sorts v.sorts Start 0 items)) ++ filled) (filled_inside scope filled items slots) room place rest (omega arith) (append_nil_second (groups_faults Variable at Start items) (single_faults place rest) f)
+        (append_nil_second (variables_names v.sorts (length scope) items) (conditions_names v (scope ++ named_words Start items) rest) n))
 
 -- ---- depth
 
@@ -154,8 +155,8 @@ module _ (v : Vocabulary) where
     conditions_deep scope (list items at rest) f n =
         omega (
           arith,
-          condition_deep scope at items (none_first (condition_faults at items) (conditions_faults rest) f) (none_first (condition_names v scope at items) (conditions_names v scope rest) n),
-          conditions_deep scope rest (none_second (condition_faults at items) (conditions_faults rest) f) (none_second (condition_names v scope at items) (conditions_names v scope rest) n),
+          condition_deep scope at items (append_nil_first (condition_faults at items) (conditions_faults rest) f) (append_nil_first (condition_names v scope at items) (conditions_names v scope rest) n),
+          conditions_deep scope rest (append_nil_second (condition_faults at items) (conditions_faults rest) f) (append_nil_second (condition_names v scope at items) (conditions_names v scope rest) n),
         )
 
     pub condition_deep : (scope : List (List ℕ)) (place : ℕ) (ts : Trees) → condition_faults place ts ≡ [] → condition_names v scope place ts ≡ [] → depth_of (condition_of v scope ts) ≤ depth ts + 1
@@ -180,7 +181,7 @@ module _ (v : Vocabulary) where
     single_deep scope place nothing f n = absurd (some_fault (shape place) [] f)
     single_deep scope place (word text at rest) f n = absurd (some_fault (shape at) [] f)
     single_deep scope place (list items at rest) f n =
-        omega (arith, condition_deep scope at items (none_first (condition_faults at items) (end_faults rest) f) (none_first (condition_names v scope at items) (conditions_names v scope rest) n))
+        omega (arith, condition_deep scope at items (append_nil_first (condition_faults at items) (end_faults rest) f) (append_nil_first (condition_names v scope at items) (conditions_names v scope rest) n))
 
     exists_deep : (scope : List (List ℕ)) (place : ℕ) (ts : Trees) → exists_faults place ts ≡ [] → exists_names v scope ts ≡ [] → depth_of (exists_of v scope ts) ≤ depth ts + 1
     exists_deep scope place nothing f n = absurd (some_fault (shape place) [] f)
@@ -188,8 +189,8 @@ module _ (v : Vocabulary) where
     exists_deep scope place (list items at rest) f n =
         omega (
           arith,
-          single_deep (scope ++ named_words Start items) place rest (none_second (groups_faults Variable at Start items) (single_faults place rest) f)
-              (none_second (variables_names v.sorts (length scope) items) (conditions_names v (scope ++ named_words Start items) rest) n),
+          single_deep (scope ++ named_words Start items) place rest (append_nil_second (groups_faults Variable at Start items) (single_faults place rest) f)
+              (append_nil_second (variables_names v.sorts (length scope) items) (conditions_names v (scope ++ named_words Start items) rest) n),
         )
 
 -- ---- fit conditions

@@ -3,6 +3,7 @@ use Rattle.std.proofs.Common.{◌≡◌, ℕ, zero, suc, ◌+◌, ◌<◌, ◌�
 use Rattle.std.specs.Cmp.{first_so, second_so}
 use Rattle.std.specs.List.{list_all}
 use Rattle.std.proofs.lemmas.Bool.{and_from, false_from_ne_true}
+use Rattle.lemmas.proofs.ListTests.{all_push}
 use Rattle.sexpr_text.specs.Trees.{Trees, nothing, word, list}
 use Rattle.task_model.specs.Fit.{AreFitObjects, AreNames, are_places, is_name}
 use Rattle.lemmas.specs.Lists.{AreDistinct}
@@ -17,7 +18,6 @@ use Rattle.name_tables.specs.Names.{has_name, place_of, with_name}
 use Rattle.name_tables.specs.Variables.{is_named, named_sorts, named_words, seen_after, types_names}
 use Rattle.name_tables.proofs.GraphsOrderLemmas.{Ascends, ascends_places, ascends_with}
 use Rattle.name_tables.proofs.FitGroups.{sort_places, sorts_as_long, words_are_names}
-use Rattle.name_tables.proofs.Members.{all_push}
 use Rattle.name_tables.proofs.NamesLemmas.{distinct_with, name_there, place_named, place_there}
 
 -- ---- one name more
@@ -90,7 +90,7 @@ put_ascends size [] place n lt a = tt
 put_ascends size (ns ∷ lists) zero n lt a = (ascends_with 0 size ns n (omega arith) lt a.0, a.1)
 put_ascends size (ns ∷ lists) (suc place) n lt a = subst (AllAscend size) (sym (put_behind ns lists place n (slice_get lists place))) (a.0, put_ascends size lists place n lt a.1)
 
-put_long : (lists : List (List ℕ)) (place n : ℕ) → length (number_put lists place n) ≡ length lists
+pub put_long : (lists : List (List ℕ)) (place n : ℕ) → length (number_put lists place n) ≡ length lists
 put_long [] place n = refl
 put_long (ns ∷ lists) zero n = refl
 put_long (ns ∷ lists) (suc place) n = ap length (put_behind ns lists place n (slice_get lists place)) ∙ ap suc (put_long lists place n)

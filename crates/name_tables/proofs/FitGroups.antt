@@ -2,6 +2,8 @@
 use Rattle.std.proofs.Common.{◌≡◌, ℕ, zero, suc, ◌+◌, ◌<◌, ◌≤◌, Bool, true, false, not, ◌==◌, nat_lt, List, [], ◌∷◌, ◌++◌, length, refl, sym, ap, ◌∙◌, subst, arith, unwrap_or, le-leb, lt-ltb, length-append, if◌then◌else◌}
 use Rattle.std.specs.List.{list_all}
 use Rattle.std.proofs.lemmas.Bool.{and_from, eqb-false, not-true}
+use Rattle.lemmas.proofs.Members.{append_nil_first, append_nil_second}
+use Rattle.lemmas.proofs.ListTests.{all_append}
 use Rattle.sexpr_text.specs.Trees.{Trees, nothing, word, list}
 use Rattle.task_model.specs.Fit.{are_places, is_name, is_short}
 use Rattle.form_reader.specs.declared.groups.Spot.{Spot}
@@ -12,13 +14,12 @@ use Rattle.form_reader.specs.Faults.{shape}
 use Rattle.form_reader.specs.Rows.{after_word, groups_faults, is_dash}
 use Rattle.name_tables.specs.Names.{has_name}
 use Rattle.name_tables.specs.Variables.{copies, is_named, named_sorts, named_words, scope_names, sort_of, types_names, unless}
-use Rattle.name_tables.proofs.Members.{all_append}
-use Rattle.name_tables.proofs.NoFaultLemmas.{chosen, met, none_first, none_second}
+use Rattle.name_tables.proofs.NoFaultLemmas.{chosen, met}
 use Rattle.name_tables.proofs.NamesLemmas.{place_there, place_within}
 
 -- ---- as many types as names
 
-copies_long : (k n : ℕ) → length (copies k n) ≡ k
+pub copies_long : (k n : ℕ) → length (copies k n) ≡ k
 copies_long zero n = refl
 copies_long (suc k) n = ap suc (copies_long k n)
 
@@ -65,9 +66,9 @@ module _ (sorts : List (List ℕ)) (typed : 0 < length sorts) where
         | false ↦ λ f. sort_places Named (waiting + 1) rest f
       ] e
   sort_places Typed waiting (word text at rest) e =
-      let there = met (has_name text sorts) Unknown at (none_first (unless (has_name text sorts) Unknown at) (types_names sorts Start rest) e) in
+      let there = met (has_name text sorts) Unknown at (append_nil_first (unless (has_name text sorts) Unknown at) (types_names sorts Start rest) e) in
       all_append is_place (copies waiting (sort_of sorts text)) (named_sorts sorts Start 0 rest) (all_copies is_place waiting (sort_of sorts text) (lt-ltb (sort_of sorts text) (length sorts) (sort_there sorts text there)))
-      (sort_places Start 0 rest (none_second (unless (has_name text sorts) Unknown at) (types_names sorts Start rest) e))
+      (sort_places Start 0 rest (append_nil_second (unless (has_name text sorts) Unknown at) (types_names sorts Start rest) e))
 
   -- the types of few names are places in the list of types
   pub few_places : (ts : Trees) → length (named_words Start ts) ≤ 8388608 → types_names sorts Start ts ≡ [] → are_places (length sorts) (named_sorts sorts Start 0 ts) ≡ true
@@ -82,8 +83,8 @@ scope_bound size spot (list items at rest) few e = omega arith
 scope_bound size spot (word text at rest) few e =
     elim (is_named spot text) as (λ b. (if b then unless (not (size == 16)) TooMany at else []) ++ scope_names (if b then size + 1 else size) (after_word spot text) rest ≡ [] → size + length (if b then text ∷ named_words (after_word spot text) rest else named_words (after_word spot text) rest) ≤ 16) [
       | true ↦ λ f.
-          let room : (size == 16) ≡ false = not-true (size == 16) (met (not (size == 16)) TooMany at (none_first (unless (not (size == 16)) TooMany at) (scope_names (size + 1) (after_word spot text) rest) f)) in
-          let more : (size + 1) + length (named_words (after_word spot text) rest) ≤ 16 = scope_bound (size + 1) (after_word spot text) rest (omega (arith, eqb-false size 16 room)) (none_second (unless (not (size == 16)) TooMany at) (scope_names (size + 1) (after_word spot text) rest) f) in
+          let room : (size == 16) ≡ false = not-true (size == 16) (met (not (size == 16)) TooMany at (append_nil_first (unless (not (size == 16)) TooMany at) (scope_names (size + 1) (after_word spot text) rest) f)) in
+          let more : (size + 1) + length (named_words (after_word spot text) rest) ≤ 16 = scope_bound (size + 1) (after_word spot text) rest (omega (arith, eqb-false size 16 room)) (append_nil_second (unless (not (size == 16)) TooMany at) (scope_names (size + 1) (after_word spot text) rest) f) in
           omega arith
       | false ↦ λ f. scope_bound size (after_word spot text) rest few f
     ] e

@@ -2,6 +2,9 @@
 use Rattle.std.proofs.Common.{◌≡◌, ℕ, zero, suc, ◌+◌, ◌<◌, true, false, ◌||◌, ◌==◌, nat_lt, List, [], ◌∷◌, ◌++◌, length, refl, sym, ap, ◌∙◌, subst, arith, Option, Some, None, slice_get, unwrap_or, lt-ltb, eqb-true, eq-eqb}
 use Rattle.std.specs.List.{list_any, list_all}
 use Rattle.std.proofs.lemmas.Bool.{and_from, ltb-true, ltb-false}
+use Rattle.lemmas.proofs.Numbers.{in_numbers}
+use Rattle.lemmas.proofs.Members.{append_nil_first, append_nil_second}
+use Rattle.lemmas.proofs.ListTests.{any_append_left, any_append_right}
 use Rattle.sexpr_text.specs.Trees.{Trees, nothing, word, list}
 use Rattle.task_model.specs.Fit.{has_arity, is_fit_application, is_fit_term}
 use Rattle.lemmas.specs.Lists.{numbers_from}
@@ -18,8 +21,7 @@ use Rattle.name_tables.specs.Terms.{application_names, declared_place, term_by, 
 use Rattle.name_tables.specs.Variables.{unless}
 use Rattle.name_tables.specs.Vocabulary.{arity_at, arity_of}
 use Rattle.name_tables.specs.declared.vocabulary.Vocabulary.{Vocabulary}
-use Rattle.name_tables.proofs.Members.{any_append_left, any_append_right, in_numbers}
-use Rattle.name_tables.proofs.NoFaultLemmas.{chosen, met, none_first, none_second, some_fault}
+use Rattle.name_tables.proofs.NoFaultLemmas.{chosen, met, some_fault}
 use Rattle.name_tables.proofs.NamesLemmas.{last_none, last_within, place_there, place_within}
 
 -- The domain has these names at their places, and there are so many objects.
@@ -59,8 +61,8 @@ module _ (objects scope : List (List ℕ)) (filled : List ℕ) (slots : AreFille
   terms_fit nothing e = refl
   terms_fit (word text at rest) e =
       and_from (is_fit_term (length objects) filled (term_of objects scope text)) (list_all (is_fit_term (length objects) filled) (terms_of objects scope rest))
-      (term_fits text (last_place 0 None text scope) refl (met (has_name text scope || has_name text objects) Unknown at (none_first (unless (has_name text scope || has_name text objects) Unknown at) (terms_names objects scope rest) e)))
-      (terms_fit rest (none_second (unless (has_name text scope || has_name text objects) Unknown at) (terms_names objects scope rest) e))
+      (term_fits text (last_place 0 None text scope) refl (met (has_name text scope || has_name text objects) Unknown at (append_nil_first (unless (has_name text scope || has_name text objects) Unknown at) (terms_names objects scope rest) e)))
+      (terms_fit rest (append_nil_second (unless (has_name text scope || has_name text objects) Unknown at) (terms_names objects scope rest) e))
   terms_fit (list items at rest) e = terms_fit rest e
 
 -- a row of words has a term for each
@@ -105,7 +107,7 @@ application_fits s objects scope filled slots head args place (list items at res
 application_fits s objects scope filled slots head args place (word text at rest) f e =
     let used_names = use_names (arity_of s text) (width rest) at place in
     let row = (chosen (is_of head text) (row_faults args rest) (shape at) [] f).1 in
-    let declared = use_there s text (width rest) at place (none_first used_names (terms_names objects scope rest) e) in
+    let declared = use_there s text (width rest) at place (append_nil_first used_names (terms_names objects scope rest) e) in
     and_from (has_arity (signature_list s.names s.arities) (declared_place s text) (length (terms_of objects scope rest))) (list_all (is_fit_term (length objects) filled) (terms_of objects scope rest))
     (subst (λ n. has_arity (signature_list s.names s.arities) (declared_place s text) n ≡ true) (sym (terms_long objects scope args rest row)) declared)
-    (terms_fit objects scope filled slots rest (none_second used_names (terms_names objects scope rest) e))
+    (terms_fit objects scope filled slots rest (append_nil_second used_names (terms_names objects scope rest) e))

@@ -1,22 +1,12 @@
 -- Which numbers are reached.
-use Rattle.std.proofs.Common.{◌≡◌, ℕ, suc, ◌+◌, ◌≤◌, Bool, true, false, cond, ◌||◌, ◌==◌, List, [], ◌∷◌, ◌++◌, length, take, drop, refl, sym, ap, subst, ◌∙◌, ◌⊎◌, inl, inr, Some, None, slice_get, append_assoc, eq-eqb, arith}
-use Rattle.std.proofs.lemmas.Bool.{eqb-true}
-use Rattle.std.proofs.lemmas.List.{take-append-drop, take-append-le, take_all}
+use Rattle.std.proofs.Common.{◌≡◌, ℕ, suc, ◌+◌, ◌≤◌, Bool, true, false, cond, ◌==◌, List, [], ◌∷◌, ◌++◌, length, take, refl, sym, ap, subst, ◌∙◌, ◌⊎◌, inl, inr, Some, None, slice_get, append_assoc, eq-eqb, arith}
+use Rattle.std.proofs.lemmas.Bool.{eqb-true, or_cases, or_left, or_right}
+use Rattle.std.proofs.lemmas.Map.Keys.{any_passes_from_place}
+use Rattle.std.proofs.lemmas.List.{take-append-le, take_all, append-nil}
 use Rattle.std.proofs.lemmas.Option.{slice_get_within, slice_get_cases, get_or_from_slice_get}
 use Rattle.std.proofs.Math.Seq.{take-suc}
 use Rattle.lemmas.specs.Lists.{LeadsAlong, has_number}
 use Rattle.name_tables.specs.Graphs.{AreReached, HasWay, leads, next_of, with_number, with_numbers}
-
-or_cases : (x y : Bool) → x || y ≡ true → (x ≡ true) ⊎ (y ≡ true)
-or_cases true y h = inl refl
-or_cases false y h = inr h
-
-or_left : (x y : Bool) → x ≡ true → x || y ≡ true
-or_left x y e = ap (λ b. b || y) e
-
-or_right : (x y : Bool) → y ≡ true → x || y ≡ true
-or_right true y e = refl
-or_right false y e = e
 
 -- one number more at the end
 
@@ -94,11 +84,7 @@ pub record Grows (old new : List ℕ) : Type 0 where
   pub split : new ≡ old ++ more
 
 grows_if : (v : Bool) (ns : List ℕ) (m : ℕ) → Grows ns (cond v ns (ns ++ m ∷ []))
-grows_if true ns m = record { more = []; split = sym (append_none ns) }
-  where
-    append_none : (xs : List ℕ) → xs ++ [] ≡ xs
-    append_none [] = refl
-    append_none (x ∷ xs) = ap (λ ys. x ∷ ys) (append_none xs)
+grows_if true ns m = record { more = []; split = sym (append-nil ns) }
 grows_if false ns m = record { more = m ∷ []; split = refl }
 
 grows_twice : (a b c : List ℕ) → Grows a b → Grows b c → Grows a c
@@ -124,6 +110,12 @@ take_grown old new i x g e =
 has_at : (xs : List ℕ) (i x : ℕ) → slice_get xs i ≡ Some x → has_number (take (i + 1) xs) x ≡ true
 has_at xs i x e = subst (λ ys. has_number ys x ≡ true) (sym (take_next xs i x e)) (gets_push (take i xs) x)
 
+pub number_there : (xs : List ℕ) (i x : ℕ) → slice_get xs i ≡ Some x → has_number xs x ≡ true
+number_there xs i x e = any_passes_from_place (λ m. x == m) xs i x e (eq-eqb x x refl)
+
+pub no_number : (b : ℕ) → has_number [] b ≡ true → ⊥
+no_number b h = absurd (cc)
+
 -- ---- ways
 
 module _ (edges : List (List ℕ)) where
@@ -140,19 +132,16 @@ module _ (edges : List (List ℕ)) where
     pub begun : (b : ℕ) → leads edges start b ≡ true → has_number seen b ≡ true
     pub closed : (a b : ℕ) → has_number (take done seen) a ≡ true → leads edges a b ≡ true → has_number seen b ≡ true
 
-  nothing_seen : (b : ℕ) → has_number [] b ≡ true → ⊥
-  nothing_seen b h = absurd (cc)
-
   pub explored_first : (start : ℕ) (seen : List ℕ) → seen ≡ with_numbers [] (next_of edges start) → Explored start seen 0
   explored_first start seen e =
       subst (λ s. Explored start s 0) (sym e) (
       record {
         reached = λ b h. elim (splits_all [] (next_of edges start) b h) [
-          | inl f ↦ absurd (nothing_seen b f)
+          | inl f ↦ absurd (no_number b f)
           | inr f ↦ record { between = []; steps = f }
         ];
         begun = λ b h. gets_all [] (next_of edges start) b h;
-        closed = λ a b h f. absurd (nothing_seen a h);
+        closed = λ a b h f. absurd (no_number a h);
       }
       )
 
@@ -160,7 +149,7 @@ module _ (edges : List (List ℕ)) where
   has_prefix n xs b g h = subst (λ ys. has_number ys b ≡ true) (sym g.split) (keeps_behind (take n xs) g.more b h)
     where
       keeps_behind : (xs ys : List ℕ) (b : ℕ) → has_number xs b ≡ true → has_number (xs ++ ys) b ≡ true
-      keeps_behind [] ys b h = absurd (nothing_seen b h)
+      keeps_behind [] ys b h = absurd (no_number b h)
       keeps_behind (x ∷ xs) ys b h =
           elim (or_cases (b == x) (has_number xs b) h) [
             | inl e ↦ or_left (b == x) (has_number (xs ++ ys) b) e
@@ -173,7 +162,7 @@ module _ (edges : List (List ℕ)) where
       record {
         reached = λ b h. elim (splits_all seen (next_of edges a) b h) [
           | inl f ↦ x.reached b f
-          | inr f ↦ further start a b (x.reached a (seen_at seen done a at)) f
+          | inr f ↦ further start a b (x.reached a (number_there seen done a at)) f
         ];
         begun = λ b h. keeps_all seen (next_of edges a) b (x.begun b h);
         closed = λ c b h f. elim (splits_push (take done seen) a c (subst (λ ys. has_number ys c ≡ true) (take_grown seen (with_numbers seen (next_of edges a)) done a (grows_all seen (next_of edges a)) at) h)) [
@@ -182,9 +171,6 @@ module _ (edges : List (List ℕ)) where
         ];
       }
       )
-    where
-      seen_at : (xs : List ℕ) (i x : ℕ) → slice_get xs i ≡ Some x → has_number xs x ≡ true
-      seen_at xs i x e = has_prefix (i + 1) xs x (record { more = drop (i + 1) xs; split = sym (take-append-drop (i + 1) xs) }) (has_at xs i x e)
 
   all_closed : (start : ℕ) (seen : List ℕ) → ((a b : ℕ) → has_number seen a ≡ true → leads edges a b ≡ true → has_number seen b ≡ true) → (a : ℕ) (between : List ℕ) (b : ℕ) → has_number seen a ≡ true → LeadsAlong (leads edges) a between b → has_number seen b ≡ true
   all_closed start seen closed a [] b h l = closed a b h l

@@ -10,7 +10,6 @@ pub mod GraphsLemmas
 pub mod ConditionsRowLemmas
 pub mod ScopeLemmas
 pub mod DeclarationsLemmas
-pub mod Members
 pub mod NoFaultLemmas
 pub mod NamesLemmas
 pub mod FitGroups

@@ -1,12 +1,13 @@
 -- Names that stand once each, and tables that are made of them.
-use Rattle.std.proofs.Common.{◌≡◌, ℕ, zero, suc, true, false, cond, List, [], ◌∷◌, ◌++◌, length, refl, sym, ap, subst, ◌∙◌, Some, slice_get, append_assoc, arith}
+use Rattle.std.proofs.Common.{◌≡◌, ℕ, true, false, cond, List, [], ◌∷◌, ◌++◌, length, refl, sym, ap, subst, ◌∙◌, Some, slice_get, append_assoc, arith}
 use Rattle.std.specs.Str.{bytes_eq}
 use Rattle.std.proofs.lemmas.Bool.{false_from_ne_true}
 use Rattle.std.proofs.lemmas.Slice.Eq.{bytes_eq-Decides}
 use Rattle.std.proofs.lemmas.Option.{slice_get_within}
+use Rattle.lemmas.proofs.Members.{get_append}
+use Rattle.lemmas.proofs.ListTests.{any_found}
 use Rattle.lemmas.specs.Lists.{AreDistinct}
 use Rattle.name_tables.specs.Names.{Signed, has_name, with_name, with_signature}
-use Rattle.name_tables.proofs.Members.{any_found}
 
 -- none of the names stands among those that were seen, and none twice
 abbrev pub AreFresh : List (List ℕ) → List (List ℕ) → Type 0
@@ -14,11 +15,6 @@ AreFresh seen [] = Unit {0}
 AreFresh seen (n ∷ ns) = (has_name n seen ≡ false) × AreFresh (seen ++ n ∷ []) ns
 
 -- ---- by places
-
-pub get_front : {A : Type 0} (xs ys : List A) (i : ℕ) (x : A) → slice_get xs i ≡ Some x → slice_get (xs ++ ys) i ≡ Some x
-get_front [] ys i x e = absurd (cc)
-get_front (y ∷ xs) ys zero x e = e
-get_front (y ∷ xs) ys (suc i) x e = get_front xs ys i x e
 
 pub get_middle : {A : Type 0} (xs : List A) (x : A) (ys : List A) → slice_get (xs ++ x ∷ ys) (length xs) ≡ Some x
 get_middle [] x ys = refl
@@ -35,7 +31,7 @@ fresh_from seen (n ∷ ns) d = (false_from_ne_true (has_name n seen) clash, fres
         let found = any_found (bytes_eq n) seen there in
         let same : n ≡ found.1 = (bytes_eq-Decides n found.1).0 found.3 in
         let inside = slice_get_within seen found.0 found.1 found.2 in
-        let twice : found.0 ≡ length seen = d found.0 (length seen) n (get_front seen (n ∷ ns) found.0 n (found.2 ∙ ap Some (sym same))) (get_middle seen n ns) in
+        let twice : found.0 ≡ length seen = d found.0 (length seen) n (get_append seen (n ∷ ns) found.0 n (found.2 ∙ ap Some (sym same))) (get_middle seen n ns) in
         omega (arith, twice, inside)
 
 -- a table of fresh names has all of them, in their order

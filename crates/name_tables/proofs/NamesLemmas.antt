@@ -2,14 +2,15 @@
 use Rattle.std.proofs.Common.{◌≡◌, ℕ, suc, ◌+◌, ◌<◌, ◌≤◌, Bool, true, false, not, cond, ◌||◌, nat_lt, List, [], ◌∷◌, ◌++◌, length, get_or, refl, sym, ap, ◌∙◌, arith, Option, Some, None, slice_get, lt-ltb}
 use Rattle.std.specs.List.{list_any, position_or_len}
 use Rattle.std.specs.Str.{bytes_eq}
-use Rattle.std.proofs.lemmas.Bool.{cond-true, false≢true}
+use Rattle.std.proofs.lemmas.Bool.{cond-true, false≢true, or_left}
 use Rattle.std.proofs.lemmas.List.Quantifiers.{position-Some}
 use Rattle.std.proofs.lemmas.Option.{slice_get-get_or}
 use Rattle.std.proofs.lemmas.Slice.Eq.{bytes_eq-Decides}
+use Rattle.std.proofs.lemmas.Map.Keys.{any_passes_from_place}
 use Rattle.lemmas.proofs.Members.{distinct_push, place_of as place_in}
+use Rattle.lemmas.proofs.ListTests.{any_found, any_append_right}
 use Rattle.lemmas.specs.Lists.{AreDistinct}
 use Rattle.name_tables.specs.Names.{has_name, last_place, place_of, with_name}
-use Rattle.name_tables.proofs.Members.{any_at, any_found}
 
 pub same_name : (n m : List ℕ) → bytes_eq n m ≡ true → n ≡ m
 same_name n m e = (bytes_eq-Decides n m).0 e
@@ -39,7 +40,7 @@ place_named name names i e =
     slice_get-get_or names i [] found.0 ∙ ap Some (sym (same_name name (get_or names i []) found.1))
 
 pub name_there : (name : List ℕ) (names : List (List ℕ)) (i : ℕ) → slice_get names i ≡ Some name → has_name name names ≡ true
-name_there name names i e = any_at (bytes_eq name) names i name e (name_itself name name refl)
+name_there name names i e = any_passes_from_place (bytes_eq name) names i name e (name_itself name name refl)
 
 pub name_found : (name : List ℕ) (names : List (List ℕ)) → has_name name names ≡ true → (i : ℕ) × (slice_get names i ≡ Some name)
 name_found name names e = let found = any_found (bytes_eq name) names e in (found.0, found.2 ∙ ap Some (sym (same_name name found.1 found.3)))
@@ -84,3 +85,11 @@ last_none at so_far name (n ∷ ns) e =
           | true ↦ λ t. absurd (false≢true (sym other ∙ name_itself n name (sym (same_name name n t))))
           | false ↦ λ _. none
         ] refl
+
+-- a name stands in a table that it was put into
+pub has_with : (names : List (List ℕ)) (name : List ℕ) → has_name name (with_name names name) ≡ true
+has_with names name =
+    elim (has_name name names) as (λ b. has_name name names ≡ b → has_name name (cond b names (names ++ name ∷ [])) ≡ true) [
+      | true ↦ λ t. t
+      | false ↦ λ _. any_append_right (bytes_eq name) names (name ∷ []) (or_left (bytes_eq name name) false (name_itself name name refl))
+    ] refl

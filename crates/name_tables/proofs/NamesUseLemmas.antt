@@ -1,10 +1,10 @@
 -- The places of names in tables, and what stands there.
-use Rattle.std.proofs.Common.{◌≡◌, ℕ, zero, suc, ◌+◌, ◌<◌, Bool, true, false, cond, not, ◌||◌, ◌==◌, nat_lt, List, [], ◌∷◌, ◌++◌, map, length, length-append, refl, sym, ap, ◌∙◌, inl, inr, Option, Some, None, slice_get, unwrap_or, eqb-true, eq-eqb, arith}
-use Rattle.std.specs.List.{list_any, position_or_len}
+use Rattle.std.proofs.Common.{◌≡◌, ℕ, zero, suc, ◌+◌, ◌<◌, true, false, cond, ◌==◌, nat_lt, List, [], ◌∷◌, ◌++◌, map, length, length-append, refl, sym, ap, ◌∙◌, inl, inr, Option, Some, None, slice_get, unwrap_or, eqb-true, eq-eqb, arith}
+use Rattle.std.specs.List.{position_or_len}
 use Rattle.std.specs.Str.{bytes_eq}
 use Rattle.std.proofs.lemmas.Bool.{cases_Bool, cond-false, cond-true, lt-ltb, ltb-true, ne_eqb}
-use Rattle.std.proofs.lemmas.Bool.Decides.{nat_tests}
 use Rattle.std.proofs.lemmas.List.Folds.{position_or_len_push}
+use Rattle.lemmas.proofs.Positions.{any_within}
 use Rattle.task_model.specs.Fit.{has_arity}
 use Rattle.task_model.specs.declared.domain.Signature.{Signature}
 use Rattle.form_reader.specs.declared.fault.InputKind.TheVariants.{Arity}
@@ -14,20 +14,11 @@ use Rattle.name_tables.specs.Vocabulary.{arity_at, arity_of}
 use Rattle.name_tables.proofs.NoFaultLemmas.{met}
 use Rattle.name_tables.proofs.NamesLemmas.{place_named, place_there}
 
-there_by : {A : Type 0} (p : A → Bool) (xs : List A) (b : Bool) → list_any p xs ≡ nat_lt (position_or_len p xs) (length xs) → (b || list_any p xs) ≡ nat_lt (cond (not b) (1 + position_or_len p xs) 0) (suc (length xs))
-there_by p xs true e = grind (arith, nat_tests)
-there_by p xs false e = e ∙ grind (arith, nat_tests)
-
--- a name has a place exactly where it is there
-pub there : {A : Type 0} (p : A → Bool) (xs : List A) → list_any p xs ≡ nat_lt (position_or_len p xs) (length xs)
-there p [] = refl
-there p (x ∷ xs) = there_by p xs (p x) (there p xs)
-
 module _ (n : List ℕ) (ns : List (List ℕ)) where
   pub place_none : has_name n ns ≡ false → place_of n ns ≡ None
   place_none e =
       let first : ℕ = position_or_len (bytes_eq n) ns in
-      cond-false (nat_lt first (length ns)) (Some first) None (sym (there (bytes_eq n) ns) ∙ e)
+      cond-false (nat_lt first (length ns)) (Some first) None (sym (any_within (bytes_eq n) ns) ∙ e)
 
   -- a name that is there has a place, and stands at it
   pub place_some : has_name n ns ≡ true → place_of n ns ≡ Some (unwrap_or (place_of n ns) 0)
@@ -40,7 +31,7 @@ module _ (n : List ℕ) (ns : List (List ℕ)) where
 pub place_push : (n y : List ℕ) (ns : List (List ℕ)) → has_name n ns ≡ true → place_of n (ns ++ y ∷ []) ≡ place_of n ns
 place_push n y ns e =
     let k : ℕ = position_or_len (bytes_eq n) ns in
-    let low : nat_lt k (length ns) ≡ true = sym (there (bytes_eq n) ns) ∙ e in
+    let low : nat_lt k (length ns) ≡ true = sym (any_within (bytes_eq n) ns) ∙ e in
     let inside : k < length ns = ltb-true k (length ns) low in
     let long : length (ns ++ y ∷ []) ≡ length ns + 1 = length-append ns (y ∷ []) in
     let same : position_or_len (bytes_eq n) (ns ++ y ∷ []) ≡ k =

@@ -1,18 +1,10 @@
 -- What follows where there are no faults.
-use Rattle.std.proofs.Common.{◌≡◌, ℕ, Bool, true, false, if◌then◌else◌, List, [], ◌∷◌, ◌++◌, refl}
+use Rattle.std.proofs.Common.{◌≡◌, ℕ, Bool, true, false, if◌then◌else◌, List, [], ◌∷◌, refl}
 use Rattle.form_reader.specs.declared.fault.InputKind.{InputKind}
 use Rattle.name_tables.specs.Variables.{unless}
 
 pub some_fault : {A : Type 0} (x : A) (xs : List A) → x ∷ xs ≡ [] → ⊥
 some_fault x xs e = cc
-
-pub none_first : {A : Type 0} (xs ys : List A) → xs ++ ys ≡ [] → xs ≡ []
-none_first [] ys e = refl
-none_first (x ∷ xs) ys e = absurd (some_fault x (xs ++ ys) e)
-
-pub none_second : {A : Type 0} (xs ys : List A) → xs ++ ys ≡ [] → ys ≡ []
-none_second [] ys e = e
-none_second (x ∷ xs) ys e = absurd (some_fault x (xs ++ ys) e)
 
 pub met : (b : Bool) (kind : InputKind) (place : ℕ) → unless b kind place ≡ [] → b ≡ true
 met true kind place e = refl

@@ -19,7 +19,7 @@ stands Start w e f = e
 stands Named w e f = stands_by (is_dash w) w e f
 stands Typed w e f = absurd (cc)
 
-name_long : (w : List ℕ) → is_name w ≡ true → 1 ≤ length w
+pub name_long : (w : List ℕ) → is_name w ≡ true → 1 ≤ length w
 name_long [] e = absurd (cc)
 name_long (c ∷ cs) e = omega arith
 

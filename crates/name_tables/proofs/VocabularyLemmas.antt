@@ -11,6 +11,7 @@ use Rattle.name_tables.specs.Terms.{declared_place}
 use Rattle.name_tables.specs.declared.vocabulary.Vocabulary.{Vocabulary}
 use Rattle.name_tables.proofs.FitTerms.{Knows}
 use Rattle.std.proofs.lemmas.Option.{slice_get_within}
+use Rattle.std.proofs.lemmas.List.{length-map}
 use Rattle.name_tables.proofs.NamesUseLemmas.{IsUsable, has_arity_at, place_holds}
 
 -- the names and arities of these declarations, in their order
@@ -31,14 +32,10 @@ used_arity all s n count are used = has_arity_at all (declared_place s n) count 
 
 -- ---- roles
 
-length_mapped : {A B : Type 0} (f : A → B) (xs : List A) → length (map f xs) ≡ length xs
-length_mapped f [] = refl
-length_mapped f (x ∷ xs) = ap (λ n. suc n) (length_mapped f xs)
-
 pub used_inside : (all : List Signature) (s : Signed) (n : List ℕ) (count : ℕ) → AreSigned all s → IsUsable s n count → declared_place s n < length all
 used_inside all s n count are used =
     let inside = slice_get_within s.names (declared_place s n) n (place_holds n s.names used.there) in
-    let long : length s.names ≡ length all = ap length are.names ∙ length_mapped (λ (g : Signature). g.name) all in
+    let long : length s.names ≡ length all = ap length are.names ∙ length-map all (λ (g : Signature). g.name) in
     omega arith
 
 number_at : {A : Type 0} (f : ℕ → A) (first count k : ℕ) → k < count → slice_get (map f (numbers_from first count)) k ≡ Some (f (first + k))

@@ -1,13 +1,13 @@
 -- Heads of runs.
-use Rattle.std.proofs.Common.{◌≡◌, ℕ, zero, suc, ◌+◌, ◌<◌, ◌≤◌, ◌==◌, ◌||◌, arith, Bool, true, false, cond, List, [], ◌∷◌, ◌++◌, map, length, string_bytes, refl, sym, subst, ap, ◌∙◌, All, Some, None, slice_get}
-use Rattle.std.proofs.lemmas.Bool.{eqb-false}
+use Rattle.std.proofs.Common.{◌≡◌, ℕ, zero, suc, ◌+◌, ◌<◌, ◌≤◌, ◌==◌, arith, true, cond, List, [], ◌∷◌, ◌++◌, map, length, string_bytes, refl, sym, subst, ap, ◌∙◌, All, Some, None}
 use Rattle.std.proofs.lemmas.List.{length-map}
 use Rattle.std.specs.List.{list_any}
-use Rattle.instance_queue.proofs.ReadableLemmas as readers
+use Rattle.lemmas.proofs.Numbers.{in_numbers}
+use Rattle.lemmas.proofs.Members.{get_single}
+use Rattle.lemmas.proofs.ListTests.{all_one}
 use Rattle.level_run.specs.Turns.{IsRunnable}
 use Rattle.session_core.specs.Pools.{AreFitPools, serves, server, workers_of}
 use Rattle.session_core.specs.declared.pools.Workers.{Workers}
-use Rattle.task_model.specs.Fit.{IsFit}
 use Rattle.lemmas.specs.Lists.{numbers_from}
 use Rattle.task_model.specs.declared.stream.Stream.{Stream}
 use Rattle.task_model.specs.declared.task.Task.{Task}
@@ -17,9 +17,6 @@ use Rattle.pddlstream_app.specs.Heads.{ArePoolsFor, IsHeadOf, IsPoolOf, all_stre
 use Rattle.pddlstream_app.specs.Words.{IsWithin, held_solve}
 use Rattle.pddlstream_app.specs.Words as words
 use Rattle.pddlstream_app.specs.declared.words.SolveWords as code
-
-pub few_streams : (task : Task) → IsFit task → length task.streams ≤ 8388608
-few_streams = readers.few_streams
 
 -- ---- the places of streams
 
@@ -46,26 +43,7 @@ numbers_below first (suc n) (suc i) d lt =
 all_there : (task : Task) → All (λ stream. stream < length task.streams) (all_streams task)
 all_there task i d lt = let there = numbers_below 0 (length task.streams) i d lt in omega (arith, there)
 
-either : (a b : Bool) → b ≡ true → (a || b) ≡ true
-either true b e = refl
-either false b e = e
-
-in_numbers : (first n k : ℕ) → first ≤ k → k < first + n → list_any (λ s. s == k) (numbers_from first n) ≡ true
-in_numbers first zero k from to = absurd (omega (arith, from, to))
-in_numbers first (suc n) k from to =
-    elim (first == k) as (λ b. (first == k) ≡ b → (b || list_any (λ s. s == k) (numbers_from (first + 1) n)) ≡ true) [
-      | true ↦ λ _. refl
-      | false ↦ λ other. in_numbers (first + 1) n k (past (first == k) refl other) (omega (arith, to))
-    ] refl
-  where
-    past : (b : Bool) → (first == k) ≡ b → b ≡ false → first + 1 ≤ k
-    past b is e = omega (arith, from, eqb-false first k (is ∙ e))
-
 -- ---- pools
-
-only_one : {A : Type 0} (x y : A) (k : ℕ) → slice_get (x ∷ []) k ≡ Some y → (k ≡ 0) × (x ≡ y)
-only_one x y zero e = (refl, cc)
-only_one x y (suc k) e = absurd (cc)
 
 module _ (task : Task) (pool : Workers) (first : pool.first ≡ 0) (some : 1 ≤ pool.workers) (few : pool.workers ≤ 16) (streams : pool.streams ≡ all_streams task) where
   served_by : (stream : ℕ) → stream < length task.streams → server (pool ∷ []) stream ≡ Some pool
@@ -77,10 +55,10 @@ module _ (task : Task) (pool : Workers) (first : pool.first ≡ 0) (some : 1 ≤
   one_pool : AreFitPools task (pool ∷ [])
   one_pool = record {
     served = λ stream lt. (pool, served_by stream lt);
-    apart = λ j k child p q at_j at_k in_p in_q. (only_one pool p j at_j).0 ∙ sym (only_one pool q k at_k).0;
-    once = λ j k stream p q at_j at_k in_p in_q. (only_one pool p j at_j).0 ∙ sym (only_one pool q k at_k).0;
-    some = λ k p at. subst (λ (w : Workers). 1 ≤ w.workers) (only_one pool p k at).1 some;
-    few = λ k p at. subst (λ (w : Workers). w.first + w.workers ≤ 17) (only_one pool p k at).1 (omega (arith, first, few));
+    apart = λ j k child p q at_j at_k in_p in_q. (get_single pool p j at_j).0 ∙ sym (get_single pool q k at_k).0;
+    once = λ j k stream p q at_j at_k in_p in_q. (get_single pool p j at_j).0 ∙ sym (get_single pool q k at_k).0;
+    some = λ k p at. subst (λ (w : Workers). 1 ≤ w.workers) (get_single pool p k at).1 some;
+    few = λ k p at. subst (λ (w : Workers). w.first + w.workers ≤ 17) (get_single pool p k at).1 (omega (arith, first, few));
   }
 
 -- no pools are fit where there are no streams
@@ -97,10 +75,6 @@ pub record AreRunnable (task : Task) (pools : List Pool) : Type 0 where
   pub fit : AreFitPools task (map workers_of pools)
   pub words : All (λ (p : Pool). 0 < length p.argv) pools
   pub streams : All (λ (p : Pool). All (λ stream. stream < length task.streams) p.streams) pools
-
-all_one : {A : Type 0} (P : A → Type 0) (x : A) → P x → All P (x ∷ [])
-all_one P x holds zero d lt = holds
-all_one P x holds (suc i) d lt = absurd (omega arith)
 
 module _ (task : Task) (w : words.SolveWords) (some : 1 ≤ w.workers) (few : w.workers ≤ 16) (program : 1 ≤ length w.program) where
   one_runs : (pool : Pool) → IsPoolOf task w pool → AreRunnable task (pool ∷ [])

@@ -5,7 +5,7 @@ use Rattle.std.specs.Char.{is_ascii_digit}
 use Rattle.std.specs.Str.Parse.{ParsesUnsigned, digits_value}
 use Rattle.std.proofs.lemmas.Str.Parse.{parse_digits}
 use Rattle.std.proofs.lemmas.Bool.Decides.{nat_tests}
-use Rattle.gen_lines.proofs.ReplyDigitLemmas.{own}
+use Rattle.lemmas.proofs.Digits.{own}
 use Rattle.pddlstream_app.specs.Words.{is_count}
 
 too_large : (b : Bool) (most v : ℕ) → most ≤ 1000000 → (v < 2 ^ 32 → ⊥) → b ≡ nat_le v most → b ≡ false

@@ -1,5 +1,6 @@
 -- Steps executed one after another.
-use Rattle.std.proofs.Common.{◌≡◌, ℕ, zero, suc, ◌+◌, ◌<◌, List, [], ◌∷◌, ◌++◌, take, length, get_or, refl, sym, ap, subst, arith, Some, slice_get}
+use Rattle.std.proofs.Common.{◌≡◌, ℕ, suc, ◌+◌, List, [], ◌∷◌, take, refl, sym, subst, arith, Some, slice_get}
+use Rattle.lemmas.proofs.Members.{take_next}
 use Rattle.task_model.proofs.StepsLemmas.{whole_of_parts}
 use Rattle.task_model.specs.Initial.{initial_state}
 use Rattle.task_model.specs.Known.{Known}
@@ -14,25 +15,12 @@ use Rattle.plan_check.specs.declared.fault.CheckFault.TheVariants as check
 use Rattle.plan_check.specs.declared.fault.StepFault.{StepFault}
 use Rattle.plan_check.specs.declared.fault.StepFault.TheVariants.{NoAction, Args, Condition, NoCost, Memory}
 
-take-next : {A : Type 0} (xs : List A) (i : ℕ) (x : A) → slice_get xs i ≡ Some x → take (suc i) xs ≡ take i xs ++ x ∷ []
-take-next [] i x e = absurd (cc)
-take-next (y ∷ ys) zero x e = ap (λ z. z ∷ []) (same y x e)
-  where
-    same : {A : Type 0} (a b : A) → Some a ≡ Some b → a ≡ b
-    same a b e = cc
-take-next (y ∷ ys) (suc i) x e = ap (λ zs. y ∷ zs) (take-next ys i x e)
-
-pub got : {A : Type 0} (xs : List A) (i : ℕ) (x : A) → i < length xs → x ≡ get_or xs i x → slice_get xs i ≡ Some x
-got [] i x h e = absurd (omega arith)
-got (y ∷ ys) zero x h e = ap Some (sym e)
-got (y ∷ ys) (suc i) x h e = got ys i x (omega arith) e
-
 module _ (task : Task) (known : Known) (steps : List GroundAction) where
   pub next_step : (place : ℕ) (step : GroundAction) (state after : Atoms) (cost more : ℕ) → slice_get steps place ≡ Some step → Executes task known (initial_state task) (take place steps) state cost → IsStep task known state step after more → Executes task known (initial_state task) (take (suc place) steps) after (cost + more)
   next_step place step state after cost more at front last =
       let one : Executes task known state (step ∷ []) after more = (after, more, 0, last, (refl, refl), omega arith) in
       let whole = whole_of_parts task known (initial_state task) after (take place steps) (step ∷ []) (cost + more) (state, cost, more, front, one, refl) in
-      subst (λ xs. Executes task known (initial_state task) xs after (cost + more)) (sym (take-next steps place step at)) whole
+      subst (λ xs. Executes task known (initial_state task) xs after (cost + more)) (sym (take_next steps place step at)) whole
 
   pub fails_here : (place : ℕ) (step : GroundAction) (state : Atoms) (cost : ℕ) (fault : StepFault) → slice_get steps place ≡ Some step → Executes task known (initial_state task) (take place steps) state cost → StepFails task known state step fault → StepsRun task known steps (fault_at place fault)
   fails_here place step state cost NoAction at front fails = (state, cost, step, front, at, fails)

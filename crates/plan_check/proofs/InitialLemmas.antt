@@ -4,6 +4,7 @@ use Rattle.std.proofs.lemmas.Bool.{ltb-true}
 use Rattle.std.specs.Cmp.{first_so, second_so}
 use Rattle.std.proofs.lemmas.List.Elements.{filter_map-append}
 use Rattle.std.specs.List.{filter_map, list_all, cons_option}
+use Rattle.lemmas.proofs.ListTests.{all_at_or}
 use Rattle.task_model.specs.Fit.{IsFit, is_fit_fact, has_arity, is_short, is_predicate}
 use Rattle.task_model.specs.Initial.{fluent_atom, fluent_by}
 use Rattle.task_model.specs.Roles.{role_of}
@@ -17,7 +18,7 @@ use Rattle.task_model.specs.declared.fact.Kind.{Kind}
 use Rattle.task_model.specs.declared.fact.Kind.TheVariants.{Predicate, Sort}
 use Rattle.task_model.specs.declared.task.Task.{Task}
 use Rattle.task_model.proofs.StateLemmas.{with_atoms-empty}
-use Rattle.formula_eval.proofs.ReadableLemmas.{has_place, all_at}
+use Rattle.formula_eval.proofs.ReadableLemmas.{has_place}
 
 -- the state of the first facts
 abbrev pub state_of : Domain → List Fact → ℕ → Atoms
@@ -69,7 +70,7 @@ state_whole domain facts n h = ap (λ xs. with_atoms empty (filter_map (fluent_a
 -- ---- facts of a fit task
 
 pub fit_fact : (task : Task) → IsFit task → (i : ℕ) (x : Fact) → i < length task.problem.init → x ≡ get_or task.problem.init i x → is_fit_fact task.domain (length task.problem.objects) x ≡ true
-fit_fact task fit i x h e = all_at (is_fit_fact task.domain (length task.problem.objects)) task.problem.init i x (second_so (is_short task.problem.init) _ fit.problem.init) h e
+fit_fact task fit i x h e = all_at_or (is_fit_fact task.domain (length task.problem.objects)) task.problem.init i x (second_so (is_short task.problem.init) _ fit.problem.init) h e
 
 predicate_is : (k : Kind) → is_predicate k ≡ true → k ≡ Predicate
 predicate_is Predicate e = refl

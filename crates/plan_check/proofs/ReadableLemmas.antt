@@ -1,8 +1,9 @@
 -- Actions of a fit task can be read.
-use Rattle.std.proofs.Common.{◌≡◌, ℕ, zero, suc, ◌≤◌, Bool, true, ◌&&◌, List, [], ◌∷◌, length, refl, subst, Some, slice_get, nat_le}
-use Rattle.std.proofs.lemmas.Bool.{leb-true}
+use Rattle.std.proofs.Common.{◌≡◌, ℕ, ◌≤◌, true, ◌&&◌, List, [], ◌∷◌, length, refl, Some, slice_get, nat_le}
+use Rattle.std.proofs.lemmas.Bool.{leb-true, and_from}
 use Rattle.std.specs.Cmp.{first_so, second_so}
 use Rattle.std.specs.List.{list_all}
+use Rattle.lemmas.proofs.ListTests.{all_at}
 use Rattle.task_model.specs.Fit.{IsFitDomain, is_fit_action, are_fit_params, is_fit_condition, are_fit_effects, are_fit_patterns, is_fit_pattern, is_fit_application, is_fit_cost, has_arity, is_short, param_slots}
 use Rattle.lemmas.specs.Lists.{numbers_from}
 use Rattle.task_model.specs.declared.condition.Term.{Term}
@@ -12,31 +13,23 @@ use Rattle.task_model.specs.declared.domain.CostTerm.TheVariants.{Number, Value}
 use Rattle.task_model.specs.declared.domain.Domain.{Domain}
 use Rattle.task_model.specs.declared.domain.Pattern.{Pattern}
 use Rattle.task_model.specs.declared.domain.Signature.{Signature}
-use Rattle.formula_eval.proofs.ReadableLemmas.{both, fit_readable, few_slots, few_arguments, readable_terms}
+use Rattle.formula_eval.proofs.ReadableLemmas.{fit_readable, few_slots, few_arguments, readable_terms}
 use Rattle.formula_eval.specs.Readable.{is_readable}
 use Rattle.plan_check.specs.Readable.{are_readable_args, is_readable_pattern, is_readable_cost}
 
-all_got : {A : Type 0} (p : A → Bool) (xs : List A) (i : ℕ) (x : A) → list_all p xs ≡ true → slice_get xs i ≡ Some x → p x ≡ true
-all_got p [] i x all e = absurd (cc)
-all_got p (y ∷ ys) zero x all e = subst (λ z. p z ≡ true) (same y x e) (first_so (p y) (list_all p ys) all)
-  where
-    same : {A : Type 0} (a b : A) → Some a ≡ Some b → a ≡ b
-    same a b e = cc
-all_got p (y ∷ ys) (suc i) x all e = all_got p ys i x (second_so (p y) (list_all p ys) all) e
-
 pub fit_action : (domain : Domain) → IsFitDomain domain → (i : ℕ) (a : Action) → slice_get domain.actions i ≡ Some a → is_fit_action domain a ≡ true
-fit_action domain fit i a e = all_got (is_fit_action domain) domain.actions i a (second_so (is_short domain.actions) _ fit.actions) e
+fit_action domain fit i a e = all_at (is_fit_action domain) domain.actions i a (second_so (is_short domain.actions) _ fit.actions) e
 
 module _ (domain : Domain) (fit : IsFitDomain domain) where
   fit_args : (all : List Signature) → list_all (λ (s : Signature). nat_le s.arity 8) all ≡ true → (n : ℕ) → n ≤ 16 → (objects place : ℕ) (args : List Term) → is_fit_application all objects (numbers_from 0 n) place args ≡ true → are_readable_args args ≡ true
   fit_args all few n most objects place args e =
-      both _ _ (few_arguments all place (length args) few (first_so (has_arity all place (length args)) _ e))
+      and_from _ _ (few_arguments all place (length args) few (first_so (has_arity all place (length args)) _ e))
       (readable_terms objects (numbers_from 0 n) args (few_slots n most) (second_so (has_arity all place (length args)) _ e))
 
   fit_patterns : (n : ℕ) → n ≤ 16 → (objects : ℕ) (ps : List Pattern) → list_all (is_fit_pattern domain objects (numbers_from 0 n)) ps ≡ true → list_all is_readable_pattern ps ≡ true
   fit_patterns n most objects [] e = refl
   fit_patterns n most objects (p ∷ ps) e =
-      both _ _ (fit_args domain.predicates fit.predicates.arities n most objects p.pred p.args (first_so (is_fit_pattern domain objects (numbers_from 0 n) p) _ e))
+      and_from _ _ (fit_args domain.predicates fit.predicates.arities n most objects p.pred p.args (first_so (is_fit_pattern domain objects (numbers_from 0 n) p) _ e))
       (fit_patterns n most objects ps (second_so (is_fit_pattern domain objects (numbers_from 0 n) p) _ e))
 
   fit_effects : (n : ℕ) → n ≤ 16 → (ps : List Pattern) → are_fit_effects domain (numbers_from 0 n) ps ≡ true → list_all is_readable_pattern ps ≡ true
@@ -44,9 +37,9 @@ module _ (domain : Domain) (fit : IsFitDomain domain) where
 
   fit_costs : (n : ℕ) → n ≤ 16 → (ts : List CostTerm) → list_all (is_fit_cost domain (numbers_from 0 n)) ts ≡ true → list_all is_readable_cost ts ≡ true
   fit_costs n most [] e = refl
-  fit_costs n most (Number k ∷ ts) e = both _ _ (first_so (nat_le k 1000000) _ e) (fit_costs n most ts (second_so (nat_le k 1000000) _ e))
+  fit_costs n most (Number k ∷ ts) e = and_from _ _ (first_so (nat_le k 1000000) _ e) (fit_costs n most ts (second_so (nat_le k 1000000) _ e))
   fit_costs n most (Value func args ∷ ts) e =
-      both _ _ (fit_args domain.functions fit.functions.arities n most (length domain.constants) func args (first_so (is_fit_application domain.functions (length domain.constants) (numbers_from 0 n) func args) _ e))
+      and_from _ _ (fit_args domain.functions fit.functions.arities n most (length domain.constants) func args (first_so (is_fit_application domain.functions (length domain.constants) (numbers_from 0 n) func args) _ e))
       (fit_costs n most ts (second_so (is_fit_application domain.functions (length domain.constants) (numbers_from 0 n) func args) _ e))
 
   -- what the checker asks of an action

@@ -3,6 +3,7 @@ use Rattle.std.proofs.Common.{◌≡◌, ℕ, zero, suc, ◌+◌, ◌<◌, ◌�
 use Rattle.std.proofs.lemmas.Bool.{cond_both}
 use Rattle.sexpr_text.specs.Trees.{Trees, nothing, word, list, size}
 use Rattle.task_model.specs.declared.domain.Domain as domain
+use Rattle.form_reader.proofs.RowsLemmas.{tail_small, inner_small}
 use Rattle.form_reader.specs.declared.groups.Spot.TheVariants.{Start}
 use Rattle.form_reader.specs.declared.items.Item.{Item}
 use Rattle.form_reader.specs.declared.items.Item.TheVariants as item
@@ -23,7 +24,7 @@ use Rattle.domain_reader.specs.Domains as domains
 use Rattle.domain_reader.specs.Tables.{body_of}
 use Rattle.problem_reader.proofs.FitObjects.{AreConstants, HaveTypes}
 use Rattle.problem_reader.proofs.TablesObjectLemmas.{even_each}
-use Rattle.problem_reader.proofs.TablesAppendLemmas.{declared_length, tail_small}
+use Rattle.problem_reader.proofs.TablesAppendLemmas.{declared_length}
 
 -- ---- each has a type
 
@@ -111,11 +112,6 @@ good place (word w at rest) f e = good_by (item_of text.Domain w) place at rest 
 few_here : (sorts : List (List ℕ)) (t : Typed) (rest : Trees) (b : Bool) → (b ≡ true → IsGood rest) → length (cond b (declared_here sorts t rest) t).names ≤ length t.names + size rest
 few_here sorts t rest true is = declared_length sorts t (is refl).place rest (is refl).formed
 few_here sorts t rest false is = omega arith
-
-inner_small : (ts : Trees) → size (inner_of ts) ≤ size ts
-inner_small nothing = omega arith
-inner_small (word w at rest) = omega arith
-inner_small (list items at rest) = omega arith
 
 few_in : (sorts : List (List ℕ)) (t : Typed) (body : Trees) → items_faults text.Domain body ≡ [] → length (constants_in sorts t body).names ≤ length t.names + size body
 few_in sorts t nothing e = omega arith

@@ -1,8 +1,10 @@
 -- The goal and the `:init` of a problem without faults.
 use Rattle.std.proofs.Common.{◌≡◌, ℕ, ◌+◌, ◌≤◌, Bool, true, false, cond, [], ◌++◌, refl, arith}
+use Rattle.lemmas.proofs.Members.{append_nil_second}
 use Rattle.sexpr_text.specs.Trees.{Trees, nothing, word, list, depth, size}
 use Rattle.task_model.specs.Fit.{is_fit_condition}
 use Rattle.task_model.specs.declared.domain.Domain.{Domain}
+use Rattle.form_reader.proofs.RowsLemmas.{tail_small, tail_shallow}
 use Rattle.form_reader.specs.declared.items.Item.{Item}
 use Rattle.form_reader.specs.declared.items.Item.TheVariants as item
 use Rattle.form_reader.specs.declared.items.TextKind.TheVariants as text
@@ -14,18 +16,10 @@ use Rattle.name_tables.specs.Conditions.{conditions_names}
 use Rattle.name_tables.specs.declared.vocabulary.Vocabulary.{Vocabulary}
 use Rattle.name_tables.proofs.FitConditions.{single_fits}
 use Rattle.name_tables.proofs.FitTerms.{Knows, filled_first}
-use Rattle.name_tables.proofs.NoFaultLemmas.{none_second}
 use Rattle.name_tables.proofs.Parted.{none_both}
 use Rattle.problem_reader.specs.Names.{body_names, facts_names, items_names}
 use Rattle.problem_reader.specs.Problems.{condition_of, goal_of, init_of, is_goal}
 use Rattle.problem_reader.specs.Values.{is_init, nothing_given, row_names, row_put, values_names}
-use Rattle.problem_reader.proofs.TablesAppendLemmas.{tail_small}
-
--- a tail is no deeper
-pub tail_shallow : (ts : Trees) → depth (tail_of ts) ≤ depth ts
-tail_shallow nothing = omega arith
-tail_shallow (word w at rest) = omega arith
-tail_shallow (list items at rest) = omega arith
 
 module _ (v : Vocabulary) (d : Domain) where
   -- ---- the goal
@@ -75,7 +69,7 @@ module _ (v : Vocabulary) (d : Domain) where
     pub named : facts_names v d.roles rest ≡ []
 
   init_by : (it : Item) (place at : ℕ) (rest : Trees) → is_init it ≡ true → body_faults it place at rest ≡ [] → body_names v d it rest ≡ [] → IsFormed rest
-  init_by item.Init place at rest e f g = record { formed = none_second _ (facts_faults rest) f; named = g }
+  init_by item.Init place at rest e f g = record { formed = append_nil_second _ (facts_faults rest) f; named = g }
   init_by it place at rest e f g = absurd (cc)
 
   is_good_init : (place : ℕ) (items : Trees) → item_faults text.Problem place items ≡ [] → body_names v d (item_of text.Problem (head_of items)) (tail_of items) ≡ [] → is_init (item_of text.Problem (head_of items)) ≡ true → IsFormed (tail_of items)

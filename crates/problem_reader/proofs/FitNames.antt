@@ -1,6 +1,7 @@
 -- The names of a problem are those of a fit domain, and its objects.
 use Rattle.std.proofs.Common.{◌≡◌, ℕ, ◌<◌, suc, List, [], ◌∷◌, ◌++◌, map, length, refl, sym, ap, ◌∙◌, append_assoc, codes, arith}
 use Rattle.std.proofs.lemmas.Option.{slice_get_within}
+use Rattle.std.proofs.lemmas.List.{append-nil}
 use Rattle.sexpr_text.specs.Trees.{Trees}
 use Rattle.task_model.specs.Fit.{IsFitDomain}
 use Rattle.task_model.specs.declared.domain.Domain as domain
@@ -12,7 +13,6 @@ use Rattle.name_tables.proofs.FitTerms.{Knows}
 use Rattle.name_tables.proofs.NamesFreshLemmas.{AreFresh, fresh_from, name_new, signature_new}
 use Rattle.name_tables.proofs.VocabularyLemmas.{AreNamesOf, AreSigned, knows_from}
 use Rattle.problem_reader.specs.Tables.{problem_names, nothing_signed, put_signatures, put_sorts}
-use Rattle.problem_reader.proofs.TablesAppendLemmas.{append_none}
 
 -- ---- types
 
@@ -20,7 +20,7 @@ abbrev sort_names : List sort.Sort → List (List ℕ)
 sort_names ss = map (λ (s : sort.Sort). s.name) ss
 
 sorts_put : (names : List (List ℕ)) (ss : List sort.Sort) → AreFresh names (sort_names ss) → put_sorts names ss ≡ names ++ sort_names ss
-sorts_put names [] f = sym (append_none names)
+sorts_put names [] f = sym (append-nil names)
 sorts_put names (s ∷ ss) f = ap (λ ns. put_sorts ns ss) (name_new names s.name f.0) ∙ sorts_put (names ++ s.name ∷ []) ss f.1 ∙ append_assoc names (s.name ∷ []) (sort_names ss)
 
 sorts_mapped : (ss : List sort.Sort) → length (sort_names ss) ≡ length ss
@@ -36,7 +36,7 @@ abbrev signature_arities : List Signature → List ℕ
 signature_arities gs = map (λ (g : Signature). g.arity) gs
 
 signatures_put : (s : Signed) (gs : List Signature) → AreFresh s.names (signature_names gs) → put_signatures s gs ≡ record { names = s.names ++ signature_names gs; arities = s.arities ++ signature_arities gs }
-signatures_put s [] f = λ i. record { names = sym (append_none s.names) i; arities = sym (append_none s.arities) i }
+signatures_put s [] f = λ i. record { names = sym (append-nil s.names) i; arities = sym (append-nil s.arities) i }
 signatures_put s (g ∷ gs) f =
     ap (λ r. put_signatures r gs) (signature_new s g.name g.arity f.0) ∙ signatures_put (record { names = s.names ++ g.name ∷ []; arities = s.arities ++ g.arity ∷ [] }) gs f.1
     ∙ (λ i. record { names = append_assoc s.names (g.name ∷ []) (signature_names gs) i; arities = append_assoc s.arities (g.arity ∷ []) (signature_arities gs) i })

@@ -2,15 +2,15 @@
 use Rattle.std.proofs.Common.{◌≡◌, ℕ, suc, ◌+◌, ◌<◌, ◌≤◌, Bool, true, false, cond, nat_lt, List, [], ◌∷◌, ◌++◌, map, take, length, refl, sym, ap, subst, ◌∙◌, append_assoc, codes, arith}
 use Rattle.std.specs.Cmp.{first_so, second_so}
 use Rattle.std.specs.List.{list_all}
-use Rattle.std.proofs.lemmas.Bool.{and_from, leb-true, cond-true, cond_both}
+use Rattle.std.proofs.lemmas.Bool.{and_from, leb-true, cond-true}
 use Rattle.std.proofs.lemmas.Option.{slice_get_within}
-use Rattle.std.proofs.lemmas.Slice.Eq.{bytes_eq-Decides}
-use Rattle.std.specs.Str.{bytes_eq}
+use Rattle.std.proofs.lemmas.List.{append-nil}
 use Rattle.sexpr_text.specs.Trees.{Trees, nothing, word, list, size}
 use Rattle.lemmas.proofs.Members.{distinct_nil}
 use Rattle.task_model.specs.Fit.{AreFitObjects, IsFitDomain, are_places, is_name, is_short}
 use Rattle.task_model.specs.declared.domain.Declared as declared
 use Rattle.task_model.specs.declared.domain.Domain.{Domain}
+use Rattle.form_reader.proofs.RowsLemmas.{tail_small}
 use Rattle.form_reader.specs.declared.groups.Spot.TheVariants.{Start}
 use Rattle.form_reader.specs.declared.items.Item.{Item}
 use Rattle.form_reader.specs.declared.items.Item.TheVariants as item
@@ -24,14 +24,14 @@ use Rattle.name_tables.specs.Variables.{named_sorts, named_words, seen_after, ty
 use Rattle.name_tables.specs.declared.vocabulary.Vocabulary.{Vocabulary}
 use Rattle.name_tables.proofs.FitDeclared.{AreTyped, list_long, list_named, typed_each, typed_fit, typed_groups}
 use Rattle.name_tables.proofs.FitGroups.{sorts_as_long}
-use Rattle.name_tables.proofs.NamesFreshLemmas.{AreFresh, fresh_from, get_middle, name_new}
-use Rattle.name_tables.proofs.Members.{any_at}
+use Rattle.name_tables.proofs.NamesFreshLemmas.{AreFresh, fresh_from, name_new}
 use Rattle.name_tables.proofs.Parted.{none_both}
+use Rattle.name_tables.proofs.NamesLemmas.{has_with}
 use Rattle.problem_reader.specs.Names.{body_names, items_names}
 use Rattle.problem_reader.specs.Problems.{all_typed, constants_typed, declare_all, no_typed, objects_typed}
 use Rattle.problem_reader.specs.Tables.{is_objects, objects_in, put_constants}
 use Rattle.problem_reader.proofs.TablesObjectLemmas.{names_declared, names_each, seen_put}
-use Rattle.problem_reader.proofs.TablesAppendLemmas.{BeginsWith, append_none, begins_each, begins_itself, begins_twice, declared_length, first_ones, tail_small}
+use Rattle.problem_reader.proofs.TablesAppendLemmas.{BeginsWith, begins_each, begins_itself, begins_twice, declared_length, first_ones}
 
 -- ---- constants
 
@@ -42,9 +42,6 @@ constant_names cs = map (λ (c : declared.Declared). c.name) cs
 abbrev pub HaveTypes : List declared.Declared → Type 0
 HaveTypes [] = Unit {0}
 HaveTypes (c ∷ cs) = (0 < length c.sorts) × HaveTypes cs
-
-has_with : (ns : List (List ℕ)) (n : List ℕ) → has_name n (with_name ns n) ≡ true
-has_with ns n = cond_both (has_name n ns) ns (ns ++ n ∷ []) (λ ms. has_name n ms ≡ true) (λ known. known) (λ no. any_at (bytes_eq n) (ns ++ n ∷ []) (length ns) n (get_middle ns n []) ((bytes_eq-Decides n n).1 refl))
 
 again : (t : Typed) (n : List ℕ) (ss : List ℕ) → has_name n t.names ≡ true → (declare_all t n ss).names ≡ t.names
 again t n [] e = refl
@@ -61,7 +58,7 @@ constants_named t [] h = refl
 constants_named t (c ∷ cs) h = constants_named (declare_all t c.name c.sorts) cs h.1 ∙ ap (λ ns. put_constants ns cs) (once_named t c.name c.sorts h.0)
 
 pub constants_put : (names : List (List ℕ)) (cs : List declared.Declared) → AreFresh names (constant_names cs) → put_constants names cs ≡ names ++ constant_names cs
-constants_put names [] f = sym (append_none names)
+constants_put names [] f = sym (append-nil names)
 constants_put names (c ∷ cs) f = ap (λ ns. put_constants ns cs) (name_new names c.name f.0) ∙ constants_put (names ++ c.name ∷ []) cs f.1 ∙ append_assoc names (c.name ∷ []) (constant_names cs)
 
 typed_all : (sorts : ℕ) (t : Typed) (n : List ℕ) (ss : List ℕ) → is_name n ≡ true → list_all (λ s. nat_lt s sorts) ss ≡ true → AreTyped sorts t → AreTyped sorts (declare_all t n ss)

@@ -8,6 +8,7 @@ use Rattle.task_model.specs.Fit.{IsFitProblem, is_fit_condition, is_fit_fact, is
 use Rattle.task_model.specs.declared.domain.Domain.{Domain}
 use Rattle.task_model.specs.declared.stream.Stream.{Stream}
 use Rattle.task_model.specs.declared.task.Problem.{Problem}
+use Rattle.form_reader.proofs.RowsLemmas.{tail_shallow}
 use Rattle.form_reader.specs.declared.fault.InputFault.{InputFault}
 use Rattle.form_reader.specs.declared.items.TextKind.TheVariants as text
 use Rattle.form_reader.specs.Items.{items_faults}
@@ -27,7 +28,7 @@ use Rattle.problem_reader.specs.Problems.{IsProblemRead, ProblemReads, facts_of,
 use Rattle.problem_reader.specs.Tables.{problem_names}
 use Rattle.problem_reader.specs.Values.{nothing_given, values_names}
 use Rattle.problem_reader.proofs.FitConstants.{body_small, constants_read}
-use Rattle.problem_reader.proofs.FitItems.{IsInit, goal_fit, init_good, init_small, tail_shallow}
+use Rattle.problem_reader.proofs.FitItems.{IsInit, goal_fit, init_good, init_small}
 use Rattle.problem_reader.proofs.FitNames.{names_known, problem_knows}
 use Rattle.problem_reader.proofs.FitObjects.{AreConstants, constants_first, objects_fit, objects_long, objects_same}
 use Rattle.problem_reader.proofs.FitRows.{facts_fit, facts_length, one_value, valueds_length, values_fit}

@@ -9,6 +9,7 @@ use Rattle.form_reader.specs.declared.items.Item.TheVariants as item
 use Rattle.form_reader.specs.declared.items.TextKind.TheVariants as text
 use Rattle.form_reader.specs.Items.{item_of}
 use Rattle.form_reader.specs.Rows.{head_of, tail_of}
+use Rattle.name_tables.proofs.FitGroups.{sorts_long}
 use Rattle.name_tables.specs.Declarations.{Typed, declare_each}
 use Rattle.name_tables.specs.Names.{with_name}
 use Rattle.name_tables.specs.Variables.{named_sorts, named_words, seen_after}
@@ -19,7 +20,7 @@ use Rattle.domain_reader.specs.Domains.{IsDomainRead, constants_in, is_constants
 use Rattle.domain_reader.specs.Tables.{body_of, no_names, vocabulary_of, with_item, with_items}
 use Rattle.problem_reader.specs.Laws.{NamesAreTheDomains, with_objects}
 use Rattle.problem_reader.specs.Tables.{problem_names, nothing_signed, objects_in, put_constants, put_signatures, put_sorts}
-use Rattle.problem_reader.proofs.TablesObjectLemmas.{constants_put, even_each, names_each, none_more, seen_put, sorts_length}
+use Rattle.problem_reader.proofs.TablesObjectLemmas.{constants_put, even_each, names_each, none_more, seen_put}
 use Rattle.problem_reader.proofs.TablesLemmas.{built, put, signed_again}
 
 -- ---- types
@@ -55,7 +56,7 @@ abbrev declared_here : List (List ℕ) → Typed → Trees → Typed
 declared_here sorts t rest = declare_each t (named_words Start rest) (named_sorts sorts Start 0 rest)
 
 names_here : (sorts : List (List ℕ)) (t : Typed) (names : List (List ℕ)) (rest : Trees) (b : Bool) → names ≡ t.names → cond b (seen_after names Start rest) names ≡ (cond b (declared_here sorts t rest) t).names
-names_here sorts t names rest true e = seen_put names Start rest ∙ ap (λ m. put m (named_words Start rest)) e ∙ sym (names_each t (named_words Start rest) (named_sorts sorts Start 0 rest) (sorts_length sorts Start 0 rest ∙ none_more (length (named_words Start rest))))
+names_here sorts t names rest true e = seen_put names Start rest ∙ ap (λ m. put m (named_words Start rest)) e ∙ sym (names_each t (named_words Start rest) (named_sorts sorts Start 0 rest) (sorts_long sorts Start 0 rest ∙ none_more (length (named_words Start rest))))
 names_here sorts t names rest false e = e
 
 even_here : (sorts : List (List ℕ)) (t : Typed) (rest : Trees) (b : Bool) → length t.names ≡ length t.sorts → length (cond b (declared_here sorts t rest) t).names ≡ length (cond b (declared_here sorts t rest) t).sorts

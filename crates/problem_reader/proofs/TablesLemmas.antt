@@ -1,5 +1,6 @@
 -- Tables that are put together from their own names.
 use Rattle.std.proofs.Common.{◌≡◌, ℕ, Bool, true, false, cond, List, [], ◌∷◌, ◌++◌, map, length, codes, refl, sym, ap, ◌∙◌}
+use Rattle.std.proofs.lemmas.List.{map_push}
 use Rattle.sexpr_text.specs.Trees.{Trees, nothing, word, list}
 use Rattle.task_model.specs.declared.domain.Signature.{Signature}
 use Rattle.form_reader.specs.declared.groups.Spot.{Spot}
@@ -65,10 +66,6 @@ none_signed = record { made = []; right = refl; names = refl; arities = refl }
 signed_append : (s : Signed) (xs ys : List Signature) → put_signatures s (xs ++ ys) ≡ put_signatures (put_signatures s xs) ys
 signed_append s [] ys = refl
 signed_append s (x ∷ xs) ys = signed_append (with_signature s x.name x.arity) xs ys
-
-map_push : {A B : Type 0} (f : A → B) (xs : List A) (x : A) → map f (xs ++ x ∷ []) ≡ map f xs ++ f x ∷ []
-map_push f [] x = refl
-map_push f (y ∷ ys) x = ap (λ zs. f y ∷ zs) (map_push f ys x)
 
 signed_by : (s : Signed) (n : List ℕ) (a : ℕ) (b : Bool) → has_name n s.names ≡ b → IsSigned s → IsSigned (cond b s (record { names = s.names ++ n ∷ []; arities = s.arities ++ a ∷ [] }))
 signed_by s n a true e i = i

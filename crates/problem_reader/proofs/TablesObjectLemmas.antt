@@ -1,33 +1,25 @@
 -- Constants by their names alone, and with their types.
-use Rattle.std.proofs.Common.{◌≡◌, ℕ, zero, suc, ◌+◌, Bool, true, false, not, cond, ◌||◌, nat_lt, List, [], ◌∷◌, ◌++◌, length, length-append, refl, sym, ap, ◌∙◌, Option, Some, None, arith, slice_get, slice_set}
-use Rattle.std.proofs.lemmas.Bool.Decides.{nat_tests}
+use Rattle.std.proofs.Common.{◌≡◌, ℕ, ◌+◌, Bool, true, false, not, cond, List, [], ◌∷◌, ◌++◌, length, length-append, refl, sym, ap, ◌∙◌, Option, Some, None, arith, slice_get, slice_set}
 use Rattle.std.proofs.lemmas.List.{length-set}
-use Rattle.std.specs.List.{list_any, position_or_len}
+use Rattle.std.specs.List.{position_or_len}
 use Rattle.std.specs.Str.{bytes_eq}
+use Rattle.lemmas.proofs.Positions.{any_within}
 use Rattle.sexpr_text.specs.Trees.{Trees, nothing, word, list}
 use Rattle.task_model.specs.declared.domain.Declared as declared
 use Rattle.form_reader.specs.declared.groups.Spot.{Spot}
-use Rattle.form_reader.specs.declared.groups.Spot.TheVariants.{Start, Named, Typed as Typed'}
-use Rattle.form_reader.specs.Rows.{after_word, is_dash}
+use Rattle.form_reader.specs.declared.groups.Spot.TheVariants.{Named, Typed as Typed'}
+use Rattle.form_reader.specs.Rows.{after_word}
 use Rattle.name_tables.specs.Declarations.{Typed, declare, declare_each, declared_by, declared_list, number_put, put_number}
 use Rattle.name_tables.specs.Graphs.{ascending_with}
 use Rattle.name_tables.specs.Names.{has_name, place_of, with_name}
-use Rattle.name_tables.specs.Variables.{copies, is_named, named_sorts, named_words, seen_after, sort_of}
+use Rattle.name_tables.specs.Variables.{is_named, named_sorts, named_words, seen_after}
 use Rattle.problem_reader.specs.Tables.{put_constants}
 use Rattle.problem_reader.proofs.TablesLemmas.{put, put_append}
 
 -- ---- a name has a place exactly where it is there
 
-there_by : {A : Type 0} (p : A → Bool) (xs : List A) (b : Bool) → list_any p xs ≡ nat_lt (position_or_len p xs) (length xs) → (b || list_any p xs) ≡ nat_lt (cond (not b) (1 + position_or_len p xs) 0) (suc (length xs))
-there_by p xs true e = grind (arith, nat_tests)
-there_by p xs false e = e ∙ grind (arith, nat_tests)
-
-there : {A : Type 0} (p : A → Bool) (xs : List A) → list_any p xs ≡ nat_lt (position_or_len p xs) (length xs)
-there p [] = refl
-there p (x ∷ xs) = there_by p xs (p x) (there p xs)
-
 placed : (n : List ℕ) (ns : List (List ℕ)) → place_of n ns ≡ cond (has_name n ns) (Some (position_or_len (bytes_eq n) ns)) None
-placed n ns = ap (λ b. cond b (Some (position_or_len (bytes_eq n) ns)) None) (sym (there (bytes_eq n) ns))
+placed n ns = ap (λ b. cond b (Some (position_or_len (bytes_eq n) ns)) None) (sym (any_within (bytes_eq n) ns))
 
 -- ---- the names of what is declared
 
@@ -74,10 +66,6 @@ seen_put names spot nothing = refl
 seen_put names spot (word w at rest) = seen_put (cond (is_named spot w) (with_name names w) names) (after_word spot w) rest ∙ seen_by names w (named_words (after_word spot w) rest) (is_named spot w)
 seen_put names spot (list items at rest) = refl
 
-copies_length : (k n : ℕ) → length (copies k n) ≡ k
-copies_length zero n = refl
-copies_length (suc k) n = ap (λ m. suc m) (copies_length k n)
-
 pub none_more : (n : ℕ) → 0 + n ≡ n
 none_more n = omega arith
 
@@ -88,17 +76,6 @@ behind :
     length (cond (not b) (named_sorts sorts Named (waiting + 1) rest) (named_sorts sorts Typed' waiting rest)) ≡ waiting + length (cond (not b) (w ∷ named_words (cond b Typed' Named) rest) (named_words (cond b Typed' Named) rest))
 behind sorts waiting w rest true typed more = typed
 behind sorts waiting w rest false typed more = omega (arith, more)
-
--- each name has one type
-pub sorts_length : (sorts : List (List ℕ)) (spot : Spot) (waiting : ℕ) (ts : Trees) → length (named_sorts sorts spot waiting ts) ≡ waiting + length (named_words spot ts)
-sorts_length sorts spot waiting nothing = copies_length waiting 0 ∙ omega arith
-sorts_length sorts spot waiting (list items at rest) = copies_length waiting 0 ∙ omega arith
-sorts_length sorts Typed' waiting (word w at rest) =
-    length-append (copies waiting (sort_of sorts w)) (named_sorts sorts Start 0 rest) ∙ (λ k. copies_length waiting (sort_of sorts w) k + sorts_length sorts Start 0 rest k) ∙ ap (λ n. waiting + n) (none_more (length (named_words Start rest)))
-sorts_length sorts Start waiting (word w at rest) =
-    let more : length (named_sorts sorts Named (waiting + 1) rest) ≡ waiting + 1 + length (named_words Named rest) = sorts_length sorts Named (waiting + 1) rest in
-    omega (arith, more)
-sorts_length sorts Named waiting (word w at rest) = behind sorts waiting w rest (is_dash w) (sorts_length sorts Typed' waiting rest) (sorts_length sorts Named (waiting + 1) rest)
 
 -- ---- as the domain has them
 

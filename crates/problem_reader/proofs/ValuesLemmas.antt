@@ -3,15 +3,15 @@ use Rattle.std.proofs.Common.{◌≡◌, ℕ, zero, suc, ◌+◌, ◌<◌, Bool,
 use Rattle.std.specs.Str.{bytes_eq}
 use Rattle.std.proofs.lemmas.Bool.{cases_Bool, cond-true, cond-false, not-true, not-false}
 use Rattle.std.proofs.lemmas.Slice.Eq.{bytes_eq-Decides}
-use Rattle.lemmas.proofs.Members.{push_cases}
+use Rattle.lemmas.proofs.Members.{push_cases, get_append}
 use Rattle.sexpr_text.specs.Trees.{Trees}
 use Rattle.form_reader.specs.declared.fault.InputKind.TheVariants.{Duplicate}
 use Rattle.name_tables.specs.Names.{has_name, place_of}
 use Rattle.name_tables.specs.Variables.{unless}
 use Rattle.name_tables.proofs.NoFaultLemmas.{met}
-use Rattle.name_tables.proofs.NamesFreshLemmas.{get_front, get_middle}
-use Rattle.name_tables.proofs.Members.{any_at}
+use Rattle.name_tables.proofs.NamesFreshLemmas.{get_middle}
 use Rattle.std.proofs.lemmas.Option.{slice_get_within}
+use Rattle.std.proofs.lemmas.Map.Keys.{any_passes_from_place}
 use Rattle.name_tables.proofs.NamesUseLemmas.{place_holds, place_none, place_push, place_some}
 use Rattle.problem_reader.specs.Names.{is_worth}
 use Rattle.problem_reader.specs.Values.{Given, differs, spelled, term_in, given_value, value_in, value_names, value_of, value_put, with_value}
@@ -39,7 +39,7 @@ pushed g t x = record { terms = g.terms ++ t ∷ []; values = g.values ++ x ∷ 
 kept_pushed : (g : Given) (k t : List ℕ) (x n : ℕ) → value_of g k ≡ Some n → value_of (pushed g t x) k ≡ Some n
 kept_pushed g k t x n e =
     let at = value_by g k (place_of k g.terms) n e in
-    ap (given_value (pushed g t x)) (place_push k t g.terms (known_name g k n e) ∙ at.1) ∙ get_front g.values (x ∷ []) at.0 n at.2
+    ap (given_value (pushed g t x)) (place_push k t g.terms (known_name g k n e) ∙ at.1) ∙ get_append g.values (x ∷ []) at.0 n at.2
 
 kept_if : (b : Bool) (g h : Given) (k : List ℕ) (n : ℕ) → value_of g k ≡ Some n → value_of h k ≡ Some n → value_of (cond b g h) k ≡ Some n
 kept_if true g h k n e f = e
@@ -69,11 +69,11 @@ even_put g items e =
 -- at the end of both lists
 pushed_value : (g : Given) (t : List ℕ) (x : ℕ) → IsEven g → has_name t g.terms ≡ false → value_of (pushed g t x) t ≡ Some x
 pushed_value g t x even none =
-    let there : has_name t (g.terms ++ t ∷ []) ≡ true = any_at (bytes_eq t) (g.terms ++ t ∷ []) (length g.terms) t (get_middle g.terms t []) ((bytes_eq-Decides t t).1 refl) in
+    let there : has_name t (g.terms ++ t ∷ []) ≡ true = any_passes_from_place (bytes_eq t) (g.terms ++ t ∷ []) (length g.terms) t (get_middle g.terms t []) ((bytes_eq-Decides t t).1 refl) in
     let q : ℕ = unwrap_or (place_of t (g.terms ++ t ∷ [])) 0 in
     let at_end : q ≡ length g.terms =
     elim (push_cases g.terms t q t (place_holds t (g.terms ++ t ∷ []) there)) [
-      | inl h ↦ absurd (let known : has_name t g.terms ≡ true = any_at (bytes_eq t) g.terms q t h ((bytes_eq-Decides t t).1 refl) in cc)
+      | inl h ↦ absurd (let known : has_name t g.terms ≡ true = any_passes_from_place (bytes_eq t) g.terms q t h ((bytes_eq-Decides t t).1 refl) in cc)
       | inr h ↦ h.0
     ] in
     ap (given_value (pushed g t x)) (place_some t (g.terms ++ t ∷ []) there) ∙ ap (slice_get (g.values ++ x ∷ [])) (at_end ∙ even) ∙ get_middle g.values x []

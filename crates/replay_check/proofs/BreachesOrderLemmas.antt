@@ -5,7 +5,7 @@ use Rattle.lemmas.proofs.Pigeonhole.{pigeons}
 use Rattle.instance_queue.specs.Level.{AreDueInTurn, instances_of}
 use Rattle.instance_queue.specs.declared.due.Due.{Due}
 use Rattle.level_course.proofs.CoursesStepLemmas.{turns_lead}
-use Rattle.level_course.proofs.CoursesLemmas.{due_once, leads_apart, leads_once}
+use Rattle.level_course.proofs.CoursesLemmas.{leads_apart, leads_once, nothing_left}
 use Rattle.level_course.specs.Agendas.{Agenda, place_in}
 use Rattle.level_course.specs.Courses.{Course, IsCourseStep, at_first}
 use Rattle.task_model.specs.Streams.{MoreAreDue, yields_of}
@@ -27,14 +27,10 @@ use Rattle.replay_check.specs.Kinds.{breach_number as kind_number}
 use Rattle.replay_check.specs.Standings.{IsNextRequest, IsWrong, StandsBehind}
 use Rattle.replay_check.specs.declared.verdict.BreachKind.{BreachKind}
 use Rattle.replay_check.specs.declared.verdict.BreachKind.TheVariants as kind
-
-no : true ≡ false → ⊥
-no e = absurd (cc)
+use Rattle.std.proofs.lemmas.Bool.{true≢false}
+use Rattle.task_model.proofs.StreamsLemmas.{due_once}
 
 -- ---- requests and answers
-
-not_empty : (e : Entry) (es : List Entry) → [] ≡ e ∷ es → ⊥
-not_empty e es h = absurd (cc)
 
 -- where requests are to come, instances are
 none_to_ask : (task : Task) (es : List Entry) (number : ℕ) (is : List Instance) → requests_from task es number is ≡ [] → is ≡ []
@@ -43,7 +39,7 @@ none_to_ask task es number (i ∷ is) e = absurd (cc)
 
 -- where this request is the first to come, it is that of the first instance
 first_request : (task : Task) (es : List Entry) (number : ℕ) (is : List Instance) (e : Entry) (rest : List Entry) → requests_from task es number is ≡ e ∷ rest → (i : Instance) × (slice_get is 0 ≡ Some i) × (e ≡ entry.Ask number (yields_of (notes_of task es) i) (call_of_instance task (names_of task es) i))
-first_request task es number [] e rest asks = absurd (not_empty e rest asks)
+first_request task es number [] e rest asks = absurd (nothing_left e rest asks)
 first_request task es number (i ∷ is) e rest asks = (i, refl, let same : e ≡ entry.Ask number (yields_of (notes_of task es) i) (call_of_instance task (names_of task es) i) = cc in same)
 
 ask_is : (number : ℕ) (e : Entry) (turn : ℕ) (call : Call) → e ≡ entry.Ask number turn call → is_ask e ≡ true
@@ -112,7 +108,7 @@ module _ (limits : Limits) (task : Task) (entries : List Entry) (l : Ledger) (a 
       by (after, inl b) = absurd (let level : answered_number entry.Level ≡ Some n = ap answered_number (sym b.is) ∙ is in cc)
       by (after, inr (inl m)) =
           let first = first_request task entries (asks_of entries + 1) a.to_ask e m.rest m.asks in
-          absurd (no (sym (ap is_ask first.2) ∙ answer_no_ask e n is))
+          absurd (true≢false (sym (ap is_ask first.2) ∙ answer_no_ask e n is))
       by (after, inr (inr g)) =
           let asked = none_to_ask task entries (asks_of entries + 1) a.to_ask g.asked in
           let answers = g.answers in
@@ -137,7 +133,7 @@ module _ (limits : Limits) (task : Task) (entries : List Entry) (l : Ledger) (a 
       by (after, inl b) = no_level b.is
       by (after, inr (inl m)) =
           let first = first_request task entries (asks_of entries + 1) a.to_ask e m.rest m.asks in
-          no (sym (ap is_ask first.2) ∙ no_ask)
+          true≢false (sym (ap is_ask first.2) ∙ no_ask)
       by (after, inr (inr g)) = absurd (let to : Some a.next ≡ None = sym (answer_number e a.next g.to) ∙ no_answer in cc)
 
   -- ---- what is due
@@ -185,7 +181,7 @@ module _ (limits : Limits) (task : Task) (before : List Entry) (e : Entry) where
       first : (other : BreachKind) → kind_number other < kind_number kind.Answer → ¬ (BreaksEntry limits task before e other)
       first kind.Text lt breaks = breaks
       first kind.Head lt breaks = breaks
-      first kind.Ask lt breaks = no (sym breaks.0 ∙ no_ask)
+      first kind.Ask lt breaks = true≢false (sym breaks.0 ∙ no_ask)
       first kind.Answer lt breaks = omega (arith, lt)
       first kind.Order lt breaks = omega (arith, lt)
       first kind.Dream lt breaks = omega (arith, lt)

@@ -1,5 +1,5 @@
 -- Where outcomes stand.
-use Rattle.std.proofs.Common.{◌≡◌, ℕ, zero, suc, ◌<◌, inl, inr, List, [], length, refl, sym, ap, ◌∙◌, arith, Bool, true, false, not, ◌&&◌, ◌==◌, ne_eqb}
+use Rattle.std.proofs.Common.{◌≡◌, ℕ, zero, suc, ◌<◌, inl, inr, List, [], length, refl, sym, ap, ◌∙◌, arith, Bool, true, false, not, ◌&&◌, ◌==◌}
 use Rattle.transcript_model.specs.Legal.{HasNoneOpen, is_open}
 use Rattle.transcript_model.specs.Outcomes.{IsPastCalls}
 use Rattle.transcript_model.specs.Turns.{AreTurns, IncrementalTurn, Stage, after_cut, between, inside}
@@ -21,11 +21,6 @@ use Rattle.replay_check.specs.declared.bounds.Bounds.{Bounds}
 use Rattle.replay_check.specs.declared.entries.Standing.{Standing}
 
 -- ---- whether nothing is to do
-
-pub rests : (n : ℕ) (cut : Bool) → ((n == 0) && not cut) ≡ true → (n ≡ 0) × (cut ≡ false)
-rests zero false e = (refl, refl)
-rests zero true e = absurd (cc)
-rests (suc n) cut e = let busy : (suc n == 0) ≡ false = ne_eqb (suc n) 0 (λ is. omega (arith, is)) in let both : true ≡ false = sym e ∙ ap (λ (b : Bool). b && not cut) busy in absurd (cc)
 
 pub rests_not : (n : ℕ) (cut : Bool) → ((n == 0) && not cut) ≡ false → n ≡ 0 → cut ≡ false → ⊥
 rests_not zero false e none uncut = absurd (cc)

@@ -1,9 +1,10 @@
 -- The pools of a head, one after another.
-use Rattle.std.proofs.Common.{◌≡◌, ℕ, zero, suc, ◌+◌, ◌≤◌, ◌⊎◌, inl, inr, List, [], ◌∷◌, ◌++◌, take, refl, sym, ap, ◌∙◌, Some, slice_get, Bool, true, ◌&&◌, nat_le, arith}
+use Rattle.std.proofs.Common.{◌≡◌, ℕ, zero, suc, ◌+◌, ◌≤◌, ◌⊎◌, inl, inr, List, [], ◌∷◌, ◌++◌, take, refl, sym, ap, ◌∙◌, Some, slice_get, true, nat_le, arith}
 use Rattle.std.proofs.lemmas.List.{map-append, append-nil}
 use Rattle.std.proofs.lemmas.List.Concat.{flat_map-append}
 use Rattle.std.proofs.lemmas.List.Sums.{sum_by-append}
 use Rattle.std.proofs.lemmas.Grind.{common_steps}
+use Rattle.lemmas.proofs.Bools.{and_four}
 use Rattle.level_course.specs.Pools.{share_of, shares_of}
 use Rattle.level_course.specs.declared.shares.Share.{Share}
 use Rattle.task_model.specs.declared.task.Task.{Task}
@@ -22,9 +23,6 @@ last_or_before (z ∷ zs) x (suc k) y at = up (last_or_before zs x k y at)
     up (inl h) = inl (h.0, ap (λ es. z ∷ es) h.1)
     up (inr h) = inr (h.0, ap (λ es. z ∷ es) h.1)
 
-four : (a b c d : Bool) → a ≡ true → b ≡ true → c ≡ true → d ≡ true → (a && b && c && d) ≡ true
-four a b c d e f g h = rw (e, f, g, h) refl
-
 within : (m n : ℕ) → m ≤ n → nat_le m n ≡ true
 within m n le = grind (arith, common_steps)
 
@@ -32,7 +30,7 @@ module _ (task : Task) (before : List PoolLine) (pool : PoolLine) (b : Before) (
   pub pool_fits : 1 ≤ pool.workers → pool.workers ≤ 16 → b.workers + pool.workers ≤ 17 → are_new task b.served.items pool.streams ≡ true → is_fit_pool task before pool ≡ true
   pool_fits some few together new =
       let all : workers_in before + pool.workers ≤ 17 = let is = h.workers in omega (arith, is, together) in
-      four (nat_le 1 pool.workers) (nat_le pool.workers 16) (nat_le (workers_in before + pool.workers) 17) (are_new task (served_by task before) pool.streams)
+      and_four (nat_le 1 pool.workers) (nat_le pool.workers 16) (nat_le (workers_in before + pool.workers) 17) (are_new task (served_by task before) pool.streams)
       (within 1 pool.workers some) (within pool.workers 16 few) (within (workers_in before + pool.workers) 17 all) (ap (λ (s : List ℕ). are_new task s pool.streams) (sym h.served) ∙ new)
 
   fit_more : is_fit_pool task before pool ≡ true → AreFitPoolLines task (before ++ pool ∷ [])

@@ -4,6 +4,7 @@ use Rattle.std.proofs.lemmas.Bool.{cases_lt}
 use Rattle.std.proofs.lemmas.List.{length-append, length-map, take_all}
 use Rattle.std.specs.Fmt.{decimal}
 use Rattle.std.specs.List.{flat_map}
+use Rattle.std.proofs.lemmas.Option.{none-some, slice_get_past}
 use Rattle.task_model.specs.declared.task.Task.{Task}
 use Rattle.report_text.proofs.FormsLemmas.{report_text}
 use Rattle.transcript_model.specs.Rounds.{Limits}
@@ -25,7 +26,7 @@ use Rattle.replay_check.specs.declared.verdict.BreachKind.TheVariants as kind
 -- ---- texts
 
 -- each line has a byte at least
-lines_long : (lines : List Line) → length lines ≤ length (lines_text lines)
+pub lines_long : (lines : List Line) → length lines ≤ length (lines_text lines)
 lines_long [] = omega arith
 lines_long (l ∷ lines) =
     let rest = lines_long lines in
@@ -102,14 +103,6 @@ there_or_past (x ∷ xs) (suc k) = one_more x xs k (there_or_past xs k)
     one_more x xs k (inl r) = inl r
     one_more x xs k (inr r) = inr (r.0, omega (arith, r.1))
 
-past_end : {A : Type 0} (xs : List A) (k : ℕ) → length xs ≤ k → slice_get xs k ≡ None
-past_end [] k le = refl
-past_end (x ∷ xs) zero le = absurd (omega (arith, le))
-past_end (x ∷ xs) (suc k) le = past_end xs k (omega (arith, le))
-
-not_there : {A : Type 0} (x : A) → None ≡ Some x → ⊥
-not_there x e = absurd (cc)
-
 module _ (limits : Limits) (limit : ℕ) (task : Task) (entries : List Entry) where
   -- the first origin that differs is at most the one behind those that are shown
   from_few : (calls : List Call) (cost : ℕ) (from : List Origin) (offset : ℕ) → NoneEarlier limits limit task entries (outcome.Plan calls cost from) offset kind.From → (b : BreaksFrom limits.version entries calls from offset) → b.place ≤ length from
@@ -121,10 +114,10 @@ module _ (limits : Limits) (limit : ℕ) (task : Task) (entries : List Entry) wh
           at : ((o : Origin) × (slice_get b.due (length from) ≡ Some o)) ⊎ ((slice_get b.due (length from) ≡ None) × (length b.due ≤ length from)) → ⊥
           at (inl (o, there)) =
               let here : BreaksFrom limits.version entries calls from (length calls + 2 + length from) =
-              record { due = b.due; origins = b.origins; place = length from; other = λ same. not_there o (sym (past_end from (length from) (omega arith)) ∙ same ∙ there); is = refl } in
+              record { due = b.due; origins = b.origins; place = length from; other = λ same. none-some o (sym (slice_get_past from (length from) (omega arith)) ∙ same ∙ there); is = refl } in
               let is = b.is in
               first (length calls + 2 + length from) kind.From here (inl (omega (arith, is, lt)))
-          at (inr (none, past)) = b.other (past_end from b.place (omega (arith, lt)) ∙ sym (past_end b.due b.place (omega (arith, lt, past))))
+          at (inr (none, past)) = b.other (slice_get_past from b.place (omega (arith, lt)) ∙ sym (slice_get_past b.due b.place (omega (arith, lt, past))))
 
       by : (length from < b.place) ⊎ (b.place ≤ length from) → b.place ≤ length from
       by (inl lt) = absurd (earlier lt)

@@ -1,6 +1,7 @@
 -- Whether a request is the one that is due, field by field.
 use Rattle.std.proofs.Common.{◌≡◌, ℕ, Bool, true, false, ◌&&◌, ◌==◌, List, map, refl, eqb-true, eq-eqb}
 use Rattle.std.specs.Cmp.Lexicographic.{pointwise, pointwise_decides}
+use Rattle.lemmas.proofs.Bools.{and_four}
 use Rattle.gen_lines.specs.Request.{stream_name}
 use Rattle.task_model.proofs.KnownLemmas.{numbers_decided}
 use Rattle.task_model.specs.Known.{same_numbers}
@@ -18,9 +19,6 @@ four_parts true true false d e = absurd (cc)
 four_parts true false c d e = absurd (cc)
 four_parts false b c d e = absurd (cc)
 
-four_all : (a b c d : Bool) → a ≡ true → b ≡ true → c ≡ true → d ≡ true → (a && b && c && d) ≡ true
-four_all a b c d e f g h = rw (e, f, g, h) refl
-
 module _ (task : Task) (names : List (List ℕ)) (notes : List Note) (number : ℕ) (i : Instance) (shown turn : ℕ) (call : Call) where
   pub same_yes : is_same_request task names notes number i shown turn call ≡ true → entry.Ask shown turn call ≡ entry.Ask number (yields_of notes i) (call_of_instance task names i)
   same_yes e =
@@ -36,7 +34,7 @@ module _ (task : Task) (names : List (List ℕ)) (notes : List Note) (number : �
       let first : shown ≡ number = cc in
       let second : turn ≡ yields_of notes i = cc in
       let calls : call ≡ call_of_instance task names i = cc in
-      four_all (shown == number) (turn == yields_of notes i) (same_numbers call.name (stream_name task i.stream)) (pointwise same_numbers call.args (map (name_at names) i.inputs))
+      and_four (shown == number) (turn == yields_of notes i) (same_numbers call.name (stream_name task i.stream)) (pointwise same_numbers call.args (map (name_at names) i.inputs))
       (eq-eqb shown number first)
       (eq-eqb turn (yields_of notes i) second)
       ((numbers_decided call.name (stream_name task i.stream)).1 (λ k. (calls k).name))

@@ -1,17 +1,18 @@
 -- The origins that are due are one list.
-use Rattle.std.proofs.Common.{◌≡◌, ℕ, zero, suc, ◌+◌, ◌/◌, ◌<◌, ◌≤◌, ◌⊎◌, inl, inr, ◌==◌, Bool, true, false, not, List, [], ◌∷◌, map, length, take, refl, sym, ap, subst, ◌∙◌, Option, Some, None, slice_get, Contains, arith, eqb-true, if◌then◌else◌}
-use Rattle.std.proofs.lemmas.Bool.{cases_lt}
+use Rattle.std.proofs.Common.{◌≡◌, ℕ, suc, ◌+◌, ◌/◌, ◌<◌, ◌≤◌, ◌⊎◌, inl, inr, ◌==◌, Bool, true, false, not, List, [], ◌∷◌, map, length, take, refl, sym, ap, subst, ◌∙◌, Option, Some, None, slice_get, Contains, arith, eqb-true, if◌then◌else◌}
+use Rattle.std.proofs.lemmas.Bool.{cases_lt, true≢false}
 use Rattle.std.specs.Cmp.{second_so}
 use Rattle.std.specs.Cmp.Lexicographic.{slice_cmp, nat_list_cmp_total}
 use Rattle.std.specs.List.{list_any, position}
 use Rattle.std.specs.Option.{option_map}
 use Rattle.std.specs.Ordering.{nat_cmp}
-use Rattle.level_course.proofs.AscendingLemmas.{same_list}
-use Rattle.lemmas.proofs.Members.{member_at, place_of}
+use Rattle.std.proofs.lemmas.Map.Keys.{any_passes_from_place}
+use Rattle.lemmas.proofs.Ascending.{same_list}
+use Rattle.lemmas.proofs.Members.{member_at, place_of, get_take}
+use Rattle.lemmas.proofs.Options.{same_some}
 use Rattle.task_model.specs.Known.{same_numbers}
 use Rattle.task_model.specs.declared.task.Task.{Task}
-use Rattle.transcript_model.proofs.LegalNumberLemmas.{any_at, waiting_of}
-use Rattle.transcript_model.proofs.NamesLemmas.{same_some}
+use Rattle.transcript_model.proofs.LegalNumberLemmas.{waiting_of}
 use Rattle.transcript_model.specs.Legal.{IsLegal, is_ask_of, is_answer_to}
 use Rattle.transcript_model.specs.Outcomes.{AreOrigins, IsOrigin, has_value, tuple_with}
 use Rattle.transcript_model.specs.Transcript.{tuples_in}
@@ -22,12 +23,6 @@ use Rattle.transcript_model.specs.declared.outcome.Origin.{Origin}
 
 -- ---- a request is answered once
 
-at_taken : {A : Type 0} (xs : List A) (j k : ℕ) (x : A) → slice_get xs j ≡ Some x → j < k → slice_get (take k xs) j ≡ Some x
-at_taken [] j k x at lt = absurd (cc)
-at_taken (y ∷ ys) j zero x at lt = absurd (omega arith)
-at_taken (y ∷ ys) zero (suc k) x at lt = at
-at_taken (y ∷ ys) (suc j) (suc k) x at lt = let below : j < k = omega (arith, lt) in at_taken ys j k x at below
-
 not_both : (a : Bool) → a ≡ true → not a ≡ true → ⊥
 not_both true first second = absurd (cc)
 not_both false first second = absurd (cc)
@@ -36,7 +31,7 @@ answered_before : (version : ℕ) (task : Task) (entries : List Entry) (n j k : 
 answered_before version task entries n j k e f legal at_j at_k first second lt =
     let open_there = waiting_of version task (take k entries) n f (legal k f at_k) second in
     let unanswered = second_so (list_any (is_ask_of n) (take k entries)) (not (list_any (is_answer_to n) (take k entries))) open_there in
-    not_both (list_any (is_answer_to n) (take k entries)) (any_at (is_answer_to n) (take k entries) j e (at_taken entries j k e at_j lt) first) unanswered
+    not_both (list_any (is_answer_to n) (take k entries)) (any_passes_from_place (is_answer_to n) (take k entries) j e (get_take entries j k e at_j lt) first) unanswered
 
 pub answered_once : (version : ℕ) (task : Task) (entries : List Entry) (n j k : ℕ) (e f : Entry) → IsLegal version task entries → slice_get entries j ≡ Some e → slice_get entries k ≡ Some f → is_answer_to n e ≡ true → is_answer_to n f ≡ true → e ≡ f
 answered_once version task entries n j k e f legal at_j at_k first second = by (cases_lt j k) (cases_lt k j)
@@ -79,14 +74,11 @@ module _ (version : ℕ) (task : Task) (entries : List Entry) (legal : IsLegal v
       by : first.value ≡ second.value → o.number ≡ p.number → (b : Bool) → (version == 1) ≡ b → o.tuple ≡ p.tuple
       by values numbers true one = first.one (eqb-true version 1 one) ∙ sym (second.one (eqb-true version 1 one))
       by values numbers false more =
-          let other : version ≡ 1 → ⊥ = λ e. no (sym (ap (λ n. n == 1) e) ∙ more) in
+          let other : version ≡ 1 → ⊥ = λ e. true≢false (sym (ap (λ n. n == 1) e) ∙ more) in
           let x = first.tuple other in
           let y = second.tuple other in
           tuple_once first.value o.number o.tuple p.tuple x.0 y.0 x.1 y.1 x.2
           (subst (λ n. tuple_with first.value n y.0 ≡ Some p.tuple) (sym numbers) (subst (λ v. tuple_with v p.number y.0 ≡ Some p.tuple) (sym values) y.2))
-        where
-          no : true ≡ false → ⊥
-          no e = absurd (cc)
 
 -- ---- one list
 

@@ -1,6 +1,7 @@
 -- A report that is right has no breach.
 use Rattle.std.proofs.Common.{◌≡◌, ℕ, zero, suc, ◌+◌, ◌≤◌, inl, inr, true, false, List, [], ◌∷◌, ◌++◌, map, take, drop, refl, sym, ap, subst, ◌∙◌, Some, slice_get, arith}
 use Rattle.std.proofs.lemmas.List.{take-append-drop}
+use Rattle.std.proofs.lemmas.Bool.{true≢false}
 use Rattle.task_model.proofs.StepsLemmas.{parts_of_whole}
 use Rattle.task_model.specs.Initial.{initial_state}
 use Rattle.task_model.specs.Plans.{Executes}
@@ -33,14 +34,11 @@ use Rattle.replay_check.specs.declared.verdict.BreachKind.TheVariants as kind
 
 -- ---- the head
 
-no : true ≡ false → ⊥
-no e = absurd (cc)
-
 pub head_right : (task : Task) (r : Report) (line : ℕ) → IsFitHead task r → BreaksHead task r line → ⊥
 head_right task r line fit (inl (at, other)) = other fit.mode
-head_right task r line fit (inr (inl (at, wrong))) = no (sym fit.limits ∙ wrong)
-head_right task r line fit (inr (inr (inl breaks))) = no (sym (fit.pools breaks.place breaks.pool breaks.there) ∙ breaks.wrong)
-head_right task r line fit (inr (inr (inr (at, wrong)))) = no (sym fit.served ∙ wrong)
+head_right task r line fit (inr (inl (at, wrong))) = true≢false (sym fit.limits ∙ wrong)
+head_right task r line fit (inr (inr (inl breaks))) = true≢false (sym (fit.pools breaks.place breaks.pool breaks.there) ∙ breaks.wrong)
+head_right task r line fit (inr (inr (inr (at, wrong)))) = true≢false (sym fit.served ∙ wrong)
 
 -- ---- entries
 

@@ -1,10 +1,11 @@
 -- The steps that calls stand for, taken one after another.
-use Rattle.std.proofs.Common.{◌≡◌, ℕ, ◌+◌, ◌<◌, List, [], ◌∷◌, ◌++◌, map, length, take, refl, sym, ap, subst, ◌∙◌, Option, Some, None, slice_get, arith, get_or, All, Bool, true, false, option_map, IsSome, unwrap_or}
+use Rattle.std.proofs.Common.{◌≡◌, ℕ, ◌+◌, ◌<◌, List, [], ◌∷◌, ◌++◌, map, length, take, refl, sym, ap, subst, ◌∙◌, Option, Some, None, slice_get, arith, get_or, All, Bool, true, false, option_map, unwrap_or}
 use Rattle.std.proofs.lemmas.List.{map-append, take_more}
 use Rattle.std.proofs.lemmas.List.Elements.{All-head, All-tail}
-use Rattle.std.proofs.lemmas.Option.{slice_get-map}
+use Rattle.std.proofs.lemmas.Option.{slice_get-map, same_Some, none-some}
 use Rattle.task_model.proofs.StepsLemmas.{execution_determined, parts_of_whole, step_determined, whole_of_parts}
 use Rattle.task_model.proofs.KnownLemmas.{numbers_decided}
+use Rattle.task_model.proofs.StreamsLemmas.{named_at}
 use Rattle.task_model.specs.Fit.{IsFit}
 use Rattle.task_model.specs.Initial.{initial_state}
 use Rattle.task_model.specs.Known.{IsCoherent, IsIn, same_numbers}
@@ -44,13 +45,6 @@ names_there names (n ∷ more) (o ∷ os) e =
     let rest : map (slice_get names) os ≡ map Some more = cc in
     let name : name_at names o ≡ n = ap (λ (s : Option (List ℕ)). unwrap_or s []) first in
     λ i. name i ∷ names_there names more os rest i
-
-named_at : (names : List (List ℕ)) (o : ℕ) → IsIn names o → slice_get names o ≡ Some (name_at names o)
-named_at names o known = by (slice_get names o) refl known
-  where
-    by : (s : Option (List ℕ)) → slice_get names o ≡ s → IsSome s → slice_get names o ≡ Some (name_at names o)
-    by None e none = absurd (cc)
-    by (Some n) e some = e ∙ ap Some (sym (ap (λ (t : Option (List ℕ)). unwrap_or t []) e))
 
 there_named : (names : List (List ℕ)) (objects : List ℕ) → All (IsIn names) objects → map (slice_get names) objects ≡ map Some (map (name_at names) objects)
 there_named names [] all = refl
@@ -101,12 +95,6 @@ ends f (x ∷ xs) c (s ∷ steps) e =
     let r = ends f xs c steps rest in
     (s ∷ r.0, r.1, ap (λ z. s ∷ z) r.2, (λ i. first i ∷ r.3 i), r.4)
 
-not_both : {A : Type 0} (a : A) → None ≡ Some a → ⊥
-not_both a e = absurd (cc)
-
-one_some : {A : Type 0} (a b : A) → Some a ≡ Some b → a ≡ b
-one_some a b e = cc
-
 module _ (task : Task) (fit : IsFit task) (entries : List Entry) (coherent : IsCoherent (known_of task entries)) where
   abbrev cs : GroundAction → Call
   cs = call_of_step task (names_of task entries)
@@ -126,7 +114,7 @@ module _ (task : Task) (fit : IsFit task) (entries : List Entry) (coherent : IsC
   same_steps before a b (x ∷ xs) (y ∷ ys) m n first second e =
       let heads : cs x ≡ cs y = cc in
       let tails : map cs xs ≡ map cs ys = cc in
-      let same : x ≡ y = one_some x y (sym (found before first.0 x first.1 first.3) ∙ ap found_in heads ∙ found before second.0 y second.1 second.3) in
+      let same : x ≡ y = same_Some x y (sym (found before first.0 x first.1 first.3) ∙ ap found_in heads ∙ found before second.0 y second.1 second.3) in
       let also = subst (λ s. IsStep task (known_of task entries) before s second.0 second.1) (sym same) second.3 in
       let middle = (step_determined task (known_of task entries) before first.0 second.0 x first.1 second.1 first.3 also).0 in
       let rest = same_steps first.0 a b xs ys first.2 second.2 first.4 (subst (λ s. Executes task (known_of task entries) s ys b second.2) (sym middle) second.4) tails in
@@ -156,34 +144,34 @@ module _ (task : Task) (fit : IsFit task) (entries : List Entry) (coherent : IsC
   pub no_step : (calls : List Call) (call : Call) → found_in call ≡ None → ¬ (CanRun task entries (calls ++ call ∷ []))
   no_step calls call none can =
       let l = last_of calls call can in
-      not_both l.last (sym none ∙ ap found_in l.is ∙ found l.state l.after l.last l.more l.step)
+      none-some l.last (sym none ∙ ap found_in l.is ∙ found l.state l.after l.last l.more l.step)
 
   fails_not : (state after : Atoms) (step : GroundAction) (cost : ℕ) (fault : StepFault) → ¬ (fault ≡ Memory) → IsStep task (known_of task entries) state step after cost → StepFails task (known_of task entries) state step fault → ⊥
-  fails_not state after step cost NoAction other s fails = not_both s.action (sym fails ∙ s.named)
+  fails_not state after step cost NoAction other s fails = none-some s.action (sym fails ∙ s.named)
   fails_not state after step cost Args other s (a, named, wrong) =
-      let same = one_some s.action a (sym s.named ∙ named) in
+      let same = same_Some s.action a (sym s.named ∙ named) in
       let right = s.typed in
       no (ap (λ (b : Action). have_types (known_of task entries) step.args b.params) same) right wrong
     where
       no : {x y : Bool} → x ≡ y → x ≡ true → y ≡ false → ⊥
       no e f g = absurd (cc)
   fails_not state after step cost Condition other s (a, named, typed, wrong) =
-      let same = one_some s.action a (sym s.named ∙ named) in
+      let same = same_Some s.action a (sym s.named ∙ named) in
       let right = s.condition in
       no (ap (λ (b : Action). is_true task.domain (known_of task entries) state b.condition (slots_of step.args)) same) right wrong
     where
       no : {x y : Bool} → x ≡ y → x ≡ true → y ≡ false → ⊥
       no e f g = absurd (cc)
   fails_not state after step cost NoCost other s (a, named, typed, holds, wrong) =
-      let same = one_some s.action a (sym s.named ∙ named) in
-      not_both cost (sym wrong ∙ ap (λ (b : Action). cost_of task (known_of task entries) b step.args) (sym same) ∙ s.costs)
+      let same = same_Some s.action a (sym s.named ∙ named) in
+      none-some cost (sym wrong ∙ ap (λ (b : Action). cost_of task (known_of task entries) b step.args) (sym same) ∙ s.costs)
   fails_not state after step cost Memory other s fails = other refl
 
   -- a step that isn't applicable can't be taken
   pub step_stuck : (calls : List Call) (call : Call) (run : Run) (step : GroundAction) (fault : StepFault) → ¬ (fault ≡ Memory) → IsRunOf task entries calls run → found_in call ≡ Some step → StepFails task (known_of task entries) run.state step fault → ¬ (CanRun task entries (calls ++ call ∷ []))
   step_stuck calls call run step fault other r is fails can =
       let l = last_of calls call can in
-      let same : l.last ≡ step = one_some l.last step (sym (found l.state l.after l.last l.more l.step) ∙ ap found_in (sym l.is) ∙ is) in
+      let same : l.last ≡ step = same_Some l.last step (sym (found l.state l.after l.last l.more l.step) ∙ ap found_in (sym l.is) ∙ is) in
       let fronts = same_steps (initial_state task) l.state run.state l.front run.steps.items l.cost r.total l.runs r.runs (sym l.shown ∙ r.shown) in
       let ran = subst (λ steps. Executes task (known_of task entries) (initial_state task) steps l.state l.cost) fronts l.runs in
       let states = (execution_determined task (known_of task entries) (initial_state task) run.steps.items l.state run.state l.cost r.total ran r.runs).0 in

@@ -1,6 +1,6 @@
 -- The judge of a transcript goes on behind one entry more.
 use Rattle.std.proofs.Common.{◌≡◌, ℕ, zero, suc, ◌+◌, ◌-◌, ◌<◌, ◌≤◌, ◌==◌, ◌⊎◌, inl, inr, Bool, true, false, not, ◌&&◌, ◌||◌, List, [], ◌∷◌, ◌++◌, drop, take, length, nat_lt, refl, sym, ap, subst, ◌∙◌, Some, slice_get, arith, eq-eqb, eqb-true}
-use Rattle.std.proofs.lemmas.Bool.{cases_lt}
+use Rattle.std.proofs.lemmas.Bool.{cases_lt, or_cases, true≢false, ne_eqb}
 use Rattle.std.proofs.lemmas.List.{length-append, length-map, length-take}
 use Rattle.std.proofs.lemmas.List.Concat.{flat_map-append}
 use Rattle.std.specs.List.{flat_map, list_any}
@@ -33,6 +33,8 @@ use Rattle.transcript_model.specs.declared.entry.Call.{Call}
 use Rattle.transcript_model.specs.declared.entry.Entry.{Entry}
 use Rattle.transcript_model.specs.declared.entry.Entry.TheVariants as entry
 use Rattle.replay_check.specs.Standings.{IsNextRequest, StandsBehind}
+use Rattle.lemmas.proofs.Bools.{or_true, and_not_parts}
+use Rattle.session_core.proofs.LearningLemmas.{answers_to}
 
 -- ---- lists
 
@@ -57,19 +59,6 @@ requests_same task before after number [] names notes = refl
 requests_same task before after number (i ∷ is) names notes =
     let rest = requests_same task before after (number + 1) is names notes in
     λ k. entry.Ask number (yields_of (notes k) i) (call_of_instance task (names k) i) ∷ rest k
-
-or_cases : (b c : Bool) → (b || c) ≡ true → (b ≡ true) ⊎ (c ≡ true)
-or_cases true c e = inl refl
-or_cases false c e = inr e
-
-or_right : (b : Bool) → (b || true) ≡ true
-or_right true = refl
-or_right false = refl
-
-and_parts : (b c : Bool) → (b && not c) ≡ true → (b ≡ true) × (c ≡ false)
-and_parts true true e = absurd (cc)
-and_parts true false e = (refl, refl)
-and_parts false c e = absurd (cc)
 
 -- ---- a round that begins
 
@@ -100,18 +89,6 @@ starts_open limits task es list number cut b workers next st =
     }
 
 -- ---- answers
-
-pub answers_it : (e : Entry) (n : ℕ) → answered_number e ≡ Some n → is_answer_to n e ≡ true
-answers_it (entry.Got m tuples values) n is = let same : n ≡ m = cc in eq-eqb n m same
-answers_it (entry.Value m value) n is = let same : n ≡ m = cc in eq-eqb n m same
-answers_it (entry.End m) n is = let same : n ≡ m = cc in eq-eqb n m same
-answers_it (entry.Ask m turn call) n is = absurd (cc)
-answers_it entry.Level n is = absurd (cc)
-answers_it (entry.Dream uses steps) n is = absurd (cc)
-answers_it entry.Nothing n is = absurd (cc)
-answers_it entry.Reset n is = absurd (cc)
-answers_it (entry.Pick m) n is = absurd (cc)
-answers_it (entry.Retire m) n is = absurd (cc)
 
 -- ---- before the first entry
 
@@ -172,7 +149,7 @@ module _ (limits : Limits) (task : Task) (entries : List Entry) (l : Ledger) (a 
         by : (asks_of entries < m) ⊎ (m ≤ asks_of entries) → is_open (entries ++ entry.Ask number turn call ∷ []) m ≡ true
         by (inl past) =
             let same : m ≡ number = let next = right.next in let more = adds.asks in omega (arith, past, upto, next, more) in
-            adds.waiting m ∙ ap (λ b. is_open entries m || b) (eq-eqb m number same) ∙ or_right (is_open entries m)
+            adds.waiting m ∙ ap (λ b. is_open entries m || b) (eq-eqb m number same) ∙ or_true (is_open entries m)
         by (inr below) = adds.waiting m ∙ ap (λ b. b || (m == number)) (s.waiting m from below)
 
     ask_answered : (m : ℕ) → is_open (entries ++ entry.Ask number turn call ∷ []) m ≡ true → (a.next ≤ m) × (m ≤ asks_of (entries ++ entry.Ask number turn call ∷ []))
@@ -218,7 +195,7 @@ module _ (limits : Limits) (task : Task) (entries : List Entry) (l : Ledger) (a 
     here = asked_here limits.version task entries l e n s.ledger few_asked is may
 
     gives : AddsAnswer task entries e n here.0
-    gives = answer_adds limits.version task entries s.ledger.fit.problem.objects.names.distinct s.ledger.legal n here.0 here.1 e (answers_it e n is)
+    gives = answer_adds limits.version task entries s.ledger.fit.problem.objects.names.distinct s.ledger.legal n here.0 here.1 e (answers_to e n is)
 
     one_line : (d : Entry) → answered_number d ≡ Some n → length (entry_lines d) ≡ 1
     one_line (entry.Got m tuples values) at = refl
@@ -236,19 +213,12 @@ module _ (limits : Limits) (task : Task) (entries : List Entry) (l : Ledger) (a 
     still_waits m from upto =
         let same = gives.asks in
         let was : is_open entries m ≡ true = s.waiting m (omega (arith, from)) (omega (arith, upto, same)) in
-        let other : (m == n) ≡ false = other_number m n (λ is_n. omega (arith, is_n, next, from)) in
+        let other : (m == n) ≡ false = ne_eqb m n (λ is_n. omega (arith, is_n, next, from)) in
         gives.waiting m ∙ (λ k. was k && not (other k))
-      where
-        other_number : (p q : ℕ) → ¬ (p ≡ q) → (p == q) ≡ false
-        other_number p q differ = by (p == q) refl
-          where
-            by : (b : Bool) → (p == q) ≡ b → (p == q) ≡ false
-            by true e = absurd (differ (eqb-true p q e))
-            by false e = e
 
     waits_yet : (m : ℕ) → is_open (entries ++ e ∷ []) m ≡ true → (a.next + 1 ≤ m) × (m ≤ asks_of (entries ++ e ∷ []))
     waits_yet m waits =
-        let parts = and_parts (is_open entries m) (m == n) (sym (gives.waiting m) ∙ waits) in
+        let parts = and_not_parts (is_open entries m) (m == n) (sym (gives.waiting m) ∙ waits) in
         let was = s.answered m parts.0 in
         let same = gives.asks in
         let later : a.next + 1 ≤ m = by (cases_lt a.next m) parts.1 was.0 in
@@ -258,10 +228,7 @@ module _ (limits : Limits) (task : Task) (entries : List Entry) (l : Ledger) (a 
         by (inl lt) other from = omega (arith, lt)
         by (inr le) other from =
             let is_n : m ≡ n = omega (arith, le, from, next) in
-            absurd (differ (sym (eq-eqb m n is_n) ∙ other))
-          where
-            differ : true ≡ false → ⊥
-            differ h = absurd (cc)
+            absurd (true≢false (sym (eq-eqb m n is_n) ∙ other))
 
     -- the round has more answers to come
     pub answer_more : (new : Ledger) (b : Agenda) → IsLedger limits.version task (entries ++ e ∷ []) new → 1 < a.answers → b ≡ with_answer a → StandsBehind limits task (entries ++ e ∷ []) new b
@@ -278,7 +245,7 @@ module _ (limits : Limits) (task : Task) (entries : List Entry) (l : Ledger) (a 
                 asked = ap (requests_from task entries (asks_of entries + 1)) none;
                 left = suc left.0;
                 answers = left.1;
-                to = subst (λ m. is_answer_to m e ≡ true) next (answers_it e n is);
+                to = subst (λ m. is_answer_to m e ≡ true) next (answers_to e n is);
                 behind = λ k. record { asks = requests_from task (entries ++ e ∷ []) (asks_of (entries ++ e ∷ []) + 1) (none k); next = a.next + 1; answers = one_less left.0 left.1 k; later = a.later; is_cut = a.is_cut };
               })));
           count = omega (arith, count, same, some);
@@ -317,7 +284,7 @@ module _ (limits : Limits) (task : Task) (entries : List Entry) (l : Ledger) (a 
                 asked = ap (requests_from task entries (asks_of entries + 1)) none;
                 left = 0;
                 answers = one;
-                to = subst (λ m. is_answer_to m e ≡ true) next (answers_it e n is);
+                to = subst (λ m. is_answer_to m e ≡ true) next (answers_to e n is);
                 behind = starts_open limits task (entries ++ e ∷ []) a.later (a.next + 1) a.is_cut b workers number st;
               })));
           count = omega (arith, b_next, b_answers, number);

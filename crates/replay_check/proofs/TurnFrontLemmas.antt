@@ -3,14 +3,12 @@ use Rattle.std.proofs.Common.{◌≡◌, ℕ, zero, suc, ◌+◌, ◌-◌, ◌<�
 use Rattle.std.proofs.Math.Seq.{take-append-add}
 use Rattle.std.proofs.lemmas.Bool.{cases_lt}
 use Rattle.std.proofs.lemmas.List.{append-nil, take-append-le, take-append-drop, length-append, length-take}
-use Rattle.task_model.specs.Streams.{yields_of}
 use Rattle.task_model.specs.declared.stream.Instance.{Instance}
 use Rattle.task_model.specs.declared.task.Task.{Task}
 use Rattle.transcript_model.proofs.LegalNumberLemmas.{asks_more}
-use Rattle.transcript_model.specs.Legal.{asks_of, is_answer_to}
-use Rattle.transcript_model.specs.Names.{call_of_instance}
-use Rattle.transcript_model.specs.Rounds.{Limits, AreAnswers, AreRounds, AreRoundsRun, calls_left, requests, requests_from}
-use Rattle.transcript_model.specs.Transcript.{names_of, notes_of}
+use Rattle.transcript_model.proofs.RoundsLemmas.{requests_asks, answers_asks}
+use Rattle.transcript_model.specs.Legal.{asks_of}
+use Rattle.transcript_model.specs.Rounds.{Limits, AreRounds, AreRoundsRun, calls_left, requests}
 use Rattle.transcript_model.specs.Turns.{AreTurns, IncrementalTurn, IsLevel, Stage, between, inside, cut_off, none_left, stopped, whole}
 use Rattle.transcript_model.specs.declared.entry.Entry.{Entry}
 use Rattle.transcript_model.specs.declared.entry.Entry.TheVariants as entry
@@ -18,39 +16,13 @@ use Rattle.transcript_model.specs.Rounds as rounds
 
 -- ---- how many requests are made
 
-requests_count : (task : Task) (before : List Entry) (number : ℕ) (is : List Instance) → asks_of (requests_from task before number is) ≡ length is
-requests_count task before number [] = refl
-requests_count task before number (i ∷ is) =
-    let one = entry.Ask number (yields_of (notes_of task before) i) (call_of_instance task (names_of task before) i) in
-    let more = asks_more (one ∷ []) (requests_from task before (number + 1) is) in
-    let rest = requests_count task before (number + 1) is in
-    omega (arith, more, rest)
-
-answer_is_none : (number : ℕ) (e : Entry) → is_answer_to number e ≡ true → asks_of (e ∷ []) ≡ 0
-answer_is_none number (entry.Ask n turn call) is = absurd (cc)
-answer_is_none number (entry.Got n tuples values) is = refl
-answer_is_none number (entry.Value n value) is = refl
-answer_is_none number (entry.End n) is = refl
-answer_is_none number entry.Level is = refl
-answer_is_none number (entry.Dream uses steps) is = refl
-answer_is_none number entry.Nothing is = refl
-answer_is_none number entry.Reset is = refl
-answer_is_none number (entry.Pick n) is = refl
-answer_is_none number (entry.Retire n) is = refl
-
-answers_count : (number n : ℕ) (es : List Entry) → AreAnswers number n es → asks_of es ≡ 0
-answers_count number zero [] are = refl
-answers_count number zero (e ∷ es) are = absurd are
-answers_count number (suc n) [] are = absurd are
-answers_count number (suc n) (e ∷ es) are = omega (arith, asks_more (e ∷ []) es, answer_is_none number e are.0, answers_count (number + 1) n es are.1)
-
 rounds_count : (limits : Limits) (task : Task) (rounds : List (List Instance)) (list : List Instance) (before es : List Entry) → AreRounds limits.pools list rounds → AreRoundsRun task before rounds es → asks_of es ≡ length list
 rounds_count limits task [] list before es none run = ap asks_of run ∙ sym (ap length none)
 rounds_count limits task (round ∷ rounds) list before es (rest, parts, some, fit, full, more) (now, later, es_is, (answers, now_is, right), run) =
     let first = ap asks_of now_is in
     let asked = asks_more (requests task before round) answers in
-    let count = requests_count task before (asks_of before + 1) round in
-    let none = answers_count (asks_of before + 1) (length round) answers right in
+    let count = requests_asks task before (asks_of before + 1) round in
+    let none = answers_asks (asks_of before + 1) (length round) answers right in
     let next = rounds_count limits task rounds rest (before ++ now) later more run in
     let joined = ap asks_of es_is in
     let sum = asks_more now later in

@@ -1,8 +1,11 @@
 -- What is said of a report, from what is found of its head, its entries and its outcome.
-use Rattle.std.proofs.Common.{◌≡◌, ℕ, zero, suc, ◌+◌, ◌^◌, ◌<◌, ◌≤◌, ◌⊎◌, inl, inr, Bool, true, false, List, [], ◌∷◌, map, take, length, refl, sym, ap, subst, ◌∙◌, Some, slice_get, arith, nat_le, ◌&&◌, All}
+use Rattle.std.proofs.Common.{◌≡◌, ℕ, zero, suc, ◌+◌, ◌^◌, ◌<◌, ◌≤◌, ◌⊎◌, inl, inr, Bool, true, false, List, [], ◌∷◌, map, take, length, refl, sym, ap, subst, ◌∙◌, Some, slice_get, arith, nat_le, ◌&&◌}
 use Rattle.std.proofs.lemmas.Bool.{cases_lt, leb-true}
 use Rattle.std.proofs.lemmas.List.{length-take-le}
-use Rattle.std.proofs.lemmas.List.Elements.{All-nil, All-cons}
+use Rattle.std.proofs.lemmas.Option.{slice_get_within}
+use Rattle.lemmas.proofs.Numbers.{plus_zero}
+use Rattle.lemmas.proofs.Members.{get_and_take}
+use Rattle.lemmas.proofs.ListTests.{all_by_place}
 use Rattle.level_course.proofs.CoursesTurnLemmas.{turned}
 use Rattle.level_course.specs.Agendas.{place_in}
 use Rattle.level_course.specs.Courses.{at_first}
@@ -40,24 +43,6 @@ use Rattle.replay_check.specs.declared.verdict.Verdict.TheVariants.{Valid, Inval
 
 -- ---- lists
 
-in_front : {A : Type 0} (xs : List A) (j k : ℕ) (x : A) → j < k → slice_get xs j ≡ Some x → (slice_get (take k xs) j ≡ Some x) × (take j (take k xs) ≡ take j xs)
-in_front [] j k x lt at = absurd (cc)
-in_front (y ∷ ys) j zero x lt at = absurd (omega (arith, lt))
-in_front (y ∷ ys) zero (suc k) x lt at = (at, refl)
-in_front (y ∷ ys) (suc j) (suc k) x lt at =
-    let below : j < k = omega (arith, lt) in
-    let r = in_front ys j k x below at in
-    (r.0, ap (λ zs. y ∷ zs) r.1)
-
-within : {A : Type 0} (xs : List A) (k : ℕ) (x : A) → slice_get xs k ≡ Some x → k < length xs
-within [] k x at = absurd (cc)
-within (y ∷ ys) zero x at = omega arith
-within (y ∷ ys) (suc k) x at = let rest = within ys k x at in omega (arith, rest)
-
-all_at : {A : Type 0} (P : A → Type 0) (xs : List A) → ((k : ℕ) (x : A) → slice_get xs k ≡ Some x → P x) → All P xs
-all_at P [] each = All-nil P
-all_at P (x ∷ xs) each = All-cons P x xs (each 0 x refl) (all_at P xs (λ k y at. each (suc k) y at))
-
 -- ---- order
 
 -- the same number of lines further on
@@ -68,9 +53,6 @@ further base line k other than (inr (is, lt)) = inr (ap (λ n. base + n) is, lt)
 nearer : (base line : ℕ) (k : BreachKind) (other : ℕ) (than : BreachKind) → Precedes (base + line) k (base + other) than → Precedes line k other than
 nearer base line k other than (inl lt) = inl (omega (arith, lt))
 nearer base line k other than (inr (is, lt)) = inr (omega (arith, is), lt)
-
-at_base : (base : ℕ) → base + 0 ≡ base
-at_base base = omega arith
 
 -- ---- kinds
 
@@ -162,7 +144,7 @@ module _ (b : Bounds) (r : Report) (limit : ℕ) (bounds : AreBounds b) (head : 
 
   module _ (place : ℕ) (k : BreachKind) (w : IsWrongAt b r.entries place k) where
     place_within : place < length r.entries
-    place_within = within r.entries place w.e w.there
+    place_within = slice_get_within r.entries place w.e w.there
 
     line_is : line_behind_pools r + place ≡ line_of r place
     line_is =
@@ -175,7 +157,7 @@ module _ (b : Bounds) (r : Report) (limit : ℕ) (bounds : AreBounds b) (head : 
 
     not_before : (other : ℕ) (than : BreachKind) → (x : BreaksEntries task r other than) → x.place < place → ⊥
     not_before other than x lt =
-        let front = in_front r.entries x.place place x.e lt x.there in
+        let front = get_and_take r.entries x.place place x.e lt x.there in
         none_wrong (take place r.entries) w.before w.standing x.place x.e than front.0
         (subst (λ es. BreaksEntry (limits_by b) task es x.e than) (sym front.1) (by_bounds (take x.place r.entries) x.e than x.wrong))
 
@@ -276,7 +258,7 @@ module _ (b : Bounds) (r : Report) (limit : ℕ) (bounds : AreBounds b) (head : 
     pub open_end : IsFound (limits_by b) limit task r.entries r.outcome finding.Open → IsReportVerdict limit task r Limit
     open_end (unsure, none) = (
       subst (λ n. IsUndecidedClaim limit n task r.entries r.outcome) (sym states_same) unsure,
-      subst (λ l. NonePrecedes task r l kind.Outcome) (at_base (outcome_line r)) (none_ahead 0 kind.Outcome none),
+      subst (λ l. NonePrecedes task r l kind.Outcome) (plus_zero (outcome_line r)) (none_ahead 0 kind.Outcome none),
     )
 
     pub wrong_end : (offset : ℕ) (k : BreachKind) → IsFound (limits_by b) limit task r.entries r.outcome (finding.Breaks offset k) → IsReportVerdict limit task r (Invalid (outcome_line r + offset) k)
@@ -284,7 +266,7 @@ module _ (b : Bounds) (r : Report) (limit : ℕ) (bounds : AreBounds b) (head : 
         record {
           breach = inr (inr (record { offset = offset; wrong = subst (λ ls. BreaksOutcome ls task r.entries r.outcome offset k) (sym limits) w.breaks; is = refl }));
           first = none_ahead offset k w.first;
-          decided = λ unsure. subst (λ l. Precedes (outcome_line r + offset) k l kind.Outcome) (at_base (outcome_line r))
+          decided = λ unsure. subst (λ l. Precedes (outcome_line r + offset) k l kind.Outcome) (plus_zero (outcome_line r))
               (further (outcome_line r) offset k 0 kind.Outcome (w.decided (subst (λ n. IsUndecidedClaim limit n task r.entries r.outcome) states_same unsure)));
         }
 
@@ -303,7 +285,7 @@ shared_at task (pool ∷ pools) zero p at = (pool, refl, let same : share_in tas
 shared_at task (pool ∷ pools) (suc k) p at = shared_at task pools k p at
 
 pub pools_work : (task : Task) (pools : List PoolLine) → AreFitPoolLines task pools → AllWork (map (share_in task) pools)
-pools_work task pools fit = all_at (λ (p : Share). 1 ≤ p.workers) (map (share_in task) pools) each
+pools_work task pools fit = all_by_place (λ (p : Share). 1 ≤ p.workers) (map (share_in task) pools) each
   where
     worker : (k : ℕ) (p : Share) (pool : PoolLine) → slice_get pools k ≡ Some pool → share_in task pool ≡ p → 1 ≤ p.workers
     worker k p pool at is = subst (λ (x : Share). 1 ≤ x.workers) is (some_worker task (take k pools) pool (fit k pool at))

@@ -1,8 +1,7 @@
 -- An entry is taken, or is wrong.
-use Rattle.std.proofs.Common.{◌≡◌, ℕ, ◌+◌, ◌-◌, ◌<◌, ◌≤◌, ◌⊎◌, inl, inr, true, false, List, [], ◌∷◌, ◌++◌, take, length, nat_lt, refl, sym, ap, subst, ◌∙◌, Option, Some, None, slice_get, get_or, arith}
-use Rattle.std.proofs.lemmas.Bool.{cases_lt}
+use Rattle.std.proofs.Common.{◌≡◌, ℕ, ◌+◌, ◌-◌, ◌<◌, ◌≤◌, ◌⊎◌, inl, inr, true, false, List, [], ◌∷◌, ◌++◌, take, length, nat_lt, refl, sym, subst, ◌∙◌, Option, Some, None, slice_get, arith}
+use Rattle.std.proofs.lemmas.Bool.{cases_lt, false≢true}
 use Rattle.std.proofs.lemmas.List.Elements.{All-contains}
-use Rattle.std.proofs.lemmas.Option.{slice_get-get_or}
 use Rattle.instance_queue.specs.Level.{AreDueInTurn, instances_of}
 use Rattle.instance_queue.specs.declared.due.Due.{Due}
 use Rattle.level_course.specs.Agendas.{Starts, with_answer, with_asked}
@@ -28,12 +27,6 @@ use Rattle.replay_check.specs.declared.bounds.Bounds.{Bounds}
 use Rattle.replay_check.specs.declared.entries.Standing.{Standing}
 use Rattle.replay_check.specs.declared.verdict.BreachKind.{BreachKind}
 use Rattle.replay_check.specs.declared.verdict.BreachKind.TheVariants as kind
-
-no : false ≡ true → ⊥
-no e = absurd (cc)
-
-pub entry_there : (entries : List Entry) (place : ℕ) (e : Entry) → place < length entries → e ≡ get_or entries place e → slice_get entries place ≡ Some e
-entry_there entries place e within is = slice_get-get_or entries place e within ∙ ap Some (sym is)
 
 pub entry_formed : (b : Bounds) (entries : List Entry) (place : ℕ) (s : Standing) (e : Entry) → CanTake b entries place s → slice_get entries place ≡ Some e → IsFormedEntry b.version e
 entry_formed b entries place s e can there = All-contains (IsFormedEntry b.version) entries e can.formed (member_at entries place e there)
@@ -78,7 +71,7 @@ module _ (b : Bounds) (entries : List Entry) (place : ℕ) (s : Standing) (can :
   pub ask_out_of_order : (i : Instance) → IsAskedBy b.calls b.task.now (take place entries) number turn call (Some i) → ¬ (IsNextRequest b.task.now s.ledger s.course number turn call) → IsWrongAt b entries place kind.Order
   ask_out_of_order i said other =
       is_wrong b entries place s can (entry.Ask number turn call) there kind.Order
-      (wrong_order (limits_by b) b.task.now (take place entries) (entry.Ask number turn call) (λ is. (said.0, said.1)) (λ is. absurd (no is))
+      (wrong_order (limits_by b) b.task.now (take place entries) (entry.Ask number turn call) (λ is. (said.0, said.1)) (λ is. absurd (false≢true is))
       (λ begun. other (next_request (limits_by b) b.task.now (take place entries) s.ledger s.course refl can.standing number turn call begun)))
 
   -- the request has the next number, of which there are as many as calls at the most
@@ -108,7 +101,7 @@ module _ (b : Bounds) (entries : List Entry) (place : ℕ) (s : Standing) (can :
   answer_out_of_order may other =
       let kinds = answer_is e n is in
       is_wrong b entries place s can e there kind.Order
-      (wrong_order (limits_by b) b.task.now (take place entries) e (λ ask. absurd (no (sym kinds.1 ∙ ask))) (λ answer. may)
+      (wrong_order (limits_by b) b.task.now (take place entries) e (λ ask. absurd (false≢true (sym kinds.1 ∙ ask))) (λ answer. may)
       (λ begun. other (next_answer (limits_by b) b.task.now (take place entries) s.ledger s.course refl can.standing e n is begun)))
 
   pub answer_taken : (new : Standing) → MayFollow b.version b.task.now (take place entries) e → n ≡ s.course.next → s.course.to_ask ≡ [] → 0 < s.course.answers → IsLedger b.version b.task.now (take (place + 1) entries) new.ledger → (1 < s.course.answers → new.course ≡ with_answer s.course) → (s.course.answers ≡ 1 → Starts (shares_of b.shares.now) s.course.later (s.course.next + 1) s.course.is_cut new.course) → IsStanding b (take (place + 1) entries) new
@@ -127,7 +120,7 @@ module _ (b : Bounds) (entries : List Entry) (place : ℕ) (s : Standing) (can :
 
 module _ (b : Bounds) (entries : List Entry) (place : ℕ) (s : Standing) (can : CanTake b entries place s) (there : slice_get entries place ≡ Some entry.Level) where
   level_wrong : ¬ (AreBegun (limits_by b) b.task.now (take place entries ++ entry.Level ∷ [])) → IsWrongAt b entries place kind.Order
-  level_wrong bad = is_wrong b entries place s can entry.Level there kind.Order (wrong_order (limits_by b) b.task.now (take place entries) entry.Level (λ is. absurd (no is)) (λ is. absurd (no is)) bad)
+  level_wrong bad = is_wrong b entries place s can entry.Level there kind.Order (wrong_order (limits_by b) b.task.now (take place entries) entry.Level (λ is. absurd (false≢true is)) (λ is. absurd (false≢true is)) bad)
 
   -- something is to do, or calls were wanting, or none is left
   pub level_early : ¬ ((s.course.answers ≡ 0) × (s.course.is_cut ≡ false) × (length s.ledger.asked.items < b.calls)) → IsWrongAt b entries place kind.Order
@@ -160,7 +153,7 @@ module _ (b : Bounds) (entries : List Entry) (place : ℕ) (s : Standing) (can :
 pub other_refused : (b : Bounds) (entries : List Entry) (place : ℕ) (s : Standing) (can : CanTake b entries place s) (e : Entry) (there : slice_get entries place ≡ Some e) → is_ask e ≡ false → answered_number e ≡ None → ¬ (e ≡ entry.Level) → IsWrongAt b entries place kind.Order
 other_refused b entries place s can e there no_ask no_answer no_level =
     is_wrong b entries place s can e there kind.Order
-    (wrong_order (limits_by b) b.task.now (take place entries) e (λ ask. absurd (no (sym no_ask ∙ ask))) (λ answer. absurd (no_number e answer no_answer)) (next_other (limits_by b) b.task.now (take place entries) s.ledger s.course refl can.standing e no_ask no_answer no_level))
+    (wrong_order (limits_by b) b.task.now (take place entries) e (λ ask. absurd (false≢true (sym no_ask ∙ ask))) (λ answer. absurd (no_number e answer no_answer)) (next_other (limits_by b) b.task.now (take place entries) s.ledger s.course refl can.standing e no_ask no_answer no_level))
   where
     no_number : (d : Entry) → is_answer d ≡ true → answered_number d ≡ None → ⊥
     no_number (entry.Got m tuples values) is none = absurd (cc)

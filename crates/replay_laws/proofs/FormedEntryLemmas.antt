@@ -1,69 +1,37 @@
 -- The entries that a run writes have the stated forms.
-use Rattle.std.proofs.Common.{◌≡◌, ℕ, zero, suc, ◌*◌, ◌≤◌, inl, inr, not, Bool, true, false, List, [], ◌∷◌, ◌++◌, length, take, drop, map, count_by, All, refl, sym, ap, subst, ◌∙◌, Some, slice_get, arith, eq-eqb, if◌then◌else◌}
+use Rattle.std.proofs.Common.{◌≡◌, ℕ, zero, suc, ◌*◌, ◌≤◌, not, true, List, [], ◌∷◌, length, take, drop, map, count_by, All, refl, sym, ap, subst, ◌∙◌, Some, slice_get, arith, eq-eqb}
 use Rattle.std.proofs.lemmas.List.{take-append-drop}
-use Rattle.std.proofs.lemmas.List.Elements.{All-nil, All-cons, All-contains, All-map, All-push}
+use Rattle.std.proofs.lemmas.List.Elements.{All-nil, All-cons, All-contains}
 use Rattle.std.proofs.lemmas.Option.{slice_get-map}
 use Rattle.std.specs.Cmp.{first_so}
-use Rattle.std.specs.List.{list_any, list_all, flat_map}
+use Rattle.std.specs.List.{list_any}
 use Rattle.std.specs.Option.{option_map}
 use Rattle.gen_lines.specs.Reply.{is_value, IsRight}
 use Rattle.session_core.proofs.SessionLemmas.{count_joined}
 use Rattle.task_model.proofs.KnownLemmas.{numbers_decided}
 use Rattle.lemmas.proofs.Members.{member_at}
 use Rattle.task_model.specs.Fit.{IsFit, is_name}
-use Rattle.task_model.specs.Initial.{declared_names}
 use Rattle.task_model.specs.Known.{same_numbers, with_name}
 use Rattle.task_model.specs.declared.stream.Instance.{Instance}
 use Rattle.task_model.specs.declared.stream.Stream.{Stream}
 use Rattle.task_model.specs.declared.task.Task.{Task}
 use Rattle.transcript_model.proofs.LegalPrefixLemmas.{legal_take}
-use Rattle.transcript_model.proofs.NamedObjectLemmas.{all_joined, passes_all}
-use Rattle.transcript_model.proofs.LegalNumberLemmas.{any_at, any_kept, number_below}
+use Rattle.transcript_model.proofs.NamedObjectLemmas.{passes_all}
+use Rattle.transcript_model.proofs.LegalNumberLemmas.{number_below}
 use Rattle.transcript_model.proofs.NamesLemmas.{and_then_some, map_some, place_at, position_at}
 use Rattle.report_text.specs.Forms.{AreTuples, IsFormedCall, IsFormedEntry, IsObject}
 use Rattle.transcript_model.specs.Legal.{IsLegal, asks_of, has_several, is_answer_to, is_ask_of, is_open, is_answer}
-use Rattle.transcript_model.specs.Names.{generated, instance_of, place_of, places_of, stream_named, with_names}
-use Rattle.transcript_model.specs.Transcript.{names_of, objects_in}
+use Rattle.transcript_model.specs.Names.{instance_of, place_of, places_of, stream_named}
+use Rattle.transcript_model.specs.Transcript.{names_of}
 use Rattle.transcript_model.specs.declared.entry.Call.{Call}
 use Rattle.transcript_model.specs.declared.entry.Entry.{Entry}
 use Rattle.transcript_model.specs.declared.entry.Entry.TheVariants as entry
 use Rattle.replay_laws.proofs.PlainEntryLemmas.{is_plain, yields_few}
-
--- ---- lists
-
-pub all_from : {A : Type 0} (P : A → Type 0) (xs : List A) → ((k : ℕ) (x : A) → slice_get xs k ≡ Some x → P x) → All P xs
-all_from P [] each = All-nil P
-all_from P (x ∷ xs) each = All-cons P x xs (each 0 x refl) (all_from P xs (λ k y at. each (suc k) y at))
-
-pub passes_at : {A : Type 0} (p : A → Bool) (xs : List A) (k : ℕ) (x : A) → list_all p xs ≡ true → slice_get xs k ≡ Some x → p x ≡ true
-passes_at p xs k x all at = All-contains (λ y. p y ≡ true) xs x (passes_all p (λ y. p y ≡ true) xs (λ y e. e) all) (member_at xs k x at)
+use Rattle.std.proofs.lemmas.Map.Keys.{any_passes_from_place}
+use Rattle.lemmas.proofs.ListTests.{all_at, any_append_left}
+use Rattle.report_text.proofs.FormsNameLemmas.{names_formed}
 
 -- ---- names
-
-with_name-all : (P : List ℕ → Type 0) (names : List (List ℕ)) (name : List ℕ) → All P names → P name → All P (with_name names name)
-with_name-all P names name all one = by (list_any (same_numbers name) names)
-  where
-    by : (b : Bool) → All P (if b then names else names ++ name ∷ [])
-    by true = all
-    by false = All-push P names name all one
-
-with_names-all : (P : List ℕ → Type 0) (names more : List (List ℕ)) → All P names → ((k : ℕ) (name : List ℕ) → slice_get more k ≡ Some name → P name) → All P (with_names names more)
-with_names-all P names [] all each = all
-with_names-all P names (name ∷ more) all each = with_names-all P (with_name names name) more (with_name-all P names name all (each 0 name refl)) (λ k n at. each (suc k) n at)
-
-module _ (version : ℕ) (task : Task) (fit : IsFit task) (entries : List Entry) (legal : IsLegal version task entries) where
-  values_named : (k : ℕ) (e : Entry) → slice_get entries k ≡ Some e → All IsObject (objects_in e)
-  values_named k (entry.Got number tuples values) at =
-      let valid = (legal k (entry.Got number tuples values) at).right.valid in
-      All-map IsObject generated values (passes_all is_value (λ v. IsObject (generated v)) values (λ v e. inr (v, refl, e)) valid)
-  values_named k e at = All-nil IsObject
-
-  -- the table of names has declared names, and generated ones
-  pub names_formed : All IsObject (names_of task entries)
-  names_formed =
-      let declared = passes_all is_name IsObject (declared_names task) (λ name e. inl e) fit.problem.objects.names.each in
-      let values = all_joined IsObject objects_in entries values_named in
-      with_names-all IsObject (declared_names task) (flat_map objects_in entries) declared (λ k name at. All-contains IsObject (flat_map objects_in entries) name values (member_at (flat_map objects_in entries) k name at))
 
 placed_formed : (names more : List (List ℕ)) (objects : List ℕ) → All IsObject names → places_of names more ≡ Some objects → All IsObject more
 placed_formed names [] objects all is = All-nil IsObject
@@ -102,7 +70,7 @@ module _ (version : ℕ) (task : Task) (fit : IsFit task) (entries : List Entry)
   open_few : (k n : ℕ) → is_open (take k entries) n ≡ true → n ≤ 100000
   open_few k n waiting =
       let there = first_so (list_any (is_ask_of n) (take k entries)) (not (list_any (is_answer_to n) (take k entries))) waiting in
-      asked_few n (subst (λ es. list_any (is_ask_of n) es ≡ true) (take-append-drop k entries) (any_kept (is_ask_of n) (take k entries) (drop k entries) there))
+      asked_few n (subst (λ es. list_any (is_ask_of n) es ≡ true) (take-append-drop k entries) (any_append_left (is_ask_of n) (take k entries) (drop k entries) there))
 
   -- an answer's number is one of a request's
   pub answer_few : (k number tuples : ℕ) (values : List (List ℕ)) → slice_get entries k ≡ Some (entry.Got number tuples values) → number ≤ 100000
@@ -116,7 +84,7 @@ module _ (version : ℕ) (task : Task) (fit : IsFit task) (entries : List Entry)
       let place = position_at (λ (s : Stream). same_numbers call.name s.name) task.streams first.0 first.1 in
       let same = (numbers_decided call.name place.0.name).0 place.2 in
       let there = slice_get-map (λ (s : Stream). s.name) task.streams first.0 ∙ ap (option_map (λ (s : Stream). s.name)) place.1 in
-      let stream_name = passes_at is_name (map (λ (s : Stream). s.name) task.streams) first.0 place.0.name fit.streams.names.each there in
+      let stream_name = all_at is_name (map (λ (s : Stream). s.name) task.streams) first.0 place.0.name fit.streams.names.each there in
       record { name = ap is_name same ∙ stream_name; args = placed_formed names call.args second.0 (names_formed version task fit (take k entries) (legal_take version task entries k legal)) second.1 }
 
   pub entry_formed : (k : ℕ) (e : Entry) → slice_get entries k ≡ Some e → is_plain e ≡ true → IsFormedEntry version e
@@ -125,7 +93,7 @@ module _ (version : ℕ) (task : Task) (fit : IsFit task) (entries : List Entry)
       let yields = yields_few version task (take k entries) right.instance (legal_take version task entries k legal) in
       let parts = ap (count_by is_answer) (take-append-drop k entries) in
       let sums = count_joined is_answer (take k entries) (drop k entries) in
-      let asked = asked_few number (any_at (is_ask_of number) entries k (entry.Ask number turn call) at (eq-eqb number number refl)) in
+      let asked = asked_few number (any_passes_from_place (is_ask_of number) entries k (entry.Ask number turn call) at (eq-eqb number number refl)) in
       (omega (arith, asked), omega (arith, right.turned, yields, parts, sums, few.answers), call_formed k call right.instance right.named)
   entry_formed k (entry.Got number tuples values) at plain =
       let right = legal k (entry.Got number tuples values) at in

@@ -1,17 +1,20 @@
 -- The outcome that a run writes has the stated form, and so has its whole report.
-use Rattle.std.proofs.Common.{◌≡◌, ℕ, zero, suc, ◌+◌, ◌/◌, ◌<◌, ◌≤◌, ◌^◌, inl, inr, ◌==◌, ◌&&◌, ◌||◌, Bool, true, false, List, [], ◌∷◌, ◌++◌, length, drop, map, All, Contains, refl, sym, ap, subst, ◌∙◌, Option, Some, None, slice_get, IsSome, unwrap_or, arith, codes, eqb-true, if◌then◌else◌}
+use Rattle.std.proofs.Common.{◌≡◌, ℕ, zero, suc, ◌+◌, ◌/◌, ◌<◌, ◌≤◌, ◌^◌, inl, inr, ◌==◌, ◌&&◌, ◌||◌, Bool, true, false, List, [], ◌∷◌, length, drop, map, All, Contains, refl, sym, ap, subst, ◌∙◌, Option, Some, None, slice_get, IsSome, unwrap_or, arith, codes, eqb-true, if◌then◌else◌}
 use Rattle.std.proofs.lemmas.List.{length-append, length-map}
 use Rattle.std.proofs.lemmas.List.Elements.{All-contains, All-map, All-weaker}
 use Rattle.std.proofs.lemmas.Option.{slice_get_within, slice_get-map}
 use Rattle.std.specs.Cmp.{first_so, second_so}
 use Rattle.std.specs.Fmt.{decimal}
-use Rattle.std.specs.List.{list_any, flat_map, position}
+use Rattle.std.specs.List.{list_any, position}
 use Rattle.std.specs.Option.{option_map}
+use Rattle.std.proofs.lemmas.Bool.{true≢false}
 use Rattle.gen_lines.specs.Reply.{is_value}
 use Rattle.level_run.specs.Turns.{HasRoom}
 use Rattle.shown_plan.proofs.ShownLemmas.{valid_named}
 use Rattle.task_model.proofs.KnownLemmas.{numbers_decided}
 use Rattle.lemmas.proofs.Members.{member_at, place_of}
+use Rattle.lemmas.proofs.Bools.{from_or_false}
+use Rattle.lemmas.proofs.ListTests.{all_at, any_found, all_by_place}
 use Rattle.task_model.specs.Fit.{IsFit, is_name}
 use Rattle.task_model.specs.Known.{IsIn, same_numbers}
 use Rattle.task_model.specs.Streams.{name_at}
@@ -19,14 +22,13 @@ use Rattle.task_model.specs.declared.domain.Action.{Action}
 use Rattle.task_model.specs.declared.task.GroundAction.{GroundAction}
 use Rattle.task_model.specs.declared.task.Task.{Task}
 use Rattle.transcript_model.proofs.CoherentLemmas.{coherent}
-use Rattle.transcript_model.proofs.LegalNumberLemmas.{any_place}
 use Rattle.transcript_model.proofs.NamesLemmas.{map_some, position_at}
 use Rattle.transcript_model.specs.Calls.{action_name, call_of_step}
 use Rattle.report_text.specs.Forms.{IsFormedCall, IsFormedOrigin, IsFormedOutcome, IsName, IsObject, IsTerm}
 use Rattle.transcript_model.specs.Legal.{IsLegal}
 use Rattle.transcript_model.specs.Outcomes.{IsOrigin, IsTrueOutcome, IsTruePlan, has_value, tuple_with}
 use Rattle.transcript_model.specs.Rounds.{Limits}
-use Rattle.report_text.specs.Texts.{Line, do_line, from_line, line, line_text, lines_text, outcome_lines}
+use Rattle.report_text.specs.Texts.{do_line, from_line, line, lines_text, outcome_lines}
 use Rattle.transcript_model.specs.Transcript.{known_of, names_of, tuples_in}
 use Rattle.transcript_model.specs.declared.entry.Call.{Call}
 use Rattle.transcript_model.specs.declared.entry.Entry.{Entry}
@@ -34,18 +36,11 @@ use Rattle.transcript_model.specs.declared.entry.Entry.TheVariants as entry
 use Rattle.transcript_model.specs.declared.outcome.Origin.{Origin}
 use Rattle.transcript_model.specs.declared.outcome.Outcome.{Outcome}
 use Rattle.transcript_model.specs.declared.outcome.Outcome.TheVariants as outcome
-use Rattle.replay_laws.proofs.FormedEntryLemmas.{AreFew, all_from, answer_few, names_formed, passes_at}
+use Rattle.report_text.proofs.FormsNameLemmas.{names_formed}
+use Rattle.replay_laws.proofs.FormedEntryLemmas.{AreFew, answer_few}
+use Rattle.replay_check.proofs.LinesLemmas.{lines_long}
 
 -- ---- how long a text is
-
--- each line has a byte at least
-lines_long : (lines : List Line) → length lines ≤ length (lines_text lines)
-lines_long [] = omega arith
-lines_long (l ∷ lines) =
-    let rest = lines_long lines in
-    let sum = length-append (line_text l) (lines_text lines) in
-    let own = length-append (l.first ++ flat_map (λ field. 32 ∷ field) l.more) (10 ∷ []) in
-    omega (arith, rest, sum, own)
 
 -- a plan has fewer steps than its text has bytes
 steps_few : (version cost : ℕ) (calls : List Call) (from : List Origin) → length calls ≤ length (lines_text (outcome_lines version (outcome.Plan calls cost from)))
@@ -79,10 +74,10 @@ module _ (version : ℕ) (task : Task) (fit : IsFit task) (entries : List Entry)
       by (Some a) at =
           let named : action_name task k ≡ a.name = rw at refl in
           let there = slice_get-map (λ (x : Action). x.name) task.domain.actions k ∙ ap (option_map (λ (x : Action). x.name)) at in
-          ap is_name named ∙ passes_at is_name (map (λ (x : Action). x.name) task.domain.actions) k a.name fit.domain.action_names.each there
+          ap is_name named ∙ all_at is_name (map (λ (x : Action). x.name) task.domain.actions) k a.name fit.domain.action_names.each there
 
   calls_formed : (steps : List GroundAction) → All (λ (s : GroundAction). s.action < length task.domain.actions) steps → All (λ (s : GroundAction). All (IsIn (names_of task entries)) s.args) steps → All (IsFormedCall IsTerm) (map (call_of_step task (names_of task entries)) steps)
-  calls_formed steps actions objects = All-map (IsFormedCall IsTerm) (call_of_step task (names_of task entries)) steps (all_from _ steps one)
+  calls_formed steps actions objects = All-map (IsFormedCall IsTerm) (call_of_step task (names_of task entries)) steps (all_by_place _ steps one)
     where
       one : (k : ℕ) (s : GroundAction) → slice_get steps k ≡ Some s → IsFormedCall IsTerm (call_of_step task (names_of task entries) s)
       one k s at =
@@ -114,17 +109,13 @@ module _ (version : ℕ) (task : Task) (fit : IsFit task) (entries : List Entry)
   -- the value is one of an answer's, and the request is one that was made
   given : (number : ℕ) (value : List ℕ) (k : ℕ) (e : Entry) → slice_get entries k ≡ Some e → has_value (e ∷ []) number value ≡ true → (is_value value ≡ true) × (number ≤ 100000)
   given number value k (entry.Got n tuples values) at has =
-      let parts = single ((number == n) && list_any (same_numbers value) values) has in
+      let parts = from_or_false ((number == n) && list_any (same_numbers value) values) has in
       let same = eqb-true number n (first_so (number == n) (list_any (same_numbers value) values) parts) in
-      let there = any_place (same_numbers value) values (second_so (number == n) (list_any (same_numbers value) values) parts) in
+      let there = any_found (same_numbers value) values (second_so (number == n) (list_any (same_numbers value) values) parts) in
       let is = (numbers_decided value there.1).0 there.3 in
       let valid = (legal k (entry.Got n tuples values) at).right.valid in
       let most = answer_few version task fit entries legal few k n tuples values at in
-      (ap is_value is ∙ passes_at is_value values there.0 there.1 valid there.2, omega (arith, same, most))
-    where
-      single : (b : Bool) → (b || false) ≡ true → b ≡ true
-      single true e = refl
-      single false e = e
+      (ap is_value is ∙ all_at is_value values there.0 there.1 valid there.2, omega (arith, same, most))
   given number value k e at has = absurd (cc)
 
   value_given : (number : ℕ) (value : List ℕ) → has_value entries number value ≡ true → (is_value value ≡ true) × (number ≤ 100000)
@@ -156,12 +147,9 @@ module _ (version : ℕ) (task : Task) (fit : IsFit task) (entries : List Entry)
       by : (b : Bool) → (version == 1) ≡ b → o.tuple ≤ 255
       by true e = omega (arith, origin.one (eqb-true version 1 e))
       by false e =
-          let found = origin.tuple (λ same. no (sym (ap (λ n. n == 1) same) ∙ e)) in
+          let found = origin.tuple (λ same. true≢false (sym (ap (λ n. n == 1) same) ∙ e)) in
           let place = place_of entries found.0 found.1 in
           omega (arith, tuple_few origin.value o.number o.tuple place.0 found.0 place.1 found.2)
-        where
-          no : true ≡ false → ⊥
-          no e = absurd (cc)
 
   -- ---- outcomes
 
@@ -169,6 +157,6 @@ module _ (version : ℕ) (task : Task) (fit : IsFit task) (entries : List Entry)
   outcome_formed limits same (outcome.Plan calls cost from) plan room short =
       let steps = steps_few version cost calls from in
       let origins = subst (λ v. (o : Origin) → Contains from o → IsOrigin v entries o) same plan.origins.origins in
-      (omega (arith, steps, short), room, plan_formed version task fit entries legal limits calls cost from plan, all_from (IsFormedOrigin version) from (λ k o at. origin_formed o (origins o (member_at from k o at))))
+      (omega (arith, steps, short), room, plan_formed version task fit entries legal limits calls cost from plan, all_by_place (IsFormedOrigin version) from (λ k o at. origin_formed o (origins o (member_at from k o at))))
   outcome_formed limits same outcome.NoPlan holds room short = tt
   outcome_formed limits same (outcome.Limit kind) holds room short = tt

@@ -1,5 +1,5 @@
 -- The entries of whole turns of incremental mode, and how many of them are answers.
-use Rattle.std.proofs.Common.{◌≡◌, ℕ, zero, suc, ◌+◌, ◌*◌, ◌≤◌, cond, Bool, true, false, ◌&&◌, List, [], ◌∷◌, ◌++◌, length, take, replicate, count_by, refl, sym, ap, subst, ◌∙◌, Option, Some, None, slice_get, arith}
+use Rattle.std.proofs.Common.{◌≡◌, ℕ, zero, suc, ◌+◌, ◌*◌, ◌≤◌, cond, Bool, true, false, List, [], ◌∷◌, ◌++◌, length, take, replicate, count_by, refl, sym, ap, subst, ◌∙◌, Option, Some, None, slice_get, arith}
 use Rattle.std.proofs.lemmas.List.{length-append, length-replicate}
 use Rattle.std.proofs.lemmas.List.Folds.{list_all-append}
 use Rattle.std.specs.List.{list_all, flat_map}
@@ -16,6 +16,8 @@ use Rattle.transcript_model.specs.Transcript.{Asked, asked, names_of, note_of, n
 use Rattle.transcript_model.specs.Turns.{AreTurns, IncrementalTurn, IsLevel, Stage, inside, cut_off, none_left, stopped, whole}
 use Rattle.transcript_model.specs.declared.entry.Entry.{Entry}
 use Rattle.transcript_model.specs.declared.entry.Entry.TheVariants as entry
+use Rattle.std.proofs.lemmas.Bool.{and_from}
+use Rattle.transcript_model.proofs.RoundsLemmas.{requests_asks}
 
 -- ---- the entries of incremental mode
 
@@ -34,11 +36,8 @@ pub record ArePlain (es : List Entry) (many : ℕ) : Type 0 where
   pub answers : count_by is_answer es ≡ many
   pub asks : asks_of es ≡ many
 
-both : (a b : Bool) → a ≡ true → b ≡ true → (a && b) ≡ true
-both a b ea eb = rw (ea, eb) refl
-
 joined_plain : (xs ys : List Entry) → list_all is_plain xs ≡ true → list_all is_plain ys ≡ true → list_all is_plain (xs ++ ys) ≡ true
-joined_plain xs ys first second = list_all-append is_plain xs ys ∙ both (list_all is_plain xs) (list_all is_plain ys) first second
+joined_plain xs ys first second = list_all-append is_plain xs ys ∙ and_from (list_all is_plain xs) (list_all is_plain ys) first second
 
 requests_plain : (task : Task) (before : List Entry) (number : ℕ) (is : List Instance) → list_all is_plain (requests_from task before number is) ≡ true
 requests_plain task before number [] = refl
@@ -49,12 +48,6 @@ requests_unanswered task before number [] = refl
 requests_unanswered task before number (i ∷ is) =
     let one = entry.Ask number (yields_of (notes_of task before) i) (call_of_instance task (names_of task before) i) in
     omega (arith, count_joined is_answer (one ∷ []) (requests_from task before (number + 1) is), requests_unanswered task before (number + 1) is)
-
-requests_asked : (task : Task) (before : List Entry) (number : ℕ) (is : List Instance) → asks_of (requests_from task before number is) ≡ length is
-requests_asked task before number [] = refl
-requests_asked task before number (i ∷ is) =
-    let one = entry.Ask number (yields_of (notes_of task before) i) (call_of_instance task (names_of task before) i) in
-    omega (arith, asks_more (one ∷ []) (requests_from task before (number + 1) is), requests_asked task before (number + 1) is)
 
 -- an answer is one entry of them, and no request
 answer_plain : (number : ℕ) (e : Entry) → is_answer_to number e ≡ true → (is_plain e ≡ true) × (count_by is_answer (e ∷ []) ≡ 1) × (asks_of (e ∷ []) ≡ 0)
@@ -72,7 +65,7 @@ answers_plain number (suc n) (e ∷ es) are =
     let rest = answers_plain (number + 1) n es are.1 in
     let count = count_joined is_answer (e ∷ []) es in
     let asks = asks_more (e ∷ []) es in
-    (both (is_plain e) (list_all is_plain es) here.0 rest.0, omega (arith, here.1, rest.1, count), omega (arith, here.2, rest.2, asks))
+    (and_from (is_plain e) (list_all is_plain es) here.0 rest.0, omega (arith, here.1, rest.1, count), omega (arith, here.2, rest.2, asks))
 
 rounds_plain : (limits : Limits) (task : Task) (rounds : List (List Instance)) (list : List Instance) (before es : List Entry) → AreRounds limits.pools list rounds → AreRoundsRun task before rounds es → ArePlain es (length list)
 rounds_plain limits task [] list before es none run = subst (λ xs. ArePlain xs (length list)) (sym run) (subst (λ is. ArePlain [] (length is)) (sym none) (record { plain = refl; answers = refl; asks = refl }))
@@ -88,7 +81,7 @@ rounds_plain limits task (round ∷ rounds) list before es (rest, parts, some, f
     let none = requests_unanswered task before (asks_of before + 1) round in
     let made = asks_more (asks ++ answers) later in
     let these = asks_more asks answers in
-    let asked_now = requests_asked task before (asks_of before + 1) round in
+    let asked_now = requests_asks task before (asks_of before + 1) round in
     subst (λ xs. ArePlain xs (length list)) (sym all) (record {
       plain = plain;
       answers = omega (arith, first, second, none, told.1, next.answers, size);

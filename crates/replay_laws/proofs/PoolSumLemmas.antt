@@ -1,8 +1,9 @@
 -- Pools whose children are their own have no more workers together than there are children.
 use Rattle.std.proofs.Common.{◌≡◌, ℕ, zero, suc, ◌+◌, ◌-◌, ◌<◌, ◌≤◌, ◌⊎◌, inl, inr, ◌&&◌, Bool, true, false, cond, min, nat_le, nat_lt, List, [], ◌∷◌, map, sum_by, count_by, refl, ap, ◌∙◌, Some, slice_get, arith, le-leb, lt-ltb, leb-true, ltb-true}
-use Rattle.std.proofs.lemmas.Bool.{cases_lt}
+use Rattle.std.proofs.lemmas.Bool.{cases_lt, and_from}
 use Rattle.std.proofs.lemmas.List.Sums.{sum_by-append}
 use Rattle.std.specs.Cmp.{first_so, second_so}
+use Rattle.lemmas.proofs.Numbers.{zero_suc, suc_same}
 use Rattle.session_core.proofs.SessionLemmas.{count_joined, count_one}
 use Rattle.session_core.specs.Pools.{AreFitPools, HasChild, workers_of}
 use Rattle.session_core.specs.declared.pools.Workers.{Workers}
@@ -17,9 +18,6 @@ cover m p = min m (p.first + p.workers) - min m p.first
 abbrev has : ℕ → Workers → Bool
 has m p = nat_le p.first m && nat_lt m (p.first + p.workers)
 
-both : (a b : Bool) → a ≡ true → b ≡ true → (a && b) ≡ true
-both a b ea eb = rw (ea, eb) refl
-
 cover_more : (m : ℕ) (p : Workers) → cover (suc m) p ≤ cover m p + cond (has m p) 1 0
 cover_more m p = by (cases_lt m p.first) (cases_lt m (p.first + p.workers))
   where
@@ -27,7 +25,7 @@ cover_more m p = by (cases_lt m p.first) (cases_lt m (p.first + p.workers))
     by (inl below) q = omega (arith, below)
     by (inr from) (inr past) = omega (arith, from, past)
     by (inr from) (inl within) =
-        let here : cond {A = ℕ} (has m p) 1 0 ≡ 1 = ap (λ b. cond {A = ℕ} b 1 0) (both (nat_le p.first m) (nat_lt m (p.first + p.workers)) (le-leb p.first m from) (lt-ltb m (p.first + p.workers) within)) in
+        let here : cond {A = ℕ} (has m p) 1 0 ≡ 1 = ap (λ b. cond {A = ℕ} b 1 0) (and_from (nat_le p.first m) (nat_lt m (p.first + p.workers)) (le-leb p.first m from) (lt-ltb m (p.first + p.workers) within)) in
         omega (arith, from, within, here)
 
 module _ {A : Type 0} where
@@ -50,17 +48,11 @@ module _ {A : Type 0} where
 
   at_most_one : (f : A → Bool) (xs : List A) → ((j k : ℕ) (x y : A) → slice_get xs j ≡ Some x → slice_get xs k ≡ Some y → f x ≡ true → f y ≡ true → j ≡ k) → count_by f xs ≤ 1
   at_most_one f [] one = omega arith
-  at_most_one f (x ∷ xs) one = by (f x) refl (at_most_one f xs (λ j k y z at_j at_k. let same = one (suc j) (suc k) y z at_j at_k in λ fy fz. less j k (same fy fz)))
+  at_most_one f (x ∷ xs) one = by (f x) refl (at_most_one f xs (λ j k y z at_j at_k. let same = one (suc j) (suc k) y z at_j at_k in λ fy fz. suc_same j k (same fy fz)))
     where
-      less : (j k : ℕ) → suc j ≡ suc k → j ≡ k
-      less j k e = omega (arith, e)
-
-      apart : (k : ℕ) → 0 ≡ suc k → ⊥
-      apart k e = omega (arith, e)
-
       by : (b : Bool) → f x ≡ b → count_by f xs ≤ 1 → count_by f (x ∷ xs) ≤ 1
       by true e rest =
-          let none = count_none f xs (λ k y at fy. apart k (one 0 (suc k) x y refl at e fy)) in
+          let none = count_none f xs (λ k y at fy. zero_suc k (one 0 (suc k) x y refl at e fy)) in
           let here : cond {A = ℕ} (f x) 1 0 ≡ 1 = ap (λ b. cond {A = ℕ} b 1 0) e in
           omega (arith, count_next f x xs, none, here)
       by false e rest =

@@ -1,16 +1,20 @@
 -- The head of a report that a run wrote: it binds the transcript as the run's head does, and fits the task.
-use Rattle.std.proofs.Common.{◌≡◌, ℕ, zero, suc, ◌+◌, ◌<◌, ◌≤◌, ◌==◌, ◌&&◌, not, nat_le, Bool, true, false, List, [], ◌∷◌, ◌++◌, map, length, take, drop, sum_by, All, Contains, refl, sym, ap, subst, ◌∙◌, Some, slice_get, arith, append_assoc, le-leb, eqb-true, if◌then◌else◌}
+use Rattle.std.proofs.Common.{◌≡◌, ℕ, zero, suc, ◌+◌, ◌<◌, ◌≤◌, ◌==◌, ◌&&◌, not, nat_le, Bool, true, false, List, [], ◌∷◌, ◌++◌, map, length, take, drop, sum_by, All, Contains, refl, sym, ap, subst, ◌∙◌, Some, slice_get, arith, append_assoc, le-leb, eqb-true}
 use Rattle.std.proofs.lemmas.List.Concat.{flat_map-append}
 use Rattle.std.proofs.lemmas.List.Elements.{All-head, All-tail, All-take, All-contains}
 use Rattle.std.proofs.lemmas.List.Sums.{sum_by-append}
 use Rattle.std.proofs.lemmas.Option.{slice_get_within, slice_get-map}
-use Rattle.std.specs.List.{list_any, list_all, filter_map, flat_map}
+use Rattle.std.specs.List.{list_any, filter_map, flat_map}
 use Rattle.std.specs.Option.{option_map}
+use Rattle.std.proofs.lemmas.Map.Keys.{any_passes_from_place}
 use Rattle.replay_check.specs.Heads.{AreFitPoolLines, IsFitHead, are_new, is_fit_pool, limits_in, served_by, share_in, workers_in}
-use Rattle.session_core.specs.Pools.{serves, server, workers_of}
+use Rattle.session_core.proofs.RoundBeginLemmas.{server_is}
+use Rattle.session_core.specs.Pools.{workers_of}
 use Rattle.session_core.specs.declared.pools.Workers.{Workers}
 use Rattle.task_model.proofs.KnownLemmas.{numbers_decided}
-use Rattle.lemmas.proofs.Members.{member_at}
+use Rattle.lemmas.proofs.Members.{member_at, get_append}
+use Rattle.lemmas.proofs.Bools.{and_four}
+use Rattle.lemmas.proofs.ListTests.{all_from, any_found}
 use Rattle.task_model.specs.Fit.{IsFit, is_name}
 use Rattle.task_model.specs.Known.{same_numbers}
 use Rattle.lemmas.specs.Lists.{AreDistinct}
@@ -18,9 +22,8 @@ use Rattle.task_model.specs.declared.stream.Instance.{Instance}
 use Rattle.task_model.specs.declared.stream.Stream.{Stream}
 use Rattle.task_model.specs.declared.task.Task.{Task}
 use Rattle.transcript_model.proofs.CallNameLemmas.{call_names_instance}
-use Rattle.transcript_model.proofs.LegalNumberLemmas.{any_at, any_place}
 use Rattle.transcript_model.proofs.NamedObjectLemmas.{passes_all}
-use Rattle.transcript_model.proofs.NamesLemmas.{and_then_some, at_left, map_some, position_at}
+use Rattle.transcript_model.proofs.NamesLemmas.{and_then_some, map_some, position_at}
 use Rattle.transcript_model.proofs.LegalOnceLemmas.{cut_at}
 use Rattle.transcript_model.specs.Names.{stream_named}
 use Rattle.transcript_model.specs.Rounds.{limits_of, share_of}
@@ -120,8 +123,8 @@ module _ (task : Task) (fit : IsFit task) where
       by : (b : Bool) → list_any (λ t. t == s) before ≡ b → not b ≡ true
       by false none = refl
       by true some =
-          let place = any_place (λ t. t == s) before some in
-          let here = at_left before (s ∷ rest) place.0 place.1 place.2 in
+          let place = any_found (λ t. t == s) before some in
+          let here = get_append before (s ∷ rest) place.0 place.1 place.2 in
           let same = eqb-true place.1 s place.3 in
           let one = distinct place.0 (length before) s (here ∙ ap Some same) (at_end before rest) in
           absurd (omega (arith, one, slice_get_within before place.0 place.1 place.2))
@@ -134,12 +137,9 @@ module _ (task : Task) (fit : IsFit task) where
       rw (found, fresh before s streams distinct, rest) refl
 
   front_distinct : (xs ys : List ℕ) → AreDistinct (xs ++ ys) → AreDistinct xs
-  front_distinct xs ys distinct j k x at_j at_k = distinct j k x (at_left xs ys j x at_j) (at_left xs ys k x at_k)
+  front_distinct xs ys distinct j k x at_j at_k = distinct j k x (get_append xs ys j x at_j) (get_append xs ys k x at_k)
 
   -- ---- the pools fit
-
-  four : (a b c d : Bool) → a ≡ true → b ≡ true → c ≡ true → d ≡ true → (a && b && c && d) ≡ true
-  four a b c d ea eb ec ed = rw (ea, eb, ec, ed) refl
 
   take_map : (k : ℕ) (pools : List Pool) → take k (map (shown_pool task) pools) ≡ map (shown_pool task) (take k pools)
   take_map zero pools = refl
@@ -170,7 +170,7 @@ module _ (task : Task) (fit : IsFit task) where
         ap streams_of parts ∙ flat_map-append (λ (q : Pool). q.streams) before (p ∷ drop (suc place) head.pools) ∙ sym (append_assoc (streams_of before) p.streams (streams_of (drop (suc place) head.pools))) in
         let apart = front_distinct (streams_of before ++ p.streams) (streams_of (drop (suc place) head.pools)) (subst AreDistinct lists can.pools.once) in
         let new = all_new (streams_of before) p.streams (All-contains (λ (q : Pool). AreStreams task q.streams) head.pools p are there) apart in
-        four (nat_le 1 p.workers) (nat_le p.workers 16) (nat_le (workers_in (map (shown_pool task) before) + p.workers) 17) (are_new task (served_by task (map (shown_pool task) before)) (map (stream_name task) p.streams))
+        and_four (nat_le 1 p.workers) (nat_le p.workers 16) (nat_le (workers_in (map (shown_pool task) before) + p.workers) 17) (are_new task (served_by task (map (shown_pool task) before)) (map (stream_name task) p.streams))
         (le-leb 1 p.workers own) (le-leb p.workers 16 few)
         (le-leb (workers_in (map (shown_pool task) before) + p.workers) 17 (omega (arith, sums, first, second, shown, sum)))
         (subst (λ ss. are_new task ss (map (stream_name task) p.streams) ≡ true) (sym (served_same before taken)) new)
@@ -183,28 +183,16 @@ module _ (task : Task) (fit : IsFit task) where
 
     -- ---- each stream has a pool
 
-    all_at : {A : Type 0} (f : A → Bool) (xs : List A) → ((k : ℕ) (x : A) → slice_get xs k ≡ Some x → f x ≡ true) → list_all f xs ≡ true
-    all_at f [] each = refl
-    all_at f (x ∷ xs) each = rw (each 0 x refl, all_at f xs (λ k y at. each (suc k) y at)) refl
-
-    served_at : (all : List Workers) (stream : ℕ) (w : Workers) → server all stream ≡ Some w → (k : ℕ) × (slice_get all k ≡ Some w) × (serves w stream ≡ true)
-    served_at [] stream w is = absurd (cc)
-    served_at (x ∷ all) stream w is = by (serves x stream) refl is (served_at all stream w)
-      where
-        by : (b : Bool) → serves x stream ≡ b → (if b then Some x else server all stream) ≡ Some w → (server all stream ≡ Some w → (k : ℕ) × (slice_get all k ≡ Some w) × (serves w stream ≡ true)) → (k : ℕ) × (slice_get (x ∷ all) k ≡ Some w) × (serves w stream ≡ true)
-        by true e here later = let same : x ≡ w = cc in (0, here, ap (λ y. serves y stream) (sym same) ∙ e)
-        by false e there later = let r = later there in (suc r.0, r.1, r.2)
-
     is_served : (k : ℕ) (s : Stream) → slice_get task.streams k ≡ Some s → list_any (λ (p : PoolLine). list_any (same_numbers s.name) p.streams) (map (shown_pool task) head.pools) ≡ true
     is_served k s at =
         let pool = can.runnable.fit.pools.served k (slice_get_within task.streams k s at) in
-        let found = served_at (map workers_of head.pools) k pool.0 pool.1 in
+        let found = server_is (map workers_of head.pools) k pool.0 pool.1 in
         let p = map_some workers_of (slice_get head.pools found.0) pool.0 (sym (slice_get-map workers_of head.pools found.0) ∙ found.1) in
         let in_pool : list_any (λ t. t == k) p.0.streams ≡ true = ap (λ (w : Workers). list_any (λ t. t == k) w.streams) p.2 ∙ found.2 in
-        let place = any_place (λ t. t == k) p.0.streams in_pool in
+        let place = any_found (λ t. t == k) p.0.streams in_pool in
         let name : stream_name task place.1 ≡ s.name = ap (stream_name task) (eqb-true place.1 k place.3) ∙ (rw at refl) in
-        let inner = any_at (same_numbers s.name) (map (stream_name task) p.0.streams) place.0 (stream_name task place.1) (slice_get-map (stream_name task) p.0.streams place.0 ∙ ap (option_map (stream_name task)) place.2) ((numbers_decided s.name (stream_name task place.1)).1 (sym name)) in
-        any_at (λ (q : PoolLine). list_any (same_numbers s.name) q.streams) (map (shown_pool task) head.pools) found.0 (shown_pool task p.0) (slice_get-map (shown_pool task) head.pools found.0 ∙ ap (option_map (shown_pool task)) p.1) inner
+        let inner = any_passes_from_place (same_numbers s.name) (map (stream_name task) p.0.streams) place.0 (stream_name task place.1) (slice_get-map (stream_name task) p.0.streams place.0 ∙ ap (option_map (stream_name task)) place.2) ((numbers_decided s.name (stream_name task place.1)).1 (sym name)) in
+        any_passes_from_place (λ (q : PoolLine). list_any (same_numbers s.name) q.streams) (map (shown_pool task) head.pools) found.0 (shown_pool task p.0) (slice_get-map (shown_pool task) head.pools found.0 ∙ ap (option_map (shown_pool task)) p.1) inner
 
     -- ---- the head fits
 
@@ -217,5 +205,5 @@ module _ (task : Task) (fit : IsFit task) where
       limits = six (nat_le 1 head.calls) (nat_le head.calls 100000) (nat_le 1 head.states) (nat_le head.states 200000) (nat_le 1 head.depth) (nat_le head.depth 8)
           (le-leb 1 head.calls can.runnable.fit.some_calls) (le-leb head.calls 100000 can.runnable.fit.calls) (le-leb 1 head.states can.runnable.some_states) (le-leb head.states 200000 can.runnable.few_states) (le-leb 1 head.depth can.some_depth) (le-leb head.depth 8 can.depth);
       pools = pools_fit;
-      served = all_at (λ (s : Stream). list_any (λ (p : PoolLine). list_any (same_numbers s.name) p.streams) (map (shown_pool task) head.pools)) task.streams is_served;
+      served = all_from (λ (s : Stream). list_any (λ (p : PoolLine). list_any (same_numbers s.name) p.streams) (map (shown_pool task) head.pools)) task.streams is_served;
     }

@@ -10,6 +10,7 @@ use Rattle.replay_check.specs.Verdicts.{IsRightReport, IsUndecided, IsVerdict}
 use Rattle.replay_check.specs.declared.verdict.Verdict.{Verdict}
 use Rattle.replay_check.specs.declared.verdict.Verdict.TheVariants.{Valid}
 use Rattle.lemmas.proofs.Members.{member_at}
+use Rattle.lemmas.proofs.ListTests.{all_at, all_by_place}
 use Rattle.task_model.specs.Fit.{IsFit}
 use Rattle.task_model.specs.Plans.{IsReached, MoreThan}
 use Rattle.task_model.specs.State.{Atoms}
@@ -28,7 +29,7 @@ use Rattle.transcript_model.specs.declared.outcome.LimitKind.TheVariants.{Calls,
 use Rattle.transcript_model.specs.declared.outcome.Outcome.{Outcome}
 use Rattle.transcript_model.specs.declared.outcome.Outcome.TheVariants as outcome
 use Rattle.replay_laws.proofs.FormedOutcomeLemmas.{outcome_formed}
-use Rattle.replay_laws.proofs.FormedEntryLemmas.{AreFew, all_from, entry_formed, passes_at}
+use Rattle.replay_laws.proofs.FormedEntryLemmas.{AreFew, entry_formed}
 use Rattle.replay_laws.proofs.WrittenHeadLemmas.{head_fits, limits_same, name_there, report_of}
 use Rattle.replay_laws.proofs.PlainEntryLemmas.{is_plain, turns_plain}
 use Rattle.replay_laws.specs.Written.{IsHeadOfReports}
@@ -72,7 +73,7 @@ module _ (task : Task) (head : Head) (entries : List Entry) (o : Outcome) (fit :
   entries_formed : All (IsFormedEntry head.version) entries
   entries_formed =
       let plain = turns_plain (limits_of head) task tt [] entries run.stage run.turns (resting run.stage o run.stands) in
-      all_from (IsFormedEntry head.version) entries (λ k e at. entry_formed head.version task fit entries run.legal few k e at (passes_at is_plain entries k e plain.plain at))
+      all_by_place (IsFormedEntry head.version) entries (λ k e at. entry_formed head.version task fit entries run.legal few k e at (all_at is_plain entries k e plain.plain at))
 
   pool_formed : (k : ℕ) (p : Pool) → slice_get head.pools k ≡ Some p → IsFormedPool (shown_pool task p)
   pool_formed k p at =
@@ -100,7 +101,7 @@ module _ (task : Task) (head : Head) (entries : List Entry) (o : Outcome) (fit :
     calls = omega (arith, can.runnable.fit.calls);
     states = omega (arith, can.runnable.few_states);
     depth = omega (arith, can.depth);
-    pools = All-map IsFormedPool (shown_pool task) head.pools (all_from (λ (p : Pool). IsFormedPool (shown_pool task p)) head.pools pool_formed);
+    pools = All-map IsFormedPool (shown_pool task) head.pools (all_by_place (λ (p : Pool). IsFormedPool (shown_pool task p)) head.pools pool_formed);
     entries = entries_formed;
     outcome = outcome_formed head.version task fit entries run.legal few (limits_of head) refl o run.sure.holds run.sure.room (outcome_short task head entries o short);
   }

@@ -1,9 +1,11 @@
 -- The one pool of a run without a map.
-use Rattle.std.proofs.Common.{◌≡◌, ℕ, zero, suc, ◌+◌, ◌<◌, ◌≤◌, inl, inr, List, length, refl, sym, ap, subst, ◌∙◌, Some, slice_get, arith}
+use Rattle.std.proofs.Common.{◌≡◌, ℕ, zero, suc, ◌+◌, ◌<◌, ◌≤◌, inl, inr, List, length, sym, ap, subst, ◌∙◌, Some, slice_get, arith}
 use Rattle.std.proofs.lemmas.List.{append-nil}
+use Rattle.std.proofs.lemmas.List.Elements.{All-nil}
+use Rattle.lemmas.proofs.Numbers.{length-numbers_from}
+use Rattle.lemmas.proofs.ListTests.{all_one}
 use Rattle.lemmas.specs.Lists.{AreDistinct, numbers_from}
 use Rattle.task_model.specs.declared.task.Task.{Task}
-use Rattle.transcript_model.proofs.NamedObjectLemmas.{all_nil, all_one}
 use Rattle.transcript_model.specs.declared.head.Pool.{Pool}
 use Rattle.replay_laws.specs.Written.{ArePoolsOfReports, IsOnePool}
 
@@ -15,18 +17,14 @@ number_at first (suc n) (suc k) x at = omega (arith, number_at (first + 1) n k x
 numbers_distinct : (first n : ℕ) → AreDistinct (numbers_from first n)
 numbers_distinct first n j k x at_j at_k = omega (arith, number_at first n j x at_j, number_at first n k x at_k)
 
-numbers_long : (first n : ℕ) → length (numbers_from first n) ≡ n
-numbers_long first zero = refl
-numbers_long first (suc n) = let rest = numbers_long (first + 1) n in omega (arith, rest)
-
 pub one_pool : (task : Task) (pools : List Pool) → IsOnePool task pools → ArePoolsOfReports pools
 one_pool task pools (inl none) = subst ArePoolsOfReports (sym none) (record {
-  few = all_nil (λ (p : Pool). p.workers ≤ 16);
-  some = all_nil (λ (p : Pool). 0 < length p.streams);
+  few = All-nil (λ (p : Pool). p.workers ≤ 16);
+  some = All-nil (λ (p : Pool). 0 < length p.streams);
   once = λ j k x at_j at_k. absurd (let e = at_j in cc);
 })
 one_pool task pools (inr (pool, is, few, streams, some)) = subst ArePoolsOfReports (sym is) (record {
   few = all_one (λ (p : Pool). p.workers ≤ 16) pool few;
-  some = all_one (λ (p : Pool). 0 < length p.streams) pool (omega (arith, some, ap length streams, numbers_long 0 (length task.streams)));
+  some = all_one (λ (p : Pool). 0 < length p.streams) pool (omega (arith, some, ap length streams, length-numbers_from 0 (length task.streams)));
   once = subst AreDistinct (sym (append-nil pool.streams ∙ streams)) (numbers_distinct 0 (length task.streams));
 })

@@ -8,7 +8,7 @@ use Rattle.transcript_model.specs.declared.head.PoolLine.{PoolLine}
 use Rattle.transcript_model.specs.declared.outcome.Outcome.{Outcome}
 use Rattle.transcript_model.specs.declared.outcome.Outcome.TheVariants as outcome
 use Rattle.transcript_model.specs.declared.report.Report.{Report}
-use Rattle.report_text.proofs.PlacesPathLemmas.{path_then}
+use Rattle.report_text.proofs.PlacesPathLemmas.{path_then, entries_path}
 use Rattle.report_reader.specs.Body.{IsEnding, ending_line, ending_place, ending_of, IsBody, body_lines, outcome_rest, IsOutcomeOf, IsFirst, first_of, IsLimits, limits_line_of}
 use Rattle.report_reader.specs.Finding.{TakesLine, TakesAll, shown_lines, Stops}
 use Rattle.report_reader.specs.Splits.{fields_of}
@@ -17,7 +17,7 @@ use Rattle.report_reader.specs.declared.body_line.Ending.TheVariants.{Plan, NoPl
 use Rattle.report_reader.specs.declared.body_reader.Body.{Body}
 use Rattle.report_reader.specs.declared.head_reader.First.{First}
 use Rattle.report_reader.specs.declared.head_reader.Limits.{Limits}
-use Rattle.report_reader.proofs.BodyStopLemmas.{entries_front, pools_stop, shown_then, stops_at, stops_behind}
+use Rattle.report_reader.proofs.BodyStopLemmas.{pools_stop, shown_then, stops_at, stops_behind}
 
 abbrev Rows : Type 0
 Rows = List (List (List ℕ))
@@ -60,7 +60,7 @@ ending_path v (Limit kind) formed = (last, inr (inr (inr (inr (kind, refl), refl
 
 pub body_then : (v : ℕ) (b : Body) (old mid new : Rows) → IsBody v b → map fields_of (body_lines b) ++ mid ≡ old → Stops (ending_place v b.ending) mid new → Stops (entries v) old new
 body_then v b old mid new formed is s =
-    stops_behind (entries v) (ending_place v b.ending) (body_lines b) old mid new (path_then (entries v) (flat_map entry_lines b.entries) (ending_line b.ending ∷ []) (entries v) (ending_place v b.ending) (entries_front v b.entries formed.0) (ending_path v b.ending formed.1)) is s
+    stops_behind (entries v) (ending_place v b.ending) (body_lines b) old mid new (path_then (entries v) (flat_map entry_lines b.entries) (ending_line b.ending ∷ []) (entries v) (ending_place v b.ending) (entries_path v b.entries formed.0) (ending_path v b.ending formed.1)) is s
 
 -- ---- the whole
 

@@ -1,17 +1,18 @@
 -- Where each part of a report stops.
-use Rattle.std.proofs.Common.{◌≡◌, ℕ, zero, suc, ◌+◌, ◌-◌, ◌<◌, ◌^◌, inl, inr, arith, false, List, [], ◌∷◌, ◌++◌, map, length, refl, sym, subst, ap, ◌∙◌, All, append_assoc, length-append, None, Some}
+use Rattle.std.proofs.Common.{◌≡◌, ℕ, zero, suc, ◌+◌, ◌-◌, ◌<◌, ◌^◌, inl, inr, arith, List, [], ◌∷◌, ◌++◌, map, length, refl, sym, subst, ap, ◌∙◌, All, append_assoc, length-append, None, Some}
 use Rattle.std.specs.List.{flat_map}
 use Rattle.std.proofs.lemmas.Grind.{flat_map-append}
 use Rattle.std.proofs.lemmas.List.{map-append, append-nil, length-map}
+use Rattle.std.proofs.lemmas.List.Elements.{All-tail, All-head, All-push}
 use Rattle.report_text.specs.Forms.{IsNumber, IsTerm, IsFormedCall, IsFormedUse, IsFormedEntry, IsFormedOrigin, IsFormedPool}
-use Rattle.report_text.specs.Places.{Place, pools, entries, dream, plan, cost, origins, last, behind, dreaming, planning, dream_line, cost_line, is_dream, IsBodyStep, IsLineStep, IsPath}
+use Rattle.report_text.specs.Places.{Place, pools, entries, dream, plan, cost, origins, last, behind, dreaming, planning, dream_line, cost_line, IsBodyStep, IsLineStep, IsPath}
 use Rattle.report_text.specs.Texts.{Line, use_line, step_line, do_line, from_line, entry_lines, pool_line}
 use Rattle.transcript_model.specs.declared.entry.Call.{Call}
 use Rattle.transcript_model.specs.declared.entry.DreamUse.{DreamUse}
 use Rattle.transcript_model.specs.declared.entry.Entry.{Entry}
 use Rattle.transcript_model.specs.declared.entry.Entry.TheVariants as entry
 use Rattle.transcript_model.specs.declared.outcome.Origin.{Origin}
-use Rattle.report_text.proofs.PlacesPathLemmas.{path_then}
+use Rattle.report_text.proofs.PlacesPathLemmas.{path_then, entries_path}
 use Rattle.report_reader.specs.Body.{HasNoEnd, IsBodyLine, body_line, first_of_lines, IsDream, dream_lines, IsEnding, ending_line, IsReportFront}
 use Rattle.report_reader.specs.Finding.{HasNo, TakesLine, TakesAll, TakesMany, TakesFewer, Stops}
 use Rattle.report_reader.specs.Splits.{fields_of}
@@ -19,7 +20,6 @@ use Rattle.report_reader.specs.declared.body_line.BodyLine.{BodyLine}
 use Rattle.report_reader.specs.declared.body_line.BodyLine.TheVariants.{Single, Dream, Ends}
 use Rattle.report_reader.specs.declared.body_line.Ending.{Ending}
 use Rattle.report_reader.specs.declared.body_line.Ending.TheVariants.{Plan, NoPlan, Limit}
-use Rattle.report_reader.proofs.FindingLemmas.{all_push}
 
 -- ---- in general
 
@@ -48,12 +48,6 @@ stops_at at old new same before none = record {
   held = record { next = λ l rest to e step. none l rest to (e ∙ same) step; last = λ e here. before here };
 }
 
-head_of : {A : Type 0} (P : A → Type 0) (x : A) (xs : List A) → All P (x ∷ xs) → P x
-head_of P x xs all = all 0 x (omega arith)
-
-tail_of : {A : Type 0} (P : A → Type 0) (x : A) (xs : List A) → All P (x ∷ xs) → All P xs
-tail_of P x xs all k d lt = all (suc k) d (omega arith)
-
 -- that a line shows this item, where the fields are these
 shown_so : {X : Type 0} (line_of : X → Line) (x : X) (l : Line) (rest old : Rows) → l ≡ line_of x → fields_of l ∷ rest ≡ old → fields_of (line_of x) ∷ rest ≡ old
 shown_so line_of x l rest old is e = ap (λ (m : Line). fields_of m ∷ rest) (sym is) ∙ e
@@ -63,12 +57,12 @@ shown_so line_of x l rest old is e = ap (λ (m : Line). fields_of m ∷ rest) (s
 uses_front : (v : ℕ) (us : List DreamUse) (steps m k : ℕ) → k ≡ length us + m → All IsFormedUse us → IsPath (dreaming v k steps) (map use_line us) (dreaming v m steps)
 uses_front v [] steps m k e all = let same : k ≡ m = omega (arith, e) in ap (λ n. dreaming v n steps) same
 uses_front v (u ∷ us) steps m zero e all = absurd (omega (arith, e))
-uses_front v (u ∷ us) steps m (suc k) e all = (dreaming v k steps, (u, head_of IsFormedUse u us all, refl, refl), uses_front v us steps m k (omega (arith, e)) (tail_of IsFormedUse u us all))
+uses_front v (u ∷ us) steps m (suc k) e all = (dreaming v k steps, (u, All-head IsFormedUse u us all, refl, refl), uses_front v us steps m k (omega (arith, e)) (All-tail IsFormedUse u us all))
 
 steps_front : (v : ℕ) (cs : List Call) (m k : ℕ) → k ≡ length cs + m → All (IsFormedCall IsTerm) cs → IsPath (dreaming v 0 k) (map step_line cs) (dreaming v 0 m)
 steps_front v [] m k e all = let same : k ≡ m = omega (arith, e) in ap (λ n. dreaming v 0 n) same
 steps_front v (c ∷ cs) m zero e all = absurd (omega (arith, e))
-steps_front v (c ∷ cs) m (suc k) e all = (dreaming v 0 k, (c, head_of (IsFormedCall IsTerm) c cs all, refl, refl), steps_front v cs m k (omega (arith, e)) (tail_of (IsFormedCall IsTerm) c cs all))
+steps_front v (c ∷ cs) m (suc k) e all = (dreaming v 0 k, (c, All-head (IsFormedCall IsTerm) c cs all, refl, refl), steps_front v cs m k (omega (arith, e)) (All-tail (IsFormedCall IsTerm) c cs all))
 
 pub uses_stop : (v uses steps : ℕ) (old new : Rows) → TakesFewer IsFormedUse use_line uses old new → Stops (dreaming v uses steps) old new
 uses_stop v uses steps old new t =
@@ -110,26 +104,6 @@ body_stop v old new t =
 
 -- ---- entries
 
-single_front : (v : ℕ) (e : Entry) (l : Line) → IsFormedEntry v e → is_dream e ≡ false → entry_lines e ≡ l ∷ [] → IsPath (entries v) (entry_lines e) (entries v)
-single_front v e l formed single is = subst (λ ls. IsPath (entries v) ls (entries v)) (sym is) (entries v, inl (record { entry = e; formed = formed; single = single; is = is }, refl), refl)
-
-entry_front : (v : ℕ) (e : Entry) → IsFormedEntry v e → IsPath (entries v) (entry_lines e) (entries v)
-entry_front v (entry.Dream us ss) formed =
-    (dreaming v (length us) (length ss), inr (inl (length us, length ss, formed.0, formed.1, refl, refl)), path_then (dreaming v (length us) (length ss)) (map use_line us) (map step_line ss) (dreaming v 0 (length ss)) (entries v) (uses_front v us (length ss) 0 (length us) (omega arith) formed.2) (steps_front v ss 0 (length ss) (omega arith) formed.3))
-entry_front v entry.Level formed = single_front v entry.Level _ formed refl refl
-entry_front v (entry.Ask n t c) formed = single_front v (entry.Ask n t c) _ formed refl refl
-entry_front v (entry.Got n t xs) formed = single_front v (entry.Got n t xs) _ formed refl refl
-entry_front v (entry.Value n x) formed = single_front v (entry.Value n x) _ formed refl refl
-entry_front v (entry.End n) formed = single_front v (entry.End n) _ formed refl refl
-entry_front v entry.Nothing formed = single_front v entry.Nothing _ formed refl refl
-entry_front v entry.Reset formed = single_front v entry.Reset _ formed refl refl
-entry_front v (entry.Pick n) formed = single_front v (entry.Pick n) _ formed refl refl
-entry_front v (entry.Retire n) formed = single_front v (entry.Retire n) _ formed refl refl
-
-pub entries_front : (v : ℕ) (es : List Entry) → All (IsFormedEntry v) es → IsPath (entries v) (flat_map entry_lines es) (entries v)
-entries_front v [] all = refl
-entries_front v (e ∷ es) all = path_then (entries v) (entry_lines e) (flat_map entry_lines es) (entries v) (entries v) (entry_front v e (head_of (IsFormedEntry v) e es all)) (entries_front v es (tail_of (IsFormedEntry v) e es all))
-
 pub some_lines : (e : Entry) → 0 < length (entry_lines e)
 some_lines (entry.Dream us ss) = omega arith
 some_lines entry.Level = omega arith
@@ -147,7 +121,7 @@ entry_smaller e old new is = omega (arith, some_lines e, ap length is, length-ap
 
 pub front_next : (v : ℕ) (es : List Entry) (e : Entry) (old mid new : Rows) → IsReportFront v es old mid → IsFormedEntry v e → map fields_of (entry_lines e) ++ new ≡ mid → IsReportFront v (es ++ e ∷ []) old new
 front_next v es e old mid new f formed is = record {
-  formed = all_push (IsFormedEntry v) es e f.formed formed;
+  formed = All-push (IsFormedEntry v) es e f.formed formed;
   lines = ap (λ ls. map fields_of ls ++ new) (flat_map-append entry_lines es (e ∷ []) ∙ ap (λ ls. flat_map entry_lines es ++ ls) (append-nil (entry_lines e))) ∙ shown_then (flat_map entry_lines es) (entry_lines e) new ∙ ap (λ l. map fields_of (flat_map entry_lines es) ++ l) is ∙ f.lines;
 }
 
@@ -156,18 +130,18 @@ front_end v es ending old mid new f formed is =
     ((f.formed, formed), shown_then (flat_map entry_lines es) (ending_line ending ∷ []) new ∙ ap (λ l. map fields_of (flat_map entry_lines es) ++ l) is ∙ f.lines)
 
 pub front_stop : (v : ℕ) (es : List Entry) (old mid new : Rows) → IsReportFront v es old mid → Stops (entries v) mid new → Stops (entries v) old new
-front_stop v es old mid new f s = stops_behind (entries v) (entries v) (flat_map entry_lines es) old mid new (entries_front v es f.formed) f.lines s
+front_stop v es old mid new f s = stops_behind (entries v) (entries v) (flat_map entry_lines es) old mid new (entries_path v es f.formed) f.lines s
 
 -- ---- outcomes
 
 dos_front : (v : ℕ) (cs : List Call) (m k : ℕ) → k ≡ length cs + m → All (IsFormedCall IsTerm) cs → IsPath (planning v k) (map do_line cs) (planning v m)
 dos_front v [] m k e all = let same : k ≡ m = omega (arith, e) in ap (planning v) same
 dos_front v (c ∷ cs) m zero e all = absurd (omega (arith, e))
-dos_front v (c ∷ cs) m (suc k) e all = (planning v k, (c, head_of (IsFormedCall IsTerm) c cs all, refl, refl), dos_front v cs m k (omega (arith, e)) (tail_of (IsFormedCall IsTerm) c cs all))
+dos_front v (c ∷ cs) m (suc k) e all = (planning v k, (c, All-head (IsFormedCall IsTerm) c cs all, refl, refl), dos_front v cs m k (omega (arith, e)) (All-tail (IsFormedCall IsTerm) c cs all))
 
 origins_front : (v : ℕ) (os : List Origin) → All (IsFormedOrigin v) os → IsPath (origins v) (map (from_line v) os) (origins v)
 origins_front v [] all = refl
-origins_front v (o ∷ os) all = (origins v, inl (o, head_of (IsFormedOrigin v) o os all, refl, refl), origins_front v os (tail_of (IsFormedOrigin v) o os all))
+origins_front v (o ∷ os) all = (origins v, inl (o, All-head (IsFormedOrigin v) o os all, refl, refl), origins_front v os (All-tail (IsFormedOrigin v) o os all))
 
 pub plan_stop : (v steps : ℕ) (old new : Rows) → TakesFewer (IsFormedCall IsTerm) do_line steps old new → Stops (planning v steps) old new
 plan_stop v steps old new t =

@@ -1,7 +1,7 @@
 -- Where a reader of lines stops is the first fault of the text.
 use Rattle.std.proofs.Common.{◌≡◌, ℕ, ◌+◌, ◌-◌, ◌<◌, ◌≤◌, arith, List, [], ◌∷◌, ◌++◌, map, take, drop, length, refl, sym, subst, ap, ◌∙◌, append-nil, length-append}
 use Rattle.std.specs.List.{slice_split}
-use Rattle.std.proofs.lemmas.List.{length-map}
+use Rattle.std.proofs.lemmas.List.{length-map, nil_from_length}
 use Rattle.std.proofs.lemmas.List.Sums.{count_by-le-length}
 use Rattle.gen_lines.specs.Lines.{is_feed, unfinished}
 use Rattle.gen_lines.specs.Reply.{is_space}
@@ -58,13 +58,9 @@ left_is_fault bytes r new formed is some = stop_is_fault bytes new (record {
   held = record { next = λ l rest to e step. absurd step; last = λ none. absurd (some (ap length none)) };
 })
 
-empty : {A : Type 0} (xs : List A) → length xs ≡ 0 → xs ≡ []
-empty [] e = refl
-empty (x ∷ xs) e = absurd (omega (arith, e))
-
 whole_texts : (bytes : List ℕ) (r : Report) (new : List (List (List ℕ))) → map fields_of (lines_of_report r) ++ new ≡ field_lines bytes → length new ≡ 0 → map line_body (report_lines r) ≡ whole_lines bytes
 whole_texts bytes r new is none =
-    joined_lines (lines_of_report r) (whole_lines bytes) (sym is ∙ ap (λ l. map fields_of (lines_of_report r) ++ l) (empty new none) ∙ append-nil (map fields_of (lines_of_report r)))
+    joined_lines (lines_of_report r) (whole_lines bytes) (sym is ∙ ap (λ l. map fields_of (lines_of_report r) ++ l) (nil_from_length new none) ∙ append-nil (map fields_of (lines_of_report r)))
 
 -- something stands behind the last line feed of a whole report
 pub rest_is_fault : (bytes : List ℕ) (r : Report) (new : List (List (List ℕ))) → IsFormed r → map fields_of (lines_of_report r) ++ new ≡ field_lines bytes → length new ≡ 0 → ¬ (unfinished bytes ≡ []) → IsFirstFault bytes (length (field_lines bytes) - length new + 1)

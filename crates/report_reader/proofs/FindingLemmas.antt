@@ -1,17 +1,13 @@
 -- One member more, behind the others.
 use Rattle.std.proofs.Common.{◌≡◌, ℕ, suc, ◌+◌, ◌<◌, List, [], ◌∷◌, ◌++◌, length, map, refl, sym, subst, ap, ◌∙◌, arith, All, append_assoc, length-append, Some, None}
 use Rattle.std.proofs.lemmas.List.{map-append}
-use Rattle.std.proofs.lemmas.List.Elements.{All-append}
-use Rattle.transcript_model.proofs.NamedObjectLemmas.{all_one}
+use Rattle.std.proofs.lemmas.List.Elements.{All-push}
 use Rattle.report_text.specs.Texts.{Line}
 use Rattle.report_reader.specs.Finding.{HasNo, shown_lines, TakesLine, TakesAll, TakesMany, TakesFewer}
 use Rattle.report_reader.specs.Splits.{fields_of}
 
 pub push_row : {A : Type 0} (xs : List A) (x : A) (left new all : List A) → xs ++ left ≡ all → left ≡ x ∷ new → (xs ++ x ∷ []) ++ new ≡ all
 push_row xs x left new all is next = append_assoc xs (x ∷ []) new ∙ ap (λ l. xs ++ l) (sym next) ∙ is
-
-pub all_push : {A : Type 0} (P : A → Type 0) (xs : List A) (x : A) → All P xs → P x → All P (xs ++ x ∷ [])
-all_push P xs x all here = All-append P xs (x ∷ []) all (all_one P x here)
 
 pub all_middle : {A : Type 0} (P : A → Type 0) (xs : List A) (x : A) (ys : List A) → All P (xs ++ x ∷ ys) → P x
 all_middle P [] x ys all = all 0 x (omega arith)
@@ -32,7 +28,7 @@ spoiled P xs x left new all ys is next not formed same =
 
 pub many_next : {A : Type 0} (F : A → Type 0) (line_of : A → Line) (n : ℕ) (xs : List A) (x : A) (all left new : List (List (List ℕ))) → TakesMany F line_of n xs all left → TakesLine F line_of (Some x) left new → TakesMany F line_of (n + 1) (xs ++ x ∷ []) all new
 many_next F line_of n xs x all left new many took = record {
-  formed = all_push F xs x many.formed took.0;
+  formed = All-push F xs x many.formed took.0;
   lines = push_line line_of xs x left new all many.lines took.1;
   many = omega (arith, length-append xs (x ∷ []), many.many);
 }
@@ -48,7 +44,7 @@ many_stop F line_of n count xs all left new many lt none = record {
 
 pub many_push : {A : Type 0} (F : A → Type 0) (line_of : A → Line) (xs : List A) (x : A) (all left new : List (List (List ℕ))) → TakesMany F line_of (length xs) xs all left → TakesLine F line_of (Some x) left new → TakesMany F line_of (length (xs ++ x ∷ [])) (xs ++ x ∷ []) all new
 many_push F line_of xs x all left new many took = record {
-  formed = all_push F xs x many.formed took.0;
+  formed = All-push F xs x many.formed took.0;
   lines = push_line line_of xs x left new all many.lines took.1;
   many = refl;
 }

@@ -9,7 +9,7 @@ use Rattle.std.proofs.lemmas.Fmt.{decimal_nonempty, first_decimal, decimal_digit
 use Rattle.report_text.specs.Forms.{IsNumber}
 use Rattle.report_reader.specs.Objects.{IsPlaceNumber}
 use Rattle.std.proofs.lemmas.Str.Parse.{parse_digits}
-use Rattle.gen_lines.proofs.ReplyDigitLemmas.{own}
+use Rattle.lemmas.proofs.Digits.{own}
 use Rattle.report_reader.specs.Splits.{has_needless_zero}
 
 by_first : (ds : List ℕ) → 0 < length ds → (1 < length ds → 48 < get_or ds 0 0) → has_needless_zero ds ≡ false

@@ -1,11 +1,11 @@
 -- How a text is cut at its first line feed, and a line at its first space.
-use Rattle.std.proofs.Common.{◌≡◌, ℕ, ◌+◌, ◌<◌, Bool, List, [], ◌∷◌, map, length, take, drop, refl, sym, ap, ◌∙◌, arith, Some, None, position, count_by}
+use Rattle.std.proofs.Common.{◌≡◌, ℕ, ◌+◌, ◌<◌, Bool, List, [], ◌∷◌, map, length, take, drop, sym, ap, ◌∙◌, arith, Some, None, position, count_by}
 use Rattle.std.proofs.lemmas.List.{length-map}
 use Rattle.std.proofs.lemmas.List.Splits.{slice_split_first, length-slice_split}
 use Rattle.std.specs.List.{slice_split}
 use Rattle.gen_lines.specs.Lines.{is_feed, ended}
 use Rattle.gen_lines.specs.Reply.{is_space}
-use Rattle.gen_lines.proofs.LinesLemmas.{ended_cons}
+use Rattle.gen_lines.proofs.LinesLemmas.{ended_cons, ended_length}
 use Rattle.lemmas.proofs.Positions.{found_at, not_found, split_whole}
 use Rattle.report_reader.specs.Splits.{field_lines}
 
@@ -28,11 +28,6 @@ lines_some bytes n e =
 
 pub lines_none : (bytes : List ℕ) → position is_feed bytes ≡ None → field_lines bytes ≡ []
 lines_none bytes e = ap (λ parts. map (slice_split is_space) (ended parts)) (cut_none is_feed bytes e)
-
-ended_length : (parts : List (List ℕ)) → 0 < length parts → length (ended parts) + 1 ≡ length parts
-ended_length [] some = absurd (omega arith)
-ended_length (p ∷ []) some = refl
-ended_length (p ∷ q ∷ parts) some = let rest = ended_length (q ∷ parts) (omega arith) in omega (arith, rest)
 
 pub lines_count : (bytes : List ℕ) → length (field_lines bytes) ≡ count_by is_feed bytes
 lines_count bytes =

@@ -1,5 +1,5 @@
 -- Tuples with bars between them, by the numbers of bars and of values.
-use Rattle.std.proofs.Common.{◌≡◌, ℕ, zero, suc, ◌+◌, ◌-◌, ◌*◌, ◌/◌, ◌%◌, ◌<◌, ◌≤◌, Bool, true, false, not, cond, ◌&&◌, ◌==◌, List, [], ◌∷◌, ◌++◌, take, drop, length, refl, sym, subst, ap, ◌∙◌, arith, All, append_assoc, append-nil, length-append, codes, count_by, eqb-true, Result, Ok, Err, IfOk}
+use Rattle.std.proofs.Common.{◌≡◌, ℕ, zero, suc, ◌+◌, ◌-◌, ◌*◌, ◌/◌, ◌%◌, ◌<◌, ◌≤◌, Bool, true, false, not, cond, ◌&&◌, ◌==◌, List, [], ◌∷◌, ◌++◌, take, drop, length, refl, sym, subst, ap, ◌∙◌, arith, All, append_assoc, append-nil, length-append, codes, count_by, eqb-true}
 use Rattle.std.specs.Cmp.{first_so, second_so}
 use Rattle.std.specs.List.{list_all}
 use Rattle.std.specs.Str.{bytes_eq}
@@ -193,10 +193,6 @@ tuples_found version bars width values given s h =
 
     no_empty : (bars + 1) * width ≡ 0 → bars + 1 ≡ 1
     no_empty e = omega (arith, s.some (by_width width e))
-
-pub if_ok : {T E : Type 0} (r : Result T E) (P Q : T → Type 0) → ((x : T) → P x → Q x) → IfOk r P → IfOk r Q
-if_ok (Ok x) P Q so p = so x p
-if_ok (Err e) P Q so p = tt
 
 -- ---- the tests of the code
 

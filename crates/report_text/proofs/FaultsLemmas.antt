@@ -1,9 +1,9 @@
 -- Where reading stops is the first fault.
-use Rattle.std.proofs.Common.{◌≡◌, ℕ, zero, suc, ◌+◌, ◌-◌, ◌<◌, ◌^◌, ◌⊎◌, inl, inr, arith, true, false, cond, List, [], ◌∷◌, ◌++◌, map, take, drop, length, refl, sym, subst, ap, ◌∙◌, All, append_assoc, length-append, eqb-true}
+use Rattle.std.proofs.Common.{◌≡◌, ℕ, zero, suc, ◌+◌, ◌-◌, ◌<◌, inl, inr, arith, true, false, cond, List, [], ◌∷◌, ◌++◌, map, take, drop, length, refl, sym, subst, ap, ◌∙◌, All, append_assoc, length-append, eqb-true}
 use Rattle.std.proofs.Math.Seq.{take-length, take-append-add, drop-append-add}
 use Rattle.std.proofs.lemmas.Grind.{flat_map-append}
 use Rattle.std.proofs.lemmas.List.{append-nil, map-append, take-append-drop, length-take-le}
-use Rattle.std.proofs.lemmas.List.Splits.{slice_split_at, length-slice_split}
+use Rattle.std.proofs.lemmas.List.Splits.{slice_split_at}
 use Rattle.std.specs.Cmp.{first_so, second_so}
 use Rattle.std.specs.List.{list_all, slice_split, onto_first}
 use Rattle.gen_lines.specs.Lines.{is_feed, ended, open_part, unfinished}
@@ -15,8 +15,11 @@ use Rattle.transcript_model.specs.declared.report.Report.{Report}
 use Rattle.report_text.proofs.PlacesLemmas.{completes, path_live, step_same}
 use Rattle.report_text.proofs.LineTextLemmas.{is_clear, is_inked, is_space, number_inked, spaces_cut, feeds_cut}
 use Rattle.report_text.proofs.FormsLemmas.{number_of_32, number_of_8, use_clear, step_clear, do_clear, entry_clear, origin_clear, limit_clear, mode_clear, pool_clear, report_lines, report_text, report_clear}
-use Rattle.transcript_model.proofs.NamedObjectLemmas.{all_nil, all_one, all_cons}
 use Rattle.report_text.proofs.PlacesPathLemmas.{report_path, path_report, path_then}
+use Rattle.std.proofs.lemmas.List.Elements.{All-nil, All-cons}
+use Rattle.lemmas.proofs.Numbers.{small_version}
+use Rattle.lemmas.proofs.ListTests.{all_one}
+use Rattle.gen_lines.proofs.CuttingLemmas.{parts_left}
 
 -- ---- the lines of a text
 
@@ -32,9 +35,6 @@ ended_more [] ys some = refl
 ended_more (x ∷ []) [] some = absurd (omega arith)
 ended_more (x ∷ []) (y ∷ ys) some = refl
 ended_more (x ∷ z ∷ xs) ys some = ap (λ ps. x ∷ ps) (ended_more (z ∷ xs) ys some)
-
-some_parts : (bytes : List ℕ) → 0 < length (slice_split is_feed bytes)
-some_parts bytes = omega (arith, length-slice_split is_feed bytes)
 
 -- the lines of a report's text are those of the report
 lines_written : (lines : List Line) → list_all is_clear lines ≡ true → whole_lines (lines_text lines) ≡ map line_body lines
@@ -66,7 +66,7 @@ path_front from to (t ∷ front) rest (l ∷ ls, is, path) =
 
 -- ---- lines that may stand are clear, so their texts determine them
 
-body_clear : (version : ℕ) (l : Line) (n : Place) → IsBodyStep version l n → is_clear l ≡ true
+pub body_clear : (version : ℕ) (l : Line) (n : Place) → IsBodyStep version l n → is_clear l ≡ true
 body_clear version l n (inl a) =
     let whole : list_all is_clear (l ∷ []) ≡ true = ap (list_all is_clear) (sym a.0.is) ∙ entry_clear version a.0.entry a.0.formed in
     first_so (is_clear l) true whole
@@ -75,11 +75,7 @@ body_clear version l n (inr (inr (inl a))) = rw (a.2, number_of_32 a.0 a.1) refl
 body_clear version l n (inr (inr (inr (inl a, b)))) = rw a refl
 body_clear version l n (inr (inr (inr (inr a, b)))) = rw (a.1, limit_clear a.0) refl
 
-small_version : (version : ℕ) → (version ≡ 1) ⊎ (version ≡ 2) → version < 2 ^ 64
-small_version version (inl e) = omega (arith, e)
-small_version version (inr e) = omega (arith, e)
-
-line_clear : (p : Place) (l : Line) (n : Place) → IsLineStep p l n → is_clear l ≡ true
+pub line_clear : (p : Place) (l : Line) (n : Place) → IsLineStep p l n → is_clear l ≡ true
 line_clear first l n a = rw (a.3, number_inked a.0 (small_version a.0 a.2), mode_clear a.1) refl
 line_clear (limits version) l n a = rw (a.6, number_of_32 a.0 a.3, number_of_32 a.1 a.4, number_of_8 a.2 a.5) refl
 line_clear (pools version) l n (inl a) = ap is_clear a.2 ∙ pool_clear a.0 a.1
@@ -124,13 +120,13 @@ text_path_same from m n (t ∷ texts) (l ∷ ls, is, path) (k ∷ ks, also, othe
 
 no_feed_first : (x : ℕ) (parts : List (List ℕ)) → is_feed x ≡ false → All (λ line. All (λ b. is_feed b ≡ false) line) parts → All (λ line. All (λ b. is_feed b ≡ false) line) (onto_first x parts)
 no_feed_first x [] e all = all_one (λ line. All (λ b. is_feed b ≡ false) line) (x ∷ []) (all_one (λ b. is_feed b ≡ false) x e)
-no_feed_first x (p ∷ ps) e all = all_cons (λ line. All (λ b. is_feed b ≡ false) line) (x ∷ p) ps (all_cons (λ b. is_feed b ≡ false) x p e (all 0 p (omega arith))) (λ k d lt. all (suc k) d (omega arith))
+no_feed_first x (p ∷ ps) e all = All-cons (λ line. All (λ b. is_feed b ≡ false) line) (x ∷ p) ps (All-cons (λ b. is_feed b ≡ false) x p e (all 0 p (omega arith))) (λ k d lt. all (suc k) d (omega arith))
 
 parts_free : (bytes : List ℕ) → All (λ line. All (λ b. is_feed b ≡ false) line) (slice_split is_feed bytes)
-parts_free [] = all_one (λ line. All (λ b. is_feed b ≡ false) line) [] (all_nil (λ b. is_feed b ≡ false))
+parts_free [] = all_one (λ line. All (λ b. is_feed b ≡ false) line) [] (All-nil (λ b. is_feed b ≡ false))
 parts_free (x ∷ xs) =
     elim (is_feed x) as (λ c. is_feed x ≡ c → All (λ line. All (λ b. is_feed b ≡ false) line) (cond c ([] ∷ slice_split is_feed xs) (onto_first x (slice_split is_feed xs)))) [
-      | true ↦ λ _. all_cons (λ line. All (λ b. is_feed b ≡ false) line) [] (slice_split is_feed xs) (all_nil (λ b. is_feed b ≡ false)) (parts_free xs)
+      | true ↦ λ _. All-cons (λ line. All (λ b. is_feed b ≡ false) line) [] (slice_split is_feed xs) (All-nil (λ b. is_feed b ≡ false)) (parts_free xs)
       | false ↦ λ e. no_feed_first x (slice_split is_feed xs) e (parts_free xs)
     ] refl
 
@@ -141,13 +137,13 @@ ended_front (p ∷ q ∷ parts) some = ap (λ ps. p ∷ ps) (ended_front (q ∷ 
 
 lines_free : (bytes : List ℕ) (k : ℕ) → All (λ line. All (λ b. is_feed b ≡ false) line) (take k (whole_lines bytes))
 lines_free bytes k =
-    let whole = subst (All (λ line. All (λ b. is_feed b ≡ false) line)) (sym (ended_front (slice_split is_feed bytes) (some_parts bytes))) (parts_free bytes) in
+    let whole = subst (All (λ line. All (λ b. is_feed b ≡ false) line)) (sym (ended_front (slice_split is_feed bytes) (parts_left bytes))) (parts_free bytes) in
     let lines : All (λ line. All (λ b. is_feed b ≡ false) line) (whole_lines bytes) = All-append_front (whole_lines bytes) (unfinished bytes ∷ []) whole in
     All-append_front (take k (whole_lines bytes)) (drop k (whole_lines bytes)) (subst (All (λ line. All (λ b. is_feed b ≡ false) line)) (sym (take-append-drop k (whole_lines bytes))) lines)
   where
     All-append_front : (xs ys : List (List ℕ)) → All (λ line. All (λ b. is_feed b ≡ false) line) (xs ++ ys) → All (λ line. All (λ b. is_feed b ≡ false) line) xs
-    All-append_front [] ys all = all_nil (λ line. All (λ b. is_feed b ≡ false) line)
-    All-append_front (x ∷ xs) ys all = all_cons (λ line. All (λ b. is_feed b ≡ false) line) x xs (all 0 x (omega arith)) (All-append_front xs ys (λ k d lt. all (suc k) d (omega arith)))
+    All-append_front [] ys all = All-nil (λ line. All (λ b. is_feed b ≡ false) line)
+    All-append_front (x ∷ xs) ys all = All-cons (λ line. All (λ b. is_feed b ≡ false) line) x xs (all 0 x (omega arith)) (All-append_front xs ys (λ k d lt. all (suc k) d (omega arith)))
 
 -- ---- where reading stops
 
@@ -200,7 +196,7 @@ stops_fault bytes k s = by_rest (drop k (whole_lines bytes)) refl s.stuck
           before = subst (λ m. BeginsReport (take m (whole_lines bytes))) (sym (minus_one k)) (begins (take k (whole_lines bytes)) s.at s.path);
           here = λ le more.
               let there : whole_lines (lines_with_feeds (take (k + 1) (whole_lines bytes)) ++ more.0) ≡ take k (whole_lines bytes) ++ text ∷ ended (slice_split is_feed more.0) =
-              ap ended (parts_of (take (k + 1) (whole_lines bytes)) more.0 (lines_free bytes (k + 1))) ∙ ended_more (take (k + 1) (whole_lines bytes)) (slice_split is_feed more.0) (some_parts more.0) ∙ ap (λ ts. ts ++ ended (slice_split is_feed more.0)) next ∙ append_assoc (take k (whole_lines bytes)) (text ∷ []) (ended (slice_split is_feed more.0)) in
+              ap ended (parts_of (take (k + 1) (whole_lines bytes)) more.0 (lines_free bytes (k + 1))) ∙ ended_more (take (k + 1) (whole_lines bytes)) (slice_split is_feed more.0) (parts_left more.0) ∙ ap (λ ts. ts ++ ended (slice_split is_feed more.0)) next ∙ append_assoc (take k (whole_lines bytes)) (text ∷ []) (ended (slice_split is_feed more.0)) in
               stuck_there (take k (whole_lines bytes)) text s.at s.path stuck (ended (slice_split is_feed more.0)) (lines_with_feeds (take (k + 1) (whole_lines bytes)) ++ more.0) there more.1;
           none = stuck_there (take k (whole_lines bytes)) text s.at s.path stuck later bytes (sym (take-append-drop k (whole_lines bytes)) ∙ ap (λ ts. take k (whole_lines bytes) ++ ts) e);
         }
@@ -223,8 +219,8 @@ pub text_parts : (bytes : List ℕ) → lines_with_feeds (whole_lines bytes) ++ 
 text_parts [] = refl
 text_parts (x ∷ xs) =
     elim (is_feed x) as (λ c. is_feed x ≡ c → whole (cond c ([] ∷ slice_split is_feed xs) (onto_first x (slice_split is_feed xs))) ≡ x ∷ xs) [
-      | true ↦ λ e. whole_feed (slice_split is_feed xs) (some_parts xs) ∙ (λ i. sym (eqb-true x 10 e) i ∷ text_parts xs i)
-      | false ↦ λ e. whole_other x (slice_split is_feed xs) (some_parts xs) ∙ ap (λ t. x ∷ t) (text_parts xs)
+      | true ↦ λ e. whole_feed (slice_split is_feed xs) (parts_left xs) ∙ (λ i. sym (eqb-true x 10 e) i ∷ text_parts xs i)
+      | false ↦ λ e. whole_other x (slice_split is_feed xs) (parts_left xs) ∙ ap (λ t. x ∷ t) (text_parts xs)
     ] refl
 
 -- lines that are those of a report, with nothing behind them, are its text

@@ -1,12 +1,15 @@
 -- What a report shows in its forms has no space and no line feed in a field.
-use Rattle.std.proofs.Common.{◌≡◌, ℕ, zero, suc, ◌<◌, ◌^◌, ◌-◌, ◌/◌, ◌⊎◌, inl, inr, arith, Bool, true, false, cond, ◌&&◌, ◌||◌, ◌==◌, not, nat_le, List, [], ◌∷◌, ◌++◌, map, take, drop, length, refl, sym, ap, ◌∙◌, All, append_assoc, codes}
+use Rattle.std.proofs.Common.{◌≡◌, ℕ, zero, suc, ◌-◌, ◌/◌, inl, inr, arith, Bool, true, false, cond, ◌&&◌, ◌||◌, ◌==◌, not, nat_le, List, [], ◌∷◌, ◌++◌, map, take, drop, length, refl, sym, ap, ◌∙◌, All, append_assoc, codes}
 use Rattle.std.proofs.lemmas.Bool.Decides.{nat_tests}
 use Rattle.std.proofs.lemmas.Grind.{flat_map-append}
-use Rattle.std.proofs.lemmas.List.{take-append-drop}
+use Rattle.std.proofs.lemmas.List.{take-append-drop, append-nil}
 use Rattle.std.proofs.lemmas.List.Folds.{list_all-append, list_all-map}
 use Rattle.std.specs.Cmp.{first_so, second_so}
 use Rattle.std.specs.Fmt.{decimal}
 use Rattle.std.specs.List.{list_all, flat_map}
+use Rattle.std.proofs.lemmas.Bool.{and_from, or_cases}
+use Rattle.lemmas.proofs.Numbers.{small_version}
+use Rattle.lemmas.proofs.ListTests.{all_weaker}
 use Rattle.gen_lines.specs.Reply.{is_value, is_value_byte, is_reserved}
 use Rattle.task_model.specs.Fit.{is_name_byte, is_letter, is_digit}
 use Rattle.report_text.specs.Forms.{IsNumber, IsSmall, IsName, IsObject, IsTerm, IsFormedCall, IsFormedUse, IsFormedEntry, IsFormedOrigin, IsFormedOutcome, IsFormedPool, IsFormed}
@@ -24,24 +27,16 @@ use Rattle.transcript_model.specs.declared.outcome.Origin.{Origin}
 use Rattle.transcript_model.specs.declared.outcome.Outcome.{Outcome}
 use Rattle.transcript_model.specs.declared.outcome.Outcome.TheVariants as outcome
 use Rattle.transcript_model.specs.declared.report.Report.{Report}
-use Rattle.report_text.proofs.LineTextLemmas.{is_ink, is_inked, is_clear, both, number_inked}
+use Rattle.report_text.proofs.LineTextLemmas.{is_ink, is_inked, is_clear, number_inked}
 
 pub each_passes : {A : Type 0} (p : A → Bool) (P : A → Type 0) (xs : List A) → ((x : A) → P x → p x ≡ true) → All P xs → list_all p xs ≡ true
 each_passes p P [] so all = refl
-each_passes p P (x ∷ xs) so all = both (p x) (list_all p xs) (so x (all 0 x (omega arith))) (each_passes p P xs so (λ k d lt. all (suc k) d (omega arith)))
-
-weaker : (p q : ℕ → Bool) → ((b : ℕ) → p b ≡ true → q b ≡ true) → (text : List ℕ) → list_all p text ≡ true → list_all q text ≡ true
-weaker p q so [] e = refl
-weaker p q so (b ∷ bs) e = both (q b) (list_all q bs) (so b (first_so (p b) (list_all p bs) e)) (weaker p q so bs (second_so (p b) (list_all p bs) e))
+each_passes p P (x ∷ xs) so all = and_from (p x) (list_all p xs) (so x (all 0 x (omega arith))) (each_passes p P xs so (λ k d lt. all (suc k) d (omega arith)))
 
 -- ---- names
 
 letter_ink : (b : ℕ) → is_letter b ≡ true → is_ink b ≡ true
 letter_ink b e = grind (arith, nat_tests, first_so (nat_le 97 b) (nat_le b 122) e)
-
-or_cases : (a b : Bool) → (a || b) ≡ true → (a ≡ true) ⊎ (b ≡ true)
-or_cases true b e = inl refl
-or_cases false b e = inr e
 
 name_ink : (b : ℕ) → is_name_byte b ≡ true → is_ink b ≡ true
 name_ink b e =
@@ -60,14 +55,14 @@ pub name_inked : (name : List ℕ) → IsName name → is_inked name ≡ true
 name_inked [] e = absurd (cc)
 name_inked (b ∷ bs) e =
     let front = first_so (is_letter b && list_all is_name_byte bs) _ e in
-    both (is_ink b) (list_all is_ink bs) (letter_ink b (first_so (is_letter b) (list_all is_name_byte bs) front)) (weaker is_name_byte is_ink name_ink bs (second_so (is_letter b) (list_all is_name_byte bs) front))
+    and_from (is_ink b) (list_all is_ink bs) (letter_ink b (first_so (is_letter b) (list_all is_name_byte bs) front)) (all_weaker is_name_byte is_ink name_ink bs (second_so (is_letter b) (list_all is_name_byte bs) front))
 
 value_ink : (b : ℕ) → is_value_byte b ≡ true → is_ink b ≡ true
 value_ink b e = first_so (nat_le 33 b) (nat_le b 126) (first_so (nat_le 33 b && nat_le b 126) (not (is_reserved b)) e)
 
 pub value_inked : (value : List ℕ) → is_value value ≡ true → is_inked value ≡ true
 unfolding is_value
-value_inked value e = weaker is_value_byte is_ink value_ink value (second_so (nat_le 1 (length value) && nat_le (length value) 64) (list_all is_value_byte value) e)
+value_inked value e = all_weaker is_value_byte is_ink value_ink value (second_so (nat_le 1 (length value) && nat_le (length value) 64) (list_all is_value_byte value) e)
 
 pub number_of_32 : (n : ℕ) → IsNumber n → is_inked (decimal n) ≡ true
 number_of_32 n le = number_inked n (omega arith)
@@ -86,7 +81,7 @@ term_inked name (inr p) =
     rw (p.is, numbers) refl
 
 call_inked : (IsArgument : List ℕ → Type 0) → ((name : List ℕ) → IsArgument name → is_inked name ≡ true) → (call : Call) → IsFormedCall IsArgument call → list_all is_inked (call_fields call) ≡ true
-call_inked IsArgument inks call formed = both (is_inked call.name) (list_all is_inked call.args) (name_inked call.name formed.name) (each_passes is_inked IsArgument call.args inks formed.args)
+call_inked IsArgument inks call formed = and_from (is_inked call.name) (list_all is_inked call.args) (name_inked call.name formed.name) (each_passes is_inked IsArgument call.args inks formed.args)
 
 -- ---- entries
 
@@ -157,10 +152,6 @@ mode_clear Adaptive = refl
 pub pool_clear : (pool : PoolLine) → IsFormedPool pool → is_clear (pool_line pool) ≡ true
 pool_clear pool formed = rw (number_of_8 pool.workers formed.workers, each_passes is_inked IsName pool.streams name_inked formed.streams) refl
 
-small_version : (version : ℕ) → (version ≡ 1) ⊎ (version ≡ 2) → version < 2 ^ 64
-small_version version (inl e) = omega (arith, e)
-small_version version (inr e) = omega (arith, e)
-
 head_clear : (r : Report) → IsFormed r → list_all is_clear (head_lines r.version r.mode r.calls r.states r.depth r.pools) ≡ true
 head_clear r formed =
     rw (number_inked r.version (small_version r.version formed.version), mode_clear r.mode, number_of_32 r.calls formed.calls, number_of_32 r.states formed.states, number_of_8 r.depth formed.depth, mapped_clear IsFormedPool pool_line r.pools pool_clear formed.pools) refl
@@ -178,10 +169,6 @@ entries_text : (entries : List Entry) → flat_map text_of_entry entries ≡ lin
 entries_text [] = refl
 entries_text (e ∷ es) = ap (λ later. text_of_entry e ++ later) (entries_text es) ∙ sym (flat_map-append line_text (entry_lines e) (flat_map entry_lines es))
 
-nil : {A : Type 0} (xs : List A) → xs ++ [] ≡ xs
-nil [] = refl
-nil (x ∷ xs) = ap (λ ys. x ∷ ys) (nil xs)
-
 pub report_text : (r : Report) → text_of_report r ≡ lines_text (report_lines r)
 report_text r =
     let h = head_of r in
@@ -191,7 +178,7 @@ report_text r =
     flat_map-append line_text h (es ++ (o ++ done_line ∷ [])) ∙ ap (λ t. lines_text h ++ t) (flat_map-append line_text es (o ++ done_line ∷ []) ∙ ap (λ t. lines_text es ++ t) (flat_map-append line_text o (done_line ∷ []))) in
     let left : text_of_report r ≡ lines_text h ++ lines_text es ++ lines_text o ++ line_text done_line = ap (λ t. lines_text h ++ t ++ lines_text o ++ line_text done_line) (entries_text r.entries) in
     left ∙ append_assoc (lines_text h ++ lines_text es) (lines_text o) (line_text done_line) ∙ append_assoc (lines_text h) (lines_text es) (lines_text o ++ line_text done_line)
-    ∙ ap (λ t. lines_text h ++ (lines_text es ++ (lines_text o ++ t))) (sym (nil (line_text done_line))) ∙ sym parts
+    ∙ ap (λ t. lines_text h ++ (lines_text es ++ (lines_text o ++ t))) (sym (append-nil (line_text done_line))) ∙ sym parts
 
 pub report_clear : (r : Report) → IsFormed r → list_all is_clear (report_lines r) ≡ true
 report_clear r formed =

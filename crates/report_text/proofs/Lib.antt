@@ -5,3 +5,4 @@ pub mod TextsReadBack
 pub mod PlacesLemmas
 pub mod PlacesPathLemmas
 pub mod FaultsLemmas
+pub mod FormsNameLemmas

@@ -9,7 +9,9 @@ use Rattle.std.specs.Char.{is_ascii_digit}
 use Rattle.std.specs.Cmp.{first_so, second_so}
 use Rattle.std.specs.Fmt.{decimal}
 use Rattle.std.specs.List.{list_all, slice_split}
-use Rattle.gen_lines.proofs.ReplyDigitLemmas.{own}
+use Rattle.std.proofs.lemmas.Bool.{and_from}
+use Rattle.std.proofs.lemmas.List.{append-nil}
+use Rattle.lemmas.proofs.Digits.{own}
 use Rattle.report_text.specs.Texts.{Line, line, lines_text, fields_text}
 
 -- a byte behind the space, so neither a space nor a line feed
@@ -34,21 +36,13 @@ no_space b e = grind (arith, nat_tests, e)
 no_feed : (b : ℕ) → is_ink b ≡ true → is_feed b ≡ false
 no_feed b e = grind (arith, nat_tests, e)
 
-pub both : (a b : Bool) → a ≡ true → b ≡ true → (a && b) ≡ true
-both true b p q = q
-both false b p q = p
-
 -- ---- fields
 
 inked_free : (text : List ℕ) → is_inked text ≡ true → All (λ b. is_space b ≡ false) text
 inked_free text e k d lt = no_space _ (AllPass-from_list_all is_ink text e k d lt)
 
 pub spaces_cut : (first : List ℕ) (more : List (List ℕ)) → is_inked first ≡ true → list_all is_inked more ≡ true → slice_split is_space (first ++ fields_text more) ≡ first ∷ more
-spaces_cut first [] e f = ap (slice_split is_space) (nil first) ∙ slice_split_none is_space first (inked_free first e)
-  where
-    nil : (xs : List ℕ) → xs ++ [] ≡ xs
-    nil [] = refl
-    nil (x ∷ xs) = ap (λ ys. x ∷ ys) (nil xs)
+spaces_cut first [] e f = ap (slice_split is_space) (append-nil first) ∙ slice_split_none is_space first (inked_free first e)
 spaces_cut first (next ∷ more) e f =
     slice_split_at is_space first 32 (next ++ fields_text more) (inked_free first e) refl ∙ ap (λ fields. first ∷ fields) (spaces_cut next more (first_so (is_inked next) (list_all is_inked more) f) (second_so (is_inked next) (list_all is_inked more) f))
 
@@ -65,7 +59,7 @@ flows_on : (text : List ℕ) → is_inked text ≡ true → list_all flows text 
 flows_on [] e = refl
 flows_on (b ∷ bs) e =
     let here : flows b ≡ true = grind (arith, nat_tests, first_so (is_ink b) (list_all is_ink bs) e) in
-    both (flows b) (list_all flows bs) here (flows_on bs (second_so (is_ink b) (list_all is_ink bs) e))
+    and_from (flows b) (list_all flows bs) here (flows_on bs (second_so (is_ink b) (list_all is_ink bs) e))
 
 fields_flow : (more : List (List ℕ)) → list_all is_inked more ≡ true → list_all flows (fields_text more) ≡ true
 fields_flow [] e = refl
@@ -129,4 +123,4 @@ number_inked n lt = weaker (decimal n) (digits_decimal own n lt)
   where
     weaker : (text : List ℕ) → list_all is_ascii_digit text ≡ true → is_inked text ≡ true
     weaker [] e = refl
-    weaker (b ∷ bs) e = both (is_ink b) (list_all is_ink bs) (digit_ink b (first_so (is_ascii_digit b) (list_all is_ascii_digit bs) e)) (weaker bs (second_so (is_ascii_digit b) (list_all is_ascii_digit bs) e))
+    weaker (b ∷ bs) e = and_from (is_ink b) (list_all is_ink bs) (digit_ink b (first_so (is_ascii_digit b) (list_all is_ascii_digit bs) e)) (weaker bs (second_so (is_ascii_digit b) (list_all is_ascii_digit bs) e))

@@ -1,10 +1,10 @@
 -- A line leads from a place to one place only, and from each place that is reached a report can be completed.
-use Rattle.std.proofs.Common.{◌≡◌, ℕ, zero, suc, ◌+◌, ◌<◌, ◌^◌, ◌⊎◌, inl, inr, arith, Bool, true, false, List, [], ◌∷◌, ◌++◌, refl, sym, subst, ap, ◌∙◌, codes, if◌then◌else◌}
-use Rattle.std.proofs.lemmas.Fmt.{decimal_is_IsNumeral}
-use Rattle.std.specs.Fmt.{decimal}
+use Rattle.std.proofs.Common.{◌≡◌, ℕ, zero, suc, ◌+◌, ◌<◌, ◌⊎◌, inl, inr, arith, Bool, true, false, List, [], ◌∷◌, ◌++◌, refl, sym, subst, ap, ◌∙◌, codes, if◌then◌else◌}
+use Rattle.std.proofs.lemmas.Fmt.{decimal_injective}
 use Rattle.std.specs.List.{list_any}
 use Rattle.std.specs.Str.{bytes_eq}
-use Rattle.std.specs.Str.Parse.{digits_value}
+use Rattle.std.proofs.lemmas.List.Elements.{All-nil}
+use Rattle.lemmas.proofs.Numbers.{small_version}
 use Rattle.report_text.specs.Forms.{IsTerm, IsFormedCall}
 use Rattle.report_text.specs.Places.{Place, first, limits, pools, entries, dream, plan, cost, origins, last, behind, dreaming, planning, dream_line, plan_line, cost_line, no_plan_line, limit_line, first_line, limits_line, is_dream, IsEntryLine, IsBodyStep, IsLineStep, IsPath}
 use Rattle.report_text.specs.Texts.{Line, use_line, step_line, do_line, entry_lines, pool_line, done_line}
@@ -13,7 +13,6 @@ use Rattle.transcript_model.specs.declared.entry.DreamUse.{DreamUse}
 use Rattle.transcript_model.specs.declared.entry.Entry.{Entry}
 use Rattle.transcript_model.specs.declared.entry.Entry.TheVariants as entry
 use Rattle.transcript_model.specs.declared.head.Mode.TheVariants.{Incremental}
-use Rattle.transcript_model.proofs.NamedObjectLemmas.{all_nil}
 
 -- ---- kinds of lines
 
@@ -60,9 +59,6 @@ unfolding kind is_entry_word
 ends_kind l (inl e) = rw e refl
 ends_kind l (inr e) = rw e.1 refl
 
-number_same : (m n : ℕ) → m < 2 ^ 64 → n < 2 ^ 64 → decimal m ≡ decimal n → m ≡ n
-number_same m n small also e = sym (decimal_is_IsNumeral m small).1 ∙ ap (digits_value 10) e ∙ (decimal_is_IsNumeral n also).1
-
 head_field : List (List ℕ) → List ℕ
 head_field [] = []
 head_field (f ∷ fs) = f
@@ -82,15 +78,15 @@ body_same version l m n (inl a) (inr (inr (inr b))) = absurd (omega (arith, sing
 body_same version l m n (inr (inl a)) (inl b) = absurd (omega (arith, single_kind version l b.0, opens_kind l a.0 a.1 a.4))
 body_same version l m n (inr (inl a)) (inr (inl b)) =
     let lines : dream_line a.0 a.1 ≡ dream_line b.0 b.1 = sym a.4 ∙ b.4 in
-    let uses : a.0 ≡ b.0 = number_same a.0 b.0 (omega (arith, a.2)) (omega (arith, b.2)) (ap (λ (x : Line). head_field x.more) lines) in
-    let steps : a.1 ≡ b.1 = number_same a.1 b.1 (omega (arith, a.3)) (omega (arith, b.3)) (ap (λ (x : Line). head_field (tail_fields x.more)) lines) in
+    let uses : a.0 ≡ b.0 = decimal_injective a.0 b.0 (omega (arith, a.2)) (omega (arith, b.2)) (ap (λ (x : Line). head_field x.more) lines) in
+    let steps : a.1 ≡ b.1 = decimal_injective a.1 b.1 (omega (arith, a.3)) (omega (arith, b.3)) (ap (λ (x : Line). head_field (tail_fields x.more)) lines) in
     a.5 ∙ (λ i. dreaming version (uses i) (steps i)) ∙ sym b.5
 body_same version l m n (inr (inl a)) (inr (inr (inl b))) = absurd (omega (arith, opens_kind l a.0 a.1 a.4, plans_kind l b.0 b.2))
 body_same version l m n (inr (inl a)) (inr (inr (inr b))) = absurd (omega (arith, opens_kind l a.0 a.1 a.4, ends_kind l b.0))
 body_same version l m n (inr (inr (inl a))) (inl b) = absurd (omega (arith, single_kind version l b.0, plans_kind l a.0 a.2))
 body_same version l m n (inr (inr (inl a))) (inr (inl b)) = absurd (omega (arith, opens_kind l b.0 b.1 b.4, plans_kind l a.0 a.2))
 body_same version l m n (inr (inr (inl a))) (inr (inr (inl b))) =
-    let steps : a.0 ≡ b.0 = number_same a.0 b.0 (omega (arith, a.1)) (omega (arith, b.1)) (ap (λ (x : Line). head_field x.more) (sym a.2 ∙ b.2)) in
+    let steps : a.0 ≡ b.0 = decimal_injective a.0 b.0 (omega (arith, a.1)) (omega (arith, b.1)) (ap (λ (x : Line). head_field x.more) (sym a.2 ∙ b.2)) in
     a.3 ∙ ap (planning version) steps ∙ sym b.3
 body_same version l m n (inr (inr (inl a))) (inr (inr (inr b))) = absurd (omega (arith, plans_kind l a.0 a.2, ends_kind l b.0))
 body_same version l m n (inr (inr (inr a))) (inl b) = absurd (omega (arith, single_kind version l b.0, ends_kind l a.0))
@@ -104,14 +100,10 @@ body_no_pool version l n (inr (inl a)) k = absurd (omega (arith, opens_kind l a.
 body_no_pool version l n (inr (inr (inl a))) k = absurd (omega (arith, plans_kind l a.0 a.2, k))
 body_no_pool version l n (inr (inr (inr a))) k = absurd (omega (arith, ends_kind l a.0, k))
 
-small_version : (version : ℕ) → (version ≡ 1) ⊎ (version ≡ 2) → version < 2 ^ 64
-small_version version (inl e) = omega (arith, e)
-small_version version (inr e) = omega (arith, e)
-
 pub step_same : (p : Place) (l : Line) (m n : Place) → IsLineStep p l m → IsLineStep p l n → m ≡ n
 unfolding head_field tail_fields
 step_same first l m n a b =
-    let version : a.0 ≡ b.0 = number_same a.0 b.0 (small_version a.0 a.2) (small_version b.0 b.2) (ap (λ (x : Line). head_field x.more) (sym a.3 ∙ b.3)) in
+    let version : a.0 ≡ b.0 = decimal_injective a.0 b.0 (small_version a.0 a.2) (small_version b.0 b.2) (ap (λ (x : Line). head_field x.more) (sym a.3 ∙ b.3)) in
     a.4 ∙ ap limits version ∙ sym b.4
 step_same (limits version) l m n a b = a.7 ∙ sym b.7
 step_same (pools version) l m n (inl a) (inl b) = a.3 ∙ sym b.3
@@ -181,7 +173,7 @@ some_call = record { name = codes "a"; args = [] }
 
 some_formed : IsFormedCall IsTerm some_call
 unfolding some_call
-some_formed = record { name = refl; args = all_nil IsTerm }
+some_formed = record { name = refl; args = All-nil IsTerm }
 
 from_entries : (version : ℕ) → Completes (entries version)
 from_entries version = (no_plan_line ∷ done_line ∷ [], (last, inr (inr (inr (inl refl, refl))), (behind, (refl, refl), refl)))

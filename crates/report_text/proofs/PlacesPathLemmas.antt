@@ -1,6 +1,7 @@
 -- The lines of reports are exactly the paths from the first place to the one behind the last line.
 use Rattle.std.proofs.Common.{◌≡◌, ℕ, zero, suc, ◌<◌, ◌^◌, ◌⊎◌, inl, inr, arith, Bool, true, false, List, [], ◌∷◌, ◌++◌, map, length, refl, sym, subst, ap, ◌∙◌, All, append_assoc}
 use Rattle.std.specs.List.{flat_map}
+use Rattle.std.proofs.lemmas.List.Elements.{All-tail, All-nil, All-head, All-cons}
 use Rattle.report_text.specs.Forms.{IsNumber, IsTerm, IsFormedCall, IsFormedUse, IsFormedEntry, IsFormedOrigin, IsFormedOutcome, IsFormedPool, IsFormed}
 use Rattle.report_text.specs.Places.{Place, first, limits, pools, entries, dream, plan, cost, origins, last, behind, dreaming, planning, dream_line, plan_line, cost_line, first_line, is_dream, IsEntryLine, IsBodyStep, IsLineStep, IsPath}
 use Rattle.report_text.specs.Texts.{Line, use_line, step_line, do_line, from_line, entry_lines, outcome_lines, pool_line, done_line}
@@ -15,7 +16,6 @@ use Rattle.transcript_model.specs.declared.outcome.Outcome.{Outcome}
 use Rattle.transcript_model.specs.declared.outcome.Outcome.TheVariants as outcome
 use Rattle.transcript_model.specs.declared.report.Report.{Report}
 use Rattle.report_text.proofs.FormsLemmas.{report_lines}
-use Rattle.transcript_model.proofs.NamedObjectLemmas.{all_nil, all_cons}
 
 -- ---- paths in two parts
 
@@ -25,24 +25,18 @@ path_then from (l ∷ xs) ys middle to here later = (here.0, here.1, path_then h
 
 -- ---- the lines of a report are a path
 
-tail_of : {A : Type 0} (P : A → Type 0) (x : A) (xs : List A) → All P (x ∷ xs) → All P xs
-tail_of P x xs all k d lt = all (suc k) d (omega arith)
-
-head_of_all : {A : Type 0} (P : A → Type 0) (x : A) (xs : List A) → All P (x ∷ xs) → P x
-head_of_all P x xs all = all 0 x (omega arith)
-
 steps_path : (version : ℕ) (steps : List Call) → All (IsFormedCall IsTerm) steps → IsPath (dreaming version 0 (length steps)) (map step_line steps) (entries version)
 steps_path version [] all = refl
-steps_path version (c ∷ cs) all = (dreaming version 0 (length cs), (c, head_of_all (IsFormedCall IsTerm) c cs all, refl, refl), steps_path version cs (tail_of (IsFormedCall IsTerm) c cs all))
+steps_path version (c ∷ cs) all = (dreaming version 0 (length cs), (c, All-head (IsFormedCall IsTerm) c cs all, refl, refl), steps_path version cs (All-tail (IsFormedCall IsTerm) c cs all))
 
 uses_path : (version : ℕ) (uses : List DreamUse) (steps : ℕ) → All IsFormedUse uses → IsPath (dreaming version (length uses) steps) (map use_line uses) (dreaming version 0 steps)
 uses_path version [] steps all = refl
-uses_path version (u ∷ us) steps all = (dreaming version (length us) steps, (u, head_of_all IsFormedUse u us all, refl, refl), uses_path version us steps (tail_of IsFormedUse u us all))
+uses_path version (u ∷ us) steps all = (dreaming version (length us) steps, (u, All-head IsFormedUse u us all, refl, refl), uses_path version us steps (All-tail IsFormedUse u us all))
 
-single_path : (version : ℕ) (e : Entry) (l : Line) → IsFormedEntry version e → is_dream e ≡ false → entry_lines e ≡ l ∷ [] → IsPath (entries version) (entry_lines e) (entries version)
+pub single_path : (version : ℕ) (e : Entry) (l : Line) → IsFormedEntry version e → is_dream e ≡ false → entry_lines e ≡ l ∷ [] → IsPath (entries version) (entry_lines e) (entries version)
 single_path version e l formed single is = subst (λ ls. IsPath (entries version) ls (entries version)) (sym is) (entries version, inl (record { entry = e; formed = formed; single = single; is = is }, refl), refl)
 
-entry_path : (version : ℕ) (e : Entry) → IsFormedEntry version e → IsPath (entries version) (entry_lines e) (entries version)
+pub entry_path : (version : ℕ) (e : Entry) → IsFormedEntry version e → IsPath (entries version) (entry_lines e) (entries version)
 entry_path version (entry.Dream uses steps) formed =
     (dreaming version (length uses) (length steps), inr (inl (length uses, length steps, formed.0, formed.1, refl, refl)), path_then (dreaming version (length uses) (length steps)) (map use_line uses) (map step_line steps) (dreaming version 0 (length steps)) (entries version) (uses_path version uses (length steps) formed.2) (steps_path version steps formed.3))
 entry_path version entry.Level formed = single_path version entry.Level _ formed refl refl
@@ -55,17 +49,17 @@ entry_path version entry.Reset formed = single_path version entry.Reset _ formed
 entry_path version (entry.Pick n) formed = single_path version (entry.Pick n) _ formed refl refl
 entry_path version (entry.Retire n) formed = single_path version (entry.Retire n) _ formed refl refl
 
-entries_path : (version : ℕ) (es : List Entry) → All (IsFormedEntry version) es → IsPath (entries version) (flat_map entry_lines es) (entries version)
+pub entries_path : (version : ℕ) (es : List Entry) → All (IsFormedEntry version) es → IsPath (entries version) (flat_map entry_lines es) (entries version)
 entries_path version [] all = refl
-entries_path version (e ∷ es) all = path_then (entries version) (entry_lines e) (flat_map entry_lines es) (entries version) (entries version) (entry_path version e (head_of_all (IsFormedEntry version) e es all)) (entries_path version es (tail_of (IsFormedEntry version) e es all))
+entries_path version (e ∷ es) all = path_then (entries version) (entry_lines e) (flat_map entry_lines es) (entries version) (entries version) (entry_path version e (All-head (IsFormedEntry version) e es all)) (entries_path version es (All-tail (IsFormedEntry version) e es all))
 
 dos_path : (version : ℕ) (steps : List Call) → All (IsFormedCall IsTerm) steps → IsPath (planning version (length steps)) (map do_line steps) (cost version)
 dos_path version [] all = refl
-dos_path version (c ∷ cs) all = (planning version (length cs), (c, head_of_all (IsFormedCall IsTerm) c cs all, refl, refl), dos_path version cs (tail_of (IsFormedCall IsTerm) c cs all))
+dos_path version (c ∷ cs) all = (planning version (length cs), (c, All-head (IsFormedCall IsTerm) c cs all, refl, refl), dos_path version cs (All-tail (IsFormedCall IsTerm) c cs all))
 
 origins_path : (version : ℕ) (from : List Origin) → All (IsFormedOrigin version) from → IsPath (origins version) (map (from_line version) from ++ done_line ∷ []) behind
 origins_path version [] all = (behind, inr (refl, refl), refl)
-origins_path version (o ∷ os) all = (origins version, inl (o, head_of_all (IsFormedOrigin version) o os all, refl, refl), origins_path version os (tail_of (IsFormedOrigin version) o os all))
+origins_path version (o ∷ os) all = (origins version, inl (o, All-head (IsFormedOrigin version) o os all, refl, refl), origins_path version os (All-tail (IsFormedOrigin version) o os all))
 
 outcome_path : (version : ℕ) (o : Outcome) → IsFormedOutcome version o → IsPath (entries version) (outcome_lines version o ++ done_line ∷ []) behind
 outcome_path version (outcome.Plan steps c from) formed =
@@ -91,7 +85,7 @@ body_from_pools version (l ∷ ls) path = (path.0, inr path.1, path.2)
 
 pools_path : (version : ℕ) (ps : List PoolLine) (ls : List Line) → All IsFormedPool ps → IsPath (entries version) ls behind → IsPath (pools version) (map pool_line ps ++ ls) behind
 pools_path version [] ls all path = body_from_pools version ls path
-pools_path version (p ∷ ps) ls all path = (pools version, inl (p, head_of_all IsFormedPool p ps all, refl, refl), pools_path version ps ls (tail_of IsFormedPool p ps all) path)
+pools_path version (p ∷ ps) ls all path = (pools version, inl (p, All-head IsFormedPool p ps all, refl, refl), pools_path version ps ls (All-tail IsFormedPool p ps all) path)
 
 pub report_path : (r : Report) → IsFormed r → IsPath first (report_lines r) behind
 report_path r formed =
@@ -119,35 +113,35 @@ Sound last ls = done_line ∷ [] ≡ ls
 Sound behind ls = [] ≡ ls
 
 sound_dreaming : (version uses steps : ℕ) (ls : List Line) → Sound (dreaming version uses steps) ls → Sound (dream version uses steps) ls
-sound_dreaming version zero zero ls s = ([], [], s.0, s.1, refl, refl, all_nil IsFormedUse, all_nil (IsFormedCall IsTerm), s.2, s.3, s.4)
+sound_dreaming version zero zero ls s = ([], [], s.0, s.1, refl, refl, All-nil IsFormedUse, All-nil (IsFormedCall IsTerm), s.2, s.3, s.4)
 sound_dreaming version zero (suc steps) ls s = s
 sound_dreaming version (suc uses) steps ls s = s
 
 sound_planning : (version steps : ℕ) (ls : List Line) → Sound (planning version steps) ls → Sound (plan version steps) ls
-sound_planning version zero ls s = ([], s.0, s.1, refl, all_nil (IsFormedCall IsTerm), s.2, s.3, s.4)
+sound_planning version zero ls s = ([], s.0, s.1, refl, All-nil (IsFormedCall IsTerm), s.2, s.3, s.4)
 sound_planning version (suc steps) ls s = s
 
 sound_body : (version : ℕ) (l : Line) (ls : List Line) (next : Place) → IsBodyStep version l next → Sound next ls → Sound (entries version) (l ∷ ls)
 sound_body version l ls next (inl single) s =
     let here : IsEntryLine version l = single.0 in
     let later : Sound (entries version) ls = subst (λ p. Sound p ls) single.1 s in
-    (here.entry ∷ later.0, later.1, all_cons (IsFormedEntry version) here.entry later.0 here.formed later.2, later.3, append_assoc (entry_lines here.entry) (flat_map entry_lines later.0) (outcome_lines version later.1 ++ done_line ∷ []) ∙ (λ i. here.is i ++ later.4 i))
+    (here.entry ∷ later.0, later.1, All-cons (IsFormedEntry version) here.entry later.0 here.formed later.2, later.3, append_assoc (entry_lines here.entry) (flat_map entry_lines later.0) (outcome_lines version later.1 ++ done_line ∷ []) ∙ (λ i. here.is i ++ later.4 i))
 sound_body version l ls next (inr (inl opens)) s =
     let d = sound_dreaming version opens.0 opens.1 ls (subst (λ p. Sound p ls) opens.5 s) in
     let e = entry.Dream d.0 d.1 in
     let formed : IsFormedEntry version e = (subst IsNumber (sym d.4) opens.2, subst IsNumber (sym d.5) opens.3, d.6, d.7) in
     let head : dream_line (length d.0) (length d.1) ≡ l = (λ i. dream_line (d.4 i) (d.5 i)) ∙ sym opens.4 in
-    (e ∷ d.2, d.3, all_cons (IsFormedEntry version) e d.2 formed d.8, d.9, append_assoc (entry_lines e) (flat_map entry_lines d.2) (outcome_lines version d.3 ++ done_line ∷ []) ∙ (λ i. head i ∷ d.10 i))
+    (e ∷ d.2, d.3, All-cons (IsFormedEntry version) e d.2 formed d.8, d.9, append_assoc (entry_lines e) (flat_map entry_lines d.2) (outcome_lines version d.3 ++ done_line ∷ []) ∙ (λ i. head i ∷ d.10 i))
 sound_body version l ls next (inr (inr (inl plans))) s =
     let p = sound_planning version plans.0 ls (subst (λ q. Sound q ls) plans.3 s) in
     let head : plan_line (length p.0) ≡ l = ap plan_line p.3 ∙ sym plans.2 in
-    ([], outcome.Plan p.0 p.1 p.2, all_nil (IsFormedEntry version), (subst IsNumber (sym p.3) plans.1, p.5, p.4, p.6), λ i. head i ∷ p.7 i)
+    ([], outcome.Plan p.0 p.1 p.2, All-nil (IsFormedEntry version), (subst IsNumber (sym p.3) plans.1, p.5, p.4, p.6), λ i. head i ∷ p.7 i)
 sound_body version l ls next (inr (inr (inr (inl none, is)))) s =
     let later : done_line ∷ [] ≡ ls = subst (λ q. Sound q ls) is s in
-    ([], outcome.NoPlan, all_nil (IsFormedEntry version), tt, λ i. sym none i ∷ later i)
+    ([], outcome.NoPlan, All-nil (IsFormedEntry version), tt, λ i. sym none i ∷ later i)
 sound_body version l ls next (inr (inr (inr (inr (kind, at), is)))) s =
     let later : done_line ∷ [] ≡ ls = subst (λ q. Sound q ls) is s in
-    ([], outcome.Limit kind, all_nil (IsFormedEntry version), tt, λ i. sym at i ∷ later i)
+    ([], outcome.Limit kind, All-nil (IsFormedEntry version), tt, λ i. sym at i ∷ later i)
 
 sound_step : (p : Place) (l : Line) (ls : List Line) (next : Place) → IsLineStep p l next → Sound next ls → Sound p (l ∷ ls)
 sound_step first l ls next step s =
@@ -159,36 +153,36 @@ sound_step (limits version) l ls next step s = λ is mode.
     (r, record { version = is; calls = step.3; states = step.4; depth = step.5; pools = rest.3; entries = rest.4; outcome = rest.5 }, λ i. first_line version mode ∷ sym step.6 i ∷ rest.6 i)
 sound_step (pools version) l ls next (inl pool) s =
     let rest : Sound (pools version) ls = subst (λ q. Sound q ls) pool.3 s in
-    (pool.0 ∷ rest.0, rest.1, rest.2, all_cons IsFormedPool pool.0 rest.0 pool.1 rest.3, rest.4, rest.5, λ i. sym pool.2 i ∷ rest.6 i)
+    (pool.0 ∷ rest.0, rest.1, rest.2, All-cons IsFormedPool pool.0 rest.0 pool.1 rest.3, rest.4, rest.5, λ i. sym pool.2 i ∷ rest.6 i)
 sound_step (pools version) l ls next (inr body) s =
     let rest = sound_body version l ls next body s in
-    ([], rest.0, rest.1, all_nil IsFormedPool, rest.2, rest.3, rest.4)
+    ([], rest.0, rest.1, All-nil IsFormedPool, rest.2, rest.3, rest.4)
 sound_step (entries version) l ls next body s = sound_body version l ls next body s
 sound_step (dream version zero zero) l ls next step s = absurd step
 sound_step (dream version zero (suc steps)) l ls next step s =
     let d = sound_dreaming version 0 steps ls (subst (λ q. Sound q ls) step.3 s) in
     let none : d.0 ≡ [] = empty d.0 d.4 in
-    ([], step.0 ∷ d.1, d.2, d.3, refl, ap suc d.5, all_nil IsFormedUse, all_cons (IsFormedCall IsTerm) step.0 d.1 step.1 d.7, d.8, d.9, λ i. sym step.2 i ∷ (ap (λ us. (map use_line us ++ map step_line d.1) ++ (flat_map entry_lines d.2 ++ (outcome_lines version d.3 ++ done_line ∷ []))) (sym none) ∙ d.10) i)
+    ([], step.0 ∷ d.1, d.2, d.3, refl, ap suc d.5, All-nil IsFormedUse, All-cons (IsFormedCall IsTerm) step.0 d.1 step.1 d.7, d.8, d.9, λ i. sym step.2 i ∷ (ap (λ us. (map use_line us ++ map step_line d.1) ++ (flat_map entry_lines d.2 ++ (outcome_lines version d.3 ++ done_line ∷ []))) (sym none) ∙ d.10) i)
   where
     empty : (us : List DreamUse) → length us ≡ 0 → us ≡ []
     empty [] e = refl
     empty (u ∷ us) e = absurd (omega (arith, e))
 sound_step (dream version (suc uses) steps) l ls next step s =
     let d = sound_dreaming version uses steps ls (subst (λ q. Sound q ls) step.3 s) in
-    (step.0 ∷ d.0, d.1, d.2, d.3, ap suc d.4, d.5, all_cons IsFormedUse step.0 d.0 step.1 d.6, d.7, d.8, d.9, λ i. sym step.2 i ∷ d.10 i)
+    (step.0 ∷ d.0, d.1, d.2, d.3, ap suc d.4, d.5, All-cons IsFormedUse step.0 d.0 step.1 d.6, d.7, d.8, d.9, λ i. sym step.2 i ∷ d.10 i)
 sound_step (plan version zero) l ls next step s = absurd step
 sound_step (plan version (suc steps)) l ls next step s =
     let p = sound_planning version steps ls (subst (λ q. Sound q ls) step.3 s) in
-    (step.0 ∷ p.0, p.1, p.2, ap suc p.3, all_cons (IsFormedCall IsTerm) step.0 p.0 step.1 p.4, p.5, p.6, λ i. sym step.2 i ∷ p.7 i)
+    (step.0 ∷ p.0, p.1, p.2, ap suc p.3, All-cons (IsFormedCall IsTerm) step.0 p.0 step.1 p.4, p.5, p.6, λ i. sym step.2 i ∷ p.7 i)
 sound_step (cost version) l ls next step s =
     let from : Sound (origins version) ls = subst (λ q. Sound q ls) step.3 s in
     (step.0, from.0, step.1, from.1, λ i. sym step.2 i ∷ from.2 i)
 sound_step (origins version) l ls next (inl origin) s =
     let from : Sound (origins version) ls = subst (λ q. Sound q ls) origin.3 s in
-    (origin.0 ∷ from.0, all_cons (IsFormedOrigin version) origin.0 from.0 origin.1 from.1, λ i. sym origin.2 i ∷ from.2 i)
+    (origin.0 ∷ from.0, All-cons (IsFormedOrigin version) origin.0 from.0 origin.1 from.1, λ i. sym origin.2 i ∷ from.2 i)
 sound_step (origins version) l ls next (inr done) s =
     let none : [] ≡ ls = subst (λ q. Sound q ls) done.1 s in
-    ([], all_nil (IsFormedOrigin version), λ i. sym done.0 i ∷ none i)
+    ([], All-nil (IsFormedOrigin version), λ i. sym done.0 i ∷ none i)
 sound_step last l ls next step s =
     let none : [] ≡ ls = subst (λ q. Sound q ls) step.1 s in
     λ i. sym step.0 i ∷ none i

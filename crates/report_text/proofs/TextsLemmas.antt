@@ -1,5 +1,5 @@
 -- What is written for one member more, and for tuple after tuple.
-use Rattle.std.proofs.Common.{◌≡◌, ℕ, zero, suc, ◌+◌, ◌-◌, ◌*◌, ◌/◌, ◌%◌, ◌<◌, ◌≤◌, arith, codes, List, [], ◌∷◌, ◌++◌, length, map, take, drop, refl, sym, subst, ap, ◌∙◌, append_assoc, append-nil, get_or, slice_get, Some, add-one}
+use Rattle.std.proofs.Common.{◌≡◌, ℕ, zero, suc, ◌+◌, ◌-◌, ◌*◌, ◌/◌, ◌%◌, ◌<◌, ◌≤◌, arith, codes, List, [], ◌∷◌, ◌++◌, length, map, take, drop, refl, sym, ap, ◌∙◌, append_assoc, append-nil, get_or, slice_get, Some, add-one}
 use Rattle.std.specs.List.{flat_map}
 use Rattle.std.proofs.Math.Nat.{add_comm, mul_comm, suc-mul}
 use Rattle.std.proofs.Math.Seq.{take-suc}
@@ -7,20 +7,11 @@ use Rattle.std.proofs.lemmas.Grind.{flat_map-append}
 use Rattle.std.proofs.lemmas.List.{map-append}
 use Rattle.std.proofs.lemmas.Nat.{div-add-mod'}
 use Rattle.std.proofs.lemmas.Option.{slice_get_read}
+use Rattle.lemmas.proofs.Numbers.{suc_minus_one}
 use Rattle.task_model.specs.declared.stream.Stream.{Stream}
 use Rattle.task_model.specs.declared.task.Task.{Task}
 use Rattle.report_text.specs.Texts.{Line, line, line_text, lines_text, fields_text, tuples_of}
 use Rattle.gen_lines.specs.Request.{stream_name}
-
-pub flat_map_next : {X A : Type 0} (f : X → List A) (xs : List X) (i : ℕ) (x : X) → i < length xs → x ≡ get_or xs i x → flat_map f (take (i + 1) xs) ≡ flat_map f (take i xs) ++ f x
-flat_map_next f xs i x lt is =
-    let one : take (i + 1) xs ≡ take i xs ++ x ∷ [] = rw add-one (take-suc xs i x lt ∙ ap (λ y. take i xs ++ y ∷ []) (sym is)) in
-    rw (one, flat_map-append) (ap (λ t. flat_map f (take i xs) ++ t) (append-nil (f x)))
-
-pub lines_next : {X B A : Type 0} (f : B → List A) (g : X → B) (xs : List X) (i : ℕ) (x : X) → i < length xs → x ≡ get_or xs i x → flat_map f (map g (take (i + 1) xs)) ≡ flat_map f (map g (take i xs)) ++ f (g x)
-lines_next f g xs i x lt is =
-    let one : take (i + 1) xs ≡ take i xs ++ x ∷ [] = rw add-one (take-suc xs i x lt ∙ ap (λ y. take i xs ++ y ∷ []) (sym is)) in
-    rw (one, map-append, flat_map-append) (ap (λ t. flat_map f (map g (take i xs)) ++ t) (append-nil (f (g x))))
 
 pub shown_next : {X C B A : Type 0} (f : B → List A) (g : C → B) (h : X → C) (xs : List X) (i : ℕ) (x : X) → i < length xs → x ≡ get_or xs i x → flat_map f (map g (map h (take (i + 1) xs))) ≡ flat_map f (map g (map h (take i xs))) ++ f (g (h x))
 shown_next f g h xs i x lt is =
@@ -39,31 +30,21 @@ stream_named task streams place stream same lt is =
     let found : slice_get task.streams place ≡ Some stream = slice_get_read task.streams (length task.streams) place stream refl lt (is ∙ ap (λ s. get_or s place stream) same) in
     rw found refl
 
-minus_one : (n : ℕ) → suc n - 1 ≡ n
-minus_one n = omega arith
-
 suc_times : (n m : ℕ) → suc n * m ≡ m + n * m
 suc_times n m = suc-mul n m ∙ add_comm (n * m) m
 
 -- the next tuple, a bar, and the tuples behind it
 pub tuples_step : (width bars : ℕ) (rest : List (List ℕ)) → 0 < bars → fields_text (tuples_of width bars rest) ≡ fields_text (take width rest) ++ ((32 ∷ codes "|") ++ fields_text (tuples_of width (bars - 1) (drop width rest)))
 tuples_step width zero rest lt = absurd (omega arith)
-tuples_step width (suc bars) rest lt = rw (minus_one bars) (flat_map-append (λ field. 32 ∷ field) (take width rest) (codes "|" ∷ tuples_of width bars (drop width rest)))
+tuples_step width (suc bars) rest lt = rw (suc_minus_one bars) (flat_map-append (λ field. 32 ∷ field) (take width rest) (codes "|" ∷ tuples_of width bars (drop width rest)))
 
 -- so many tuples of equal length are in the list
 pub enough_first : (n tuples : ℕ) → 0 < tuples → n / tuples + (tuples - 1) * (n / tuples) ≤ n
 enough_first n zero lt = absurd (omega arith)
-enough_first n (suc bars) lt = rw (minus_one bars) (enough (n / suc bars * suc bars) (n / suc bars + bars * (n / suc bars)) (n % suc bars) (mul_comm (n / suc bars) (suc bars) ∙ suc_times bars (n / suc bars)) (div-add-mod' n (suc bars)))
+enough_first n (suc bars) lt = rw (suc_minus_one bars) (enough (n / suc bars * suc bars) (n / suc bars + bars * (n / suc bars)) (n % suc bars) (mul_comm (n / suc bars) (suc bars) ∙ suc_times bars (n / suc bars)) (div-add-mod' n (suc bars)))
   where
     enough : (p q rest : ℕ) → p ≡ q → p + rest ≡ n → q ≤ n
     enough p q rest turned all = omega arith
-
-pub enough_next : (width bars size : ℕ) → 0 < bars → width + bars * width ≤ size → width + (bars - 1) * width ≤ size - width
-enough_next width zero size lt enough = absurd (omega arith)
-enough_next width (suc bars) size lt enough = rw (minus_one bars) (next (bars * width) (subst (λ t. width + t ≤ size) (suc_times bars width) enough))
-  where
-    next : (others : ℕ) → width + (width + others) ≤ size → width + others ≤ size - width
-    next others all = omega arith
 
 -- the first line of a head, field after field
 pub first_written : (text number mode : List ℕ) → (((text ++ codes "pddlstream") ++ 32 ∷ number) ++ 32 ∷ mode) ++ 10 ∷ [] ≡ text ++ line_text (line (codes "pddlstream") (number ∷ mode ∷ []))

@@ -11,6 +11,7 @@ use Rattle.std.specs.Fmt.{decimal}
 use Rattle.std.specs.List.{list_all, flat_map, count_by}
 use Rattle.std.specs.Str.{bytes_eq}
 use Rattle.std.specs.Str.Parse.{digits_value}
+use Rattle.lemmas.proofs.Numbers.{small_version}
 use Rattle.gen_lines.specs.Reply.{is_value, is_value_byte}
 use Rattle.report_text.specs.Forms.{IsNumber, IsSmall, IsFormedUse, IsFormedEntry, IsFormedOrigin, IsFormedOutcome, IsFormedPool, IsFormed}
 use Rattle.report_text.specs.Texts.{Line, line, tuples_of, tuple_fields, use_line, step_line, do_line, from_line, limit_word, mode_word, entry_lines, outcome_lines, pool_line, done_line}
@@ -358,10 +359,6 @@ pub report_in : ℕ → List Line → Report
 report_in most [] = behind_head most [] [] []
 report_in most (first ∷ []) = behind_head most first.more [] []
 report_in most (first ∷ second ∷ lines) = behind_head most first.more second.more lines
-
-small_version : (version : ℕ) → (version ≡ 1) ⊎ (version ≡ 2) → version < 2 ^ 64
-small_version version (inl e) = omega (arith, e)
-small_version version (inr e) = omega (arith, e)
 
 -- a report with at most so many entries is read back from its lines
 pub report_back : (most : ℕ) (r : Report) → length r.entries ≤ most → IsFormed r → report_in most (report_lines r) ≡ r

@@ -2,13 +2,15 @@
 use Rattle.std.proofs.Common.{◌≡◌, ℕ, suc, Bool, true, false, cond, List, [], ◌∷◌, map, length, refl, sym, ap, subst, ◌∙◌, Option, None, Some, slice_get, option_map, is_none, get_or, eqb-true, eq-eqb, All}
 use Rattle.std.proofs.lemmas.Option.{slice_get-get_or, slice_get_within, get_or_from_slice_get}
 use Rattle.std.specs.List.{filter_map, cons_option}
+use Rattle.std.proofs.lemmas.List.{map-map}
+use Rattle.lemmas.proofs.Options.{same_some}
 use Rattle.gen_lines.specs.Reply as reply
 use Rattle.gen_lines.specs.Reply.{Reply, reply_of}
 use Rattle.lemmas.specs.Lists.{AreDistinct}
 use Rattle.transcript_model.specs.declared.entry.Entry.{Entry}
 use Rattle.session_core.specs.Events.{Event, sends, says, change_by, after, IsPlayed, lines_of, IsFresh, own_answer, AnswersAreOwn, OrderDoesNotMatter, EachSaysOne}
 use Rattle.session_core.specs.Slots.{Slot, sent_slot, heard_slot, is_slot_of, slot_of, entry_of, fault_of, reply_to, answers_of}
-use Rattle.session_core.proofs.SlotsLemmas.{children_of, map_map, map_at, same_some, at_own, at_other, child_kept, children_kept, slot_of-map, own_slot, answered_at, slot_place}
+use Rattle.session_core.proofs.SlotsLemmas.{children_of, map_at, at_own, at_other, child_kept, children_kept, slot_of-map, own_slot, answered_at, slot_place}
 
 -- a slot after the events
 abbrev pub slot_after : Slot → List Event → Slot
@@ -25,7 +27,7 @@ after_each slots [] = sym (map_id slots)
     map_id : (ss : List Slot) → map (λ s. s) ss ≡ ss
     map_id [] = refl
     map_id (s ∷ ss) = ap (λ ts. s ∷ ts) (map_id ss)
-after_each slots (e ∷ events) = after_each (map (change_by e) slots) events ∙ map_map (λ s. slot_after s events) (change_by e) slots
+after_each slots (e ∷ events) = after_each (map (change_by e) slots) events ∙ map-map (λ s. slot_after s events) (change_by e) slots
 
 -- what still comes to a slot: nothing if it is answered, and else its one line
 abbrev OutcomeBy : Option Entry → Bool → Slot → List Event → Type 0

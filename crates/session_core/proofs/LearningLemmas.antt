@@ -22,7 +22,6 @@ use Rattle.transcript_model.proofs.LegalPrefixLemmas.{names_of-front, asked-late
 use Rattle.transcript_model.proofs.NamedObjectLemmas.{constants_few, fit_stream_at}
 use Rattle.transcript_model.proofs.LegalNumberLemmas.{asks_more, number_below, waiting_of, next_is_fresh}
 use Rattle.transcript_model.proofs.LegalStepLemmas.{answer_adds, request_adds, mark_adds}
-use Rattle.transcript_model.proofs.NamesLemmas.{same_some}
 use Rattle.transcript_model.specs.Legal.{IsLegal, MayFollow, IsRightAsk, IsRightGot, asks_of, is_ask_of, is_answer_to, is_open, is_answer, answered_number, is_mark}
 use Rattle.transcript_model.specs.Names.{generated}
 use Rattle.transcript_model.specs.Transcript.{Asked, asked, objects_in, names_of, known_of, notes_of, note_of, known_with, notes_with}
@@ -32,6 +31,8 @@ use Rattle.session_core.proofs.SessionLemmas.{count_joined, count_one}
 use Rattle.session_core.proofs.LearningTupleLemmas.{length_with_names}
 use Rattle.session_core.specs.Learning.{CanLearn, MayLearn, IsRoomAfter}
 use Rattle.session_core.specs.Session.{Asks}
+use Rattle.lemmas.proofs.Options.{same_some}
+use Rattle.lemmas.proofs.ListTests.{get_there}
 
 -- ---- lists
 
@@ -39,11 +40,6 @@ pub take_next : {A : Type 0} (xs : List A) (k : ℕ) (x : A) → slice_get xs k 
 take_next [] k x at = absurd (cc)
 take_next (y ∷ ys) zero x at = let same : y ≡ x = cc in ap (λ z. z ∷ []) same
 take_next (y ∷ ys) (suc k) x at = ap (λ m. take m (y ∷ ys)) (let e : suc k + 1 ≡ suc (k + 1) = omega arith in e) ∙ ap (λ zs. y ∷ zs) (take_next ys k x at)
-
-pub there_at : {A : Type 0} (xs : List A) (k : ℕ) → k < length xs → (x : A) × (slice_get xs k ≡ Some x)
-there_at [] k lt = absurd (omega arith)
-there_at (x ∷ xs) zero lt = (x, refl)
-there_at (x ∷ xs) (suc k) lt = there_at xs k (omega arith)
 
 pub front_at : {A : Type 0} (xs : List A) (n k : ℕ) (x : A) → slice_get (take n xs) k ≡ Some x → slice_get xs k ≡ Some x
 front_at [] zero k x at = absurd (cc)
@@ -73,7 +69,7 @@ few_values t w n a b e = omega (arith, e, mul-le-mul a b)
 
 -- ---- which request is answered
 
-answers_to : (e : Entry) (n : ℕ) → answered_number e ≡ Some n → is_answer_to n e ≡ true
+pub answers_to : (e : Entry) (n : ℕ) → answered_number e ≡ Some n → is_answer_to n e ≡ true
 answers_to (entry.Got m tuples values) n is = let same : n ≡ m = cc in eq-eqb n m same
 answers_to (entry.Value m value) n is = let same : n ≡ m = cc in eq-eqb n m same
 answers_to (entry.End m) n is = let same : n ≡ m = cc in eq-eqb n m same
@@ -170,7 +166,7 @@ module _ (task : Task) (asked_all : List Instance) (entries : List Entry) (can :
       let below = number_below can.version task before n legal there in
       let all : asks_of entries ≡ asks_of before + asks_of (drop place entries) = ap asks_of (sym (take-append-drop place entries)) ∙ asks_more before (drop place entries) in
       let within : n - 1 < length asked_all = omega (arith, below.0, below.1, all, can.counted) in
-      let stands = there_at asked_all (n - 1) within in
+      let stands = get_there asked_all (n - 1) within in
       let made = can.asks (n - 1) stands.0 stands.1 in
       let back : (n - 1) + 1 ≡ n = omega (arith, below.0) in
       let made_here : asked task entries n ≡ Some (record { stream = made.stream; instance = stands.0 }) = ap (asked task entries) (sym back) ∙ made.asks in

@@ -1,6 +1,6 @@
 -- What is known after tuples, one after another, is what it is after all at once.
 use Rattle.std.proofs.Common.{◌≡◌, ℕ, zero, suc, ◌+◌, ◌*◌, ◌-◌, ◌<◌, ◌≤◌, arith, List, [], ◌∷◌, ◌++◌, map, take, drop, length, replicate, refl, sym, subst, ap, ◌∙◌, suc-mul, Some, unwrap_or, All, slice_get, append_assoc}
-use Rattle.std.proofs.lemmas.List.{map-append, append-nil, length-append, length-map}
+use Rattle.std.proofs.lemmas.List.{map-append, append-nil, length-append, length-map, map-map}
 use Rattle.std.proofs.Math.ListN.{take-append-drop}
 use Rattle.std.specs.List.{flat_map}
 use Rattle.certify.proofs.OutputsLemmas.{length_with_name}
@@ -10,20 +10,16 @@ use Rattle.lemmas.specs.Lists.{AreDistinct}
 use Rattle.task_model.specs.Streams.{Note, certified_by}
 use Rattle.task_model.specs.declared.task.Task.{Task}
 use Rattle.transcript_model.proofs.CallNameLemmas.{places_exact}
-use Rattle.transcript_model.proofs.LegalPrefixLemmas.{facts_then}
 use Rattle.transcript_model.proofs.NamesLemmas.{places_kept, with_names-front, with_names-then}
 use Rattle.transcript_model.specs.Names.{generated, places_of, with_names}
 use Rattle.transcript_model.specs.Transcript.{Asked, tuple_facts, yield_facts, known_with}
 use Rattle.transcript_model.specs.declared.entry.Entry.TheVariants as entry
-
-mapped : {A B C : Type 0} (f : B → C) (g : A → B) (xs : List A) → map f (map g xs) ≡ map (λ x. f (g x)) xs
-mapped f g [] = refl
-mapped f g (x ∷ xs) = ap (λ ys. f (g x) ∷ ys) (mapped f g xs)
+use Rattle.task_model.proofs.KnownLemmas.{facts_then}
 
 -- what a tuple certifies, where its outputs have these names, and more names may stand behind them
 tuple_certifies : (task : Task) (names more : List (List ℕ)) (a : Asked) (values : List (List ℕ)) (outputs : List ℕ) → AreDistinct names → AreNamed names outputs values → tuple_facts task (with_names names more) a values ≡ certified_by task.domain a.stream a.instance.inputs outputs
 tuple_certifies task names more a values outputs distinct named =
-    let here : places_of names (map generated values) ≡ Some outputs = (places_exact names (map generated values) outputs distinct).1 (named ∙ sym (mapped Some generated values)) in
+    let here : places_of names (map generated values) ≡ Some outputs = (places_exact names (map generated values) outputs distinct).1 (named ∙ sym (map-map Some generated values)) in
     let front = with_names-front names more in
     let there : places_of (with_names names more) (map generated values) ≡ Some outputs = ap (λ ns. places_of ns (map generated values)) front.1 ∙ places_kept names front.0 (map generated values) outputs here in
     ap (λ o. certified_by task.domain a.stream a.instance.inputs (unwrap_or o [])) there

@@ -2,29 +2,31 @@
 use Rattle.std.proofs.Common.{◌≡◌, ℕ, zero, suc, ◌+◌, ◌≤◌, ◌<◌, ◌==◌, Bool, true, false, not, cond, ◌&&◌, ◌||◌, List, [], ◌∷◌, ◌++◌, map, length, take, drop, replicate, refl, sym, ap, subst, ◌∙◌, Option, Some, None, slice_get, arith, All, Contains, inl, inr, ◌⊎◌, append_assoc, option_map, nat_lt, length-append}
 use Rattle.std.proofs.Math.ListN.{take-append-drop}
 use Rattle.std.proofs.Math.Seq.{take-length}
-use Rattle.std.proofs.lemmas.Bool.{ltb-true, ltb-false}
+use Rattle.std.proofs.lemmas.Bool.{ltb-true, ltb-false, and_from}
 use Rattle.std.proofs.lemmas.List.{append-nil, map-append}
-use Rattle.std.proofs.lemmas.List.Elements.{All-head, All-tail, All-take, All-drop, All-replicate, All-contains, Contains-append_left, Contains-append_right}
+use Rattle.std.proofs.lemmas.List.Elements.{All-head, All-tail, All-take, All-drop, All-replicate, All-contains, Contains-append_left, Contains-append_right, All-nil, All-cons}
 use Rattle.std.proofs.lemmas.Option.{slice_get_within, slice_get-map}
 use Rattle.std.specs.Cmp.{first_so, second_so, IsTotalOrder}
 use Rattle.std.specs.declared.cmp.Ordering.{Ordering}
 use Rattle.std.specs.declared.cmp.Ordering.TheVariants.{Less, Equal, Greater}
 use Rattle.std.specs.Ordering.{ordering_reverse}
 use Rattle.std.specs.List.{flat_map, list_any, list_all, cons_option}
+use Rattle.std.proofs.lemmas.List.Concat.{flat_map-append}
 use Rattle.gen_lines.specs.Reply as reply
 use Rattle.gen_lines.specs.Reply.{Reply, reply_of}
-use Rattle.instance_queue.proofs.FoundLemmas.{at_head, in_tail}
-use Rattle.instance_queue.proofs.InstanceOrderLemmas.{instances_total}
-use Rattle.instance_queue.proofs.NotesLemmas.{about, instances_same, tally_stays, yielded_some}
+use Rattle.instance_queue.proofs.NotesLemmas.{about, tally_stays, yielded_some}
 use Rattle.instance_queue.specs.Level.{instances_of, AreDueInTurn}
 use Rattle.instance_queue.specs.Notes.{tally_of}
 use Rattle.instance_queue.specs.declared.due.Due.{Due}
 use Rattle.instance_queue.specs.declared.queue.Tally.{Tally}
 use Rattle.task_model.proofs.KnownLemmas.{with_facts-is, fact_member}
-use Rattle.lemmas.proofs.Members.{member_at, place_of}
+use Rattle.task_model.proofs.StreamsLemmas.{instances_apart, instances_total}
+use Rattle.lemmas.proofs.Members.{member_at, place_of, get_append, get_behind}
+use Rattle.lemmas.proofs.ListTests.{all_one}
+use Rattle.lemmas.proofs.Ascending.{contains_here, contains_later, less_greater}
 use Rattle.task_model.specs.Known.{Known, is_fact, with_facts, type_fact}
 use Rattle.lemmas.specs.Lists.{AreDistinct, AreAscending}
-use Rattle.task_model.specs.Streams.{Note, Yielded, Ended, IsDue, is_reachable, is_end_of, is_yield_of, is_test, same_instance, instance_cmp, yields_of, fact_of}
+use Rattle.task_model.specs.Streams.{Note, Yielded, Ended, IsDue, is_reachable, is_end_of, is_yield_of, is_test, instance_cmp, yields_of, fact_of}
 use Rattle.task_model.specs.Truth.{have_types, has_type, slots_of}
 use Rattle.task_model.specs.declared.domain.Pattern.{Pattern}
 use Rattle.task_model.specs.declared.fact.Fact.{Fact}
@@ -32,8 +34,7 @@ use Rattle.task_model.specs.declared.stream.Instance.{Instance}
 use Rattle.task_model.specs.declared.stream.Stream.{Stream}
 use Rattle.task_model.specs.declared.task.Task.{Task}
 use Rattle.transcript_model.proofs.LegalPrefixLemmas.{longer}
-use Rattle.transcript_model.proofs.NamedObjectLemmas.{all_joined, all_nil, all_one, all_cons}
-use Rattle.transcript_model.proofs.NamesLemmas.{at_left}
+use Rattle.transcript_model.proofs.NamedObjectLemmas.{all_joined}
 use Rattle.transcript_model.specs.Transcript.{Asked, asked, certified, known_of, notes_of, note_of}
 use Rattle.transcript_model.specs.declared.entry.Entry.{Entry}
 use Rattle.transcript_model.specs.declared.entry.Entry.TheVariants as entry
@@ -48,22 +49,18 @@ use Rattle.session_core.specs.State.{State, after_close}
 -- ---- lists
 
 distinct_left : {A : Type 0} (xs ys : List A) → AreDistinct (xs ++ ys) → AreDistinct xs
-distinct_left xs ys distinct i j x at_i at_j = distinct i j x (at_left xs ys i x at_i) (at_left xs ys j x at_j)
-
-at_right : {A : Type 0} (xs ys : List A) (k : ℕ) (x : A) → slice_get ys k ≡ Some x → slice_get (xs ++ ys) (length xs + k) ≡ Some x
-at_right [] ys k x at = ap (slice_get ys) (let e : 0 + k ≡ k = omega arith in e) ∙ at
-at_right (z ∷ zs) ys k x at = ap (slice_get (z ∷ zs ++ ys)) (let e : suc (length zs) + k ≡ suc (length zs + k) = omega arith in e) ∙ at_right zs ys k x at
+distinct_left xs ys distinct i j x at_i at_j = distinct i j x (get_append xs ys i x at_i) (get_append xs ys j x at_j)
 
 distinct_right : {A : Type 0} (xs ys : List A) → AreDistinct (xs ++ ys) → AreDistinct ys
 distinct_right xs ys distinct i j x at_i at_j =
-    let same = distinct (length xs + i) (length xs + j) x (at_right xs ys i x at_i) (at_right xs ys j x at_j) in
+    let same = distinct (length xs + i) (length xs + j) x (get_behind xs ys i x at_i) (get_behind xs ys j x at_j) in
     omega (arith, same)
 
 distinct_apart : {A : Type 0} (xs ys : List A) (x : A) → AreDistinct (xs ++ ys) → Contains xs x → Contains ys x → ⊥
 distinct_apart xs ys x distinct first second =
     let a = place_of xs x first in
     let b = place_of ys x second in
-    let same = distinct a.0 (length xs + b.0) x (at_left xs ys a.0 x a.1) (at_right xs ys b.0 x b.1) in
+    let same = distinct a.0 (length xs + b.0) x (get_append xs ys a.0 x a.1) (get_behind xs ys b.0 x b.1) in
     omega (arith, same, slice_get_within xs a.0 x a.1)
 
 two_parts : (n : ℕ) (dues : List Due) → instances_of dues ≡ instances_of (take n dues) ++ instances_of (drop n dues)
@@ -72,10 +69,7 @@ two_parts n dues = ap instances_of (sym (take-append-drop n dues)) ∙ map-appen
 -- ---- levels
 
 less_apart : {A : Type 0} (cmp : A → A → Ordering) → IsTotalOrder cmp → (x : A) → cmp x x ≡ Less → ⊥
-less_apart cmp total x less = let turned : Less ≡ Greater = sym less ∙ total.antisymm x x ∙ ap ordering_reverse less in absurd (no turned)
-  where
-    no : Less ≡ Greater → ⊥
-    no e = absurd (cc)
+less_apart cmp total x less = let turned : Less ≡ Greater = sym less ∙ total.antisymm x x ∙ ap ordering_reverse less in absurd (less_greater turned)
 
 ascending_distinct : {A : Type 0} (cmp : A → A → Ordering) → IsTotalOrder cmp → (xs : List A) → AreAscending cmp xs → AreDistinct xs
 ascending_distinct cmp total xs ascends i j x at_i at_j = by (nat_lt i j) refl (nat_lt j i) refl
@@ -123,10 +117,6 @@ may_begin task s dues count h works learnt ready next =
 
 -- ---- what is known stays known
 
-both : (a b : Bool) → a ≡ true → b ≡ true → (a && b) ≡ true
-both true b p q = q
-both false b p q = p
-
 facts_kept : (facts more : List Fact) (fact : Fact) → is_fact facts fact ≡ true → is_fact (with_facts facts more) fact ≡ true
 facts_kept facts more fact e = (fact_member (with_facts facts more) fact).1 (((with_facts-is facts more).members fact).1 (Contains-append_left facts more fact ((fact_member facts fact).0 e)))
 
@@ -135,26 +125,23 @@ module _ (known after : Known) (kept : (fact : Fact) → is_fact known.facts fac
   types_kept [] [] e = refl
   types_kept [] (s ∷ ss) e = e
   types_kept (o ∷ os) [] e = e
-  types_kept (o ∷ os) (s ∷ ss) e = both _ _ (kept (type_fact s o) (first_so (has_type known o s) (have_types known os ss) e)) (types_kept os ss (second_so (has_type known o s) (have_types known os ss) e))
+  types_kept (o ∷ os) (s ∷ ss) e = and_from _ _ (kept (type_fact s o) (first_so (has_type known o s) (have_types known os ss) e)) (types_kept os ss (second_so (has_type known o s) (have_types known os ss) e))
 
   patterns_kept : (slots : List ℕ) (ps : List Pattern) → list_all (λ p. is_fact known.facts (fact_of slots p)) ps ≡ true → list_all (λ p. is_fact after.facts (fact_of slots p)) ps ≡ true
   patterns_kept slots [] e = refl
-  patterns_kept slots (p ∷ ps) e = both _ _ (kept (fact_of slots p) (first_so (is_fact known.facts (fact_of slots p)) _ e)) (patterns_kept slots ps (second_so (is_fact known.facts (fact_of slots p)) _ e))
+  patterns_kept slots (p ∷ ps) e = and_from _ _ (kept (fact_of slots p) (first_so (is_fact known.facts (fact_of slots p)) _ e)) (patterns_kept slots ps (second_so (is_fact known.facts (fact_of slots p)) _ e))
 
   reachable_kept : (s : Stream) (i : Instance) → is_reachable s known i ≡ true → is_reachable s after i ≡ true
-  reachable_kept s i e = both _ _ (types_kept i.inputs s.inputs (first_so (have_types known i.inputs s.inputs) _ e)) (patterns_kept (slots_of i.inputs) s.domain (second_so (have_types known i.inputs s.inputs) _ e))
+  reachable_kept s i e = and_from _ _ (types_kept i.inputs s.inputs (first_so (have_types known i.inputs s.inputs) _ e)) (patterns_kept (slots_of i.inputs) s.domain (second_so (have_types known i.inputs s.inputs) _ e))
 
 -- ---- notes on others
-
-not_same : (i other : Instance) → ¬ (i ≡ other) → same_instance i other ≡ false
-not_same i other apart = elim (same_instance i other) as (λ b. same_instance i other ≡ b → b ≡ false) [ true ↦ λ e. absurd (apart (instances_same i other e)) | false ↦ λ _. refl ] refl
 
 tally_apart : (notes more : List Note) (i : Instance) → All (λ n. ¬ (about n ≡ i)) more → tally_of (notes ++ more) i ≡ tally_of notes i
 tally_apart notes [] i all = ap (λ ns. tally_of ns i) (append-nil notes)
 tally_apart notes (m ∷ ms) i all =
     ap (λ ns. tally_of ns i) (sym (append_assoc notes (m ∷ []) ms))
     ∙ tally_apart (notes ++ m ∷ []) ms i (All-tail (λ n. ¬ (about n ≡ i)) m ms all)
-    ∙ tally_stays notes m i (not_same (about m) i (All-head (λ n. ¬ (about n ≡ i)) m ms all))
+    ∙ tally_stays notes m i (instances_apart (about m) i (All-head (λ n. ¬ (about n ≡ i)) m ms all))
 
 -- ---- the answers of a round
 
@@ -209,15 +196,11 @@ notes_about task all (entry.End m) n a i number was apart =
     let same : m ≡ n = cc in
     let there : asked task all m ≡ Some a = ap (asked task all) same ∙ was in
     rw there (all_one (λ k. ¬ (about k ≡ i)) (Ended a.instance) apart)
-notes_about task all e n a i number was apart = all_nil (λ k. ¬ (about k ≡ i))
+notes_about task all e n a i number was apart = All-nil (λ k. ¬ (about k ≡ i))
 
 no_notes : (task : Task) (all : List Entry) (names : List (List ℕ)) (n : ℕ) (dues : List Due) → flat_map (note_of task all) (asks_from task names n dues) ≡ []
 no_notes task all names n [] = refl
 no_notes task all names n (d ∷ ds) = no_notes task all names (n + 1) ds
-
-flat_joined : {A B : Type 0} (f : A → List B) (xs ys : List A) → flat_map f (xs ++ ys) ≡ flat_map f xs ++ flat_map f ys
-flat_joined f [] ys = refl
-flat_joined f (x ∷ xs) ys = ap (λ zs. f x ++ zs) (flat_joined f xs ys) ∙ sym (append_assoc (f x) (flat_map f xs) (flat_map f ys))
 
 -- ---- what is due behind the round
 
@@ -234,12 +217,12 @@ module _ (task : Task) (s : State) (open_now : s.is_open ≡ true) (answered : a
       let r = h.round open_now in
       let after = subst (λ es. (k : ℕ) (j : Instance) → slice_get (s.asked ++ s.instances) k ≡ Some j → Asks task es (k + 1) j) entries_are (close_kept task s open_now answered h).asked in
       let none : flat_map (note_of task all) s.asks ≡ [] = ap (flat_map (note_of task all)) r.asks ∙ no_notes task all _ (length s.asked + 1) r.dues in
-      let only : flat_map (note_of task all) (s.asks ++ answers_of s.slots) ≡ flat_map (note_of task all) (answers_of s.slots) = flat_joined (note_of task all) s.asks (answers_of s.slots) ∙ ap (λ ns. ns ++ flat_map (note_of task all) (answers_of s.slots)) none in
+      let only : flat_map (note_of task all) (s.asks ++ answers_of s.slots) ≡ flat_map (note_of task all) (answers_of s.slots) = flat_map-append (note_of task all) s.asks (answers_of s.slots) ∙ ap (λ ns. ns ++ flat_map (note_of task all) (answers_of s.slots)) none in
       subst (All (λ m. ¬ (about m ≡ i))) (sym only)
       (all_joined (λ m. ¬ (about m ≡ i)) (note_of task all) (answers_of s.slots) (λ k e at.
       let o = answer_of_due task s.version (length s.asked + 1) r.dues s.slots r.slots k e at in
       let stands : slice_get s.instances o.place ≡ Some o.due.instance = ap (λ is. slice_get is o.place) r.instances ∙ slice_get-map (λ (d : Due). d.instance) r.dues o.place ∙ ap (option_map (λ (d : Due). d.instance)) o.at in
-      let made = after (length s.asked + o.place) o.due.instance (at_right s.asked s.instances o.place o.due.instance stands) in
+      let made = after (length s.asked + o.place) o.due.instance (get_behind s.asked s.instances o.place o.due.instance stands) in
       let n : (length s.asked + 1) + o.place ≡ (length s.asked + o.place) + 1 = omega arith in
       notes_about task all e ((length s.asked + 1) + o.place) (record { stream = made.stream; instance = o.due.instance }) i o.numbered (ap (asked task all) n ∙ made.asks)
       (λ same. apart (subst (Contains s.instances) same (member_at s.instances o.place o.due.instance stands)))))
@@ -280,8 +263,8 @@ module _ (task : Task) (s : State) (open_now : s.is_open ≡ true) (answered : a
       })
     where
       turns_kept : (us : List Due) → ((i : Instance) → Contains (instances_of us) i → ¬ (Contains s.instances i)) → All (λ (d : Due). d.turn ≡ yields_of (notes_of task s.entries) d.instance) us → All (λ (d : Due). d.turn ≡ yields_of (notes_of task all) d.instance) us
-      turns_kept [] apart turns = all_nil (λ (d : Due). d.turn ≡ yields_of (notes_of task all) d.instance)
+      turns_kept [] apart turns = All-nil (λ (d : Due). d.turn ≡ yields_of (notes_of task all) d.instance)
       turns_kept (u ∷ us) apart turns =
-          all_cons (λ (d : Due). d.turn ≡ yields_of (notes_of task all) d.instance) u us
-          (All-head (λ (d : Due). d.turn ≡ yields_of (notes_of task s.entries) d.instance) u us turns ∙ sym (yields_kept u.instance (apart u.instance (at_head u.instance (instances_of us)))))
-          (turns_kept us (λ i m. apart i (in_tail u.instance i (instances_of us) m)) (All-tail (λ (d : Due). d.turn ≡ yields_of (notes_of task s.entries) d.instance) u us turns))
+          All-cons (λ (d : Due). d.turn ≡ yields_of (notes_of task all) d.instance) u us
+          (All-head (λ (d : Due). d.turn ≡ yields_of (notes_of task s.entries) d.instance) u us turns ∙ sym (yields_kept u.instance (apart u.instance (contains_here u.instance (instances_of us)))))
+          (turns_kept us (λ i m. apart i (contains_later u.instance (instances_of us) i m)) (All-tail (λ (d : Due). d.turn ≡ yields_of (notes_of task s.entries) d.instance) u us turns))

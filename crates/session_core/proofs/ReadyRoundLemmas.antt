@@ -1,19 +1,20 @@
 -- The next round of a list of asks.
-use Rattle.std.proofs.Common.{◌≡◌, ℕ, zero, suc, ◌+◌, ◌-◌, ◌≤◌, ◌<◌, Bool, true, false, cond, List, [], ◌∷◌, ◌++◌, map, length, take, drop, min, refl, sym, ap, subst, ◌∙◌, Option, Some, slice_get, get_or, count_by, arith, nat_le, take_all, All, Contains, ◌&&◌}
+use Rattle.std.proofs.Common.{◌≡◌, ℕ, zero, suc, ◌+◌, ◌-◌, ◌≤◌, ◌<◌, true, false, List, [], ◌∷◌, ◌++◌, map, length, take, drop, min, refl, sym, ap, subst, ◌∙◌, Option, Some, slice_get, get_or, count_by, arith, nat_le, take_all, All, Contains, ◌&&◌}
 use Rattle.std.proofs.Math.ListN.{take-append-drop}
 use Rattle.std.proofs.Math.Seq.{take-take}
-use Rattle.std.proofs.lemmas.Bool.{leb-true, le-leb, lt-leb}
-use Rattle.std.proofs.lemmas.List.{append-nil, map-append, length-take}
+use Rattle.std.proofs.lemmas.Bool.{leb-true, le-leb, lt-leb, and_from, true≢false}
+use Rattle.std.proofs.lemmas.List.{append-nil, map-append, length-take, drop_more}
 use Rattle.std.proofs.lemmas.List.Elements.{Contains-append_left}
 use Rattle.std.specs.Cmp.{first_so, second_so}
 use Rattle.std.specs.List.{list_all, list_any}
-use Rattle.certify.proofs.OutputsLemmas.{left}
+use Rattle.lemmas.proofs.Bools.{cond_le_one}
+use Rattle.lemmas.proofs.ListTests.{get_there}
 use Rattle.instance_queue.specs.Level.{instances_of}
 use Rattle.instance_queue.specs.declared.due.Due.{Due}
 use Rattle.task_model.specs.declared.stream.Instance.{Instance}
 use Rattle.task_model.specs.declared.task.Task.{Task}
 use Rattle.transcript_model.specs.Rounds as rounds
-use Rattle.session_core.proofs.LearningLemmas.{take_next, there_at}
+use Rattle.session_core.proofs.LearningLemmas.{take_next}
 use Rattle.session_core.proofs.SessionLemmas.{count_joined, count_one}
 use Rattle.session_core.specs.Pools.{serves, AreFitPools, FitWorkers, fits_workers}
 use Rattle.session_core.specs.Ready.{share_of, IsLongestFront, IsNextRound, calls_left}
@@ -23,26 +24,15 @@ use Rattle.session_core.specs.declared.pools.Workers.{Workers}
 
 -- ---- few enough
 
-both : (a b : Bool) → a ≡ true → b ≡ true → (a && b) ≡ true
-both true b p q = q
-both false b p q = p
-
-not_both : true ≡ false → ⊥
-not_both e = absurd (cc)
-
 -- no ask fits any workers
 pub none_fit : (pools : List Workers) → fits_workers pools [] ≡ true
 none_fit [] = refl
-none_fit (p ∷ ps) = both (nat_le 0 p.workers) _ (le-leb 0 p.workers (omega arith)) (none_fit ps)
+none_fit (p ∷ ps) = and_from (nat_le 0 p.workers) _ (le-leb 0 p.workers (omega arith)) (none_fit ps)
 
 -- one ask fits workers, of which each pool has one at least
 pub one_fits : (pools : List Workers) (stream : ℕ) → ((k : ℕ) (p : Workers) → slice_get pools k ≡ Some p → 1 ≤ p.workers) → fits_workers pools (stream ∷ []) ≡ true
 one_fits [] stream some = refl
-one_fits (p ∷ ps) stream some = both (nat_le (count_by (serves p) (stream ∷ [])) p.workers) _ (le-leb (count_by (serves p) (stream ∷ [])) p.workers (omega (arith, few (serves p stream), count_one (serves p) stream, some 0 p refl))) (one_fits ps stream (λ k q at. some (suc k) q at))
-  where
-    few : (b : Bool) → cond {A = ℕ} b 1 0 ≤ 1
-    few true = omega arith
-    few false = omega arith
+one_fits (p ∷ ps) stream some = and_from (nat_le (count_by (serves p) (stream ∷ [])) p.workers) _ (le-leb (count_by (serves p) (stream ∷ [])) p.workers (omega (arith, cond_le_one (serves p stream), count_one (serves p) stream, some 0 p refl))) (one_fits ps stream (λ k q at. some (suc k) q at))
 
 pub workers_fit : (pools : List Workers) (streams : List ℕ) → fits_workers pools streams ≡ true → FitWorkers pools streams
 workers_fit [] streams e k p at = absurd (cc)
@@ -99,11 +89,11 @@ module _ (pools : List Workers) (dues : List Due) (count : ℕ) (longest : IsLon
       by : (n : ℕ) → count ≡ n → 0 < count
       by (suc n) e = omega (arith, e)
       by zero e =
-          let first = there_at dues 0 there in
+          let first = get_there dues 0 there in
           let one : take (count + 1) dues ≡ first.0 ∷ [] = ap (λ n. take (n + 1) dues) e ∙ take_next dues 0 first.0 first.1 in
           let fits = one_fits pools first.0.instance.stream some in
           let never = longest.full (omega (arith, e, there)) in
-          absurd (not_both (sym (ap (λ us. fits_workers pools (streams_of us)) one ∙ fits) ∙ never))
+          absurd (true≢false (sym (ap (λ us. fits_workers pools (streams_of us)) one ∙ fits) ∙ never))
 
 -- the round of those for which calls are left
 pub next_is : (s : State) (dues : List Due) (most count : ℕ) → length s.asked ≤ s.calls → most ≡ min (length dues) (calls_left s) → IsLongestFront s.pools (take most dues) count → IsNextRound s dues count
@@ -132,7 +122,7 @@ next_is s dues most count few is longest =
 -- ---- pools one after another
 
 pub one_left : (pools : List Workers) (k : ℕ) (p : Workers) (streams : List ℕ) → k < length pools → p ≡ get_or pools k p → fits_workers (drop k pools) streams ≡ (nat_le (count_by (serves p) streams) p.workers && fits_workers (drop (k + 1) pools) streams)
-one_left pools k p streams lt is = ap (λ ps. fits_workers ps streams) (left pools k p lt ∙ ap (λ q. q ∷ drop (k + 1) pools) (sym is))
+one_left pools k p streams lt is = ap (λ ps. fits_workers ps streams) (drop_more pools k p lt ∙ ap (λ q. q ∷ drop (k + 1) pools) (sym is))
 
 pub too_many : (pools : List Workers) (k : ℕ) (p : Workers) (streams : List ℕ) → k < length pools → p ≡ get_or pools k p → p.workers < count_by (serves p) streams → fits_workers (drop k pools) streams ≡ false
 too_many pools k p streams lt is more = one_left pools k p streams lt is ∙ (λ i. lt-leb (count_by (serves p) streams) p.workers more i && fits_workers (drop (k + 1) pools) streams)

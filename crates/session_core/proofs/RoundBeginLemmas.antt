@@ -4,6 +4,7 @@ use Rattle.std.proofs.Math.Seq.{take-length}
 use Rattle.std.proofs.lemmas.Bool.{cases_lt}
 use Rattle.std.proofs.lemmas.List.{append-nil, length-map}
 use Rattle.std.proofs.lemmas.Option.{slice_get_within, slice_get-get_or, slice_get-map}
+use Rattle.std.proofs.lemmas.List.Elements.{All-nil, All-cons}
 use Rattle.gen_lines.specs.Request.{IsNamed}
 use Rattle.instance_queue.proofs.InstanceOrderLemmas.{due_in}
 use Rattle.instance_queue.specs.Level.{instances_of}
@@ -15,7 +16,6 @@ use Rattle.task_model.specs.Streams.{IsDue, yields_of}
 use Rattle.task_model.specs.declared.stream.Instance.{Instance}
 use Rattle.task_model.specs.declared.task.Task.{Task}
 use Rattle.transcript_model.proofs.CoherentLemmas.{coherent}
-use Rattle.transcript_model.proofs.NamedObjectLemmas.{all_nil, all_cons}
 use Rattle.transcript_model.specs.Transcript.{known_of, notes_of}
 use Rattle.transcript_model.specs.declared.entry.Entry.{Entry}
 use Rattle.session_core.proofs.SessionLemmas.{count_joined, count_one}
@@ -74,7 +74,7 @@ instances_step (u ∷ us) (suc k) d at = ap (λ m. instances_of (take m (u ∷ u
 
 -- ---- children
 
-server_is : (pools : List Workers) (stream : ℕ) (p : Workers) → server pools stream ≡ Some p → (k : ℕ) × (slice_get pools k ≡ Some p) × (serves p stream ≡ true)
+pub server_is : (pools : List Workers) (stream : ℕ) (p : Workers) → server pools stream ≡ Some p → (k : ℕ) × (slice_get pools k ≡ Some p) × (serves p stream ≡ true)
 server_is [] stream p e = absurd (cc)
 server_is (q ∷ qs) stream p e =
     elim (serves q stream) as (λ b. serves q stream ≡ b → cond b (Some q) (server qs stream) ≡ Some p → (k : ℕ) × (slice_get (q ∷ qs) k ≡ Some p) × (serves p stream ≡ true)) [
@@ -230,8 +230,8 @@ module _ (task : Task) (s : State) (dues : List Due) (works : s.failed ≡ false
 
   -- nothing is sent, and each request has a child of its own
   unsent : (names : List (List ℕ)) (n : ℕ) (before : List ℕ) (us : List Due) → All (λ (t : Slot). (t.sent ≡ false) × (t.answer ≡ None)) (slots_from task names s.version s.pools n before us)
-  unsent names n before [] = all_nil (λ (t : Slot). (t.sent ≡ false) × (t.answer ≡ None))
-  unsent names n before (u ∷ us) = all_cons (λ (t : Slot). (t.sent ≡ false) × (t.answer ≡ None)) (slot_for task names s.version s.pools n before u) (slots_from task names s.version s.pools (n + 1) (before ++ u.instance.stream ∷ []) us) (refl, refl) (unsent names (n + 1) (before ++ u.instance.stream ∷ []) us)
+  unsent names n before [] = All-nil (λ (t : Slot). (t.sent ≡ false) × (t.answer ≡ None))
+  unsent names n before (u ∷ us) = All-cons (λ (t : Slot). (t.sent ≡ false) × (t.answer ≡ None)) (slot_for task names s.version s.pools n before u) (slots_from task names s.version s.pools (n + 1) (before ++ u.instance.stream ∷ []) us) (refl, refl) (unsent names (n + 1) (before ++ u.instance.stream ∷ []) us)
 
   pub begun_fresh : IsFresh (begun task s dues).slots
   begun_fresh = record { unsent = unsent s.known.names (length s.asked + 1) [] dues; apart = children_distinct s.known.names s.version (length s.asked + 1) }

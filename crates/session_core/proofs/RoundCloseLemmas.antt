@@ -1,15 +1,19 @@
 -- A closed round leaves a legal transcript with nothing open.
-use Rattle.std.proofs.Common.{◌≡◌, ℕ, zero, suc, ◌+◌, ◌≤◌, ◌<◌, ◌==◌, Bool, true, false, cond, ◌||◌, ◌&&◌, not, ◌⊎◌, inl, inr, List, [], ◌∷◌, ◌++◌, length, take, refl, sym, ap, subst, ◌∙◌, Option, None, Some, slice_get, is_none, arith, count_by, append_assoc, length-append, eqb-true, eq-eqb, All, Contains}
+use Rattle.std.proofs.Common.{◌≡◌, ℕ, zero, suc, ◌+◌, ◌≤◌, ◌<◌, ◌==◌, Bool, true, false, cond, ◌&&◌, not, ◌⊎◌, inl, inr, List, [], ◌∷◌, ◌++◌, length, take, refl, sym, ap, subst, ◌∙◌, Option, None, Some, slice_get, is_none, arith, count_by, append_assoc, length-append, eqb-true, eq-eqb, All, Contains}
 use Rattle.std.proofs.lemmas.List.{append-nil, take-append-le, length-map}
 use Rattle.std.proofs.lemmas.List.Elements.{All-head, All-tail, All-contains}
 use Rattle.std.proofs.lemmas.List.Sums.{count_by-le-length}
 use Rattle.std.proofs.lemmas.Option.{slice_get_within}
 use Rattle.std.specs.List.{list_any, cons_option}
+use Rattle.std.proofs.lemmas.Bool.{or_right, not-true, and_parts, or_cases, false_from_ne_true, or_left, ne_eqb}
+use Rattle.lemmas.proofs.Bools.{not_both}
+use Rattle.lemmas.proofs.Distinct.{distinct_tail}
+use Rattle.lemmas.proofs.Ascending.{contains_here, contains_later}
 use Rattle.gen_lines.proofs.ReplyLemmas.{yields_are_right, numbers_are_small}
 use Rattle.gen_lines.specs.Reply as reply
 use Rattle.gen_lines.specs.Reply.{Reply, reply_of}
 use Rattle.gen_lines.specs.declared.answer.Wanted.TheVariants as wanted
-use Rattle.instance_queue.proofs.FoundLemmas.{distinct_tail, head_is_new, at_head, in_tail}
+use Rattle.instance_queue.proofs.FoundLemmas.{head_is_new}
 use Rattle.instance_queue.proofs.InstanceOrderLemmas.{due_in}
 use Rattle.instance_queue.specs.Level.{instances_of}
 use Rattle.instance_queue.specs.declared.due.Due.{Due}
@@ -37,34 +41,7 @@ use Rattle.session_core.specs.Slots.{Slot, wanted_of, wanted_at, ask_for, asks_f
 use Rattle.session_core.specs.State.{State, after_close}
 
 no_both : {A : Type 0} (b : Bool) → b ≡ true → b ≡ false → A
-no_both b t f = absurd (no b t f)
-  where
-    no : (b : Bool) → b ≡ true → b ≡ false → ⊥
-    no b t f = absurd (cc)
-
-or_cases : (a b : Bool) → (a || b) ≡ true → (a ≡ true) ⊎ (b ≡ true)
-or_cases true b e = inl refl
-or_cases false b e = inr e
-
-or_left : (a b : Bool) → a ≡ true → (a || b) ≡ true
-or_left true b e = refl
-or_left false b e = absurd (cc)
-
-or_right : (a b : Bool) → b ≡ true → (a || b) ≡ true
-or_right true b e = refl
-or_right false b e = e
-
-and_parts : (a b : Bool) → (a && b) ≡ true → (a ≡ true) × (b ≡ true)
-and_parts true true e = (refl, refl)
-and_parts true false e = absurd (cc)
-and_parts false b e = absurd (cc)
-
-is_false : (b : Bool) → (b ≡ true → ⊥) → b ≡ false
-is_false true never = absurd (never refl)
-is_false false never = refl
-
-not_same : (m n : ℕ) → ¬ (m ≡ n) → (m == n) ≡ false
-not_same m n ne = is_false (m == n) (λ e. ne (eqb-true m n e))
+no_both b t f = absurd (not_both b t f)
 
 -- each of these numbers waits for an answer, and asks its due's instance
 abbrev pub AllWait : Task → List Entry → ℕ → List Due → Type 0
@@ -109,7 +86,7 @@ module _ (version : ℕ) (task : Task) (fit : IsFit task) (entries : List Entry)
   requested (d ∷ ds) before n ok known notes next due turns distinct apart =
       let names = names_of task entries in
       let i = d.instance in
-      let here = due i (at_head i (instances_of ds)) in
+      let here = due i (contains_here i (instances_of ds)) in
       let call = call_of_instance task names i in
       let e = entry.Ask n d.turn call in
       let named : instance_of task (names_of task before) call ≡ Some i = (λ k. instance_of task (known k).names call) ∙ shown_again i here in
@@ -119,7 +96,7 @@ module _ (version : ℕ) (task : Task) (fit : IsFit task) (entries : List Entry)
         instance = i;
         named = named;
         due = subst (λ ns. IsDue task (known_of task before) ns i) (sym notes) (subst (λ k. IsDue task k (notes_of task entries) i) (sym known) here);
-        closed = λ m a is same. is_false (is_open before m) (λ o. apart m a is o (subst (Contains (instances_of (d ∷ ds))) (sym same) (at_head i (instances_of ds))));
+        closed = λ m a is same. false_from_ne_true (is_open before m) (λ o. apart m a is o (subst (Contains (instances_of (d ∷ ds))) (sym same) (contains_here i (instances_of ds))));
         turned = All-head (λ (u : Due). u.turn ≡ yields_of (notes_of task entries) u.instance) d ds turns ∙ ap (λ ns. yields_of ns i) (sym notes);
       } in
       let fresh = ap (λ k. list_any (is_ask_of k) before) next ∙ next_is_fresh version task before ok in
@@ -134,7 +111,7 @@ module _ (version : ℕ) (task : Task) (fit : IsFit task) (entries : List Entry)
             let same : a.instance ≡ i = same_instance_of (asked task after n) a _ (ap (asked task after) (sym at) ∙ is) adds.here in
             head_is_new i (instances_of ds) distinct (subst (Contains (instances_of ds)) same there)
       ] in
-      let rest = requested ds after (n + 1) ((grows version task before).next e ok right) (adds.same.known ∙ known) (adds.same.notes ∙ notes) (let c : n + 1 ≡ asks_of after + 1 = omega (arith, next, adds.asks) in c) (λ j m. due j (in_tail i j (instances_of ds) m)) (All-tail (λ (u : Due). u.turn ≡ yields_of (notes_of task entries) u.instance) d ds turns) (distinct_tail i (instances_of ds) distinct) apart_after in
+      let rest = requested ds after (n + 1) ((grows version task before).next e ok right) (adds.same.known ∙ known) (adds.same.notes ∙ notes) (let c : n + 1 ≡ asks_of after + 1 = omega (arith, next, adds.asks) in c) (λ j m. due j (contains_later i (instances_of ds) j m)) (All-tail (λ (u : Due). u.turn ≡ yields_of (notes_of task entries) u.instance) d ds turns) (distinct_tail i (instances_of ds) distinct) apart_after in
       let whole : before ++ asks_from task names n (d ∷ ds) ≡ after ++ asks_from task names (n + 1) ds = sym (append_assoc before (e ∷ []) (asks_from task names (n + 1) ds)) in
       subst (λ all. Requested before all n (d ∷ ds)) (sym whole)
       (record {
@@ -165,7 +142,7 @@ module _ (version : ℕ) (task : Task) (fit : IsFit task) (entries : List Entry)
       still_apart : (m : ℕ) (a : Asked) → asked task (before ++ entry.Ask n d.turn (call_of_instance task (names_of task entries) d.instance) ∷ []) m ≡ Some a → is_open before m ≡ true → Contains (instances_of ds) a.instance → (k : ℕ) → ((j : ℕ) → ¬ (j ≡ k) → asked task (before ++ entry.Ask n d.turn (call_of_instance task (names_of task entries) d.instance) ∷ []) j ≡ asked task before j) → k ≡ asks_of before + 1 → IsLegal version task before → ⊥
       still_apart m a is old there k others is_next ok =
           let older : m ≤ asks_of before = (number_below version task before m ok (and_parts (list_any (is_ask_of m) before) (not (list_any (is_answer_to m) before)) old).0).1 in
-          apart m a (sym (others m (λ f. absurd (omega (arith, f, older, is_next)))) ∙ is) old (in_tail d.instance a.instance (instances_of ds) there)
+          apart m a (sym (others m (λ f. absurd (omega (arith, f, older, is_next)))) ∙ is) old (contains_later d.instance (instances_of ds) a.instance there)
 
 -- ---- answers
 
@@ -262,18 +239,14 @@ module _ (version : ℕ) (task : Task) (fit : IsFit task) where
   answered_all : (dues : List Due) (slots : List Slot) (before : List Entry) (n : ℕ) → IsLegal version task before → AllWait task before n dues → AreSlotsFor task version n dues slots → all_answered slots ≡ true → ((m : ℕ) → is_open before m ≡ true → (n ≤ m) × (m < n + length dues)) → Answered before (before ++ answers_of slots) (length dues)
   answered_all [] [] before n ok waits h all only =
       subst (λ after. Answered before after 0) (sym (append-nil before))
-      (record { legal = ok; none_open = λ m. is_false (is_open before m) (λ o. let w = only m o in absurd (omega (arith, w.0, w.1))); asks = refl; requests = λ m. refl })
+      (record { legal = ok; none_open = λ m. false_from_ne_true (is_open before m) (λ o. let w = only m o in absurd (omega (arith, w.0, w.1))); asks = refl; requests = λ m. refl })
   answered_all [] (s ∷ ss) before n ok waits h all only = absurd h
   answered_all (d ∷ ds) [] before n ok waits h all only = absurd h
   answered_all (d ∷ ds) (s ∷ ss) before n ok waits h all only =
       by s.answer refl (λ after good still bounds. answered_all ds ss after (n + 1) good still h.1 (and_parts (not (is_none s.answer)) (all_answered ss) all).1 bounds)
     where
       by : (o : Option Entry) → s.answer ≡ o → ((after : List Entry) → IsLegal version task after → AllWait task after (n + 1) ds → ((m : ℕ) → is_open after m ≡ true → (n + 1 ≤ m) × (m < (n + 1) + length ds)) → Answered after (after ++ answers_of ss) (length ds)) → Answered before (before ++ answers_of (s ∷ ss)) (length (d ∷ ds))
-      by None is again = absurd (no_both (is_none s.answer) (ap is_none is) (first_answered (is_none s.answer) (and_parts (not (is_none s.answer)) (all_answered ss) all).0))
-        where
-          first_answered : (b : Bool) → not b ≡ true → b ≡ false
-          first_answered true e = absurd (cc)
-          first_answered false e = refl
+      by None is again = absurd (no_both (is_none s.answer) (ap is_none is) (not-true (is_none s.answer) (and_parts (not (is_none s.answer)) (all_answered ss) all).0))
       by (Some e) is again =
           let slot = h.0 in
           let request = waits.1 in
@@ -284,12 +257,12 @@ module _ (version : ℕ) (task : Task) (fit : IsFit task) where
           let r = says_right before n request.stream d.instance line e waits.0 request.asks replied in
           let after = before ++ e ∷ [] in
           let adds = answer_adds version task before fit.problem.objects.names.distinct ok n _ request.asks e r.1 in
-          let others : (m : ℕ) → ¬ (m ≡ n) → is_open after m ≡ is_open before m = λ m ne. adds.waiting m ∙ ap (λ b. is_open before m && not b) (not_same m n ne) ∙ and_true (is_open before m) in
+          let others : (m : ℕ) → ¬ (m ≡ n) → is_open after m ≡ is_open before m = λ m ne. adds.waiting m ∙ ap (λ b. is_open before m && not b) (ne_eqb m n ne) ∙ and_true (is_open before m) in
           let later : (m : ℕ) → is_open after m ≡ true → (n + 1 ≤ m) × (m < (n + 1) + length ds) =
           λ m o.
           let parts = and_parts (is_open before m) (not (m == n)) (sym (adds.waiting m) ∙ o) in
           let bounds = only m parts.0 in
-          let apart : m ≡ n → ⊥ = λ f. no_both (m == n) (eq-eqb m n f) (was_not (m == n) parts.1) in
+          let apart : m ≡ n → ⊥ = λ f. no_both (m == n) (eq-eqb m n f) (not-true (m == n) parts.1) in
           (omega (arith, bounds.0, apart), omega (arith, bounds.1)) in
           let rest = again after ((grows version task before).next e ok r.0) (wait_still before after n (n + 1) ds (omega arith) others adds.requests waits.2) later in
           let whole : before ++ answers_of (s ∷ ss) ≡ after ++ answers_of ss = ap (λ o. before ++ cons_option o (answers_of ss)) is ∙ sym (append_assoc before (e ∷ []) (answers_of ss)) in
@@ -299,10 +272,6 @@ module _ (version : ℕ) (task : Task) (fit : IsFit task) where
           and_true : (b : Bool) → (b && not false) ≡ b
           and_true true = refl
           and_true false = refl
-
-          was_not : (b : Bool) → not b ≡ true → b ≡ false
-          was_not true f = absurd (cc)
-          was_not false f = refl
 
 -- ---- the whole round
 

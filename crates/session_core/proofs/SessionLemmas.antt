@@ -3,6 +3,7 @@ use Rattle.std.proofs.Common.{◌≡◌, ℕ, ◌+◌, ◌≤◌, Bool, true, fa
 use Rattle.std.proofs.Math.Seq.{take-length}
 use Rattle.std.proofs.lemmas.List.{take-append-le}
 use Rattle.std.proofs.lemmas.List.Sums.{sum_by-append}
+use Rattle.lemmas.proofs.Bools.{not_both}
 use Rattle.instance_queue.specs.declared.due.Due.{Due}
 use Rattle.task_model.specs.declared.stream.Instance.{Instance}
 use Rattle.task_model.specs.declared.task.Task.{Task}
@@ -145,11 +146,8 @@ mark_kept task s e learnt closed mark learns h =
       learnt = learns_within s e learnt h.learnt learns;
       known = λ works. h.known works ∙ sym (front_kept (known_of task) s e learnt h.learnt learns adds.same.known);
       notes = λ works. h.notes works ∙ sym (front_kept (notes_of task) s e learnt h.learnt learns adds.same.notes);
-      round = λ open_now. absurd (no_both s.is_open open_now closed);
+      round = λ open_now. absurd (not_both s.is_open open_now closed);
     }
-  where
-    no_both : (b : Bool) → b ≡ true → b ≡ false → ⊥
-    no_both b t f = absurd (cc)
 
 -- the state with these entries, so many of which are learnt
 abbrev pub entries_become : State → List Entry → ℕ → State

@@ -1,23 +1,19 @@
 -- Slots and their children.
-use Rattle.std.proofs.Common.{◌≡◌, ℕ, zero, suc, Bool, true, false, cond, ◌==◌, ◌&&◌, not, List, [], ◌∷◌, map, refl, sym, ap, ◌∙◌, Option, Some, slice_get, option_map, is_none, drop, eqb-true, eq-eqb, arith}
+use Rattle.std.proofs.Common.{◌≡◌, ℕ, zero, suc, Bool, true, false, cond, ◌==◌, not, List, [], ◌∷◌, map, refl, sym, ap, ◌∙◌, Some, slice_get, option_map, is_none, drop, eqb-true, eq-eqb, arith}
 use Rattle.std.proofs.Math.ListN.{set}
 use Rattle.std.proofs.lemmas.Option.{slice_get-map}
+use Rattle.std.proofs.lemmas.Bool.{and_parts}
+use Rattle.std.proofs.lemmas.List.{map-map}
+use Rattle.lemmas.proofs.Distinct.{distinct_tail}
 use Rattle.lemmas.specs.Lists.{AreDistinct}
 use Rattle.session_core.specs.Slots.{Slot, at_child, is_slot_of, slot_of, all_answered}
 
 abbrev pub children_of : List Slot → List ℕ
 children_of = map (λ (s : Slot). s.child)
 
-pub map_map : {A B C : Type 0} (f : B → C) (g : A → B) (xs : List A) → map f (map g xs) ≡ map (λ x. f (g x)) xs
-map_map f g [] = refl
-map_map f g (x ∷ xs) = ap (λ ys. f (g x) ∷ ys) (map_map f g xs)
-
 pub map_at : {A B : Type 0} (f g : A → B) (xs : List A) → ((k : ℕ) (x : A) → slice_get xs k ≡ Some x → f x ≡ g x) → map f xs ≡ map g xs
 map_at f g [] same = refl
 map_at f g (x ∷ xs) same = λ i. same 0 x refl i ∷ map_at f g xs (λ k y at. same (suc k) y at) i
-
-pub same_some : {A : Type 0} (o : Option A) (a b : A) → o ≡ Some a → o ≡ Some b → a ≡ b
-same_some o a b p q = let e : Some a ≡ Some b = sym p ∙ q in cc
 
 -- ---- a change of one slot
 
@@ -31,7 +27,7 @@ pub child_kept : (child : ℕ) (f : Slot → Slot) → ((s : Slot) → (f s).chi
 child_kept child f keeps s = elim (is_slot_of child s) as (λ b. (cond b (f s) s).child ≡ s.child) [ true ↦ keeps s | false ↦ refl ]
 
 pub children_kept : (g : Slot → Slot) → ((s : Slot) → (g s).child ≡ s.child) → (slots : List Slot) → children_of (map g slots) ≡ children_of slots
-children_kept g keeps slots = map_map (λ (s : Slot). s.child) g slots ∙ map_at (λ (s : Slot). (g s).child) (λ (s : Slot). s.child) slots (λ k s at. keeps s)
+children_kept g keeps slots = map-map (λ (s : Slot). s.child) g slots ∙ map_at (λ (s : Slot). (g s).child) (λ (s : Slot). s.child) slots (λ k s at. keeps s)
 
 pub slot_of-map : (g : Slot → Slot) → ((s : Slot) → (g s).child ≡ s.child) → (slots : List Slot) (child : ℕ) → slot_of (map g slots) child ≡ option_map g (slot_of slots child)
 slot_of-map g keeps [] child = refl
@@ -50,10 +46,6 @@ slot_child (t ∷ ts) child s e =
       | false ↦ λ _ f. slot_child ts child s f
     ] refl e
 
--- the tail of distinct members is such
-distinct_rest : {A : Type 0} (x : A) (xs : List A) → AreDistinct (x ∷ xs) → AreDistinct xs
-distinct_rest x xs d i j y at_i at_j = let e : suc i ≡ suc j = d (suc i) (suc j) y at_i at_j in omega arith
-
 -- where children are distinct, each slot is the one of its child
 pub own_slot : (slots : List Slot) (k : ℕ) (s : Slot) → AreDistinct (children_of slots) → slice_get slots k ≡ Some s → slot_of slots s.child ≡ Some s
 own_slot [] k s d at = absurd (cc)
@@ -65,22 +57,17 @@ own_slot (t ∷ ts) (suc k) s d at =
       | true ↦ λ own.
           let later : slice_get (children_of (t ∷ ts)) (suc k) ≡ Some s.child = slice_get-map (λ (u : Slot). u.child) ts k ∙ ap (option_map (λ (u : Slot). u.child)) at in
           let e : 0 ≡ suc k = d 0 (suc k) s.child (ap Some (eqb-true t.child s.child own)) later in absurd (omega arith)
-      | false ↦ λ _. own_slot ts k s (distinct_rest t.child (children_of ts) d) at
+      | false ↦ λ _. own_slot ts k s (distinct_tail t.child (children_of ts) d) at
     ] refl
-
-both_of : (a b : Bool) → (a && b) ≡ true → (a ≡ true) × (b ≡ true)
-both_of true true e = (refl, refl)
-both_of true false e = absurd (cc)
-both_of false b e = absurd (cc)
 
 -- each slot of an answered round has an answer
 pub answered_at : (slots : List Slot) (k : ℕ) (s : Slot) → all_answered slots ≡ true → slice_get slots k ≡ Some s → is_none s.answer ≡ false
 answered_at [] k s all at = absurd (cc)
 answered_at (t ∷ ts) zero s all at =
     let same : t ≡ s = cc in
-    let here = (both_of (not (is_none t.answer)) (all_answered ts) all).0 in
+    let here = (and_parts (not (is_none t.answer)) (all_answered ts) all).0 in
     elim (is_none s.answer) as (λ b. not b ≡ true → b ≡ false) [ true ↦ λ e. absurd (cc) | false ↦ λ e. refl ] (ap (λ (u : Slot). not (is_none u.answer)) (sym same) ∙ here)
-answered_at (t ∷ ts) (suc k) s all at = answered_at ts k s (both_of (not (is_none t.answer)) (all_answered ts) all).1 at
+answered_at (t ∷ ts) (suc k) s all at = answered_at ts k s (and_parts (not (is_none t.answer)) (all_answered ts) all).1 at
 
 -- the place of a child's slot
 pub slot_place : (slots : List Slot) (child : ℕ) (s : Slot) → slot_of slots child ≡ Some s → (k : ℕ) × (slice_get slots k ≡ Some s)
@@ -119,7 +106,7 @@ set_at_child (t ∷ ts) child zero s f d at own =
 set_at_child (t ∷ ts) child (suc k) s f d at own =
     let later : slice_get (children_of (t ∷ ts)) (suc k) ≡ Some child = slice_get-map (λ (v : Slot). v.child) ts k ∙ ap (option_map (λ (v : Slot). v.child)) at ∙ ap Some own in
     let here : is_slot_of child t ≡ false = first_apart (is_slot_of child t) refl later in
-    λ i. sym (at_other child f t here) i ∷ set_at_child ts child k s f (distinct_rest t.child (children_of ts) d) at own i
+    λ i. sym (at_other child f t here) i ∷ set_at_child ts child k s f (distinct_tail t.child (children_of ts) d) at own i
   where
     first_apart : (b : Bool) → is_slot_of child t ≡ b → slice_get (children_of (t ∷ ts)) (suc k) ≡ Some child → is_slot_of child t ≡ false
     first_apart true e later = let no : 0 ≡ suc k = d 0 (suc k) child (ap Some (eqb-true t.child child e)) later in absurd (omega arith)

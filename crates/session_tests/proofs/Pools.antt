@@ -1,7 +1,8 @@
 -- One pool that serves all streams is fit.
-use Rattle.std.proofs.Common.{◌≡◌, ℕ, zero, suc, ◌+◌, ◌≤◌, ◌<◌, ◌==◌, ◌||◌, Bool, true, false, [], ◌∷◌, ◌++◌, length, refl, sym, ap, subst, ◌∙◌, arith, Some, None, cond, slice_get}
-use Rattle.std.proofs.lemmas.Bool.{eqb-false}
+use Rattle.std.proofs.Common.{◌≡◌, ℕ, zero, suc, ◌+◌, ◌≤◌, ◌<◌, ◌==◌, true, [], ◌∷◌, ◌++◌, length, sym, ap, subst, ◌∙◌, arith, Some, None, cond}
 use Rattle.std.specs.List.{list_any}
+use Rattle.lemmas.proofs.Numbers.{in_numbers}
+use Rattle.lemmas.proofs.Members.{get_single}
 use Rattle.lemmas.specs.Lists.{numbers_from}
 use Rattle.task_model.specs.declared.task.Task.{Task}
 use Rattle.session_core.specs.Pools.{AreFitPools, serves, server}
@@ -14,25 +15,6 @@ numbers_more first (suc n) =
     ∙ ap (λ ns. first ∷ ns) (numbers_more (first + 1) n)
     ∙ ap (λ k. first ∷ numbers_from (first + 1) n ++ k ∷ []) (let e : (first + 1) + n ≡ first + suc n = omega arith in e)
 
-either : (a b : Bool) → b ≡ true → (a || b) ≡ true
-either true b e = refl
-either false b e = e
-
-in_numbers : (first n k : ℕ) → first ≤ k → k < first + n → list_any (λ s. s == k) (numbers_from first n) ≡ true
-in_numbers first zero k from to = absurd (omega (arith, from, to))
-in_numbers first (suc n) k from to =
-    elim (first == k) as (λ b. (first == k) ≡ b → (b || list_any (λ s. s == k) (numbers_from (first + 1) n)) ≡ true) [
-      | true ↦ λ _. refl
-      | false ↦ λ other. in_numbers (first + 1) n k (past (first == k) refl other) (omega (arith, to))
-    ] refl
-  where
-    past : (b : Bool) → (first == k) ≡ b → b ≡ false → first + 1 ≤ k
-    past b is e = omega (arith, from, eqb-false first k (is ∙ e))
-
-only_one : {A : Type 0} (x y : A) (k : ℕ) → slice_get (x ∷ []) k ≡ Some y → (k ≡ 0) × (x ≡ y)
-only_one x y zero e = (refl, cc)
-only_one x y (suc k) e = absurd (cc)
-
 module _ (task : Task) (pool : Workers) (first : pool.first ≡ 0) (some : 1 ≤ pool.workers) (few : pool.workers ≤ 16) (streams : pool.streams ≡ numbers_from 0 (length task.streams)) where
   served_by : (stream : ℕ) → stream < length task.streams → server (pool ∷ []) stream ≡ Some pool
   served_by stream lt =
@@ -42,8 +24,8 @@ module _ (task : Task) (pool : Workers) (first : pool.first ≡ 0) (some : 1 ≤
   pub one_pool : AreFitPools task (pool ∷ [])
   one_pool = record {
     served = λ stream lt. (pool, served_by stream lt);
-    apart = λ j k child p q at_j at_k in_p in_q. (only_one pool p j at_j).0 ∙ sym (only_one pool q k at_k).0;
-    once = λ j k stream p q at_j at_k in_p in_q. (only_one pool p j at_j).0 ∙ sym (only_one pool q k at_k).0;
-    some = λ k p at. subst (λ (w : Workers). 1 ≤ w.workers) (only_one pool p k at).1 some;
-    few = λ k p at. subst (λ (w : Workers). w.first + w.workers ≤ 17) (only_one pool p k at).1 (omega (arith, first, few));
+    apart = λ j k child p q at_j at_k in_p in_q. (get_single pool p j at_j).0 ∙ sym (get_single pool q k at_k).0;
+    once = λ j k stream p q at_j at_k in_p in_q. (get_single pool p j at_j).0 ∙ sym (get_single pool q k at_k).0;
+    some = λ k p at. subst (λ (w : Workers). 1 ≤ w.workers) (get_single pool p k at).1 some;
+    few = λ k p at. subst (λ (w : Workers). w.first + w.workers ≤ 17) (get_single pool p k at).1 (omega (arith, first, few));
   }

@@ -1,27 +1,21 @@
 -- Members of lists and of tables of names.
 use Rattle.std.proofs.Common.{◌≡◌, ℕ, zero, suc, arith, Bool, true, false, cond, ◌⊎◌, inl, inr, List, [], ◌∷◌, ◌++◌, map, refl, sym, ap, ◌∙◌, Contains}
-use Rattle.std.proofs.lemmas.List.Elements.{Contains-append_cases, Contains-push_cases}
+use Rattle.std.proofs.lemmas.List.Elements.{Contains-push_cases}
 use Rattle.std.specs.Cmp.{first_so, second_so}
-use Rattle.std.specs.List.{list_any, list_all, flat_map}
+use Rattle.std.specs.List.{list_any, list_all}
 use Rattle.task_model.specs.Known.{IsIn, same_numbers, with_name}
 use Rattle.task_model.specs.Streams.{name_at}
 use Rattle.transcript_model.specs.Names.{with_names}
+use Rattle.std.proofs.lemmas.Bool.{false≢true}
+use Rattle.lemmas.proofs.Ascending.{contains_later}
 
 -- ---- lists
-
-pub behind : {A : Type 0} (x : A) (xs : List A) (q : A) → Contains xs q → Contains (x ∷ xs) q
-behind x xs q c = (suc c.0, omega (arith, c.1), c.2)
 
 pub mapped_from : {A B : Type 0} (f : A → B) (xs : List A) (q : B) → Contains (map f xs) q → (x : A) × Contains xs x × (f x ≡ q)
 mapped_from f [] q (k, lt, is) = absurd (omega (arith, lt))
 mapped_from f (x ∷ xs) q (zero, lt, is) = (x, (0, omega arith, refl), is)
-mapped_from f (x ∷ xs) q (suc k, lt, is) = let r = mapped_from f xs q (k, omega (arith, lt), is) in (r.0, behind x xs r.0 r.1, r.2)
+mapped_from f (x ∷ xs) q (suc k, lt, is) = let r = mapped_from f xs q (k, omega (arith, lt), is) in (r.0, contains_later x xs r.0 r.1, r.2)
 
-pub joined_from : {A B : Type 0} (f : A → List B) (xs : List A) (q : B) → Contains (flat_map f xs) q → (x : A) × Contains xs x × Contains (f x) q
-joined_from f [] q (k, lt, is) = absurd (omega (arith, lt))
-joined_from f (x ∷ xs) q c = elim (Contains-append_cases (f x) (flat_map f xs) q c) [
-  | inl here ↦ (x, (0, omega arith, refl), here)
-  | inr later ↦ let r = joined_from f xs q later in (r.0, behind x xs r.0 r.1, r.2)
 ]
 
 pub all_pass : {A : Type 0} (p : A → Bool) (xs : List A) (q : A) → list_all p xs ≡ true → Contains xs q → p q ≡ true
@@ -42,14 +36,11 @@ pub with_names_from : (names more : List (List ℕ)) (q : List ℕ) → Contains
 with_names_from names [] q h = inl h
 with_names_from names (name ∷ more) q h = elim (with_names_from (with_name names name) more q h) [
   | inl before ↦ elim (with_name_from names name q before) [ inl old ↦ inl old | inr is ↦ inr (0, omega arith, is) ]
-  | inr later ↦ inr (behind name more q later)
+  | inr later ↦ inr (contains_later name more q later)
 ]
 
 -- the name of an object that has one is in the table
 pub in_table : (names : List (List ℕ)) (object : ℕ) → IsIn names object → Contains names (name_at names object)
-in_table [] object h = absurd (none h)
-  where
-    none : false ≡ true → ⊥
-    none e = cc
+in_table [] object h = absurd (false≢true h)
 in_table (n ∷ ns) zero h = (0, omega arith, refl)
-in_table (n ∷ ns) (suc object) h = behind n ns (name_at ns object) (in_table ns object h)
+in_table (n ∷ ns) (suc object) h = contains_later n ns (name_at ns object) (in_table ns object h)

@@ -10,6 +10,7 @@ use Rattle.std.specs.List.Sorted.{IsStrictlySortedBy}
 use Rattle.std.specs.Ordering.{nat_cmp, match_ordering}
 use Rattle.std.specs.declared.cmp.Ordering.{Ordering}
 use Rattle.std.specs.declared.cmp.Ordering.TheVariants.{Less, Equal, Greater}
+use Rattle.lemmas.proofs.Bools.{or_swap}
 use Rattle.task_model.proofs.KnownLemmas.{numbers_decided}
 use Rattle.task_model.specs.Known.{same_numbers}
 use Rattle.lemmas.specs.Lists.{AreAscending}
@@ -28,12 +29,7 @@ module _ {K : Type 0} (shows : K → List ℕ) where
       twice : (a b : Bool) → (a || b) ≡ (a || (a || b))
       twice true b = refl
       twice false b = refl
-  put q k x rest more Greater e h = ap (λ b. same_numbers q (shows x) || b) h ∙ turned (same_numbers q (shows x)) (same_numbers q (shows k)) (is_among (map shows rest) q)
-    where
-      turned : (a b c : Bool) → (a || (b || c)) ≡ (b || (a || c))
-      turned true true c = refl
-      turned true false c = refl
-      turned false b c = refl
+  put q k x rest more Greater e h = ap (λ b. same_numbers q (shows x) || b) h ∙ or_swap (same_numbers q (shows x)) (same_numbers q (shows k)) (is_among (map shows rest) q)
 
   pub insert_adds : (keys : List K) (k : K) (q : List ℕ) → is_among (map shows (insert_key by_name keys k)) q ≡ (same_numbers q (shows k) || is_among (map shows keys) q)
   insert_adds [] k q = refl

@@ -8,6 +8,7 @@ use Rattle.std.proofs.lemmas.Map.Views.{Contains-from_any, list_any-from_Contain
 use Rattle.std.proofs.lemmas.Option.{slice_get-get_or}
 use Rattle.std.specs.Cmp.{IsEquivalence, decided}
 use Rattle.std.specs.List.{list_any, flat_map}
+use Rattle.lemmas.proofs.Ascending.{from_flat_map}
 use Rattle.task_model.proofs.KnownLemmas.{numbers_decided}
 use Rattle.task_model.specs.Fit.{IsFit, is_name}
 use Rattle.task_model.specs.Initial.{declared_names}
@@ -24,7 +25,7 @@ use Rattle.transcript_model.specs.declared.entry.Call.{Call}
 use Rattle.transcript_model.specs.declared.entry.Entry.{Entry}
 use Rattle.transcript_model.specs.declared.entry.Entry.TheVariants as entry
 use Rattle.transcript_model.specs.declared.outcome.Origin.{Origin}
-use Rattle.shown_plan.proofs.NameListLemmas.{mapped_from, joined_from, all_pass, with_names_from, in_table}
+use Rattle.shown_plan.proofs.NameListLemmas.{mapped_from, all_pass, with_names_from, in_table}
 use Rattle.shown_plan.specs.Shown.{AreNamedSteps}
 use Rattle.shown_plan.specs.Sources.{IsBest, IsEven, IsGiven, IsSource, is_among, is_generated, stands_in}
 use Rattle.shown_plan.specs.declared.source.Source.{Source}
@@ -89,7 +90,7 @@ given_in task fit entries name hash c = elim (with_names_from (declared_names ta
   | inl old ↦
       let v = hash_value name hash in
       absurd (no_hash v.0 (subst (λ n. is_name n ≡ true) v.1 (all_pass is_name (declared_names task) name fit.problem.objects.names.each old)))
-  | inr new ↦ let e = joined_from objects_in entries name new in given_by entries e.0 name e.1 e.2
+  | inr new ↦ let e = from_flat_map objects_in entries name new in given_by entries e.0 name e.1 e.2
 ]
 
 -- ---- calls

@@ -1,5 +1,5 @@
 -- States are equal where they list the same atoms.
-use Rattle.std.proofs.Common.{◌≡◌, ℕ, suc, ◌<◌, List, [], ◌∷◌, ◌++◌, map, length, refl, sym, ap, ◌∙◌, arith, Some, slice_get}
+use Rattle.std.proofs.Common.{◌≡◌, ℕ, suc, ◌<◌, List, [], ◌∷◌, map, length, refl, sym, ap, ◌∙◌, arith, Some, slice_get}
 use Rattle.std.specs.FinMap as finite
 use Rattle.task_model.specs.State.{Atoms, items, len}
 
@@ -35,8 +35,3 @@ same_places (x ∷ xs) (y ∷ ys) e same =
 pub same_atoms_at : (s t : Atoms) → len s ≡ len t → ((k : ℕ) → k < len s → slice_get (items s) k ≡ slice_get (items t) k) → s ≡ t
 same_atoms_at s t e same =
     same_items s t (same_places (items s) (items t) (length-items s ∙ e ∙ sym (length-items t)) (λ k h. same k (omega (arith, length-items s))))
-
--- a new member stands behind the others
-pub get-pushed : {A : Type 0} (xs : List A) (x : A) → slice_get (xs ++ x ∷ []) (length xs) ≡ Some x
-get-pushed [] x = refl
-get-pushed (y ∷ ys) x = get-pushed ys x

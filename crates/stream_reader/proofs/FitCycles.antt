@@ -1,6 +1,7 @@
 -- No stream leads to itself where there is no fault of cycles.
 use Rattle.std.proofs.Common.{◌≡◌, ℕ, zero, suc, ◌+◌, ◌<◌, true, false, cond, ◌==◌, List, [], ◌∷◌, ◌++◌, length, refl, ap, subst, ◌∙◌, Option, Some, None, slice_get, unwrap_or, eq-eqb, arith}
 use Rattle.std.proofs.lemmas.Bool.{or_left}
+use Rattle.lemmas.proofs.ListTests.{any_append_left, any_append_right}
 use Rattle.sexpr_text.specs.Trees.{Trees, nothing, word, list}
 use Rattle.task_model.specs.Fit.{leads, stream_leads}
 use Rattle.lemmas.specs.Lists.{LeadsAlong, has_number}
@@ -13,7 +14,6 @@ use Rattle.form_reader.specs.Rows.{tail_of}
 use Rattle.name_tables.specs.Graphs.{HasWay}
 use Rattle.name_tables.specs.Graphs as graphs
 use Rattle.name_tables.specs.declared.vocabulary.Vocabulary.{Vocabulary}
-use Rattle.name_tables.proofs.Members.{any_append_left, any_append_right}
 use Rattle.fit_check.specs.Edges.{streams_within}
 use Rattle.stream_reader.specs.Cycles.{CycleFaults, no_more, cyclic, free, candidates_of, edges_from, edges_of, is_there, next_of, next_one}
 use Rattle.stream_reader.specs.Streams.{item_streams, streams_of}

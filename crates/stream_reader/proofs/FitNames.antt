@@ -1,8 +1,8 @@
 -- The names of streams stand once each.
-use Rattle.std.proofs.Common.{◌≡◌, ℕ, zero, suc, Bool, true, false, not, List, [], ◌∷◌, ◌++◌, map, refl, ap, subst, Option, Some, None, slice_get, length}
+use Rattle.std.proofs.Common.{◌≡◌, ℕ, zero, suc, true, false, not, List, [], ◌∷◌, ◌++◌, map, refl, ap, subst, Option, Some, None, slice_get}
 use Rattle.std.specs.Str.{bytes_eq}
-use Rattle.std.proofs.lemmas.Bool.{cond_both, not-true}
-use Rattle.std.proofs.lemmas.Slice.Eq.{bytes_eq-Decides}
+use Rattle.std.proofs.lemmas.Bool.{cond_both, not-true, false_from_ne_true}
+use Rattle.lemmas.proofs.ListTests.{any_append_left}
 use Rattle.sexpr_text.specs.Trees.{Trees, nothing, word, list}
 use Rattle.lemmas.specs.Lists.{AreDistinct}
 use Rattle.task_model.specs.declared.stream.Stream as stream
@@ -12,10 +12,9 @@ use Rattle.form_reader.specs.Rows.{head_of, tail_of}
 use Rattle.name_tables.specs.Names.{has_name, with_name}
 use Rattle.name_tables.specs.Variables.{unless}
 use Rattle.name_tables.specs.declared.vocabulary.Vocabulary.{Vocabulary}
-use Rattle.name_tables.proofs.NamesFreshLemmas.{get_middle}
-use Rattle.name_tables.proofs.Members.{any_append_left, any_at}
 use Rattle.name_tables.proofs.NoFaultLemmas.{met}
 use Rattle.name_tables.proofs.Parted.{none_both}
+use Rattle.name_tables.proofs.NamesLemmas.{has_with}
 use Rattle.stream_reader.specs.Names.{second_streams}
 use Rattle.stream_reader.specs.Streams.{item_streams, streams_of}
 use Rattle.stream_reader.specs.Tables.{kind_of}
@@ -25,22 +24,15 @@ record AreNew (seen names : List (List ℕ)) : Type 0 where
   distinct : AreDistinct names
   unseen : (i : ℕ) (x : List ℕ) → slice_get names i ≡ Some x → has_name x seen ≡ false
 
-has_itself : (seen : List (List ℕ)) (n : List ℕ) → has_name n (with_name seen n) ≡ true
-has_itself seen n = cond_both (has_name n seen) seen (seen ++ n ∷ []) (λ ms. has_name n ms ≡ true) (λ there. there) (λ absent. any_at (bytes_eq n) (seen ++ n ∷ []) (length seen) n (get_middle seen n []) ((bytes_eq-Decides n n).1 refl))
-
 has_kept : (seen : List (List ℕ)) (n x : List ℕ) → has_name x seen ≡ true → has_name x (with_name seen n) ≡ true
 has_kept seen n x e = cond_both (has_name n seen) seen (seen ++ n ∷ []) (λ ms. has_name x ms ≡ true) (λ there. e) (λ absent. any_append_left (bytes_eq x) seen (n ∷ []) e)
 
-contrary : (b : Bool) → (b ≡ true → ⊥) → b ≡ false
-contrary true e = absurd (e refl)
-contrary false e = refl
-
 unseen_before : (seen : List (List ℕ)) (n x : List ℕ) → has_name x (with_name seen n) ≡ false → has_name x seen ≡ false
-unseen_before seen n x e = contrary (has_name x seen) (λ there. let kept : has_name x (with_name seen n) ≡ true = has_kept seen n x there in cc)
+unseen_before seen n x e = false_from_ne_true (has_name x seen) (λ there. let kept : has_name x (with_name seen n) ≡ true = has_kept seen n x there in cc)
 
 other : (seen : List (List ℕ)) (n x : List ℕ) → has_name x (with_name seen n) ≡ false → n ≡ x → ⊥
 other seen n x e same =
-    let there : has_name x (with_name seen n) ≡ true = subst (λ m. has_name m (with_name seen n) ≡ true) same (has_itself seen n) in
+    let there : has_name x (with_name seen n) ≡ true = subst (λ m. has_name m (with_name seen n) ≡ true) same (has_with seen n) in
     cc
 
 less_seen : (seen names : List (List ℕ)) (n : List ℕ) → AreNew (with_name seen n) names → AreNew seen names

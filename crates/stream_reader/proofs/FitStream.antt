@@ -1,6 +1,7 @@
 -- A stream without faults is fit.
 use Rattle.std.proofs.Common.{◌≡◌, ℕ, ◌+◌, ◌≤◌, Bool, true, false, not, cond, ◌==◌, nat_le, List, [], ◌∷◌, ◌++◌, length, length-append, refl, sym, ap, subst, ◌∙◌, inl, inr, Some, codes, arith}
 use Rattle.std.proofs.lemmas.Bool.{and_from, eqb-false, le-leb, not-true}
+use Rattle.lemmas.proofs.Members.{append_nil_second}
 use Rattle.sexpr_text.specs.Trees.{Trees, nothing, word, list, size}
 use Rattle.task_model.specs.Fit.{IsFitDomain, are_places, is_fit_application, is_fit_stream, is_fit_worth}
 use Rattle.lemmas.specs.Lists.{numbers_from}
@@ -21,7 +22,7 @@ use Rattle.name_tables.specs.Variables.{is_named, named_sorts, named_words, type
 use Rattle.name_tables.specs.declared.vocabulary.Vocabulary.{Vocabulary}
 use Rattle.name_tables.proofs.FitGroups.{few_places, sorts_as_long}
 use Rattle.name_tables.proofs.FitTerms.{AreFilled, filled_first}
-use Rattle.name_tables.proofs.NoFaultLemmas.{met, none_second}
+use Rattle.name_tables.proofs.NoFaultLemmas.{met}
 use Rattle.name_tables.proofs.Parted.{none_both}
 use Rattle.stream_reader.specs.declared.tables.Scopes.{Scopes}
 use Rattle.stream_reader.specs.Atoms.{atoms_names, patterns_of}
@@ -110,7 +111,7 @@ module _ (d : Domain) (v : Vocabulary) (over : IsFitDomain d) (known : AreKnown 
 
     atoms_from : (scope : List (List ℕ)) (filled : List ℕ) (slots : AreFilled filled (length scope)) (place : ℕ) (ts : Trees) → size ts ≤ 8388607 → stream_atoms_faults place ts ≡ [] → atoms_names v d.roles scope place ts ≡ [] → AreAtoms scope filled slots ts
     atoms_from scope filled slots place ts h e f =
-        let formed : atoms_faults place ts ≡ [] = none_second _ (atoms_faults place ts) e in
+        let formed : atoms_faults place ts ≡ [] = append_nil_second _ (atoms_faults place ts) e in
         record { good = atoms_good d v over known scope filled slots place ts formed f; short = omega (arith, patterns_length v scope ts, h) }
 
     no_atoms : (scope : List (List ℕ)) (filled : List ℕ) (slots : AreFilled filled (length scope)) → AreAtoms scope filled slots nothing

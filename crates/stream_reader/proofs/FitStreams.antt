@@ -4,11 +4,13 @@ use Rattle.std.specs.List.{list_all}
 use Rattle.std.specs.Str.{bytes_eq}
 use Rattle.std.proofs.lemmas.Bool.{and_from, le-leb}
 use Rattle.std.proofs.lemmas.Slice.Eq.{bytes_eq-Decides}
+use Rattle.lemmas.proofs.ListTests.{all_append}
 use Rattle.sexpr_text.specs.Trees.{Trees, nothing, word, list, size}
 use Rattle.task_model.specs.Fit.{AreFitStreams, IsFitDomain, is_fit_stream, is_name, is_short}
 use Rattle.task_model.specs.declared.domain.Domain.{Domain}
 use Rattle.task_model.specs.declared.stream.Stream as stream
 use Rattle.task_model.specs.declared.task.Problem.{Problem}
+use Rattle.form_reader.proofs.RowsLemmas.{tail_small, inner_small}
 use Rattle.form_reader.specs.declared.fault.InputFault.{InputFault}
 use Rattle.form_reader.specs.declared.items.Item.{Item}
 use Rattle.form_reader.specs.declared.items.Item.TheVariants as item
@@ -25,7 +27,6 @@ use Rattle.form_reader.specs.Texts.{form_faults}
 use Rattle.form_reader.specs.Words.{is_of}
 use Rattle.name_tables.specs.Sizes.{IsBounded}
 use Rattle.name_tables.specs.declared.vocabulary.Vocabulary.{Vocabulary}
-use Rattle.name_tables.proofs.Members.{all_append}
 use Rattle.name_tables.proofs.NoFaultLemmas.{chosen, some_fault}
 use Rattle.name_tables.proofs.Parted.{none_both}
 use Rattle.name_tables.proofs.TitleLemmas.{titled}
@@ -40,11 +41,6 @@ use Rattle.stream_reader.proofs.TablesDomainLemmas.{AreKnown, names_are}
 use Rattle.stream_reader.proofs.FitNames.{names_distinct, stream_names as names_of_streams}
 
 -- ---- how many
-
-tail_small : (ts : Trees) → size (tail_of ts) ≤ size ts
-tail_small nothing = omega arith
-tail_small (word w at rest) = omega arith
-tail_small (list items at rest) = omega arith
 
 short_by : (v : Vocabulary) (o : Option Keyed) (items : Trees) (ss : List stream.Stream) (n m : ℕ) → length ss ≤ n → length (item_streams v o items ++ ss) ≤ m + 2 + n
 short_by v None items ss n m h = omega arith
@@ -139,13 +135,8 @@ formed_items nothing e = refl
 formed_items (word w at rest) e = absurd (some_fault (shape at) [] e)
 formed_items (list items at rest) e = (titled text.Streams items at rest e).items
 
-inner_less : (ts : Trees) → size (inner_of ts) ≤ size ts
-inner_less nothing = omega arith
-inner_less (word w at rest) = omega arith
-inner_less (list items at rest) = omega arith
-
 body_less : (t : Trees) → size (body_of t) ≤ size t
-body_less t = omega (arith, inner_less t, tail_small (inner_of t), tail_small (tail_of (inner_of t)))
+body_less t = omega (arith, inner_small t, tail_small (inner_of t), tail_small (tail_of (inner_of t)))
 
 spelled_fit : (d : Domain) (t : Trees) (problem : Problem) → IsFitDomain d → IsBounded t → AreRead d t (spelled d t) → AreFitStreams (record { domain = d; problem = problem; streams = spelled d t })
 spelled_fit d t problem over bounded read =

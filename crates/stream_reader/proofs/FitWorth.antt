@@ -4,6 +4,7 @@ use Rattle.std.specs.Str.{bytes_eq}
 use Rattle.std.proofs.lemmas.Bool.{and_from, cases_Bool}
 use Rattle.std.proofs.lemmas.Option.{slice_get_within}
 use Rattle.std.proofs.lemmas.Slice.Eq.{bytes_eq-Decides}
+use Rattle.std.proofs.lemmas.Map.Keys.{any_passes_from_place}
 use Rattle.sexpr_text.specs.Trees.{Trees, nothing, word, list}
 use Rattle.lemmas.proofs.Members.{push_cases}
 use Rattle.task_model.specs.Fit.{is_fit_application}
@@ -21,7 +22,6 @@ use Rattle.name_tables.specs.Variables.{unless}
 use Rattle.name_tables.specs.Vocabulary.{arity_at, arity_of}
 use Rattle.name_tables.specs.declared.vocabulary.Vocabulary.{Vocabulary}
 use Rattle.name_tables.proofs.FitTerms.{AreFilled, application_fits}
-use Rattle.name_tables.proofs.Members.{any_at}
 use Rattle.name_tables.proofs.NoFaultLemmas.{some_fault}
 use Rattle.name_tables.proofs.Parted.{none_both}
 use Rattle.name_tables.proofs.NamesUseLemmas.{IsUsable, place_holds, place_push, place_some, usable}
@@ -75,7 +75,7 @@ module _ (gs : List Signature) where
   behind : (w : List ℕ) (count : ℕ) → has_name w (signature_names gs) ≡ false → IsUsable pushed w count → (w ≡ codes "total-cost") × (count ≡ 0)
   behind w count absent used =
       elim (push_cases (signature_names gs) (codes "total-cost") (declared_place pushed w) w (place_holds w (signature_names gs ++ codes "total-cost" ∷ []) used.there)) [
-        | inl h ↦ absurd (let there : has_name w (signature_names gs) ≡ true = any_at (bytes_eq w) (signature_names gs) (declared_place pushed w) w h ((bytes_eq-Decides w w).1 refl) in cc)
+        | inl h ↦ absurd (let there : has_name w (signature_names gs) ≡ true = any_passes_from_place (bytes_eq w) (signature_names gs) (declared_place pushed w) w h ((bytes_eq-Decides w w).1 refl) in cc)
         | inr h ↦ (h.1, last h.0)
       ]
     where

@@ -4,18 +4,14 @@ use Rattle.sexpr_text.specs.Trees.{Trees}
 use Rattle.task_model.specs.declared.domain.Domain.{Domain}
 use Rattle.task_model.specs.declared.stream.Stream as stream
 use Rattle.form_reader.specs.declared.fault.Fault.{Fault}
-use Rattle.form_reader.specs.Faults.{Answers, least_fault}
-use Rattle.form_reader.proofs.FaultsLeastLemmas.{least_answers}
+use Rattle.form_reader.specs.Faults.{least_fault}
+use Rattle.form_reader.proofs.FaultsLeastLemmas.{none_is_none}
 use Rattle.name_tables.specs.declared.vocabulary.Vocabulary.{Vocabulary}
 use Rattle.stream_reader.specs.Cycles.{CycleFaults, candidates_of, edges_of}
 use Rattle.stream_reader.specs.Names.{plain_names}
 use Rattle.stream_reader.specs.Reading.{AnswersAcyclic, AreCycleFaults, AreNamed, IsNameFault, stream_file_names, of_names, of_cycles, spelled}
 use Rattle.stream_reader.specs.Streams.{streams_of}
 use Rattle.stream_reader.specs.Tables.{body_of, vocabulary_of}
-
--- no fault is answered only where there is none
-pub none_is_none : (fs : List Fault) → least_fault fs ≡ None → fs ≡ []
-none_is_none fs e = subst (Answers fs) e (least_answers fs)
 
 -- over the names of the domain and the items of the text
 module _ (d : Domain) (t b : Trees) (v : Vocabulary) (eb : b ≡ body_of t) (ev : v ≡ vocabulary_of d) where

@@ -1,20 +1,19 @@
 -- Lists of facts: what is in them, and that facts stand once.
-use Rattle.std.proofs.Common.{◌≡◌, ℕ, Bool, true, false, cond, ◌&&◌, ◌||◌, ◌==◌, arith, inl, inr, ◌↔◌, List, [], ◌∷◌, ◌++◌, refl, sym, subst, Contains, eqb-true, eq-eqb, append_assoc}
+use Rattle.std.proofs.Common.{◌≡◌, ℕ, true, false, cond, ◌&&◌, ◌||◌, ◌==◌, arith, inl, inr, ◌↔◌, List, [], ◌∷◌, ◌++◌, refl, sym, subst, Contains, eqb-true, eq-eqb, append_assoc, zero, suc, ◌<◌, length, ap, Some}
 use Rattle.std.proofs.lemmas.List.Elements.{Contains-append_left, Contains-append_right, Contains-append_cases}
 use Rattle.std.proofs.lemmas.Map.Views.{Contains-from_any, list_any-from_Contains}
 use Rattle.std.specs.Bool.{Decides}
 use Rattle.std.specs.Cmp.{IsEquivalence, decided, first_so, second_so, unsigned_Decides}
 use Rattle.std.specs.Cmp.Lexicographic.{pointwise_decides}
+use Rattle.std.proofs.lemmas.Bool.{and_from}
 use Rattle.lemmas.proofs.Members.{distinct_push}
-use Rattle.task_model.specs.Known.{same_kind, same_fact, same_numbers, is_fact, with_fact, with_facts}
+use Rattle.lemmas.proofs.Bools.{not_both, from_or_false}
+use Rattle.task_model.specs.Known.{same_kind, same_fact, same_numbers, is_fact, with_fact, with_facts, same_value, IsIn, object_with, type_fact}
 use Rattle.task_model.specs.Laws.{AddsFacts}
 use Rattle.task_model.specs.declared.fact.Fact.{Fact}
 use Rattle.task_model.specs.declared.fact.Kind.{Kind}
 use Rattle.task_model.specs.declared.fact.Kind.TheVariants.{Predicate, Sort}
-
-both : (a b : Bool) → a ≡ true → b ≡ true → (a && b) ≡ true
-both true b p q = q
-both false b p q = p
+use Rattle.task_model.specs.declared.task.Valued.{Valued}
 
 kinds_same : (a b : Kind) → same_kind a b ≡ true → a ≡ b
 kinds_same Predicate Predicate e = refl
@@ -38,7 +37,7 @@ facts_same a b e =
     λ i. record { kind = kinds_same a.kind b.kind kind i; name = eqb-true a.name b.name name i; args = (numbers_decided a.args b.args).0 args i }
 
 fact_itself : (a : Fact) → same_fact a a ≡ true
-fact_itself a = both _ _ (both _ _ (kind_itself a.kind) (eq-eqb a.name a.name refl)) ((numbers_decided a.args a.args).1 refl)
+fact_itself a = and_from _ _ (and_from _ _ (kind_itself a.kind) (eq-eqb a.name a.name refl)) ((numbers_decided a.args a.args).1 refl)
 
 pub fact_decided : (a b : Fact) → Decides (same_fact a b) (a ≡ b)
 fact_decided a b = (facts_same a b, λ e. subst (λ x. same_fact a x ≡ true) e (fact_itself a))
@@ -48,13 +47,6 @@ facts_equivalence = decided same_fact fact_decided
 
 pub fact_member : (facts : List Fact) (fact : Fact) → (is_fact facts fact ≡ true) ↔ Contains facts fact
 fact_member facts fact = (Contains-from_any facts_same fact facts, list_any-from_Contains facts_equivalence fact facts)
-
-not_both : (b : Bool) → b ≡ true → b ≡ false → ⊥
-not_both b t f = absurd (cc)
-
-left_of : (b : Bool) → (b || false) ≡ true → b ≡ true
-left_of true e = e
-left_of false e = e
 
 -- ---- one fact more
 
@@ -74,7 +66,7 @@ with_fact-is facts fact =
     only : (facts : List Fact) (fact q : Fact) → is_fact facts fact ≡ true → Contains (fact ∷ []) q → Contains facts q
     only facts fact q there m =
         let found : (same_fact q fact || false) ≡ true = list_any-from_Contains facts_equivalence q (fact ∷ []) m in
-        let same : q ≡ fact = facts_same q fact (left_of (same_fact q fact) found) in
+        let same : q ≡ fact = facts_same q fact (from_or_false (same_fact q fact) found) in
         subst (Contains facts) (sym same) ((fact_member facts fact).0 there)
 
 -- ---- many facts more
@@ -99,3 +91,36 @@ with_facts-is facts (fact ∷ more) =
       );
       distinct = λ d. rest.distinct (one.distinct d);
     }
+
+pub facts_then : (facts first second : List Fact) → with_facts facts (first ++ second) ≡ with_facts (with_facts facts first) second
+facts_then facts [] second = refl
+facts_then facts (f ∷ first) second = facts_then (with_fact facts f) first second
+
+-- ---- values
+
+pub values_same : (a b : Valued) → same_value a b ≡ true → a ≡ b
+values_same a b e =
+    let front = first_so ((a.func == b.func) && same_numbers a.args b.args) (a.value == b.value) e in
+    let value = second_so ((a.func == b.func) && same_numbers a.args b.args) (a.value == b.value) e in
+    let func = first_so (a.func == b.func) (same_numbers a.args b.args) front in
+    let args = second_so (a.func == b.func) (same_numbers a.args b.args) front in
+    λ i. record { func = eqb-true a.func b.func func i; args = (numbers_decided a.args b.args).0 args i; value = eqb-true a.value b.value value i }
+
+pub value_itself : (a : Valued) → same_value a a ≡ true
+value_itself a = and_from _ _ (and_from _ _ (eq-eqb a.func a.func refl) ((numbers_decided a.args a.args).1 refl)) (eq-eqb a.value a.value refl)
+
+pub value_decided : (a b : Valued) → Decides (same_value a b) (a ≡ b)
+value_decided a b = (values_same a b, λ e. subst (λ x. same_value a x ≡ true) e (value_itself a))
+
+pub values_equivalence : IsEquivalence same_value
+values_equivalence = decided same_value value_decided
+
+-- ---- objects and names
+
+pub object_itself : (sort object : ℕ) → object_with sort (type_fact sort object) ≡ Some object
+object_itself sort object = ap (λ b. cond b (Some object) None) (eq-eqb sort sort refl)
+
+pub in_names : (names : List (List ℕ)) (object : ℕ) → object < length names → IsIn names object
+in_names [] object lt = absurd (omega arith)
+in_names (n ∷ ns) zero lt = refl
+in_names (n ∷ ns) (suc object) lt = let below : object < length ns = omega arith in in_names ns object below

@@ -2,13 +2,15 @@
 use Rattle.std.proofs.Common.{◌≡◌, ℕ, Bool, true, false, cond, not, ◌&&◌, ◌||◌, List, [], ◌∷◌, ◌++◌, map, length, refl, sym, ap, ◌∙◌, is_some, arith, Option, Some, None, suc, zero, slice_get, ◌≤◌}
 use Rattle.std.specs.List.{list_any, AllByRecursion}
 use Rattle.std.specs.List.Sorted.{IsStrictlySortedBy}
-use Rattle.std.specs.Ordering.{ordering_then, eq_by_cmp}
+use Rattle.std.specs.Ordering.{eq_by_cmp}
 use Rattle.std.specs.Cmp.{IsTotalOrder, then_total, on_total, nat_cmp_total, eq_by_cmp_equiv}
 use Rattle.std.specs.Cmp.Lexicographic.{nat_list_cmp_total}
 use Rattle.std.specs.FinMap as finite
 use Rattle.std.specs.FinMap.{IsAntisymmetric, nat_cmp-IsAntisymmetric, slice_cmp-IsAntisymmetric}
-use Rattle.std.specs.declared.cmp.Ordering.{Ordering}
-use Rattle.std.specs.declared.cmp.Ordering.TheVariants.{Less, Equal, Greater}
+use Rattle.std.specs.declared.cmp.Ordering.TheVariants.{Less}
+use Rattle.std.proofs.lemmas.List.{nil_from_length}
+use Rattle.lemmas.proofs.Bools.{or_false, or_swap, or_assoc}
+use Rattle.lemmas.proofs.Ascending.{then_equal}
 use Rattle.task_model.specs.AtomOrder.{atom_cmp}
 use Rattle.task_model.specs.State.{Atoms, empty, contains, insert, remove, len, items, from_list, with_atoms, without_atoms}
 use Rattle.task_model.specs.declared.fact.Atom.{Atom}
@@ -16,14 +18,9 @@ use Rattle.task_model.specs.declared.fact.Atom.{Atom}
 pub atoms_total : IsTotalOrder atom_cmp
 atoms_total = then_total (on_total (λ (a : Atom). a.pred) nat_cmp_total) (on_total (λ (a : Atom). a.args) nat_list_cmp_total)
 
-both_equal : (r s : Ordering) → ordering_then r s ≡ Equal → (r ≡ Equal) × (s ≡ Equal)
-both_equal Less s e = absurd (cc)
-both_equal Equal s e = (refl, e)
-both_equal Greater s e = absurd (cc)
-
 pub atoms_tied : IsAntisymmetric atom_cmp
 atoms_tied a b e =
-    let parts = both_equal _ _ e in
+    let parts = then_equal _ _ e in
     λ i. record { pred = nat_cmp-IsAntisymmetric a.pred b.pred parts.0 i; args = slice_cmp-IsAntisymmetric nat_cmp-IsAntisymmetric a.args b.args parts.1 i }
 
 -- ---- members
@@ -98,11 +95,7 @@ unfolding IsStrictlySortedBy
 entries-from_list [] sorted = empty_entries
   where
     empty_entries : finite.entries empty ≡ []
-    empty_entries = none_of_len _ (sym (finite.len-entries empty) ∙ finite.len-empty atom_cmp (Unit {0}))
-      where
-        none_of_len : {A : Type 0} (xs : List A) → length xs ≡ 0 → xs ≡ []
-        none_of_len [] e = refl
-        none_of_len (x ∷ xs) e = absurd (omega arith)
+    empty_entries = nil_from_length _ (sym (finite.len-entries empty) ∙ finite.len-empty atom_cmp (Unit {0}))
 entries-from_list (k ∷ ks) sorted = finite.entries-insert atoms_total (from_list ks) k tt ∙ ap (finite.put atom_cmp k tt) (entries-from_list ks sorted.1) ∙ put_first k ks sorted.0
 
 firsts : (ks : List Atom) → map (λ (e : Atom × Unit {0}). e.0) (map pair ks) ≡ ks
@@ -131,34 +124,17 @@ pub with_atoms-push : (s : Atoms) (ks : List Atom) (k : Atom) → with_atoms s (
 with_atoms-push s [] k = refl
 with_atoms-push s (x ∷ ks) k = with_atoms-push (insert s x) ks k
 
-or_swap : (a b c : Bool) → (a || (b || c)) ≡ (b || (a || c))
-or_swap true true c = refl
-or_swap true false c = refl
-or_swap false b c = refl
-
 pub contains-with_atoms : (s : Atoms) (ks : List Atom) (q : Atom) → contains (with_atoms s ks) q ≡ (list_any (eq_by_cmp atom_cmp q) ks || contains s q)
 contains-with_atoms s [] q = refl
 contains-with_atoms s (k ∷ ks) q =
     contains-with_atoms (insert s k) ks q ∙ ap (λ b. list_any (eq_by_cmp atom_cmp q) ks || b) (contains-insert s k q)
     ∙ or_swap (list_any (eq_by_cmp atom_cmp q) ks) (eq_by_cmp atom_cmp q k) (contains s q) ∙ or_assoc (eq_by_cmp atom_cmp q k) (list_any (eq_by_cmp atom_cmp q) ks) (contains s q)
-  where
-    or_assoc : (a b c : Bool) → (a || (b || c)) ≡ ((a || b) || c)
-    or_assoc true b c = refl
-    or_assoc false b c = refl
-
-or-false : (a : Bool) → (a || false) ≡ a
-or-false true = refl
-or-false false = refl
 
 -- the set of a list, put together from its front
 pub with_atoms-empty : (ks : List Atom) → with_atoms empty ks ≡ from_list ks
 with_atoms-empty ks =
     same_atoms (with_atoms empty ks) (from_list ks) (λ q.
-    contains-with_atoms empty ks q ∙ ap (λ b. list_any (eq_by_cmp atom_cmp q) ks || b) (contains-empty q) ∙ or-false _ ∙ sym (contains-from_list ks q))
-
-pub map-push : {A B : Type 0} (f : A → B) (xs : List A) (x : A) → map f (xs ++ x ∷ []) ≡ map f xs ++ f x ∷ []
-map-push f [] x = refl
-map-push f (y ∷ ys) x = ap (λ zs. f y ∷ zs) (map-push f ys x)
+    contains-with_atoms empty ks q ∙ ap (λ b. list_any (eq_by_cmp atom_cmp q) ks || b) (contains-empty q) ∙ or_false _ ∙ sym (contains-from_list ks q))
 
 not_or : (a b c : Bool) → (not b && (not a && c)) ≡ (not (a || b) && c)
 not_or true true c = refl

@@ -1,5 +1,6 @@
 -- Executing steps: in parts, and that it is determined.
-use Rattle.std.proofs.Common.{◌≡◌, ℕ, ◌+◌, List, [], ◌∷◌, ◌++◌, refl, sym, ap, subst, ◌∙◌, arith, Some}
+use Rattle.std.proofs.Common.{◌≡◌, ℕ, ◌+◌, List, [], ◌∷◌, ◌++◌, refl, sym, ap, subst, ◌∙◌, arith}
+use Rattle.std.proofs.lemmas.Option.{same_Some}
 use Rattle.task_model.specs.Known.{Known}
 use Rattle.task_model.specs.Laws.{ExecutesInParts}
 use Rattle.task_model.specs.Plans.{Executes}
@@ -7,9 +8,6 @@ use Rattle.task_model.specs.State.{Atoms}
 use Rattle.task_model.specs.Steps.{IsStep, cost_of, effect_of}
 use Rattle.task_model.specs.declared.task.GroundAction.{GroundAction}
 use Rattle.task_model.specs.declared.task.Task.{Task}
-
-some_same : {A : Type 0} (x y : A) → Some x ≡ Some y → x ≡ y
-some_same x y e = cc
 
 module _ (task : Task) (known : Known) where
   pub parts_of_whole : (before after : Atoms) (first second : List GroundAction) (total : ℕ) → Executes task known before (first ++ second) after total → ExecutesInParts task known before first second after total
@@ -32,9 +30,9 @@ module _ (task : Task) (known : Known) where
 
   pub step_determined : (before a b : Atoms) (step : GroundAction) (m n : ℕ) → IsStep task known before step a m → IsStep task known before step b n → (a ≡ b) × (m ≡ n)
   step_determined before a b step m n p q =
-      let action : p.action ≡ q.action = some_same _ _ (sym p.named ∙ q.named) in
+      let action : p.action ≡ q.action = same_Some _ _ (sym p.named ∙ q.named) in
       let states : a ≡ b = p.leads ∙ ap (λ x. effect_of x step.args before) action ∙ sym q.leads in
-      let costs : m ≡ n = some_same _ _ (sym p.costs ∙ ap (λ x. cost_of task known x step.args) action ∙ q.costs) in
+      let costs : m ≡ n = same_Some _ _ (sym p.costs ∙ ap (λ x. cost_of task known x step.args) action ∙ q.costs) in
       (states, costs)
 
   pub execution_determined : (before : Atoms) (steps : List GroundAction) (a b : Atoms) (m n : ℕ) → Executes task known before steps a m → Executes task known before steps b n → (a ≡ b) × (m ≡ n)

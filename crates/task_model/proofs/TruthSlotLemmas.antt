@@ -1,6 +1,7 @@
 -- Truth and the slots of a condition.
-use Rattle.std.proofs.Common.{◌≡◌, ℕ, ◌+◌, zero, suc, Bool, true, false, not, ◌&&◌, ◌||◌, ◌==◌, List, [], ◌∷◌, length, refl, sym, ap, ◌∙◌, arith, slice_index, slice_set, eq-eqb}
+use Rattle.std.proofs.Common.{◌≡◌, ℕ, ◌+◌, zero, suc, Bool, true, not, ◌&&◌, ◌||◌, ◌==◌, List, [], ◌∷◌, length, refl, sym, ap, ◌∙◌, arith, slice_index, slice_set, eq-eqb}
 use Rattle.std.specs.List.{list_any}
+use Rattle.std.proofs.lemmas.Bool.{or_right, or_left}
 use Rattle.task_model.specs.Condition.{Condition, Conditions, Atom, Equal, All as every, Any, Not, Exists, none, more}
 use Rattle.task_model.specs.Laws.{touches, any_touches}
 use Rattle.task_model.specs.Truth.{object_of, objects_at, some_tuple, truth, all_true, any_true, is_slot}
@@ -11,14 +12,6 @@ use Rattle.task_model.specs.declared.condition.Term.TheVariants.{Slot, Object}
 pub record Agree (test : ℕ → Bool) (s t : List ℕ) : Type 0 where
   pub long : length s ≡ length t
   pub at : (n : ℕ) → test n ≡ true → slice_index s n ≡ slice_index t n
-
-or_left : (a b : Bool) → a ≡ true → (a || b) ≡ true
-or_left true b e = refl
-or_left false b e = absurd (cc)
-
-or_right : (a b : Bool) → b ≡ true → (a || b) ≡ true
-or_right true b e = refl
-or_right false b e = e
 
 agree_left : (p q : ℕ → Bool) (s t : List ℕ) → Agree (λ n. p n || q n) s t → Agree p s t
 agree_left p q s t a = record { long = a.long; at = λ n h. a.at n (or_left (p n) (q n) h) }

@@ -4,6 +4,7 @@ use Rattle.std.proofs.lemmas.Bool.{eqb-false, or_cases, or_left, or_right}
 use Rattle.name_tables.proofs.GraphsOrderLemmas.{ascending_in, in_ascending}
 use Rattle.name_tables.specs.Graphs.{ascending, ascending_with}
 use Rattle.lemmas.specs.Lists.{has_number}
+use Rattle.name_tables.proofs.GraphsLemmas.{no_number}
 
 -- they ascend, from this number on
 abbrev pub Rises : ℕ → List ℕ → Type 0
@@ -66,8 +67,5 @@ one_rise low (n ∷ ns) (m ∷ ms) r s to from =
 pub one_ascending : (ns ms : List ℕ) → ((b : ℕ) → has_number ns b ≡ true → has_number ms b ≡ true) → ((b : ℕ) → has_number ms b ≡ true → has_number ns b ≡ true) → ascending [] ns ≡ ascending [] ms
 one_ascending ns ms to from = one_rise 0 (ascending [] ns) (ascending [] ms) (rises_all [] ns tt) (rises_all [] ms tt) (along ns ms to) (along ms ns from)
   where
-    no_number : (b : ℕ) → has_number [] b ≡ true → ⊥
-    no_number b e = absurd (cc)
-
     along : (xs ys : List ℕ) → ((b : ℕ) → has_number xs b ≡ true → has_number ys b ≡ true) → (b : ℕ) → has_number (ascending [] xs) b ≡ true → has_number (ascending [] ys) b ≡ true
     along xs ys f b h = elim (in_ascending [] xs b h) [ inl e ↦ absurd (no_number b e) | inr e ↦ ascending_in [] ys b (inr (f b e)) ]

@@ -61,14 +61,6 @@ not_refused bytes Holds IsAnswered (Input kind) place f s r = of_one_tree bytes 
 no_least : (fs : List Fault) (f : Fault) → fs ≡ [] → least_fault fs ≡ Some f → ⊥
 no_least fs f none e = absurd (let both = sym (ap least_fault none) ∙ e in cc)
 
-left_none : {A : Type 0} (xs ys : List A) → xs ++ ys ≡ [] → xs ≡ []
-left_none [] ys e = refl
-left_none (x ∷ xs) ys e = absurd (cc)
-
-right_none : {A : Type 0} (xs ys : List A) → xs ++ ys ≡ [] → ys ≡ []
-right_none [] ys e = e
-right_none (x ∷ xs) ys e = absurd (cc)
-
 -- the faults of cycles are one list
 one_cycles : (kind : InputKind) (edges : List (List ℕ)) (cs : _) (fs gs : List Fault) → CycleFaults kind edges cs fs → CycleFaults kind edges cs gs → fs ≡ gs
 one_cycles kind edges [] fs gs no_more no_more = refl

@@ -3,7 +3,7 @@ use Rattle.std.proofs.Common.{◌≡◌, ℕ, zero, suc, ◌+◌, ◌-◌, ◌�
 use Rattle.std.proofs.lemmas.List.Filters.{length-filter_both}
 use Rattle.std.proofs.lemmas.List.Sums.{length-filter}
 use Rattle.std.specs.List.{list_any}
-use Rattle.session_core.proofs.LearningLemmas.{answer_at}
+use Rattle.session_core.proofs.LearningLemmas.{answer_at, answers_to}
 use Rattle.session_core.proofs.SessionLemmas.{count_joined, count_one}
 use Rattle.session_core.specs.Learning.{CanLearn}
 use Rattle.session_core.specs.Session.{Asks}
@@ -14,8 +14,7 @@ use Rattle.transcript_model.proofs.LegalLemmas.{grows}
 use Rattle.transcript_model.proofs.LegalPrefixLemmas.{asked-kept}
 use Rattle.transcript_model.proofs.LegalNumberLemmas.{next_is_fresh}
 use Rattle.transcript_model.proofs.LegalStepLemmas.{answer_adds, request_adds}
-use Rattle.transcript_model.proofs.NamesLemmas.{same_some}
-use Rattle.transcript_model.specs.Legal.{IsRightAsk, MayFollow, asks_of, is_answer_to, is_ask, is_ask_of, is_open, is_answer, answered_number}
+use Rattle.transcript_model.specs.Legal.{IsRightAsk, MayFollow, asks_of, is_ask, is_ask_of, is_open, is_answer, answered_number}
 use Rattle.transcript_model.specs.Names.{instance_of}
 use Rattle.transcript_model.specs.Transcript.{Asked, asked, known_of, names_of, notes_of}
 use Rattle.transcript_model.specs.declared.entry.Call.{Call}
@@ -25,16 +24,12 @@ use Rattle.transcript_ledger.specs.Ledgers.{IsLedger}
 use Rattle.lemmas.specs.Lists.{has_number}
 use Rattle.transcript_ledger.specs.Numbers.{without}
 use Rattle.transcript_ledger.specs.declared.ledger.Ledger.{Ledger}
+use Rattle.std.proofs.lemmas.Bool.{true≢false}
+use Rattle.lemmas.proofs.Bools.{or_false, and_false, or_assoc}
+use Rattle.lemmas.proofs.Options.{same_some}
+use Rattle.lemmas.proofs.Members.{get_at_length}
 
 -- ---- lists
-
-or_false : (b : Bool) → (b || false) ≡ b
-or_false true = refl
-or_false false = refl
-
-or_assoc : (a b c : Bool) → (a || (b || c)) ≡ ((a || b) || c)
-or_assoc true b c = refl
-or_assoc false b c = refl
 
 any_push : {A : Type 0} (p : A → Bool) (xs : List A) (x : A) → list_any p (xs ++ x ∷ []) ≡ (list_any p xs || p x)
 any_push p [] x = or_false (p x)
@@ -50,29 +45,18 @@ at_push (z ∷ zs) x y (suc k) at = by (at_push zs x y k at)
     by (inl e) = inl e
     by (inr (e, same)) = inr (ap suc e, same)
 
-at_last : {A : Type 0} (xs : List A) (x : A) → slice_get (xs ++ x ∷ []) (length xs) ≡ Some x
-at_last [] x = refl
-at_last (y ∷ ys) x = at_last ys x
-
 not_same : (n k m : ℕ) → (n == m) ≡ true → (k == m) ≡ true → (k == n) ≡ true
 not_same n k m e f = eq-eqb k n (eqb-true k m f ∙ sym (eqb-true n m e))
-
-and_none : (b : Bool) → (b && false) ≡ false
-and_none true = refl
-and_none false = refl
-
-no : true ≡ false → ⊥
-no e = absurd (cc)
 
 -- by the three tests
 abbrev Without : ℕ → ℕ → ℕ → List ℕ → Bool → Bool → Bool → Type 0
 Without n k m ms first here same = has_number (without n ms) k ≡ (has_number ms k && not same) → has_number (cond (not first) (m ∷ without n ms) (without n ms)) k ≡ ((here || has_number ms k) && not same)
 
 without_by : (n k m : ℕ) (ms : List ℕ) (first here same : Bool) → (n == m) ≡ first → (k == m) ≡ here → (k == n) ≡ same → Without n k m ms first here same
-without_by n k m ms true true true e f g rest = rest ∙ and_none (has_number ms k)
-without_by n k m ms true true false e f g rest = absurd (no (sym (not_same n k m e f) ∙ g))
+without_by n k m ms true true true e f g rest = rest ∙ and_false (has_number ms k)
+without_by n k m ms true true false e f g rest = absurd (true≢false (sym (not_same n k m e f) ∙ g))
 without_by n k m ms true false same e f g rest = rest
-without_by n k m ms false true true e f g rest = absurd (no (sym (eq-eqb n m (sym (eqb-true k n g) ∙ eqb-true k m f)) ∙ e))
+without_by n k m ms false true true e f g rest = absurd (true≢false (sym (eq-eqb n m (sym (eqb-true k n g) ∙ eqb-true k m f)) ∙ e))
 without_by n k m ms false true false e f g rest = ap (λ b. b || has_number (without n ms) k) f
 without_by n k m ms false false same e f g rest = ap (λ b. b || has_number (without n ms) k) f ∙ rest
 
@@ -81,7 +65,7 @@ among_without n k [] = refl
 among_without n k (m ∷ ms) = without_by n k m ms (n == m) (k == m) (k == n) refl refl refl (among_without n k ms)
 
 some_count : {A : Type 0} (p : A → Bool) (xs : List A) → list_any p xs ≡ true → 1 ≤ count_by p xs
-some_count p [] e = absurd (no (sym e))
+some_count p [] e = absurd (true≢false (sym e))
 some_count p (x ∷ xs) e = omega (arith, count_joined p (x ∷ []) xs, count_one p x, by (p x) (some_count p xs) e)
   where
     by : (b : Bool) → (list_any p xs ≡ true → 1 ≤ count_by p xs) → (b || list_any p xs) ≡ true → 1 ≤ cond {A = ℕ} b 1 0 + count_by p xs
@@ -126,18 +110,6 @@ ask_kept version turn task before call l new i h right named facts queue asked_i
     asks_by k j (inr (last, is)) stream streamed here = subst (λ x. Asks task (before ++ entry.Ask (length l.asked.items + 1) turn call ∷ []) (k + 1) x) is (record { stream = stream; streamed = streamed; asks = ap (λ n. asked task (before ++ entry.Ask (length l.asked.items + 1) turn call ∷ []) (n + 1)) last ∙ here })
 
 -- ---- an answer
-
-answers_it : (e : Entry) (n : ℕ) → answered_number e ≡ Some n → is_answer_to n e ≡ true
-answers_it (entry.Got m tuples values) n e = let same : m ≡ n = cc in eq-eqb n m (sym same)
-answers_it (entry.Value m value) n e = let same : m ≡ n = cc in eq-eqb n m (sym same)
-answers_it (entry.End m) n e = let same : m ≡ n = cc in eq-eqb n m (sym same)
-answers_it (entry.Ask m turn call) n e = absurd (cc)
-answers_it entry.Level n e = absurd (cc)
-answers_it (entry.Dream uses steps) n e = absurd (cc)
-answers_it entry.Nothing n e = absurd (cc)
-answers_it entry.Reset n e = absurd (cc)
-answers_it (entry.Pick m) n e = absurd (cc)
-answers_it (entry.Retire m) n e = absurd (cc)
 
 is_answer_so : (e : Entry) (n : ℕ) → answered_number e ≡ Some n → is_answer e ≡ true
 is_answer_so (entry.Got m tuples values) n e = refl
@@ -201,14 +173,14 @@ module _ (version : ℕ) (task : Task) (before : List Entry) (l : Ledger) (e : E
 
   pub asked_here : (a : Asked) × (asked task before n ≡ Some a)
   asked_here =
-      let w = answer_at task l.asked.items (before ++ e ∷ []) can (length before) n e (at_last before e) answers in
+      let w = answer_at task l.asked.items (before ++ e ∷ []) can (length before) n e (get_at_length before e) answers in
       let a = h.asks (n - 1) w.request.instance w.is in
       let same : n ≡ n - 1 + 1 = omega (arith, w.some) in
       (record { stream = a.stream; instance = w.request.instance }, ap (asked task before) same ∙ a.asks)
 
   pub answer_kept : (new : Ledger) (a : Asked) → asked task before n ≡ Some a → new.facts.known ≡ known_of task (before ++ e ∷ []) → new.queue ≡ notes_of task (before ++ e ∷ []) → new.asked.items ≡ l.asked.items → new.unanswered.items ≡ without n l.unanswered.items → IsLedger version task (before ++ e ∷ []) new
   answer_kept new a was known notes asked_is unanswered_is =
-      let adds = answer_adds version task before h.fit.problem.objects.names.distinct h.legal n a was e (answers_it e n answers) in
+      let adds = answer_adds version task before h.fit.problem.objects.names.distinct h.legal n a was e (answers_to e n answers) in
       record {
         fit = h.fit;
         legal = (grows version task before).next e h.legal may;

@@ -4,30 +4,31 @@ use Rattle.std.proofs.lemmas.List.Elements.{All-head, All-tail}
 use Rattle.std.specs.Cmp.{first_so, second_so}
 use Rattle.std.specs.List.{list_all}
 use Rattle.gen_lines.specs.Reply.{is_value, IsRight}
-use Rattle.session_core.proofs.LearningLemmas.{there_at}
 use Rattle.task_model.specs.declared.task.Task.{Task}
-use Rattle.transcript_model.proofs.NamesLemmas.{same_some}
 use Rattle.report_text.specs.Forms.{AreTuples, IsFormedEntry}
 use Rattle.transcript_model.specs.Legal.{MayFollow, has_several, is_open, answered_number}
 use Rattle.transcript_model.specs.Transcript.{Asked, asked}
 use Rattle.transcript_model.specs.declared.entry.Entry.{Entry}
 use Rattle.transcript_model.specs.declared.entry.Entry.TheVariants as entry
-use Rattle.transcript_ledger.proofs.TalksAskLemmas.{all_of, no, opened}
+use Rattle.transcript_ledger.proofs.TalksAskLemmas.{opened}
 use Rattle.transcript_ledger.specs.Ledgers.{IsLedger}
 use Rattle.lemmas.specs.Lists.{has_number}
 use Rattle.transcript_ledger.specs.Talks.{may_answer, may_give}
 use Rattle.transcript_ledger.specs.declared.ledger.Ledger.{Ledger}
+use Rattle.std.proofs.lemmas.Bool.{and_from, not-true, false≢true}
+use Rattle.lemmas.proofs.Options.{same_some}
+use Rattle.lemmas.proofs.ListTests.{get_there}
 
 all_pass : (p : List ℕ → Bool) (xs : List (List ℕ)) → All (λ v. p v ≡ true) xs → list_all p xs ≡ true
 all_pass p [] every = refl
-all_pass p (x ∷ xs) every = all_of (p x) (list_all p xs) (All-head (λ v. p v ≡ true) x xs every) (all_pass p xs (All-tail (λ v. p v ≡ true) x xs every))
+all_pass p (x ∷ xs) every = and_from (p x) (list_all p xs) (All-head (λ v. p v ≡ true) x xs every) (all_pass p xs (All-tail (λ v. p v ≡ true) x xs every))
 
 not_several : (version : ℕ) → has_several version ≡ false → version ≡ 1
 not_several version e = by (version == 1) refl e
   where
     by : (b : Bool) → (version == 1) ≡ b → not b ≡ false → version ≡ 1
     by true is e = eqb-true version 1 is
-    by false is e = absurd (no (sym e))
+    by false is e = absurd (false≢true (sym e))
 
 -- tuples of a formed yield that are as wide as the stream says
 right : (version tuples width : ℕ) (values : List (List ℕ)) → AreTuples version tuples values → length values ≡ tuples * width → IsRight width (has_several version) tuples values
@@ -51,7 +52,7 @@ module _ (version : ℕ) (task : Task) (before : List Entry) (l : Ledger) (h : I
   found : (n : ℕ) → is_open before n ≡ true → Found n
   found n waits =
       let within = opened version task before n h.legal waits in
-      let there = there_at l.asked.items (n - 1) (omega (arith, within.0, within.1, h.counted)) in
+      let there = get_there l.asked.items (n - 1) (omega (arith, within.0, within.1, h.counted)) in
       let its = h.asks (n - 1) there.0 there.1 in
       let back : n ≡ n - 1 + 1 = omega (arith, within.0) in
       record { request = record { stream = its.stream; instance = there.0 }; at = there.1; streamed = its.streamed; of = ap (asked task before) back ∙ its.asks }
@@ -69,7 +70,7 @@ module _ (version : ℕ) (task : Task) (before : List Entry) (l : Ledger) (h : I
     where
       by : (b : Bool) → has_number l.unanswered.items n ≡ b → is_open before n ≡ true
       by true is = sym (h.unanswered n) ∙ is
-      by false is = let r : false ≡ true = rw is at passed in absurd (no r)
+      by false is = let r : false ≡ true = rw is at passed in absurd (false≢true r)
 
   gives : (n : ℕ) (e : Entry) → IsFormedEntry version e → answered_number e ≡ Some n → is_open before n ≡ true → (f : Found n) → may_give f.request.stream e ≡ true → MayFollow version task before e
   gives n (entry.Got m tuples values) formed is waits f given =
@@ -79,11 +80,7 @@ module _ (version : ℕ) (task : Task) (before : List Entry) (l : Ledger) (h : I
   gives n (entry.Value m value) formed is waits f given =
       let same : m ≡ n = cc in
       subst (λ k. MayFollow version task before (entry.Value k value)) (sym same)
-      (record { waiting = waits; request = f.request; of = f.of; cost = by (is_none f.request.stream.worth) given; few = formed.1 })
-    where
-      by : (b : Bool) → not b ≡ true → b ≡ false
-      by true e = absurd (no e)
-      by false e = refl
+      (record { waiting = waits; request = f.request; of = f.of; cost = not-true (is_none f.request.stream.worth) given; few = formed.1 })
   gives n (entry.End m) formed is waits f given = let same : m ≡ n = cc in ap (is_open before) same ∙ waits
   gives n (entry.Ask m turn call) formed is waits f given = absurd (cc)
   gives n entry.Level formed is waits f given = absurd (cc)
@@ -103,7 +100,7 @@ module _ (version : ℕ) (task : Task) (before : List Entry) (l : Ledger) (h : I
   given_by n (entry.Got m tuples values) is may f =
       let same : m ≡ n = cc in
       let request : may.request ≡ f.request = same_some (asked task before n) may.request f.request (ap (asked task before) (sym same) ∙ may.of) f.of in
-      all_of (is_none f.request.stream.worth) (length values == tuples * length f.request.stream.outputs) (ap (λ (a : Asked). is_none a.stream.worth) (sym request) ∙ may.no_cost) (eq-eqb (length values) (tuples * length f.request.stream.outputs) (may.right.count ∙ ap (λ (a : Asked). tuples * length a.stream.outputs) request))
+      and_from (is_none f.request.stream.worth) (length values == tuples * length f.request.stream.outputs) (ap (λ (a : Asked). is_none a.stream.worth) (sym request) ∙ may.no_cost) (eq-eqb (length values) (tuples * length f.request.stream.outputs) (may.right.count ∙ ap (λ (a : Asked). tuples * length a.stream.outputs) request))
   given_by n (entry.Value m value) is may f =
       let same : m ≡ n = cc in
       let request : may.request ≡ f.request = same_some (asked task before n) may.request f.request (ap (asked task before) (sym same) ∙ may.of) f.of in

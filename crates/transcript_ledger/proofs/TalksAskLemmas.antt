@@ -1,19 +1,17 @@
 -- Whether a request may be made, by the tests of a ledger.
-use Rattle.std.proofs.Common.{◌≡◌, ℕ, zero, suc, ◌+◌, ◌-◌, ◌≤◌, ◌==◌, Bool, true, false, not, ◌&&◌, ◌||◌, List, [], ◌∷◌, take, drop, length, refl, sym, ap, subst, ◌∙◌, arith, Option, Some, None, slice_get, eqb-true, eq-eqb, nat_eq}
+use Rattle.std.proofs.Common.{◌≡◌, ℕ, suc, ◌+◌, ◌-◌, ◌≤◌, ◌==◌, Bool, true, false, not, ◌&&◌, ◌||◌, List, [], ◌∷◌, take, drop, length, refl, sym, ap, subst, ◌∙◌, arith, Option, Some, None, slice_get, eqb-true, eq-eqb, nat_eq}
 use Rattle.std.proofs.Math.ListN.{take-append-drop}
 use Rattle.std.specs.Cmp.{first_so, second_so}
 use Rattle.std.specs.List.{list_any}
-use Rattle.instance_queue.proofs.NotesLemmas.{instances_same}
-use Rattle.session_core.proofs.LearningLemmas.{take_next, there_at}
+use Rattle.session_core.proofs.LearningLemmas.{take_next}
 use Rattle.session_core.proofs.SessionLemmas.{count_joined}
-use Rattle.task_model.proofs.StreamsLemmas.{due_holds, due_passes}
+use Rattle.task_model.proofs.StreamsLemmas.{due_holds, due_passes, instances_same}
 use Rattle.task_model.specs.Known.{Known, same_numbers}
 use Rattle.task_model.specs.Streams.{IsDue, is_due, same_instance, yields_of}
 use Rattle.task_model.specs.declared.stream.Instance.{Instance}
 use Rattle.task_model.specs.declared.stream.Stream.{Stream}
 use Rattle.task_model.specs.declared.task.Task.{Task}
 use Rattle.transcript_model.proofs.LegalPrefixLemmas.{first_request}
-use Rattle.transcript_model.proofs.NamesLemmas.{same_some}
 use Rattle.transcript_model.specs.Legal.{IsLegal, HasNoRequestOpen, IsRightAsk, asks_of, is_answer_to, is_ask, is_ask_of, is_open}
 use Rattle.transcript_model.specs.Names.{instance_of}
 use Rattle.transcript_model.specs.Transcript.{Asked, asked, known_of, names_of, notes_of}
@@ -24,21 +22,11 @@ use Rattle.transcript_ledger.specs.Ledgers.{IsLedger, asked_it, is_waiting}
 use Rattle.lemmas.specs.Lists.{has_number}
 use Rattle.transcript_ledger.specs.Talks.{may_ask}
 use Rattle.transcript_ledger.specs.declared.ledger.Ledger.{Ledger}
+use Rattle.std.proofs.lemmas.Bool.{and_from, not-true, not_from_false, false≢true}
+use Rattle.std.proofs.lemmas.Map.Keys.{any_passes_from_place}
+use Rattle.lemmas.proofs.Options.{same_some}
+use Rattle.lemmas.proofs.ListTests.{get_there}
 
-pub no : false ≡ true → ⊥
-no e = absurd (cc)
-
-not_true : (b : Bool) → not b ≡ true → b ≡ false
-not_true true e = absurd (no e)
-not_true false e = refl
-
-not_false : (b : Bool) → b ≡ false → not b ≡ true
-not_false true e = absurd (no (sym e))
-not_false false e = refl
-
-pub all_of : (a b : Bool) → a ≡ true → b ≡ true → (a && b) ≡ true
-all_of true b p q = q
-all_of false b p q = p
 
 -- ---- open requests
 
@@ -53,15 +41,6 @@ opened version task before n legal waits =
     let number = right.next in
     (omega (arith, number), omega (arith, number, parts, front))
 
-any_at : {A : Type 0} (p : A → Bool) (xs : List A) (k : ℕ) (x : A) → slice_get xs k ≡ Some x → p x ≡ true → list_any p xs ≡ true
-any_at p [] k x at passes_it = absurd (cc)
-any_at p (y ∷ ys) zero x at passes_it = let same : y ≡ x = cc in ap (λ z. p z || list_any p ys) same ∙ ap (λ b. b || list_any p ys) passes_it
-any_at p (y ∷ ys) (suc k) x at passes_it = later (p y) (list_any p ys) (any_at p ys k x at passes_it)
-  where
-    later : (a b : Bool) → b ≡ true → (a || b) ≡ true
-    later true b e = refl
-    later false b e = e
-
 pub record HasSuch {A : Type 0} (p : A → Bool) (xs : List A) : Type 0 where
   pub place : ℕ
   pub member : A
@@ -69,7 +48,7 @@ pub record HasSuch {A : Type 0} (p : A → Bool) (xs : List A) : Type 0 where
   pub passes_it : p member ≡ true
 
 such : {A : Type 0} (p : A → Bool) (xs : List A) → list_any p xs ≡ true → HasSuch p xs
-such p [] e = absurd (no e)
+such p [] e = absurd (false≢true e)
 such p (y ∷ ys) e = by (p y) refl e (such p ys)
   where
     by : (b : Bool) → p y ≡ b → (b || list_any p ys) ≡ true → (list_any p ys ≡ true → HasSuch p ys) → HasSuch p (y ∷ ys)
@@ -81,13 +60,13 @@ asked_yes asked_all i j n at same = let r : same_instance j i ≡ true = itself 
   where
     numbers : (xs : List ℕ) → same_numbers xs xs ≡ true
     numbers [] = refl
-    numbers (x ∷ xs) = all_of (nat_eq x x) (same_numbers xs xs) (eq-eqb x x refl) (numbers xs)
+    numbers (x ∷ xs) = and_from (nat_eq x x) (same_numbers xs xs) (eq-eqb x x refl) (numbers xs)
 
     itself : same_instance j i ≡ true
-    itself = ap (λ (k : Instance). same_instance k i) same ∙ all_of (i.stream == i.stream) (same_numbers i.inputs i.inputs) (eq-eqb i.stream i.stream refl) (numbers i.inputs)
+    itself = ap (λ (k : Instance). same_instance k i) same ∙ and_from (i.stream == i.stream) (same_numbers i.inputs i.inputs) (eq-eqb i.stream i.stream refl) (numbers i.inputs)
 
 asked_is : (asked_all : List Instance) (i : Instance) (n : ℕ) (o : Option Instance) → slice_get asked_all (n - 1) ≡ o → asked_it asked_all i n ≡ true → (j : Instance) × (slice_get asked_all (n - 1) ≡ Some j) × (j ≡ i)
-asked_is asked_all i n None at e = let r : false ≡ true = rw at at e in absurd (no r)
+asked_is asked_all i n None at e = let r : false ≡ true = rw at at e in absurd (false≢true r)
 asked_is asked_all i n (Some j) at e = let r : same_instance j i ≡ true = rw at at e in (j, at, instances_same j i r)
 
 -- ---- the tests
@@ -113,7 +92,7 @@ module _ (version : ℕ) (task : Task) (before : List Entry) (l : Ledger) (h : I
       by false e = refl
       by true e =
           let within = opened version task before n h.legal e in
-          let there = there_at l.asked.items (n - 1) (omega (arith, within.0, within.1, h.counted)) in
+          let there = get_there l.asked.items (n - 1) (omega (arith, within.0, within.1, h.counted)) in
           let its = h.asks (n - 1) there.0 there.1 in
           let back : n ≡ n - 1 + 1 = omega (arith, within.0) in
           let known : asked task before n ≡ Some (record { stream = its.stream; instance = there.0 }) = ap (asked task before) back ∙ its.asks in
@@ -122,7 +101,7 @@ module _ (version : ℕ) (task : Task) (before : List Entry) (l : Ledger) (h : I
           let it = such (λ m. n == m) l.unanswered.items among in
           let number_is : it.member ≡ n = sym (eqb-true n it.member it.passes_it) in
           let passes_it : asked_it l.asked.items i it.member ≡ true = ap (asked_it l.asked.items i) number_is ∙ asked_yes l.asked.items i there.0 n there.1 is in
-          absurd (no (sym none ∙ any_at (asked_it l.asked.items i) l.unanswered.items it.place it.member it.at passes_it))
+          absurd (false≢true (sym none ∙ any_passes_from_place (asked_it l.asked.items i) l.unanswered.items it.place it.member it.at passes_it))
 
   waits_not : HasNoRequestOpen task before i → is_waiting l.asked.items l.unanswered.items i ≡ false
   waits_not closed = by (is_waiting l.asked.items l.unanswered.items i) refl
@@ -133,11 +112,11 @@ module _ (version : ℕ) (task : Task) (before : List Entry) (l : Ledger) (h : I
           let it = such (asked_it l.asked.items i) l.unanswered.items e in
           let n = it.member in
           let was = asked_is l.asked.items i n (slice_get l.asked.items (n - 1)) refl it.passes_it in
-          let here : is_open before n ≡ true = sym (h.unanswered n) ∙ any_at (λ m. n == m) l.unanswered.items it.place n it.at (eq-eqb n n refl) in
+          let here : is_open before n ≡ true = sym (h.unanswered n) ∙ any_passes_from_place (λ m. n == m) l.unanswered.items it.place n it.at (eq-eqb n n refl) in
           let within = opened version task before n h.legal here in
           let its = h.asks (n - 1) was.0 was.1 in
           let back : n ≡ n - 1 + 1 = omega (arith, within.0) in
-          absurd (no (sym (closed n (record { stream = its.stream; instance = was.0 }) (ap (asked task before) back ∙ its.asks) was.2) ∙ here))
+          absurd (false≢true (sym (closed n (record { stream = its.stream; instance = was.0 }) (ap (asked task before) back ∙ its.asks) was.2) ∙ here))
 
   pub passes : may_ask task l number turn i ≡ true → IsRightAsk task before number turn call
   passes e =
@@ -149,7 +128,7 @@ module _ (version : ℕ) (task : Task) (before : List Entry) (l : Ledger) (h : I
         instance = i;
         named = named;
         due = subst (λ k. IsDue task k (notes_of task before) i) h.known (subst (λ ns. IsDue task l.facts.known ns i) h.notes due);
-        closed = idle (not_true (is_waiting l.asked.items l.unanswered.items i) (second_so due_test idle_test after_turn));
+        closed = idle (not-true (is_waiting l.asked.items l.unanswered.items i) (second_so due_test idle_test after_turn));
         turned = eqb-true turn (yields_of l.queue i) (first_so turn_test (due_test && idle_test) after_next) ∙ ap (λ ns. yields_of ns i) h.notes;
       }
 
@@ -158,6 +137,6 @@ module _ (version : ℕ) (task : Task) (before : List Entry) (l : Ledger) (h : I
       let same : right.instance ≡ i = same_some (instance_of task (names_of task before) call) right.instance i right.named named in
       let due : IsDue task l.facts.known l.queue i = subst (λ k. IsDue task k l.queue i) (sym h.known) (subst (λ ns. IsDue task (known_of task before) ns i) (sym h.notes) (subst (λ j. IsDue task (known_of task before) (notes_of task before) j) same right.due)) in
       let closed : HasNoRequestOpen task before i = subst (HasNoRequestOpen task before) same right.closed in
-      all_of next_test (turn_test && (due_test && idle_test)) (eq-eqb number (length l.asked.items + 1) (right.next ∙ ap (λ m. m + 1) (sym h.counted)))
-      (all_of turn_test (due_test && idle_test) (eq-eqb turn (yields_of l.queue i) (right.turned ∙ ap (yields_of (notes_of task before)) same ∙ ap (λ ns. yields_of ns i) (sym h.notes)))
-      (all_of due_test idle_test (due_passes task l.facts.known l.queue i due) (not_false (is_waiting l.asked.items l.unanswered.items i) (waits_not closed))))
+      and_from next_test (turn_test && (due_test && idle_test)) (eq-eqb number (length l.asked.items + 1) (right.next ∙ ap (λ m. m + 1) (sym h.counted)))
+      (and_from turn_test (due_test && idle_test) (eq-eqb turn (yields_of l.queue i) (right.turned ∙ ap (yields_of (notes_of task before)) same ∙ ap (λ ns. yields_of ns i) (sym h.notes)))
+      (and_from due_test idle_test (due_passes task l.facts.known l.queue i due) (not_from_false (is_waiting l.asked.items l.unanswered.items i) (waits_not closed))))

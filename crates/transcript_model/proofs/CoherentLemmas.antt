@@ -1,22 +1,25 @@
 -- What is known after a legal transcript is coherent.
-use Rattle.std.proofs.Common.{◌≡◌, ℕ, zero, suc, ◌+◌, ◌*◌, ◌≤◌, arith, Bool, true, false, cond, ◌&&◌, ◌==◌, nat_le, nat_lt, List, [], ◌∷◌, ◌++◌, map, filter, take, drop, length, refl, sym, subst, ap, ◌∙◌, Option, Some, None, slice_get, All, Contains, eqb-true, eq-eqb, suc-mul, option_map}
+use Rattle.std.proofs.Common.{◌≡◌, ℕ, zero, suc, ◌+◌, ◌*◌, ◌≤◌, arith, true, false, cond, ◌&&◌, ◌==◌, nat_le, nat_lt, List, [], ◌∷◌, ◌++◌, map, filter, take, drop, length, refl, sym, subst, ap, ◌∙◌, Option, Some, None, slice_get, All, Contains, eqb-true, suc-mul, option_map}
 use Rattle.std.proofs.lemmas.Bool.{leb-true}
 use Rattle.std.proofs.lemmas.List.{length-map, length-take-le, length-drop, length-append, take-append-drop}
-use Rattle.std.proofs.lemmas.List.Elements.{All-append, All-contains, Contains-append_left, Contains-append_right}
+use Rattle.std.proofs.lemmas.List.Elements.{All-append, All-contains, Contains-append_left, Contains-append_right, All-nil, All-cons}
 use Rattle.std.proofs.lemmas.Map.Views.{list_any-from_Contains}
 use Rattle.std.proofs.lemmas.Option.{slice_get_within}
-use Rattle.std.specs.Bool.{Decides}
-use Rattle.std.specs.Cmp.{IsEquivalence, decided, first_so, second_so}
+use Rattle.std.specs.Cmp.{first_so, second_so}
 use Rattle.std.specs.List.{list_any, list_all, flat_map}
 use Rattle.std.specs.Option.{option_and_then, option_or}
-use Rattle.task_model.proofs.KnownLemmas.{numbers_decided, with_facts-is}
+use Rattle.task_model.proofs.KnownLemmas.{with_facts-is, in_names, values_equivalence}
+use Rattle.task_model.proofs.TruthLemmas.{have_types-length}
 use Rattle.lemmas.proofs.Members.{distinct_push, distinct_nil}
+use Rattle.lemmas.proofs.Bools.{not_both}
+use Rattle.lemmas.proofs.Options.{same_some}
+use Rattle.lemmas.proofs.ListTests.{all_one}
 use Rattle.task_model.specs.Fit.{IsFit, is_fit_value, is_short, has_arity}
 use Rattle.task_model.specs.Initial.{declared_names, declared_types, initial_known, is_static}
-use Rattle.task_model.specs.Known.{Known, IsCoherent, IsIn, same_numbers, same_value, with_value, with_values}
+use Rattle.task_model.specs.Known.{IsCoherent, IsIn, same_value, with_value, with_values}
 use Rattle.lemmas.specs.Lists.{AreDistinct}
 use Rattle.task_model.specs.Streams.{worth_by}
-use Rattle.task_model.specs.Truth.{has_type, have_types}
+use Rattle.task_model.specs.Truth.{have_types}
 use Rattle.task_model.specs.declared.domain.Declared.{Declared}
 use Rattle.task_model.specs.declared.stream.Instance.{Instance}
 use Rattle.task_model.specs.declared.stream.Stream.{Stream}
@@ -31,34 +34,10 @@ use Rattle.transcript_model.specs.declared.entry.Call.{Call}
 use Rattle.transcript_model.specs.declared.entry.Entry.{Entry}
 use Rattle.transcript_model.specs.declared.entry.Entry.TheVariants as entry
 use Rattle.transcript_model.proofs.LegalPrefixLemmas.{names_of-front, names_of-distinct, asked-later, values_named, AreNamed, named_places}
-use Rattle.transcript_model.proofs.NamedObjectLemmas.{IsNamed, all_nil, all_one, all_cons, all_joined, passes_all, in_names, with_facts-all, initial_named, fit_stream_at, certified_named}
-use Rattle.transcript_model.proofs.NamesLemmas.{and_then_some, map_some, same_some, with_names-front, place_at, instance_kept}
+use Rattle.transcript_model.proofs.NamedObjectLemmas.{IsNamed, all_joined, passes_all, with_facts-all, initial_named, fit_stream_at, certified_named}
+use Rattle.transcript_model.proofs.NamesLemmas.{and_then_some, map_some, with_names-front, place_at, instance_kept}
 
 -- ---- values
-
-both : (a b : Bool) → a ≡ true → b ≡ true → (a && b) ≡ true
-both true b p q = q
-both false b p q = p
-
-values_same : (a b : Valued) → same_value a b ≡ true → a ≡ b
-values_same a b e =
-    let front = first_so ((a.func == b.func) && same_numbers a.args b.args) (a.value == b.value) e in
-    let value = second_so ((a.func == b.func) && same_numbers a.args b.args) (a.value == b.value) e in
-    let func = first_so (a.func == b.func) (same_numbers a.args b.args) front in
-    let args = second_so (a.func == b.func) (same_numbers a.args b.args) front in
-    λ i. record { func = eqb-true a.func b.func func i; args = (numbers_decided a.args b.args).0 args i; value = eqb-true a.value b.value value i }
-
-value_itself : (a : Valued) → same_value a a ≡ true
-value_itself a = both _ _ (both _ _ (eq-eqb a.func a.func refl) ((numbers_decided a.args a.args).1 refl)) (eq-eqb a.value a.value refl)
-
-value_decided : (a b : Valued) → Decides (same_value a b) (a ≡ b)
-value_decided a b = (values_same a b, λ e. subst (λ x. same_value a x ≡ true) e (value_itself a))
-
-values_equivalence : IsEquivalence same_value
-values_equivalence = decided same_value value_decided
-
-no_true_false : (b : Bool) → b ≡ true → b ≡ false → ⊥
-no_true_false b t f = absurd (cc)
 
 with_values-distinct : (values more : List Valued) → AreDistinct values → AreDistinct (with_values values more)
 with_values-distinct values [] distinct = distinct
@@ -68,7 +47,7 @@ with_values-distinct values (v ∷ more) distinct = with_values-distinct (with_v
     one =
         elim (list_any (same_value v) values) as (λ b. list_any (same_value v) values ≡ b → AreDistinct (cond b values (values ++ v ∷ []))) [
           | true ↦ λ _. distinct
-          | false ↦ λ absent. distinct_push values v distinct (λ m. no_true_false _ (list_any-from_Contains values_equivalence v values m) absent)
+          | false ↦ λ absent. distinct_push values v distinct (λ m. not_both _ (list_any-from_Contains values_equivalence v values m) absent)
         ] refl
 
 with_values-all : (P : Valued → Type 0) (values more : List Valued) → All P values → All P more → All P (with_values values more)
@@ -86,12 +65,12 @@ with_values-all P values (v ∷ vs) all more =
 -- ---- places
 
 places_in : (names more : List (List ℕ)) (objects : List ℕ) → places_of names more ≡ Some objects → All (IsIn names) objects
-places_in names [] objects e = let none : [] ≡ objects = cc in subst (All (IsIn names)) none (all_nil (IsIn names))
+places_in names [] objects e = let none : [] ≡ objects = cc in subst (All (IsIn names)) none (All-nil (IsIn names))
 places_in names (name ∷ more) objects e =
     let first = and_then_some (λ object. option_map (λ objects. object ∷ objects) (places_of names more)) (place_of names name) objects e in
     let rest = map_some (λ objects. first.0 ∷ objects) (places_of names more) objects first.2 in
     let here : IsIn names first.0 = in_names names first.0 (slice_get_within names first.0 name (place_at names name first.0 first.1)) in
-    subst (All (IsIn names)) rest.2 (all_cons (IsIn names) first.0 rest.0 here (places_in names more rest.0 rest.1))
+    subst (All (IsIn names)) rest.2 (All-cons (IsIn names) first.0 rest.0 here (places_in names more rest.0 rest.1))
 
 places_many : (names more : List (List ℕ)) (objects : List ℕ) → places_of names more ≡ Some objects → length objects ≡ length more
 places_many names [] objects e = let none : [] ≡ objects = cc in ap length (sym none)
@@ -105,12 +84,6 @@ instance_in task names call i e =
     let stream = and_then_some (λ stream. option_map (λ inputs. record { stream = stream; inputs = inputs }) (places_of names call.args)) (stream_named task call.name) i e in
     let inputs = map_some (λ inputs. record { stream = stream.0; inputs = inputs }) (places_of names call.args) i stream.2 in
     subst (λ (x : Instance). All (IsIn names) x.inputs) inputs.2 (places_in names call.args inputs.0 inputs.1)
-
-typed_many : (known : Known) (objects sorts : List ℕ) → have_types known objects sorts ≡ true → length objects ≡ length sorts
-typed_many known [] [] e = refl
-typed_many known [] (s ∷ ss) e = absurd (cc)
-typed_many known (o ∷ os) [] e = absurd (cc)
-typed_many known (o ∷ os) (s ∷ ss) e = ap suc (typed_many known os ss (second_so (has_type known o s) (have_types known os ss) e))
 
 -- ---- requests
 
@@ -144,7 +117,7 @@ module _ (version : ℕ) (task : Task) (entries : List Entry) (fit : IsFit task)
       let typed : have_types (known_of task (take at.0 entries)) right.instance.inputs right.due.stream.inputs ≡ true = first_so (have_types (known_of task (take at.0 entries)) right.instance.inputs right.due.stream.inputs) _ right.due.reachable in
       record {
         streamed = streamed.0;
-        many = (λ i. length (sym same i).inputs) ∙ typed_many (known_of task (take at.0 entries)) right.instance.inputs right.due.stream.inputs typed ∙ ap (λ (s : Stream). length s.inputs) same_stream;
+        many = (λ i. length (sym same i).inputs) ∙ have_types-length (known_of task (take at.0 entries)) right.instance.inputs right.due.stream.inputs typed ∙ ap (λ (s : Stream). length s.inputs) same_stream;
         named = subst (λ (x : Instance). All (IsIn (names_of task entries)) x.inputs) streamed.1 (instance_in task (names_of task entries) call.0 whole.0 call.2);
       }
 
@@ -160,7 +133,7 @@ module _ (version : ℕ) (task : Task) (entries : List Entry) (fit : IsFit task)
       rw places.1 (certified_named (names_of task entries) task a.stream a.instance.inputs places.0 fit (fit_stream_at task a.instance.stream a.stream fit is.streamed) enough is.many as_many is.named (places_in (names_of task entries) (map generated tuple) places.0 places.1))
 
   yield_named : (a : Asked) (width tuples : ℕ) (values : List (List ℕ)) → IsAsked task (names_of task entries) a → width ≡ length a.stream.outputs → length values ≡ tuples * width → AreNamed (names_of task entries) values → All (IsNamed (names_of task entries)) (flat_map (tuple_facts task (names_of task entries) a) (tuples_in width tuples values))
-  yield_named a width zero values is same many named = all_nil (IsNamed (names_of task entries))
+  yield_named a width zero values is same many named = All-nil (IsNamed (names_of task entries))
   yield_named a width (suc tuples) values is same many named =
       let parts : take width values ++ drop width values ≡ values = take-append-drop width values in
       let whole : length values ≡ tuples * width + width = many ∙ suc-mul tuples width in
@@ -177,18 +150,18 @@ module _ (version : ℕ) (task : Task) (entries : List Entry) (fit : IsFit task)
       got right =
           let was = asked-later task entries k n right.request right.of in
           rw was (yield_named right.request (length right.request.stream.outputs) tuples values (asked_is n right.request was) refl right.right.count (values_named task entries k n tuples values fit.problem.objects.names.distinct at))
-  certified_each k e at = all_nil (IsNamed (names_of task entries))
+  certified_each k e at = All-nil (IsNamed (names_of task entries))
 
   told_each : (k : ℕ) (e : Entry) → slice_get entries k ≡ Some e → All (λ (v : Valued). v.value ≤ 1000000) (told_value task entries e)
   told_each k (entry.Value n value) at = told (legal k (entry.Value n value) at)
     where
       worth_small : (s : Stream) (inputs : List ℕ) (w : Option Worth) → s.worth ≡ w → value ≤ 1000000 → All (λ (v : Valued). v.value ≤ 1000000) (worth_by s inputs value)
-      worth_small s inputs None e few = rw e (all_nil (λ (v : Valued). v.value ≤ 1000000))
+      worth_small s inputs None e few = rw e (All-nil (λ (v : Valued). v.value ≤ 1000000))
       worth_small s inputs (Some w) e few = rw e (all_one (λ (v : Valued). v.value ≤ 1000000) _ few)
 
       told : IsRightValue task (take k entries) n value → All (λ (v : Valued). v.value ≤ 1000000) (told_value task entries (entry.Value n value))
       told right = rw (asked-later task entries k n right.request right.of) (worth_small right.request.stream right.request.instance.inputs right.request.stream.worth refl right.few)
-  told_each k e at = all_nil (λ (v : Valued). v.value ≤ 1000000)
+  told_each k e at = All-nil (λ (v : Valued). v.value ≤ 1000000)
 
   values_at_first : All (λ (v : Valued). v.value ≤ 1000000) task.problem.values
   values_at_first = passes_all (is_fit_value task.domain (length task.problem.objects)) (λ (v : Valued). v.value ≤ 1000000) task.problem.values small (second_so (is_short task.problem.values) (list_all (is_fit_value task.domain (length task.problem.objects)) task.problem.values) fit.problem.values)
@@ -205,6 +178,6 @@ module _ (version : ℕ) (task : Task) (entries : List Entry) (fit : IsFit task)
     facts = (with_facts-is (initial_known task).facts (flat_map (certified task entries) entries)).distinct ((with_facts-is [] (declared_types task.domain 0 task.problem.objects ++ filter (is_static task.domain) task.problem.init)).distinct distinct_nil);
     values = with_values-distinct (initial_known task).values (flat_map (told_value task entries) entries) (with_values-distinct [] task.problem.values distinct_nil);
     objects = with_facts-all (IsNamed (names_of task entries)) (initial_known task).facts (flat_map (certified task entries) entries) (initial_named (names_of task entries) task fit enough) (all_joined (IsNamed (names_of task entries)) (certified task entries) entries certified_each);
-    costs = with_values-all (λ (v : Valued). v.value ≤ 1000000) (initial_known task).values (flat_map (told_value task entries) entries) (with_values-all (λ (v : Valued). v.value ≤ 1000000) [] task.problem.values (all_nil (λ (v : Valued). v.value ≤ 1000000)) values_at_first)
+    costs = with_values-all (λ (v : Valued). v.value ≤ 1000000) (initial_known task).values (flat_map (told_value task entries) entries) (with_values-all (λ (v : Valued). v.value ≤ 1000000) [] task.problem.values (All-nil (λ (v : Valued). v.value ≤ 1000000)) values_at_first)
         (all_joined (λ (v : Valued). v.value ≤ 1000000) (told_value task entries) entries told_each);
   }

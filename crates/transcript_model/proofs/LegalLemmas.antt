@@ -3,7 +3,8 @@ use Rattle.std.proofs.Common.{◌≡◌, ℕ, zero, suc, ◌+◌, ◌<◌, ◌�
 use Rattle.std.proofs.Math.Seq.{take-append_seam}
 use Rattle.std.proofs.lemmas.List.{take-append-le}
 use Rattle.std.proofs.lemmas.Option.{slice_get_within}
-use Rattle.lemmas.proofs.Members.{push_cases}
+use Rattle.std.proofs.lemmas.Map.Keys.{any_passes_from_place}
+use Rattle.lemmas.proofs.Members.{push_cases, get_at_length}
 use Rattle.task_model.specs.declared.task.Task.{Task}
 use Rattle.transcript_model.specs.Laws.{GrowsLegally}
 use Rattle.transcript_model.specs.Legal.{IsLegal, MayFollow, asks_of, is_ask_of}
@@ -12,17 +13,13 @@ use Rattle.transcript_model.specs.declared.entry.Call.{Call}
 use Rattle.transcript_model.specs.declared.entry.Entry.{Entry}
 use Rattle.transcript_model.specs.declared.entry.Entry.TheVariants as entry
 use Rattle.transcript_model.proofs.LegalPrefixLemmas.{legal_front, request_known}
-use Rattle.transcript_model.proofs.LegalNumberLemmas.{asks_more, any_at, request_number}
-
-at_end : {A : Type 0} (xs : List A) (x : A) → slice_get (xs ++ x ∷ []) (length xs) ≡ Some x
-at_end [] x = refl
-at_end (y ∷ ys) x = at_end ys x
+use Rattle.transcript_model.proofs.LegalNumberLemmas.{asks_more, request_number}
 
 pub grows : (version : ℕ) (task : Task) (entries : List Entry) → GrowsLegally version task entries
 grows version task entries = record {
   front = λ more legal. legal_front version task entries more legal;
   next = λ e legal may k x at. next e legal may k x at (push_cases entries e k x at);
-  last = λ e legal. subst (λ before. MayFollow version task before e) (take-append_seam entries (e ∷ [])) (legal (length entries) e (at_end entries e));
+  last = λ e legal. subst (λ before. MayFollow version task before e) (take-append_seam entries (e ∷ [])) (legal (length entries) e (get_at_length entries e));
 }
   where
     next : (e : Entry) → IsLegal version task entries → MayFollow version task entries e → (k : ℕ) (x : Entry) → slice_get (entries ++ e ∷ []) k ≡ Some x → (slice_get entries k ≡ Some x) ⊎ ((k ≡ length entries) × (x ≡ e)) → MayFollow version task (take k (entries ++ e ∷ [])) x
@@ -55,4 +52,4 @@ request_asks version task entries n legal some most = from n some most
         let is = request_number version task entries r.0 r.1 r.2 r.3 legal r.4 in
         let same : r.1 ≡ suc m = omega (arith, is, r.5) in
         let found : is_ask_of (suc m) (entry.Ask r.1 r.2 r.3) ≡ true = eq-eqb (suc m) r.1 (sym same) in
-        request_known version task entries (suc m) legal (any_at (is_ask_of (suc m)) entries r.0 (entry.Ask r.1 r.2 r.3) r.4 found)
+        request_known version task entries (suc m) legal (any_passes_from_place (is_ask_of (suc m)) entries r.0 (entry.Ask r.1 r.2 r.3) r.4 found)

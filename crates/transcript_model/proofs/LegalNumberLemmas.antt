@@ -1,12 +1,12 @@
 -- The numbers of requests in a legal transcript.
-use Rattle.std.proofs.Common.{◌≡◌, ℕ, zero, suc, ◌+◌, ◌<◌, ◌≤◌, arith, Bool, true, false, cond, ◌||◌, not, nat_lt, List, [], ◌∷◌, ◌++◌, take, drop, length, refl, subst, ap, ◌∙◌, Some, slice_get, eqb-true, ltb-true, ltb-false}
+use Rattle.std.proofs.Common.{◌≡◌, ℕ, zero, suc, ◌+◌, ◌<◌, ◌≤◌, arith, true, false, cond, not, nat_lt, List, [], ◌∷◌, ◌++◌, take, drop, length, refl, subst, ap, ◌∙◌, Some, slice_get, eqb-true, ltb-true, ltb-false}
 use Rattle.std.proofs.Math.Seq.{take-length}
 use Rattle.std.proofs.lemmas.List.{take-append-drop}
-use Rattle.std.proofs.lemmas.List.Folds.{list_any-append}
 use Rattle.std.proofs.lemmas.List.Sums.{sum_by-append}
 use Rattle.std.proofs.lemmas.Option.{slice_get_within}
 use Rattle.std.specs.Cmp.{first_so}
 use Rattle.std.specs.List.{list_any}
+use Rattle.lemmas.proofs.ListTests.{any_found, any_append_left}
 use Rattle.task_model.specs.declared.task.Task.{Task}
 use Rattle.transcript_model.specs.Legal.{IsLegal, MayFollow, IsRightAsk, is_ask, asks_of, is_ask_of, is_answer_to, is_open}
 use Rattle.transcript_model.specs.declared.entry.Call.{Call}
@@ -28,26 +28,6 @@ asks_rise (x ∷ xs) zero (suc k) n turn call at lt =
 asks_rise (x ∷ xs) (suc j) (suc k) n turn call at lt =
     let below : j < k = omega arith in
     omega (arith, asks_more (x ∷ []) (take j xs), asks_more (x ∷ []) (take k xs), asks_rise xs j k n turn call at below)
-
-pub any_at : {A : Type 0} (p : A → Bool) (xs : List A) (k : ℕ) (x : A) → slice_get xs k ≡ Some x → p x ≡ true → list_any p xs ≡ true
-any_at p [] k x at e = absurd (cc)
-any_at p (z ∷ zs) zero x at e = let same : z ≡ x = cc in let here : p z ≡ true = ap p same ∙ e in rw here refl
-any_at p (z ∷ zs) (suc k) x at e = or_right (p z) (list_any p zs) (any_at p zs k x at e)
-  where
-    or_right : (a b : Bool) → b ≡ true → (a || b) ≡ true
-    or_right true b e = refl
-    or_right false b e = e
-
-pub any_place : {A : Type 0} (p : A → Bool) (xs : List A) → list_any p xs ≡ true → (k : ℕ) × (x : A) × (slice_get xs k ≡ Some x) × (p x ≡ true)
-any_place p [] e = absurd (cc)
-any_place p (x ∷ xs) e =
-    elim (p x) as (λ b. p x ≡ b → (b || list_any p xs) ≡ true → (k : ℕ) × (y : _) × (slice_get (x ∷ xs) k ≡ Some y) × (p y ≡ true)) [
-      | true ↦ λ t h. (0, x, refl, t)
-      | false ↦ λ t h. let r = any_place p xs h in (suc r.0, r.1, r.2, r.3)
-    ] refl e
-
-pub any_kept : {A : Type 0} (p : A → Bool) (xs ys : List A) → list_any p xs ≡ true → list_any p (xs ++ ys) ≡ true
-any_kept p xs ys e = rw (list_any-append p xs ys, e) refl
 
 module _ (version : ℕ) (task : Task) where
   pub request_number : (entries : List Entry) (j n turn : ℕ) (call : Call) → IsLegal version task entries → slice_get entries j ≡ Some (entry.Ask n turn call) → n ≡ asks_of (take j entries) + 1
@@ -91,7 +71,7 @@ module _ (version : ℕ) (task : Task) where
 
   pub answer_asked : (entries : List Entry) (n : ℕ) → IsLegal version task entries → list_any (is_answer_to n) entries ≡ true → list_any (is_ask_of n) entries ≡ true
   answer_asked entries n legal there =
-      let at = any_place (is_answer_to n) entries there in
+      let at = any_found (is_answer_to n) entries there in
       let waiting = waiting_of (take at.0 entries) n at.1 (legal at.0 at.1 at.2) at.3 in
       let asked = first_so (list_any (is_ask_of n) (take at.0 entries)) (not (list_any (is_answer_to n) (take at.0 entries))) waiting in
-      subst (λ all. list_any (is_ask_of n) all ≡ true) (take-append-drop at.0 entries) (any_kept (is_ask_of n) (take at.0 entries) (drop at.0 entries) asked)
+      subst (λ all. list_any (is_ask_of n) all ≡ true) (take-append-drop at.0 entries) (any_append_left (is_ask_of n) (take at.0 entries) (drop at.0 entries) asked)

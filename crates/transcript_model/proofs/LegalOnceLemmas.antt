@@ -1,5 +1,5 @@
 -- No instance is asked twice after equally many tuples.
-use Rattle.std.proofs.Common.{◌≡◌, ℕ, zero, suc, ◌+◌, ◌<◌, ◌≤◌, inl, inr, arith, Bool, true, false, cond, ◌&&◌, ◌||◌, not, List, [], ◌∷◌, ◌++◌, take, drop, replicate, refl, sym, subst, ap, ◌∙◌, Some, slice_get, eq-eqb, append_assoc}
+use Rattle.std.proofs.Common.{◌≡◌, ℕ, zero, suc, ◌+◌, ◌<◌, ◌≤◌, inl, inr, arith, Bool, true, false, cond, ◌&&◌, not, List, [], ◌∷◌, ◌++◌, take, drop, replicate, refl, sym, subst, ap, ◌∙◌, Some, slice_get, eq-eqb, append_assoc}
 use Rattle.std.proofs.lemmas.Bool.{cases_order}
 use Rattle.std.proofs.lemmas.List.{take-append-drop, length-take}
 use Rattle.std.proofs.lemmas.List.Folds.{list_any-append}
@@ -7,10 +7,15 @@ use Rattle.std.proofs.lemmas.List.Sums.{sum_by-append}
 use Rattle.std.proofs.lemmas.Option.{slice_get_within}
 use Rattle.std.specs.Cmp.{first_so}
 use Rattle.std.specs.List.{list_any, flat_map}
-use Rattle.task_model.proofs.KnownLemmas.{numbers_decided}
+use Rattle.std.proofs.lemmas.Map.Keys.{any_passes_from_place}
+use Rattle.lemmas.proofs.Bools.{or_true}
+use Rattle.lemmas.proofs.Options.{same_some}
+use Rattle.lemmas.proofs.Members.{get_take}
+use Rattle.lemmas.proofs.ListTests.{any_found}
+use Rattle.task_model.proofs.StreamsLemmas.{instance_itself}
 use Rattle.task_model.specs.Initial.{declared_names}
 use Rattle.lemmas.specs.Lists.{AreDistinct}
-use Rattle.task_model.specs.Streams.{Note, Yielded, Ended, same_instance, is_yield_of, is_end_of, yields_of, is_finished}
+use Rattle.task_model.specs.Streams.{Note, Yielded, Ended, is_yield_of, is_end_of, yields_of, is_finished}
 use Rattle.task_model.specs.declared.stream.Instance.{Instance}
 use Rattle.task_model.specs.declared.stream.Stream.{Stream}
 use Rattle.task_model.specs.declared.task.Task.{Task}
@@ -21,9 +26,8 @@ use Rattle.transcript_model.specs.declared.entry.Call.{Call}
 use Rattle.transcript_model.specs.declared.entry.Entry.{Entry}
 use Rattle.transcript_model.specs.declared.entry.Entry.TheVariants as entry
 use Rattle.transcript_model.proofs.LegalPrefixLemmas.{first_request, legal_front, legal_take, longer, asked-kept}
-use Rattle.transcript_model.proofs.LegalNumberLemmas.{any_place, any_at, numbers_own, next_is_fresh, waiting_of}
+use Rattle.transcript_model.proofs.LegalNumberLemmas.{numbers_own, next_is_fresh, waiting_of}
 use Rattle.transcript_model.proofs.LegalStepLemmas.{request_adds, answer_adds}
-use Rattle.transcript_model.proofs.NamesLemmas.{same_some}
 
 -- ---- lists cut at a member
 
@@ -38,12 +42,6 @@ take_twice xs (suc j) zero le = absurd (omega arith)
 take_twice [] (suc j) (suc k) le = refl
 take_twice (x ∷ xs) (suc j) (suc k) le = let below : j ≤ k = omega arith in ap (λ ys. x ∷ ys) (take_twice xs j k below)
 
-at_taken : {A : Type 0} (xs : List A) (j k : ℕ) (x : A) → slice_get xs j ≡ Some x → j < k → slice_get (take k xs) j ≡ Some x
-at_taken [] j k x at lt = absurd (cc)
-at_taken (y ∷ ys) j zero x at lt = absurd (omega arith)
-at_taken (y ∷ ys) zero (suc k) x at lt = at
-at_taken (y ∷ ys) (suc j) (suc k) x at lt = let below : j < k = omega arith in at_taken ys j k x at below
-
 from_taken : {A : Type 0} (xs : List A) (j k : ℕ) (x : A) → slice_get (take k xs) j ≡ Some x → slice_get xs j ≡ Some x
 from_taken [] j zero x at = absurd (cc)
 from_taken [] j (suc k) x at = absurd (cc)
@@ -55,9 +53,6 @@ joined : {A : Type 0} (xs ys : List A) (x : A) → xs ++ x ∷ ys ≡ (xs ++ x �
 joined xs ys x = sym (append_assoc xs (x ∷ []) ys)
 
 -- ---- notes
-
-instance_itself : (i : Instance) → same_instance i i ≡ true
-instance_itself i = rw (eq-eqb i.stream i.stream refl, (numbers_decided i.inputs i.inputs).1 refl) refl
 
 yields_more : (xs ys : List Note) (i : Instance) → yields_of (xs ++ ys) i ≡ yields_of xs i + yields_of ys i
 yields_more xs ys i = sum_by-append (λ n. cond (is_yield_of i n) 1 0) xs ys
@@ -88,10 +83,6 @@ module _ (version : ℕ) (task : Task) (distinct : AreDistinct (declared_names t
           let last : list_any (is_end_of a.instance) (Ended a.instance ∷ []) ≡ true = rw (instance_itself a.instance) refl in
           let before_rest : list_any (is_end_of a.instance) (notes_of task before ++ Ended a.instance ∷ []) ≡ true = rw (list_any-append (is_end_of a.instance) (notes_of task before) (Ended a.instance ∷ []), last) (or_true (list_any (is_end_of a.instance) (notes_of task before))) in
           rw (is, list_any-append (is_end_of a.instance) (notes_of task before ++ Ended a.instance ∷ []) rest, before_rest) refl
-        where
-          or_true : (b : Bool) → (b || true) ≡ true
-          or_true true = refl
-          or_true false = refl
 
       by_kind : (e : Entry) → MayFollow version task before e → is_answer_to n e ≡ true → (rest : List Note) → notes_of task (before ++ e ∷ later) ≡ notes_with (notes_of task before) a e ++ rest → (told : Bool) × IsTold (notes_of task before) (notes_of task (before ++ e ∷ later)) a.instance told
       by_kind (entry.Got m tuples values) may answers rest whole =
@@ -126,8 +117,8 @@ module _ (version : ℕ) (task : Task) (distinct : AreDistinct (declared_names t
   -- the answer to a request that isn't open comes behind it, and has told its instance
   told_since : (entries : List Entry) (j n turn : ℕ) (call : Call) (i : Instance) → IsLegal version task entries → slice_get entries j ≡ Some (entry.Ask n turn call) → instance_of task (names_of task (take j entries)) call ≡ Some i → is_open entries n ≡ false → (told : Bool) × IsTold (notes_of task (take j entries)) (notes_of task entries) i told
   told_since entries j n turn call i legal there named closed =
-      let asks : list_any (is_ask_of n) entries ≡ true = any_at (is_ask_of n) entries j (entry.Ask n turn call) there (eq-eqb n n refl) in
-      let at = any_place (is_answer_to n) entries (answers (list_any (is_ask_of n) entries) (list_any (is_answer_to n) entries) asks closed) in
+      let asks : list_any (is_ask_of n) entries ≡ true = any_passes_from_place (is_ask_of n) entries j (entry.Ask n turn call) there (eq-eqb n n refl) in
+      let at = any_found (is_answer_to n) entries (answers (list_any (is_ask_of n) entries) (list_any (is_answer_to n) entries) asks closed) in
       let front = take at.0 entries in
       let may = legal at.0 at.1 at.2 in
       let legal_front = legal_take version task entries at.0 legal in
@@ -136,7 +127,7 @@ module _ (version : ℕ) (task : Task) (distinct : AreDistinct (declared_names t
       let same_place : first.0 ≡ j = numbers_own version task entries first.0 j n first.1 turn first.2 call legal (from_taken entries first.0 at.0 _ first.3) there in
       let behind : j < at.0 = omega (arith, slice_get_within front first.0 _ first.3, length-take at.0 entries, same_place) in
       let early : take j front ≡ take j entries = take_twice entries j at.0 (omega arith) in
-      let in_front : slice_get front j ≡ Some (entry.Ask n turn call) = at_taken entries j at.0 _ there behind in
+      let in_front : slice_get front j ≡ Some (entry.Ask n turn call) = get_take entries j at.0 _ there behind in
       let was = asked_from front j n turn call i legal_front in_front (ap (λ es. instance_of task (names_of task es) call) early ∙ named) in
       let whole : front ++ at.1 ∷ drop (suc at.0) entries ≡ entries = sym (cut_at entries at.0 at.1 at.2) in
       let told = told_by front (drop (suc at.0) entries) at.1 n (record { stream = was.0; instance = i }) (subst (IsLegal version task) (sym whole) legal) may at.3 was.1 in
@@ -155,7 +146,7 @@ module _ (version : ℕ) (task : Task) (distinct : AreDistinct (declared_names t
   not_again entries j k n m turn call again i legal first second named renamed lt =
       let before = take k entries in
       let legal_before = legal_take version task entries k legal in
-      let there : slice_get before j ≡ Some (entry.Ask n turn call) = at_taken entries j k _ first lt in
+      let there : slice_get before j ≡ Some (entry.Ask n turn call) = get_take entries j k _ first lt in
       let early : take j before ≡ take j entries = take_twice entries j k (omega arith) in
       let named_there : instance_of task (names_of task (take j before)) call ≡ Some i = ap (λ es. instance_of task (names_of task es) call) early ∙ named in
       let asked_first : IsRightAsk task (take j before) n turn call = legal_before j (entry.Ask n turn call) there in

@@ -7,11 +7,11 @@ use Rattle.std.proofs.lemmas.Option.{slice_get_within, slice_get-map}
 use Rattle.std.specs.Cmp.{first_so}
 use Rattle.std.specs.List.{list_any, flat_map}
 use Rattle.std.specs.Option.{option_and_then, option_or}
-use Rattle.lemmas.proofs.Members.{member_at, place_of as place_in}
+use Rattle.lemmas.proofs.Members.{member_at, place_of as place_in, get_append}
+use Rattle.task_model.proofs.KnownLemmas.{facts_then}
 use Rattle.task_model.specs.Initial.{declared_names, initial_known}
-use Rattle.task_model.specs.Known.{with_fact, with_facts, with_value, with_values}
+use Rattle.task_model.specs.Known.{with_facts, with_value, with_values}
 use Rattle.lemmas.specs.Lists.{AreDistinct}
-use Rattle.task_model.specs.declared.fact.Fact.{Fact}
 use Rattle.task_model.specs.declared.task.Task.{Task}
 use Rattle.task_model.specs.declared.task.Valued.{Valued}
 use Rattle.transcript_model.specs.Laws.{Continues}
@@ -21,7 +21,7 @@ use Rattle.transcript_model.specs.Transcript.{Asked, asked, asked_of, call_in, c
 use Rattle.transcript_model.specs.declared.entry.Call.{Call}
 use Rattle.transcript_model.specs.declared.entry.Entry.{Entry}
 use Rattle.transcript_model.specs.declared.entry.Entry.TheVariants as entry
-use Rattle.transcript_model.proofs.NamesLemmas.{and_then_some, at_left, with_names-front, with_names-then, with_names-distinct, with_names-has, place_found, places_kept, instance_kept}
+use Rattle.transcript_model.proofs.NamesLemmas.{and_then_some, with_names-front, with_names-then, with_names-distinct, with_names-has, place_found, places_kept, instance_kept}
 
 -- ---- lists
 
@@ -85,7 +85,7 @@ module _ (version : ℕ) (task : Task) where
   pub legal_front : (xs ys : List Entry) → IsLegal version task (xs ++ ys) → IsLegal version task xs
   legal_front xs ys legal k e at =
       let below = slice_get_within xs k e at in
-      subst (λ before. MayFollow version task before e) (take-append-le k xs ys (omega arith)) (legal k e (at_left xs ys k e at))
+      subst (λ before. MayFollow version task before e) (take-append-le k xs ys (omega arith)) (legal k e (get_append xs ys k e at))
 
   pub legal_take : (entries : List Entry) (k : ℕ) → IsLegal version task entries → IsLegal version task (take k entries)
   legal_take entries k legal = legal_front (take k entries) (drop k entries) (subst (IsLegal version task) (sym (take-append-drop k entries)) legal)
@@ -111,10 +111,6 @@ module _ (version : ℕ) (task : Task) where
   answered entries k n e legal at same = let r = answered_before (take k entries) n e (legal_take entries k legal) (legal k e at) same in (r.0, asked-later task entries k n r.0 r.1)
 
 -- ---- facts and values
-
-pub facts_then : (facts first second : List Fact) → with_facts facts (first ++ second) ≡ with_facts (with_facts facts first) second
-facts_then facts [] second = refl
-facts_then facts (f ∷ first) second = facts_then (with_fact facts f) first second
 
 pub values_then : (values first second : List Valued) → with_values values (first ++ second) ≡ with_values (with_values values first) second
 values_then values [] second = refl
@@ -183,7 +179,7 @@ module _ (version : ℕ) (task : Task) (entries more : List Entry) (distinct : A
   pub longer : Continues task entries more
   longer = record {
     names = names_of-more task entries more;
-    places = λ k name at. let front = names_of-front task entries more in subst (λ names. slice_get names k ≡ Some name) (sym front.1) (at_left (names_of task entries) front.0 k name at);
+    places = λ k name at. let front = names_of-front task entries more in subst (λ names. slice_get names k ≡ Some name) (sym front.1) (get_append (names_of task entries) front.0 k name at);
     requests = asked-kept task entries more;
     facts = ap (with_facts (initial_known task).facts) (in_front (certified task (entries ++ more)) (certified task entries) certified_same) ∙ facts_then (initial_known task).facts (flat_map (certified task entries) entries) (flat_map (certified task (entries ++ more)) more);
     values = ap (with_values (initial_known task).values) (in_front (told_value task (entries ++ more)) (told_value task entries) told_same) ∙ values_then (initial_known task).values (flat_map (told_value task entries) entries) (flat_map (told_value task (entries ++ more)) more);

@@ -4,6 +4,7 @@ use Rattle.std.proofs.lemmas.List.{append-nil}
 use Rattle.std.proofs.lemmas.List.Folds.{list_any-append}
 use Rattle.std.specs.List.{list_any, flat_map}
 use Rattle.std.specs.Option.{option_or}
+use Rattle.lemmas.proofs.Bools.{or_false}
 use Rattle.task_model.specs.Initial.{declared_names}
 use Rattle.task_model.specs.Known.{Known, with_facts, with_values}
 use Rattle.lemmas.specs.Lists.{AreDistinct}
@@ -44,10 +45,6 @@ no_call (x ∷ xs) n e = no_call xs n e
 no_true_false : {A : Type 0} (b : Bool) → b ≡ true → b ≡ false → A
 no_true_false b t f = absurd (cc)
 
-or_no : (b : Bool) → (b || false) ≡ b
-or_no true = refl
-or_no false = refl
-
 module _ (version : ℕ) (task : Task) (before : List Entry) (distinct : AreDistinct (declared_names task)) (legal : IsLegal version task before) where
   -- ---- marks
 
@@ -72,7 +69,7 @@ module _ (version : ℕ) (task : Task) (before : List Entry) (distinct : AreDist
 
   mark_open : (e : Entry) (n : ℕ) → is_ask_of n e ≡ false → is_answer_to n e ≡ false → is_open (before ++ e ∷ []) n ≡ is_open before n
   mark_open e n ask answer =
-      rw (list_any-append (is_ask_of n) before (e ∷ []), list_any-append (is_answer_to n) before (e ∷ []), ask, answer, or_no (list_any (is_ask_of n) before), or_no (list_any (is_answer_to n) before)) refl
+      rw (list_any-append (is_ask_of n) before (e ∷ []), list_any-append (is_answer_to n) before (e ∷ []), ask, answer, or_false (list_any (is_ask_of n) before), or_false (list_any (is_answer_to n) before)) refl
 
   same_asks : (e : Entry) → is_ask e ≡ false → asks_of (before ++ e ∷ []) ≡ asks_of before
   same_asks e absent = let one : asks_of (e ∷ []) ≡ 0 = rw absent refl in omega (arith, asks_more before (e ∷ []), one)
@@ -149,7 +146,7 @@ module _ (version : ℕ) (task : Task) (before : List Entry) (distinct : AreDist
       -- an answer to a number that no request has
       asked_open : (n : ℕ) → is_open (before ++ entry.Ask number turn call ∷ []) n ≡ (is_open before n || (n == number))
       asked_open n =
-          rw (list_any-append (is_ask_of n) before (entry.Ask number turn call ∷ []), list_any-append (is_answer_to n) before (entry.Ask number turn call ∷ []), or_no (n == number), or_no (list_any (is_answer_to n) before)) (open_or (list_any (is_ask_of n) before) (list_any (is_answer_to n) before) (n == number) unanswered)
+          rw (list_any-append (is_ask_of n) before (entry.Ask number turn call ∷ []), list_any-append (is_answer_to n) before (entry.Ask number turn call ∷ []), or_false (n == number), or_false (list_any (is_answer_to n) before)) (open_or (list_any (is_ask_of n) before) (list_any (is_answer_to n) before) (n == number) unanswered)
         where
           unanswered : (n == number) ≡ true → list_any (is_answer_to n) before ≡ false
           unanswered same =
@@ -172,7 +169,7 @@ module _ (version : ℕ) (task : Task) (before : List Entry) (distinct : AreDist
 
   answer_open : (e : Entry) (n number : ℕ) → is_ask_of n e ≡ false → is_answer_to n e ≡ (n == number) → is_open (before ++ e ∷ []) n ≡ (is_open before n && not (n == number))
   answer_open e n number ask answer =
-      rw (list_any-append (is_ask_of n) before (e ∷ []), list_any-append (is_answer_to n) before (e ∷ []), ask, answer, or_no (list_any (is_ask_of n) before), or_no (n == number)) (open_not (list_any (is_ask_of n) before) (list_any (is_answer_to n) before) (n == number))
+      rw (list_any-append (is_ask_of n) before (e ∷ []), list_any-append (is_answer_to n) before (e ∷ []), ask, answer, or_false (list_any (is_ask_of n) before), or_false (n == number)) (open_not (list_any (is_ask_of n) before) (list_any (is_answer_to n) before) (n == number))
     where
       open_not : (ask answer this : Bool) → (ask && not (answer || this)) ≡ ((ask && not answer) && not this)
       open_not true true this = refl

@@ -7,3 +7,5 @@ pub mod NamedObjectLemmas
 pub mod LegalNumberLemmas
 pub mod NamesLemmas
 pub mod LegalOnceLemmas
+
+pub mod RoundsLemmas

@@ -1,10 +1,13 @@
 -- The objects of facts have names.
-use Rattle.std.proofs.Common.{◌≡◌, ℕ, zero, suc, ◌+◌, ◌-◌, ◌<◌, ◌≤◌, arith, Bool, true, false, cond, ◌&&◌, ◌||◌, ◌==◌, not, nat_lt, nat_le, List, [], ◌∷◌, ◌++◌, map, filter, take, length, replicate, get_or, refl, sym, subst, ap, Option, Some, None, slice_get, All, eqb-true, ltb-true, length-append}
+use Rattle.std.proofs.Common.{◌≡◌, ℕ, zero, suc, ◌+◌, ◌-◌, ◌<◌, ◌≤◌, arith, Bool, true, false, cond, ◌&&◌, not, nat_lt, nat_le, List, [], ◌∷◌, ◌++◌, map, filter, take, length, replicate, get_or, refl, sym, subst, ap, Option, Some, None, slice_get, All, ltb-true, length-append}
 use Rattle.std.proofs.lemmas.List.{length-map, length-take, get_or_append_left}
-use Rattle.std.proofs.lemmas.List.Elements.{All-append, All-map, All-filter, All-contains}
+use Rattle.std.proofs.lemmas.List.Elements.{All-append, All-map, All-filter, All-contains, All-nil}
 use Rattle.std.proofs.lemmas.List.Sums.{AllPass-from_list_all}
 use Rattle.std.specs.Cmp.{first_so, second_so}
-use Rattle.std.specs.List.{list_any, list_all, flat_map, slice_index}
+use Rattle.std.specs.List.{list_all, flat_map, slice_index}
+use Rattle.lemmas.proofs.Numbers.{below_in_numbers}
+use Rattle.lemmas.proofs.ListTests.{all_one}
+use Rattle.task_model.proofs.KnownLemmas.{in_names}
 use Rattle.task_model.specs.Fit.{IsFit, is_fit_term, is_fit_application, is_fit_pattern, are_fit_patterns, is_fit_stream, is_fit_worth, is_fit_fact, is_predicate, has_arity, is_derived_role, is_short, are_places, are_static_patterns}
 use Rattle.task_model.specs.Initial.{type_facts, sorts_with, declared_types, declared_names, is_static, initial_facts}
 use Rattle.task_model.specs.Known.{IsIn, type_fact, is_fact, with_fact, with_facts}
@@ -25,29 +28,14 @@ use Rattle.task_model.specs.declared.task.Valued.{Valued}
 
 -- ---- lists
 
-pub all_nil : {A : Type 0} (P : A → Type 0) → All P []
-all_nil P k d lt = absurd (omega arith)
-
-pub all_one : {A : Type 0} (P : A → Type 0) (x : A) → P x → All P (x ∷ [])
-all_one P x p zero d lt = p
-all_one P x p (suc k) d lt = absurd (omega arith)
-
-pub all_cons : {A : Type 0} (P : A → Type 0) (x : A) (xs : List A) → P x → All P xs → All P (x ∷ xs)
-all_cons P x xs p all = All-append P (x ∷ []) xs (all_one P x p) all
-
 pub all_joined : {A B : Type 0} (P : B → Type 0) (f : A → List B) (xs : List A) → ((k : ℕ) (x : A) → slice_get xs k ≡ Some x → All P (f x)) → All P (flat_map f xs)
-all_joined P f [] each = all_nil P
+all_joined P f [] each = All-nil P
 all_joined P f (x ∷ xs) each = All-append P (f x) (flat_map f xs) (each 0 x refl) (all_joined P f xs (λ k y at. each (suc k) y at))
 
 pub passes_all : {A : Type 0} (p : A → Bool) (P : A → Type 0) (xs : List A) → ((x : A) → p x ≡ true → P x) → list_all p xs ≡ true → All P xs
 passes_all p P xs so e k d lt = so _ (AllPass-from_list_all p xs e k d lt)
 
 -- ---- names
-
-pub in_names : (names : List (List ℕ)) (object : ℕ) → object < length names → IsIn names object
-in_names [] object lt = absurd (omega arith)
-in_names (n ∷ ns) zero lt = refl
-in_names (n ∷ ns) (suc object) lt = let below : object < length ns = omega arith in in_names ns object below
 
 abbrev pub IsNamed : List (List ℕ) → Fact → Type 0
 IsNamed names f = All (IsIn names) f.args
@@ -61,7 +49,7 @@ types_named names domain sort object there = All-map (IsNamed names) (λ s. type
 -- ---- what is known at first
 
 declared_named : (names : List (List ℕ)) (domain : Domain) (object : ℕ) (ds : List Declared) → object + length ds ≤ length names → All (IsNamed names) (declared_types domain object ds)
-declared_named names domain object [] le = all_nil (IsNamed names)
+declared_named names domain object [] le = All-nil (IsNamed names)
 declared_named names domain object (d ∷ ds) le =
     let here : object < length names = omega arith in
     let rest : (object + 1) + length ds ≤ length names = omega arith in
@@ -95,33 +83,25 @@ pub initial_named : (names : List (List ℕ)) (task : Task) → IsFit task → l
 initial_named names task fit le =
     let listed : length task.problem.objects ≤ length names = le in
     let facts = second_so (is_short task.problem.init) (list_all (is_fit_fact task.domain (length task.problem.objects)) task.problem.init) fit.problem.init in
-    with_facts-all (IsNamed names) [] (declared_types task.domain 0 task.problem.objects ++ filter (is_static task.domain) task.problem.init) (all_nil (IsNamed names))
+    with_facts-all (IsNamed names) [] (declared_types task.domain 0 task.problem.objects ++ filter (is_static task.domain) task.problem.init) (All-nil (IsNamed names))
     (All-append (IsNamed names) (declared_types task.domain 0 task.problem.objects) (filter (is_static task.domain) task.problem.init) (declared_named names task.domain 0 task.problem.objects (omega arith))
     (All-filter (is_static task.domain) (IsNamed names) task.problem.init (passes_all (is_fit_fact task.domain (length task.problem.objects)) (IsNamed names) task.problem.init (λ f e. fact_named names task.domain (length task.problem.objects) f le e) facts)))
 
 -- ---- what a yield certifies
 
-slot_below : (first n slot : ℕ) → list_any (λ s. s == slot) (numbers_from first n) ≡ true → slot < first + n
-slot_below first zero slot e = absurd (cc)
-slot_below first (suc n) slot e =
-    elim (first == slot) as (λ b. (first == slot) ≡ b → (b || list_any (λ s. s == slot) (numbers_from (first + 1) n)) ≡ true → slot < first + suc n) [
-      | true ↦ λ same h. omega (arith, eqb-true first slot same)
-      | false ↦ λ other h. omega (arith, slot_below (first + 1) n slot h)
-    ] refl e
-
-term_named : (names : List (List ℕ)) (constants : ℕ) (objects : List ℕ) (t : Term) → constants ≤ length names → All (IsIn names) objects → is_fit_term constants (numbers_from 0 (length objects)) t ≡ true → IsIn names (object_of (slots_of objects) t)
+pub term_named : (names : List (List ℕ)) (constants : ℕ) (objects : List ℕ) (t : Term) → constants ≤ length names → All (IsIn names) objects → is_fit_term constants (numbers_from 0 (length objects)) t ≡ true → IsIn names (object_of (slots_of objects) t)
 term_named names constants objects (Slot n) le all e =
-    let below : n < length objects = omega (arith, slot_below 0 (length objects) n e) in
+    let below : n < length objects = omega (arith, below_in_numbers 0 (length objects) n e) in
     let is : slice_index (slots_of objects) n ≡ get_or objects n 0 = get_or_append_left objects (replicate (16 - length objects) 0) 0 n below in
     subst (IsIn names) (sym is) (all n 0 below)
 term_named names constants objects (Object o) le all e = in_names names o (omega (arith, ltb-true o constants e))
 
-terms_named : (names : List (List ℕ)) (constants : ℕ) (objects : List ℕ) (terms : List Term) → constants ≤ length names → All (IsIn names) objects → list_all (is_fit_term constants (numbers_from 0 (length objects))) terms ≡ true → All (IsIn names) (objects_at (slots_of objects) terms)
+pub terms_named : (names : List (List ℕ)) (constants : ℕ) (objects : List ℕ) (terms : List Term) → constants ≤ length names → All (IsIn names) objects → list_all (is_fit_term constants (numbers_from 0 (length objects))) terms ≡ true → All (IsIn names) (objects_at (slots_of objects) terms)
 terms_named names constants objects terms le all e = All-map (IsIn names) (object_of (slots_of objects)) terms (passes_all (is_fit_term constants (numbers_from 0 (length objects))) (λ t. IsIn names (object_of (slots_of objects) t)) terms (λ t fits. term_named names constants objects t le all fits) e)
 
 output_types_named : (names : List (List ℕ)) (domain : Domain) (sorts objects : List ℕ) → All (IsIn names) objects → All (IsNamed names) (output_types domain sorts objects)
-output_types_named names domain [] objects all = all_nil (IsNamed names)
-output_types_named names domain (sort ∷ sorts) [] all = all_nil (IsNamed names)
+output_types_named names domain [] objects all = All-nil (IsNamed names)
+output_types_named names domain (sort ∷ sorts) [] all = All-nil (IsNamed names)
 output_types_named names domain (sort ∷ sorts) (o ∷ os) all =
     All-append (IsNamed names) (type_facts domain sort o) (output_types domain sorts os) (types_named names domain sort o (All-contains (IsIn names) (o ∷ os) o all (0, omega arith, refl))) (output_types_named names domain sorts os (λ k d lt. all (suc k) d (omega arith)))
 
@@ -174,7 +154,7 @@ certified_named names task s inputs outputs fit fits le ins outs all_in all_out 
     (patterns_named names task.domain (length task.domain.constants) (inputs ++ outputs) s.certified (omega (arith, constants_few task fit)) (All-append (IsIn names) inputs outputs all_in all_out) slots)
 
 worth_shape : (names : List (List ℕ)) (task : Task) (s : Stream) (inputs : List ℕ) (value : ℕ) → length task.domain.constants ≤ length names → length inputs ≡ length s.inputs → All (IsIn names) inputs → (w : Option Worth) → s.worth ≡ w → is_fit_worth task.domain s ≡ true → All (λ (v : Valued). All (IsIn names) v.args) (worth_by s inputs value)
-worth_shape names task s inputs value le ins all None e fits = rw e (all_nil (λ (v : Valued). All (IsIn names) v.args))
+worth_shape names task s inputs value le ins all None e fits = rw e (All-nil (λ (v : Valued). All (IsIn names) v.args))
 worth_shape names task s inputs value le ins all (Some w) e fits =
     let filled = numbers_from 0 (length s.inputs) in
     let application = is_fit_application task.domain.functions (length task.domain.constants) filled w.func w.args in

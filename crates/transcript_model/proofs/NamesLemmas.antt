@@ -15,6 +15,8 @@ use Rattle.task_model.specs.declared.stream.Instance.{Instance}
 use Rattle.task_model.specs.declared.task.Task.{Task}
 use Rattle.transcript_model.specs.Names.{with_names, place_of, places_of, stream_named, instance_of}
 use Rattle.transcript_model.specs.declared.entry.Call.{Call}
+use Rattle.lemmas.proofs.Bools.{not_both}
+use Rattle.lemmas.proofs.Numbers.{suc_same}
 
 -- ---- options
 
@@ -26,15 +28,7 @@ pub map_some : {A B : Type 0} (f : A → B) (o : Option A) (b : B) → option_ma
 map_some f None b e = absurd (cc)
 map_some f (Some a) b e = (a, refl, cc)
 
-pub same_some : {A : Type 0} (o : Option A) (a b : A) → o ≡ Some a → o ≡ Some b → a ≡ b
-same_some o a b e f = cc
-
 -- ---- lists that grow
-
-pub at_left : {A : Type 0} (xs ys : List A) (k : ℕ) (x : A) → slice_get xs k ≡ Some x → slice_get (xs ++ ys) k ≡ Some x
-at_left [] ys k x e = absurd (cc)
-at_left (z ∷ zs) ys zero x e = e
-at_left (z ∷ zs) ys (suc k) x e = at_left zs ys k x e
 
 -- ---- positions
 
@@ -63,11 +57,8 @@ from_only p i (z ∷ zs) zero x e t only =
 from_only p i (z ∷ zs) (suc j) x e t only =
     elim (p z) as (λ b. p z ≡ b → cond b (Some i) (position_from p (i + 1) zs) ≡ Some (i + suc j)) [
       | true ↦ λ here. let no : 0 ≡ suc j = only 0 z refl here in absurd (omega (arith, no))
-      | false ↦ λ here. let sum : (i + 1) + j ≡ i + suc j = omega arith in from_only p (i + 1) zs j x e t (λ m y at passes. less m j (only (suc m) y at passes)) ∙ ap Some sum
+      | false ↦ λ here. let sum : (i + 1) + j ≡ i + suc j = omega arith in from_only p (i + 1) zs j x e t (λ m y at passes. suc_same m j (only (suc m) y at passes)) ∙ ap Some sum
     ] refl
-  where
-    less : (m j : ℕ) → suc m ≡ suc j → m ≡ j
-    less m j e = omega (arith, e)
 
 pub position_kept : {A : Type 0} (p : A → Bool) (xs ys : List A) (k : ℕ) → position p xs ≡ Some k → position p (xs ++ ys) ≡ Some k
 position_kept p xs ys k e = position_from-zero p (xs ++ ys) ∙ from_kept p 0 xs ys k (sym (position_from-zero p xs) ∙ e)
@@ -108,9 +99,6 @@ pub with_names-then : (names first second : List (List ℕ)) → with_names name
 with_names-then names [] second = refl
 with_names-then names (name ∷ first) second = with_names-then (with_name names name) first second
 
-no_true_false : (b : Bool) → b ≡ true → b ≡ false → ⊥
-no_true_false b t f = absurd (cc)
-
 names_equivalence : IsEquivalence same_numbers
 names_equivalence = decided same_numbers numbers_decided
 
@@ -121,7 +109,7 @@ with_name-distinct : (names : List (List ℕ)) (name : List ℕ) → AreDistinct
 with_name-distinct names name distinct =
     elim (list_any (same_numbers name) names) as (λ b. list_any (same_numbers name) names ≡ b → AreDistinct (cond b names (names ++ name ∷ []))) [
       | true ↦ λ _. distinct
-      | false ↦ λ absent. distinct_push names name distinct (λ m. no_true_false _ (list_any-from_Contains names_equivalence name names m) absent)
+      | false ↦ λ absent. distinct_push names name distinct (λ m. not_both _ (list_any-from_Contains names_equivalence name names m) absent)
     ] refl
 
 pub with_names-distinct : (names more : List (List ℕ)) → AreDistinct names → AreDistinct (with_names names more)

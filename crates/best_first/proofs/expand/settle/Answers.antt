@@ -1,4 +1,5 @@
-use Rattle.std.proofs.Common.{◌≡◌, Bool, true, false, arith}
+use Rattle.std.proofs.Common.{true, false, arith}
+use Rattle.lemmas.proofs.Bools.{not_both}
 use Rattle.best_first.proofs.ExploredLemmas.{grown_met, grown_explored, grown_beyond, grown_place}
 use Rattle.best_first.specs.Explored.{ExploringEnds}
 use Rattle.best_first.proofs.expand.settle.Goals as goal
@@ -15,11 +16,8 @@ returns-then-id-scene g c =
     let known = g.L.Look.known scene.look.now in
     let grown = c.requires.grown in
     let place = grown_place scene.task.now known scene.seeks_goal scene.limit c.args.tree.now.store c.args.tree.now.links.items c.args.from c.args.id grown in
-    let open_end : ¬ (ExploringEnds scene.task.now known scene.seeks_goal grown.after) = λ e. absurd (no ((c.in_ok-ends.ensures grown.after grown.place).1 e) c.if-branch.false) in
+    let open_end : ¬ (ExploringEnds scene.task.now known scene.seeks_goal grown.after) = λ e. absurd (not_both _ ((c.in_ok-ends.ensures grown.after grown.place).1 e) c.if-branch.false) in
     grown_explored scene.task.now known scene.seeks_goal scene.limit c.args.tree.now.store c.args.tree.now.links.items c.args.from c.args.id grown open_end (omega arith)
-  where
-    no : {b : Bool} → b ≡ true → b ≡ false → ⊥
-    no p q = cc
 
 pub returns-else-id-scene : goal.returns-else-id-scene
 returns-else-id-scene g c =

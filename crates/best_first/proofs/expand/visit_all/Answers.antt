@@ -1,6 +1,6 @@
 use Rattle.std.proofs.Common.{sym, subst, arith}
+use Rattle.lemmas.proofs.ListTests.{get_some}
 use Rattle.grounder.specs.Applicable.{IsApplicable}
-use Rattle.plan_check.proofs.FaultsLemmas.{got}
 use Rattle.best_first.specs.Explored.{IsExplored, Comes}
 use Rattle.best_first.proofs.ExploredLemmas.{expanding_start, expanding_next, expanding_done}
 use Rattle.best_first.proofs.expand.visit_all.Goals as goal
@@ -19,7 +19,7 @@ pub loop-step-preserved : goal.loop-step-preserved
 loop-step-preserved g c =
     let scene = c.args.scene.now in
     let known = g.L.Look.known scene.look.now in
-    let at = got c.args.steps.now c.loop-step.step-index c.step-item.result c.loop-step-test.true c.step-item.is in
+    let at = get_some c.args.steps.now c.loop-step.step-index c.step-item.result c.loop-step-test.true c.step-item.is in
     let e : IsExplored scene.task.now known scene.seeks_goal scene.limit c.visit.new.tree.store c.visit.new.tree.links.items c.args.from = subst (Comes scene.task.now known scene.seeks_goal scene.limit c.visit.new.tree.store c.visit.new.tree.links.items c.args.from) c.in-On.is c.in_ok-visit.ensures.comes in
     expanding_next scene.task.now known scene.seeks_goal scene.limit c.loop-step.tree.store c.loop-step.tree.links.items c.args.from c.args.state.now c.args.steps.now c.loop-step.step-index c.visit.new.tree.store c.visit.new.tree.links.items c.step-item.result c.loop-step.invariant at e c.in_ok-visit.ensures.grows c.in_ok-visit.ensures.kept
 

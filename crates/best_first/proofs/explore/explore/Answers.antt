@@ -1,4 +1,5 @@
-use Rattle.std.proofs.Common.{◌≡◌, ◌∷◌, [], Bool, true, false, sym, ap, subst, arith, Some, slice_get}
+use Rattle.std.proofs.Common.{◌≡◌, ◌∷◌, [], true, false, sym, ap, subst, arith, Some, slice_get}
+use Rattle.lemmas.proofs.Bools.{not_both}
 use Rattle.task_model.specs.Initial.{initial_state}
 use Rattle.best_first.specs.Explored.{ExploringEnds, IsExplored, IsMet}
 use Rattle.best_first.proofs.ExploredLemmas.{explored_start, met_at_start, explored_all}
@@ -19,12 +20,9 @@ loop-next-init g c =
     let known = g.L.Look.known scene.look.now in
     let tree = c.in_ok-tree.tree in
     let here : slice_get tree.store 0 ≡ Some (initial_state scene.task.now) = ap (λ ss. slice_get ss 0) c.in_ok-tree.ensures.states in
-    let open_end : ¬ (ExploringEnds scene.task.now known scene.seeks_goal (initial_state scene.task.now)) = λ e. absurd (no ((c.in_ok-ends.ensures (initial_state scene.task.now) here).1 e) c.if-branch.false) in
+    let open_end : ¬ (ExploringEnds scene.task.now known scene.seeks_goal (initial_state scene.task.now)) = λ e. absurd (not_both _ ((c.in_ok-ends.ensures (initial_state scene.task.now) here).1 e) c.if-branch.false) in
     let start = explored_start scene.task.now known scene.seeks_goal scene.limit c.requires.some open_end in
     subst (λ ss. IsExplored scene.task.now known scene.seeks_goal scene.limit ss tree.links.items 0) (sym c.in_ok-tree.ensures.states) (subst (λ ls. IsExplored scene.task.now known scene.seeks_goal scene.limit (initial_state scene.task.now ∷ []) ls 0) (sym c.in_ok-tree.ensures.links) start)
-  where
-    no : {b : Bool} → b ≡ true → b ≡ false → ⊥
-    no p q = cc
 
 pub returns : goal.returns
 returns g c =

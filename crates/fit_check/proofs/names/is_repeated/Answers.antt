@@ -1,7 +1,8 @@
 use Rattle.std.proofs.Common.{◌≡◌, ◌+◌, ◌||◌, true, false, sym, ap, ◌∙◌, drop}
 use Rattle.std.specs.List.{list_any}
+use Rattle.std.proofs.lemmas.List.{drop_all}
 use Rattle.task_model.specs.Known.{same_numbers}
-use Rattle.lemmas.proofs.ListTests.{get_some, one_there, any_from, none_left}
+use Rattle.lemmas.proofs.ListTests.{get_some, one_there, any_from}
 use Rattle.fit_check.proofs.names.is_repeated.Goals as goal
 
 pub returns-then-same_name : goal.returns-then-same_name
@@ -26,4 +27,4 @@ loop-other-preserved g c x here =
     ∙ c.loop-other.invariant x here
 
 pub returns : goal.returns
-returns g c x here = ap (list_any (λ y. same_numbers (g.T.Named.named x) (g.T.Named.named y))) (sym (none_left c.args.items.now c.loop-other.other c.loop-other-test.false)) ∙ c.loop-other.invariant x here
+returns g c x here = ap (list_any (λ y. same_numbers (g.T.Named.named x) (g.T.Named.named y))) (sym (drop_all c.loop-other.other c.args.items.now c.loop-other-test.false)) ∙ c.loop-other.invariant x here

@@ -1,8 +1,9 @@
 use Rattle.std.proofs.Common.{rules, ◌≡◌, refl, true, false}
 use Rattle.std.specs.List.{list_all}
 use Rattle.std.specs.Char.{is_ascii_digit}
+use Rattle.lemmas.proofs.Digits.{digits_are_text}
 use Rattle.form_reader.specs.Words.{is_number}
-use Rattle.form_reader.proofs.WordsLemmas.{digits_are_text, not_number}
+use Rattle.form_reader.proofs.WordsLemmas.{not_number}
 use Rattle.form_reader.proofs.words.number_of.Goals as goal
 
 pub returns-in_default : goal.returns-in_default

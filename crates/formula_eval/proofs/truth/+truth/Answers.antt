@@ -1,12 +1,13 @@
 use Rattle.std.proofs.Common.{rules, ◌≡◌, ◌+◌, ◌<◌, ◌||◌, length, true, false, ℕ, suc, slice_set, sym, ap, ◌∙◌, subst, arith, drop, get_or, add-one}
 use Rattle.std.specs.List.{list_any}
+use Rattle.task_model.proofs.TruthLemmas.{have_types-length}
 use Rattle.task_model.specs.Known.{objects_of}
 use Rattle.task_model.specs.Roles.{role_of}
 use Rattle.task_model.specs.declared.domain.Role.TheVariants as role
 use Rattle.formula_eval.specs.Judged.{some_at, derived_at}
 use Rattle.formula_eval.proofs.ConditionPartLemmas.{readable_part, set_back, set_twice}
 use Rattle.formula_eval.proofs.ReadableLemmas.{roles_length, role_kept, static_at, fluent_at, derived_below, derived_at_none, fit_item, item_params, item_readable}
-use Rattle.formula_eval.proofs.ListTestLemmas.{have_types-length, list_any-drop}
+use Rattle.formula_eval.proofs.ListTestLemmas.{list_any-drop}
 use Rattle.formula_eval.proofs.WeightLemmas.{part_lighter, body_lighter}
 use Rattle.formula_eval.proofs.truth.+truth.Goals as goal
 

@@ -1,8 +1,9 @@
 use Rattle.std.proofs.Common.{rules, ◌≡◌, refl, true, false}
 use Rattle.std.specs.List.{list_all}
 use Rattle.std.specs.Char.{is_ascii_digit}
+use Rattle.lemmas.proofs.Digits.{digits_are_text}
 use Rattle.gen_lines.specs.Reply.{is_number}
-use Rattle.gen_lines.proofs.ReplyDigitLemmas.{digits_are_text, not_number}
+use Rattle.gen_lines.proofs.ReplyDigitLemmas.{not_number}
 use Rattle.gen_lines.proofs.values.number_of.Goals as goal
 
 pub returns-in_default : goal.returns-in_default

@@ -1,5 +1,5 @@
 use Rattle.std.proofs.Common.{◌<◌, length, get_or, sym, ap, subst, ◌∙◌, arith}
-use Rattle.plan_check.proofs.FaultsLemmas.{got}
+use Rattle.lemmas.proofs.ListTests.{get_some}
 use Rattle.grounder.proofs.ListingLemmas.{AreListed, listed_none, listed_next, all_listed}
 use Rattle.grounder.proofs.actions.applicable.Goals as goal
 
@@ -12,7 +12,7 @@ add_steps-requires-clause-named g c =
     let actions = c.args.task.now.domain.actions in
     let number = c.loop-number.number in
     let inside : number < length actions = omega (arith, ap length c.as_slice-action-items.ensures) in
-    got actions number c.action-item.result inside (c.action-item.is ∙ ap (λ xs. get_or xs number c.action-item.result) c.as_slice-action-items.ensures)
+    get_some actions number c.action-item.result inside (c.action-item.is ∙ ap (λ xs. get_or xs number c.action-item.result) c.as_slice-action-items.ensures)
 
 pub loop-number-preserved : goal.loop-number-preserved
 loop-number-preserved g c =

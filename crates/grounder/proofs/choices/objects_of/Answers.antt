@@ -1,8 +1,9 @@
 use Rattle.std.proofs.Common.{◌≡◌, ◌∷◌, [], ◌++◌, take, sym, ap, ◌∙◌, add-one, arith, nat_eq}
 use Rattle.std.proofs.lemmas.List.{take_all}
 use Rattle.std.proofs.lemmas.List.Filters.{dedup_is}
+use Rattle.lemmas.proofs.Members.{take_next}
 use Rattle.task_model.specs.Known.{objects_of}
-use Rattle.grounder.proofs.ListingObjectLemmas.{sorted_objects, take-next}
+use Rattle.grounder.proofs.ListingObjectLemmas.{sorted_objects}
 use Rattle.grounder.proofs.choices.objects_of.Goals as goal
 
 pub returns : goal.returns
@@ -15,4 +16,4 @@ returns g c =
 pub loop-place-preserved : goal.loop-place-preserved
 loop-place-preserved g c =
     let objects = objects_of (g.L.Look.known c.args.look.now).facts c.args.sort in
-    c.in_ok-push.ensures.items ∙ ap (λ xs. xs ++ c.object.result ∷ []) c.loop-place.invariant ∙ sym (ap (λ n. take n objects) (add-one c.loop-place.place) ∙ take-next objects c.loop-place.place c.object.result c.object.ensures)
+    c.in_ok-push.ensures.items ∙ ap (λ xs. xs ++ c.object.result ∷ []) c.loop-place.invariant ∙ sym (ap (λ n. take n objects) (add-one c.loop-place.place) ∙ take_next objects c.loop-place.place c.object.result c.object.ensures)

@@ -1,15 +1,15 @@
 use Rattle.std.proofs.Common.{ap, sym, subst, ◌∙◌, ◌≡◌, ◌≤◌, ◌&&◌, length, true, arith}
 use Rattle.std.specs.List.{list_all}
+use Rattle.task_model.proofs.TruthLemmas.{have_types-length}
 use Rattle.task_model.specs.Known.{is_fact}
 use Rattle.task_model.specs.Streams.{fact_of}
 use Rattle.task_model.specs.Truth.{have_types, slots_of}
-use Rattle.instance_queue.proofs.ReadableLemmas.{have_types_long}
 use Rattle.instance_queue.proofs.reach.is_reachable.Goals as goal
 
 pub new-requires : goal.new-requires
 new-requires c =
     let known = c.args.facts.now.known in
-    let long : length c.as_slice-inputs.result.now ≡ length c.as_slice.result.now = have_types_long known c.as_slice-inputs.result.now c.as_slice.result.now (sym c.if-have_types.ensures) in
+    let long : length c.as_slice-inputs.result.now ≡ length c.as_slice.result.now = have_types-length known c.as_slice-inputs.result.now c.as_slice.result.now (sym c.if-have_types.ensures) in
     let narrow : length c.as_slice.result.now ≤ 8 = subst (λ xs. length xs ≤ 8) (sym c.as_slice.ensures) c.requires.narrow in
     omega (arith, long, narrow)
 

@@ -1,5 +1,6 @@
 use Rattle.std.proofs.Common.{◌≡◌, ◌+◌, ◌++◌, ◌<◌, ◌≤◌, ℕ, List, length, ap, sym, subst, ◌∙◌, arith, refl, slice_get, Some}
 use Rattle.std.proofs.lemmas.List.{length-take-le, length-drop}
+use Rattle.lemmas.proofs.Results.{on_err}
 use Rattle.instance_queue.specs.Level.{instances_of}
 use Rattle.session_core.specs.Ready.{AreReady}
 use Rattle.session_core.specs.declared.pools.Workers.{Workers}
@@ -12,7 +13,7 @@ use Rattle.level_run.specs.Breaking.{LogBreaks}
 use Rattle.level_run.proofs.CallsLemmas.{calls_none, calls_then}
 use Rattle.level_run.proofs.TurnsOutcomeLemmas.{empty_of, filled_of, first_of}
 use Rattle.level_run.proofs.RollingFrontLemmas.{all_work, so_far_front}
-use Rattle.level_run.proofs.StoppedLemmas.{goes_none, goes_then, handed, on_err, stopped_as, stopped_then}
+use Rattle.level_run.proofs.StoppedLemmas.{goes_none, goes_then, handed, stopped_as, stopped_then}
 use Rattle.level_run.specs.Calls.{Calls}
 use Rattle.level_run.specs.Dialogue.{workers_in}
 use Rattle.level_run.specs.Rolling.{IsFront, Stopped}

@@ -1,11 +1,12 @@
 use Rattle.std.proofs.Common.{rules, ◌∙◌, ap}
+use Rattle.std.proofs.lemmas.Result.{IfErr-weaker}
 use Rattle.gen_lines.specs.declared.answer.Why.TheVariants.{TooLong}
 use Rattle.session_core.specs.Heard.{number_at}
 use Rattle.gen_lines.specs.Lines.{left_after}
 use Rattle.level_run.proofs.BreakingLemmas.{hears_given, hears_none, hears_refused, tells_blamed, tells_refused}
 use Rattle.level_run.proofs.CallsRoundLemmas.{reads_given}
 use Rattle.level_run.proofs.TalkingLineLemmas.{takes_kept, too_long_kept}
-use Rattle.level_run.proofs.StoppedLemmas.{err_map, handed, on_ok}
+use Rattle.level_run.proofs.StoppedLemmas.{handed, on_ok}
 use Rattle.level_run.proofs.child.hear.Goals as goal
 
 pub returns-in-Line-clause-taken : goal.returns-in-Line-clause-taken
@@ -24,7 +25,7 @@ returns-in-Line-next_line-clause-log g c =
 
 pub returns-in-Line-clause-refused : goal.returns-in-Line-clause-refused
 returns-in-Line-clause-refused g c =
-    err_map c.take_line.result _ _ (λ fault is. hears_none c.args.child c.args.buffer.now fault (g.H.Host.log c.args.host.now) (tells_refused c.args.session.now.slots c.args.child c.in-Line.line.now fault is)) c.take_line.ensures.refused
+    IfErr-weaker c.take_line.result _ _ (λ fault is. hears_none c.args.child c.args.buffer.now fault (g.H.Host.log c.args.host.now) (tells_refused c.args.session.now.slots c.args.child c.in-Line.line.now fault is)) c.take_line.ensures.refused
 
 pub returns-in-TooLong-clause-refused : goal.returns-in-TooLong-clause-refused
 returns-in-TooLong-clause-refused g c =
@@ -39,7 +40,7 @@ returns-in_err-fill-clause-refused g c =
 pub returns-in-Line-next_line-clause-refused : goal.returns-in-Line-next_line-clause-refused
 returns-in-Line-next_line-clause-refused g c =
     let log = c.in_ok-fill.ensures.log in
-    err_map c.take_line-in-Line-next_line.result _ _ (λ fault is. hears_given c.args.child c.args.buffer.now log.0 fault (g.H.Host.log c.args.host.now) (g.H.Host.log c.fill.new.host) c.in-Part.ensures.shown.0
+    IfErr-weaker c.take_line-in-Line-next_line.result _ _ (λ fault is. hears_given c.args.child c.args.buffer.now log.0 fault (g.H.Host.log c.args.host.now) (g.H.Host.log c.fill.new.host) c.in-Part.ensures.shown.0
     (tells_refused c.args.session.now.slots c.args.child c.in-Line-next_line.line.now fault is) log.1) c.take_line-in-Line-next_line.ensures.refused
 
 pub returns-in-Part-next_line : goal.returns-in-Part-next_line

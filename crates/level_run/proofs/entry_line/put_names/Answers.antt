@@ -1,7 +1,8 @@
 use Rattle.std.proofs.Common.{◌∷◌, ◌++◌, ◌+◌, ◌∙◌, arith, drop, subst, sym, take}
 use Rattle.std.specs.Io.KnownBytes.{Appends}
+use Rattle.lemmas.proofs.Members.{flat_map_next}
 use Rattle.report_text.specs.Texts.{fields_text}
-use Rattle.level_run.proofs.PiecesLemmas.{around, flat_map_next, prints_later}
+use Rattle.level_run.proofs.PiecesLemmas.{around, prints_later}
 use Rattle.level_run.proofs.StoppedLemmas.{appends_then}
 use Rattle.level_run.proofs.entry_line.put_names.Goals as goal
 

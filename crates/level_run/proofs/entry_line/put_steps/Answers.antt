@@ -1,7 +1,8 @@
 use Rattle.std.proofs.Common.{◌+◌, arith, drop, map, subst, sym}
 use Rattle.std.specs.Io.KnownBytes.{Appends}
+use Rattle.lemmas.proofs.Members.{flat_map_map_next}
 use Rattle.report_text.specs.Texts.{line_text, lines_text, step_line}
-use Rattle.level_run.proofs.PiecesLemmas.{lines_around, lines_next, prints_later}
+use Rattle.level_run.proofs.PiecesLemmas.{lines_around, prints_later}
 use Rattle.level_run.proofs.StoppedLemmas.{appends_then}
 use Rattle.level_run.proofs.entry_line.put_steps.Goals as goal
 
@@ -10,6 +11,6 @@ returns-in_err-put_step-clause-told g c = prints_later c.from_residual.result c.
 
 pub loop-step-preserved : goal.loop-step-preserved
 loop-step-preserved g c = record {
-  told = subst (Appends (g.O.Sink.taken c.args.out.now) (g.O.Sink.taken c.put_step.new.out)) (sym (lines_next line_text step_line c.args.steps.now c.loop-step.step-index c.step-item.result c.loop-step-test.true c.step-item.is)) (appends_then (g.O.Sink.taken c.args.out.now) (g.O.Sink.taken c.loop-step.out) (g.O.Sink.taken c.put_step.new.out) _ _ c.loop-step.invariant.told c.in_ok-put_step.ensures.told);
+  told = subst (Appends (g.O.Sink.taken c.args.out.now) (g.O.Sink.taken c.put_step.new.out)) (sym (flat_map_map_next line_text step_line c.args.steps.now c.loop-step.step-index c.step-item.result c.loop-step-test.true c.step-item.is)) (appends_then (g.O.Sink.taken c.args.out.now) (g.O.Sink.taken c.loop-step.out) (g.O.Sink.taken c.put_step.new.out) _ _ c.loop-step.invariant.told c.in_ok-put_step.ensures.told);
   sink = omega (arith, c.loop-step.invariant.sink, c.in_ok-put_step.ensures.cause.later);
 }

@@ -1,7 +1,8 @@
 use Rattle.std.proofs.Common.{◌≡◌, ◌<◌, ◌≤◌, ◌+◌, ◌-◌, ◌*◌, ◌/◌, ◌∷◌, ◌++◌, ◌∙◌, arith, ap, codes, length, subst, sym}
 use Rattle.std.proofs.lemmas.List.{length-drop}
+use Rattle.lemmas.proofs.Numbers.{enough_next}
 use Rattle.report_text.specs.Texts.{fields_text, tuple_fields, tuples_of}
-use Rattle.level_run.proofs.PiecesLemmas.{IsBehind, behind_cut, behind_last, behind_next, enough_next, tuples_step}
+use Rattle.level_run.proofs.PiecesLemmas.{IsBehind, behind_cut, behind_last, behind_next, tuples_step}
 use Rattle.level_run.proofs.entry_line.put_tuples.Goals as goal
 
 pub returns-in_err-put_tuple-clause-told : goal.returns-in_err-put_tuple-clause-told

@@ -1,7 +1,8 @@
 use Rattle.std.proofs.Common.{◌+◌, arith, drop, map, subst, sym}
 use Rattle.std.specs.Io.KnownBytes.{Appends}
+use Rattle.lemmas.proofs.Members.{flat_map_map_next}
 use Rattle.report_text.specs.Texts.{line_text, lines_text, use_line}
-use Rattle.level_run.proofs.PiecesLemmas.{lines_around, lines_next, prints_later}
+use Rattle.level_run.proofs.PiecesLemmas.{lines_around, prints_later}
 use Rattle.level_run.proofs.StoppedLemmas.{appends_then}
 use Rattle.level_run.proofs.entry_line.put_uses.Goals as goal
 
@@ -10,6 +11,6 @@ returns-in_err-put_use-clause-told g c = prints_later c.from_residual.result c.i
 
 pub loop-one-preserved : goal.loop-one-preserved
 loop-one-preserved g c = record {
-  told = subst (Appends (g.O.Sink.taken c.args.out.now) (g.O.Sink.taken c.put_use.new.out)) (sym (lines_next line_text use_line c.args.uses.now c.loop-one.one-index c.one-item.result c.loop-one-test.true c.one-item.is)) (appends_then (g.O.Sink.taken c.args.out.now) (g.O.Sink.taken c.loop-one.out) (g.O.Sink.taken c.put_use.new.out) _ _ c.loop-one.invariant.told c.in_ok-put_use.ensures.told);
+  told = subst (Appends (g.O.Sink.taken c.args.out.now) (g.O.Sink.taken c.put_use.new.out)) (sym (flat_map_map_next line_text use_line c.args.uses.now c.loop-one.one-index c.one-item.result c.loop-one-test.true c.one-item.is)) (appends_then (g.O.Sink.taken c.args.out.now) (g.O.Sink.taken c.loop-one.out) (g.O.Sink.taken c.put_use.new.out) _ _ c.loop-one.invariant.told c.in_ok-put_use.ensures.told);
   sink = omega (arith, c.loop-one.invariant.sink, c.in_ok-put_use.ensures.cause.later);
 }

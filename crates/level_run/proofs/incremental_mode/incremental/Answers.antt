@@ -1,21 +1,22 @@
 use Rattle.std.proofs.Common.{◌∙◌, refl}
+use Rattle.std.proofs.lemmas.Result.{IfOk-weaker, IfErr-weaker}
 use Rattle.level_run.proofs.ReportsLemmas.{broken_before, broken_stopped, reported_behind}
 use Rattle.level_run.proofs.CallsRunLemmas.{stops_none}
-use Rattle.level_run.proofs.StoppedLemmas.{err_map, handed, ok_each}
+use Rattle.level_run.proofs.StoppedLemmas.{handed}
 use Rattle.level_run.specs.declared.fault.RunFault.TheVariants.{Memory}
 use Rattle.level_run.proofs.incremental_mode.incremental.Goals as goal
 
 pub returns-clause-reported : goal.returns-clause-reported
 returns-clause-reported g c =
-    ok_each c.report-result.result _ _ (λ ran reported. reported_behind c.args.task.now c.args.head.now (g.H.Host.spoken c.report-result.new.host) (g.H.Host.spoken c.stop_all.new.host) (g.H.Host.log c.args.host.now) (g.H.Host.log c.report-result.new.host) (g.H.Host.log c.stop_all.new.host) (g.O.Sink.taken c.args.out.now) (g.O.Sink.taken c.report-result.new.out) ran c.stop_all.ensures.spoken c.stop_all.ensures.stops reported) c.report-result.ensures.reported
+    IfOk-weaker c.report-result.result _ _ (λ ran reported. reported_behind c.args.task.now c.args.head.now (g.H.Host.spoken c.report-result.new.host) (g.H.Host.spoken c.stop_all.new.host) (g.H.Host.log c.args.host.now) (g.H.Host.log c.report-result.new.host) (g.H.Host.log c.stop_all.new.host) (g.O.Sink.taken c.args.out.now) (g.O.Sink.taken c.report-result.new.out) ran c.stop_all.ensures.spoken c.stop_all.ensures.stops reported) c.report-result.ensures.reported
 
 pub returns-clause-unneeded : goal.returns-clause-unneeded
 returns-clause-unneeded g c =
-    ok_each c.report-result.result _ _ (λ ran untouched none. let u = untouched none in c.stop_all.ensures.none u.1 ∙ u.0) c.report-result.ensures.untouched
+    IfOk-weaker c.report-result.result _ _ (λ ran untouched none. let u = untouched none in c.stop_all.ensures.none u.1 ∙ u.0) c.report-result.ensures.untouched
 
 pub returns-clause-broken : goal.returns-clause-broken
 returns-clause-broken g c =
-    err_map c.report-result.result _ _ (λ fault broken. broken_stopped c.args.task.now c.args.head.now (g.H.Host.spoken c.report-result.new.host) (g.H.Host.spoken c.stop_all.new.host) (g.H.Host.log c.args.host.now) (g.H.Host.log c.report-result.new.host) (g.H.Host.log c.stop_all.new.host) (g.O.Sink.taken c.args.out.now) (g.O.Sink.taken c.report-result.new.out) fault c.stop_all.ensures.spoken c.stop_all.ensures.stops broken) c.report-result.ensures.broken
+    IfErr-weaker c.report-result.result _ _ (λ fault broken. broken_stopped c.args.task.now c.args.head.now (g.H.Host.spoken c.report-result.new.host) (g.H.Host.spoken c.stop_all.new.host) (g.H.Host.log c.args.host.now) (g.H.Host.log c.report-result.new.host) (g.H.Host.log c.stop_all.new.host) (g.O.Sink.taken c.args.out.now) (g.O.Sink.taken c.report-result.new.out) fault c.stop_all.ensures.spoken c.stop_all.ensures.stops broken) c.report-result.ensures.broken
 
 pub returns-in_err-lines-clause-broken : goal.returns-in_err-lines-clause-broken
 returns-in_err-lines-clause-broken g c =

@@ -1,8 +1,9 @@
 use Rattle.std.proofs.Common.{◌≡◌, ◌⊎◌, ◌++◌, ◌∷◌, [], inl, inr, length, refl}
+use Rattle.std.proofs.lemmas.Result.{IfErr-weaker}
 use Rattle.transcript_model.specs.declared.entry.Entry.TheVariants as entry
 use Rattle.level_run.proofs.TurnsLevelLemmas.{level_legal}
 use Rattle.level_run.proofs.PiecesLemmas.{printed_part}
-use Rattle.level_run.proofs.StoppedLemmas.{err_map, handed, stopped_at, stopped_memory}
+use Rattle.level_run.proofs.StoppedLemmas.{handed, stopped_at, stopped_memory}
 use Rattle.level_run.proofs.TalkingLemmas.{broken_marked, broken_told}
 use Rattle.level_run.specs.declared.fault.RunFault.TheVariants.{Memory}
 use Rattle.level_run.proofs.levels.mark_level.Goals as goal
@@ -11,7 +12,7 @@ pub returns-clause-stopped : goal.returns-clause-stopped
 returns-clause-stopped g c = λ task running kept spoken h told started.
     let s = c.args.session.now in
     let legal = level_legal s.version task s.entries h.legal in
-    err_map c.print_entry.result _ _ (λ fault misses. stopped_at s.version task s.pools spoken (λ es. (es ≡ s.entries) ⊎ (es ≡ s.entries ++ entry.Level ∷ [])) s.entries entry.Level fault (g.O.Sink.taken c.args.out.now) (g.O.Sink.taken c.print_entry.new.out) (λ more. (more ≡ []) ⊎ (more ≡ entry.Level ∷ [])) legal
+    IfErr-weaker c.print_entry.result _ _ (λ fault misses. stopped_at s.version task s.pools spoken (λ es. (es ≡ s.entries) ⊎ (es ≡ s.entries ++ entry.Level ∷ [])) s.entries entry.Level fault (g.O.Sink.taken c.args.out.now) (g.O.Sink.taken c.print_entry.new.out) (λ more. (more ≡ []) ⊎ (more ≡ entry.Level ∷ [])) legal
     (inr refl)
     (broken_marked task s.version s.pools s.entries (length s.asked) running kept spoken h.counted started told legal)
     (λ is. inr refl) misses) (printed_part c.print_entry.result _ _ _ c.print_entry.ensures.told)

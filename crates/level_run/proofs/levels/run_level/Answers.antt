@@ -1,4 +1,5 @@
 use Rattle.std.proofs.Common.{◌≡◌, ◌⊎◌, ◌++◌, ◌∷◌, [], List, sym, subst, length}
+use Rattle.std.proofs.lemmas.Result.{IfErr-weaker}
 use Rattle.session_core.specs.Ready.{AreReady}
 use Rattle.instance_queue.specs.Level.{instances_of}
 use Rattle.transcript_model.specs.Legal.{HasNoneOpen}
@@ -11,7 +12,7 @@ use Rattle.level_run.proofs.CallsRunLemmas.{runs_marked}
 use Rattle.level_run.proofs.StartsLemmas.{level_ok}
 use Rattle.level_run.proofs.BreakingLemmas.{tells_written}
 use Rattle.level_run.proofs.BreakingRunLemmas.{marked_level, quiet_level}
-use Rattle.level_run.proofs.StoppedLemmas.{err_map, goes_then, handed, ok_map, stopped_as, stopped_then}
+use Rattle.level_run.proofs.StoppedLemmas.{goes_then, handed, ok_map, stopped_as, stopped_then}
 use Rattle.level_run.specs.Breaking.{LevelBreaks, RunBreaks}
 use Rattle.level_run.specs.Rolling.{Goes, IsFront, Stopped}
 use Rattle.level_run.specs.Turns.{EndsBatch, IsSomeLevel}
@@ -53,7 +54,7 @@ returns-clause-stopped g c =
     let first = subst (λ es. Goes s.entries es (g.O.Sink.taken c.args.out.now) (g.O.Sink.taken c.mark_level.new.out)) (sym c.in_ok-mark_level.ensures.marked.entries) c.in_ok-mark_level.ensures.goes in
     let was = g.H.Host.log c.args.host.now in
     let log = g.H.Host.log c.batch.new.host in
-    err_map c.batch.result _ _ (λ fault stopped. stopped_then head.version task (workers_in head) spoken level s.entries m.entries fault (g.O.Sink.taken c.args.out.now) (g.O.Sink.taken c.mark_level.new.out) (g.O.Sink.taken c.batch.new.out)
+    IfErr-weaker c.batch.result _ _ (λ fault stopped. stopped_then head.version task (workers_in head) spoken level s.entries m.entries fault (g.O.Sink.taken c.args.out.now) (g.O.Sink.taken c.mark_level.new.out) (g.O.Sink.taken c.batch.new.out)
     (LevelBreaks task head s.entries fault was log) (RunBreaks task head m.entries fault was log) first (marked_level task head s.entries m.entries first.more fault was log c.in_ok-mark_level.ensures.marked.entries first.pushed)
     (stopped_as head.version task (workers_in head) spoken level (IsFront m.entries (IsBatch (limits_of head) task m.entries (instances_of c.args.dues.now))) m.entries fault (g.O.Sink.taken c.mark_level.new.out) (g.O.Sink.taken c.batch.new.out)
     (RunBreaks task head m.entries fault was log) (RunBreaks task head m.entries fault was log)

@@ -1,6 +1,7 @@
 use Rattle.std.proofs.Common.{◌≡◌, ◌+◌, ◌++◌, ◌∷◌, [], ap, sym, subst, ◌∙◌, Some, IfSome, take, arith, length}
 use Rattle.std.specs.Option.{option_copied}
-use Rattle.session_core.proofs.LearningLemmas.{there_at}
+use Rattle.std.proofs.lemmas.Result.{IfErr-weaker}
+use Rattle.lemmas.proofs.ListTests.{get_there}
 use Rattle.session_core.specs.Slots.{IsAwaited}
 use Rattle.transcript_model.specs.Legal.{HasNoneOpen, IsLegal}
 use Rattle.transcript_model.specs.Rounds.{IsRound}
@@ -11,7 +12,7 @@ use Rattle.level_run.specs.Breaking.{LogBreaks}
 use Rattle.level_run.proofs.CallsLemmas.{calls_one}
 use Rattle.level_run.proofs.RollingPrintLemmas.{answers_legal, front_answers, round_legal}
 use Rattle.level_run.proofs.RollingLemmas.{awaited_there, heard_more, printed_there, rolling_same, started_within}
-use Rattle.level_run.proofs.StoppedLemmas.{err_map, goes_one, handed, ok_map, on_ok, stopped_at, stopped_blamed}
+use Rattle.level_run.proofs.StoppedLemmas.{goes_one, handed, ok_map, on_ok, stopped_at, stopped_blamed}
 use Rattle.level_run.proofs.TalkingRoundLemmas.{broken_answered, broken_hearing, may_blame, talking_heard}
 use Rattle.level_run.proofs.PiecesLemmas.{printed_all, printed_part}
 use Rattle.level_run.specs.Calls.{LogFollows}
@@ -22,35 +23,35 @@ use Rattle.level_run.proofs.round.hear_one.Goals as goal
 pub hear_child-requires-clause-there : goal.hear_child-requires-clause-there
 hear_child-requires-clause-there g c =
     let s = c.args.session.now in
-    let there = there_at s.slots c.args.place c.requires.within in
+    let there = get_there s.slots c.args.place c.requires.within in
     let is = subst (λ o. IfSome o (λ slot. (c.request-child.result.0 ≡ slot.child) × (c.request-child.result.1.now ≡ slot.request))) there.1 c.request-child.ensures in
     started_within c.args.lines.now.started c.request-child.result.0 (c.requires.state c.request-child.result.0 ∙ ap (g.H.Host.running c.args.host.now) is.0 ∙ c.requires.rolling.runs c.args.place there.0 there.1)
 
 pub hear_child-requires-clause-number : goal.hear_child-requires-clause-number
 hear_child-requires-clause-number g c =
     let s = c.args.session.now in
-    let there = there_at s.slots c.args.place c.requires.within in
+    let there = get_there s.slots c.args.place c.requires.within in
     let is = subst (λ o. IfSome o (λ slot. (c.request-child.result.0 ≡ slot.child) × (c.request-child.result.1.now ≡ slot.request))) there.1 c.request-child.ensures in
     omega (arith, is.0, c.requires.rolling.low c.args.place there.0 there.1)
 
 pub hear_child-requires-clause-runs : goal.hear_child-requires-clause-runs
 hear_child-requires-clause-runs g c =
     let s = c.args.session.now in
-    let there = there_at s.slots c.args.place c.requires.within in
+    let there = get_there s.slots c.args.place c.requires.within in
     let is = subst (λ o. IfSome o (λ slot. (c.request-child.result.0 ≡ slot.child) × (c.request-child.result.1.now ≡ slot.request))) there.1 c.request-child.ensures in
     ap (g.H.Host.running c.args.host.now) is.0 ∙ c.requires.rolling.runs c.args.place there.0 there.1
 
 pub hear_child-requires-clause-awaited : goal.hear_child-requires-clause-awaited
 hear_child-requires-clause-awaited g c =
     let s = c.args.session.now in
-    let there = there_at s.slots c.args.place c.requires.within in
+    let there = get_there s.slots c.args.place c.requires.within in
     let is = subst (λ o. IfSome o (λ slot. (c.request-child.result.0 ≡ slot.child) × (c.request-child.result.1.now ≡ slot.request))) there.1 c.request-child.ensures in
     subst (IsAwaited s.slots) (sym is.0) (awaited_there s (g.H.Host.running c.args.host.now) (length s.slots) c.args.place c.requires.rolling c.requires.within there.0 there.1)
 
 pub returns-in_err-hear_child-clause-stopped : goal.returns-in_err-hear_child-clause-stopped
 returns-in_err-hear_child-clause-stopped g c = λ task h talking.
     let s = c.args.session.now in
-    let there = there_at s.slots c.args.place c.requires.within in
+    let there = get_there s.slots c.args.place c.requires.within in
     let is = subst (λ o. IfSome o (λ slot. (c.request-child.result.0 ≡ slot.child) × (c.request-child.result.1.now ≡ slot.request))) there.1 c.request-child.ensures in
     let legal = round_legal task s c.requires.rolling.begun h in
     let before = s.entries ++ s.asks ++ take c.args.place (finished s.slots) in
@@ -70,7 +71,7 @@ returns-in_err-hear_child-clause-stopped g c = λ task h talking.
 pub unreachable-requires : goal.unreachable-requires
 unreachable-requires g c =
     let s = c.args.session.now in
-    let there = there_at s.slots c.args.place c.requires.within in
+    let there = get_there s.slots c.args.place c.requires.within in
     let is = subst (λ o. IfSome o (λ slot. (c.request-child.result.0 ≡ slot.child) × (c.request-child.result.1.now ≡ slot.request))) there.1 c.request-child.ensures in
     let more = heard_more s (g.H.Host.running c.args.host.now) c.args.place c.request-child.result.0 c.hear_child.new.session _ _ _ _ c.requires.rolling c.requires.within there.0 there.1 is.0 c.in_ok-hear_child.ensures.taken in
     let copied = subst (λ o. IfSome o (λ slot. option_copied c.answer.result ≡ slot.answer)) more.at c.answer.ensures in
@@ -81,7 +82,7 @@ unreachable-requires g c =
 pub returns-clause-rolling : goal.returns-clause-rolling
 returns-clause-rolling g c =
     let s = c.args.session.now in
-    let there = there_at s.slots c.args.place c.requires.within in
+    let there = get_there s.slots c.args.place c.requires.within in
     let is = subst (λ o. IfSome o (λ slot. (c.request-child.result.0 ≡ slot.child) × (c.request-child.result.1.now ≡ slot.request))) there.1 c.request-child.ensures in
     let more = heard_more s (g.H.Host.running c.args.host.now) c.args.place c.request-child.result.0 c.hear_child.new.session _ _ _ _ c.requires.rolling c.requires.within there.0 there.1 is.0 c.in_ok-hear_child.ensures.taken in
     on_ok c.print_entry.result _ (rolling_same c.hear_child.new.session (g.H.Host.running c.args.host.now) (g.H.Host.running c.hear_child.new.host) (length c.hear_child.new.session.slots) (c.args.place + 1) c.in_ok-hear_child.ensures.running more.rolling)
@@ -89,7 +90,7 @@ returns-clause-rolling g c =
 pub returns-clause-front : goal.returns-clause-front
 returns-clause-front g c =
     let s = c.args.session.now in
-    let there = there_at s.slots c.args.place c.requires.within in
+    let there = get_there s.slots c.args.place c.requires.within in
     let is = subst (λ o. IfSome o (λ slot. (c.request-child.result.0 ≡ slot.child) × (c.request-child.result.1.now ≡ slot.request))) there.1 c.request-child.ensures in
     let more = heard_more s (g.H.Host.running c.args.host.now) c.args.place c.request-child.result.0 c.hear_child.new.session _ _ _ _ c.requires.rolling c.requires.within there.0 there.1 is.0 c.in_ok-hear_child.ensures.taken in
     on_ok c.print_entry.result _ more.front
@@ -97,7 +98,7 @@ returns-clause-front g c =
 pub returns-clause-goes : goal.returns-clause-goes
 returns-clause-goes g c =
     let s = c.args.session.now in
-    let there = there_at s.slots c.args.place c.requires.within in
+    let there = get_there s.slots c.args.place c.requires.within in
     let is = subst (λ o. IfSome o (λ slot. (c.request-child.result.0 ≡ slot.child) × (c.request-child.result.1.now ≡ slot.request))) there.1 c.request-child.ensures in
     let more = heard_more s (g.H.Host.running c.args.host.now) c.args.place c.request-child.result.0 c.hear_child.new.session _ _ _ _ c.requires.rolling c.requires.within there.0 there.1 is.0 c.in_ok-hear_child.ensures.taken in
     let copied = subst (λ o. IfSome o (λ slot. option_copied c.answer.result ≡ slot.answer)) more.at c.answer.ensures in
@@ -107,14 +108,14 @@ returns-clause-goes g c =
 pub returns-clause-talking : goal.returns-clause-talking
 returns-clause-talking g c = λ task h talking.
     let s = c.args.session.now in
-    let there = there_at s.slots c.args.place c.requires.within in
+    let there = get_there s.slots c.args.place c.requires.within in
     let is = subst (λ o. IfSome o (λ slot. (c.request-child.result.0 ≡ slot.child) × (c.request-child.result.1.now ≡ slot.request))) there.1 c.request-child.ensures in
     on_ok c.print_entry.result _ (talking_heard task s (g.H.Host.running c.args.host.now) c.args.place c.requires.rolling c.requires.within there.0 there.1 c.request-child.result.0 c.hear_child.new.session (held_of c.args.lines.now) (held_of c.hear_child.new.lines) (g.H.Host.spoken c.args.host.now) (g.H.Host.spoken c.hear_child.new.host) is.0 c.in_ok-hear_child.ensures.taken c.hear_child.ensures.others talking)
 
 pub returns-clause-stopped : goal.returns-clause-stopped
 returns-clause-stopped g c = λ task h talking.
     let s = c.args.session.now in
-    let there = there_at s.slots c.args.place c.requires.within in
+    let there = get_there s.slots c.args.place c.requires.within in
     let is = subst (λ o. IfSome o (λ slot. (c.request-child.result.0 ≡ slot.child) × (c.request-child.result.1.now ≡ slot.request))) there.1 c.request-child.ensures in
     let running = g.H.Host.running c.args.host.now in
     let old = g.H.Host.spoken c.args.host.now in
@@ -135,7 +136,7 @@ returns-clause-stopped g c = λ task h talking.
     let spells = g.met.H.Host.spells c.args.host.now child runs in
     let follows = heard_calls task s running c.args.place c.requires.rolling c.requires.within there.0 there.1 new _ _ (held_of c.args.lines.now) (held_of c.hear_child.new.lines) old now more.entry child was came takes.after h (c.in_ok-hear_child.ensures.kept task h) talking later (printed_there new.slots c.args.place more.slot more.entry more.at more.said) more.front is.0
     spells (g.met.H.Host.spells c.hear_child.new.host child (c.in_ok-hear_child.ensures.running child ∙ runs)) c.in_ok-hear_child.ensures.log in
-    err_map c.print_entry.result _ _ (λ fault misses. stopped_at s.version task s.pools now (IsFront s.entries (IsRound task s.entries s.instances)) before c.in-Some.answer.now fault (g.O.Sink.taken c.args.out.now) (g.O.Sink.taken c.print_entry.new.out) (LogBreaks task s.version s.pools before fault was came) legal front
+    IfErr-weaker c.print_entry.result _ _ (λ fault misses. stopped_at s.version task s.pools now (IsFront s.entries (IsRound task s.entries s.instances)) before c.in-Some.answer.now fault (g.O.Sink.taken c.args.out.now) (g.O.Sink.taken c.print_entry.new.out) (LogBreaks task s.version s.pools before fault was came) legal front
     (broken_answered task s new c.args.place (held_of c.hear_child.new.lines) now c.in-Some.answer.now c.requires.rolling.begun (c.in_ok-hear_child.ensures.kept task h) _ _ takes.after
     (more.more ∙ ap (λ es. (s.entries ++ s.asks ++ es) ++ more.entry ∷ []) more.front ∙ ap (λ e. before ++ e ∷ []) (sym is_it)) legal later)
     (λ is_write. breaks_done task s.version s.pools before (c.in-Some.answer.now ∷ []) fault was came (tells_write (HasNoneOpen (before ++ c.in-Some.answer.now ∷ [])) fault is_write) (subst (λ e. LogFollows task s.pools before (e ∷ []) was came) (sym is_it) follows))
@@ -144,7 +145,7 @@ returns-clause-stopped g c = λ task h talking.
 pub returns-clause-order : goal.returns-clause-order
 returns-clause-order g c = λ task h talking.
     let s = c.args.session.now in
-    let there = there_at s.slots c.args.place c.requires.within in
+    let there = get_there s.slots c.args.place c.requires.within in
     let is = subst (λ o. IfSome o (λ slot. (c.request-child.result.0 ≡ slot.child) × (c.request-child.result.1.now ≡ slot.request))) there.1 c.request-child.ensures in
     let running = g.H.Host.running c.args.host.now in
     let child = c.request-child.result.0 in

@@ -1,5 +1,6 @@
 use Rattle.std.proofs.Common.{◌≡◌, ◌+◌, ◌++◌, ◌∷◌, [], ap, sym, subst, ◌∙◌, slice_get, Some, IfSome, take, arith}
-use Rattle.session_core.proofs.LearningLemmas.{there_at}
+use Rattle.std.proofs.lemmas.Result.{IfErr-weaker}
+use Rattle.lemmas.proofs.ListTests.{get_there}
 use Rattle.session_core.specs.Session.{IsSession}
 use Rattle.session_core.specs.Slots.{IsUnsent}
 use Rattle.session_core.specs.State.{State, after_sent}
@@ -12,7 +13,7 @@ use Rattle.transcript_model.specs.Legal.{HasNoneOpen}
 use Rattle.level_run.proofs.CallsLemmas.{calls_one}
 use Rattle.level_run.proofs.RollingPrintLemmas.{asks_legal, front_asks, one_more, round_legal}
 use Rattle.level_run.proofs.RollingLemmas.{rolling_same, rolling_sent, unsent_there}
-use Rattle.level_run.proofs.StoppedLemmas.{err_map, goes_one, handed, ok_map, on_ok, stopped_at, stopped_hearing}
+use Rattle.level_run.proofs.StoppedLemmas.{goes_one, handed, ok_map, on_ok, stopped_at, stopped_hearing}
 use Rattle.level_run.proofs.TalkingRoundLemmas.{broken_after, broken_part, next_legal, talking_sent_by}
 use Rattle.level_run.proofs.PiecesLemmas.{printed_all, printed_part}
 use Rattle.level_run.specs.Rolling.{IsFront, IsRolling, finished}
@@ -22,16 +23,16 @@ use Rattle.level_run.proofs.round.send_one.Goals as goal
 pub sent-requires-clause-unsent : goal.sent-requires-clause-unsent
 sent-requires-clause-unsent g c =
     let s = c.args.session.now in
-    let there = there_at s.slots c.args.place c.requires.within in
+    let there = get_there s.slots c.args.place c.requires.within in
     let is = subst (λ o. IfSome o (λ slot. (c.request-child.result.0 ≡ slot.child) × (c.request-child.result.1.now ≡ slot.request))) there.1 c.request-child.ensures in
     subst (IsUnsent s.slots) (sym is.0) (unsent_there s (g.H.Host.running c.args.host.now) c.args.place c.requires.rolling there.0 there.1)
 
 pub returns-in_err-send-clause-stopped : goal.returns-in_err-send-clause-stopped
 returns-in_err-send-clause-stopped g c = λ task kept h talking.
     let s = c.args.session.now in
-    let there = there_at s.slots c.args.place c.requires.within in
+    let there = get_there s.slots c.args.place c.requires.within in
     let is = subst (λ o. IfSome o (λ slot. (c.request-child.result.0 ≡ slot.child) × (c.request-child.result.1.now ≡ slot.request))) there.1 c.request-child.ensures in
-    let ask = there_at s.asks c.args.place (omega (arith, c.requires.within, c.requires.rolling.asks)) in
+    let ask = get_there s.asks c.args.place (omega (arith, c.requires.within, c.requires.rolling.asks)) in
     let opened = c.requires.rolling.begun in
     let part = c.in_err-send.ensures.part in
     handed c.from_residual.result c.in_err-send.field-0.0 _ c.from_residual.ensures.1
@@ -44,7 +45,7 @@ returns-in_err-send-clause-stopped g c = λ task kept h talking.
 pub returns-clause-rolling : goal.returns-clause-rolling
 returns-clause-rolling g c =
     let s = c.args.session.now in
-    let there = there_at s.slots c.args.place c.requires.within in
+    let there = get_there s.slots c.args.place c.requires.within in
     let is = subst (λ o. IfSome o (λ slot. (c.request-child.result.0 ≡ slot.child) × (c.request-child.result.1.now ≡ slot.request))) there.1 c.request-child.ensures in
     let after : c.sent.new.self ≡ after_sent s there.0.child = c.sent.ensures.after ∙ ap (after_sent s) is.0 in
     on_ok c.print_entry.result _ (subst (λ (x : State). IsRolling x (g.H.Host.running c.send.new.host) (c.args.place + 1) 0) (sym after)
@@ -60,7 +61,7 @@ returns-clause-goes g c =
 pub returns-clause-talking : goal.returns-clause-talking
 returns-clause-talking g c = λ task kept talking.
     let s = c.args.session.now in
-    let there = there_at s.slots c.args.place c.requires.within in
+    let there = get_there s.slots c.args.place c.requires.within in
     let is = subst (λ o. IfSome o (λ slot. (c.request-child.result.0 ≡ slot.child) × (c.request-child.result.1.now ≡ slot.request))) there.1 c.request-child.ensures in
     let after : c.sent.new.self ≡ after_sent s there.0.child = c.sent.ensures.after ∙ ap (after_sent s) is.0 in
     on_ok c.print_entry.result _ (subst (λ (x : State). IsTalking task x (c.args.place + 1) 0 kept (g.H.Host.spoken c.send.new.host)) (sym after)
@@ -69,7 +70,7 @@ returns-clause-talking g c = λ task kept talking.
 pub returns-clause-stopped : goal.returns-clause-stopped
 returns-clause-stopped g c = λ task kept h talking.
     let s = c.args.session.now in
-    let there = there_at s.slots c.args.place c.requires.within in
+    let there = get_there s.slots c.args.place c.requires.within in
     let is = subst (λ o. IfSome o (λ slot. (c.request-child.result.0 ≡ slot.child) × (c.request-child.result.1.now ≡ slot.request))) there.1 c.request-child.ensures in
     let opened = c.requires.rolling.begun in
     let now = g.H.Host.spoken c.send.new.host in
@@ -79,7 +80,7 @@ returns-clause-stopped g c = λ task kept h talking.
     let at : slice_get s.asks c.args.place ≡ Some c.ask.result.now = ap (λ (x : State). slice_get x.asks c.args.place) (sym c.sent.ensures.after) ∙ c.ask.ensures in
     let after : c.sent.new.self ≡ after_sent s there.0.child = c.sent.ensures.after ∙ ap (after_sent s) is.0 in
     let h_after : IsSession task (after_sent s there.0.child) = subst (IsSession task) after (c.sent.ensures.kept task h) in
-    err_map c.print_entry.result _ _ (λ fault misses. stopped_at s.version task s.pools now (IsFront s.entries (IsRound task s.entries s.instances)) (s.entries ++ take c.args.place s.asks) c.ask.result.now fault (g.O.Sink.taken c.args.out.now) (g.O.Sink.taken c.print_entry.new.out) (LogBreaks task s.version s.pools (s.entries ++ take c.args.place s.asks) fault was log)
+    IfErr-weaker c.print_entry.result _ _ (λ fault misses. stopped_at s.version task s.pools now (IsFront s.entries (IsRound task s.entries s.instances)) (s.entries ++ take c.args.place s.asks) c.ask.result.now fault (g.O.Sink.taken c.args.out.now) (g.O.Sink.taken c.print_entry.new.out) (LogBreaks task s.version s.pools (s.entries ++ take c.args.place s.asks) fault was log)
     (next_legal task s c.args.place kept before now there.0 there.1 c.ask.result.now at opened h talking)
     (subst (IsFront s.entries (IsRound task s.entries s.instances)) (one_more s.entries s.asks c.args.place c.ask.result.now at) (front_asks task s (c.args.place + 1) opened h))
     (broken_after task s c.args.place kept before now there.0 there.1 c.ask.result.now at opened h talking c.request-child.result.0 c.request-child.result.1.now is.0 is.1 c.in_ok-send.ensures.all h_after)
@@ -89,7 +90,7 @@ returns-clause-stopped g c = λ task kept h talking.
 pub returns-clause-order : goal.returns-clause-order
 returns-clause-order g c = λ task kept h talking.
     let s = c.args.session.now in
-    let there = there_at s.slots c.args.place c.requires.within in
+    let there = get_there s.slots c.args.place c.requires.within in
     let is = subst (λ o. IfSome o (λ slot. (c.request-child.result.0 ≡ slot.child) × (c.request-child.result.1.now ≡ slot.request))) there.1 c.request-child.ensures in
     let at : slice_get s.asks c.args.place ≡ Some c.ask.result.now = ap (λ (x : State). slice_get x.asks c.args.place) (sym c.sent.ensures.after) ∙ c.ask.ensures in
     let was = g.H.Host.log c.args.host.now in

@@ -1,8 +1,8 @@
 use Rattle.std.proofs.Common.{◌≡◌, ◌∙◌, length, true, false, None, sym, ap, arith, map, option_copied}
+use Rattle.task_model.proofs.TruthLemmas.{have_types-length}
 use Rattle.task_model.specs.State.{with_atoms, without_atoms}
 use Rattle.task_model.specs.Steps.{cost_of, atom_of}
 use Rattle.task_model.specs.Truth.{slots_of, have_types, is_true}
-use Rattle.formula_eval.proofs.ListTestLemmas.{have_types-length}
 use Rattle.plan_check.proofs.ReadableLemmas.{fit_action, readable_action}
 use Rattle.plan_check.specs.Faults.{Names}
 use Rattle.plan_check.proofs.step.apply.Goals as goal

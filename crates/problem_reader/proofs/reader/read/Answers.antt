@@ -1,9 +1,9 @@
 use Rattle.std.proofs.Common.{◌≡◌, ◌∙◌, sym, subst, Ok, Err, None}
 use Rattle.sexpr_text.specs.Trees.{tree}
+use Rattle.form_reader.proofs.FaultsLeastLemmas.{none_is_none}
 use Rattle.form_reader.specs.declared.items.TextKind.TheVariants.{Problem}
 use Rattle.form_reader.specs.Faults.{least_fault}
 use Rattle.form_reader.specs.Texts.{form_faults}
-use Rattle.domain_reader.proofs.DomainsLeastLemmas.{none_is_none}
 use Rattle.problem_reader.specs.Problems.{ReadsNamed, name_faults, of_names}
 use Rattle.problem_reader.proofs.reader.read.Goals as goal
 

@@ -1,7 +1,7 @@
 use Rattle.std.proofs.Common.{◌≡◌, ◌∷◌}
+use Rattle.std.proofs.lemmas.Result.{IfOk-weaker}
 use Rattle.report_reader.specs.Body.{spelled}
 use Rattle.report_reader.specs.declared.body_word.Word.{Word}
-use Rattle.report_reader.proofs.TuplesLemmas.{if_ok}
 use Rattle.report_reader.proofs.BodyWordLemmas.{no_word, of_word}
 use Rattle.report_reader.proofs.body_line.body_line_in.Goals as goal
 
@@ -15,4 +15,4 @@ pub returns : goal.returns
 returns c =
     let was : c.args.fields.now ≡ c.in-Some.field.now ∷ c.next.new.self = c.in-Some.ensures in
     let spells : spelled c.in-Some-word_of.word ≡ c.in-Some.field.now = c.in-Some-word_of.ensures in
-    if_ok c.line_of_word.result _ _ (λ found finds. of_word c.args.version c.in-Some-word_of.word c.in-Some.field.now c.next.new.self c.args.fields.now found was spells finds) c.line_of_word.ensures
+    IfOk-weaker c.line_of_word.result _ _ (λ found finds. of_word c.args.version c.in-Some-word_of.word c.in-Some.field.now c.next.new.self c.args.fields.now found was spells finds) c.line_of_word.ensures

@@ -1,7 +1,7 @@
 use Rattle.std.proofs.Common.{rules, ◌≡◌, true, false, subst}
 use Rattle.std.specs.Char.{is_ascii_digit}
 use Rattle.std.specs.List.{list_all}
-use Rattle.gen_lines.proofs.ReplyDigitLemmas.{digits_are_text}
+use Rattle.lemmas.proofs.Digits.{digits_are_text}
 use Rattle.report_reader.specs.Splits.{has_needless_zero}
 use Rattle.report_reader.proofs.NumberFieldLemmas.{no_needless_zero, all_digits, written, unparsed}
 use Rattle.report_reader.proofs.numbers.number_in.Goals as goal

@@ -1,22 +1,19 @@
-use Rattle.std.proofs.Common.{◌≡◌, ◌≤◌, ◌+◌, ◌-◌, ◌<◌, ℕ, List, length, take, arith, ap, ◌∙◌, sym, subst, refl, Some, slice_get, get_or, take_all}
-use Rattle.std.proofs.lemmas.Option.{slice_get_within, slice_get-get_or, get_or_from_slice_get}
+use Rattle.std.proofs.Common.{◌≡◌, ◌≤◌, ◌+◌, ◌-◌, List, take, arith, ap, ◌∙◌, sym, subst, refl, Some, slice_get, get_or, take_all}
+use Rattle.std.proofs.lemmas.Option.{slice_get_within, get_or_from_slice_get}
 use Rattle.fact_store.specs.Store.{Store}
 use Rattle.task_model.specs.Known.{Known}
 use Rattle.task_model.specs.Streams.{Note}
 use Rattle.transcript_model.specs.Transcript.{Asked, known_of, notes_of, known_with, notes_with}
-use Rattle.transcript_model.specs.declared.entry.Entry.{Entry}
 use Rattle.session_core.proofs.LearningLemmas.{IsAnswerAt, answer_at, other_at, request_read}
 use Rattle.session_core.specs.Learning.{MayLearn}
 use Rattle.session_core.proofs.learn.learn_from.Goals as goal
 use Rattle.session_core.proofs.learn.learn_from.Goals.{in-Some+in_ok-learn_answer, in_default}
-
-entry_at : (entries : List Entry) (place : ℕ) (e : Entry) → place < length entries → e ≡ get_or entries place e → slice_get entries place ≡ Some e
-entry_at entries place e lt is = slice_get-get_or entries place e lt ∙ ap Some (sym is)
+use Rattle.lemmas.proofs.ListTests.{get_some}
 
 here : (c : goal.In-Some) → IsAnswerAt c.args.task.now c.args.asked.now c.args.entries.now c.requires.can c.loop-place.place c.in-Some.number c.index-entries-place.result
 here c =
     answer_at c.args.task.now c.args.asked.now c.args.entries.now c.requires.can c.loop-place.place c.in-Some.number c.index-entries-place.result
-    (entry_at c.args.entries.now c.loop-place.place c.index-entries-place.result c.loop-place-test.true c.index-entries-place.is) (sym c.answered.ensures ∙ c.in-Some.is)
+    (get_some c.args.entries.now c.loop-place.place c.index-entries-place.result c.loop-place-test.true c.index-entries-place.is) (sym c.answered.ensures ∙ c.in-Some.is)
 
 pub overflow_sub-instance : goal.overflow_sub-instance
 overflow_sub-instance c = (here c).some
@@ -26,7 +23,7 @@ bounds-asked-number c = slice_get_within c.args.asked.now (c.in-Some.number - 1)
 
 pub bounds-as_slice-instance : goal.bounds-as_slice-instance
 bounds-as_slice-instance c =
-    let h = answer_at c.args.task.now c.args.asked.now c.args.entries.now c.requires.can c.loop-place.place c.in-Some.number c.index-entries-place.result (entry_at c.args.entries.now c.loop-place.place c.index-entries-place.result c.loop-place-test.true c.index-entries-place.is) (sym c.answered.ensures ∙ c.in-Some.is) in
+    let h = answer_at c.args.task.now c.args.asked.now c.args.entries.now c.requires.can c.loop-place.place c.in-Some.number c.index-entries-place.result (get_some c.args.entries.now c.loop-place.place c.index-entries-place.result c.loop-place-test.true c.index-entries-place.is) (sym c.answered.ensures ∙ c.in-Some.is) in
     let i = c.index-asked-number.result in
     let instance : i ≡ h.request.instance = c.index-asked-number.is ∙ get_or_from_slice_get c.args.asked.now (c.in-Some.number - 1) h.request.instance i h.is in
     let there : slice_get c.as_slice.result.now i.stream ≡ Some h.request.stream = (λ j. slice_get (c.as_slice.ensures j) (instance j).stream) ∙ h.streamed in
@@ -36,7 +33,7 @@ pub learn_answer-requires : goal.learn_answer-requires
 learn_answer-requires c =
     let task = c.args.task.now in
     let e = c.index-entries-place.result in
-    let h = answer_at task c.args.asked.now c.args.entries.now c.requires.can c.loop-place.place c.in-Some.number e (entry_at c.args.entries.now c.loop-place.place e c.loop-place-test.true c.index-entries-place.is) (sym c.answered.ensures ∙ c.in-Some.is) in
+    let h = answer_at task c.args.asked.now c.args.entries.now c.requires.can c.loop-place.place c.in-Some.number e (get_some c.args.entries.now c.loop-place.place e c.loop-place-test.true c.index-entries-place.is) (sym c.answered.ensures ∙ c.in-Some.is) in
     let i = c.index-asked-number.result in
     let s = c.index-as_slice-instance.result in
     let asked : record { stream = s; instance = i } ≡ h.request = request_read task c.args.asked.now c.args.entries.now c.requires.can c.loop-place.place c.in-Some.number e h i s c.index-asked-number.is (c.index-as_slice-instance.is ∙ ap (λ ss. get_or ss i.stream s) c.as_slice.ensures) in
@@ -51,7 +48,7 @@ loop-place-preserved c =
     let entries = c.args.entries.now in
     let place = c.loop-place.place in
     let e = c.index-entries-place.result in
-    let at : slice_get entries place ≡ Some e = entry_at entries place e c.loop-place-test.true c.index-entries-place.is in
+    let at : slice_get entries place ≡ Some e = get_some entries place e c.loop-place-test.true c.index-entries-place.is in
     elim c.match-answered.branch [
       | in-Some+in_ok-learn_answer w ↦
           let h = answer_at task asked entries c.requires.can place w.in-Some.number e at (sym c.answered.ensures ∙ w.in-Some.is) in

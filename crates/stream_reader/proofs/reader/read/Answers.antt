@@ -1,10 +1,10 @@
 use Rattle.std.proofs.Common.{◌≡◌, ◌∙◌, sym, subst, Ok, Err, None}
 use Rattle.sexpr_text.specs.Trees.{tree}
+use Rattle.form_reader.proofs.FaultsLeastLemmas.{none_is_none}
 use Rattle.form_reader.specs.declared.items.TextKind.TheVariants.{Streams}
 use Rattle.form_reader.specs.Faults.{least_fault}
 use Rattle.form_reader.specs.Texts.{form_faults}
 use Rattle.stream_reader.specs.Reading.{ReadsNamed, of_text}
-use Rattle.stream_reader.proofs.ReadingLeastLemmas.{none_is_none}
 use Rattle.stream_reader.proofs.reader.read.Goals as goal
 
 pub returns-in-Ok : goal.returns-in-Ok

@@ -1,8 +1,9 @@
 use Rattle.std.proofs.Common.{◌≡◌, ◌∙◌, sym, ap, Some}
+use Rattle.std.proofs.lemmas.Bool.{false≢true}
 use Rattle.task_model.specs.Known.{Known}
 use Rattle.transcript_model.specs.Names.{instance_of}
 use Rattle.transcript_model.specs.Transcript.{names_of}
-use Rattle.transcript_ledger.proofs.TalksAskLemmas.{no, passes, must_pass}
+use Rattle.transcript_ledger.proofs.TalksAskLemmas.{passes, must_pass}
 use Rattle.transcript_ledger.proofs.asks.asked_by.Goals as goal
 
 pub returns-then-may_ask : goal.returns-then-may_ask
@@ -17,4 +18,4 @@ returns-else-may_ask c = λ version before h right.
     let task = c.args.task.now in
     let i = c.in-Some.instance in
     let named : instance_of task (names_of task before) c.args.call.now ≡ Some i = ap (λ (k : Known). instance_of task k.names c.args.call.now) (sym h.known) ∙ sym c.in_ok-instance.ensures ∙ c.in-Some.is in
-    no (sym c.if-may_ask.false ∙ c.may_ask.ensures ∙ must_pass version task before c.args.ledger.now h c.args.number c.args.turn c.args.call.now i named right.0)
+    false≢true (sym c.if-may_ask.false ∙ c.may_ask.ensures ∙ must_pass version task before c.args.ledger.now h c.args.number c.args.turn c.args.call.now i named right.0)

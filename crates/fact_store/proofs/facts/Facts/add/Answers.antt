@@ -1,6 +1,7 @@
 use Rattle.std.proofs.Common.{ap, sym, subst, ◌∙◌, All}
+use Rattle.lemmas.proofs.Results.{on_err}
 use Rattle.fact_store.proofs.EqualityLemmas.{fact_put}
-use Rattle.fact_store.proofs.StoreLemmas.{on_err, grown, fact_kept, stays}
+use Rattle.fact_store.proofs.StoreLemmas.{grown, fact_kept, stays}
 use Rattle.task_model.specs.Known.{IsIn, with_fact}
 use Rattle.fact_store.proofs.facts.Facts.add.Goals as goal
 

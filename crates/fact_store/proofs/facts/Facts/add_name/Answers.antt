@@ -1,8 +1,9 @@
 use Rattle.std.proofs.Common.{ap, sym, subst, ◌∙◌, ◌≡◌, ◌++◌, ◌∷◌, [], slice_get, Some, Contains, length, vec_len, ◌<◌}
-use Rattle.fact_store.proofs.StoreLemmas.{on_err, name_kept, stays, with_name-old, with_name-new}
-use Rattle.fact_store.proofs.NamePlaceLemmas.{name_at_end, key_pushed, few_more, pushed_or_not}
+use Rattle.fact_store.proofs.StoreLemmas.{name_kept, stays, with_name-old, with_name-new}
+use Rattle.fact_store.proofs.NamePlaceLemmas.{key_pushed, few_more, pushed_or_not}
 use Rattle.fact_store.proofs.facts.Facts.add_name.Goals as goal
-use Rattle.lemmas.proofs.Members.{member_at}
+use Rattle.lemmas.proofs.Members.{member_at, get_at_length}
+use Rattle.lemmas.proofs.Results.{on_err}
 
 pub returns-in-Some-clause-names : goal.returns-in-Some-clause-names
 returns-in-Some-clause-names c = with_name-old _ _ (member_at _ c.in-Some.object _ (c.in-Some.ensures.found ∙ ap Some c.bytes.ensures))
@@ -37,7 +38,7 @@ pub returns-clause-object : goal.returns-clause-object
 returns-clause-object c =
     let names = c.in_ok-push.ensures.items ∙ ap (λ ns. ns ++ c.args.name ∷ []) c.reserve.ensures.items in
     let len : vec_len c.self.inside.names ≡ length c.self.inside.names.items = c.self.inside.names.ok.0 in
-    (λ i. slice_get (names i) ((c.new-object.ensures ∙ c.len.ensures ∙ len) i)) ∙ name_at_end c.self.inside.names.items c.args.name
+    (λ i. slice_get (names i) ((c.new-object.ensures ∙ c.len.ensures ∙ len) i)) ∙ get_at_length c.self.inside.names.items c.args.name
 
 pub returns-clause-names : goal.returns-clause-names
 returns-clause-names c =

@@ -1,9 +1,10 @@
 use Rattle.std.proofs.Common.{◌≡◌, ◌∙◌, sym, subst, true, false, rules, tests}
+use Rattle.lemmas.proofs.Bools.{zero_and_not}
 use Rattle.transcript_model.specs.declared.outcome.LimitKind.TheVariants.{Calls}
 use Rattle.transcript_model.specs.declared.outcome.Outcome.TheVariants as said
 use Rattle.replay_check.specs.Findings.{IsPlaced}
 use Rattle.replay_check.specs.Standings.{limits_by}
-use Rattle.replay_check.proofs.FindingsPlaceLemmas.{between_placed, calls_placed, elsewhere, none_open, rests, rests_not}
+use Rattle.replay_check.proofs.FindingsPlaceLemmas.{between_placed, calls_placed, elsewhere, none_open, rests_not}
 use Rattle.replay_check.proofs.FindingsLemmas.{misplaced_found}
 use Rattle.replay_check.proofs.entries.Standing.judge_outcome.Goals.{else-not-is_limit_of_calls-via-then-not-is_limit_of_calls+else-not-is_between, else-not-is_limit_of_calls-via-else-not-is_limit_of_calls}
 use Rattle.replay_check.proofs.entries.Standing.judge_outcome.Goals as goal
@@ -30,7 +31,7 @@ judge_said-requires-clause-placed c =
     elim c.else-not-is_limit_of_calls.branch [
       | else-not-is_limit_of_calls-via-then-not-is_limit_of_calls+else-not-is_between w ↦
           let between : w.is_between.result ≡ true = search (rules, tests) in
-          let r = rests s.course.answers s.course.is_cut (sym w.is_between.ensures ∙ between) in
+          let r = zero_and_not s.course.answers s.course.is_cut (sym w.is_between.ensures ∙ between) in
           between_placed b c.args.limit c.requires.bounds entries s c.requires.standing c.args.outcome.now r.0 r.1
       | else-not-is_limit_of_calls-via-else-not-is_limit_of_calls w ↦
           let spent = c.is_limit_of_calls.ensures.yes (search (rules, tests)) in
@@ -45,7 +46,7 @@ judge_said-requires-clause-resting c = λ is.
     elim c.else-not-is_limit_of_calls.branch [
       | else-not-is_limit_of_calls-via-then-not-is_limit_of_calls+else-not-is_between w ↦
           let between : w.is_between.result ≡ true = search (rules, tests) in
-          let r = rests s.course.answers s.course.is_cut (sym w.is_between.ensures ∙ between) in
+          let r = zero_and_not s.course.answers s.course.is_cut (sym w.is_between.ensures ∙ between) in
           none_open b c.args.limit c.requires.bounds entries s c.requires.standing r.0
       | else-not-is_limit_of_calls-via-else-not-is_limit_of_calls w ↦
           let spent = c.is_limit_of_calls.ensures.yes (search (rules, tests)) in

@@ -1,9 +1,10 @@
 use Rattle.std.proofs.Common.{◌∙◌, sym}
-use Rattle.replay_check.proofs.WalksLemmas.{entry_there, not_ask, other_refused}
+use Rattle.lemmas.proofs.ListTests.{get_some}
+use Rattle.replay_check.proofs.WalksLemmas.{not_ask, other_refused}
 use Rattle.replay_check.proofs.entries.Standing.take.Goals as goal
 
 pub returns-in_default-entry : goal.returns-in_default-entry
 returns-in_default-entry c =
     let e = c.index-entries-place.result in
-    let there = entry_there c.args.entries.now c.args.place e c.requires.can.within c.index-entries-place.is in
+    let there = get_some c.args.entries.now c.args.place e c.requires.can.within c.index-entries-place.is in
     other_refused c.args.bounds.now c.args.entries.now c.args.place c.args.self.now c.requires.can e there (not_ask e c.in_default-entry.not-Ask) (sym c.answered.ensures ∙ c.in_default.is) c.in_default-entry.not-Level

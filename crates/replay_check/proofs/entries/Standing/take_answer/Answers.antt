@@ -1,12 +1,14 @@
 use Rattle.std.proofs.Common.{◌≡◌, ◌∙◌, ◌↔◌, IsTrue, Some, IfSome, slice_get, take, sym, subst, true, false}
 use Rattle.transcript_model.specs.Legal.{MayFollow, answered_number}
-use Rattle.replay_check.proofs.WalksLemmas.{answer_out_of_order, answer_refused, answer_taken, entry_formed, entry_there}
+use Rattle.replay_check.proofs.WalksLemmas.{answer_out_of_order, answer_refused, answer_taken, entry_formed}
 use Rattle.replay_check.proofs.entries.Standing.take_answer.Goals as goal
 use Rattle.replay_check.proofs.entries.Standing.take_answer.Goals.{After-may_answer}
+use Rattle.std.proofs.lemmas.Bool.{false≢true}
+use Rattle.lemmas.proofs.ListTests.{get_some}
 
 module _ (c : After-may_answer) where
   there : slice_get c.args.entries.now c.args.place ≡ Some c.index-entries-place.result
-  there = entry_there c.args.entries.now c.args.place c.index-entries-place.result c.requires.can.within c.index-entries-place.is
+  there = get_some c.args.entries.now c.args.place c.index-entries-place.result c.requires.can.within c.index-entries-place.is
 
   is_number : answered_number c.index-entries-place.result ≡ Some c.args.number
   is_number = subst (λ o. IfSome o (λ e. answered_number e ≡ Some c.args.number)) there c.requires.here
@@ -14,14 +16,11 @@ module _ (c : After-may_answer) where
   decides : IsTrue c.may_answer.result ↔ MayFollow c.args.bounds.now.version c.args.bounds.now.task.now (take c.args.place c.args.entries.now) c.index-entries-place.result
   decides = c.may_answer.ensures c.args.bounds.now.version (take c.args.place c.args.entries.now) c.requires.can.standing.ledger (entry_formed c.args.bounds.now c.args.entries.now c.args.place c.args.self.now c.index-entries-place.result c.requires.can there) is_number
 
-no : false ≡ true → ⊥
-no e = absurd (cc)
-
 pub returns-then-not-may_answer : goal.returns-then-not-may_answer
 returns-then-not-may_answer c =
     let a = (goal.at.returns-then-not-may_answer c).After-may_answer in
     answer_refused c.args.bounds.now c.args.entries.now c.args.place c.args.self.now c.requires.can c.args.number c.index-entries-place.result (there a) (is_number a)
-    (λ may. no (sym c.if-not-may_answer.true ∙ (decides a).1 may))
+    (λ may. false≢true (sym c.if-not-may_answer.true ∙ (decides a).1 may))
 
 pub returns-in_default : goal.returns-in_default
 returns-in_default c =

@@ -1,4 +1,5 @@
-use Rattle.std.proofs.Common.{◌≡◌, ◌∙◌, ◌++◌, ◌∷◌, [], take, sym, subst, true, false}
+use Rattle.std.proofs.Common.{◌∙◌, ◌++◌, ◌∷◌, [], take, sym, subst, true, false}
+use Rattle.std.proofs.lemmas.Bool.{false≢true}
 use Rattle.transcript_ledger.specs.Ledgers.{IsLedger}
 use Rattle.transcript_ledger.specs.Talks.{IsAskedBy}
 use Rattle.transcript_model.specs.Legal.{IsRightAsk}
@@ -20,10 +21,7 @@ returns-then-not-is_next c =
     let before = take c.args.place c.args.entries.now in
     let said = subst (IsAskedBy b.calls b.task.now before c.args.number c.args.turn c.args.call.now) c.in-Some.is (c.in_ok-asked.ensures b.version before can.standing.ledger) in
     ask_out_of_order b c.args.entries.now c.args.place c.args.self.now can c.args.number c.args.turn c.args.call.now c.requires.here c.in-Some.instance said
-    (λ next. no (sym c.if-not-is_next.true ∙ c.is_next.ensures.no next))
-  where
-    no : false ≡ true → ⊥
-    no e = absurd (cc)
+    (λ next. false≢true (sym c.if-not-is_next.true ∙ c.is_next.ensures.no next))
 
 pub returns : goal.returns
 returns c =

@@ -1,7 +1,6 @@
 use Rattle.std.proofs.Common.{◌<◌, ◌∷◌, [], ◌++◌, Contains, length, length-append, slice_get, subst, sym, ap, ◌∙◌, arith}
-use Rattle.lemmas.proofs.Members.{distinct_push}
+use Rattle.lemmas.proofs.Members.{distinct_push, get_at_length}
 use Rattle.lemmas.specs.Lists.{AreDistinct}
-use Rattle.state_store.proofs.KeptLemmas.{get-pushed}
 use Rattle.state_store.proofs.store.StateStore.intern.Goals as goal
 
 pub invariant_of-self-2 : goal.invariant_of-self-2
@@ -17,7 +16,7 @@ invariant_of-self-2 c =
 pub returns-clause-place : goal.returns-clause-place
 returns-clause-place c =
     let old = c.self.inside.states.items in
-    ap (λ xs. slice_get xs c.len-id.result) c.in_ok-push.ensures.items ∙ ap (slice_get (old ++ c.args.state ∷ [])) (c.len-id.ensures ∙ c.self.inside.states.ok.0) ∙ get-pushed old c.args.state
+    ap (λ xs. slice_get xs c.len-id.result) c.in_ok-push.ensures.items ∙ ap (slice_get (old ++ c.args.state ∷ [])) (c.len-id.ensures ∙ c.self.inside.states.ok.0) ∙ get_at_length old c.args.state
 
 pub returns-clause-distinct : goal.returns-clause-distinct
 returns-clause-distinct c =
