@@ -6,3 +6,4 @@ pub mod WordsDigitLemmas
 pub mod HeadsLemmas
 pub mod InputsLemmas
 pub mod WordsRangeLemmas
+pub mod HeadlineLemmas

@@ -1,6 +1,7 @@
 pub mod Asked
 pub mod Codes
 pub mod Complete
+pub mod Headline
 pub mod Heads
 pub mod Inputs
 pub mod Replays

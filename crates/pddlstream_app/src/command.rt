@@ -5,7 +5,8 @@ ghost use Rattle.pddlstream_app.specs.Asked.{AsksAll, AsksBefore, AsksFiles};
 ghost use Rattle.pddlstream_app.specs.Complete.{GoesWell, EndsWell};
 ghost use Rattle.pddlstream_app.specs.Runs.{Caused, Ends, ClosesRun, IsCompleted, IsStopped, TellsStatus};
 ghost use Rattle.level_run.specs.declared.fault.RunFault.TheVariants as fault;
-ghost use Rattle.pddlstream_app.specs.declared.status.Status.TheVariants.{GeneratorFault, WriteFault};
+ghost use Rattle.pddlstream_app.specs.Headline.{PrintsNoPlan, PrintsPlan};
+ghost use Rattle.pddlstream_app.specs.declared.status.Status.TheVariants.{GeneratorFault, NoPlan, Plan, WriteFault};
 ghost use Rattle.pddlstream_app.specs.declared.stop.Stop.TheVariants.{Run};
 
 use crate::judge::judge;
@@ -91,6 +92,12 @@ pub fn run<F: Files, H: Host, O: Sink>(
     // No child runs before and after it.
     requires idle { (k : ℕ) → H.running host.old k ≡ false }
     ensures idle { (k : ℕ) → H.running host.new k ≡ false }
+    // The headline. A printed plan is executable over what the problem and the printed answers say, reaches the goal and has the
+    // printed cost; `no plan` stands only where each reachable instance has finished and no plan exists.
+    ensures plan { result ≡ Plan
+        → PrintsPlan (map string_bytes words.now) (F.told files.old) (O.taken out.old) (O.taken out.new) }
+    ensures no_plan { result ≡ NoPlan
+        → PrintsNoPlan (map string_bytes words.now) (F.told files.old) (O.taken out.old) (O.taken out.new) }
     // What the sink took is what a run writes that ends so, or a part of it where the sink failed. Where the host tells what was said
     // with the children, that is the dialogue of the run's transcript. Where the host's log is told, its calls are those of the
     // transcript, in order, and then stops: the starts of all workers, the writes of each request and the reads of each answer. A run

@@ -6,11 +6,11 @@ use Rattle.gen_lines.specs.Reply.{is_value}
 use Rattle.lemmas.proofs.Members.{member_at}
 use Rattle.task_model.specs.Fit.{IsFit, is_name}
 use Rattle.task_model.specs.Initial.{declared_names}
-use Rattle.task_model.specs.Known.{same_numbers}
+use Rattle.task_model.specs.Known.{same_numbers, with_name}
 use Rattle.task_model.specs.declared.task.Task.{Task}
 use Rattle.transcript_model.proofs.NamedObjectLemmas.{all_joined, passes_all}
 use Rattle.transcript_model.specs.Legal.{IsLegal}
-use Rattle.transcript_model.specs.Names.{generated, with_name, with_names}
+use Rattle.transcript_model.specs.Names.{generated, with_names}
 use Rattle.transcript_model.specs.Transcript.{names_of, objects_in}
 use Rattle.transcript_model.specs.declared.entry.Entry.{Entry}
 use Rattle.transcript_model.specs.declared.entry.Entry.TheVariants as entry
