@@ -1,18 +1,27 @@
 //! What a store of facts finds.
-ghost use Rattle.std.specs.Prelude.{◌≡◌, ◌+◌, ◌<◌, ◌≤◌, ◌∷◌, [], length, IfOk, OnOk};
+ghost use Rattle.std.specs.Prelude.{◌≡◌, ◌∷◌, [], IfOk};
 
+use crate::known::known;
 use fact_store::Facts;
 use std::alloc::{AllocError, Global};
 use std::test::Fail;
 use task_model::{Fact, Kind, Look, Name, Obj, Row};
+use worked_tasks::{KEEP, task};
 
-/// Names an object, new or old.
-fn named(facts: &mut Facts, alloc: Global, text: &[u8]) -> Result<Obj, AllocError>
-    requires { length facts.old.known.names < 9 }
-    ensures { length facts.new.known.names ≤ length facts.old.known.names + 1 }
-{
-    let bytes = Vec::from_slice(alloc, text)?;
-    facts.add_name(Name::new(bytes))
+/// What is known of a task without objects.
+fn no_objects(alloc: Global) -> Result<Box<Facts>, Fail> {
+    let task = task(alloc, &KEEP)?;
+    Ok(known(alloc, &task)?)
+}
+
+/// Names an object, new or old, where there are fewer than nine.
+fn named(facts: &mut Facts, alloc: Global, text: &[u8]) -> Result<u32, AllocError> {
+    if facts.names().len() >= 9 {
+        return Err(AllocError);
+    }
+    let name = Name::new(Vec::from_slice(alloc, text)?);
+    let object = facts.add_name(name)?;
+    Ok(object.place())
 }
 
 fn fact(alloc: Global, kind: Kind, name: u32, object: Obj) -> Result<Fact, AllocError>
@@ -36,39 +45,21 @@ fn put(
     }
 }
 
-fn no_objects(alloc: Global) -> Facts
-    ensures { length result.known.names ≡ 0 }
-{
-    Facts::empty(alloc)
-}
-
-/// The objects `cup` and `#v`.
-fn two_objects(alloc: Global) -> Result<Facts, AllocError> {
-    let mut facts = no_objects(alloc);
-    named(&mut facts, alloc, b"cup".as_slice())?;
-    named(&mut facts, alloc, b"#v".as_slice())?;
-    Ok(facts)
-}
-
 #[test]
 fn names_have_numbers(rt: HostRuntime) -> Result<(), Fail> {
-    let mut facts = no_objects(rt.alloc());
-    assert_eq!(rt;
-        named(&mut facts, rt.alloc(), b"cup".as_slice())?.place(),
-        0
-    );
-    assert_eq!(rt; named(&mut facts, rt.alloc(), b"#v".as_slice())?.place(), 1);
-    assert_eq!(rt;
-        named(&mut facts, rt.alloc(), b"cup".as_slice())?.place(),
-        0
-    );
+    let mut facts = no_objects(rt.alloc())?;
+    assert_eq!(rt; named(&mut facts, rt.alloc(), b"cup")?, 0);
+    assert_eq!(rt; named(&mut facts, rt.alloc(), b"#v")?, 1);
+    assert_eq!(rt; named(&mut facts, rt.alloc(), b"cup")?, 0);
     Ok(())
 }
 
 #[test]
 fn facts_are_found(rt: HostRuntime) -> Result<(), Fail> {
-    let mut facts = two_objects(rt.alloc())?;
-    put(&mut facts, rt.alloc(), Kind::Predicate, 4, b"#v".as_slice())?;
+    let mut facts = no_objects(rt.alloc())?;
+    named(&mut facts, rt.alloc(), b"cup")?;
+    named(&mut facts, rt.alloc(), b"#v")?;
+    put(&mut facts, rt.alloc(), Kind::Predicate, 4, b"#v")?;
     assert!(rt; facts.has(&fact(rt.alloc(), Kind::Predicate, 4, Obj::new(1))?));
     assert!(rt; !facts.has(&fact(rt.alloc(), Kind::Sort, 4, Obj::new(1))?));
     assert_eq!(rt; facts.matches(4, 1, Obj::new(1)), 0);

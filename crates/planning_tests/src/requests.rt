@@ -1,16 +1,15 @@
 //! Requests to generators, and look-ups, over what is known of a task.
-ghost use Rattle.std.specs.Prelude.{◌<◌, length};
+ghost use Rattle.std.specs.Prelude.{◌≡◌, ◌<◌, ◌∷◌, [], length, IfOk};
+ghost use Rattle.task_model.specs.declared.fact.Kind.TheVariants as kind;
+ghost use Rattle.task_model.specs.Fit.{IsFit};
 
-use crate::build::{declared, empty_stream, empty_task, fact, name, signature, sort};
-use crate::fault::Fault;
 use crate::known::known;
 use fact_store::Facts;
 use gen_lines::request_text;
 use std::alloc::{AllocError, Global};
 use std::test::Fail;
-use task_model::{
-    Domain, Instance, Kind, Look, Obj, Problem, Row, Seq, Sort, Stream, Task, Valued,
-};
+use task_model::{Fact, Instance, Kind, Look, Name, Obj, Row, Task};
+use worked_tasks::{Texts, task};
 
 const OBJECT: u32 = 0;
 
@@ -18,60 +17,13 @@ const BLOCK: u32 = 1;
 
 const CUBE: u32 = 2;
 
-fn sorts(alloc: Global) -> Result<Seq<Sort>, AllocError> {
-    let mut sorts = Vec::new(alloc);
-    sorts.push(sort(alloc, "object", &[])?)?;
-    sorts.push(sort(alloc, "block", &[OBJECT])?)?;
-    sorts.push(sort(alloc, "cube", &[OBJECT])?)?;
-    Ok(Seq::from_vec(sorts))
-}
-
-fn fill_domain(domain: &mut Domain, alloc: Global) -> Result<(), AllocError> {
-    domain.name = name(alloc, "hands")?;
-    domain.sorts = sorts(alloc)?;
-    let mut functions = Vec::new(alloc);
-    functions.push(signature(alloc, "weight", 1)?)?;
-    domain.functions = Seq::from_vec(functions);
-    Ok(())
-}
-
-/// That the cup weighs 7.
-fn values(alloc: Global) -> Result<Seq<Valued>, AllocError> {
-    let mut values = Vec::new(alloc);
-    values.push(Valued {
-        func: 0,
-        args: Row::new(alloc, &[Obj::new(0)])?,
-        value: 7,
-    })?;
-    Ok(Seq::from_vec(values))
-}
-
-fn fill_problem(problem: &mut Problem, alloc: Global) -> Result<(), AllocError> {
-    problem.name = name(alloc, "one")?;
-    let mut objects = Vec::new(alloc);
-    objects.push(declared(alloc, "cup", &[BLOCK])?)?;
-    problem.objects = Seq::from_vec(objects);
-    problem.values = values(alloc)?;
-    Ok(())
-}
-
-/// The stream `grip`, whose inputs are two blocks.
-fn grip(alloc: Global) -> Result<Box<Stream>, AllocError> {
-    let mut grip = Box::new(alloc, empty_stream(alloc))?;
-    grip.name = name(alloc, "grip")?;
-    grip.inputs = Seq::from_vec(vec![in alloc; BLOCK, BLOCK]?);
-    Ok(grip)
-}
-
-fn task(alloc: Global) -> Result<Box<Task>, AllocError> {
-    let mut task = Box::new(alloc, empty_task(alloc))?;
-    fill_domain(&mut task.domain, alloc)?;
-    fill_problem(&mut task.problem, alloc)?;
-    let mut streams = Vec::new(alloc);
-    streams.push(Box::into_inner(grip(alloc)?))?;
-    task.streams = Seq::from_vec(streams);
-    Ok(task)
-}
+/// A cup, which is a block and weighs 7, and the stream `grip`, whose inputs are two blocks.
+const HANDS: Texts<'static> = Texts {
+    domain: "(define (domain hands) (:types block cube) (:functions (weight ?x)))",
+    problem: "(define (problem one) (:domain hands) (:objects cup - block)
+  (:init (= (weight cup) 7)) (:goal (and)))",
+    streams: "(define (stream hands) (:stream grip :inputs (?x ?y - block)))",
+};
 
 /// The request of the first stream for an object as both inputs.
 fn request(
@@ -89,35 +41,46 @@ fn request(
     request_text(alloc, task, facts, number, &instance)
 }
 
-/// That request for the object of this name over what is known of the task at first.
-fn asked(alloc: Global, task: &Task, number: u32, text: &[u8]) -> Result<Vec<u8>, Fault> {
+/// That request for the object of this name over what is known of the task at first, if there are streams and such an
+/// object.
+fn asked(
+    alloc: Global,
+    task: &Task,
+    number: u32,
+    text: &[u8],
+) -> Result<Option<Vec<u8>>, AllocError>
+    requires { IsFit task.now }
+{
     if task.streams.is_empty() {
-        return Err(Fault::Unfit);
+        return Ok(None);
     }
     let facts = known(alloc, task)?;
     match facts.object_of(text) {
-        Some(object) => Ok(request(alloc, task, &facts, number, object)?),
-        None => Err(Fault::Unknown),
+        Some(object) => Ok(Some(request(alloc, task, &facts, number, object)?)),
+        None => Ok(None),
     }
 }
 
-/// The same over the task of this module.
-fn request_for(alloc: Global, number: u32, text: &[u8]) -> Result<Vec<u8>, Fault> {
-    let task = task(alloc)?;
-    asked(alloc, &task, number, text)
+/// The same over the task of this module; the empty text where there is none.
+fn request_for(alloc: Global, number: u32, text: &[u8]) -> Result<Vec<u8>, Fail> {
+    let task = task(alloc, &HANDS)?;
+    let asked = asked(alloc, &task, number, text)?;
+    Ok(asked.unwrap_or(Vec::new(alloc)))
 }
+
+/// Numbers and names of objects, each with the request.
+const REQUESTS: [(u32, &[u8], &[u8]); 3] = [
+    (40, b"cup", b"next 40 grip cup cup\n"),
+    (4_294_967_295, b"cup", b"next 4294967295 grip cup cup\n"),
+    (40, b"cu", b""),
+];
 
 #[test]
 fn a_request_names_the_stream_and_its_inputs(rt: HostRuntime) -> Result<(), Fail> {
-    let first = request_for(rt.alloc(), 40, b"cup".as_slice())?;
-    assert_eq!(rt; first.as_slice(), b"next 40 grip cup cup\n".as_slice());
-    let last = request_for(rt.alloc(), u32::MAX, b"cup".as_slice())?;
-    assert_eq!(rt;
-        last.as_slice(),
-        b"next 4294967295 grip cup cup\n".as_slice()
-    );
-    let nobody = request_for(rt.alloc(), 40, b"cu".as_slice());
-    assert_eq!(rt; nobody.err(), Some(Fault::Unknown));
+    for (number, text, want) in REQUESTS {
+        let request = request_for(rt.alloc(), number, text)?;
+        assert_eq!(rt; request.as_slice(), want);
+    }
     Ok(())
 }
 
@@ -130,13 +93,13 @@ fn weigh(alloc: Global, facts: &mut Facts, cup: Obj, value: u32) -> Result<bool,
 }
 
 /// The weight of the cup, at first and then, once it is also said to be `value`; and whether that was new.
-fn weighed(alloc: Global, value: u32) -> Result<(Option<u32>, bool, Option<u32>), Fault>
+fn weighed(alloc: Global, value: u32) -> Result<(Option<u32>, bool, Option<u32>), Fail>
     requires { value < 99 }
 {
-    let task = task(alloc)?;
+    let task = task(alloc, &HANDS)?;
     let mut facts = known(alloc, &task)?;
-    let Some(cup) = facts.object_of(b"cup".as_slice()) else {
-        return Err(Fault::Unknown);
+    let Some(cup) = facts.object_of(b"cup") else {
+        return Err(Fail::from(AllocError));
     };
     let before = facts.value(0, &[cup]);
     let fresh = weigh(alloc, &mut facts, cup, value)?;
@@ -144,59 +107,73 @@ fn weighed(alloc: Global, value: u32) -> Result<(Option<u32>, bool, Option<u32>)
 }
 
 #[test]
-fn the_least_value_counts(rt: HostRuntime) {
-    assert_eq!(rt; weighed(rt.alloc(), 9), Ok((Some(7), true, Some(7))));
-    assert_eq!(rt; weighed(rt.alloc(), 5), Ok((Some(7), true, Some(5))));
-    assert_eq!(rt; weighed(rt.alloc(), 7), Ok((Some(7), false, Some(7))));
+fn the_least_value_counts(rt: HostRuntime) -> Result<(), Fail> {
+    assert_eq!(rt; weighed(rt.alloc(), 9)?, (Some(7), true, Some(7)));
+    assert_eq!(rt; weighed(rt.alloc(), 5)?, (Some(7), true, Some(5)));
+    assert_eq!(rt; weighed(rt.alloc(), 7)?, (Some(7), false, Some(7)));
+    Ok(())
 }
 
 /// How many objects and blocks there are at first.
-fn counted(alloc: Global) -> Result<(usize, usize), Fault> {
-    let task = task(alloc)?;
+fn counted(alloc: Global) -> Result<(usize, usize), Fail> {
+    let task = task(alloc, &HANDS)?;
     let facts = known(alloc, &task)?;
     Ok((facts.count(OBJECT), facts.count(BLOCK)))
 }
 
 #[test]
-fn a_block_is_an_object_too(rt: HostRuntime) {
-    assert_eq!(rt; counted(rt.alloc()), Ok((1, 1)));
+fn a_block_is_an_object_too(rt: HostRuntime) -> Result<(), Fail> {
+    assert_eq!(rt; counted(rt.alloc())?, (1, 1));
+    Ok(())
 }
 
 /// The place of the object of this name at first, if there is one.
-fn found(alloc: Global, text: &[u8]) -> Result<Option<u32>, Fault> {
-    let task = task(alloc)?;
+fn found(alloc: Global, text: &[u8]) -> Result<Option<u32>, Fail> {
+    let task = task(alloc, &HANDS)?;
     let facts = known(alloc, &task)?;
-    match facts.object_of(text) {
-        Some(object) => Ok(Some(object.place())),
-        None => Ok(None),
-    }
+    Ok(facts.object_of(text).map(|object| object.place()))
 }
 
+/// Names, each with the place of its object.
+const NAMED: [(&[u8], Option<u32>); 5] = [
+    (b"cup", Some(0)),
+    (b"cu", None),
+    (b"cups", None),
+    (b"#cup", None),
+    (b"", None),
+];
+
 #[test]
-fn no_object_has_a_name_that_is_not_there(rt: HostRuntime) {
-    assert_eq!(rt; found(rt.alloc(), b"cup".as_slice()), Ok(Some(0)));
-    for text in [
-        b"cu".as_slice(),
-        b"cups".as_slice(),
-        b"#cup".as_slice(),
-        b"".as_slice(),
-    ] {
-        assert_eq!(rt; found(rt.alloc(), text), Ok(None));
+fn no_object_has_a_name_that_is_not_there(rt: HostRuntime) -> Result<(), Fail> {
+    for (text, want) in NAMED {
+        assert_eq!(rt; found(rt.alloc(), text)?, want);
     }
+    Ok(())
+}
+
+/// That the object has this type.
+fn sort_fact(alloc: Global, sort: u32, object: Obj) -> Result<Fact, AllocError>
+    ensures { IfOk result (λ fact. fact ≡ record { kind = kind.Sort; name = sort; args = object ∷ [] }) }
+{
+    Ok(Fact {
+        kind: Kind::Sort,
+        name: sort,
+        args: Row::new(alloc, &[object])?,
+    })
 }
 
 /// Says of the cup that it has this type: whether that is new, and how many objects have it then.
-fn typed(alloc: Global, facts: &mut Facts, sort: u32) -> Result<(bool, usize), Fault> {
-    let Some(cup) = facts.object_of(b"cup".as_slice()) else {
-        return Err(Fault::Unknown);
+fn typed(alloc: Global, facts: &mut Facts, sort: u32) -> Result<(bool, usize), AllocError> {
+    let Some(cup) = facts.object_of(b"cup") else {
+        return Ok((false, 0));
     };
-    let fresh = facts.add(fact(alloc, Kind::Sort, sort, &[cup])?)?;
+    let fresh = facts.add(sort_fact(alloc, sort, cup)?)?;
     Ok((fresh, facts.count(sort)))
 }
 
 /// The same twice over what is known at first.
-fn typed_twice(alloc: Global, sort: u32) -> Result<[(bool, usize); 2], Fault> {
-    let task = task(alloc)?;
+fn typed_twice(alloc: Global, sort: u32) -> Result<[(bool, usize); 2], Fail> {
+    let task = task(alloc, &HANDS)?;
     let mut facts = known(alloc, &task)?;
     let first = typed(alloc, &mut facts, sort)?;
     let second = typed(alloc, &mut facts, sort)?;
@@ -204,27 +181,31 @@ fn typed_twice(alloc: Global, sort: u32) -> Result<[(bool, usize); 2], Fault> {
 }
 
 #[test]
-fn a_fact_that_is_there_is_not_new(rt: HostRuntime) {
-    let block = typed_twice(rt.alloc(), BLOCK);
-    assert_eq!(rt; block, Ok([(false, 1), (false, 1)]));
-    let cube = typed_twice(rt.alloc(), CUBE);
-    assert_eq!(rt; cube, Ok([(true, 1), (false, 1)]));
+fn a_fact_that_is_there_is_not_new(rt: HostRuntime) -> Result<(), Fail> {
+    let block = typed_twice(rt.alloc(), BLOCK)?;
+    assert_eq!(rt; block, [(false, 1), (false, 1)]);
+    let cube = typed_twice(rt.alloc(), CUBE)?;
+    assert_eq!(rt; cube, [(true, 1), (false, 1)]);
+    Ok(())
 }
 
 /// Makes a plate known, which is a cube, and then says of the cup that it is a cube too.
-fn add_cubes(alloc: Global, facts: &mut Facts) -> Result<(), Fault>
+fn add_cubes(alloc: Global, facts: &mut Facts) -> Result<(), AllocError>
     requires few { length facts.old.known.names < 99 }
 {
-    let plate = facts.add_name(name(alloc, "plate")?)?;
-    facts.add(fact(alloc, Kind::Sort, CUBE, &[plate])?)?;
+    let name = Name::new(Vec::from_slice(alloc, b"plate")?);
+    let plate = facts.add_name(name)?;
+    facts.add(sort_fact(alloc, CUBE, plate)?)?;
     typed(alloc, facts, CUBE)?;
     Ok(())
 }
 
-/// The objects that have this type at first, and once these cubes are known.
-fn listed_in(alloc: Global, task: &Task, sort: u32) -> Result<(Vec<Obj>, Vec<Obj>), Fault> {
+/// The objects that have this type at first, and once these cubes are known. Of ten objects or more nothing is said.
+fn listed_in(alloc: Global, task: &Task, sort: u32) -> Result<(Vec<Obj>, Vec<Obj>), AllocError>
+    requires { IsFit task.now }
+{
     if task.problem.objects.len() > 9 {
-        return Err(Fault::Unfit);
+        return Err(AllocError);
     }
     let mut facts = known(alloc, task)?;
     let before = facts.objects_with(alloc, sort)?;
@@ -234,9 +215,9 @@ fn listed_in(alloc: Global, task: &Task, sort: u32) -> Result<(Vec<Obj>, Vec<Obj
 }
 
 /// The same over the task of this module.
-fn listed(alloc: Global, sort: u32) -> Result<(Vec<Obj>, Vec<Obj>), Fault> {
-    let task = task(alloc)?;
-    listed_in(alloc, &task, sort)
+fn listed(alloc: Global, sort: u32) -> Result<(Vec<Obj>, Vec<Obj>), Fail> {
+    let task = task(alloc, &HANDS)?;
+    Ok(listed_in(alloc, &task, sort)?)
 }
 
 #[test]

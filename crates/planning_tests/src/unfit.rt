@@ -1,47 +1,57 @@
-//! Tasks that are fit, and tasks that just aren't.
-use crate::build::{always, atom, empty_stream, empty_task, name, none, not, signature, sort};
+//! Tasks that are fit, and tasks that just aren't: fit ones with a part that no text spells.
 use fit_check::is_fit;
 use std::alloc::{AllocError, Global};
 use std::test::Fail;
-use task_model::{Derived, Domain, Formula, Role, Seq, Stream, Task};
+use task_model::{Derived, Formula, FormulaNode, Name, Row, Seq, Stream, Valued};
+use worked_tasks::{KEEP, Texts, task};
 
-fn fill_lists(domain: &mut Domain, alloc: Global) -> Result<(), AllocError> {
-    domain.name = name(alloc, "d")?;
-    let mut sorts = Vec::new(alloc);
-    sorts.push(sort(alloc, "object", &[])?)?;
-    domain.sorts = Seq::from_vec(sorts);
-    let mut predicates = Vec::new(alloc);
-    predicates.push(signature(alloc, "p", 0)?)?;
-    domain.predicates = Seq::from_vec(predicates);
-    domain.roles = Seq::from_vec(vec![in alloc; Role::Derived]?);
-    Ok(())
-}
+/// A derived predicate.
+const SPELLED: Texts<'static> = Texts {
+    domain: "(define (domain d) (:predicates (p)) (:derived (p) (and)))",
+    problem: "(define (problem k) (:domain d) (:goal (and)))",
+    streams: "(define (stream empty))",
+};
 
 /// The derived predicate (p) with this body.
 fn items(alloc: Global, body: Formula) -> Result<Seq<Derived>, AllocError> {
     let mut items = Vec::new(alloc);
     items.push(Derived {
         pred: 0,
-        params: none(alloc),
+        params: Seq::from_vec(Vec::new(alloc)),
         body,
     })?;
     Ok(Seq::from_vec(items))
 }
 
-/// The task of the predicate (p), which is derived by the body.
-fn task(alloc: Global, body: Formula) -> Result<Box<Task>, AllocError> {
+/// Whether the task is fit whose derived predicate has this body.
+fn is_fit_body(alloc: Global, body: Formula) -> Result<bool, Fail> {
     let items = items(alloc, body)?;
-    let mut task = Box::new(alloc, empty_task(alloc))?;
+    let mut task = task(alloc, &SPELLED)?;
     task.domain.derived = items;
-    fill_lists(&mut task.domain, alloc)?;
-    task.problem.name = name(alloc, "k")?;
-    Ok(task)
+    Ok(is_fit(alloc, &task)?)
 }
 
-/// Whether the task is fit whose derived predicate has this body.
-fn is_fit_body(alloc: Global, body: Formula) -> Result<bool, AllocError> {
-    let task = task(alloc, body)?;
-    is_fit(alloc, &task)
+fn always(alloc: Global) -> Formula {
+    Formula {
+        node: FormulaNode::All(Vec::new(alloc)),
+    }
+}
+
+fn not(alloc: Global, part: Formula) -> Result<Formula, AllocError> {
+    let part = Box::new(alloc, part)?;
+    Ok(Formula {
+        node: FormulaNode::Not(part),
+    })
+}
+
+/// The atom (p).
+fn derived_atom(alloc: Global) -> Formula {
+    Formula {
+        node: FormulaNode::Atom {
+            pred: 0,
+            args: Seq::from_vec(Vec::new(alloc)),
+        },
+    }
 }
 
 /// The condition that is always true, with so many negations around it.
@@ -62,35 +72,62 @@ fn conditions_are_at_most_64_deep(rt: HostRuntime) -> Result<(), Fail> {
 
 #[test]
 fn no_derived_predicate_rests_on_itself(rt: HostRuntime) -> Result<(), Fail> {
-    assert!(rt; !is_fit_body(rt.alloc(), atom(rt.alloc(), 0, &[])?)?);
+    assert!(rt; !is_fit_body(rt.alloc(), derived_atom(rt.alloc()))?);
     Ok(())
 }
 
-/// A stream with an object as its input and these outputs.
-fn stream(alloc: Global, outputs: &[u32]) -> Result<Box<Stream>, AllocError> {
-    let mut stream = Box::new(alloc, empty_stream(alloc))?;
-    stream.name = name(alloc, "s")?;
-    stream.inputs = Seq::from_vec(vec![in alloc; 0u32]?);
-    stream.outputs = Seq::from_vec(Vec::from_slice(alloc, outputs)?);
-    Ok(stream)
-}
-
+/// A stream of an object, with these outputs.
 fn streams(alloc: Global, outputs: &[u32]) -> Result<Seq<Stream>, AllocError> {
     let mut streams = Vec::new(alloc);
-    streams.push(Box::into_inner(stream(alloc, outputs)?))?;
+    streams.push(Stream {
+        name: Name::new(Vec::from_slice(alloc, b"s")?),
+        inputs: Seq::from_vec(vec![in alloc; 0u32]?),
+        outputs: Seq::from_vec(Vec::from_slice(alloc, outputs)?),
+        domain: Seq::from_vec(Vec::new(alloc)),
+        certified: Seq::from_vec(Vec::new(alloc)),
+        worth: None,
+    })?;
     Ok(Seq::from_vec(streams))
 }
 
 /// Whether the task is fit with a stream that has these outputs.
-fn is_fit_stream(alloc: Global, outputs: &[u32]) -> Result<bool, AllocError> {
-    let mut task = task(alloc, always(alloc))?;
-    task.streams = streams(alloc, outputs)?;
-    is_fit(alloc, &task)
+fn is_fit_stream(alloc: Global, outputs: &[u32]) -> Result<bool, Fail> {
+    let streams = streams(alloc, outputs)?;
+    let mut task = task(alloc, &SPELLED)?;
+    task.streams = streams;
+    Ok(is_fit(alloc, &task)?)
 }
 
 #[test]
 fn no_stream_feeds_itself(rt: HostRuntime) -> Result<(), Fail> {
     assert!(rt; is_fit_stream(rt.alloc(), &[])?);
     assert!(rt; !is_fit_stream(rt.alloc(), &[0])?);
+    Ok(())
+}
+
+fn values(alloc: Global, given: &[u32]) -> Result<Seq<Valued>, AllocError> {
+    let mut values = Vec::new(alloc);
+    for value in given {
+        values.push(Valued {
+            func: 0,
+            args: Row::empty(alloc),
+            value: *value,
+        })?;
+    }
+    Ok(Seq::from_vec(values))
+}
+
+/// Whether the task is fit whose function has these values.
+fn is_fit_valued(alloc: Global, given: &[u32]) -> Result<bool, Fail> {
+    let values = values(alloc, given)?;
+    let mut task = task(alloc, &KEEP)?;
+    task.problem.values = values;
+    Ok(is_fit(alloc, &task)?)
+}
+
+#[test]
+fn a_term_has_one_value(rt: HostRuntime) -> Result<(), Fail> {
+    assert!(rt; is_fit_valued(rt.alloc(), &[7, 7])?);
+    assert!(rt; !is_fit_valued(rt.alloc(), &[7, 9])?);
     Ok(())
 }

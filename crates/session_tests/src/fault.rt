@@ -6,7 +6,7 @@ use std::alloc::{AllocError, AllocFailed};
 /// Why a session isn't played to its end.
 #[derive(Clone, Copy, Debug, PartialEq, Eq)]
 pub enum Fault {
-    /// The task isn't fit, or there is no such head.
+    /// There is no such head.
     Unfit,
     /// The events aren't those of such a round or level.
     Unplayed,

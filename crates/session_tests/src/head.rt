@@ -3,7 +3,6 @@ ghost use Rattle.std.specs.Prelude.{◌≡◌, ◌≤◌, ◌∷◌, [], length,
 ghost use Rattle.session_core.specs.Session.{IsFitHead};
 ghost use Rattle.lemmas.specs.Lists.{numbers_from};
 
-use planning_tests::build::none;
 use std::alloc::{AllocError, Global};
 use task_model::{Seq, Task};
 use transcript_model::{Head, Mode, Pool};
@@ -30,7 +29,7 @@ fn pools(alloc: Global, task: &Task, workers: u8) -> Result<Seq<Pool>, AllocErro
         first: 0,
         workers,
         streams,
-        argv: none(alloc),
+        argv: Seq::from_vec(Vec::new(alloc)),
     };
     Ok(Seq::from_vec(vec![in alloc; pool]?))
 }

@@ -1,92 +1,21 @@
 //! Levels of requests to generators.
-use crate::fault::Fault;
 use fact_store::Facts;
-use fit_check::is_fit;
 use instance_queue::{Due, Queue};
-use planning_tests::build::{
-    declared, empty_stream, empty_task, fact, name, pattern, signature, sort,
-};
 use std::alloc::{AllocError, Global};
 use std::test::Fail;
-use task_model::{
-    Declared, Domain, Fact, Instance, Kind, Obj, Problem, Role, Row, Seq, Stream, Task, Term,
+use task_model::{Instance, Obj, Row, Task};
+use worked_tasks::{Texts, task};
+
+/// `cup`, `bowl` and `ball`, in this order, of which the cup and the ball are clear; a stream of an object that is clear,
+/// which gives an object, and a test of any object.
+const HANDS: Texts<'static> = Texts {
+    domain: "(define (domain hands) (:predicates (clear ?x)))",
+    problem: "(define (problem one) (:domain hands) (:objects cup bowl ball)
+  (:init (clear cup) (clear ball)) (:goal (and)))",
+    streams: "(define (stream hands)
+  (:stream grip :inputs (?x) :domain (clear ?x) :outputs (?y))
+  (:stream weigh :inputs (?x)))",
 };
-
-const OBJECT: u32 = 0;
-
-const CLEAR: u32 = 0;
-
-fn fill_domain(domain: &mut Domain, alloc: Global) -> Result<(), AllocError> {
-    domain.name = name(alloc, "hands")?;
-    let mut sorts = Vec::new(alloc);
-    sorts.push(sort(alloc, "object", &[])?)?;
-    domain.sorts = Seq::from_vec(sorts);
-    let mut predicates = Vec::new(alloc);
-    predicates.push(signature(alloc, "clear", 1)?)?;
-    domain.predicates = Seq::from_vec(predicates);
-    domain.roles = Seq::from_vec(vec![in alloc; Role::Static]?);
-    Ok(())
-}
-
-/// `cup`, `bowl` and `ball`, in this order.
-fn objects(alloc: Global) -> Result<Seq<Declared>, AllocError> {
-    let mut objects = Vec::new(alloc);
-    for text in ["cup", "bowl", "ball"] {
-        objects.push(declared(alloc, text, &[OBJECT])?)?;
-    }
-    Ok(Seq::from_vec(objects))
-}
-
-/// That the cup and the ball are clear.
-fn init(alloc: Global) -> Result<Seq<Fact>, AllocError> {
-    let mut init = Vec::new(alloc);
-    for place in [0, 2] {
-        init.push(fact(alloc, Kind::Predicate, CLEAR, &[Obj::new(place)])?)?;
-    }
-    Ok(Seq::from_vec(init))
-}
-
-fn fill_problem(problem: &mut Problem, alloc: Global) -> Result<(), AllocError> {
-    problem.name = name(alloc, "one")?;
-    problem.objects = objects(alloc)?;
-    problem.init = init(alloc)?;
-    Ok(())
-}
-
-/// A stream of an object that is clear, which gives an object.
-fn grip(alloc: Global) -> Result<Box<Stream>, AllocError> {
-    let mut grip = Box::new(alloc, empty_stream(alloc))?;
-    grip.name = name(alloc, "grip")?;
-    grip.inputs = Seq::from_vec(vec![in alloc; OBJECT]?);
-    grip.outputs = Seq::from_vec(vec![in alloc; OBJECT]?);
-    let mut clear = Vec::new(alloc);
-    clear.push(pattern(alloc, CLEAR, &[Term::Slot(0)])?)?;
-    grip.domain = Seq::from_vec(clear);
-    Ok(grip)
-}
-
-/// A test of any object.
-fn weigh(alloc: Global) -> Result<Box<Stream>, AllocError> {
-    let mut weigh = Box::new(alloc, empty_stream(alloc))?;
-    weigh.name = name(alloc, "weigh")?;
-    weigh.inputs = Seq::from_vec(vec![in alloc; OBJECT]?);
-    Ok(weigh)
-}
-
-fn streams(alloc: Global) -> Result<Seq<Stream>, AllocError> {
-    let mut streams = Vec::new(alloc);
-    streams.push(Box::into_inner(grip(alloc)?))?;
-    streams.push(Box::into_inner(weigh(alloc)?))?;
-    Ok(Seq::from_vec(streams))
-}
-
-fn task(alloc: Global) -> Result<Box<Task>, AllocError> {
-    let mut task = Box::new(alloc, empty_task(alloc))?;
-    fill_domain(&mut task.domain, alloc)?;
-    fill_problem(&mut task.problem, alloc)?;
-    task.streams = streams(alloc)?;
-    Ok(task)
-}
 
 /// What an instance of a stream was told, its input an object at this place.
 #[derive(Clone, Copy)]
@@ -135,66 +64,76 @@ fn shown(alloc: Global, dues: &[Due]) -> Result<Vec<(u32, u32, u32)>, AllocError
 }
 
 /// The level after the instances were told this.
-fn level(alloc: Global, told: &[Told]) -> Result<Vec<(u32, u32, u32)>, Fault> {
-    let task = task(alloc)?;
-    if !is_fit(alloc, &task)? {
-        return Err(Fault::Unfit);
-    }
+fn level(alloc: Global, told: &[Told]) -> Result<Vec<(u32, u32, u32)>, Fail> {
+    let task = task(alloc, &HANDS)?;
     let facts = Box::new(alloc, Facts::new(alloc, &task)?)?;
     let queue = queue_of(alloc, &task, told)?;
     let dues = queue.next_level(&task, &facts)?;
     Ok(shown(alloc, dues.as_slice())?)
 }
 
-#[test]
-fn a_level_is_in_the_order_of_streams_and_then_of_names(rt: HostRuntime) -> Result<(), Fail> {
-    let dues = level(rt.alloc(), &[])?;
-    assert_eq!(rt;
-        dues.as_slice(),
-        [(0, 2, 0), (0, 0, 0), (1, 2, 0), (1, 1, 0), (1, 0, 0)].as_slice()
-    );
-    Ok(())
-}
+/// What the instances were told, and the level then.
+const LEVELS: [(&[Told], &[(u32, u32, u32)]); 2] = [
+    // a level is in the order of streams and then of names
+    (
+        &[],
+        &[(0, 2, 0), (0, 0, 0), (1, 2, 0), (1, 1, 0), (1, 0, 0)],
+    ),
+    // an instance is asked once a level, with its turn
+    (
+        &[
+            Yielded {
+                stream: 0,
+                place: 0,
+            },
+            Yielded {
+                stream: 0,
+                place: 0,
+            },
+            Ended {
+                stream: 0,
+                place: 2,
+            },
+            Yielded {
+                stream: 1,
+                place: 1,
+            },
+        ],
+        &[(0, 0, 2), (1, 2, 0), (1, 0, 0)],
+    ),
+];
 
 #[test]
-fn an_instance_is_asked_once_a_level_with_its_turn(rt: HostRuntime) -> Result<(), Fail> {
-    let cup = Yielded {
-        stream: 0,
-        place: 0,
-    };
-    let ball = Ended {
-        stream: 0,
-        place: 2,
-    };
-    let bowl = Yielded {
-        stream: 1,
-        place: 1,
-    };
-    let dues = level(rt.alloc(), &[cup, cup, ball, bowl])?;
-    assert_eq!(rt;
-        dues.as_slice(),
-        [(0, 0, 2), (1, 2, 0), (1, 0, 0)].as_slice()
-    );
+fn a_level_has_the_instances_that_are_due_in_their_order(rt: HostRuntime) -> Result<(), Fail> {
+    for (told, want) in LEVELS {
+        let dues = level(rt.alloc(), told)?;
+        assert_eq!(rt; dues.as_slice(), want);
+    }
     Ok(())
 }
 
 /// Whether an instance is reachable at first.
-fn reached(alloc: Global, stream: u32, place: u32) -> Result<bool, Fault> {
-    let task = task(alloc)?;
-    if !is_fit(alloc, &task)? {
-        return Err(Fault::Unfit);
-    }
+fn reached(alloc: Global, stream: u32, place: u32) -> Result<bool, Fail> {
+    let task = task(alloc, &HANDS)?;
     let facts = Box::new(alloc, Facts::new(alloc, &task)?)?;
     let queue = queue_of(alloc, &task, &[])?;
     let instance = instance(alloc, stream, place)?;
     Ok(queue.reachable(&task, &facts, &instance))
 }
 
+/// Streams and objects, each with whether the instance is reachable.
+const REACHED: [(u32, u32, bool); 5] = [
+    (0, 0, true),
+    (0, 1, false),
+    (1, 1, true),
+    (1, 3, false),
+    (2, 0, false),
+];
+
 #[test]
-fn an_instance_is_reachable_where_its_domain_facts_are_known(rt: HostRuntime) {
-    assert_eq!(rt; reached(rt.alloc(), 0, 0), Ok(true));
-    assert_eq!(rt; reached(rt.alloc(), 0, 1), Ok(false));
-    assert_eq!(rt; reached(rt.alloc(), 1, 1), Ok(true));
-    assert_eq!(rt; reached(rt.alloc(), 1, 3), Ok(false));
-    assert_eq!(rt; reached(rt.alloc(), 2, 0), Ok(false));
+fn an_instance_is_reachable_where_its_domain_facts_are_known(rt: HostRuntime) -> Result<(), Fail> {
+    for (stream, place, want) in REACHED {
+        assert_eq!(rt; reached(rt.alloc(), stream, place)?, want);
+    }
+    Ok(())
 }

@@ -1,12 +1,15 @@
-//! Tests of levels and sessions, over tasks that are built by hand.
+//! Tests of queues, levels and sessions.
 #![tactic(auto)]
 
 pub mod fault;
-pub mod hands;
+#[cfg(test)]
+mod hands;
 pub mod head;
 #[cfg(test)]
 mod levels;
 pub mod play;
+#[cfg(test)]
+mod queues;
 #[cfg(test)]
 mod sessions;
 #[cfg(test)]

@@ -2,16 +2,16 @@
 ghost use Rattle.std.specs.Prelude.{◌≡◌, ◌≤◌, ◌<◌, length, drop, true, false, IfOk};
 ghost use Rattle.session_core.specs.Ready.{AreReady};
 ghost use Rattle.session_core.specs.Slots.{all_answered};
+ghost use Rattle.task_model.specs.Fit.{IsFit};
 ghost use Rattle.session_tests.specs.Played.{Stands, IsSameRound};
 
 use crate::fault::Fault;
 use crate::head::head;
-use fit_check::is_fit;
 use instance_queue::Due;
 use session_core::Session;
 use std::alloc::{AllocError, Global};
 use task_model::Task;
-use report_text::entry_text;
+use transcript_text::entry_text;
 
 /// What happens in a round.
 #[derive(Clone, Copy)]
@@ -30,12 +30,13 @@ pub fn begin(
     calls: u32,
     workers: u8,
 ) -> Result<Box<Session>, Fault>
+    requires { IsFit task.now }
     ensures { IfOk result (λ session. Stands task.now session.value) }
 {
     if version < 1 || version > 2 || calls < 1 || calls > 100_000 || workers < 1 || workers > 16 {
         return Err(Fault::Unfit);
     }
-    if task.streams.len() > 99 || !is_fit(alloc, task)? {
+    if task.streams.len() > 99 {
         return Err(Fault::Unfit);
     }
     let head = Box::new(alloc, head(alloc, task, version, calls, workers)?)?;

@@ -1,84 +1,20 @@
 //! What a queue says of the instances of a test and of another stream.
-use crate::due::Due;
-use crate::queue::Queue;
+use instance_queue::{Due, Queue};
 use std::alloc::{AllocError, Global};
 use std::test::Fail;
-use task_model::{Domain, Formula, FormulaNode, Instance, Name, Problem, Row, Seq, Stream, Task};
+use task_model::{Instance, Obj, Row, Task};
+use worked_tasks::{TWO, task};
+
+/// The place of the stream with an output.
+const MAKER: u32 = 0;
 
 /// The place of the stream without outputs.
-const TEST: u32 = 0;
-/// The place of the stream with an output.
-const MAKER: u32 = 1;
+const TEST: u32 = 1;
 
-fn none<T>(alloc: Global) -> Seq<T> {
-    Seq::from_vec(Vec::new(alloc))
-}
-
-fn unnamed(alloc: Global) -> Name {
-    Name::new(Vec::new(alloc))
-}
-
-fn domain(alloc: Global) -> Domain {
-    Domain {
-        name: unnamed(alloc),
-        sorts: none(alloc),
-        predicates: none(alloc),
-        functions: none(alloc),
-        constants: none(alloc),
-        derived: none(alloc),
-        actions: none(alloc),
-        roles: none(alloc),
-    }
-}
-
-fn problem(alloc: Global) -> Problem {
-    Problem {
-        name: unnamed(alloc),
-        objects: none(alloc),
-        init: none(alloc),
-        values: none(alloc),
-        goal: Formula {
-            node: FormulaNode::All(Vec::new(alloc)),
-        },
-        metric: false,
-    }
-}
-
-/// A stream without inputs.
-fn stream(alloc: Global, outputs: &[u32]) -> Result<Stream, AllocError> {
-    let outputs = Seq::from_vec(Vec::from_slice(alloc, outputs)?);
-    Ok(Stream {
-        name: unnamed(alloc),
-        inputs: none(alloc),
-        outputs,
-        domain: none(alloc),
-        certified: none(alloc),
-        worth: None,
-    })
-}
-
-fn streams(alloc: Global) -> Result<Seq<Stream>, AllocError> {
-    let mut streams = Vec::new(alloc);
-    streams.push(stream(alloc, &[])?)?;
-    streams.push(stream(alloc, &[0])?)?;
-    Ok(Seq::from_vec(streams))
-}
-
-fn task(alloc: Global) -> Result<Box<Task>, AllocError> {
-    let streams = streams(alloc)?;
-    let task = Task {
-        domain: domain(alloc),
-        problem: problem(alloc),
-        streams,
-    };
-    Ok(Box::new(alloc, task)?)
-}
-
-fn instance(alloc: Global, stream: u32) -> Instance {
-    Instance {
-        stream,
-        inputs: Row::empty(alloc),
-    }
+/// The instance of a stream for the cup.
+fn instance(alloc: Global, stream: u32) -> Result<Box<Instance>, AllocError> {
+    let inputs = Row::new(alloc, &[Obj::new(0)])?;
+    Ok(Box::new(alloc, Instance { stream, inputs })?)
 }
 
 /// What the instance of a stream was told.
@@ -93,13 +29,13 @@ use Told::{Ended, Yielded};
 fn note(alloc: Global, queue: &mut Queue, told: Told) -> Result<(), AllocError> {
     match told {
         Yielded(stream) => {
-            let instance = instance(alloc, stream);
+            let instance = instance(alloc, stream)?;
             if queue.yields(&instance) < 4_294_967_295 {
                 queue.note_got(&instance)?;
             }
             Ok(())
         }
-        Ended(stream) => queue.note_end(&instance(alloc, stream)),
+        Ended(stream) => queue.note_end(&*instance(alloc, stream)?),
     }
 }
 
@@ -113,31 +49,39 @@ fn queue_of(alloc: Global, task: &Task, told: &[Told]) -> Result<Box<Queue>, All
 }
 
 /// Whether the instance of a stream has finished once the instances were told this.
-fn is_finished(alloc: Global, told: &[Told], stream: u32) -> Result<bool, AllocError> {
-    let task = task(alloc)?;
+fn is_finished(alloc: Global, told: &[Told], stream: u32) -> Result<bool, Fail> {
+    let task = task(alloc, &TWO)?;
     let queue = queue_of(alloc, &task, told)?;
-    Ok(queue.finished(&task, &instance(alloc, stream)))
+    let instance = instance(alloc, stream)?;
+    Ok(queue.finished(&task, &instance))
 }
 
-#[test]
-fn a_test_that_yields_is_finished(rt: HostRuntime) -> Result<(), Fail> {
-    assert!(rt; !is_finished(rt.alloc(), &[], TEST)?);
-    assert!(rt; is_finished(rt.alloc(), &[Yielded(TEST)], TEST)?);
-    Ok(())
-}
+/// What the instances were told, and whether that of a stream has finished then.
+const FINISHED: [(&[Told], u32, bool); 5] = [
+    // a test that yields is finished
+    (&[], TEST, false),
+    (&[Yielded(TEST)], TEST, true),
+    // a stream with outputs goes on until it ends
+    (&[Yielded(MAKER)], MAKER, false),
+    (&[Yielded(MAKER), Ended(MAKER)], MAKER, true),
+    // of a stream that isn't there nothing has finished
+    (&[Ended(2)], 2, false),
+];
 
 #[test]
-fn a_stream_with_outputs_goes_on_until_it_ends(rt: HostRuntime) -> Result<(), Fail> {
-    assert!(rt; !is_finished(rt.alloc(), &[Yielded(MAKER)], MAKER)?);
-    assert!(rt; is_finished(rt.alloc(), &[Yielded(MAKER), Ended(MAKER)], MAKER)?);
+fn an_instance_finishes_by_its_end_and_a_test_by_its_yes(rt: HostRuntime) -> Result<(), Fail> {
+    for (told, stream, want) in FINISHED {
+        assert_eq!(rt; is_finished(rt.alloc(), told, stream)?, want);
+    }
     Ok(())
 }
 
 /// How many tuples the instance of a stream gave once the instances were told this.
-fn count(alloc: Global, told: &[Told], stream: u32) -> Result<u32, AllocError> {
-    let task = task(alloc)?;
+fn count(alloc: Global, told: &[Told], stream: u32) -> Result<u32, Fail> {
+    let task = task(alloc, &TWO)?;
     let queue = queue_of(alloc, &task, told)?;
-    Ok(queue.yields(&instance(alloc, stream)))
+    let instance = instance(alloc, stream)?;
+    Ok(queue.yields(&instance))
 }
 
 #[test]
@@ -148,15 +92,13 @@ fn tuples_are_counted_for_each_instance(rt: HostRuntime) -> Result<(), Fail> {
     Ok(())
 }
 
-#[test]
-fn of_a_stream_that_is_not_there_nothing_has_finished(rt: HostRuntime) -> Result<(), Fail> {
-    assert!(rt; !is_finished(rt.alloc(), &[Ended(2)], 2)?);
-    Ok(())
-}
-
 /// The turn of a copy of an ask of this turn, and whether its instance is equal.
 fn copied(alloc: Global, turn: u32) -> Result<(u32, bool), AllocError> {
-    let instance = instance(alloc, MAKER);
+    let inputs = Row::new(alloc, &[Obj::new(0)])?;
+    let instance = Instance {
+        stream: MAKER,
+        inputs,
+    };
     let due = Due { instance, turn };
     let copy = due.copy()?;
     Ok((copy.turn, copy.instance == due.instance))

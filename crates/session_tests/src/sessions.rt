@@ -1,11 +1,17 @@
 //! Sessions: what they ask, and what they learn from what was answered.
+ghost use Rattle.task_model.specs.Fit.{IsFit};
+
 use crate::fault::Fault;
-use crate::hands::{grip, grips_and_looks, look, pair, task_of, weigh};
+use crate::hands::{GRIPS_AND_LOOKS, GRIPS_AND_PAIRS, LOOKS_AND_WEIGHS};
 use crate::play::{Event, begin, level, levels, transcript};
 use Event::{Says, Sends};
-use std::alloc::{AllocError, Global};
+use std::alloc::Global;
 use std::test::Fail;
 use task_model::{Look, Obj, Task};
+use worked_tasks::{Texts, task};
+
+/// Levels, each in one round with these events.
+type Levels<'a> = &'a [&'a [Event<'a>]];
 
 /// The transcript after these levels in this version of the protocol with so many workers.
 fn told(
@@ -13,58 +19,133 @@ fn told(
     task: &Task,
     version: u8,
     workers: u8,
-    played: &[&[Event<'_>]],
-) -> Result<Vec<u8>, Fault> {
+    played: Levels<'_>,
+) -> Result<Vec<u8>, Fault>
+    requires { IsFit task.now }
+{
     let mut session = begin(alloc, task, version, 100_000, workers)?;
     levels(task, &mut session, played)?;
     Ok(transcript(alloc, &session)?)
 }
 
-/// The same of the streams `grip` and `look`, with two workers.
-fn told_of_two(alloc: Global, version: u8, played: &[&[Event<'_>]]) -> Result<Vec<u8>, Fault> {
-    let task = grips_and_looks(alloc)?;
-    told(alloc, &task, version, 2, played)
+/// A run: its task, version and workers, its levels, and its transcript.
+#[derive(Clone, Copy)]
+struct Run<'a> {
+    texts: Texts<'a>,
+    version: u8,
+    workers: u8,
+    played: Levels<'a>,
+    want: &'a [u8],
 }
 
-const IN_TURN: [Event<'static>; 4] = [
+/// The transcript of the run.
+fn told_of(alloc: Global, run: &Run<'_>) -> Result<Result<Vec<u8>, Fault>, Fail> {
+    let task = task(alloc, &run.texts)?;
+    Ok(told(alloc, &task, run.version, run.workers, run.played))
+}
+
+const IN_TURN: &[Event<'static>] = &[
     Sends(0),
     Sends(1),
     Says(0, b"yield left"),
     Says(1, b"yield"),
 ];
 
-const THE_OTHER_WAY: [Event<'static>; 4] = [
-    Sends(1),
-    Says(1, b"yield"),
-    Sends(0),
-    Says(0, b"yield left"),
-];
+/// A line with two tuples.
+const SEVERAL: Run<'static> = Run {
+    texts: GRIPS_AND_LOOKS,
+    version: 2,
+    workers: 2,
+    played: &[&[
+        Sends(0),
+        Sends(1),
+        Says(1, b"end"),
+        Says(0, b"yield left | right"),
+    ]],
+    want: b"ask 1 0 grip cup\nask 2 0 look cup\ngot 1 left | right\nend 2\n",
+};
 
-const FIRST_LEVEL: &[u8] = b"ask 1 0 grip cup\nask 2 0 look cup\ngot 1 left\ngot 2\n";
+const RUNS: [Run<'static>; 5] = [
+    // the order of events doesn't matter
+    Run {
+        texts: GRIPS_AND_LOOKS,
+        version: 1,
+        workers: 2,
+        played: &[IN_TURN],
+        want: b"ask 1 0 grip cup\nask 2 0 look cup\ngot 1 left\ngot 2\n",
+    },
+    Run {
+        texts: GRIPS_AND_LOOKS,
+        version: 1,
+        workers: 2,
+        played: &[&[
+            Sends(1),
+            Says(1, b"yield"),
+            Sends(0),
+            Says(0, b"yield left"),
+        ]],
+        want: b"ask 1 0 grip cup\nask 2 0 look cup\ngot 1 left\ngot 2\n",
+    },
+    // a test is finished by its yes, and others are asked again
+    Run {
+        texts: GRIPS_AND_LOOKS,
+        version: 1,
+        workers: 2,
+        played: &[
+            IN_TURN,
+            &[Sends(0), Sends(1), Says(0, b"end"), Says(1, b"yield")],
+            &[],
+        ],
+        want: b"ask 1 0 grip cup\nask 2 0 look cup\ngot 1 left\ngot 2\nask 3 1 grip cup\nask 4 0 look #left\nend 3\ngot 4\n",
+    },
+    // a line of version 2 has several tuples
+    SEVERAL,
+    // a level has the pairs of two generated objects
+    Run {
+        texts: GRIPS_AND_PAIRS,
+        version: 1,
+        workers: 4,
+        played: &[
+            &[Sends(0), Says(0, b"yield u")],
+            &[Sends(0), Sends(1), Says(0, b"yield v"), Says(1, b"end")],
+            &[
+                Sends(0),
+                Sends(1),
+                Sends(2),
+                Sends(3),
+                Says(0, b"end"),
+                Says(1, b"yield"),
+                Says(2, b"end"),
+                Says(3, b"yield"),
+            ],
+            &[],
+        ],
+        want: b"ask 1 0 grip cup\ngot 1 u\nask 2 1 grip cup\nask 3 0 pair #u #u\ngot 2 v\nend 3\nask 4 2 grip cup\nask 5 0 pair #u #v\nask 6 0 pair #v #u\nask 7 0 pair #v #v\nend 4\ngot 5\nend 6\ngot 7\n",
+    },
+];
 
 #[test]
-fn the_order_of_events_does_not_matter(rt: HostRuntime) -> Result<(), Fail> {
-    let first = told_of_two(rt.alloc(), 1, &[&IN_TURN])?;
-    assert_eq!(rt; first.as_slice(), FIRST_LEVEL);
-    let other = told_of_two(rt.alloc(), 1, &[&THE_OTHER_WAY])?;
-    assert_eq!(rt; other.as_slice(), FIRST_LEVEL);
+fn a_session_asks_and_learns_level_by_level(rt: HostRuntime) -> Result<(), Fail> {
+    for run in RUNS {
+        let text = told_of(rt.alloc(), &run)??;
+        assert_eq!(rt; text.as_slice(), run.want);
+    }
     Ok(())
 }
 
 #[test]
-fn a_test_is_finished_by_its_yes_and_others_are_asked_again(rt: HostRuntime) -> Result<(), Fail> {
-    let second = [Sends(0), Sends(1), Says(0, b"end"), Says(1, b"yield")];
-    let first = IN_TURN;
-    let all = told_of_two(rt.alloc(), 1, &[&first, &second, &[]])?;
-    let want = b"ask 1 0 grip cup\nask 2 0 look cup\ngot 1 left\ngot 2\n\
-        ask 3 1 grip cup\nask 4 0 look #left\nend 3\ngot 4\n";
-    assert_eq!(rt; all.as_slice(), want.as_slice());
+fn a_line_of_version_1_has_one_tuple(rt: HostRuntime) -> Result<(), Fail> {
+    let earlier = Run {
+        version: 1,
+        ..SEVERAL
+    };
+    assert_eq!(rt; told_of(rt.alloc(), &earlier)?.err(), Some(Fault::Unplayed));
     Ok(())
 }
 
 /// The transcript after a level in these rounds of one worker, of the streams `grip` and `look`.
-fn told_in_rounds(alloc: Global, rounds: &[&[Event<'_>]]) -> Result<Vec<u8>, Fault> {
-    let task = grips_and_looks(alloc)?;
+fn told_in_rounds(alloc: Global, rounds: &[&[Event<'_>]]) -> Result<Vec<u8>, Fail> {
+    let task = task(alloc, &GRIPS_AND_LOOKS)?;
     let mut session = begin(alloc, &task, 1, 100_000, 1)?;
     level(&task, &mut session, rounds)?;
     Ok(transcript(alloc, &session)?)
@@ -80,79 +161,28 @@ fn what_waits_for_its_round_is_asked_in_the_next(rt: HostRuntime) -> Result<(), 
     Ok(())
 }
 
-#[test]
-fn a_line_of_version_2_has_several_tuples(rt: HostRuntime) -> Result<(), Fail> {
-    let round = [
-        Sends(0),
-        Sends(1),
-        Says(1, b"end"),
-        Says(0, b"yield left | right"),
-    ];
-    let all = told_of_two(rt.alloc(), 2, &[&round])?;
-    let want = b"ask 1 0 grip cup\nask 2 0 look cup\ngot 1 left | right\nend 2\n";
-    assert_eq!(rt; all.as_slice(), want.as_slice());
-    let earlier = told_of_two(rt.alloc(), 1, &[&round]);
-    assert_eq!(rt; earlier.err(), Some(Fault::Unplayed));
-    Ok(())
-}
-
-fn grips_and_pairs(alloc: Global) -> Result<Box<Task>, AllocError> {
-    let grip = grip(alloc)?;
-    let pair = pair(alloc)?;
-    task_of(alloc, grip, pair)
-}
-
-/// The transcript of the streams `grip` and `pair` after these levels of four workers.
-fn told_of_pairs(alloc: Global, played: &[&[Event<'_>]]) -> Result<Vec<u8>, Fault> {
-    let task = grips_and_pairs(alloc)?;
-    told(alloc, &task, 1, 4, played)
-}
-
-#[test]
-fn a_level_has_the_pairs_of_two_generated_objects(rt: HostRuntime) -> Result<(), Fail> {
-    let first = [Sends(0), Says(0, b"yield u")];
-    let second = [Sends(0), Sends(1), Says(0, b"yield v"), Says(1, b"end")];
-    let third = [
-        Sends(0),
-        Sends(1),
-        Sends(2),
-        Sends(3),
-        Says(0, b"end"),
-        Says(1, b"yield"),
-        Says(2, b"end"),
-        Says(3, b"yield"),
-    ];
-    let all = told_of_pairs(rt.alloc(), &[&first, &second, &third, &[]])?;
-    let want = b"ask 1 0 grip cup\ngot 1 u\nask 2 1 grip cup\nask 3 0 pair #u #u\ngot 2 v\nend 3\n\
-        ask 4 2 grip cup\nask 5 0 pair #u #v\nask 6 0 pair #v #u\nask 7 0 pair #v #v\n\
-        end 4\ngot 5\nend 6\ngot 7\n";
-    assert_eq!(rt; all.as_slice(), want.as_slice());
-    Ok(())
-}
-
-fn looks_and_weighs(alloc: Global) -> Result<Box<Task>, AllocError> {
-    let look = look(alloc)?;
-    let weigh = weigh(alloc)?;
-    task_of(alloc, look, weigh)
-}
-
 /// The weight of the cup that is known after these levels of the streams `look` and `weigh`, and how many requests they made.
-fn weighed(alloc: Global, played: &[&[Event<'_>]]) -> Result<(Option<u32>, u32), Fault> {
-    let task = looks_and_weighs(alloc)?;
+fn weighed(alloc: Global, played: Levels<'_>) -> Result<(Option<u32>, u32), Fail> {
+    let task = task(alloc, &LOOKS_AND_WEIGHS)?;
     let mut session = begin(alloc, &task, 1, 100_000, 1)?;
     levels(&task, &mut session, played)?;
     let weight = session.facts().value(0, &[Obj::new(0)]);
     Ok((weight, session.asks()))
 }
 
+const YES: &[Event<'static>] = &[Sends(0), Says(0, b"yield")];
+
+/// Levels, each with the weight that is known then and the number of requests.
+const WEIGHED: [(Levels<'static>, (Option<u32>, u32)); 3] = [
+    (&[YES], (None, 1)),
+    (&[YES, &[Sends(0), Says(0, b"value 7")], &[]], (Some(7), 2)),
+    (&[&[Sends(0), Says(0, b"end")], &[]], (None, 1)),
+];
+
 #[test]
 fn a_value_is_known_once_its_domain_fact_is_certified(rt: HostRuntime) -> Result<(), Fail> {
-    let first = [Sends(0), Says(0, b"yield")];
-    let second = [Sends(0), Says(0, b"value 7")];
-    assert_eq!(rt; weighed(rt.alloc(), &[&first])?, (None, 1));
-    let whole = weighed(rt.alloc(), &[&first, &second, &[]])?;
-    assert_eq!(rt; whole, (Some(7), 2));
-    let never = [Sends(0), Says(0, b"end")];
-    assert_eq!(rt; weighed(rt.alloc(), &[&never, &[]])?, (None, 1));
+    for (played, want) in WEIGHED {
+        assert_eq!(rt; weighed(rt.alloc(), played)?, want);
+    }
     Ok(())
 }
