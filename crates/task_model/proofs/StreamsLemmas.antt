@@ -1,5 +1,5 @@
 -- Instances: that a test tells them apart, their order, and that what is due is one list.
-use Rattle.std.proofs.Common.{◌≡◌, ℕ, true, false, ◌==◌, List, map, refl, sym, ap, ◌∙◌, Option, Some, None, IsSome, slice_get, unwrap_or, eqb-true, eq-eqb, [], ◌&&◌}
+use Rattle.std.proofs.Common.{◌≡◌, ℕ, true, false, ◌==◌, List, map, refl, sym, ap, ◌∙◌, Option, Some, None, IsSome, slice_get, unwrap_or, eqb-true, eq-eqb, []}
 use Rattle.std.proofs.lemmas.Bool.{and_from}
 use Rattle.std.specs.Cmp.{IsTotalOrder, then_total, on_total, nat_cmp_total, first_so, second_so}
 use Rattle.std.specs.Cmp.Lexicographic.{lists_total, nat_list_cmp_total}
