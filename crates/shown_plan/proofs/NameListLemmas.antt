@@ -16,8 +16,6 @@ mapped_from f [] q (k, lt, is) = absurd (omega (arith, lt))
 mapped_from f (x ∷ xs) q (zero, lt, is) = (x, (0, omega arith, refl), is)
 mapped_from f (x ∷ xs) q (suc k, lt, is) = let r = mapped_from f xs q (k, omega (arith, lt), is) in (r.0, contains_later x xs r.0 r.1, r.2)
 
-]
-
 pub all_pass : {A : Type 0} (p : A → Bool) (xs : List A) (q : A) → list_all p xs ≡ true → Contains xs q → p q ≡ true
 all_pass p [] q e (k, lt, is) = absurd (omega (arith, lt))
 all_pass p (x ∷ xs) q e (zero, lt, is) = ap p (sym is) ∙ first_so (p x) (list_all p xs) e

@@ -1,5 +1,5 @@
 -- Lists of facts: what is in them, and that facts stand once.
-use Rattle.std.proofs.Common.{◌≡◌, ℕ, true, false, cond, ◌&&◌, ◌||◌, ◌==◌, arith, inl, inr, ◌↔◌, List, [], ◌∷◌, ◌++◌, refl, sym, subst, Contains, eqb-true, eq-eqb, append_assoc, zero, suc, ◌<◌, length, ap, Some}
+use Rattle.std.proofs.Common.{◌≡◌, ℕ, true, false, cond, ◌&&◌, ◌||◌, ◌==◌, arith, inl, inr, ◌↔◌, List, [], ◌∷◌, ◌++◌, refl, sym, subst, Contains, eqb-true, eq-eqb, append_assoc, zero, suc, ◌<◌, length, ap, Some, None}
 use Rattle.std.proofs.lemmas.List.Elements.{Contains-append_left, Contains-append_right, Contains-append_cases}
 use Rattle.std.proofs.lemmas.Map.Views.{Contains-from_any, list_any-from_Contains}
 use Rattle.std.specs.Bool.{Decides}

@@ -1,5 +1,5 @@
 -- As many objects as types.
-use Rattle.std.proofs.Common.{◌≡◌, ℕ, suc, true, List, [], ◌∷◌, length, ap}
+use Rattle.std.proofs.Common.{◌≡◌, ℕ, suc, true, List, [], ◌∷◌, length, ap, refl}
 use Rattle.std.specs.Cmp.{second_so}
 use Rattle.task_model.specs.Known.{Known}
 use Rattle.task_model.specs.Truth.{has_type, have_types}
