@@ -3,3 +3,4 @@ pub mod Executions
 pub mod FactLists
 pub mod Members
 pub mod Slots
+pub mod StateOrderLemmas
