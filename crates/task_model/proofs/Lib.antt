@@ -3,5 +3,5 @@ pub mod StepsLemmas
 pub mod KnownLemmas
 pub mod TruthSlotLemmas
 pub mod StreamsLemmas
-
 pub mod TruthLemmas
+pub mod StateOrderLemmas

@@ -1,5 +1,5 @@
 -- Sets of atoms: what a set of a list contains, and its members in order.
-use Rattle.std.proofs.Common.{◌≡◌, ℕ, Bool, true, false, cond, not, ◌&&◌, ◌||◌, List, [], ◌∷◌, ◌++◌, map, length, refl, sym, ap, ◌∙◌, is_some, arith, Option, Some, None, suc, zero, slice_get, ◌≤◌}
+use Rattle.std.proofs.Common.{◌≡◌, Bool, true, false, cond, not, ◌&&◌, ◌||◌, List, [], ◌∷◌, map, length, refl, sym, ap, ◌∙◌, is_some, arith, Option, Some, None, suc}
 use Rattle.std.specs.List.{list_any, AllByRecursion}
 use Rattle.std.specs.List.Sorted.{IsStrictlySortedBy}
 use Rattle.std.specs.Ordering.{eq_by_cmp}
@@ -58,28 +58,8 @@ contains-from_list (k ∷ ks) q = contains-insert (from_list ks) k q ∙ ap (λ 
 pub same_atoms : (s t : Atoms) → ((q : Atom) → contains s q ≡ contains t q) → s ≡ t
 same_atoms s t same = finite.same_map atoms_total atoms_tied s t (λ q. marked _ ∙ ap mark (same q) ∙ sym (marked _))
 
-turn : (k q : Atom) → eq_by_cmp atom_cmp k q ≡ eq_by_cmp atom_cmp q k
+pub turn : (k q : Atom) → eq_by_cmp atom_cmp k q ≡ eq_by_cmp atom_cmp q k
 turn k q = (eq_by_cmp_equiv atoms_total).symm k q
-
-cond_or : (b x : Bool) → cond b true x ≡ (b || x)
-cond_or true x = refl
-cond_or false x = refl
-
-cond_and : (b x : Bool) → cond b false x ≡ (not b && x)
-cond_and true x = refl
-cond_and false x = refl
-
--- a list that gains an atom is the set with that atom
-pub set_inserted : (old new : List Atom) (k : Atom) → ((q : Atom) → list_any (eq_by_cmp atom_cmp q) new ≡ cond (eq_by_cmp atom_cmp k q) true (list_any (eq_by_cmp atom_cmp q) old)) → from_list new ≡ insert (from_list old) k
-set_inserted old new k gains =
-    same_atoms (from_list new) (insert (from_list old) k) (λ q.
-    contains-from_list new q ∙ gains q ∙ cond_or (eq_by_cmp atom_cmp k q) (list_any (eq_by_cmp atom_cmp q) old) ∙ (λ i. turn k q i || sym (contains-from_list old q) i) ∙ sym (contains-insert (from_list old) k q))
-
--- a list that loses an atom is the set without that atom
-pub set_removed : (old new : List Atom) (k : Atom) → ((q : Atom) → list_any (eq_by_cmp atom_cmp q) new ≡ cond (eq_by_cmp atom_cmp k q) false (list_any (eq_by_cmp atom_cmp q) old)) → from_list new ≡ remove (from_list old) k
-set_removed old new k loses =
-    same_atoms (from_list new) (remove (from_list old) k) (λ q.
-    contains-from_list new q ∙ loses q ∙ cond_and (eq_by_cmp atom_cmp k q) (list_any (eq_by_cmp atom_cmp q) old) ∙ (λ i. not (turn k q i) && sym (contains-from_list old q) i) ∙ sym (contains-remove (from_list old) k q))
 
 -- ---- members in order
 
@@ -112,17 +92,8 @@ items-from_list ks sorted = ap (map (λ e. e.0)) (entries-from_list ks sorted) �
 pub len-from_list : (ks : List Atom) → IsStrictlySortedBy atom_cmp ks → len (from_list ks) ≡ length ks
 len-from_list ks sorted = finite.len-entries (from_list ks) ∙ ap length (entries-from_list ks sorted) ∙ pairs_length ks
 
--- where a list has nothing, it has ended
-pub missing_past_end : {A : Type 0} (xs : List A) (i : ℕ) → slice_get xs i ≡ None → length xs ≤ i
-missing_past_end [] i e = omega arith
-missing_past_end (x ∷ xs) zero e = absurd (cc)
-missing_past_end (x ∷ xs) (suc i) e = omega (arith, missing_past_end xs i e)
-
 -- ---- one atom after another
 
-pub with_atoms-push : (s : Atoms) (ks : List Atom) (k : Atom) → with_atoms s (ks ++ k ∷ []) ≡ insert (with_atoms s ks) k
-with_atoms-push s [] k = refl
-with_atoms-push s (x ∷ ks) k = with_atoms-push (insert s x) ks k
 
 pub contains-with_atoms : (s : Atoms) (ks : List Atom) (q : Atom) → contains (with_atoms s ks) q ≡ (list_any (eq_by_cmp atom_cmp q) ks || contains s q)
 contains-with_atoms s [] q = refl

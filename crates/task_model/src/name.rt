@@ -1,14 +1,17 @@
 //! Names.
-ghost use Rattle.std.specs.Prelude.{◌≡◌, IfOk};
+ghost use Rattle.std.specs.Prelude.{◌≡◌, IfOk, length, ◌≤◌, IsOk};
 
+use smallvec::SmallVec;
 use std::alloc::{AllocError, Global};
 use std::marker::Model;
 
 /// A name, which contracts see as a list of bytes. The bytes are free: a task's names are words in
 /// lower case, and a generated object's name is `#` and the value that a generator gave.
+///
+/// Up to 23 bytes lie in the value itself.
 #[derive(Debug, Drop)]
 pub struct Name {
-    bytes: Vec<u8>,
+    bytes: SmallVec<u8, 23>,
 }
 
 impl Model for Name {
@@ -20,11 +23,23 @@ impl Model for Name {
 }
 
 impl Name {
-    /// The name with these bytes.
+    /// The name with these bytes, whose memory it keeps where it has room for more than 23.
     pub fn new(bytes: Vec<u8>) -> Name
         ensures { result ≡ bytes.items }
     {
-        Name { bytes }
+        Name {
+            bytes: SmallVec::from_vec(bytes),
+        }
+    }
+
+    /// The name with these bytes. Fails only where memory is wanting, and never for 23 bytes or fewer,
+    /// which take none.
+    pub fn from_slice(alloc: Global, bytes: &[u8]) -> Result<Name, AllocError>
+        ensures name { IfOk result (λ name. name ≡ bytes.now) }
+        ensures inline { length bytes.now ≤ 23 → IsOk result }
+    {
+        let bytes = SmallVec::from_slice(alloc, bytes)?;
+        Ok(Name { bytes })
     }
 
     /// The bytes.
@@ -38,7 +53,6 @@ impl Name {
     pub fn copy(&self, alloc: Global) -> Result<Name, AllocError>
         ensures { IfOk result (λ name. name ≡ self.now) }
     {
-        let bytes = Vec::from_slice(alloc, self.bytes.as_slice())?;
-        Ok(Name { bytes })
+        Name::from_slice(alloc, self.bytes())
     }
 }

@@ -4,24 +4,29 @@ ghost use Rattle.task_model.specs.State as set;
 
 use crate::fact::Atom;
 use std::alloc::{AllocError, Global};
-use std::collections::BTreeSet;
 use std::marker::Model;
 
 /// A state: the set of the atoms of fluents that are true (PDDL 2.1).
+///
+/// The atoms are kept ascending, each once, so that `has` looks at few of them, and a copy takes one
+/// allocation.
 #[derive(Drop)]
 pub struct State {
-    atoms: BTreeSet<Atom>,
-    alloc: Global,
+    atoms: Vec<Atom>,
 }
 
 impl Model for State {
+    ghost use Rattle.std.specs.List.Sorted.{IsStrictlySortedBy};
+    ghost use Rattle.task_model.specs.AtomOrder.{atom_cmp};
     ghost use Rattle.task_model.specs.State.{Atoms, atoms_code, from_list};
 
     ghost Value = { Atoms };
 
     ghost coded = { atoms_code };
 
-    ghost view = { λ s. from_list s.atoms.keys };
+    ghost view = { λ s. from_list s.atoms.items };
+
+    ghost invariant = { λ s. IsStrictlySortedBy atom_cmp s.atoms.items };
 }
 
 impl State {
@@ -30,32 +35,41 @@ impl State {
         ensures { result ≡ set.empty }
     {
         State {
-            atoms: BTreeSet::new(alloc),
-            alloc,
+            atoms: Vec::new(alloc),
         }
+    }
+
+    /// The state of these atoms, whose order doesn't matter, nor that one stands twice. It takes no memory.
+    pub fn from_atoms(atoms: Vec<Atom>) -> State
+        ensures { result ≡ set.from_list atoms.items }
+    {
+        let mut atoms = atoms;
+        atoms.sort_unstable();
+        atoms.dedup();
+        State { atoms }
     }
 
     /// The allocator that the state was made with.
     pub fn allocator(&self) -> Global {
-        self.alloc
+        *self.atoms.allocator()
     }
 
     /// An equal state. Fails only where memory is wanting.
     pub fn copy(&self) -> Result<State, AllocError>
         ensures { IfOk result (λ state. state ≡ self.now) }
     {
-        let mut state = State::new(self.alloc);
-        for atom in self.atoms.iter() {
-            state.add(atom.copy()?)?;
+        let mut atoms = Vec::with_capacity(self.allocator(), self.atoms.len())?;
+        for atom in self.atoms.as_slice() {
+            atoms.push(atom.copy()?)?;
         }
-        Ok(state)
+        Ok(State { atoms })
     }
 
     /// Whether the atom is in the state.
     pub fn has(&self, atom: &Atom) -> bool
         ensures { result ≡ set.contains self.now atom.now }
     {
-        self.atoms.contains(atom)
+        self.atoms.binary_search(atom).is_ok()
     }
 
     /// How many atoms are in the state.
@@ -65,15 +79,19 @@ impl State {
         self.atoms.len()
     }
 
+    /// The atoms in their order: by predicate, and then by arguments.
+    pub fn as_slice(&self) -> &[Atom]
+        ensures { result.now ≡ set.items self.now }
+    {
+        self.atoms.as_slice()
+    }
+
     /// The atom at this place among the state's atoms in their order.
     pub fn atom(&self, place: usize) -> &Atom
         requires { place < set.len self.now }
         ensures { slice_get (set.items self.now) place ≡ Some result.now }
     {
-        match self.atoms.iter().nth(place) {
-            Some(atom) => atom,
-            None => unreachable!(),
-        }
+        &self.atoms[place]
     }
 
     /// Puts the atom in, and answers whether it is new. Where memory is wanting the state stays as it was.
@@ -82,7 +100,13 @@ impl State {
         ensures fresh { IfOk result (λ fresh. fresh ≡ not (set.contains self.old atom)) }
         ensures err { OnErr result (self.new ≡ self.old) }
     {
-        Ok(self.atoms.insert(atom)?)
+        match self.atoms.binary_search(&atom) {
+            Ok(_) => Ok(false),
+            Err(place) => {
+                self.atoms.insert(place, atom)?;
+                Ok(true)
+            }
+        }
     }
 
     /// Takes the atom out, and answers whether it was there.
@@ -90,6 +114,12 @@ impl State {
         ensures state { self.new ≡ set.remove self.old atom.now }
         ensures there { result ≡ set.contains self.old atom.now }
     {
-        self.atoms.remove(atom)
+        match self.atoms.binary_search(atom) {
+            Ok(place) => {
+                self.atoms.remove(place);
+                true
+            }
+            Err(_) => false,
+        }
     }
 }

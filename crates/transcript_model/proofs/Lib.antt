@@ -7,5 +7,4 @@ pub mod NamedObjectLemmas
 pub mod LegalNumberLemmas
 pub mod NamesLemmas
 pub mod LegalOnceLemmas
-
 pub mod RoundsLemmas

@@ -1,19 +1,18 @@
-use Rattle.std.proofs.Common.{◌≡◌, ◌≤◌, ap, sym, ◌∙◌, slice_get, option_map, length, arith, refl}
-use Rattle.std.proofs.lemmas.Iterator.Consumers.{nth_from_yields_List, YieldsList-from_rest}
+use Rattle.std.proofs.Common.{◌≡◌, ap, sym, ◌∙◌, slice_get, length, arith, Some}
 use Rattle.task_model.specs.State.{items, len}
-use Rattle.task_model.proofs.StateLemmas.{items-from_list, len-from_list, missing_past_end}
+use Rattle.task_model.proofs.StateLemmas.{items-from_list, len-from_list}
 use Rattle.task_model.proofs.state.State.atom.Goals as goal
+use Rattle.std.proofs.lemmas.Option.{slice_get-get_or}
 
-pub unreachable-requires : goal.unreachable-requires
-unreachable-requires c =
-    let yielded = nth_from_yields_List c.nth.result c.nth.new.self c.args.place c.nth.ensures.ran (YieldsList-from_rest c.iter.result refl) in
-    let size : len c.args.self.now ≡ length c.self.inside.atoms.keys = sym (ap len c.self.view_is) ∙ len-from_list c.self.inside.atoms.keys c.iter.ensures.ordered in
-    let past : length c.iter.result ≤ c.args.place = missing_past_end c.iter.result c.args.place (sym yielded ∙ ap (option_map (λ x. x.now)) c.in-None.is) in
-    let same : length c.iter.result ≡ length c.self.inside.atoms.keys = ap length c.iter.ensures.rest in
-    omega arith
+pub index-requires : goal.index-requires
+index-requires c =
+    let ks = c.self.inside.atoms.items in
+    let size : len c.args.self.now ≡ length ks = sym (ap len c.self.view_is) ∙ len-from_list ks c.self.invariant in
+    omega (arith, c.self.inside.atoms.ok.0)
 
 pub returns : goal.returns
 returns c =
-    let yielded = nth_from_yields_List c.nth.result c.nth.new.self c.args.place c.nth.ensures.ran (YieldsList-from_rest c.iter.result refl) in
-    let members = items-from_list c.self.inside.atoms.keys c.iter.ensures.ordered in
-    ap (λ s. slice_get (items s) c.args.place) (sym c.self.view_is) ∙ ap (λ xs. slice_get xs c.args.place) (members ∙ sym c.iter.ensures.rest) ∙ sym yielded ∙ ap (option_map (λ x. x.now)) (c.in-Some.is)
+    let ks = c.self.inside.atoms.items in
+    let size : len c.args.self.now ≡ length ks = sym (ap len c.self.view_is) ∙ len-from_list ks c.self.invariant in
+    let found : slice_get ks c.args.place ≡ Some c.index.result.now = slice_get-get_or ks c.args.place c.index.result.now (omega arith) ∙ ap Some (sym c.index.ensures) in
+    ap (λ s. slice_get (items s) c.args.place) (sym c.self.view_is) ∙ ap (λ xs. slice_get xs c.args.place) (items-from_list ks c.self.invariant) ∙ found

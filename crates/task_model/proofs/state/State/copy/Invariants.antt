@@ -1,7 +1,6 @@
-use Rattle.std.proofs.Common.{◌≡◌, map}
-use Rattle.task_model.specs.State.{empty, with_atoms}
+use Rattle.std.proofs.Common.{◌≡◌, take}
 use Rattle.task_model.proofs.state.State.copy.Given as goal
 
 -- the atoms that were passed are in the copy
 abbrev pub invariant-loop-atom : goal.invariant-loop-atom
-invariant-loop-atom l = l.state ≡ with_atoms empty (map (λ atom. atom.now) l.yielded)
+invariant-loop-atom l = l.atoms.items ≡ take l.atom-index l.atom-items
