@@ -79,7 +79,8 @@ places_many names (name ∷ more) objects e =
     let rest = map_some (λ objects. first.0 ∷ objects) (places_of names more) objects first.2 in
     ap length (sym rest.2) ∙ ap suc (places_many names more rest.0 rest.1)
 
-instance_in : (task : Task) (names : List (List ℕ)) (call : Call) (i : Instance) → instance_of task names call ≡ Some i → All (IsIn names) i.inputs
+instance_in : (task : Task) (names : List (List ℕ)) (call : Call) (i : Instance) → instance_of task names call ≡ Some i
+    → All (IsIn names) i.inputs
 instance_in task names call i e =
     let stream = and_then_some (λ stream. option_map (λ inputs. record { stream = stream; inputs = inputs }) (places_of names call.args)) (stream_named task call.name) i e in
     let inputs = map_some (λ inputs. record { stream = stream.0; inputs = inputs }) (places_of names call.args) i stream.2 in
@@ -87,7 +88,8 @@ instance_in task names call i e =
 
 -- ---- requests
 
-call_at : (xs : List Entry) (n : ℕ) (call : Call) → call_of xs n ≡ Some call → (j : ℕ) × (turn : ℕ) × (slice_get xs j ≡ Some (entry.Ask n turn call))
+call_at : (xs : List Entry) (n : ℕ) (call : Call) → call_of xs n ≡ Some call
+    → (j : ℕ) × (turn : ℕ) × (slice_get xs j ≡ Some (entry.Ask n turn call))
 call_at [] n call e = absurd (cc)
 call_at (entry.Ask number turn c ∷ xs) n call e =
     elim (n == number) as (λ b. (n == number) ≡ b → option_or (cond b (Some c) None) (call_of xs n) ≡ Some call → (j : ℕ) × (t : ℕ) × (slice_get (entry.Ask number turn c ∷ xs) j ≡ Some (entry.Ask n t call))) [
@@ -96,7 +98,8 @@ call_at (entry.Ask number turn c ∷ xs) n call e =
     ] refl e
 call_at (x ∷ xs) n call e = let r = call_at xs n call e in (suc r.0, r.1, r.2)
 
-asked_streamed : (task : Task) (i : Instance) (a : Asked) → asked_of task i ≡ Some a → (slice_get task.streams a.instance.stream ≡ Some a.stream) × (i ≡ a.instance)
+asked_streamed : (task : Task) (i : Instance) (a : Asked) → asked_of task i ≡ Some a
+    → (slice_get task.streams a.instance.stream ≡ Some a.stream) × (i ≡ a.instance)
 asked_streamed task i a e =
     let stream = map_some (λ stream. record { stream = stream; instance = i }) (slice_get task.streams i.stream) a e in
     (subst (λ (x : Asked). slice_get task.streams x.instance.stream ≡ Some x.stream) stream.2 stream.1, ap (λ (x : Asked). x.instance) stream.2)
@@ -117,7 +120,10 @@ module _ (version : ℕ) (task : Task) (entries : List Entry) (fit : IsFit task)
       let typed : have_types (known_of task (take at.0 entries)) right.instance.inputs right.due.stream.inputs ≡ true = first_so (have_types (known_of task (take at.0 entries)) right.instance.inputs right.due.stream.inputs) _ right.due.reachable in
       record {
         streamed = streamed.0;
-        many = (λ i. length (sym same i).inputs) ∙ have_types-length (known_of task (take at.0 entries)) right.instance.inputs right.due.stream.inputs typed ∙ ap (λ (s : Stream). length s.inputs) same_stream;
+        many =
+            (λ i. length (sym same i).inputs)
+                ∙ have_types-length (known_of task (take at.0 entries)) right.instance.inputs right.due.stream.inputs typed
+                ∙ ap (λ (s : Stream). length s.inputs) same_stream;
         named = subst (λ (x : Instance). All (IsIn (names_of task entries)) x.inputs) streamed.1 (instance_in task (names_of task entries) call.0 whole.0 call.2);
       }
 
@@ -126,13 +132,16 @@ module _ (version : ℕ) (task : Task) (entries : List Entry) (fit : IsFit task)
       let front = with_names-front (declared_names task) (flat_map objects_in entries) in
       omega (arith, ap length front.1, length-append (declared_names task) front.0, length-map task.problem.objects (λ (d : Declared). d.name))
 
-  tuple_named : (a : Asked) (tuple : List (List ℕ)) → IsAsked task (names_of task entries) a → length tuple ≡ length a.stream.outputs → AreNamed (names_of task entries) tuple → All (IsNamed (names_of task entries)) (tuple_facts task (names_of task entries) a tuple)
+  tuple_named : (a : Asked) (tuple : List (List ℕ)) → IsAsked task (names_of task entries) a → length tuple ≡ length a.stream.outputs
+      → AreNamed (names_of task entries) tuple → All (IsNamed (names_of task entries)) (tuple_facts task (names_of task entries) a tuple)
   tuple_named a tuple is many named =
       let places = named_places (names_of task entries) tuple named in
       let as_many : length places.0 ≡ length a.stream.outputs = places_many (names_of task entries) (map generated tuple) places.0 places.1 ∙ length-map tuple generated ∙ many in
       rw places.1 (certified_named (names_of task entries) task a.stream a.instance.inputs places.0 fit (fit_stream_at task a.instance.stream a.stream fit is.streamed) enough is.many as_many is.named (places_in (names_of task entries) (map generated tuple) places.0 places.1))
 
-  yield_named : (a : Asked) (width tuples : ℕ) (values : List (List ℕ)) → IsAsked task (names_of task entries) a → width ≡ length a.stream.outputs → length values ≡ tuples * width → AreNamed (names_of task entries) values → All (IsNamed (names_of task entries)) (flat_map (tuple_facts task (names_of task entries) a) (tuples_in width tuples values))
+  yield_named : (a : Asked) (width tuples : ℕ) (values : List (List ℕ)) → IsAsked task (names_of task entries) a
+      → width ≡ length a.stream.outputs → length values ≡ tuples * width → AreNamed (names_of task entries) values
+      → All (IsNamed (names_of task entries)) (flat_map (tuple_facts task (names_of task entries) a) (tuples_in width tuples values))
   yield_named a width zero values is same many named = All-nil (IsNamed (names_of task entries))
   yield_named a width (suc tuples) values is same many named =
       let parts : take width values ++ drop width values ≡ values = take-append-drop width values in
@@ -146,7 +155,8 @@ module _ (version : ℕ) (task : Task) (entries : List Entry) (fit : IsFit task)
   certified_each : (k : ℕ) (e : Entry) → slice_get entries k ≡ Some e → All (IsNamed (names_of task entries)) (certified task entries e)
   certified_each k (entry.Got n tuples values) at = got (legal k (entry.Got n tuples values) at)
     where
-      got : IsRightGot version task (take k entries) n tuples values → All (IsNamed (names_of task entries)) (certified task entries (entry.Got n tuples values))
+      got : IsRightGot version task (take k entries) n tuples values
+          → All (IsNamed (names_of task entries)) (certified task entries (entry.Got n tuples values))
       got right =
           let was = asked-later task entries k n right.request right.of in
           rw was (yield_named right.request (length right.request.stream.outputs) tuples values (asked_is n right.request was) refl right.right.count (values_named task entries k n tuples values fit.problem.objects.names.distinct at))
@@ -155,11 +165,13 @@ module _ (version : ℕ) (task : Task) (entries : List Entry) (fit : IsFit task)
   told_each : (k : ℕ) (e : Entry) → slice_get entries k ≡ Some e → All (λ (v : Valued). v.value ≤ 1000000) (told_value task entries e)
   told_each k (entry.Value n value) at = told (legal k (entry.Value n value) at)
     where
-      worth_small : (s : Stream) (inputs : List ℕ) (w : Option Worth) → s.worth ≡ w → value ≤ 1000000 → All (λ (v : Valued). v.value ≤ 1000000) (worth_by s inputs value)
+      worth_small : (s : Stream) (inputs : List ℕ) (w : Option Worth) → s.worth ≡ w → value ≤ 1000000
+          → All (λ (v : Valued). v.value ≤ 1000000) (worth_by s inputs value)
       worth_small s inputs None e few = rw e (All-nil (λ (v : Valued). v.value ≤ 1000000))
       worth_small s inputs (Some w) e few = rw e (all_one (λ (v : Valued). v.value ≤ 1000000) _ few)
 
-      told : IsRightValue task (take k entries) n value → All (λ (v : Valued). v.value ≤ 1000000) (told_value task entries (entry.Value n value))
+      told : IsRightValue task (take k entries) n value
+          → All (λ (v : Valued). v.value ≤ 1000000) (told_value task entries (entry.Value n value))
       told right = rw (asked-later task entries k n right.request right.of) (worth_small right.request.stream right.request.instance.inputs right.request.stream.worth refl right.few)
   told_each k e at = All-nil (λ (v : Valued). v.value ≤ 1000000)
 

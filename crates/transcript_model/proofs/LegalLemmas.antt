@@ -22,7 +22,9 @@ grows version task entries = record {
   last = λ e legal. subst (λ before. MayFollow version task before e) (take-append_seam entries (e ∷ [])) (legal (length entries) e (get_at_length entries e));
 }
   where
-    next : (e : Entry) → IsLegal version task entries → MayFollow version task entries e → (k : ℕ) (x : Entry) → slice_get (entries ++ e ∷ []) k ≡ Some x → (slice_get entries k ≡ Some x) ⊎ ((k ≡ length entries) × (x ≡ e)) → MayFollow version task (take k (entries ++ e ∷ [])) x
+    next : (e : Entry) → IsLegal version task entries → MayFollow version task entries e → (k : ℕ) (x : Entry)
+        → slice_get (entries ++ e ∷ []) k ≡ Some x → (slice_get entries k ≡ Some x) ⊎ ((k ≡ length entries) × (x ≡ e))
+        → MayFollow version task (take k (entries ++ e ∷ [])) x
     next e legal may k x at (inl there) =
         let below = slice_get_within entries k x there in
         subst (λ before. MayFollow version task before x) (sym (take-append-le k entries (e ∷ []) (omega arith))) (legal k x there)
@@ -32,7 +34,8 @@ grows version task entries = record {
 
 -- ---- every number up to the count was asked
 
-nth_request : (xs : List Entry) (m : ℕ) → m < asks_of xs → (j : ℕ) × (n : ℕ) × (turn : ℕ) × (call : Call) × (slice_get xs j ≡ Some (entry.Ask n turn call)) × (asks_of (take j xs) ≡ m)
+nth_request : (xs : List Entry) (m : ℕ) → m < asks_of xs
+    → (j : ℕ) × (n : ℕ) × (turn : ℕ) × (call : Call) × (slice_get xs j ≡ Some (entry.Ask n turn call)) × (asks_of (take j xs) ≡ m)
 nth_request [] m lt = absurd (omega arith)
 nth_request (entry.Ask n turn call ∷ xs) zero lt = (0, n, turn, call, refl, refl)
 nth_request (entry.Ask n turn call ∷ xs) (suc m) lt =
@@ -42,7 +45,8 @@ nth_request (entry.Ask n turn call ∷ xs) (suc m) lt =
     (suc r.0, r.1, r.2, r.3, r.4, omega (arith, asks_more (first ∷ []) (take r.0 xs), r.5))
 nth_request (x ∷ xs) m lt = let r = nth_request xs m lt in (suc r.0, r.1, r.2, r.3, r.4, r.5)
 
-pub request_asks : (version : ℕ) (task : Task) (entries : List Entry) (n : ℕ) → IsLegal version task entries → 0 < n → n < asks_of entries + 1 → (a : Asked) × (asked task entries n ≡ Some a)
+pub request_asks : (version : ℕ) (task : Task) (entries : List Entry) (n : ℕ) → IsLegal version task entries → 0 < n
+    → n < asks_of entries + 1 → (a : Asked) × (asked task entries n ≡ Some a)
 request_asks version task entries n legal some most = from n some most
   where
     from : (n : ℕ) → 0 < n → n < asks_of entries + 1 → (a : Asked) × (asked task entries n ≡ Some a)

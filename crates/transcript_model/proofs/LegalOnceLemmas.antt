@@ -70,7 +70,9 @@ pub record IsTold (before after : List Note) (i : Instance) (told : Bool) : Type
 
 module _ (version : ℕ) (task : Task) (distinct : AreDistinct (declared_names task)) where
   -- an answer tells its request's instance
-  told_by : (before later : List Entry) (e : Entry) (n : ℕ) (a : Asked) → IsLegal version task (before ++ e ∷ later) → MayFollow version task before e → is_answer_to n e ≡ true → asked task before n ≡ Some a → (told : Bool) × IsTold (notes_of task before) (notes_of task (before ++ e ∷ later)) a.instance told
+  told_by : (before later : List Entry) (e : Entry) (n : ℕ) (a : Asked) → IsLegal version task (before ++ e ∷ later)
+      → MayFollow version task before e → is_answer_to n e ≡ true → asked task before n ≡ Some a
+      → (told : Bool) × IsTold (notes_of task before) (notes_of task (before ++ e ∷ later)) a.instance told
   told_by before later e n a legal may answers was =
       let one = legal_front version task (before ++ e ∷ []) later (subst (IsLegal version task) (joined before later e) legal) in
       let front = legal_front version task before (e ∷ []) one in
@@ -78,13 +80,16 @@ module _ (version : ℕ) (task : Task) (distinct : AreDistinct (declared_names t
       let whole : notes_of task (before ++ e ∷ later) ≡ notes_with (notes_of task before) a e ++ flat_map (note_of task ((before ++ e ∷ []) ++ later)) later = ap (notes_of task) (joined before later e) ∙ (longer version task (before ++ e ∷ []) later distinct one).notes ∙ ap (λ ns. ns ++ flat_map (note_of task ((before ++ e ∷ []) ++ later)) later) here.notes in
       by_kind e may answers (flat_map (note_of task ((before ++ e ∷ []) ++ later)) later) whole
     where
-      ended : (rest : List Note) (after : List Note) → after ≡ (notes_of task before ++ Ended a.instance ∷ []) ++ rest → list_any (is_end_of a.instance) after ≡ true
+      ended : (rest : List Note) (after : List Note) → after ≡ (notes_of task before ++ Ended a.instance ∷ []) ++ rest
+          → list_any (is_end_of a.instance) after ≡ true
       ended rest after is =
           let last : list_any (is_end_of a.instance) (Ended a.instance ∷ []) ≡ true = rw (instance_itself a.instance) refl in
           let before_rest : list_any (is_end_of a.instance) (notes_of task before ++ Ended a.instance ∷ []) ≡ true = rw (list_any-append (is_end_of a.instance) (notes_of task before) (Ended a.instance ∷ []), last) (or_true (list_any (is_end_of a.instance) (notes_of task before))) in
           rw (is, list_any-append (is_end_of a.instance) (notes_of task before ++ Ended a.instance ∷ []) rest, before_rest) refl
 
-      by_kind : (e : Entry) → MayFollow version task before e → is_answer_to n e ≡ true → (rest : List Note) → notes_of task (before ++ e ∷ later) ≡ notes_with (notes_of task before) a e ++ rest → (told : Bool) × IsTold (notes_of task before) (notes_of task (before ++ e ∷ later)) a.instance told
+      by_kind : (e : Entry) → MayFollow version task before e → is_answer_to n e ≡ true → (rest : List Note)
+          → notes_of task (before ++ e ∷ later) ≡ notes_with (notes_of task before) a e ++ rest
+          → (told : Bool) × IsTold (notes_of task before) (notes_of task (before ++ e ∷ later)) a.instance told
       by_kind (entry.Got m tuples values) may answers rest whole =
           let more : yields_of (notes_of task (before ++ entry.Got m tuples values ∷ later)) a.instance ≡ yields_of (notes_of task before) a.instance + yields_of (replicate tuples (Yielded a.instance)) a.instance + yields_of rest a.instance =
           ap (λ ns. yields_of ns a.instance) whole ∙ yields_more (notes_of task before ++ replicate tuples (Yielded a.instance)) rest a.instance ∙ ap (λ y. y + yields_of rest a.instance) (yields_more (notes_of task before) (replicate tuples (Yielded a.instance)) a.instance) in
@@ -94,7 +99,9 @@ module _ (version : ℕ) (task : Task) (distinct : AreDistinct (declared_names t
       by_kind e may answers rest whole = absurd (cc)
 
   -- what the request at a place asks, by the names before it
-  asked_from : (entries : List Entry) (j n turn : ℕ) (call : Call) (i : Instance) → IsLegal version task entries → slice_get entries j ≡ Some (entry.Ask n turn call) → instance_of task (names_of task (take j entries)) call ≡ Some i → (stream : Stream) × (asked task entries n ≡ Some (record { stream = stream; instance = i }))
+  asked_from : (entries : List Entry) (j n turn : ℕ) (call : Call) (i : Instance) → IsLegal version task entries
+      → slice_get entries j ≡ Some (entry.Ask n turn call) → instance_of task (names_of task (take j entries)) call ≡ Some i
+      → (stream : Stream) × (asked task entries n ≡ Some (record { stream = stream; instance = i }))
   asked_from entries j n turn call i legal at named =
       let early = take j entries in
       let right : IsRightAsk task early n turn call = legal j (entry.Ask n turn call) at in
@@ -108,14 +115,17 @@ module _ (version : ℕ) (task : Task) (distinct : AreDistinct (declared_names t
       (right.due.stream, subst (λ es. asked task es n ≡ Some (record { stream = right.due.stream; instance = i })) whole kept)
 
   -- a transcript has told an instance at least as many tuples as its front
-  yields_rise : (entries : List Entry) (j : ℕ) (i : Instance) → IsLegal version task entries → yields_of (notes_of task (take j entries)) i ≤ yields_of (notes_of task entries) i
+  yields_rise : (entries : List Entry) (j : ℕ) (i : Instance) → IsLegal version task entries
+      → yields_of (notes_of task (take j entries)) i ≤ yields_of (notes_of task entries) i
   yields_rise entries j i legal =
       let c = longer version task (take j entries) (drop j entries) distinct (legal_take version task entries j legal) in
       let whole : notes_of task entries ≡ notes_of task (take j entries) ++ flat_map (note_of task (take j entries ++ drop j entries)) (drop j entries) = ap (notes_of task) (sym (take-append-drop j entries)) ∙ c.notes in
       omega (arith, ap (λ ns. yields_of ns i) whole, yields_more (notes_of task (take j entries)) (flat_map (note_of task (take j entries ++ drop j entries)) (drop j entries)) i)
 
   -- the answer to a request that isn't open comes behind it, and has told its instance
-  told_since : (entries : List Entry) (j n turn : ℕ) (call : Call) (i : Instance) → IsLegal version task entries → slice_get entries j ≡ Some (entry.Ask n turn call) → instance_of task (names_of task (take j entries)) call ≡ Some i → is_open entries n ≡ false → (told : Bool) × IsTold (notes_of task (take j entries)) (notes_of task entries) i told
+  told_since : (entries : List Entry) (j n turn : ℕ) (call : Call) (i : Instance) → IsLegal version task entries
+      → slice_get entries j ≡ Some (entry.Ask n turn call) → instance_of task (names_of task (take j entries)) call ≡ Some i
+      → is_open entries n ≡ false → (told : Bool) × IsTold (notes_of task (take j entries)) (notes_of task entries) i told
   told_since entries j n turn call i legal there named closed =
       let asks : list_any (is_ask_of n) entries ≡ true = any_passes_from_place (is_ask_of n) entries j (entry.Ask n turn call) there (eq-eqb n n refl) in
       let at = any_found (is_answer_to n) entries (answers (list_any (is_ask_of n) entries) (list_any (is_answer_to n) entries) asks closed) in
@@ -142,7 +152,10 @@ module _ (version : ℕ) (task : Task) (distinct : AreDistinct (declared_names t
       answers false answer a c = absurd (cc)
 
   -- the request at an earlier place keeps a later one from asking the same
-  pub not_again : (entries : List Entry) (j k n m turn : ℕ) (call again : Call) (i : Instance) → IsLegal version task entries → slice_get entries j ≡ Some (entry.Ask n turn call) → slice_get entries k ≡ Some (entry.Ask m turn again) → instance_of task (names_of task (take j entries)) call ≡ Some i → instance_of task (names_of task (take k entries)) again ≡ Some i → j < k → ⊥
+  pub not_again : (entries : List Entry) (j k n m turn : ℕ) (call again : Call) (i : Instance) → IsLegal version task entries
+      → slice_get entries j ≡ Some (entry.Ask n turn call) → slice_get entries k ≡ Some (entry.Ask m turn again)
+      → instance_of task (names_of task (take j entries)) call ≡ Some i → instance_of task (names_of task (take k entries)) again ≡ Some i
+      → j < k → ⊥
   not_again entries j k n m turn call again i legal first second named renamed lt =
       let before = take k entries in
       let legal_before = legal_take version task entries k legal in
@@ -167,7 +180,10 @@ module _ (version : ℕ) (task : Task) (distinct : AreDistinct (declared_names t
             absurd (cc)
       ] told.1
 
-  pub not_twice : (entries : List Entry) (j k n m turn : ℕ) (call again : Call) (i : Instance) → IsLegal version task entries → slice_get entries j ≡ Some (entry.Ask n turn call) → slice_get entries k ≡ Some (entry.Ask m turn again) → instance_of task (names_of task (take j entries)) call ≡ Some i → instance_of task (names_of task (take k entries)) again ≡ Some i → j ≡ k
+  pub not_twice : (entries : List Entry) (j k n m turn : ℕ) (call again : Call) (i : Instance) → IsLegal version task entries
+      → slice_get entries j ≡ Some (entry.Ask n turn call) → slice_get entries k ≡ Some (entry.Ask m turn again)
+      → instance_of task (names_of task (take j entries)) call ≡ Some i → instance_of task (names_of task (take k entries)) again ≡ Some i
+      → j ≡ k
   not_twice entries j k n m turn call again i legal first second named renamed =
       elim (cases_order j k) [
         | inl same ↦ same

@@ -48,7 +48,8 @@ no_true_false b t f = absurd (cc)
 module _ (version : ℕ) (task : Task) (before : List Entry) (distinct : AreDistinct (declared_names task)) (legal : IsLegal version task before) where
   -- ---- marks
 
-  same_known : (e : Entry) → objects_in e ≡ [] → certified task (before ++ e ∷ []) e ≡ [] → told_value task (before ++ e ∷ []) e ≡ [] → note_of task (before ++ e ∷ []) e ≡ [] → ChangesNothing task before (before ++ e ∷ [])
+  same_known : (e : Entry) → objects_in e ≡ [] → certified task (before ++ e ∷ []) e ≡ [] → told_value task (before ++ e ∷ []) e ≡ []
+      → note_of task (before ++ e ∷ []) e ≡ [] → ChangesNothing task before (before ++ e ∷ [])
   same_known e names facts values notes =
       let c = longer version task before (e ∷ []) distinct legal in
       let same_names : names_of task (before ++ e ∷ []) ≡ names_of task before = c.names ∙ ap (λ ns. with_names (names_of task before) (ns ++ [])) names in
@@ -121,7 +122,10 @@ module _ (version : ℕ) (task : Task) (before : List Entry) (distinct : AreDist
 
   -- ---- requests
 
-  pub request_adds : (number turn : ℕ) (call : Call) (stream : Stream) (i : Instance) → IsRightAsk task before number turn call → list_any (is_ask_of number) before ≡ false → instance_of task (names_of task before) call ≡ Some i → slice_get task.streams i.stream ≡ Some stream → AddsRequest task before (before ++ entry.Ask number turn call ∷ []) number (record { stream = stream; instance = i })
+  pub request_adds : (number turn : ℕ) (call : Call) (stream : Stream) (i : Instance) → IsRightAsk task before number turn call
+      → list_any (is_ask_of number) before ≡ false → instance_of task (names_of task before) call ≡ Some i
+      → slice_get task.streams i.stream ≡ Some stream
+      → AddsRequest task before (before ++ entry.Ask number turn call ∷ []) number (record { stream = stream; instance = i })
   request_adds number turn call stream i right fresh named there =
       let e = entry.Ask number turn call in
       let same = same_known e refl refl refl refl in
@@ -155,7 +159,8 @@ module _ (version : ℕ) (task : Task) (before : List Entry) (distinct : AreDist
                 | false ↦ λ _. refl
               ] refl
 
-          open_or : (ask answer this : Bool) → (this ≡ true → answer ≡ false) → ((ask || this) && not answer) ≡ ((ask && not answer) || this)
+          open_or : (ask answer this : Bool) → (this ≡ true → answer ≡ false)
+              → ((ask || this) && not answer) ≡ ((ask && not answer) || this)
           open_or true true true only = no_true_false _ (sym (only refl)) refl
           open_or true true false only = refl
           open_or true false true only = refl
@@ -167,7 +172,8 @@ module _ (version : ℕ) (task : Task) (before : List Entry) (distinct : AreDist
 
   -- ---- answers
 
-  answer_open : (e : Entry) (n number : ℕ) → is_ask_of n e ≡ false → is_answer_to n e ≡ (n == number) → is_open (before ++ e ∷ []) n ≡ (is_open before n && not (n == number))
+  answer_open : (e : Entry) (n number : ℕ) → is_ask_of n e ≡ false → is_answer_to n e ≡ (n == number)
+      → is_open (before ++ e ∷ []) n ≡ (is_open before n && not (n == number))
   answer_open e n number ask answer =
       rw (list_any-append (is_ask_of n) before (e ∷ []), list_any-append (is_answer_to n) before (e ∷ []), ask, answer, or_false (list_any (is_ask_of n) before), or_false (n == number)) (open_not (list_any (is_ask_of n) before) (list_any (is_answer_to n) before) (n == number))
     where
@@ -225,7 +231,9 @@ module _ (version : ℕ) (task : Task) (before : List Entry) (distinct : AreDist
         }
 
     pub answer_adds : (e : Entry) → is_answer_to number e ≡ true → AddsAnswer task before e number a
-    answer_adds (entry.Got n tuples values) same = subst (λ m. AddsAnswer task before (entry.Got m tuples values) number a) (eqb-true number n same) (got_adds tuples values)
-    answer_adds (entry.Value n value) same = subst (λ m. AddsAnswer task before (entry.Value m value) number a) (eqb-true number n same) (value_adds value)
+    answer_adds (entry.Got n tuples values) same =
+        subst (λ m. AddsAnswer task before (entry.Got m tuples values) number a) (eqb-true number n same) (got_adds tuples values)
+    answer_adds (entry.Value n value) same =
+        subst (λ m. AddsAnswer task before (entry.Value m value) number a) (eqb-true number n same) (value_adds value)
     answer_adds (entry.End n) same = subst (λ m. AddsAnswer task before (entry.End m) number a) (eqb-true number n same) end_adds
     answer_adds e same = absurd (cc)

@@ -20,7 +20,8 @@ use Rattle.lemmas.proofs.Numbers.{suc_same}
 
 -- ---- options
 
-pub and_then_some : {A B : Type 0} (f : A → Option B) (o : Option A) (b : B) → option_and_then f o ≡ Some b → (a : A) × (o ≡ Some a) × (f a ≡ Some b)
+pub and_then_some : {A B : Type 0} (f : A → Option B) (o : Option A) (b : B) → option_and_then f o ≡ Some b
+    → (a : A) × (o ≡ Some a) × (f a ≡ Some b)
 and_then_some f None b e = absurd (cc)
 and_then_some f (Some a) b e = (a, refl, e)
 
@@ -32,7 +33,8 @@ map_some f (Some a) b e = (a, refl, cc)
 
 -- ---- positions
 
-from_kept : {A : Type 0} (p : A → Bool) (i : ℕ) (xs ys : List A) (k : ℕ) → position_from p i xs ≡ Some k → position_from p i (xs ++ ys) ≡ Some k
+from_kept : {A : Type 0} (p : A → Bool) (i : ℕ) (xs ys : List A) (k : ℕ) → position_from p i xs ≡ Some k
+    → position_from p i (xs ++ ys) ≡ Some k
 from_kept p i [] ys k e = absurd (cc)
 from_kept p i (x ∷ xs) ys k e =
     elim (p x) as (λ b. cond b (Some i) (position_from p (i + 1) xs) ≡ Some k → cond b (Some i) (position_from p (i + 1) (xs ++ ys)) ≡ Some k) [
@@ -40,7 +42,8 @@ from_kept p i (x ∷ xs) ys k e =
       | false ↦ λ h. from_kept p (i + 1) xs ys k h
     ] e
 
-from_at : {A : Type 0} (p : A → Bool) (i : ℕ) (xs : List A) (k : ℕ) → position_from p i xs ≡ Some k → (j : ℕ) × (x : A) × (k ≡ i + j) × (slice_get xs j ≡ Some x) × (p x ≡ true)
+from_at : {A : Type 0} (p : A → Bool) (i : ℕ) (xs : List A) (k : ℕ) → position_from p i xs ≡ Some k
+    → (j : ℕ) × (x : A) × (k ≡ i + j) × (slice_get xs j ≡ Some x) × (p x ≡ true)
 from_at p i [] k e = absurd (cc)
 from_at p i (x ∷ xs) k e =
     elim (p x) as (λ b. p x ≡ b → cond b (Some i) (position_from p (i + 1) xs) ≡ Some k → (j : ℕ) × (y : _) × (k ≡ i + j) × (slice_get (x ∷ xs) j ≡ Some y) × (p y ≡ true)) [
@@ -49,7 +52,8 @@ from_at p i (x ∷ xs) k e =
     ] refl e
 
 -- the only place that passes is found
-from_only : {A : Type 0} (p : A → Bool) (i : ℕ) (xs : List A) (j : ℕ) (x : A) → slice_get xs j ≡ Some x → p x ≡ true → ((m : ℕ) (y : A) → slice_get xs m ≡ Some y → p y ≡ true → m ≡ j) → position_from p i xs ≡ Some (i + j)
+from_only : {A : Type 0} (p : A → Bool) (i : ℕ) (xs : List A) (j : ℕ) (x : A) → slice_get xs j ≡ Some x → p x ≡ true
+    → ((m : ℕ) (y : A) → slice_get xs m ≡ Some y → p y ≡ true → m ≡ j) → position_from p i xs ≡ Some (i + j)
 from_only p i [] j x e t only = absurd (cc)
 from_only p i (z ∷ zs) zero x e t only =
     let same : z ≡ x = cc in let here : p z ≡ true = ap p same ∙ t in let none : i ≡ i + 0 = omega arith in
@@ -63,21 +67,25 @@ from_only p i (z ∷ zs) (suc j) x e t only =
 pub position_kept : {A : Type 0} (p : A → Bool) (xs ys : List A) (k : ℕ) → position p xs ≡ Some k → position p (xs ++ ys) ≡ Some k
 position_kept p xs ys k e = position_from-zero p (xs ++ ys) ∙ from_kept p 0 xs ys k (sym (position_from-zero p xs) ∙ e)
 
-pub position_at : {A : Type 0} (p : A → Bool) (xs : List A) (k : ℕ) → position p xs ≡ Some k → (x : A) × (slice_get xs k ≡ Some x) × (p x ≡ true)
+pub position_at : {A : Type 0} (p : A → Bool) (xs : List A) (k : ℕ) → position p xs ≡ Some k
+    → (x : A) × (slice_get xs k ≡ Some x) × (p x ≡ true)
 position_at p xs k e =
     let r = from_at p 0 xs k (sym (position_from-zero p xs) ∙ e) in
     let same : r.0 ≡ k = omega (arith, r.2) in
     (r.1, subst (λ j. slice_get xs j ≡ Some r.1) same r.3, r.4)
 
-pub position_only : {A : Type 0} (p : A → Bool) (xs : List A) (j : ℕ) (x : A) → slice_get xs j ≡ Some x → p x ≡ true → ((m : ℕ) (y : A) → slice_get xs m ≡ Some y → p y ≡ true → m ≡ j) → position p xs ≡ Some j
-position_only p xs j x e t only = let none : 0 + j ≡ j = omega arith in position_from-zero p xs ∙ from_only p 0 xs j x e t only ∙ ap Some none
+pub position_only : {A : Type 0} (p : A → Bool) (xs : List A) (j : ℕ) (x : A) → slice_get xs j ≡ Some x → p x ≡ true
+    → ((m : ℕ) (y : A) → slice_get xs m ≡ Some y → p y ≡ true → m ≡ j) → position p xs ≡ Some j
+position_only p xs j x e t only =
+    let none : 0 + j ≡ j = omega arith in position_from-zero p xs ∙ from_only p 0 xs j x e t only ∙ ap Some none
 
 -- ---- names
 
 pub place_at : (names : List (List ℕ)) (name : List ℕ) (k : ℕ) → place_of names name ≡ Some k → slice_get names k ≡ Some name
 place_at names name k e = let r = position_at (same_numbers name) names k e in r.1 ∙ ap Some (sym ((numbers_decided name r.0).0 r.2))
 
-pub place_only : (names : List (List ℕ)) (name : List ℕ) (k : ℕ) → AreDistinct names → slice_get names k ≡ Some name → place_of names name ≡ Some k
+pub place_only : (names : List (List ℕ)) (name : List ℕ) (k : ℕ) → AreDistinct names → slice_get names k ≡ Some name
+    → place_of names name ≡ Some k
 place_only names name k distinct at = position_only (same_numbers name) names k name at ((numbers_decided name name).1 refl) (λ m y there same. distinct m k name (there ∙ ap Some (sym ((numbers_decided name y).0 same))) at)
 
 -- names behind the others leave them in front
@@ -140,19 +148,22 @@ with_names-has names (first ∷ more) name m =
     has first e = subst (λ n. Contains (with_name names first) n) e (in_one names first)
 
 -- a name of the table has a place
-pub place_found : (names : List (List ℕ)) (name : List ℕ) → AreDistinct names → Contains names name → (k : ℕ) × (place_of names name ≡ Some k)
+pub place_found : (names : List (List ℕ)) (name : List ℕ) → AreDistinct names → Contains names name
+    → (k : ℕ) × (place_of names name ≡ Some k)
 place_found names name distinct m = let at = place_in names name m in (at.0, place_only names name at.0 distinct at.1)
 
 -- ---- many places
 
-pub places_kept : (names added more : List (List ℕ)) (places : List ℕ) → places_of names more ≡ Some places → places_of (names ++ added) more ≡ Some places
+pub places_kept : (names added more : List (List ℕ)) (places : List ℕ) → places_of names more ≡ Some places
+    → places_of (names ++ added) more ≡ Some places
 places_kept names added [] places e = e
 places_kept names added (name ∷ more) places e =
     let first = and_then_some (λ object. option_map (λ objects. object ∷ objects) (places_of names more)) (place_of names name) places e in
     let rest = map_some (λ objects. first.0 ∷ objects) (places_of names more) places first.2 in
     rw (position_kept (same_numbers name) names added first.0 first.1, places_kept names added more rest.0 rest.1) (ap Some rest.2)
 
-pub instance_kept : (task : Task) (names added : List (List ℕ)) (call : Call) (i : Instance) → instance_of task names call ≡ Some i → instance_of task (names ++ added) call ≡ Some i
+pub instance_kept : (task : Task) (names added : List (List ℕ)) (call : Call) (i : Instance) → instance_of task names call ≡ Some i
+    → instance_of task (names ++ added) call ≡ Some i
 instance_kept task names added call i e =
     let stream = and_then_some (λ stream. option_map (λ inputs. record { stream = stream; inputs = inputs }) (places_of names call.args)) (stream_named task call.name) i e in
     let inputs = map_some (λ inputs. record { stream = stream.0; inputs = inputs }) (places_of names call.args) i stream.2 in

@@ -11,7 +11,8 @@ use Rattle.transcript_model.specs.Transcript.{names_of, notes_of}
 use Rattle.transcript_model.specs.declared.entry.Entry.{Entry}
 use Rattle.transcript_model.specs.declared.entry.Entry.TheVariants as entry
 
-pub requests_asks : (task : Task) (before : List Entry) (number : ℕ) (round : List Instance) → asks_of (requests_from task before number round) ≡ length round
+pub requests_asks : (task : Task) (before : List Entry) (number : ℕ) (round : List Instance)
+    → asks_of (requests_from task before number round) ≡ length round
 requests_asks task before number [] = refl
 requests_asks task before number (i ∷ is) =
     omega (arith, asks_more (entry.Ask number (yields_of (notes_of task before) i) (call_of_instance task (names_of task before) i) ∷ []) (requests_from task before (number + 1) is), requests_asks task before (number + 1) is)
@@ -32,4 +33,5 @@ pub answers_asks : (number n : ℕ) (es : List Entry) → AreAnswers number n es
 answers_asks number zero [] are = refl
 answers_asks number zero (e ∷ es) are = absurd are
 answers_asks number (suc n) [] are = absurd are
-answers_asks number (suc n) (e ∷ es) are = asks_more (e ∷ []) es ∙ (λ k. answer_asks number e are.0 k + answers_asks (number + 1) n es are.1 k)
+answers_asks number (suc n) (e ∷ es) are =
+    asks_more (e ∷ []) es ∙ (λ k. answer_asks number e are.0 k + answers_asks (number + 1) n es are.1 k)

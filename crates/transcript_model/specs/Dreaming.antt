@@ -31,7 +31,8 @@ pub record MoreAreSupposed (most : ℕ) (task : Task) (known : Known) (notes : L
   pub next : List Instance
   pub distinct : AreDistinct next
   pub due : (i : Instance) → Contains next i → IsDue task (supposing task known list list) notes i
-  pub new : (i : Instance) → Contains next i → (list_any (same_instance i) tried ≡ false) × (list_any (same_instance i) (instances_of list) ≡ false)
+  pub new : (i : Instance) → Contains next i
+      → (list_any (same_instance i) tried ≡ false) × (list_any (same_instance i) (instances_of list) ≡ false)
   pub many : most < length list + length next
 
 module _ (limits : Limits) (task : Task) (before : List Entry) (tried : List Instance) where
@@ -65,7 +66,8 @@ pub record Sent : Type 0 where
 
 -- the objects of the first tuple, if the entry is a yield that answers this request
 abbrev pub tuple_in : Task → List Entry → ℕ → ℕ → Entry → Option (List ℕ)
-tuple_in task entries n width (entry.Got number tuples values) = if n == number then places_of (names_of task entries) (map generated (take width values)) else None
+tuple_in task entries n width (entry.Got number tuples values) =
+    if n == number then places_of (names_of task entries) (map generated (take width values)) else None
 tuple_in task entries n width e = None
 
 -- the objects that this request's answer gave for its entry's placeholders
@@ -74,7 +76,8 @@ first_tuple task entries s = slice_get (filter_map (tuple_in task entries s.numb
 
 -- the object in the place of this placeholder
 abbrev pub paired : List ℕ → List ℕ → ℕ → Option ℕ
-paired (output ∷ outputs) (object ∷ objects) placeholder = if output == placeholder then Some object else paired outputs objects placeholder
+paired (output ∷ outputs) (object ∷ objects) placeholder =
+    if output == placeholder then Some object else paired outputs objects placeholder
 paired [] objects placeholder = None
 paired (output ∷ outputs) [] placeholder = None
 
@@ -86,7 +89,8 @@ module _ (task : Task) (entries : List Entry) (real : ℕ) where
 
   abbrev pub all_replaced : List Sent → List ℕ → Option (List ℕ)
   all_replaced sent [] = Some []
-  all_replaced sent (o ∷ os) = option_and_then (λ object. option_map (λ objects. object ∷ objects) (all_replaced sent os)) (replaced sent o)
+  all_replaced sent (o ∷ os) =
+      option_and_then (λ object. option_map (λ objects. object ∷ objects) (all_replaced sent os)) (replaced sent o)
 
   -- the instance that an entry has become, where all its inputs are real
   abbrev pub become : List Sent → dreams.Entry → Option Instance

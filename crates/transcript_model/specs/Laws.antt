@@ -21,7 +21,9 @@ use Rattle.transcript_model.specs.declared.entry.Entry.TheVariants as entry
 
 -- In a table of distinct names these objects, and no others, have these names.
 abbrev pub PlacesAreExact : Type 0
-PlacesAreExact = (names more : List (List ℕ)) (objects : List ℕ) → AreDistinct names → (places_of names more ≡ Some objects) ↔ (map (slice_get names) objects ≡ map Some more)
+PlacesAreExact =
+    (names more : List (List ℕ)) (objects : List ℕ) → AreDistinct names
+        → (places_of names more ≡ Some objects) ↔ (map (slice_get names) objects ≡ map Some more)
 
 -- The call that shows an instance stands for that instance, where its objects are in the table of names.
 abbrev pub CallsNameInstances : Type 0
@@ -34,7 +36,8 @@ CallsNameInstances =
 -- certifies and notes stays in front.
 pub record Continues (task : Task) (entries more : List Entry) : Type 0 where
   pub names : names_of task (entries ++ more) ≡ with_names (names_of task entries) (flat_map objects_in more)
-  pub places : (object : ℕ) (name : List ℕ) → slice_get (names_of task entries) object ≡ Some name → slice_get (names_of task (entries ++ more)) object ≡ Some name
+  pub places : (object : ℕ) (name : List ℕ) → slice_get (names_of task entries) object ≡ Some name
+      → slice_get (names_of task (entries ++ more)) object ≡ Some name
   pub requests : (n : ℕ) (a : Asked) → asked task entries n ≡ Some a → asked task (entries ++ more) n ≡ Some a
   pub facts : (known_of task (entries ++ more)).facts ≡ with_facts (known_of task entries).facts (flat_map (certified task (entries ++ more)) more)
   pub values : (known_of task (entries ++ more)).values ≡ with_values (known_of task entries).values (flat_map (told_value task (entries ++ more)) more)
@@ -42,12 +45,15 @@ pub record Continues (task : Task) (entries more : List Entry) : Type 0 where
 
 -- A longer transcript keeps the numbers of names, the requests, the facts, the values and the notes.
 abbrev pub LongerKeeps : Type 0
-LongerKeeps = (version : ℕ) (task : Task) (entries more : List Entry) → IsFit task → IsLegal version task entries → Continues task entries more
+LongerKeeps =
+    (version : ℕ) (task : Task) (entries more : List Entry) → IsFit task → IsLegal version task entries
+        → Continues task entries more
 
 -- The front of a legal transcript is legal, and so is a legal transcript with one entry more that may follow.
 pub record GrowsLegally (version : ℕ) (task : Task) (entries : List Entry) : Type 0 where
   pub front : (more : List Entry) → IsLegal version task (entries ++ more) → IsLegal version task entries
-  pub next : (e : Entry) → IsLegal version task entries → MayFollow version task entries e → IsLegal version task (entries ++ e ∷ [])
+  pub next : (e : Entry) → IsLegal version task entries → MayFollow version task entries e
+      → IsLegal version task (entries ++ e ∷ [])
   pub last : (e : Entry) → IsLegal version task (entries ++ e ∷ []) → MayFollow version task entries e
 
 abbrev pub LegalGrows : Type 0
@@ -92,7 +98,9 @@ pub record AddsMark (task : Task) (before after : List Entry) : Type 0 where
   pub waiting : (n : ℕ) → is_open after n ≡ is_open before n
 
 abbrev pub MarksAddNothing : Type 0
-MarksAddNothing = (version : ℕ) (task : Task) (before : List Entry) (e : Entry) → IsFit task → IsLegal version task before → is_mark e ≡ true → AddsMark task before (before ++ e ∷ [])
+MarksAddNothing =
+    (version : ℕ) (task : Task) (before : List Entry) (e : Entry) → IsFit task → IsLegal version task before
+        → is_mark e ≡ true → AddsMark task before (before ++ e ∷ [])
 
 -- ---- legal transcripts
 
@@ -103,7 +111,9 @@ NumbersAreOwn =
 
 -- Each request of a legal transcript asks an instance of a stream of the task.
 abbrev pub RequestsAskInstances : Type 0
-RequestsAskInstances = (version : ℕ) (task : Task) (entries : List Entry) (n : ℕ) → IsLegal version task entries → 0 < n → n < asks_of entries + 1 → (a : Asked) × (asked task entries n ≡ Some a)
+RequestsAskInstances =
+    (version : ℕ) (task : Task) (entries : List Entry) (n : ℕ) → IsLegal version task entries → 0 < n
+        → n < asks_of entries + 1 → (a : Asked) × (asked task entries n ≡ Some a)
 
 -- No instance is asked twice after equally many tuples.
 abbrev pub NoRequestIsMadeTwice : Type 0
@@ -117,7 +127,9 @@ pub record IsAsked (task : Task) (names : List (List ℕ)) (a : Asked) : Type 0 
   pub named : All (IsIn names) a.instance.inputs
 
 abbrev pub RequestsHaveNames : Type 0
-RequestsHaveNames = (version : ℕ) (task : Task) (entries : List Entry) (n : ℕ) (a : Asked) → IsFit task → IsLegal version task entries → asked task entries n ≡ Some a → IsAsked task (names_of task entries) a
+RequestsHaveNames =
+    (version : ℕ) (task : Task) (entries : List Entry) (n : ℕ) (a : Asked) → IsFit task → IsLegal version task entries
+        → asked task entries n ≡ Some a → IsAsked task (names_of task entries) a
 
 -- What a stream's answers certify is of objects in the table of names.
 pub record CertifiesNamed (task : Task) (names : List (List ℕ)) (stream : Stream) (inputs outputs : List ℕ) : Type 0 where
@@ -131,4 +143,6 @@ CertifiedObjectsHaveNames =
 -- What is known after a legal transcript is coherent: its names, facts and values stand once each, each object of a fact has a
 -- name, and values are costs.
 abbrev pub WhatIsKnownIsCoherent : Type 0
-WhatIsKnownIsCoherent = (version : ℕ) (task : Task) (entries : List Entry) → IsFit task → IsLegal version task entries → IsCoherent (known_of task entries)
+WhatIsKnownIsCoherent =
+    (version : ℕ) (task : Task) (entries : List Entry) → IsFit task → IsLegal version task entries
+        → IsCoherent (known_of task entries)

@@ -67,7 +67,8 @@ HasNoneOpen entries = (n : ℕ) → is_open entries n ≡ false
 
 -- no request of the instance waits for its answer
 abbrev pub HasNoRequestOpen : Task → List Entry → Instance → Type 0
-HasNoRequestOpen task entries i = (n : ℕ) (a : Asked) → asked task entries n ≡ Some a → a.instance ≡ i → is_open entries n ≡ false
+HasNoRequestOpen task entries i =
+    (n : ℕ) (a : Asked) → asked task entries n ≡ Some a → a.instance ≡ i → is_open entries n ≡ false
 
 -- ---- legal transcripts
 
@@ -112,7 +113,8 @@ MayFollow version task before e = Unit {0}
 
 -- Each entry may follow those before it.
 abbrev pub IsLegal : ℕ → Task → List Entry → Type 0
-IsLegal version task entries = (k : ℕ) (e : Entry) → slice_get entries k ≡ Some e → MayFollow version task (take k entries) e
+IsLegal version task entries =
+    (k : ℕ) (e : Entry) → slice_get entries k ≡ Some e → MayFollow version task (take k entries) e
 
 -- ---- closed transcripts
 

@@ -26,7 +26,8 @@ place_of names name = position (same_numbers name) names
 -- the objects with these names, where each name is in the table
 abbrev pub places_of : List (List ℕ) → List (List ℕ) → Option (List ℕ)
 places_of names [] = Some []
-places_of names (name ∷ more) = option_and_then (λ object. option_map (λ objects. object ∷ objects) (places_of names more)) (place_of names name)
+places_of names (name ∷ more) =
+    option_and_then (λ object. option_map (λ objects. object ∷ objects) (places_of names more)) (place_of names name)
 
 -- the stream of the task with this name
 abbrev pub stream_named : Task → List ℕ → Option ℕ

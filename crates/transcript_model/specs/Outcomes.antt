@@ -49,11 +49,13 @@ pub record IsOrigin (version : ℕ) (entries : List Entry) (origin : Origin) : T
   pub there : has_value entries origin.number value ≡ true
   pub first : (n : ℕ) → has_value entries n value ≡ true → origin.number ≤ n
   pub one : version ≡ 1 → origin.tuple ≡ 1
-  pub tuple : ¬ (version ≡ 1) → (e : Entry) × Contains entries e × (tuple_with value origin.number e ≡ Some origin.tuple)
+  pub tuple : ¬ (version ≡ 1)
+      → (e : Entry) × Contains entries e × (tuple_with value origin.number e ≡ Some origin.tuple)
 
 -- the object of this name stands in the calls and is generated
 abbrev pub IsUsed : List Call → List ℕ → Type 0
-IsUsed calls name = (value : List ℕ) × (call : Call) × (name ≡ generated value) × Contains calls call × Contains call.args name
+IsUsed calls name =
+    (value : List ℕ) × (call : Call) × (name ≡ generated value) × Contains calls call × Contains call.args name
 
 -- each generated object of the calls once, in order of bytes, with its origin
 pub record AreOrigins (version : ℕ) (entries : List Entry) (calls : List Call) (from : List Origin) : Type 0 where
@@ -89,11 +91,13 @@ pub record IsPastCalls (limits : Limits) (task : Task) (entries : List Entry) : 
 
 -- what an outcome claims
 abbrev pub IsTrueOutcome : Limits → Task → List Entry → Outcome → Type 0
-IsTrueOutcome limits task entries (outcome.Plan steps cost from) = IsTruePlan limits.version task entries steps cost from
+IsTrueOutcome limits task entries (outcome.Plan steps cost from) =
+    IsTruePlan limits.version task entries steps cost from
 IsTrueOutcome limits task entries outcome.NoPlan = HasNoPlan limits.version task entries
 IsTrueOutcome limits task entries (outcome.Limit Calls) = IsPastCalls limits task entries
 IsTrueOutcome limits task entries (outcome.Limit States) = IsPastStates limits task entries
-IsTrueOutcome limits task entries (outcome.Limit Instances) = MoreAreDue 1000000 task (known_of task entries) (notes_of task entries)
+IsTrueOutcome limits task entries (outcome.Limit Instances) =
+    MoreAreDue 1000000 task (known_of task entries) (notes_of task entries)
 
 -- An outcome stands between turns, and the limit of calls also after a batch that was cut.
 abbrev pub MayStand : Stage → Outcome → Type 0

@@ -75,7 +75,9 @@ AreAnswers number (suc n) [] = ⊥
 
 -- all requests of the round, and then their answers
 abbrev pub IsRound : Task → List Entry → List Instance → List Entry → Type 0
-IsRound task before round entries = (answers : List Entry) × (entries ≡ requests task before round ++ answers) × AreAnswers (asks_of before + 1) (length round) answers
+IsRound task before round entries =
+    (answers : List Entry) × (entries ≡ requests task before round ++ answers)
+        × AreAnswers (asks_of before + 1) (length round) answers
 
 -- one round after another
 abbrev pub AreRoundsRun : Task → List Entry → List (List Instance) → List Entry → Type 0

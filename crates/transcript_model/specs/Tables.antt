@@ -31,7 +31,8 @@ same_call a b = same_numbers a.name b.name && pointwise same_numbers a.args b.ar
 -- the first row's answer; without a row it is that nothing more comes
 abbrev pub reply_in : List TableRow → Answers
 reply_in [] call turn = ends
-reply_in (row ∷ rows) call turn = if same_call row.call call && (row.turn == turn) then row.reply else reply_in rows call turn
+reply_in (row ∷ rows) call turn =
+    if same_call row.call call && (row.turn == turn) then row.reply else reply_in rows call turn
 
 -- A request to the stream may be answered so: tuples of the right width, a value of at most 1,000,000 from a cost stream, or
 -- that nothing more comes.

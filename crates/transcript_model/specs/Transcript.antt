@@ -49,7 +49,8 @@ asked_of task i = option_map (λ stream. record { stream = stream; instance = i 
 
 -- what the request of this number asks
 abbrev pub asked : Task → List Entry → ℕ → Option Asked
-asked task entries n = option_and_then (asked_of task) (option_and_then (instance_of task (names_of task entries)) (call_of entries n))
+asked task entries n =
+    option_and_then (asked_of task) (option_and_then (instance_of task (names_of task entries)) (call_of entries n))
 
 -- ---- what answers certify
 
@@ -60,26 +61,31 @@ tuples_in width (suc tuples) values = take width values ∷ tuples_in width tupl
 
 -- what a tuple of values certifies, where objects have these names
 abbrev pub tuple_facts : Task → List (List ℕ) → Asked → List (List ℕ) → List Fact
-tuple_facts task names a tuple = certified_by task.domain a.stream a.instance.inputs (unwrap_or (places_of names (map generated tuple)) [])
+tuple_facts task names a tuple =
+    certified_by task.domain a.stream a.instance.inputs (unwrap_or (places_of names (map generated tuple)) [])
 
 -- what a yield of so many tuples certifies
 abbrev pub yield_facts : Task → List (List ℕ) → Asked → ℕ → List (List ℕ) → List Fact
-yield_facts task names a tuples values = flat_map (tuple_facts task names a) (tuples_in (length a.stream.outputs) tuples values)
+yield_facts task names a tuples values =
+    flat_map (tuple_facts task names a) (tuples_in (length a.stream.outputs) tuples values)
 
 module _ (task : Task) (entries : List Entry) where
   -- what an entry certifies
   abbrev pub certified : Entry → List Fact
-  certified (entry.Got n tuples values) = option_map_or (λ a. yield_facts task (names_of task entries) a tuples values) (asked task entries n) []
+  certified (entry.Got n tuples values) =
+      option_map_or (λ a. yield_facts task (names_of task entries) a tuples values) (asked task entries n) []
   certified e = []
 
   -- the value that an entry gives a function term
   abbrev pub told_value : Entry → List Valued
-  told_value (entry.Value n value) = option_map_or (λ (a : Asked). worth_by a.stream a.instance.inputs value) (asked task entries n) []
+  told_value (entry.Value n value) =
+      option_map_or (λ (a : Asked). worth_by a.stream a.instance.inputs value) (asked task entries n) []
   told_value e = []
 
   -- what an entry tells an instance
   abbrev pub note_of : Entry → List Note
-  note_of (entry.Got n tuples values) = option_map_or (λ (a : Asked). replicate tuples (Yielded a.instance)) (asked task entries n) []
+  note_of (entry.Got n tuples values) =
+      option_map_or (λ (a : Asked). replicate tuples (Yielded a.instance)) (asked task entries n) []
   note_of (entry.Value n value) = option_map_or (λ (a : Asked). Ended a.instance ∷ []) (asked task entries n) []
   note_of (entry.End n) = option_map_or (λ (a : Asked). Ended a.instance ∷ []) (asked task entries n) []
   note_of e = []

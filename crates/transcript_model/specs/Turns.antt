@@ -43,14 +43,25 @@ pub record IsLevel (limits : Limits) (task : Task) (before now : List Entry) (cu
 
 -- Where no plan rests on what is supposed: with tried instances these are forgotten, and else a whole level follows.
 pub data IsFallback (limits : Limits) (task : Task) (before : List Entry) : List Instance → List Entry → Bool → Type 0 where
-  reset : (first : Instance) (more : List Instance) → IsFallback limits task before (first ∷ more) (entry.Reset ∷ []) false
-  level : {now : List Entry} {cut : Bool} → IsLevel limits task before now cut → IsFallback limits task before [] now cut
+  reset : (first : Instance) (more : List Instance)
+      → IsFallback limits task before (first ∷ more) (entry.Reset ∷ []) false
+  level : {now : List Entry} {cut : Bool} → IsLevel limits task before now cut
+      → IsFallback limits task before [] now cut
 
 -- Batches of a dream's entries, each of those that are ready, until none is. `sent` were asked before, and `after` in the end.
 pub data AreBatches (limits : Limits) (task : Task) (real : ℕ) (entries : List dreams.Entry) : List Sent → List Entry → List Entry → List Sent → Bool → Type 0 where
-  finished : {sent : List Sent} {before : List Entry} → next_sent task before real sent (asks_of before + 1) (sent_instances sent) entries ≡ [] → AreBatches limits task real entries sent before [] sent false
-  last : {sent : List Sent} {before now : List Entry} (next : List Sent) → next ≡ next_sent task before real sent (asks_of before + 1) (sent_instances sent) entries → is_cut limits before next ≡ true → IsBatch limits task before (sent_instances next) now → AreBatches limits task real entries sent before now (sent ++ take (calls_left limits before) next) true
-  further : {sent after : List Sent} {before now rest : List Entry} {cut : Bool} (next : List Sent) → next ≡ next_sent task before real sent (asks_of before + 1) (sent_instances sent) entries → 0 < length next → is_cut limits before next ≡ false → IsBatch limits task before (sent_instances next) now → AreBatches limits task real entries (sent ++ next) (before ++ now) rest after cut → AreBatches limits task real entries sent before (now ++ rest) after cut
+  finished : {sent : List Sent} {before : List Entry}
+      → next_sent task before real sent (asks_of before + 1) (sent_instances sent) entries ≡ []
+      → AreBatches limits task real entries sent before [] sent false
+  last : {sent : List Sent} {before now : List Entry} (next : List Sent)
+      → next ≡ next_sent task before real sent (asks_of before + 1) (sent_instances sent) entries
+      → is_cut limits before next ≡ true → IsBatch limits task before (sent_instances next) now
+      → AreBatches limits task real entries sent before now (sent ++ take (calls_left limits before) next) true
+  further : {sent after : List Sent} {before now rest : List Entry} {cut : Bool} (next : List Sent)
+      → next ≡ next_sent task before real sent (asks_of before + 1) (sent_instances sent) entries → 0 < length next
+      → is_cut limits before next ≡ false → IsBatch limits task before (sent_instances next) now
+      → AreBatches limits task real entries (sent ++ next) (before ++ now) rest after cut
+      → AreBatches limits task real entries sent before (now ++ rest) after cut
 
 -- ---- turns with a dream, or without
 
@@ -100,8 +111,10 @@ pub record Kept : Type 0 where
 pub record IsPicked (skeletons : List Skeleton) (place : ℕ) (skeleton : Skeleton) : Type 0 where
   pub there : slice_get skeletons place ≡ Some skeleton
   pub kept : skeleton.retired ≡ false
-  pub fewest : (k : ℕ) (other : Skeleton) → slice_get skeletons k ≡ Some other → other.retired ≡ false → skeleton.picks ≤ other.picks
-  pub earliest : (k : ℕ) (other : Skeleton) → k < place → slice_get skeletons k ≡ Some other → other.retired ≡ false → skeleton.picks < other.picks
+  pub fewest : (k : ℕ) (other : Skeleton) → slice_get skeletons k ≡ Some other → other.retired ≡ false
+      → skeleton.picks ≤ other.picks
+  pub earliest : (k : ℕ) (other : Skeleton) → k < place → slice_get skeletons k ≡ Some other → other.retired ≡ false
+      → skeleton.picks < other.picks
 
 abbrev pub is_given_up : List Sent → Bool
 is_given_up [] = true
@@ -182,16 +195,22 @@ pub data Stage : Type 0 where
 module _ {Carried : Type 0} (limits : Limits) (task : Task) (turn : Carried → List Entry → List Entry → Carried → Bool → Type 0) where
   pub data AreTurns : Carried → List Entry → List Entry → Stage → Type 0 where
     none_left : {carried : Carried} {before : List Entry} → AreTurns carried before [] between
-    whole : {carried : Carried} (next : Carried) {before now rest : List Entry} {stage : Stage} → MayBegin limits task before → turn carried before now next false → AreTurns next (before ++ now) rest stage → AreTurns carried before (now ++ rest) stage
-    cut_off : {carried : Carried} (next : Carried) {before now : List Entry} → MayBegin limits task before → turn carried before now next true → AreTurns carried before now after_cut
-    stopped : {carried : Carried} (next : Carried) {before now : List Entry} (more : List Entry) (cut : Bool) → MayBegin limits task before → turn carried before (now ++ more) next cut → AreTurns carried before now inside
+    whole : {carried : Carried} (next : Carried) {before now rest : List Entry} {stage : Stage}
+        → MayBegin limits task before → turn carried before now next false → AreTurns next (before ++ now) rest stage
+        → AreTurns carried before (now ++ rest) stage
+    cut_off : {carried : Carried} (next : Carried) {before now : List Entry} → MayBegin limits task before
+        → turn carried before now next true → AreTurns carried before now after_cut
+    stopped : {carried : Carried} (next : Carried) {before now : List Entry} (more : List Entry) (cut : Bool)
+        → MayBegin limits task before → turn carried before (now ++ more) next cut → AreTurns carried before now inside
 
 -- the turns of the mode, from the empty transcript
 abbrev pub AreTurnsOf : Mode → Limits → Task → List Entry → Stage → Type 0
-AreTurnsOf Incremental limits task entries stage = AreTurns limits task (IncrementalTurn limits task) tt [] entries stage
+AreTurnsOf Incremental limits task entries stage =
+    AreTurns limits task (IncrementalTurn limits task) tt [] entries stage
 AreTurnsOf Focused limits task entries stage = AreTurns limits task (FocusedTurn limits task) [] [] entries stage
 AreTurnsOf Binding limits task entries stage = AreTurns limits task (BindingTurn limits task) [] [] entries stage
-AreTurnsOf Adaptive limits task entries stage = AreTurns limits task (AdaptiveTurn limits task) (record { tried = []; skeletons = [] }) [] entries stage
+AreTurnsOf Adaptive limits task entries stage =
+    AreTurns limits task (AdaptiveTurn limits task) (record { tried = []; skeletons = [] }) [] entries stage
 
 -- A transcript of the mode: it is legal, and a list of whole turns, the last of which may stop at any entry.
 pub record IsModeLegal (limits : Limits) (task : Task) (entries : List Entry) (stage : Stage) : Type 0 where
