@@ -34,7 +34,8 @@ module _ (signatures : List Signature) (few : list_all (λ (s : Signature). nat_
   short_application = leb-true (length args) 8 (few_arguments signatures place (length args) few (first_so (has_arity signatures place (length args)) _ fit))
 
   pub readable_application : list_all is_readable_term args ≡ true
-  readable_application = readable_terms constants (numbers_from 0 n) args (few_slots n most) (second_so (has_arity signatures place (length args)) _ fit)
+  readable_application =
+      readable_terms constants (numbers_from 0 n) args (few_slots n most) (second_so (has_arity signatures place (length args)) _ fit)
 
 -- ---- patterns
 
@@ -45,12 +46,17 @@ pub record ArePlain (names : List (List ℕ)) (args : List ℕ) (patterns : List
   pub named : All (λ (p : Pattern). All (IsIn names) (objects_at (slots_of args) p.args)) patterns
 
 module _ (domain : Domain) (fit : IsFitDomain domain) (names : List (List ℕ)) (constants : length domain.constants ≤ length names) (args : List ℕ) (few : length args ≤ 16) (all : All (IsIn names) args) where
-  one_of : (P : Pattern → Type 0) → ((p : Pattern) → is_fit_pattern domain (length domain.constants) (numbers_from 0 (length args)) p ≡ true → P p) → (ps : List Pattern) → list_all (is_fit_pattern domain (length domain.constants) (numbers_from 0 (length args))) ps ≡ true → All P ps
+  one_of : (P : Pattern → Type 0)
+      → ((p : Pattern) → is_fit_pattern domain (length domain.constants) (numbers_from 0 (length args)) p ≡ true → P p)
+      → (ps : List Pattern) → list_all (is_fit_pattern domain (length domain.constants) (numbers_from 0 (length args))) ps ≡ true → All P ps
   one_of P one [] e k d lt = absurd (omega arith)
-  one_of P one (p ∷ ps) e zero d lt = one p (first_so (is_fit_pattern domain (length domain.constants) (numbers_from 0 (length args)) p) _ e)
-  one_of P one (p ∷ ps) e (suc k) d lt = one_of P one ps (second_so (is_fit_pattern domain (length domain.constants) (numbers_from 0 (length args)) p) _ e) k d (omega arith)
+  one_of P one (p ∷ ps) e zero d lt =
+      one p (first_so (is_fit_pattern domain (length domain.constants) (numbers_from 0 (length args)) p) _ e)
+  one_of P one (p ∷ ps) e (suc k) d lt =
+      one_of P one ps (second_so (is_fit_pattern domain (length domain.constants) (numbers_from 0 (length args)) p) _ e) k d (omega arith)
 
-  pub plain_patterns : (ps : List Pattern) → list_all (is_fit_pattern domain (length domain.constants) (numbers_from 0 (length args))) ps ≡ true → ArePlain names args ps
+  pub plain_patterns : (ps : List Pattern)
+      → list_all (is_fit_pattern domain (length domain.constants) (numbers_from 0 (length args))) ps ≡ true → ArePlain names args ps
   plain_patterns ps e = record {
     short = one_of (λ p. length p.args ≤ 8) (λ p f. short_application domain.predicates fit.predicates.arities (length domain.constants) p.pred p.args (length args) few f) ps e;
     readable = one_of (λ p. list_all is_readable_term p.args ≡ true) (λ p f. readable_application domain.predicates fit.predicates.arities (length domain.constants) p.pred p.args (length args) few f) ps e;
@@ -108,7 +114,9 @@ pub record IsPlainWorth (names : List (List ℕ)) (inputs : List ℕ) (worth : W
   pub readable : list_all is_readable_term worth.args ≡ true
   pub named : All (IsIn names) (objects_at (slots_of inputs) worth.args)
 
-pub plain_worth : (domain : Domain) → IsFitDomain domain → (names : List (List ℕ)) → length domain.constants ≤ length names → (s : Stream) → HasFitParts domain s → (inputs : List ℕ) → length inputs ≡ length s.inputs → All (IsIn names) inputs → (worth : Worth) → s.worth ≡ Some worth → IsPlainWorth names inputs worth
+pub plain_worth : (domain : Domain) → IsFitDomain domain → (names : List (List ℕ)) → length domain.constants ≤ length names → (s : Stream)
+    → HasFitParts domain s → (inputs : List ℕ) → length inputs ≡ length s.inputs → All (IsIn names) inputs → (worth : Worth)
+    → s.worth ≡ Some worth → IsPlainWorth names inputs worth
 plain_worth domain fit names constants s parts inputs long all worth e =
     let most : length inputs ≤ 16 = omega (arith, parts.inputs) in
     let whole : is_fit_worth domain (record s { worth = Some worth }) ≡ true = subst (λ w. is_fit_worth domain (record s { worth = w }) ≡ true) e parts.worth in

@@ -24,7 +24,8 @@ pub(crate) fn name_outputs(
     values: &[Name],
 ) -> Result<Row, AllocError>
     requires { length facts.old.known.names + length values.now < 4294705152 }
-    ensures names { OnOk result (facts.new.known.names ≡ with_names facts.old.known.names (map generated values.now)) }
+    ensures names { OnOk result (facts.new.known.names
+        ≡ with_names facts.old.known.names (map generated values.now)) }
     ensures objects { IfOk result (λ objects. AreNamed facts.new.known.names objects values.now) }
     ensures facts { facts.new.known.facts ≡ facts.old.known.facts }
     ensures values { facts.new.known.values ≡ facts.old.known.values }

@@ -25,7 +25,8 @@ fn learn_types(
 ) -> Result<(), AllocError>
     requires long { length objects.now ≡ length sorts.now }
     requires named { All (IsIn facts.old.known.names) objects.now }
-    ensures facts { OnOk result (facts.new.known.facts ≡ with_facts facts.old.known.facts (output_types domain.now sorts.now objects.now)) }
+    ensures facts { OnOk result (facts.new.known.facts
+        ≡ with_facts facts.old.known.facts (output_types domain.now sorts.now objects.now)) }
     ensures names { OnOk result (facts.new.known.names ≡ facts.old.known.names) }
     ensures values { OnOk result (facts.new.known.values ≡ facts.old.known.values) }
 {
@@ -45,8 +46,10 @@ fn learn_atoms(
     requires few { length args.now ≤ 16 }
     requires short { All (λ p. length p.args ≤ 8) patterns.now }
     requires readable { All (λ p. list_all is_readable_term p.args ≡ true) patterns.now }
-    requires named { All (λ p. All (IsIn facts.old.known.names) (objects_of_terms (slots_of args.now) p.args)) patterns.now }
-    ensures facts { OnOk result (facts.new.known.facts ≡ with_facts facts.old.known.facts (map (fact_of (slots_of args.now)) patterns.now)) }
+    requires named { All (λ p. All (IsIn facts.old.known.names)
+        (objects_of_terms (slots_of args.now) p.args)) patterns.now }
+    ensures facts { OnOk result (facts.new.known.facts
+        ≡ with_facts facts.old.known.facts (map (fact_of (slots_of args.now)) patterns.now)) }
     ensures names { OnOk result (facts.new.known.names ≡ facts.old.known.names) }
     ensures values { OnOk result (facts.new.known.values ≡ facts.old.known.values) }
 {
@@ -82,9 +85,12 @@ pub fn learn_tuple(
     requires named { All (IsIn facts.old.known.names) inputs.now }
     requires constants { length domain.now.constants ≤ length facts.old.known.names }
     requires room { length facts.old.known.names + length values.now < 4294705152 }
-    ensures names { OnOk result (facts.new.known.names ≡ with_names facts.old.known.names (map generated values.now)) }
+    ensures names { OnOk result (facts.new.known.names
+        ≡ with_names facts.old.known.names (map generated values.now)) }
     ensures outputs { IfOk result (λ outputs. AreNamed facts.new.known.names outputs values.now) }
-    ensures facts { IfOk result (λ outputs. facts.new.known.facts ≡ with_facts facts.old.known.facts (certified_by domain.now stream.now inputs.now outputs)) }
+    ensures facts { IfOk result (λ outputs. facts.new.known.facts
+        ≡ with_facts facts.old.known.facts
+        (certified_by domain.now stream.now inputs.now outputs)) }
     ensures values { OnOk result (facts.new.known.values ≡ facts.old.known.values) }
 {
     let outputs = name_outputs(facts, alloc, values)?;

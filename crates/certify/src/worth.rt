@@ -27,7 +27,8 @@ pub fn learn_value(
     requires named { All (IsIn facts.old.known.names) inputs.now }
     requires constants { length domain.now.constants ≤ length facts.old.known.names }
     requires cost { value ≤ 1000000 }
-    ensures values { OnOk result (facts.new.known.values ≡ with_values facts.old.known.values (worth_by stream.now inputs.now value)) }
+    ensures values { OnOk result (facts.new.known.values
+        ≡ with_values facts.old.known.values (worth_by stream.now inputs.now value)) }
     ensures names { facts.new.known.names ≡ facts.old.known.names }
     ensures facts { facts.new.known.facts ≡ facts.old.known.facts }
 {

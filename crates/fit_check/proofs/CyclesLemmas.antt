@@ -14,7 +14,8 @@ IsWithin edge size = (from to : ℕ) → edge from to ≡ true → (from < size)
 
 module _ (edge : ℕ → ℕ → Bool) (size : ℕ) where
   -- from a node that is done only such are reached
-  stays_done : (next : List ℕ) → IsWithin edge size → IsSettled edge size next → (between : List ℕ) (i e : ℕ) → i < size → size ≤ slice_index next i → LeadsAlong edge i between e → size ≤ slice_index next e
+  stays_done : (next : List ℕ) → IsWithin edge size → IsSettled edge size next → (between : List ℕ) (i e : ℕ) → i < size
+      → size ≤ slice_index next i → LeadsAlong edge i between e → size ≤ slice_index next e
   stays_done next within settled [] i e low done h =
       let to = (within i e h).1 in
       settled.passed i e low (omega arith) h
@@ -23,7 +24,8 @@ module _ (edge : ℕ → ℕ → Bool) (size : ℕ) where
       stays_done next within settled xs x e to (settled.passed i x low (omega arith) h.0) h.1
 
   -- a node all of whose edges lead to such is on no cycle, unless it was done before
-  fresh_clear : (next : List ℕ) → IsWithin edge size → IsSettled edge size next → (i : ℕ) → i < size → slice_index next i < size → ((k : ℕ) → k < size → edge i k ≡ true → size ≤ slice_index next k) → (between : List ℕ) → ¬ (LeadsAlong edge i between i)
+  fresh_clear : (next : List ℕ) → IsWithin edge size → IsSettled edge size next → (i : ℕ) → i < size → slice_index next i < size
+      → ((k : ℕ) → k < size → edge i k ≡ true → size ≤ slice_index next k) → (between : List ℕ) → ¬ (LeadsAlong edge i between i)
   fresh_clear next within settled i low undone all [] h =
       let done = all i low h in
       absurd (omega arith)
@@ -33,14 +35,17 @@ module _ (edge : ℕ → ℕ → Bool) (size : ℕ) where
       absurd (omega arith)
 
   -- a node that has moved on
-  moved_index : (next : List ℕ) (i to k : ℕ) → i < length next → slice_index next i ≤ to → slice_index next k ≤ slice_index (slice_set next i to) k
+  moved_index : (next : List ℕ) (i to k : ℕ) → i < length next → slice_index next i ≤ to
+      → slice_index next k ≤ slice_index (slice_set next i to) k
   moved_index next i to k inside up =
       elim (cases_eq k i) [
         | inl e ↦ subst (λ m. slice_index next m ≤ slice_index (slice_set next i to) m) (sym e) (let is = get_or-set_same next i to 0 inside in omega (arith, is))
         | inr ne ↦ let is = get_or-set_other next i k to 0 ne in omega (arith, is)
       ]
 
-  pub settled_moved : (next : List ℕ) (i to : ℕ) → IsWithin edge size → IsSettled edge size next → i < size → slice_index next i ≤ to → to ≤ size → ((k : ℕ) → slice_index next i ≤ k → k < to → edge i k ≡ true → size ≤ slice_index next k) → IsSettled edge size (slice_set next i to)
+  pub settled_moved : (next : List ℕ) (i to : ℕ) → IsWithin edge size → IsSettled edge size next → i < size → slice_index next i ≤ to
+      → to ≤ size → ((k : ℕ) → slice_index next i ≤ k → k < to → edge i k ≡ true → size ≤ slice_index next k)
+      → IsSettled edge size (slice_set next i to)
   settled_moved next i to within settled low up top new =
       let inside : i < length next = omega (arith, settled.long) in
       let all : (k : ℕ) → k < to → edge i k ≡ true → size ≤ slice_index next k = λ k h e. elim (cases_lt k (slice_index next i)) [ inl before ↦ settled.passed i k low before e | inr after ↦ new k after h e ] in
@@ -76,7 +81,8 @@ module _ (edge : ℕ → ℕ → Bool) (size : ℕ) where
   }
 
   -- all nodes are done
-  pub acyclic_if : (next : List ℕ) → IsWithin edge size → IsSettled edge size next → list_all (λ n. nat_le size n) next ≡ true → IsAcyclic edge
+  pub acyclic_if : (next : List ℕ) → IsWithin edge size → IsSettled edge size next → list_all (λ n. nat_le size n) next ≡ true
+      → IsAcyclic edge
   acyclic_if next within settled all node [] h =
       let low = (within node node h).0 in
       settled.clear node low (each_done next all node (omega (arith, settled.long))) [] h
@@ -115,7 +121,8 @@ module _ (edge : ℕ → ℕ → Bool) (size : ℕ) where
             (suc rest.0, let h = rest.1 in omega arith, rest.2)
       ]
 
-  pub done_if : (next : List ℕ) → IsSettled edge size next → IsStill edge size next → IsAcyclic edge → list_all (λ n. nat_le size n) next ≡ true
+  pub done_if : (next : List ℕ) → IsSettled edge size next → IsStill edge size next → IsAcyclic edge
+      → list_all (λ n. nat_le size n) next ≡ true
   done_if next settled still acyclic =
       elim (list_all (λ n. nat_le size n) next) as (λ b. list_all (λ n. nat_le size n) next ≡ b → list_all (λ n. nat_le size n) next ≡ true) [
         | true ↦ λ e. e
@@ -127,13 +134,18 @@ module _ (edge : ℕ → ℕ → Bool) (size : ℕ) where
       ] refl
 
 -- a node that moves on leaves less work
-pub work_falls : (size : ℕ) (next : List ℕ) (i to : ℕ) → i < length next → slice_index next i < to → to ≤ size → work_left size (slice_set next i to) < work_left size next
+pub work_falls : (size : ℕ) (next : List ℕ) (i to : ℕ) → i < length next → slice_index next i < to → to ≤ size
+    → work_left size (slice_set next i to) < work_left size next
 work_falls size [] i to h up top = absurd (omega arith)
 work_falls size (n ∷ ns) zero to h up top = omega arith
 work_falls size (n ∷ ns) (suc i) to h up top = let less = work_falls size ns i to (omega arith) up top in omega arith
 
 -- all nodes before this one lead on, and so does this one, which didn't move
-pub still_more : (edge : ℕ → ℕ → Bool) (size : ℕ) (next : List ℕ) (from to : ℕ) → to ≤ slice_index next from → slice_index next from ≤ to → (to < size → (edge from to ≡ true) × (slice_index next to < size)) → ((i : ℕ) → i < from → slice_index next i < size → (edge i (slice_index next i) ≡ true) × (slice_index next (slice_index next i) < size)) → (i : ℕ) → i < from + 1 → slice_index next i < size → (edge i (slice_index next i) ≡ true) × (slice_index next (slice_index next i) < size)
+pub still_more : (edge : ℕ → ℕ → Bool) (size : ℕ) (next : List ℕ) (from to : ℕ) → to ≤ slice_index next from → slice_index next from ≤ to
+    → (to < size → (edge from to ≡ true) × (slice_index next to < size))
+    → ((i : ℕ) → i < from → slice_index next i < size → (edge i (slice_index next i) ≡ true) × (slice_index next (slice_index next i) < size))
+    → (i : ℕ) → i < from + 1 → slice_index next i < size
+    → (edge i (slice_index next i) ≡ true) × (slice_index next (slice_index next i) < size)
 still_more edge size next from to low high lead before i h undone =
     elim (cases_eq i from) [
       | inl e ↦

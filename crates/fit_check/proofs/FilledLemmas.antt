@@ -11,7 +11,9 @@ use Rattle.lemmas.proofs.Numbers.{in_numbers}
 
 below_none : (n k : ℕ) (flags : List Bool) → k < n → list_any (λ slot. slot == k) (places_of n flags) ≡ false
 below_none n k [] h = refl
-below_none n k (true ∷ flags) h = ap (λ b. b || list_any (λ slot. slot == k) (places_of (n + 1) flags)) (ne_eqb n k (λ e. omega arith)) ∙ below_none (n + 1) k flags (omega arith)
+below_none n k (true ∷ flags) h =
+    ap (λ b. b || list_any (λ slot. slot == k) (places_of (n + 1) flags)) (ne_eqb n k (λ e. omega arith))
+    ∙ below_none (n + 1) k flags (omega arith)
 below_none n k (false ∷ flags) h = below_none (n + 1) k flags (omega arith)
 
 there : (n k : ℕ) (flags : List Bool) → list_any (λ slot. slot == n + k) (places_of n flags) ≡ get_or flags k false
@@ -39,7 +41,8 @@ pub first_up : (n count rest : ℕ) → places_of n (replicate count true ++ rep
 first_up n zero rest = nothing_up n rest
 first_up n (suc count) rest = ap (λ ns. n ∷ ns) (first_up (n + 1) count rest)
 
-pub next_up : (count rest : ℕ) → set (replicate count true ++ replicate (suc rest) false) count true ≡ replicate (suc count) true ++ replicate rest false
+pub next_up : (count rest : ℕ)
+    → set (replicate count true ++ replicate (suc rest) false) count true ≡ replicate (suc count) true ++ replicate rest false
 next_up zero rest = refl
 next_up (suc count) rest = ap (λ bs. true ∷ bs) (next_up count rest)
 
@@ -52,7 +55,8 @@ not_in_numbers first (suc count) n out =
 
 -- ---- flags that are put up one after another
 
-pub flag_set : (flags : List Bool) (k n : ℕ) → (n < k → get_or flags n false ≡ true) → n < k + 1 → k < length flags → get_or (set flags k true) n false ≡ true
+pub flag_set : (flags : List Bool) (k n : ℕ) → (n < k → get_or flags n false ≡ true) → n < k + 1 → k < length flags
+    → get_or (set flags k true) n false ≡ true
 flag_set flags k n before high inside =
     elim (cases_eq n k) [
       | inl e ↦ ap (λ m. get_or (set flags k true) m false) e ∙ get_or-set_same flags k true false inside
@@ -63,7 +67,9 @@ pub flag_kept : (flags : List Bool) (k n : ℕ) → n ≢ k → get_or (set flag
 flag_kept flags k n ne = get_or-set_other flags k n true false ne
 
 -- the flags from the first on, so many, and those that were up
-pub flags_with : (new old : List Bool) (first count n : ℕ) → (first ≤ n → n < first + count → get_or new n false ≡ true) → ((first ≤ n → first + count ≤ n) → get_or new n false ≡ get_or old n false) → get_or new n false ≡ list_any (λ slot. slot == n) (numbers_from first count ++ places_of 0 old)
+pub flags_with : (new old : List Bool) (first count n : ℕ) → (first ≤ n → n < first + count → get_or new n false ≡ true)
+    → ((first ≤ n → first + count ≤ n) → get_or new n false ≡ get_or old n false)
+    → get_or new n false ≡ list_any (λ slot. slot == n) (numbers_from first count ++ places_of 0 old)
 flags_with new old first count n up kept =
     elim (cases_lt n first) [
       | inl low ↦ out (λ h. absurd (omega arith))
@@ -75,4 +81,6 @@ flags_with new old first count n up kept =
     ]
   where
     out : (first ≤ n → first + count ≤ n) → get_or new n false ≡ list_any (λ slot. slot == n) (numbers_from first count ++ places_of 0 old)
-    out o = kept o ∙ sym (flag_at old n) ∙ sym (list_any-append (λ slot. slot == n) (numbers_from first count) (places_of 0 old) ∙ ap (λ b. b || list_any (λ slot. slot == n) (places_of 0 old)) (not_in_numbers first count n o))
+    out o =
+        kept o ∙ sym (flag_at old n)
+        ∙ sym (list_any-append (λ slot. slot == n) (numbers_from first count) (places_of 0 old) ∙ ap (λ b. b || list_any (λ slot. slot == n) (places_of 0 old)) (not_in_numbers first count n o))

@@ -99,10 +99,13 @@ abbrev init_fit : Task → Bool
 init_fit task = fit.is_short task.problem.init && list_all (fit.is_fit_fact task.domain (length task.problem.objects)) task.problem.init
 
 abbrev values_fit : Task → Bool
-values_fit task = fit.is_short task.problem.values && list_all (fit.is_fit_value task.domain (length task.problem.objects)) task.problem.values
+values_fit task =
+    fit.is_short task.problem.values && list_all (fit.is_fit_value task.domain (length task.problem.objects)) task.problem.values
 
 abbrev starts : Task → Bool
-starts task = fit.is_name task.problem.name && tests.are_fit_objects task.domain task.problem.objects && tests.are_first task.domain.constants task.problem.objects
+starts task =
+    fit.is_name task.problem.name && tests.are_fit_objects task.domain task.problem.objects
+    && tests.are_first task.domain.constants task.problem.objects
 
 problem_if : (task : Task) → tests.is_fit_problem task ≡ true → fit.IsFitProblem task
 problem_if task e =
@@ -141,7 +144,8 @@ streams_if task e acyclic = record {
 }
 
 streams_from : (task : Task) → fit.AreFitStreams task → tests.are_fit_streams task ≡ true
-streams_from task are = and_from (streams_each task) (tests.are_fit_names (stream_names task)) are.each (names_from (stream_names task) are.names)
+streams_from task are =
+    and_from (streams_each task) (tests.are_fit_names (stream_names task)) are.each (names_from (stream_names task) are.names)
 
 -- ---- tasks
 

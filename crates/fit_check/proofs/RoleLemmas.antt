@@ -10,11 +10,13 @@ pub role_derived : (domain : Domain) (pred : ℕ) → is_derived domain pred ≡
 unfolding role_of
 role_derived domain pred d = cond-true (is_derived domain pred) _ _ d
 
-pub role_fluent : (domain : Domain) (pred : ℕ) → is_derived domain pred ≡ false → is_changed domain pred ≡ true → role_of domain pred ≡ Fluent
+pub role_fluent : (domain : Domain) (pred : ℕ) → is_derived domain pred ≡ false → is_changed domain pred ≡ true
+    → role_of domain pred ≡ Fluent
 unfolding role_of
 role_fluent domain pred d c = cond-false (is_derived domain pred) _ _ d ∙ cond-true (is_changed domain pred) _ _ c
 
-pub role_static : (domain : Domain) (pred : ℕ) → is_derived domain pred ≡ false → is_changed domain pred ≡ false → role_of domain pred ≡ Static
+pub role_static : (domain : Domain) (pred : ℕ) → is_derived domain pred ≡ false → is_changed domain pred ≡ false
+    → role_of domain pred ≡ Static
 unfolding role_of
 role_static domain pred d c = cond-false (is_derived domain pred) _ _ d ∙ cond-false (is_changed domain pred) _ _ c
 

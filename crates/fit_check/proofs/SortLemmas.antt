@@ -36,15 +36,19 @@ object_from o e = ap tests.is_object e
 
 -- ---- supertypes
 
-proper_if : (place : ℕ) (all : List Sort) → tests.are_proper place all ≡ true → (k : ℕ) (s : Sort) → slice_get all k ≡ Some s → list_any (λ a. a == place + k) s.above ≡ false
+proper_if : (place : ℕ) (all : List Sort) → tests.are_proper place all ≡ true → (k : ℕ) (s : Sort) → slice_get all k ≡ Some s
+    → list_any (λ a. a == place + k) s.above ≡ false
 proper_if place [] e k s g = absurd (cc)
 proper_if place (x ∷ xs) e zero s g =
     let same : x ≡ s = cc in
     let here : list_any (λ n. n == place) x.above ≡ false = not-true _ (first_so (not (list_any (λ n. n == place) x.above)) (tests.are_proper (place + 1) xs) e) in
     subst (λ (y : Sort). list_any (λ a. a == place + 0) y.above ≡ false) same (ap (λ n. list_any (λ a. a == n) x.above) (omega arith) ∙ here)
-proper_if place (x ∷ xs) e (suc k) s g = ap (λ n. list_any (λ a. a == n) s.above) (omega arith) ∙ proper_if (place + 1) xs (second_so (not (list_any (λ n. n == place) x.above)) (tests.are_proper (place + 1) xs) e) k s g
+proper_if place (x ∷ xs) e (suc k) s g =
+    ap (λ n. list_any (λ a. a == n) s.above) (omega arith)
+    ∙ proper_if (place + 1) xs (second_so (not (list_any (λ n. n == place) x.above)) (tests.are_proper (place + 1) xs) e) k s g
 
-proper_from : (place : ℕ) (all : List Sort) → ((k : ℕ) (s : Sort) → slice_get all k ≡ Some s → list_any (λ a. a == place + k) s.above ≡ false) → tests.are_proper place all ≡ true
+proper_from : (place : ℕ) (all : List Sort)
+    → ((k : ℕ) (s : Sort) → slice_get all k ≡ Some s → list_any (λ a. a == place + k) s.above ≡ false) → tests.are_proper place all ≡ true
 proper_from place [] none = refl
 proper_from place (x ∷ xs) none =
     and_from (not (list_any (λ n. n == place) x.above)) (tests.are_proper (place + 1) xs)
@@ -55,7 +59,9 @@ proper_from place (x ∷ xs) none =
 here_found : (xs : List ℕ) (a : ℕ) → list_any (λ n. n == a) xs ≡ true → (i : ℕ) × (slice_get xs i ≡ Some a)
 here_found xs a e = let found = any_found (λ n. n == a) xs e in (found.0, found.2 ∙ ap Some (eqb-true found.1 a found.3))
 
-closed_if : (all : List Sort) → list_all (tests.is_closed all) all ≡ true → (k a b : ℕ) (s t : Sort) → slice_get all k ≡ Some s → list_any (λ n. n == a) s.above ≡ true → slice_get all a ≡ Some t → list_any (λ n. n == b) t.above ≡ true → list_any (λ n. n == b) s.above ≡ true
+closed_if : (all : List Sort) → list_all (tests.is_closed all) all ≡ true → (k a b : ℕ) (s t : Sort) → slice_get all k ≡ Some s
+    → list_any (λ n. n == a) s.above ≡ true → slice_get all a ≡ Some t → list_any (λ n. n == b) t.above ≡ true
+    → list_any (λ n. n == b) s.above ≡ true
 closed_if all e k a b s t gs ma gt mb =
     let own : tests.is_closed all s ≡ true = all_at (tests.is_closed all) all k s e gs in
     let at_a = here_found s.above a ma in
@@ -64,11 +70,15 @@ closed_if all e k a b s t gs ma gt mb =
     let at_b = here_found t.above b mb in
     all_at (λ c. list_any (λ n. n == c) s.above) t.above at_b.0 b inside at_b.1
 
-among_from : (o : Option Sort) (above : List ℕ) → ((t : Sort) → o ≡ Some t → (b : ℕ) → list_any (λ n. n == b) t.above ≡ true → list_any (λ n. n == b) above ≡ true) → tests.are_among o above ≡ true
+among_from : (o : Option Sort) (above : List ℕ)
+    → ((t : Sort) → o ≡ Some t → (b : ℕ) → list_any (λ n. n == b) t.above ≡ true → list_any (λ n. n == b) above ≡ true)
+    → tests.are_among o above ≡ true
 among_from None above each = refl
 among_from (Some t) above each = all_from (λ b. list_any (λ n. n == b) above) t.above (λ j b g. each t refl b (any_passes_from_place (λ n. n == b) t.above j b g (eq-eqb b b refl)))
 
-closed_from : (all : List Sort) → ((k a b : ℕ) (s t : Sort) → slice_get all k ≡ Some s → list_any (λ n. n == a) s.above ≡ true → slice_get all a ≡ Some t → list_any (λ n. n == b) t.above ≡ true → list_any (λ n. n == b) s.above ≡ true) → list_all (tests.is_closed all) all ≡ true
+closed_from : (all : List Sort)
+    → ((k a b : ℕ) (s t : Sort) → slice_get all k ≡ Some s → list_any (λ n. n == a) s.above ≡ true → slice_get all a ≡ Some t → list_any (λ n. n == b) t.above ≡ true → list_any (λ n. n == b) s.above ≡ true)
+    → list_all (tests.is_closed all) all ≡ true
 closed_from all closed =
     all_from (tests.is_closed all) all
     (λ k s gs. all_from (λ a. tests.are_among (slice_get all a) s.above) s.above

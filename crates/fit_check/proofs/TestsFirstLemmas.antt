@@ -10,7 +10,8 @@ use Rattle.fit_check.specs.Tests.{are_first}
 pub more_not_first : (cs os : List Declared) → length os < length cs → false ≡ are_first cs os
 more_not_first [] os h = absurd (omega arith)
 more_not_first (c ∷ cs) [] h = refl
-more_not_first (c ∷ cs) (o ∷ os) h = sym (and_right (same_numbers c.name o.name) (are_first cs os) (sym (more_not_first cs os (omega arith))))
+more_not_first (c ∷ cs) (o ∷ os) h =
+    sym (and_right (same_numbers c.name o.name) (are_first cs os) (sym (more_not_first cs os (omega arith))))
 
 abbrev names_of : List Declared → List (List ℕ)
 names_of = map (λ (d : Declared). d.name)

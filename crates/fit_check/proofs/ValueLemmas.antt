@@ -33,7 +33,8 @@ same_itself Static = refl
 same_itself Fluent = refl
 same_itself Derived = refl
 
-pub roles_if : (domain : Domain) (place n : ℕ) (rs : List Role) → length rs ≡ n → tests.are_right domain place rs ≡ true → rs ≡ map (role_of domain) (numbers_from place n)
+pub roles_if : (domain : Domain) (place n : ℕ) (rs : List Role) → length rs ≡ n → tests.are_right domain place rs ≡ true
+    → rs ≡ map (role_of domain) (numbers_from place n)
 roles_if domain place zero [] long e = refl
 roles_if domain place (suc n) [] long e = absurd (omega arith)
 roles_if domain place zero (r ∷ rs) long e = absurd (omega arith)
@@ -58,14 +59,16 @@ equal_if v w e func args =
     ] refl
 
 -- no value of the list is another of this term
-none_differs : (v : Valued) (vs : List Valued) → not (list_any (tests.differ v) vs) ≡ true → (j : ℕ) (w : Valued) → slice_get vs j ≡ Some w → tests.differ v w ≡ false
+none_differs : (v : Valued) (vs : List Valued) → not (list_any (tests.differ v) vs) ≡ true → (j : ℕ) (w : Valued) → slice_get vs j ≡ Some w
+    → tests.differ v w ≡ false
 none_differs v vs none j w g =
     elim (tests.differ v w) as (λ b. tests.differ v w ≡ b → tests.differ v w ≡ false) [
       | true ↦ λ t. absurd (both_ways (list_any (tests.differ v) vs) (not-true (list_any (tests.differ v) vs) none) (any_passes_from_place (tests.differ v) vs j w g t))
       | false ↦ λ f. f
     ] refl
 
-pub one_value_if : (vs : List Valued) → tests.have_one_value vs ≡ true → (i j : ℕ) (v w : Valued) → slice_get vs i ≡ Some v → slice_get vs j ≡ Some w → v.func ≡ w.func → v.args ≡ w.args → v.value ≡ w.value
+pub one_value_if : (vs : List Valued) → tests.have_one_value vs ≡ true → (i j : ℕ) (v w : Valued) → slice_get vs i ≡ Some v
+    → slice_get vs j ≡ Some w → v.func ≡ w.func → v.args ≡ w.args → v.value ≡ w.value
 one_value_if [] e i j v w gi gj func args = absurd (cc)
 one_value_if (x ∷ xs) e zero zero v w gi gj func args = let same : v ≡ w = cc in ap (λ (u : Valued). u.value) same
 one_value_if (x ∷ xs) e zero (suc j) v w gi gj func args =
@@ -74,7 +77,8 @@ one_value_if (x ∷ xs) e zero (suc j) v w gi gj func args =
 one_value_if (x ∷ xs) e (suc i) zero v w gi gj func args =
     let same : x ≡ w = cc in
     sym (equal_if w v (ap (λ u. tests.differ u v) (sym same) ∙ none_differs x xs (first_so (not (list_any (tests.differ x) xs)) (tests.have_one_value xs) e) i v gi) (sym func) (sym args))
-one_value_if (x ∷ xs) e (suc i) (suc j) v w gi gj func args = one_value_if xs (second_so (not (list_any (tests.differ x) xs)) (tests.have_one_value xs) e) i j v w gi gj func args
+one_value_if (x ∷ xs) e (suc i) (suc j) v w gi gj func args =
+    one_value_if xs (second_so (not (list_any (tests.differ x) xs)) (tests.have_one_value xs) e) i j v w gi gj func args
 
 differ_parts : (v w : Valued) → tests.differ v w ≡ true → (v.func ≡ w.func) × (v.args ≡ w.args) × (v.value ≡ w.value → ⊥)
 differ_parts v w e =
@@ -85,7 +89,9 @@ differ_parts v w e =
       λ same. both_ways (v.value == w.value) other (eq-eqb v.value w.value same),
     )
 
-pub one_value_from : (vs : List Valued) → ((i j : ℕ) (v w : Valued) → slice_get vs i ≡ Some v → slice_get vs j ≡ Some w → v.func ≡ w.func → v.args ≡ w.args → v.value ≡ w.value) → tests.have_one_value vs ≡ true
+pub one_value_from : (vs : List Valued)
+    → ((i j : ℕ) (v w : Valued) → slice_get vs i ≡ Some v → slice_get vs j ≡ Some w → v.func ≡ w.func → v.args ≡ w.args → v.value ≡ w.value)
+    → tests.have_one_value vs ≡ true
 one_value_from [] one = refl
 one_value_from (x ∷ xs) one =
     and_from (not (list_any (tests.differ x) xs)) (tests.have_one_value xs)

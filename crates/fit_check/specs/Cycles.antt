@@ -16,7 +16,9 @@ pub record IsSettled (edge : ℕ → ℕ → Bool) (size : ℕ) (next : List ℕ
 
 -- each node that isn't done has an edge to one that isn't
 abbrev pub IsStill : (ℕ → ℕ → Bool) → ℕ → List ℕ → Type 0
-IsStill edge size next = (i : ℕ) → i < size → slice_index next i < size → (edge i (slice_index next i) ≡ true) × (slice_index next (slice_index next i) < size)
+IsStill edge size next =
+    (i : ℕ) → i < size → slice_index next i < size
+    → (edge i (slice_index next i) ≡ true) × (slice_index next (slice_index next i) < size)
 
 -- how many places the nodes may still move
 abbrev pub work_left : ℕ → List ℕ → ℕ

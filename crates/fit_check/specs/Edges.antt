@@ -20,13 +20,15 @@ nothing_to : (first : Option Derived) → mentions_head first None ≡ true → 
 nothing_to None e = absurd (cc)
 nothing_to (Some d) e = absurd (cc)
 
-pub items_within : (domain : Domain) (from to : ℕ) → item_leads domain from to ≡ true → (from < length domain.derived) × (to < length domain.derived)
+pub items_within : (domain : Domain) (from to : ℕ) → item_leads domain from to ≡ true
+    → (from < length domain.derived) × (to < length domain.derived)
 items_within domain from to e = (
   inside domain.derived from (λ none. nothing_from (slice_get domain.derived to) (ap (λ o. mentions_head o (slice_get domain.derived to)) (sym none) ∙ e)),
   inside domain.derived to (λ none. nothing_to (slice_get domain.derived from) (ap (mentions_head (slice_get domain.derived from)) (sym none) ∙ e)),
 )
 
-pub streams_within : (task : Task) (from to : ℕ) → leads task from to ≡ true → (from < length task.streams) × (to < length task.streams)
+pub streams_within : (task : Task) (from to : ℕ) → leads task from to ≡ true
+    → (from < length task.streams) × (to < length task.streams)
 streams_within task from to e = (
   inside task.streams from (λ none. let h = rw none at e in let f : false ≡ true = h in absurd (cc)),
   elim (slice_get task.streams from) as (λ o. slice_get task.streams from ≡ o → to < length task.streams) [

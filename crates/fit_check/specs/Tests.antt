@@ -58,10 +58,14 @@ are_fit_sorts all =
 -- ---- domains
 
 abbrev pub are_fit_signatures : List Signature → Bool
-are_fit_signatures all = fit.is_short all && list_all (λ (s : Signature). nat_le s.arity 8) all && are_fit_names (map (λ (s : Signature). s.name) all)
+are_fit_signatures all =
+    fit.is_short all && list_all (λ (s : Signature). nat_le s.arity 8) all
+    && are_fit_names (map (λ (s : Signature). s.name) all)
 
 abbrev pub are_fit_objects : Domain → List Declared → Bool
-are_fit_objects domain all = fit.is_short all && list_all (λ (d : Declared). fit.are_places (length domain.sorts) d.sorts) all && are_fit_names (map (λ (d : Declared). d.name) all)
+are_fit_objects domain all =
+    fit.is_short all && list_all (λ (d : Declared). fit.are_places (length domain.sorts) d.sorts) all
+    && are_fit_names (map (λ (d : Declared). d.name) all)
 
 abbrev pub same_role : Role → Role → Bool
 same_role Static Static = true
@@ -81,16 +85,22 @@ are_right domain place (r ∷ rs) = same_role r (role_of domain place) && are_ri
 
 -- each predicate has its role, and few are derived
 abbrev pub are_fit_roles : Domain → Bool
-are_fit_roles domain = (length domain.roles == length domain.predicates) && are_right domain 0 domain.roles && nat_le (count_by fit.is_derived_role domain.roles) 64
+are_fit_roles domain =
+    (length domain.roles == length domain.predicates) && are_right domain 0 domain.roles
+    && nat_le (count_by fit.is_derived_role domain.roles) 64
 
 abbrev pub are_fit_items : Domain → Bool
 are_fit_items domain = fit.is_short domain.derived && list_all (fit.is_fit_item domain) domain.derived
 
 abbrev pub are_fit_actions : Domain → Bool
-are_fit_actions domain = fit.is_short domain.actions && list_all (fit.is_fit_action domain) domain.actions && are_fit_names (map (λ (a : Action). a.name) domain.actions)
+are_fit_actions domain =
+    fit.is_short domain.actions && list_all (fit.is_fit_action domain) domain.actions
+    && are_fit_names (map (λ (a : Action). a.name) domain.actions)
 
 abbrev pub have_fit_lists : Domain → Bool
-have_fit_lists domain = fit.is_name domain.name && are_fit_sorts domain.sorts && are_fit_signatures domain.predicates && are_fit_signatures domain.functions && are_fit_objects domain domain.constants
+have_fit_lists domain =
+    fit.is_name domain.name && are_fit_sorts domain.sorts && are_fit_signatures domain.predicates
+    && are_fit_signatures domain.functions && are_fit_objects domain domain.constants
 
 -- all but that no derived predicate rests on itself
 abbrev pub is_fit_domain : Domain → Bool
@@ -114,10 +124,15 @@ have_one_value [] = true
 have_one_value (v ∷ vs) = not (list_any (differ v) vs) && have_one_value vs
 
 abbrev pub has_fit_facts : Task → Bool
-has_fit_facts task = fit.is_short task.problem.init && list_all (fit.is_fit_fact task.domain (length task.problem.objects)) task.problem.init
+has_fit_facts task =
+    fit.is_short task.problem.init
+    && list_all (fit.is_fit_fact task.domain (length task.problem.objects)) task.problem.init
 
 abbrev pub has_fit_values : Task → Bool
-has_fit_values task = fit.is_short task.problem.values && list_all (fit.is_fit_value task.domain (length task.problem.objects)) task.problem.values && have_one_value task.problem.values
+has_fit_values task =
+    fit.is_short task.problem.values
+    && list_all (fit.is_fit_value task.domain (length task.problem.objects)) task.problem.values
+    && have_one_value task.problem.values
 
 abbrev pub is_fit_problem : Task → Bool
 is_fit_problem task =
@@ -128,7 +143,9 @@ is_fit_problem task =
 
 -- all but that no stream feeds itself
 abbrev pub are_fit_streams : Task → Bool
-are_fit_streams task = fit.is_short task.streams && list_all (fit.is_fit_stream task.domain) task.streams && are_fit_names (map (λ (s : Stream). s.name) task.streams)
+are_fit_streams task =
+    fit.is_short task.streams && list_all (fit.is_fit_stream task.domain) task.streams
+    && are_fit_names (map (λ (s : Stream). s.name) task.streams)
 
 -- ---- graphs
 

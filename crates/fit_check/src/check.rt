@@ -12,7 +12,8 @@ use task_model::Task;
 
 /// Whether the task is fit, apart from what rests on itself.
 fn is_nearly_fit(task: &Task) -> bool
-    ensures { result ≡ (tests.is_fit_domain task.now.domain && tests.is_fit_problem task.now && tests.are_fit_streams task.now) }
+    ensures { result ≡ (tests.is_fit_domain task.now.domain && tests.is_fit_problem task.now
+        && tests.are_fit_streams task.now) }
 {
     is_fit_domain(&task.domain) && is_fit_problem(task) && are_fit_streams(task)
 }

@@ -87,7 +87,8 @@ fn are_shallow(parts: &[Formula], most: usize) -> bool
 /// Whether all places in the condition are in range, and each slot that is used has a value.
 #[cycle(sound)]
 fn is_sound(scope: Scope<'_>, slots: &Slots, formula: &Formula) -> bool
-    ensures { result ≡ fit.is_sound scope.entry.domain.now scope.entry.objects formula.now slots.now }
+    ensures { result ≡ fit.is_sound scope.entry.domain.now scope.entry.objects formula.now
+        slots.now }
 {
     let domain = scope.domain;
     match &formula.node {
@@ -114,7 +115,9 @@ fn is_sound(scope: Scope<'_>, slots: &Slots, formula: &Formula) -> bool
 /// Whether there aren't too many parts, and each is so.
 #[cycle(sound)]
 fn are_fit_parts(scope: Scope<'_>, slots: &Slots, parts: &[Formula]) -> bool
-    ensures { result ≡ (nat_le (fit.count_of (parts_of parts.now)) 8388608 && fit.are_sound scope.entry.domain.now scope.entry.objects (parts_of parts.now) slots.now) }
+    ensures { result ≡ (nat_le (fit.count_of (parts_of parts.now)) 8388608
+        && fit.are_sound scope.entry.domain.now scope.entry.objects (parts_of parts.now)
+        slots.now) }
 {
     is_short(parts) && are_sound(scope, slots, parts)
 }
@@ -122,7 +125,8 @@ fn are_fit_parts(scope: Scope<'_>, slots: &Slots, parts: &[Formula]) -> bool
 /// Whether each part is so.
 #[cycle(sound)]
 fn are_sound(scope: Scope<'_>, slots: &Slots, parts: &[Formula]) -> bool
-    ensures { result ≡ fit.are_sound scope.entry.domain.now scope.entry.objects (parts_of parts.now) slots.now }
+    ensures { result ≡ fit.are_sound scope.entry.domain.now scope.entry.objects (parts_of parts.now)
+        slots.now }
 {
     for part in parts {
         if !is_sound(scope, slots, part) {
@@ -135,7 +139,8 @@ fn are_sound(scope: Scope<'_>, slots: &Slots, parts: &[Formula]) -> bool
 /// Whether the body is so where slots get values of these types.
 #[cycle(sound)]
 fn is_sound_in(scope: Scope<'_>, slots: &Slots, first: u8, sorts: &Seq<u32>, body: &Formula) -> bool
-    ensures { result ≡ fit.is_sound scope.entry.domain.now scope.entry.objects (Exists first sorts.now body.now) slots.now }
+    ensures { result ≡ fit.is_sound scope.entry.domain.now scope.entry.objects
+        (Exists first sorts.now body.now) slots.now }
 {
     let first = first as usize;
     if sorts.len() > 16 || first + sorts.len() > 16 {
@@ -147,7 +152,8 @@ fn is_sound_in(scope: Scope<'_>, slots: &Slots, first: u8, sorts: &Seq<u32>, bod
 
 /// Whether the condition is fit where these slots have values.
 pub(crate) fn is_fit_condition(scope: Scope<'_>, slots: &Slots, formula: &Formula) -> bool
-    ensures { result ≡ fit.is_fit_condition scope.entry.domain.now scope.entry.objects slots.now formula.now }
+    ensures { result ≡ fit.is_fit_condition scope.entry.domain.now scope.entry.objects slots.now
+        formula.now }
 {
     is_shallow(formula, 64) && is_sound(scope, slots, formula)
 }

@@ -30,7 +30,8 @@ fn are_fit_signatures(signatures: &[Signature]) -> bool
 
 /// Whether the objects have types of the domain.
 fn have_types(domain: &Domain, objects: &[Declared]) -> bool
-    ensures { result ≡ list_all (λ d. fit.are_places (length domain.now.sorts) d.sorts) objects.now }
+    ensures { result ≡ list_all (λ d. fit.are_places (length domain.now.sorts) d.sorts)
+        objects.now }
 {
     let size = domain.sorts.len();
     objects
@@ -92,7 +93,8 @@ fn are_fit_items(domain: &Domain) -> bool
 
 /// Whether the atom's predicate takes its arguments.
 fn is_fit_pattern(domain: &Domain, slots: &Slots, pattern: &Pattern) -> bool
-    ensures { result ≡ fit.is_fit_pattern domain.now (length domain.now.constants) slots.now pattern.now }
+    ensures { result ≡ fit.is_fit_pattern domain.now (length domain.now.constants) slots.now
+        pattern.now }
 {
     is_fit_application(
         domain.predicates.as_slice(),
@@ -105,7 +107,8 @@ fn is_fit_pattern(domain: &Domain, slots: &Slots, pattern: &Pattern) -> bool
 
 /// Whether each is so.
 fn may_be_patterns(domain: &Domain, slots: &Slots, patterns: &[Pattern]) -> bool
-    ensures { result ≡ list_all (fit.is_fit_pattern domain.now (length domain.now.constants) slots.now) patterns.now }
+    ensures { result ≡ list_all (fit.is_fit_pattern domain.now (length domain.now.constants)
+        slots.now) patterns.now }
 {
     patterns
         .iter()
@@ -114,14 +117,16 @@ fn may_be_patterns(domain: &Domain, slots: &Slots, patterns: &[Pattern]) -> bool
 
 /// Whether each is so, and there aren't too many.
 pub(crate) fn are_fit_patterns(domain: &Domain, slots: &Slots, patterns: &[Pattern]) -> bool
-    ensures { result ≡ fit.are_fit_patterns domain.now (length domain.now.constants) slots.now patterns.now }
+    ensures { result ≡ fit.are_fit_patterns domain.now (length domain.now.constants) slots.now
+        patterns.now }
 {
     is_short(patterns) && may_be_patterns(domain, slots, patterns)
 }
 
 /// Whether none of these is an atom of a derived predicate.
 fn are_underived(domain: &Domain, patterns: &[Pattern]) -> bool
-    ensures { result ≡ list_all (λ p. not (fit.is_derived_role (roles.role_of domain.now p.pred))) patterns.now }
+    ensures { result ≡ list_all (λ p. not (fit.is_derived_role (roles.role_of domain.now p.pred)))
+        patterns.now }
 {
     patterns
         .iter()

@@ -34,8 +34,10 @@ fn next_open<G: Graph>(graph: &G, next: &[usize], from: usize) -> usize
     requires small { slice_index next.now from ≤ G.size graph.now }
     ensures on { slice_index next.now from ≤ result }
     ensures within { result ≤ G.size graph.now }
-    ensures passed { (k : ℕ) → slice_index next.now from ≤ k → k < result → G.edge graph.now from k ≡ true → G.size graph.now ≤ slice_index next.now k }
-    ensures open { result < G.size graph.now → (G.edge graph.now from result ≡ true) × (slice_index next.now result < G.size graph.now) }
+    ensures passed { (k : ℕ) → slice_index next.now from ≤ k → k < result → G.edge graph.now from k
+        ≡ true → G.size graph.now ≤ slice_index next.now k }
+    ensures open { result < G.size graph.now → (G.edge graph.now from result ≡ true)
+        × (slice_index next.now result < G.size graph.now) }
 {
     let size = next.len();
     for to in next[from]..size {
@@ -50,7 +52,8 @@ fn next_open<G: Graph>(graph: &G, next: &[usize], from: usize) -> usize
 fn advance<G: Graph>(graph: &G, next: &mut [usize]) -> bool
     requires { IsSettled (G.edge graph.now) (G.size graph.now) next.old }
     ensures settled { IsSettled (G.edge graph.now) (G.size graph.now) next.new }
-    ensures moved { IsTrue result → work_left (G.size graph.now) next.new < work_left (G.size graph.now) next.old }
+    ensures moved { IsTrue result → work_left (G.size graph.now) next.new < work_left
+        (G.size graph.now) next.old }
     ensures still { result ≡ false → IsStill (G.edge graph.now) (G.size graph.now) next.new }
 {
     let mut moved = false;

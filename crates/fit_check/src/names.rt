@@ -99,7 +99,8 @@ pub(crate) fn same_name(name: &Name, other: &Name) -> bool
 /// Whether the name of the item at this place is that of one behind it.
 fn is_repeated<T: Named>(items: &[T], place: usize) -> bool
     requires { place < length items.now }
-    ensures { (x : T) → slice_get items.now place ≡ Some x → result ≡ list_any (λ y. same_numbers (T.named x) (T.named y)) (drop (place + 1) items.now) }
+    ensures { (x : T) → slice_get items.now place ≡ Some x → result
+        ≡ list_any (λ y. same_numbers (T.named x) (T.named y)) (drop (place + 1) items.now) }
 {
     let name = items[place].name();
     for other in place + 1..items.len() {

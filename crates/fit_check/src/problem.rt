@@ -130,7 +130,8 @@ fn has_fit_values(task: &Task) -> bool
 
 /// Whether the goal is fit.
 fn has_fit_goal(task: &Task) -> bool
-    ensures { result ≡ fit.is_fit_condition task.now.domain (length task.now.problem.objects) [] task.now.problem.goal }
+    ensures { result ≡ fit.is_fit_condition task.now.domain (length task.now.problem.objects) []
+        task.now.problem.goal }
 {
     let scope = Scope {
         domain: &task.domain,

@@ -36,7 +36,8 @@ impl Slots {
     /// These slots and so many from this one on, which are among the sixteen.
     pub(crate) fn with(&self, first: usize, count: usize) -> Slots
         requires { first + count ≤ 16 }
-        ensures { (n : ℕ) → list_any (λ slot. slot == n) result ≡ list_any (λ slot. slot == n) (numbers_from first count ++ self.now) }
+        ensures { (n : ℕ) → list_any (λ slot. slot == n) result
+            ≡ list_any (λ slot. slot == n) (numbers_from first count ++ self.now) }
     {
         let mut filled = self.filled;
         for place in first..first + count {

@@ -26,7 +26,8 @@ fn are_static(domain: &Domain, patterns: &[Pattern]) -> bool
 
 /// Whether there are at most eight, all of which are types.
 fn are_fit_types(domain: &Domain, sorts: &[u32]) -> bool
-    ensures { result ≡ (nat_le (length sorts.now) 8 && fit.are_places (length domain.now.sorts) sorts.now) }
+    ensures { result ≡ (nat_le (length sorts.now) 8
+        && fit.are_places (length domain.now.sorts) sorts.now) }
 {
     sorts.len() <= 8 && are_places(domain.sorts.len(), sorts)
 }
@@ -34,7 +35,8 @@ fn are_fit_types(domain: &Domain, sorts: &[u32]) -> bool
 /// Whether these may be domain facts or certified facts, where the slots have values.
 fn are_fit_atoms(domain: &Domain, count: usize, patterns: &[Pattern]) -> bool
     requires { count ≤ 16 }
-    ensures { result ≡ (fit.are_fit_patterns domain.now (length domain.now.constants) (numbers_from 0 count) patterns.now && fit.are_static_patterns domain.now patterns.now) }
+    ensures { result ≡ (fit.are_fit_patterns domain.now (length domain.now.constants)
+        (numbers_from 0 count) patterns.now && fit.are_static_patterns domain.now patterns.now) }
 {
     are_fit_patterns(domain, &Slots::first(count), patterns) && are_static(domain, patterns)
 }
@@ -123,7 +125,8 @@ fn is_used(slot: usize, patterns: &[Pattern]) -> bool
 
 /// The proper supertypes of the type, and none where there is no such type.
 fn supertypes(domain: &Domain, sort: u32) -> &[u32]
-    ensures { result.now ≡ unwrap_or (option_map (λ s. s.above) (slice_get domain.now.sorts sort)) [] }
+    ensures { result.now ≡ unwrap_or (option_map (λ s. s.above) (slice_get domain.now.sorts sort))
+        [] }
 {
     match domain.sorts.as_slice().get(sort as usize) {
         Some(declared) => declared.above.as_slice(),
@@ -141,7 +144,8 @@ fn is_type_of(domain: &Domain, input: u32, output: u32) -> bool
 /// Whether an output of this type may be the input in this slot. The type `object` counts only for an input
 /// that stands in no domain fact.
 fn feeds(domain: &Domain, second: &Stream, slot: usize, input: u32, output: u32) -> bool
-    ensures { result ≡ (tests.is_type_of domain.now input output && (not (input == 0) || not (fit.is_used slot second.now.domain))) }
+    ensures { result ≡ (tests.is_type_of domain.now input output
+        && (not (input == 0) || not (fit.is_used slot second.now.domain))) }
 {
     is_type_of(domain, input, output) && (input != 0 || !is_used(slot, second.domain.as_slice()))
 }
@@ -160,7 +164,8 @@ fn is_fed(domain: &Domain, second: &Stream, output: u32) -> bool
 
 /// Whether what the first certifies may be what the second asks for.
 fn certifies_for(first: &Stream, second: &Stream) -> bool
-    ensures { result ≡ list_any (λ p. list_any (λ q. q.pred == p.pred) second.now.domain) first.now.certified }
+    ensures { result ≡ list_any (λ p. list_any (λ q. q.pred == p.pred) second.now.domain)
+        first.now.certified }
 {
     first.certified.as_slice().iter().any(|pattern| has_atom_of(
         pattern.pred as usize,
@@ -170,7 +175,8 @@ fn certifies_for(first: &Stream, second: &Stream) -> bool
 
 /// Whether an output of the first may be an input of the second.
 fn gives_to(domain: &Domain, first: &Stream, second: &Stream) -> bool
-    ensures { result ≡ list_any (fit.is_fed domain.now second.now 0 second.now.inputs) first.now.outputs }
+    ensures { result ≡ list_any (fit.is_fed domain.now second.now 0 second.now.inputs)
+        first.now.outputs }
 {
     first
         .outputs

@@ -45,7 +45,8 @@ taken f g fs (Some k) e l = record { among = behind l.among; first = leads }
     leads h here = transitive k g f (l.first g here) (total f g e)
     leads h (behind r) = l.first h r
 
-chosen : (f g : Fault) (fs : List Fault) (b : Bool) → comes_first f g ≡ b → Led f fs (first (Some f) fs) → Led g fs (first (Some g) fs) → Led f (g ∷ fs) (first (cond b (Some f) (Some g)) fs)
+chosen : (f g : Fault) (fs : List Fault) (b : Bool) → comes_first f g ≡ b → Led f fs (first (Some f) fs) → Led g fs (first (Some g) fs)
+    → Led f (g ∷ fs) (first (cond b (Some f) (Some g)) fs)
 chosen f g fs true e one other = stays f g fs (first (Some f) fs) e one
 chosen f g fs false e one other = taken f g fs (first (Some g) fs) e other
 

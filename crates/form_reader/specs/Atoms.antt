@@ -55,4 +55,5 @@ is_total_cost_alone (list items at rest) = false
 
 -- (NAME term*), the function term that a cost stream gives a value; the total cost is none
 abbrev pub worth_faults : ℕ → Trees → List Fault
-worth_faults place items = if is_total_cost_alone items then unsupported place ∷ [] else application_faults Name Term place items
+worth_faults place items =
+    if is_total_cost_alone items then unsupported place ∷ [] else application_faults Name Term place items

@@ -42,7 +42,8 @@ cost_faults place (list items at rest) = application_faults Name Term at items +
 abbrev pub increase_faults : ℕ → Trees → List Fault
 increase_faults place nothing = shape place ∷ []
 increase_faults place (word text at rest) = shape at ∷ []
-increase_faults place (list items at rest) = if is_other_function items then unsupported place ∷ [] else total_cost_faults at items ++ cost_faults place rest
+increase_faults place (list items at rest) =
+    if is_other_function items then unsupported place ∷ [] else total_cost_faults at items ++ cost_faults place rest
 
 -- what the head of an effect chooses
 abbrev pub by_effect : {A : Type 0} → EffectHead → (parts negated increased refused atom : A) → A

@@ -88,8 +88,10 @@ function_list_faults Typed items at behind = list_fault Typed items at ∷ []
 -- fsig*, each with `- number` or without
 abbrev pub functions_faults : ℕ → Spot → Trees → List Fault
 functions_faults place spot nothing = cut_faults place spot
-functions_faults place spot (word text at rest) = or_behind (function_word_fault spot text at) (functions_faults place (after_function_word spot) rest)
-functions_faults place spot (list items at rest) = function_list_faults spot items at (functions_faults place Named rest)
+functions_faults place spot (word text at rest) =
+    or_behind (function_word_fault spot text at) (functions_faults place (after_function_word spot) rest)
+functions_faults place spot (list items at rest) =
+    function_list_faults spot items at (functions_faults place Named rest)
 
 -- (NAME vars) cond
 abbrev pub derived_faults : ℕ → Trees → List Fault

@@ -47,7 +47,8 @@ key_of CostStream w = cost_stream_key_of w
 
 -- of a list in a stream's atoms, which may be left out itself
 abbrev pub stream_atoms_faults : ℕ → Trees → List Fault
-stream_atoms_faults place items = refused_here Atoms place items ++ refused_faults Atoms items ++ atoms_faults place items
+stream_atoms_faults place items =
+    refused_here Atoms place items ++ refused_faults Atoms items ++ atoms_faults place items
 
 -- of the value of a key, which is a list
 abbrev pub value_faults : Key → ℕ → Trees → List Fault

@@ -44,4 +44,5 @@ refused_here region place items = if is_refused region items then unsupported pl
 abbrev pub refused_faults : Region → Trees → List Fault
 refused_faults region nothing = []
 refused_faults region (word text at rest) = refused_faults region rest
-refused_faults region (list items at rest) = refused_here region at items ++ refused_faults region items ++ refused_faults region rest
+refused_faults region (list items at rest) =
+    refused_here region at items ++ refused_faults region items ++ refused_faults region rest

@@ -97,11 +97,13 @@ cut_faults place Typed = shape place ∷ []
 
 abbrev pub groups_faults : WordSort → ℕ → Spot → Trees → List Fault
 groups_faults sort place spot nothing = cut_faults place spot
-groups_faults sort place spot (word text at rest) = if can_stand sort spot text then groups_faults sort place (after_word spot text) rest else shape at ∷ []
+groups_faults sort place spot (word text at rest) =
+    if can_stand sort spot text then groups_faults sort place (after_word spot text) rest else shape at ∷ []
 groups_faults sort place spot (list items at rest) = list_fault spot items at ∷ []
 
 -- `(NAME vars)`: what declares a predicate or a function, and the head of a derived predicate
 abbrev pub declaration_faults : WordSort → ℕ → Trees → List Fault
 declaration_faults head place nothing = shape place ∷ []
-declaration_faults head place (word text at rest) = if is_of head text then groups_faults Variable place Start rest else shape at ∷ []
+declaration_faults head place (word text at rest) =
+    if is_of head text then groups_faults Variable place Start rest else shape at ∷ []
 declaration_faults head place (list items at rest) = shape at ∷ []

@@ -18,7 +18,8 @@ title_of Streams = codes "stream"
 -- `domain NAME` or the like
 abbrev pub title_faults : TextKind → ℕ → Trees → List Fault
 title_faults text place nothing = shape place ∷ []
-title_faults text place (word w at rest) = if bytes_eq w (title_of text) then one_faults Name place rest else shape at ∷ []
+title_faults text place (word w at rest) =
+    if bytes_eq w (title_of text) then one_faults Name place rest else shape at ∷ []
 title_faults text place (list items at rest) = shape at ∷ []
 
 -- (domain NAME) ditem* or the like
@@ -30,7 +31,8 @@ titled_faults text place (list items at rest) = title_faults text at items ++ it
 -- define (domain NAME) ditem* or the like
 abbrev pub define_faults : TextKind → ℕ → Trees → List Fault
 define_faults text place nothing = shape place ∷ []
-define_faults text place (word w at rest) = if bytes_eq w (codes "define") then titled_faults text place rest else shape at ∷ []
+define_faults text place (word w at rest) =
+    if bytes_eq w (codes "define") then titled_faults text place rest else shape at ∷ []
 define_faults text place (list items at rest) = shape at ∷ []
 
 -- a list that begins with this word is among them
@@ -42,7 +44,8 @@ has_item w (list items at rest) = bytes_eq (head_of items) w || has_item w rest
 -- a problem has a `:domain` and a `:goal`, wherever they stand
 abbrev pub missing_faults : TextKind → ℕ → Trees → List Fault
 missing_faults Domain place items = []
-missing_faults Problem place items = if has_item (codes ":domain") items && has_item (codes ":goal") items then [] else shape place ∷ []
+missing_faults Problem place items =
+    if has_item (codes ":domain") items && has_item (codes ":goal") items then [] else shape place ∷ []
 missing_faults Streams place items = []
 
 -- All form faults of a text that is this row of one tree.

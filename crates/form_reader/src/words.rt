@@ -140,7 +140,8 @@ pub(crate) fn begins_with_digit(word: &[u8]) -> bool
 /// The number that the word writes, if it is digits alone and the number is at most 1,000,000. Leading zeros may stand.
 #[tactic(auto, unfolding(crate::specs::Words::is_number))]
 pub fn number_of(word: &[u8]) -> Option<u32>
-    ensures { result ≡ (if specs.is_number word.now then Some (digits_value 10 word.now) else None) }
+    ensures { result ≡ (if specs.is_number word.now then Some (digits_value 10 word.now) else
+        None) }
 {
     if !are_digits(word) {
         return None;

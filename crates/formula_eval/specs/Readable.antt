@@ -15,7 +15,8 @@ module _ (domain : Domain) where
   -- each predicate is the domain's, with at most eight arguments, and all slots are below sixteen
   abbrev mutual
     pub is_readable : Condition → Bool
-    is_readable (Atom pred args) = nat_lt pred (length domain.predicates) && nat_le (length args) 8 && list_all is_readable_term args
+    is_readable (Atom pred args) =
+        nat_lt pred (length domain.predicates) && nat_le (length args) 8 && list_all is_readable_term args
     is_readable (Equal s t) = is_readable_term s && is_readable_term t
     is_readable (every parts) = are_readable parts
     is_readable (Any parts) = are_readable parts

@@ -23,7 +23,8 @@ pub(crate) struct Scene<'a, L: Look> {
 fn truth<L: Look>(scene: &Scene<'_, L>, depth: usize, formula: &Formula, env: &mut Env) -> bool
     requires fit { IsFit scene.now.task.now }
     requires readable { is_readable scene.now.task.now.domain formula.now ≡ true }
-    ensures value { result ≡ truth_at scene.now.task.now.domain (L.known scene.now.look.now) scene.now.state.now depth formula.now env.old }
+    ensures value { result ≡ truth_at scene.now.task.now.domain (L.known scene.now.look.now)
+        scene.now.state.now depth formula.now env.old }
     ensures same { env.new ≡ env.old }
 {
     match &formula.node {
@@ -51,7 +52,8 @@ fn truth<L: Look>(scene: &Scene<'_, L>, depth: usize, formula: &Formula, env: &m
 fn all_true<L: Look>(scene: &Scene<'_, L>, depth: usize, parts: &[Formula], env: &mut Env) -> bool
     requires fit { IsFit scene.now.task.now }
     requires readable { are_readable scene.now.task.now.domain (parts_of parts.now) ≡ true }
-    ensures value { result ≡ all_at scene.now.task.now.domain (L.known scene.now.look.now) scene.now.state.now depth (parts_of parts.now) env.old }
+    ensures value { result ≡ all_at scene.now.task.now.domain (L.known scene.now.look.now)
+        scene.now.state.now depth (parts_of parts.now) env.old }
     ensures same { env.new ≡ env.old }
 {
     for part in parts {
@@ -67,7 +69,8 @@ fn all_true<L: Look>(scene: &Scene<'_, L>, depth: usize, parts: &[Formula], env:
 fn any_true<L: Look>(scene: &Scene<'_, L>, depth: usize, parts: &[Formula], env: &mut Env) -> bool
     requires fit { IsFit scene.now.task.now }
     requires readable { are_readable scene.now.task.now.domain (parts_of parts.now) ≡ true }
-    ensures value { result ≡ any_at scene.now.task.now.domain (L.known scene.now.look.now) scene.now.state.now depth (parts_of parts.now) env.old }
+    ensures value { result ≡ any_at scene.now.task.now.domain (L.known scene.now.look.now)
+        scene.now.state.now depth (parts_of parts.now) env.old }
     ensures same { env.new ≡ env.old }
 {
     for part in parts {
@@ -91,7 +94,8 @@ fn some_tuple<L: Look>(
     requires fit { IsFit scene.now.task.now }
     requires slots { first + length sorts.now ≤ 16 }
     requires readable { is_readable scene.now.task.now.domain body.now ≡ true }
-    ensures value { result ≡ some_at scene.now.task.now.domain (L.known scene.now.look.now) scene.now.state.now depth first sorts.now body.now env.old }
+    ensures value { result ≡ some_at scene.now.task.now.domain (L.known scene.now.look.now)
+        scene.now.state.now depth first sorts.now body.now env.old }
     ensures same { env.new ≡ env.old }
 {
     let Some((sort, rest)) = sorts.split_first() else {
@@ -115,7 +119,8 @@ fn some_tuple<L: Look>(
 fn atom<L: Look>(scene: &Scene<'_, L>, depth: usize, pred: u32, args: Row) -> bool
     requires fit { IsFit scene.now.task.now }
     requires predicate { pred < length scene.now.task.now.domain.predicates }
-    ensures { result ≡ atom_at scene.now.task.now.domain (L.known scene.now.look.now) scene.now.state.now depth pred args }
+    ensures { result ≡ atom_at scene.now.task.now.domain (L.known scene.now.look.now)
+        scene.now.state.now depth pred args }
 {
     match scene.task.domain.roles.as_slice()[pred as usize] {
         Role::Static => {
@@ -138,7 +143,8 @@ fn atom<L: Look>(scene: &Scene<'_, L>, depth: usize, pred: u32, args: Row) -> bo
 #[cycle(truth)]
 fn derived<L: Look>(scene: &Scene<'_, L>, depth: usize, pred: u32, args: &[Obj]) -> bool
     requires fit { IsFit scene.now.task.now }
-    ensures { result ≡ derived_at scene.now.task.now.domain (L.known scene.now.look.now) scene.now.state.now depth pred args.now }
+    ensures { result ≡ derived_at scene.now.task.now.domain (L.known scene.now.look.now)
+        scene.now.state.now depth pred args.now }
 {
     let alloc = scene.state.allocator();
     for item in scene.task.domain.derived.as_slice() {
@@ -164,7 +170,8 @@ pub fn holds<L: Look>(
 ) -> bool
     requires fit { IsFit task.now }
     requires readable { is_readable task.now.domain formula.now ≡ true }
-    ensures value { result ≡ is_true task.now.domain (L.known look.now) state.now formula.now env.old }
+    ensures value { result ≡ is_true task.now.domain (L.known look.now) state.now formula.now
+        env.old }
     ensures same { env.new ≡ env.old }
 {
     let scene = Scene { task, look, state };

@@ -15,7 +15,9 @@ fn start(member: &mut Member, argv: &[String]) -> Result<(), HostFault>
     requires words { 0 < length argv.now }
     requires idle { running member.old ≡ false }
     ensures running { running member.new ≡ is_ok result }
-    ensures spoken { MatchResult result (λ _. spoken member.new ≡ option_map (λ (talk : Talk). silence) (spoken member.old)) (λ _. spoken member.new ≡ spoken member.old) }
+    ensures spoken { MatchResult result
+        (λ _. spoken member.new ≡ option_map (λ (talk : Talk). silence) (spoken member.old))
+        (λ _. spoken member.new ≡ spoken member.old) }
     ensures cause { HasCause Failed last_count (faults member.old) (faults member.new) result }
 {
     member.start(argv)
@@ -26,7 +28,9 @@ fn send(member: &mut Member, bytes: &[u8]) -> Result<usize, HostFault>
     requires runs { running member.old ≡ true }
     ensures count { IfOk result (λ n. (0 < n) × (n ≤ length bytes.now)) }
     ensures running { running member.new ≡ true }
-    ensures spoken { MatchResult result (λ n. spoken member.new ≡ option_map (wrote_more (take n bytes.now)) (spoken member.old)) (λ _. spoken member.new ≡ spoken member.old) }
+    ensures spoken { MatchResult result
+        (λ n. spoken member.new ≡ option_map (wrote_more (take n bytes.now)) (spoken member.old))
+        (λ _. spoken member.new ≡ spoken member.old) }
     ensures cause { HasCause Failed last_count (faults member.old) (faults member.new) result }
 {
     member.send(bytes)
@@ -37,7 +41,9 @@ fn receive(member: &mut Member, room: &mut [u8]) -> Result<usize, HostFault>
     requires runs { running member.old ≡ true }
     ensures count { IfOk result (λ n. (0 < n) × (n ≤ length room.new)) }
     ensures running { running member.new ≡ true }
-    ensures spoken { MatchResult result (λ n. spoken member.new ≡ option_map (heard_more (take n room.new)) (spoken member.old)) (λ _. spoken member.new ≡ spoken member.old) }
+    ensures spoken { MatchResult result
+        (λ n. spoken member.new ≡ option_map (heard_more (take n room.new)) (spoken member.old))
+        (λ _. spoken member.new ≡ spoken member.old) }
     ensures cause { HasCause Failed last_count (faults member.old) (faults member.new) result }
 {
     member.receive(room)
@@ -74,10 +80,14 @@ impl BoxHost {
     /// The host of these generators, of which there are 17.
     pub fn new(members: Vec<Member>) -> BoxHost
         requires { length members.items ≡ 17 }
-        ensures count { ⟦<BoxHost as Host>⟧.faults result ≡ total last_count (λ b. faults b) members.items }
-        ensures running { (k : ℕ) → ⟦<BoxHost as Host>⟧.running result k ≡ at_member false (λ b. running b) (slice_get members.items k) }
-        ensures spoken { (k : ℕ) → ⟦<BoxHost as Host>⟧.spoken result k ≡ at_member None (λ b. spoken b) (slice_get members.items k) }
-        ensures idle { all_idle (λ b. running b) members.items ≡ true → (k : ℕ) → ⟦<BoxHost as Host>⟧.running result k ≡ false }
+        ensures count { ⟦<BoxHost as Host>⟧.faults result
+            ≡ total last_count (λ b. faults b) members.items }
+        ensures running { (k : ℕ) → ⟦<BoxHost as Host>⟧.running result k
+            ≡ at_member false (λ b. running b) (slice_get members.items k) }
+        ensures spoken { (k : ℕ) → ⟦<BoxHost as Host>⟧.spoken result k
+            ≡ at_member None (λ b. spoken b) (slice_get members.items k) }
+        ensures idle { all_idle (λ b. running b) members.items ≡ true → (k : ℕ)
+            → ⟦<BoxHost as Host>⟧.running result k ≡ false }
     {
         BoxHost { members }
     }

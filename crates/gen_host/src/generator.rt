@@ -29,7 +29,9 @@ pub trait Generator: Drop {
         requires words { 0 < length argv.now }
         requires idle { running self.old ≡ false }
         ensures running { running self.new ≡ is_ok result }
-        ensures spoken { MatchResult result (λ _. spoken self.new ≡ option_map (λ (talk : Talk). silence) (spoken self.old)) (λ _. spoken self.new ≡ spoken self.old) }
+        ensures spoken { MatchResult result
+            (λ _. spoken self.new ≡ option_map (λ (talk : Talk). silence) (spoken self.old))
+            (λ _. spoken self.new ≡ spoken self.old) }
         ensures cause { HasCause Failed last_count (faults self.old) (faults self.new) result };
 
     /// Writes the first of these bytes, and answers how many it took: at least 1. There has to be
@@ -42,7 +44,9 @@ pub trait Generator: Drop {
         requires runs { running self.old ≡ true }
         ensures count { IfOk result (λ n. (0 < n) × (n ≤ length bytes.now)) }
         ensures running { running self.new ≡ true }
-        ensures spoken { MatchResult result (λ n. spoken self.new ≡ option_map (wrote_more (take n bytes.now)) (spoken self.old)) (λ _. spoken self.new ≡ spoken self.old) }
+        ensures spoken { MatchResult result
+            (λ n. spoken self.new ≡ option_map (wrote_more (take n bytes.now)) (spoken self.old))
+            (λ _. spoken self.new ≡ spoken self.old) }
         ensures cause { HasCause Failed last_count (faults self.old) (faults self.new) result };
 
     /// Puts bytes of it at the beginning of the room, and answers how many: at least 1. There has to
@@ -56,7 +60,9 @@ pub trait Generator: Drop {
         requires runs { running self.old ≡ true }
         ensures count { IfOk result (λ n. (0 < n) × (n ≤ length room.new)) }
         ensures running { running self.new ≡ true }
-        ensures spoken { MatchResult result (λ n. spoken self.new ≡ option_map (heard_more (take n room.new)) (spoken self.old)) (λ _. spoken self.new ≡ spoken self.old) }
+        ensures spoken { MatchResult result
+            (λ n. spoken self.new ≡ option_map (heard_more (take n room.new)) (spoken self.old))
+            (λ _. spoken self.new ≡ spoken self.old) }
         ensures cause { HasCause Failed last_count (faults self.old) (faults self.new) result };
 
     /// Ends it. It has to run, and doesn't run afterwards, whatever the answer.

@@ -19,7 +19,8 @@ same_place p xs ys lt =
     prefix_len-append p xs ys ∙ rw before refl
 
 -- the first part of bytes that go on, where a line feed stands in them
-split_later : (held later : List ℕ) → position_or_len is_feed held < length held → slice_split is_feed (held ++ later) ≡ before_first is_feed held ∷ slice_split is_feed (after_first is_feed held ++ later)
+split_later : (held later : List ℕ) → position_or_len is_feed held < length held
+    → slice_split is_feed (held ++ later) ≡ before_first is_feed held ∷ slice_split is_feed (after_first is_feed held ++ later)
 split_later held later lt =
     let n = position_or_len is_feed held in
     let same : position_or_len is_feed (held ++ later) ≡ n = same_place (λ b. not (is_feed b)) held later lt in
@@ -43,15 +44,18 @@ fed held line more e =
       | inr le ↦ absurd (let none : lines_of held ≡ [] = rw (split_whole is_feed held le) refl in cc)
     ]
 
-line_later : (held later : List ℕ) → position_or_len is_feed held < length held → lines_of (held ++ later) ≡ strip_last 13 (before_first is_feed held) ∷ lines_of (after_first is_feed held ++ later)
+line_later : (held later : List ℕ) → position_or_len is_feed held < length held
+    → lines_of (held ++ later) ≡ strip_last 13 (before_first is_feed held) ∷ lines_of (after_first is_feed held ++ later)
 line_later held later lt =
     rw (split_later held later lt, ended_cons (before_first is_feed held) (slice_split is_feed (after_first is_feed held ++ later)) (parts_left (after_first is_feed held ++ later))) refl
 
-rest_later : (held later : List ℕ) → position_or_len is_feed held < length held → unfinished (held ++ later) ≡ unfinished (after_first is_feed held ++ later)
+rest_later : (held later : List ℕ) → position_or_len is_feed held < length held
+    → unfinished (held ++ later) ≡ unfinished (after_first is_feed held ++ later)
 rest_later held later lt =
     ap open_part (split_later held later lt) ∙ open_cons (before_first is_feed held) (slice_split is_feed (after_first is_feed held ++ later)) (parts_left (after_first is_feed held ++ later))
 
-same_line : (held line : List ℕ) → lines_of held ≡ line ∷ lines_of (after_first is_feed held) → position_or_len is_feed held < length held → strip_last 13 (before_first is_feed held) ≡ line
+same_line : (held line : List ℕ) → lines_of held ≡ line ∷ lines_of (after_first is_feed held) → position_or_len is_feed held < length held
+    → strip_last 13 (before_first is_feed held) ≡ line
 same_line held line e lt =
     let nothing_later = line_later held [] lt in
     let here : lines_of held ≡ strip_last 13 (before_first is_feed held) ∷ lines_of (after_first is_feed held) = rw (append-nil held, append-nil (after_first is_feed held)) at nothing_later in

@@ -19,7 +19,8 @@ ended_length (part ∷ next ∷ parts) some = omega (arith, ended_length (next �
 pub lines_none : (held : List ℕ) → position is_feed held ≡ None → lines_of held ≡ []
 lines_none held e = rw (split_whole is_feed held (not_found is_feed held e)) refl
 
-pub lines_some : (held : List ℕ) (n : ℕ) → position is_feed held ≡ Some n → lines_of held ≡ strip_last 13 (take n held) ∷ lines_of (drop (n + 1) held)
+pub lines_some : (held : List ℕ) (n : ℕ) → position is_feed held ≡ Some n
+    → lines_of held ≡ strip_last 13 (take n held) ∷ lines_of (drop (n + 1) held)
 lines_some held n e =
     let at = found_at is_feed held n e in
     let cut : slice_split is_feed held ≡ take n held ∷ slice_split is_feed (drop (n + 1) held) =
@@ -37,16 +38,19 @@ stripped : (bytes : List ℕ) → length (strip_last 13 bytes) ≤ length bytes
 stripped bytes = stripped_by (ends_with_byte 13 bytes) bytes
 
 -- the same two facts where the bytes stand in a longer list, from a place on
-pub after_from : (items held : List ℕ) (start n : ℕ) → drop start items ≡ held → position is_feed held ≡ Some n → drop (start + n + 1) items ≡ after_first is_feed held
+pub after_from : (items held : List ℕ) (start n : ℕ) → drop start items ≡ held → position is_feed held ≡ Some n
+    → drop (start + n + 1) items ≡ after_first is_feed held
 after_from items held start n view e = rw (after_some held n e, ← view, drop-drop) (ap (λ k. drop k items) (omega arith))
 
-pub line_from : (items held line : List ℕ) (start n : ℕ) → drop start items ≡ held → position is_feed held ≡ Some n → line ≡ strip_last 13 (take (start + n - start) (drop start items)) → lines_of held ≡ line ∷ lines_of (after_first is_feed held)
+pub line_from : (items held line : List ℕ) (start n : ℕ) → drop start items ≡ held → position is_feed held ≡ Some n
+    → line ≡ strip_last 13 (take (start + n - start) (drop start items)) → lines_of held ≡ line ∷ lines_of (after_first is_feed held)
 line_from items held line start n view e same =
     let short : start + n - start ≡ n = omega arith in
     rw (lines_some held n e, after_some held n e, same, short, view) refl
 
 -- a line is shorter than the bytes that it stands in
-pub line_short : (items line : List ℕ) (start n : ℕ) → position is_feed (drop start items) ≡ Some n → line ≡ strip_last 13 (take (start + n - start) (drop start items)) → length line < length items
+pub line_short : (items line : List ℕ) (start n : ℕ) → position is_feed (drop start items) ≡ Some n
+    → line ≡ strip_last 13 (take (start + n - start) (drop start items)) → length line < length items
 line_short items line start n e same =
     let at = found_at is_feed (drop start items) n e in
     let cut = stripped (take (start + n - start) (drop start items)) in

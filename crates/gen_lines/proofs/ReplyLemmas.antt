@@ -28,24 +28,28 @@ record Found (width : ℕ) (tuples : List (List (List ℕ))) (n : ℕ) (values :
   count : length tuples ≡ n
   same : joined tuples ≡ values
 
-by_tests : (a b : Bool) (m n : ℕ) (us vs : List (List ℕ)) → (if a then (if b then yields m us else bad Value) else bad Count) ≡ yields n vs → (a ≡ true) × (b ≡ true) × (m ≡ n) × (us ≡ vs)
+by_tests : (a b : Bool) (m n : ℕ) (us vs : List (List ℕ)) → (if a then (if b then yields m us else bad Value) else bad Count) ≡ yields n vs
+    → (a ≡ true) × (b ≡ true) × (m ≡ n) × (us ≡ vs)
 by_tests true true m n us vs e = (refl, refl, cc, cc)
 by_tests true false m n us vs e = absurd cc
 by_tests false b m n us vs e = absurd cc
 
-found : (width : ℕ) (tuples : List (List (List ℕ))) (n : ℕ) (values : List (List ℕ)) → yield_reply width tuples ≡ yields n values → Found width tuples n values
+found : (width : ℕ) (tuples : List (List (List ℕ))) (n : ℕ) (values : List (List ℕ)) → yield_reply width tuples ≡ yields n values
+    → Found width tuples n values
 found width tuples n values e =
     let tests = by_tests (are_of_width width tuples) (list_all is_value (joined tuples)) (length tuples) n (joined tuples) values e in
     record { right = tests.0; valid = tests.1; count = tests.2; same = tests.3 }
 
-one_tuple : (outputs : ℕ) (several : Bool) (given : List (List ℕ)) → has_bars outputs several ≡ false → length (parted (has_bars outputs several) given) ≡ 1
+one_tuple : (outputs : ℕ) (several : Bool) (given : List (List ℕ)) → has_bars outputs several ≡ false
+    → length (parted (has_bars outputs several) given) ≡ 1
 one_tuple outputs several given e = rw e refl
 
 no_outputs : (several : Bool) → has_bars 0 several ≡ false
 no_outputs true = refl
 no_outputs false = refl
 
-right_of : (outputs : ℕ) (several : Bool) (given : List (List ℕ)) (tuples : ℕ) (values : List (List ℕ)) → Found outputs (parted (has_bars outputs several) given) tuples values → IsRight outputs several tuples values
+right_of : (outputs : ℕ) (several : Bool) (given : List (List ℕ)) (tuples : ℕ) (values : List (List ℕ))
+    → Found outputs (parted (has_bars outputs several) given) tuples values → IsRight outputs several tuples values
 right_of outputs several given tuples values f =
     let all = parted (has_bars outputs several) given in
     let whole = parts_of (has_bars outputs several) given in
@@ -63,7 +67,8 @@ end_is_no_yield : (given : List (List ℕ)) (n : ℕ) (values : List (List ℕ))
 end_is_no_yield [] n values e = cc
 end_is_no_yield (field ∷ given) n values e = cc
 
-right_fields : (given : List (List ℕ)) (outputs : ℕ) (several : Bool) (tuples : ℕ) (values : List (List ℕ)) → reply_of_fields (Outputs outputs several) given ≡ yields tuples values → IsRight outputs several tuples values
+right_fields : (given : List (List ℕ)) (outputs : ℕ) (several : Bool) (tuples : ℕ) (values : List (List ℕ))
+    → reply_of_fields (Outputs outputs several) given ≡ yields tuples values → IsRight outputs several tuples values
 right_fields [] outputs several tuples values e = absurd cc
 right_fields (word ∷ given) outputs several tuples values e =
     elim (by_words (bytes_eq word (codes "end")) (bytes_eq word (codes "yield")) (end_reply given) (given_reply (Outputs outputs several) given) (bad Word) (yields tuples values) e) [
@@ -72,7 +77,8 @@ right_fields (word ∷ given) outputs several tuples values e =
       | is_third wrong ↦ absurd cc
     ]
 
-pub yields_are_right : (line : List ℕ) (outputs : ℕ) (several : Bool) (tuples : ℕ) (values : List (List ℕ)) → reply_of line (Outputs outputs several) ≡ yields tuples values → IsRight outputs several tuples values
+pub yields_are_right : (line : List ℕ) (outputs : ℕ) (several : Bool) (tuples : ℕ) (values : List (List ℕ))
+    → reply_of line (Outputs outputs several) ≡ yields tuples values → IsRight outputs several tuples values
 yields_are_right line outputs several tuples values e = right_fields (fields line) outputs several tuples values e
 
 end_is_no_number : (given : List (List ℕ)) (n : ℕ) → end_reply given ≡ number n → ⊥
@@ -96,7 +102,8 @@ number_small (field ∷ []) n e =
     subst (λ k. k ≤ 1000000) tests.1 (small field tests.0)
 number_small (field ∷ next ∷ given) n e = absurd cc
 
-yield_is_no_number : (a b : Bool) (m n : ℕ) (us : List (List ℕ)) → (if a then (if b then yields m us else bad Value) else bad Count) ≡ number n → ⊥
+yield_is_no_number : (a b : Bool) (m n : ℕ) (us : List (List ℕ))
+    → (if a then (if b then yields m us else bad Value) else bad Count) ≡ number n → ⊥
 yield_is_no_number true true m n us e = cc
 yield_is_no_number true false m n us e = cc
 yield_is_no_number false b m n us e = cc

@@ -27,11 +27,13 @@ parts_of true [] = record { first = []; rest = []; same = refl }
 parts_of true (field ∷ given) = by_bar (is_bar field) field (slice_split is_bar given)
 
 -- a field that parts two tuples, and one that doesn't
-pub parted_bar : (bars : Bool) (field : List ℕ) (given : List (List ℕ)) → parts_here bars field ≡ true → parted bars (field ∷ given) ≡ [] ∷ parted bars given
+pub parted_bar : (bars : Bool) (field : List ℕ) (given : List (List ℕ)) → parts_here bars field ≡ true
+    → parted bars (field ∷ given) ≡ [] ∷ parted bars given
 parted_bar true field given e = rw e refl
 parted_bar false field given e = absurd cc
 
-pub parted_other : (bars : Bool) (field : List ℕ) (given : List (List ℕ)) → parts_here bars field ≡ false → parted bars (field ∷ given) ≡ onto_first field (parted bars given)
+pub parted_other : (bars : Bool) (field : List ℕ) (given : List (List ℕ)) → parts_here bars field ≡ false
+    → parted bars (field ∷ given) ≡ onto_first field (parted bars given)
 parted_other true field given e = rw e refl
 parted_other false field given e = refl
 
@@ -48,7 +50,8 @@ count_parts width (tuple ∷ tuples) p =
     let more : 1 + length tuples ≡ suc (length tuples) = omega arith in
     rw (whole, more) refl
 
-pub count_all : (width : ℕ) (bars : Bool) (given : List (List ℕ)) → count_of width (parted bars given) ≡ count_on width 1 0 (parted bars given)
+pub count_all : (width : ℕ) (bars : Bool) (given : List (List ℕ))
+    → count_of width (parted bars given) ≡ count_on width 1 0 (parted bars given)
 count_all width bars given = count_parts width (parted bars given) (parts_of bars given)
 
 none_left : (a b : Bool) (n : ℕ) → a ≡ false → (if a && b then Some n else None) ≡ None
@@ -59,7 +62,8 @@ none_right true b n e = rw e refl
 none_right false b n e = refl
 
 -- a field that parts tuples ends one that is full, where a further one may come
-count_bar : (width tuples begun : ℕ) (more : List (List (List ℕ))) → Parts more → begun ≡ width → count_on width tuples begun ([] ∷ more) ≡ count_on width (tuples + 1) 0 more
+count_bar : (width tuples begun : ℕ) (more : List (List (List ℕ))) → Parts more → begun ≡ width
+    → count_on width tuples begun ([] ∷ more) ≡ count_on width (tuples + 1) 0 more
 count_bar width tuples begun [] p full = absurd (let e = p.same in cc)
 count_bar width tuples begun (tuple ∷ more) p full =
     let ends : (begun + 0 == width) ≡ true = grind (arith, nat_tests) in
@@ -72,20 +76,23 @@ count_short width tuples begun more short =
     let no : (begun + 0 == width) ≡ false = grind (arith, nat_tests) in
     rw no refl
 
-count_full : (width tuples begun : ℕ) (more : List (List (List ℕ))) → Parts more → tuples ≡ 16 → count_on width tuples begun ([] ∷ more) ≡ None
+count_full : (width tuples begun : ℕ) (more : List (List (List ℕ))) → Parts more → tuples ≡ 16
+    → count_on width tuples begun ([] ∷ more) ≡ None
 count_full width tuples begun [] p full = absurd (let e = p.same in cc)
 count_full width tuples begun (tuple ∷ more) p full =
     let no : nat_le (tuples + suc (length more)) 16 ≡ false = grind (arith, nat_tests) in
     none_right ((begun + 0 == width) && list_all (λ t. length t == width) (tuple ∷ more)) (nat_le (tuples + suc (length more)) 16) (tuples + suc (length more)) no
 
 -- another field belongs to the tuple that has begun
-count_other : (width tuples begun : ℕ) (field : List ℕ) (more : List (List (List ℕ))) → Parts more → count_on width tuples begun (onto_first field more) ≡ count_on width tuples (begun + 1) more
+count_other : (width tuples begun : ℕ) (field : List ℕ) (more : List (List (List ℕ))) → Parts more
+    → count_on width tuples begun (onto_first field more) ≡ count_on width tuples (begun + 1) more
 count_other width tuples begun field [] p = absurd (let e = p.same in cc)
 count_other width tuples begun field (tuple ∷ more) p =
     let next : begun + suc (length tuple) ≡ begun + 1 + length tuple = omega arith in
     rw next refl
 
-count_long : (width tuples begun : ℕ) (field : List ℕ) (more : List (List (List ℕ))) → begun ≡ width → count_on width tuples begun (onto_first field more) ≡ None
+count_long : (width tuples begun : ℕ) (field : List ℕ) (more : List (List (List ℕ))) → begun ≡ width
+    → count_on width tuples begun (onto_first field more) ≡ None
 count_long width tuples begun field [] full =
     let no : (begun + 1 == width) ≡ false = grind (arith, nat_tests) in
     rw no refl
@@ -93,7 +100,8 @@ count_long width tuples begun field (tuple ∷ more) full =
     let no : (begun + suc (length tuple) == width) ≡ false = grind (arith, nat_tests) in
     rw no refl
 
-pub count_end : (width tuples begun : ℕ) (bars : Bool) → begun ≡ width → tuples ≤ 16 → count_on width tuples begun (parted bars []) ≡ Some tuples
+pub count_end : (width tuples begun : ℕ) (bars : Bool) → begun ≡ width → tuples ≤ 16
+    → count_on width tuples begun (parted bars []) ≡ Some tuples
 count_end width tuples begun bars full few =
     let one : parted bars [] ≡ [] ∷ [] = elim bars as (λ b. parted b [] ≡ [] ∷ []) [ true ↦ refl | false ↦ refl ] in
     let ends : (begun + 0 == width) ≡ true = grind (arith, nat_tests) in
@@ -106,27 +114,41 @@ pub record Step (bars : Bool) (here : List (List ℕ)) (field : List ℕ) (next 
   pub first : here ≡ field ∷ next
   pub part : parts_here bars field ≡ bar
 
-pub step_bar : (width tuples begun : ℕ) (bars : Bool) (here : List (List ℕ)) (field : List ℕ) (next : List (List ℕ)) → Step bars here field next true → begun ≡ width → count_on width tuples begun (parted bars here) ≡ count_on width (tuples + 1) 0 (parted bars next)
-step_bar width tuples begun bars here field next s full = rw (s.first, parted_bar bars field next s.part) (count_bar width tuples begun (parted bars next) (parts_of bars next) full)
+pub step_bar : (width tuples begun : ℕ) (bars : Bool) (here : List (List ℕ)) (field : List ℕ) (next : List (List ℕ))
+    → Step bars here field next true → begun ≡ width
+    → count_on width tuples begun (parted bars here) ≡ count_on width (tuples + 1) 0 (parted bars next)
+step_bar width tuples begun bars here field next s full =
+    rw (s.first, parted_bar bars field next s.part) (count_bar width tuples begun (parted bars next) (parts_of bars next) full)
 
-pub step_short : (width tuples begun : ℕ) (bars : Bool) (here : List (List ℕ)) (field : List ℕ) (next : List (List ℕ)) → Step bars here field next true → (begun ≡ width → ⊥) → count_on width tuples begun (parted bars here) ≡ None
-step_short width tuples begun bars here field next s short = rw (s.first, parted_bar bars field next s.part) (count_short width tuples begun (parted bars next) short)
+pub step_short : (width tuples begun : ℕ) (bars : Bool) (here : List (List ℕ)) (field : List ℕ) (next : List (List ℕ))
+    → Step bars here field next true → (begun ≡ width → ⊥) → count_on width tuples begun (parted bars here) ≡ None
+step_short width tuples begun bars here field next s short =
+    rw (s.first, parted_bar bars field next s.part) (count_short width tuples begun (parted bars next) short)
 
-pub step_full : (width tuples begun : ℕ) (bars : Bool) (here : List (List ℕ)) (field : List ℕ) (next : List (List ℕ)) → Step bars here field next true → tuples ≡ 16 → count_on width tuples begun (parted bars here) ≡ None
-step_full width tuples begun bars here field next s full = rw (s.first, parted_bar bars field next s.part) (count_full width tuples begun (parted bars next) (parts_of bars next) full)
+pub step_full : (width tuples begun : ℕ) (bars : Bool) (here : List (List ℕ)) (field : List ℕ) (next : List (List ℕ))
+    → Step bars here field next true → tuples ≡ 16 → count_on width tuples begun (parted bars here) ≡ None
+step_full width tuples begun bars here field next s full =
+    rw (s.first, parted_bar bars field next s.part) (count_full width tuples begun (parted bars next) (parts_of bars next) full)
 
-pub step_other : (width tuples begun : ℕ) (bars : Bool) (here : List (List ℕ)) (field : List ℕ) (next : List (List ℕ)) → Step bars here field next false → count_on width tuples begun (parted bars here) ≡ count_on width tuples (begun + 1) (parted bars next)
-step_other width tuples begun bars here field next s = rw (s.first, parted_other bars field next s.part) (count_other width tuples begun field (parted bars next) (parts_of bars next))
+pub step_other : (width tuples begun : ℕ) (bars : Bool) (here : List (List ℕ)) (field : List ℕ) (next : List (List ℕ))
+    → Step bars here field next false
+    → count_on width tuples begun (parted bars here) ≡ count_on width tuples (begun + 1) (parted bars next)
+step_other width tuples begun bars here field next s =
+    rw (s.first, parted_other bars field next s.part) (count_other width tuples begun field (parted bars next) (parts_of bars next))
 
-pub step_long : (width tuples begun : ℕ) (bars : Bool) (here : List (List ℕ)) (field : List ℕ) (next : List (List ℕ)) → Step bars here field next false → begun ≡ width → count_on width tuples begun (parted bars here) ≡ None
-step_long width tuples begun bars here field next s full = rw (s.first, parted_other bars field next s.part) (count_long width tuples begun field (parted bars next) full)
+pub step_long : (width tuples begun : ℕ) (bars : Bool) (here : List (List ℕ)) (field : List ℕ) (next : List (List ℕ))
+    → Step bars here field next false → begun ≡ width → count_on width tuples begun (parted bars here) ≡ None
+step_long width tuples begun bars here field next s full =
+    rw (s.first, parted_other bars field next s.part) (count_long width tuples begun field (parted bars next) full)
 
 -- their values
-pub joined_other : (field : List ℕ) (tuples : List (List (List ℕ))) → Parts tuples → joined (onto_first field tuples) ≡ field ∷ joined tuples
+pub joined_other : (field : List ℕ) (tuples : List (List (List ℕ))) → Parts tuples
+    → joined (onto_first field tuples) ≡ field ∷ joined tuples
 joined_other field [] p = absurd (let e = p.same in cc)
 joined_other field (tuple ∷ tuples) p = refl
 
-pub joined_length : (width : ℕ) (tuples : List (List (List ℕ))) → list_all (λ t. length t == width) tuples ≡ true → length (joined tuples) ≡ length tuples * width
+pub joined_length : (width : ℕ) (tuples : List (List (List ℕ))) → list_all (λ t. length t == width) tuples ≡ true
+    → length (joined tuples) ≡ length tuples * width
 joined_length width [] e = omega arith
 joined_length width (tuple ∷ tuples) e =
     let both = and_parts (length tuple == width) _ e in

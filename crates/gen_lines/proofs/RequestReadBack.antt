@@ -95,7 +95,9 @@ number_printed n lt =
     is_filled_if_long [] h = absurd (omega arith)
     is_filled_if_long (b ∷ bs) h = refl
 
-pub requests_read_back : (task : Task) (names : List (List ℕ)) (number : ℕ) (instance : Instance) → number < 2 ^ 32 → is_printed (stream_name task instance.stream) ≡ true → list_all is_printed (map (name_at names) instance.inputs) ≡ true → ReadsBack task names number instance
+pub requests_read_back : (task : Task) (names : List (List ℕ)) (number : ℕ) (instance : Instance) → number < 2 ^ 32
+    → is_printed (stream_name task instance.stream) ≡ true → list_all is_printed (map (name_at names) instance.inputs) ≡ true
+    → ReadsBack task names number instance
 requests_read_back task names number instance small stream inputs =
     let words = request_words task names number instance in
     let printed : list_all is_printed words ≡ true = rw (number_printed number (omega arith), stream, inputs) refl in

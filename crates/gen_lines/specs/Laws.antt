@@ -12,7 +12,8 @@ use Rattle.gen_lines.specs.declared.answer.Wanted.{Wanted}
 use Rattle.gen_lines.specs.declared.answer.Wanted.TheVariants.{Outputs}
 
 abbrev pub LinesIgnoreCutting : Type 0
-LinesIgnoreCutting = (all : List ℕ) (taken : List (List ℕ)) (held : List ℕ) → Cut all taken held → IsWhole all taken held
+LinesIgnoreCutting =
+    (all : List ℕ) (taken : List (List ℕ)) (held : List ℕ) → Cut all taken held → IsWhole all taken held
 
 -- bytes that aren't empty and have no space
 abbrev pub is_word : List ℕ → Bool
@@ -22,7 +23,9 @@ abbrev pub WordsAreFields : Type 0
 WordsAreFields = (words : List (List ℕ)) → list_all is_word words ≡ true → fields (join_with_byte 32 words) ≡ words
 
 abbrev pub YieldsAreRight : Type 0
-YieldsAreRight = (line : List ℕ) (outputs : ℕ) (several : Bool) (tuples : ℕ) (values : List (List ℕ)) → reply_of line (Outputs outputs several) ≡ yields tuples values → IsRight outputs several tuples values
+YieldsAreRight =
+    (line : List ℕ) (outputs : ℕ) (several : Bool) (tuples : ℕ) (values : List (List ℕ))
+    → reply_of line (Outputs outputs several) ≡ yields tuples values → IsRight outputs several tuples values
 
 -- not empty, and all its bytes from ! to ~
 abbrev pub is_printed : List ℕ → Bool
@@ -30,11 +33,15 @@ is_printed text = is_filled text && list_all (λ b. nat_le 33 b && nat_le b 126)
 
 -- The line of a request, whatever comes after it, and the fields of that line.
 pub record ReadsBack (task : Task) (names : List (List ℕ)) (number : ℕ) (instance : Instance) : Type 0 where
-  pub line : (later : List ℕ) → lines_of (request_of task names number instance ++ later) ≡ join_with_byte 32 (request_words task names number instance) ∷ lines_of later
+  pub line : (later : List ℕ)
+      → lines_of (request_of task names number instance ++ later) ≡ join_with_byte 32 (request_words task names number instance) ∷ lines_of later
   pub words : fields (join_with_byte 32 (request_words task names number instance)) ≡ request_words task names number instance
 
 abbrev pub RequestsReadBack : Type 0
-RequestsReadBack = (task : Task) (names : List (List ℕ)) (number : ℕ) (instance : Instance) → number < 2 ^ 32 → is_printed (stream_name task instance.stream) ≡ true → list_all is_printed (map (name_at names) instance.inputs) ≡ true → ReadsBack task names number instance
+RequestsReadBack =
+    (task : Task) (names : List (List ℕ)) (number : ℕ) (instance : Instance) → number < 2 ^ 32
+    → is_printed (stream_name task instance.stream) ≡ true
+    → list_all is_printed (map (name_at names) instance.inputs) ≡ true → ReadsBack task names number instance
 
 abbrev pub NumbersAreSmall : Type 0
 NumbersAreSmall = (line : List ℕ) (wanted : Wanted) (n : ℕ) → reply_of line wanted ≡ number n → n ≤ 1000000

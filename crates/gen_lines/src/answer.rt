@@ -107,7 +107,8 @@ fn yield_answer(line: &[u8], from: usize, width: usize, bars: bool) -> Answer
     requires from { from ≤ length line.now }
     requires line { length line.now ≤ 1024 }
     requires width { width ≤ 8 }
-    ensures reply { told line.now result ≡ yield_reply width (parted bars (fields (drop from line.now))) }
+    ensures reply { told line.now result
+        ≡ yield_reply width (parted bars (fields (drop from line.now))) }
     ensures spans { IfYield result (AreSpans line.now width) }
 {
     let Some(tuples) = count_tuples(line, from, width, bars) else {

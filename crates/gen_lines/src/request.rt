@@ -15,7 +15,8 @@ pub fn request_text<L: Look>(
     instance: &Instance,
 ) -> Result<Vec<u8>, AllocError>
     requires { IsNamed task.now (L.known look.now).names instance.now }
-    ensures { IfOk result (λ text. text.items ≡ request_of task.now (L.known look.now).names number instance.now) }
+    ensures { IfOk result (λ text. text.items
+        ≡ request_of task.now (L.known look.now).names number instance.now) }
 {
     let mut text = Vec::from_slice(alloc, b"next")?;
     push_word(&mut text, number.to_string(alloc)?.as_bytes())?;

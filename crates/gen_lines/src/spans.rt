@@ -80,7 +80,8 @@ pub(crate) fn mark_values(
     requires line { length line.now ≤ 1024 }
     requires few { tuples * width ≤ 128 }
     requires count { length (joined (parted bars (fields (drop from line.now)))) ≡ tuples * width }
-    ensures { Marks line.now (joined (parted bars (fields (drop from line.now)))) tuples width result }
+    ensures { Marks line.now (joined (parted bars (fields (drop from line.now)))) tuples width
+        result }
 {
     let mut places = [(0, 0); 128];
     let mut count = 0;

@@ -31,7 +31,8 @@ AreChoices known (sort ∷ sorts) (objects ∷ choices) = AreObjectsOf known sor
 module _ (task : Task) (known : Known) (state : Atoms) (number : ℕ) (action : Action) where
   -- the condition is true of the objects, and the cost has a value
   abbrev pub can_take : List ℕ → Bool
-  can_take args = is_true task.domain known state action.condition (slots_of args) && is_some (cost_of task known action args)
+  can_take args =
+      is_true task.domain known state action.condition (slots_of args) && is_some (cost_of task known action args)
 
   -- the steps whose objects begin so, and go on with one of each choice
   abbrev pub steps_with : List ℕ → List (List ℕ) → List GroundAction
@@ -46,4 +47,5 @@ pub record AreStepsOf (task : Task) (known : Known) (state : Atoms) (number : �
 
 -- behind the old steps stand those of the action
 abbrev pub AddsSteps : Task → Known → Atoms → ℕ → List GroundAction → List GroundAction → Type 0
-AddsSteps task known state number old new = (more : List GroundAction) × (new ≡ old ++ more) × AreStepsOf task known state number more
+AddsSteps task known state number old new =
+    (more : List GroundAction) × (new ≡ old ++ more) × AreStepsOf task known state number more

@@ -17,7 +17,8 @@ pub fn applicable<L: Look>(
     state: &State,
 ) -> Result<Vec<GroundAction>, AllocError>
     requires { IsFit task.now }
-    ensures { IfOk result (λ steps. AreApplicable task.now (L.known look.now) state.now steps.items) }
+    ensures { IfOk result (λ steps. AreApplicable task.now (L.known look.now) state.now
+        steps.items) }
 {
     let mut steps = Vec::new(alloc);
     for (number, action) in task.domain.actions.as_slice().iter().enumerate() {

@@ -24,7 +24,8 @@ fn is_applicable<L: Look>(scene: &Scene<'_, L>, args: &[Obj]) -> bool
     requires fit { IsFit scene.now.task.now }
     requires action { is_fit_action scene.now.task.now.domain scene.now.action.now ≡ true }
     requires few { length args.now ≤ 16 }
-    ensures { result ≡ can_take scene.now.task.now (L.known scene.now.look.now) scene.now.state.now scene.now.number scene.now.action.now args.now }
+    ensures { result ≡ can_take scene.now.task.now (L.known scene.now.look.now) scene.now.state.now
+        scene.now.number scene.now.action.now args.now }
 {
     let mut env = Env::new(args);
     holds(
@@ -45,7 +46,9 @@ fn add_step<L: Look>(
     requires fit { IsFit scene.now.task.now }
     requires action { is_fit_action scene.now.task.now.domain scene.now.action.now ≡ true }
     requires few { length args.now ≤ 16 }
-    ensures { OnOk result (steps.new.items ≡ steps.old.items ++ steps_with scene.now.task.now (L.known scene.now.look.now) scene.now.state.now scene.now.number scene.now.action.now args.now []) }
+    ensures { OnOk result (steps.new.items ≡ steps.old.items
+        ++ steps_with scene.now.task.now (L.known scene.now.look.now) scene.now.state.now
+        scene.now.number scene.now.action.now args.now []) }
 {
     if is_applicable(scene, args.as_slice()) {
         let args = args.copy()?;
@@ -67,7 +70,9 @@ fn extend<L: Look>(
     requires fit { IsFit scene.now.task.now }
     requires action { is_fit_action scene.now.task.now.domain scene.now.action.now ≡ true }
     requires few { length args.now + length choices.now ≤ 16 }
-    ensures { OnOk result (steps.new.items ≡ steps.old.items ++ steps_with scene.now.task.now (L.known scene.now.look.now) scene.now.state.now scene.now.number scene.now.action.now args.now choices.now) }
+    ensures { OnOk result (steps.new.items ≡ steps.old.items
+        ++ steps_with scene.now.task.now (L.known scene.now.look.now) scene.now.state.now
+        scene.now.number scene.now.action.now args.now choices.now) }
 {
     let Some((objects, rest)) = choices.split_first() else {
         return add_step(scene, args, steps);
@@ -87,8 +92,10 @@ pub(crate) fn add_steps<L: Look>(
     steps: &mut Vec<GroundAction>,
 ) -> Result<(), AllocError>
     requires fit { IsFit scene.now.task.now }
-    requires named { slice_get scene.now.task.now.domain.actions scene.now.number ≡ Some scene.now.action.now }
-    ensures { OnOk result (AddsSteps scene.now.task.now (L.known scene.now.look.now) scene.now.state.now scene.now.number steps.old.items steps.new.items) }
+    requires named { slice_get scene.now.task.now.domain.actions scene.now.number
+        ≡ Some scene.now.action.now }
+    ensures { OnOk result (AddsSteps scene.now.task.now (L.known scene.now.look.now)
+        scene.now.state.now scene.now.number steps.old.items steps.new.items) }
 {
     let choices = choices(alloc, scene.look, scene.action.params.as_slice())?;
     extend(scene, &Wide::empty(alloc), choices.as_slice(), steps)

@@ -35,18 +35,22 @@ head_is_new x xs d m = let p = place_of xs x m in let e : 0 ≡ suc p.0 = d 0 (s
 
 pub distinct_cons : {A : Type 0} (x : A) (xs : List A) → AreDistinct xs → ¬ (Contains xs x) → AreDistinct (x ∷ xs)
 distinct_cons x xs d absent zero zero y at_i at_j = refl
-distinct_cons x xs d absent zero (suc j) y at_i at_j = let e : x ≡ y = cc in absurd (absent (subst (Contains xs) (sym e) (member_at xs j y at_j)))
-distinct_cons x xs d absent (suc i) zero y at_i at_j = let e : x ≡ y = cc in absurd (absent (subst (Contains xs) (sym e) (member_at xs i y at_i)))
+distinct_cons x xs d absent zero (suc j) y at_i at_j =
+    let e : x ≡ y = cc in absurd (absent (subst (Contains xs) (sym e) (member_at xs j y at_j)))
+distinct_cons x xs d absent (suc i) zero y at_i at_j =
+    let e : x ≡ y = cc in absurd (absent (subst (Contains xs) (sym e) (member_at xs i y at_i)))
 distinct_cons x xs d absent (suc i) (suc j) y at_i at_j = ap suc (d i j y at_i at_j)
 
-pub distinct_append : {A : Type 0} (xs ys : List A) → AreDistinct xs → AreDistinct ys → ((z : A) → Contains xs z → Contains ys z → ⊥) → AreDistinct (xs ++ ys)
+pub distinct_append : {A : Type 0} (xs ys : List A) → AreDistinct xs → AreDistinct ys → ((z : A) → Contains xs z → Contains ys z → ⊥)
+    → AreDistinct (xs ++ ys)
 distinct_append [] ys d e apart = e
 distinct_append (x ∷ xs) ys d e apart =
     distinct_cons x (xs ++ ys) (distinct_append xs ys (distinct_tail x xs d) e (λ z m n. apart z (contains_later x xs z m) n))
     (λ m. elim (Contains-append_cases xs ys x m) [ inl h ↦ head_is_new x xs d h | inr t ↦ apart x (contains_here x xs) t ])
 
 -- parts without common members, each of distinct members, put together
-pub distinct_flat : {A B : Type 0} (f : A → List B) (xs : List A) → AreDistinct xs → ((x : A) → AreDistinct (f x)) → ((x y : A) (z : B) → Contains (f x) z → Contains (f y) z → x ≡ y) → AreDistinct (flat_map f xs)
+pub distinct_flat : {A B : Type 0} (f : A → List B) (xs : List A) → AreDistinct xs → ((x : A) → AreDistinct (f x))
+    → ((x y : A) (z : B) → Contains (f x) z → Contains (f y) z → x ≡ y) → AreDistinct (flat_map f xs)
 distinct_flat f [] d each apart = distinct_nil
 distinct_flat f (x ∷ xs) d each apart =
     distinct_append (f x) (flat_map f xs) (each x) (distinct_flat f xs (distinct_tail x xs d) each apart)
@@ -77,7 +81,8 @@ module _ {A B : Type 0} (h : A → Option B) where
       later None n = n
       later (Some w) n = contains_later w (filter_map h zs) y n
 
-  pub distinct_mapped : (xs : List A) → ((x z : A) (y : B) → h x ≡ Some y → h z ≡ Some y → x ≡ z) → AreDistinct xs → AreDistinct (filter_map h xs)
+  pub distinct_mapped : (xs : List A) → ((x z : A) (y : B) → h x ≡ Some y → h z ≡ Some y → x ≡ z) → AreDistinct xs
+      → AreDistinct (filter_map h xs)
   distinct_mapped [] one d = distinct_nil
   distinct_mapped (x ∷ xs) one d = by (h x) refl (distinct_mapped xs one (distinct_tail x xs d))
     where
@@ -96,17 +101,21 @@ same_name sort object name o e =
       | false ↦ λ f g. absurd (cc)
     ] refl e
 
-object_by : (sort object : ℕ) (k : Kind) (name : ℕ) (args : List ℕ) → object_with sort (record { kind = k; name = name; args = args }) ≡ Some object → record { kind = k; name = name; args = args } ≡ type_fact sort object
+object_by : (sort object : ℕ) (k : Kind) (name : ℕ) (args : List ℕ)
+    → object_with sort (record { kind = k; name = name; args = args }) ≡ Some object
+    → record { kind = k; name = name; args = args } ≡ type_fact sort object
 object_by sort object Predicate name args e = absurd (cc)
 object_by sort object Sort name [] e = absurd (cc)
-object_by sort object Sort name (o ∷ []) e = let s = same_name sort object name o e in λ i. record { kind = Sort; name = s.0 i; args = s.1 i ∷ [] }
+object_by sort object Sort name (o ∷ []) e =
+    let s = same_name sort object name o e in λ i. record { kind = Sort; name = s.0 i; args = s.1 i ∷ [] }
 object_by sort object Sort name (o ∷ (p ∷ ps)) e = absurd (cc)
 
 object_is : (sort object : ℕ) (f : Fact) → object_with sort f ≡ Some object → f ≡ type_fact sort object
 object_is sort object f e = object_by sort object f.kind f.name f.args e
 
 pub objects_distinct : (facts : List Fact) (sort : ℕ) → AreDistinct facts → AreDistinct (objects_of facts sort)
-objects_distinct facts sort d = distinct_mapped (object_with sort) facts (λ f g o e1 e2. object_is sort o f e1 ∙ sym (object_is sort o g e2)) d
+objects_distinct facts sort d =
+    distinct_mapped (object_with sort) facts (λ f g o e1 e2. object_is sort o f e1 ∙ sym (object_is sort o g e2)) d
 
 pub has_object : (known : Known) (sort object : ℕ) → has_type known object sort ≡ true → Contains (objects_of known.facts sort) object
 has_object known sort object e = into_mapped (object_with sort) known.facts (type_fact sort object) object ((fact_member known.facts (type_fact sort object)).0 e) (object_itself sort object)
@@ -115,22 +124,29 @@ has_object known sort object e = into_mapped (object_with sort) known.facts (typ
 
 module _ (known : Known) (notes : List Note) where
   module _ (stream : Stream) (place : ℕ) where
-    at_inputs : (inputs : List ℕ) (i : Instance) → Contains (found_at known notes stream place inputs) i → (i ≡ instance_at known notes stream place inputs) × (is_due_at known notes stream i ≡ true)
+    at_inputs : (inputs : List ℕ) (i : Instance) → Contains (found_at known notes stream place inputs) i
+        → (i ≡ instance_at known notes stream place inputs) × (is_due_at known notes stream i ≡ true)
     at_inputs inputs i m = by (is_due_at known notes stream (instance_at known notes stream place inputs)) refl m
       where
-        by : (b : Bool) → is_due_at known notes stream (instance_at known notes stream place inputs) ≡ b → Contains (cond b (instance_at known notes stream place inputs ∷ []) []) i → (i ≡ instance_at known notes stream place inputs) × (is_due_at known notes stream i ≡ true)
+        by : (b : Bool) → is_due_at known notes stream (instance_at known notes stream place inputs) ≡ b
+            → Contains (cond b (instance_at known notes stream place inputs ∷ []) []) i
+            → (i ≡ instance_at known notes stream place inputs) × (is_due_at known notes stream i ≡ true)
         by true e n = let same = only_one (instance_at known notes stream place inputs) i n in (sym same, ap (is_due_at known notes stream) (sym same) ∙ e)
         by false e n = absurd (contains_none i n)
 
     -- it is an instance of the stream, is due, and its inputs begin so
-    pub found_is : (inputs sorts : List ℕ) (i : Instance) → Contains (found_under known notes stream place inputs sorts) i → (more : List ℕ) × (i ≡ instance_at known notes stream place (inputs ++ more)) × (is_due_at known notes stream i ≡ true)
-    found_is inputs [] i m = let r = at_inputs inputs i m in ([], r.0 ∙ ap (instance_at known notes stream place) (sym (append-nil inputs)), r.1)
+    pub found_is : (inputs sorts : List ℕ) (i : Instance) → Contains (found_under known notes stream place inputs sorts) i
+        → (more : List ℕ) × (i ≡ instance_at known notes stream place (inputs ++ more)) × (is_due_at known notes stream i ≡ true)
+    found_is inputs [] i m =
+        let r = at_inputs inputs i m in ([], r.0 ∙ ap (instance_at known notes stream place) (sym (append-nil inputs)), r.1)
     found_is inputs (sort ∷ sorts) i m =
         let r = from_flat_map (λ o. found_under known notes stream place (inputs ++ o ∷ []) sorts) (objects_of known.facts sort) i m in
         let s = found_is (inputs ++ r.0 ∷ []) sorts i r.2 in
         (r.0 ∷ s.0, s.1 ∙ ap (instance_at known notes stream place) (append_assoc inputs (r.0 ∷ []) s.0), s.2)
 
-    pub is_found : (inputs sorts more : List ℕ) → have_types known more sorts ≡ true → is_due_at known notes stream (instance_at known notes stream place (inputs ++ more)) ≡ true → Contains (found_under known notes stream place inputs sorts) (instance_at known notes stream place (inputs ++ more))
+    pub is_found : (inputs sorts more : List ℕ) → have_types known more sorts ≡ true
+        → is_due_at known notes stream (instance_at known notes stream place (inputs ++ more)) ≡ true
+        → Contains (found_under known notes stream place inputs sorts) (instance_at known notes stream place (inputs ++ more))
     is_found inputs [] [] types due =
         let here = instance_at known notes stream place (inputs ++ []) in
         let all = append-nil inputs in
@@ -164,7 +180,8 @@ module _ (known : Known) (notes : List Note) where
 
   -- ---- what is found of all streams
 
-  pub found_stream : (place : ℕ) (ss : List Stream) (i : Instance) → Contains (found_from known notes place ss) i → (k : ℕ) × (s : Stream) × (i.stream ≡ place + k) × (slice_get ss k ≡ Some s) × (is_due_at known notes s i ≡ true)
+  pub found_stream : (place : ℕ) (ss : List Stream) (i : Instance) → Contains (found_from known notes place ss) i
+      → (k : ℕ) × (s : Stream) × (i.stream ≡ place + k) × (slice_get ss k ≡ Some s) × (is_due_at known notes s i ≡ true)
   found_stream place [] i m = absurd (contains_none i m)
   found_stream place (s ∷ ss) i m =
       elim (Contains-append_cases (found_under known notes s place [] s.inputs) (found_from known notes (place + 1) ss) i m) [
@@ -172,7 +189,8 @@ module _ (known : Known) (notes : List Note) where
         | inr t ↦ let r = found_stream (place + 1) ss i t in (suc r.0, r.1, r.2 ∙ (let e : (place + 1) + r.0 ≡ place + suc r.0 = omega arith in e), r.3, r.4)
       ]
 
-  pub in_found : (place : ℕ) (ss : List Stream) (k : ℕ) (s : Stream) (i : Instance) → slice_get ss k ≡ Some s → i.stream ≡ place + k → have_types known i.inputs s.inputs ≡ true → is_due_at known notes s i ≡ true → Contains (found_from known notes place ss) i
+  pub in_found : (place : ℕ) (ss : List Stream) (k : ℕ) (s : Stream) (i : Instance) → slice_get ss k ≡ Some s → i.stream ≡ place + k
+      → have_types known i.inputs s.inputs ≡ true → is_due_at known notes s i ≡ true → Contains (found_from known notes place ss) i
   in_found place [] k s i at is types due = absurd (cc)
   in_found place (t ∷ ts) zero s i at is types due =
       let same : t ≡ s = cc in
@@ -202,7 +220,8 @@ unfinished true true p q = absurd (cc)
 unfinished true false p q = refl
 unfinished false b p q = absurd (cc)
 
-pub found_is_due : (task : Task) (known : Known) (notes : List Note) (i : Instance) → Contains (found_from known notes 0 task.streams) i ↔ IsDue task known notes i
+pub found_is_due : (task : Task) (known : Known) (notes : List Note) (i : Instance)
+    → Contains (found_from known notes 0 task.streams) i ↔ IsDue task known notes i
 found_is_due task known notes i = (
   λ m.
       let r = found_stream known notes 0 task.streams i m in

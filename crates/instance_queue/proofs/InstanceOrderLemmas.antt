@@ -42,11 +42,13 @@ numbers_tie : (x y : ℕ) → nat_cmp x y ≡ Equal → x ≡ y
 numbers_tie x y e = eqb-true x y (unsigned_ties x y ∙ ap is_eq e)
 
 texts_tie : (xs ys : List (List ℕ)) → slice_cmp (slice_cmp nat_cmp) xs ys ≡ Equal → xs ≡ ys
-texts_tie xs ys e = (pointwise_decides numbers_decided xs ys).0 (lists_ties (slice_cmp nat_cmp) (lists_ties nat_cmp unsigned_ties) xs ys ∙ ap is_eq e)
+texts_tie xs ys e =
+    (pointwise_decides numbers_decided xs ys).0 (lists_ties (slice_cmp nat_cmp) (lists_ties nat_cmp unsigned_ties) xs ys ∙ ap is_eq e)
 
 -- ---- names tell objects apart
 
-same_objects : (names : List (List ℕ)) → AreDistinct names → (xs ys : List ℕ) → All (IsIn names) xs → All (IsIn names) ys → map (name_at names) xs ≡ map (name_at names) ys → xs ≡ ys
+same_objects : (names : List (List ℕ)) → AreDistinct names → (xs ys : List ℕ) → All (IsIn names) xs → All (IsIn names) ys
+    → map (name_at names) xs ≡ map (name_at names) ys → xs ≡ ys
 same_objects names d [] [] h g e = refl
 same_objects names d [] (y ∷ ys) h g e = absurd (cc)
 same_objects names d (x ∷ xs) [] h g e = absurd (cc)
@@ -61,16 +63,20 @@ one_in known c object sort e =
     All-head (IsIn known.names) object [] (All-contains (λ (f : Fact). All (IsIn known.names) f.args) known.facts (type_fact sort object) c.objects ((fact_member known.facts (type_fact sort object)).0 e))
 
 -- objects with types have names
-pub typed_in : (known : Known) → IsCoherent known → (objects sorts : List ℕ) → have_types known objects sorts ≡ true → All (IsIn known.names) objects
+pub typed_in : (known : Known) → IsCoherent known → (objects sorts : List ℕ) → have_types known objects sorts ≡ true
+    → All (IsIn known.names) objects
 typed_in known c [] [] e = All-nil (IsIn known.names)
 typed_in known c [] (s ∷ ss) e = absurd (cc)
 typed_in known c (o ∷ os) [] e = absurd (cc)
 typed_in known c (o ∷ os) (s ∷ ss) e = All-cons (IsIn known.names) o os (one_in known c o s (first_so (has_type known o s) (have_types known os ss) e)) (typed_in known c os ss (second_so (has_type known o s) (have_types known os ss) e))
 
-pub due_in : (task : Task) (known : Known) (notes : List Note) → IsCoherent known → (i : Instance) → IsDue task known notes i → All (IsIn known.names) i.inputs
-due_in task known notes c i d = typed_in known c i.inputs d.stream.inputs (first_so (have_types known i.inputs d.stream.inputs) _ d.reachable)
+pub due_in : (task : Task) (known : Known) (notes : List Note) → IsCoherent known → (i : Instance) → IsDue task known notes i
+    → All (IsIn known.names) i.inputs
+due_in task known notes c i d =
+    typed_in known c i.inputs d.stream.inputs (first_so (have_types known i.inputs d.stream.inputs) _ d.reachable)
 
-pub same_dues : (task : Task) (known : Known) (notes : List Note) → IsCoherent known → (a b : Instance) → IsDue task known notes a → IsDue task known notes b → instance_cmp known.names a b ≡ Equal → a ≡ b
+pub same_dues : (task : Task) (known : Known) (notes : List Note) → IsCoherent known → (a b : Instance) → IsDue task known notes a
+    → IsDue task known notes b → instance_cmp known.names a b ≡ Equal → a ≡ b
 same_dues task known notes c a b da db e =
     let both = then_equal (nat_cmp a.stream b.stream) (slice_cmp (slice_cmp nat_cmp) (map (name_at known.names) a.inputs) (map (name_at known.names) b.inputs)) e in
     let inputs = same_objects known.names c.names a.inputs b.inputs (due_in task known notes c a da) (due_in task known notes c b db) (texts_tie _ _ both.1) in
@@ -105,10 +111,12 @@ distinct_permuted xs ys p d = by_test ys (IsDistinct-IsPermutation same_instance
 
 -- ---- sorted dues ascend
 
-due_at : (ys : List Due) (i : ℕ) (a : Instance) → slice_get (instances_of ys) i ≡ Some a → (d : Due) × (slice_get ys i ≡ Some d) × (d.instance ≡ a)
+due_at : (ys : List Due) (i : ℕ) (a : Instance) → slice_get (instances_of ys) i ≡ Some a
+    → (d : Due) × (slice_get ys i ≡ Some d) × (d.instance ≡ a)
 due_at ys i a at = by (slice_get ys i) refl (sym (slice_get-map (λ (d : Due). d.instance) ys i) ∙ at)
   where
-    by : (o : Option Due) → slice_get ys i ≡ o → option_map (λ (d : Due). d.instance) (slice_get ys i) ≡ Some a → (d : Due) × (slice_get ys i ≡ Some d) × (d.instance ≡ a)
+    by : (o : Option Due) → slice_get ys i ≡ o → option_map (λ (d : Due). d.instance) (slice_get ys i) ≡ Some a
+        → (d : Due) × (slice_get ys i ≡ Some d) × (d.instance ≡ a)
     by None e m = absurd (nothing (slice_get ys i) e m)
       where
         nothing : (o : Option Due) → o ≡ None → option_map (λ (d : Due). d.instance) o ≡ Some a → ⊥
@@ -119,7 +127,9 @@ due_at ys i a at = by (slice_get ys i) refl (sym (slice_get-map (λ (d : Due). d
         some_is : Some d.instance ≡ Some a → d.instance ≡ a
         some_is f = cc
 
-pub ascending : (task : Task) (known : Known) (notes : List Note) → IsCoherent known → (ys : List Due) → ((i : Instance) → Contains (instances_of ys) i → IsDue task known notes i) → AreDistinct (instances_of ys) → IsSortedBy (comes_before known.names) ys → AreAscending (instance_cmp known.names) (instances_of ys)
+pub ascending : (task : Task) (known : Known) (notes : List Note) → IsCoherent known → (ys : List Due)
+    → ((i : Instance) → Contains (instances_of ys) i → IsDue task known notes i) → AreDistinct (instances_of ys)
+    → IsSortedBy (comes_before known.names) ys → AreAscending (instance_cmp known.names) (instances_of ys)
 ascending task known notes c ys due d up i j a b below at_i at_j =
     let x = due_at ys i a at_i in
     let y = due_at ys j b at_j in
@@ -128,7 +138,8 @@ ascending task known notes c ys due d up i j a b below at_i at_j =
     (λ k. is_lt (instance_cmp known.names (sym y.2 k) (sym x.2 k))) ∙ (λ k. comes_before known.names (sym (get_or_from_slice_get ys j y.0 x.0 y.1) k) (sym (get_or_from_slice_get ys i x.0 x.0 x.1) k)) ∙ far in
     by (instance_cmp known.names a b) refl not_back
   where
-    by : (o : Ordering) → instance_cmp known.names a b ≡ o → is_lt (instance_cmp known.names b a) ≡ false → instance_cmp known.names a b ≡ Less
+    by : (o : Ordering) → instance_cmp known.names a b ≡ o → is_lt (instance_cmp known.names b a) ≡ false
+        → instance_cmp known.names a b ≡ Less
     by Less e not_back = e
     by Equal e not_back =
         let same : a ≡ b = same_dues task known notes c a b (due a (member_at (instances_of ys) i a at_i)) (due b (member_at (instances_of ys) j b at_j)) e in

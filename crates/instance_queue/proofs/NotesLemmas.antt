@@ -50,7 +50,8 @@ ends_other (Yielded i) q e = refl
 ends_other (Ended i) q e = e
 
 -- other instances keep their tallies
-pub tally_stays : (notes : List Note) (note : Note) (q : Instance) → same_instance (about note) q ≡ false → tally_of (notes ++ note ∷ []) q ≡ tally_of notes q
+pub tally_stays : (notes : List Note) (note : Note) (q : Instance) → same_instance (about note) q ≡ false
+    → tally_of (notes ++ note ∷ []) q ≡ tally_of notes q
 tally_stays notes note q apart =
     let other : same_instance q (about note) ≡ false = instances_equivalence.symm q (about note) ∙ apart in
     λ i. record {
@@ -58,7 +59,10 @@ tally_stays notes note q apart =
       ended = (list_any-append (is_end_of q) notes (note ∷ []) ∙ stays (list_any (is_end_of q) notes) (is_end_of q note) (ends_other note q other)) i;
     }
 
-pub tallied_more : {S : Type 0} (old new : IndexMap Instance Tally S) (notes : List Note) (note : Note) (tally : Tally) → AreTallied old notes → tally ≡ tally_of (notes ++ note ∷ []) (about note) → ((q : Instance) → get same_instance new q ≡ cond (same_instance (about note) q) (Some tally) (get same_instance old q)) → AreTallied new (notes ++ note ∷ [])
+pub tallied_more : {S : Type 0} (old new : IndexMap Instance Tally S) (notes : List Note) (note : Note) (tally : Tally)
+    → AreTallied old notes → tally ≡ tally_of (notes ++ note ∷ []) (about note)
+    → ((q : Instance) → get same_instance new q ≡ cond (same_instance (about note) q) (Some tally) (get same_instance old q))
+    → AreTallied new (notes ++ note ∷ [])
 tallied_more old new notes note tally was now is q =
     ap tally_in (is q)
     ∙ elim (same_instance (about note) q) as (λ b. same_instance (about note) q ≡ b → tally_in (cond b (Some tally) (get same_instance old q)) ≡ tally_of (notes ++ note ∷ []) q) [
@@ -83,13 +87,17 @@ or_true false true e = refl
 or_true false false e = absurd (cc)
 
 pub ended_ended : (notes : List Note) (i : Instance) → list_any (is_end_of i) (notes ++ Ended i ∷ []) ≡ true
-ended_ended notes i = list_any-append (is_end_of i) notes (Ended i ∷ []) ∙ or_true (list_any (is_end_of i) notes) (same_instance i i) (instance_itself i)
+ended_ended notes i =
+    list_any-append (is_end_of i) notes (Ended i ∷ []) ∙ or_true (list_any (is_end_of i) notes) (same_instance i i) (instance_itself i)
 
-pub tally_yielded : (notes : List Note) (i : Instance) (tally : Tally) → tally ≡ tally_of notes i → record { yields = tally.yields + 1; ended = tally.ended } ≡ tally_of (notes ++ Yielded i ∷ []) i
+pub tally_yielded : (notes : List Note) (i : Instance) (tally : Tally) → tally ≡ tally_of notes i
+    → record { yields = tally.yields + 1; ended = tally.ended } ≡ tally_of (notes ++ Yielded i ∷ []) i
 tally_yielded notes i tally is = λ k. record { yields = (ap (λ (t : Tally). t.yields + 1) is ∙ sym (yields_yielded notes i)) k; ended = (ap (λ (t : Tally). t.ended) is ∙ sym (ended_yielded notes i)) k }
 
-pub tally_ended : (notes : List Note) (i : Instance) (tally : Tally) → tally ≡ tally_of notes i → record { yields = tally.yields; ended = true } ≡ tally_of (notes ++ Ended i ∷ []) i
-tally_ended notes i tally is = λ k. record { yields = (ap (λ (t : Tally). t.yields) is ∙ sym (yields_ended notes i)) k; ended = sym (ended_ended notes i) k }
+pub tally_ended : (notes : List Note) (i : Instance) (tally : Tally) → tally ≡ tally_of notes i
+    → record { yields = tally.yields; ended = true } ≡ tally_of (notes ++ Ended i ∷ []) i
+tally_ended notes i tally is =
+    λ k. record { yields = (ap (λ (t : Tally). t.yields) is ∙ sym (yields_ended notes i)) k; ended = sym (ended_ended notes i) k }
 
 -- ---- whether something was yielded
 
@@ -110,7 +118,11 @@ yielded_some notes i = some_counted (is_yield_of i) notes
 pub about_noted : (noted : Noted) → about (note_of noted) ≡ noted.instance
 about_noted noted = elim noted.ended as (λ b. about (note_of (record { instance = noted.instance; ended = b })) ≡ noted.instance) [ true ↦ refl | false ↦ refl ]
 
-pub noted_more : {S : Type 0} (old new : IndexMap Instance Tally S) (were are : List Noted) (noted : Noted) (key : Instance) (tally : Tally) (notes : List Note) → AreTallied old (notes_in were) → notes_in were ≡ notes → tally ≡ tally_of (notes ++ note_of noted ∷ []) noted.instance → are ≡ were ++ noted ∷ [] → key ≡ noted.instance → ((q : Instance) → get same_instance new q ≡ cond (same_instance key q) (Some tally) (get same_instance old q)) → AreTallied new (notes_in are)
+pub noted_more : {S : Type 0} (old new : IndexMap Instance Tally S) (were are : List Noted) (noted : Noted) (key : Instance) (tally : Tally) (notes : List Note)
+    → AreTallied old (notes_in were) → notes_in were ≡ notes → tally ≡ tally_of (notes ++ note_of noted ∷ []) noted.instance
+    → are ≡ were ++ noted ∷ [] → key ≡ noted.instance
+    → ((q : Instance) → get same_instance new q ≡ cond (same_instance key q) (Some tally) (get same_instance old q))
+    → AreTallied new (notes_in are)
 noted_more old new were are noted key tally notes was view now more is found =
     let same : key ≡ about (note_of noted) = is ∙ sym (about_noted noted) in
     subst (AreTallied new) (sym (ap notes_in more ∙ map_push note_of were noted))

@@ -16,7 +16,8 @@ use Rattle.task_model.specs.declared.task.Task.{Task}
 use Rattle.instance_queue.specs.Readable.{is_readable_pattern, IsReadableStream}
 use borrow.Author.Tests.{leb-true}
 
-readable_patterns : (domain : Domain) → IsFitDomain domain → (objects n : ℕ) → n ≤ 16 → (ps : List Pattern) → list_all (is_fit_pattern domain objects (numbers_from 0 n)) ps ≡ true → list_all is_readable_pattern ps ≡ true
+readable_patterns : (domain : Domain) → IsFitDomain domain → (objects n : ℕ) → n ≤ 16 → (ps : List Pattern)
+    → list_all (is_fit_pattern domain objects (numbers_from 0 n)) ps ≡ true → list_all is_readable_pattern ps ≡ true
 readable_patterns domain fit objects n few [] all = refl
 readable_patterns domain fit objects n few (p ∷ ps) all =
     let one = first_so (is_fit_pattern domain objects (numbers_from 0 n) p) (list_all (is_fit_pattern domain objects (numbers_from 0 n)) ps) all in
@@ -28,7 +29,8 @@ readable_patterns domain fit objects n few (p ∷ ps) all =
     (readable_patterns domain fit objects n few ps rest)
 
 -- a stream of a fit task is fit
-pub fit_stream_at : (task : Task) → IsFit task → (place : ℕ) (s : Stream) → slice_get task.streams place ≡ Some s → is_fit_stream task.domain s ≡ true
+pub fit_stream_at : (task : Task) → IsFit task → (place : ℕ) (s : Stream) → slice_get task.streams place ≡ Some s
+    → is_fit_stream task.domain s ≡ true
 fit_stream_at task fit place s at =
     all_at_or (is_fit_stream task.domain) task.streams place s (second_so (is_short task.streams) (list_all (is_fit_stream task.domain) task.streams) fit.streams.each) (slice_get_within task.streams place s at) (sym (get_or_from_slice_get task.streams place s s at))
 

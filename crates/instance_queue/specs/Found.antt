@@ -27,7 +27,8 @@ module _ (known : Known) (notes : List Note) where
     -- those whose inputs begin with these and go on with objects of these types
     abbrev pub found_under : List ℕ → List ℕ → List Instance
     found_under inputs [] = found_at inputs
-    found_under inputs (sort ∷ sorts) = flat_map (λ o. found_under (inputs ++ o ∷ []) sorts) (objects_of known.facts sort)
+    found_under inputs (sort ∷ sorts) =
+        flat_map (λ o. found_under (inputs ++ o ∷ []) sorts) (objects_of known.facts sort)
 
   -- those of these streams, the first of which has this place
   abbrev pub found_from : ℕ → List Stream → List Instance

@@ -29,7 +29,8 @@ struct Search<'a> {
 /// Whether an instance of the stream is reachable and unfinished.
 fn is_due(search: &Search<'_>, instance: &Instance) -> bool
     requires { IsReadableStream search.now.stream.now }
-    ensures { result ≡ is_due_at search.now.facts.now.known search.now.queue.now search.now.stream.now instance.now }
+    ensures { result ≡ is_due_at search.now.facts.now.known search.now.queue.now
+        search.now.stream.now instance.now }
 {
     is_reachable(search.alloc, search.stream, search.facts, instance)
         && !search.queue.is_finished(search.stream, instance)
@@ -39,9 +40,15 @@ fn is_due(search: &Search<'_>, instance: &Instance) -> bool
 fn add_if_due(search: &Search<'_>, inputs: &Row, dues: &mut Vec<Due>) -> Result<(), QueueFault>
     requires few { length dues.old.items ≤ MOST }
     requires readable { IsReadableStream search.now.stream.now }
-    ensures ok { OnOk result (dues.new.items ≡ dues.old.items ++ asks_of search.now.queue.now (found_at search.now.facts.now.known search.now.queue.now search.now.stream.now search.now.place inputs.now)) }
+    ensures ok { OnOk result (dues.new.items ≡ dues.old.items
+        ++ asks_of search.now.queue.now
+        (found_at search.now.facts.now.known search.now.queue.now search.now.stream.now
+        search.now.place inputs.now)) }
     ensures few { OnOk result (length dues.new.items ≤ MOST) }
-    ensures err { IfErr result (Overflows (length dues.old.items + length (found_at search.now.facts.now.known search.now.queue.now search.now.stream.now search.now.place inputs.now))) }
+    ensures err { IfErr result (Overflows
+        (length dues.old.items + length
+        (found_at search.now.facts.now.known search.now.queue.now search.now.stream.now
+        search.now.place inputs.now))) }
 {
     let instance = Instance {
         stream: search.place,
@@ -67,9 +74,15 @@ fn add_under(
 ) -> Result<(), QueueFault>
     requires few { length dues.old.items ≤ MOST }
     requires readable { IsReadableStream search.now.stream.now }
-    ensures ok { OnOk result (dues.new.items ≡ dues.old.items ++ asks_of search.now.queue.now (found_under search.now.facts.now.known search.now.queue.now search.now.stream.now search.now.place inputs.now sorts.now)) }
+    ensures ok { OnOk result (dues.new.items ≡ dues.old.items
+        ++ asks_of search.now.queue.now
+        (found_under search.now.facts.now.known search.now.queue.now search.now.stream.now
+        search.now.place inputs.now sorts.now)) }
     ensures few { OnOk result (length dues.new.items ≤ MOST) }
-    ensures err { IfErr result (Overflows (length dues.old.items + length (found_under search.now.facts.now.known search.now.queue.now search.now.stream.now search.now.place inputs.now sorts.now))) }
+    ensures err { IfErr result (Overflows
+        (length dues.old.items + length
+        (found_under search.now.facts.now.known search.now.queue.now search.now.stream.now
+        search.now.place inputs.now sorts.now))) }
 {
     let Some((sort, rest)) = sorts.split_first() else {
         return add_if_due(search, inputs, dues);
@@ -86,9 +99,11 @@ fn add_under(
 /// The asks that are due, stream by stream.
 fn found(alloc: Global, queue: &Queue, task: &Task, facts: &Facts) -> Result<Vec<Due>, QueueFault>
     requires { IsFit task.now }
-    ensures ok { IfOk result (λ dues. dues.items ≡ asks_of queue.now (found_from facts.now.known queue.now 0 task.now.streams)) }
+    ensures ok { IfOk result (λ dues. dues.items
+        ≡ asks_of queue.now (found_from facts.now.known queue.now 0 task.now.streams)) }
     ensures few { IfOk result (λ dues. length dues.items ≤ MOST) }
-    ensures err { IfErr result (Overflows (length (found_from facts.now.known queue.now 0 task.now.streams))) }
+    ensures err { IfErr result (Overflows
+        (length (found_from facts.now.known queue.now 0 task.now.streams))) }
 {
     let mut dues = Vec::new(alloc);
     for (place, stream) in task.streams.as_slice().iter().enumerate() {

@@ -20,7 +20,8 @@ fn name_of(names: &[Name], object: Obj) -> &[u8]
 /// Compares objects by their names, one after another and byte by byte; of a list and a longer one that begins
 /// with it the shorter comes first.
 fn compare_inputs(names: &[Name], a: &[Obj], b: &[Obj]) -> Ordering
-    ensures { result ≡ slice_cmp (slice_cmp nat_cmp) (map (name_at names.now) a.now) (map (name_at names.now) b.now) }
+    ensures { result ≡ slice_cmp (slice_cmp nat_cmp) (map (name_at names.now) a.now)
+        (map (name_at names.now) b.now) }
 {
     match (a.split_first(), b.split_first()) {
         (None, None) => Ordering::Equal,

@@ -193,7 +193,8 @@ impl Queue {
     /// more than 1,000,000, and where memory is wanting.
     pub fn next_level(&self, task: &Task, facts: &Facts) -> Result<Vec<Due>, QueueFault>
         requires { IsFit task.now }
-        ensures due { IfOk result (λ dues. AreDueInTurn task.now facts.now.known self.now dues.items) }
+        ensures due { IfOk result (λ dues. AreDueInTurn task.now facts.now.known self.now
+            dues.items) }
         ensures fault { IfErr result (ComesOf task.now facts.now.known self.now) }
     {
         level(self.alloc, self, task, facts)

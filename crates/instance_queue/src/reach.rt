@@ -40,7 +40,8 @@ fn fact_of(alloc: Global, pattern: &Pattern, env: &Env) -> Fact
 /// Whether all of these atoms are known, where the slots have these objects.
 fn are_known(alloc: Global, facts: &Facts, patterns: &[Pattern], env: &Env) -> bool
     requires { list_all is_readable_pattern patterns.now ≡ true }
-    ensures { result ≡ list_all (λ p. is_fact facts.now.known.facts (fact_at env.now p)) patterns.now }
+    ensures { result ≡ list_all (λ p. is_fact facts.now.known.facts (fact_at env.now p))
+        patterns.now }
 {
     for pattern in patterns {
         if !facts.has(&fact_of(alloc, pattern, env)) {

@@ -22,34 +22,50 @@ none_asked answers old new same line =
     })
 
 -- one line more
-pub lines_with_feeds-more : (lines : List (List ℕ)) (line : List ℕ) → lines_with_feeds (lines ++ line ∷ []) ≡ lines_with_feeds lines ++ (line ++ 10 ∷ [])
-lines_with_feeds-more lines line = flat_map-append (λ l. l ++ 10 ∷ []) lines (line ∷ []) ∙ ap (λ tail. lines_with_feeds lines ++ tail) (append-nil (line ++ 10 ∷ []))
+pub lines_with_feeds-more : (lines : List (List ℕ)) (line : List ℕ)
+    → lines_with_feeds (lines ++ line ∷ []) ≡ lines_with_feeds lines ++ (line ++ 10 ∷ [])
+lines_with_feeds-more lines line =
+    flat_map-append (λ l. l ++ 10 ∷ []) lines (line ∷ []) ∙ ap (λ tail. lines_with_feeds lines ++ tail) (append-nil (line ++ 10 ∷ []))
 
 single : (line : List ℕ) → IsLine line → All IsLine (line ∷ [])
 single line here zero d below = here
 single line here (suc k) d below = absurd (omega arith)
 
 -- a request that became whole
-ended : (answers : List ℕ → List ℕ) (bytes : List ℕ) (old now : ReplyState) → Replies answers bytes old now → Replies answers (bytes ++ 10 ∷ []) old (record { request = []; pending = now.pending ++ (answers now.request ++ 10 ∷ []) })
+ended : (answers : List ℕ → List ℕ) (bytes : List ℕ) (old now : ReplyState) → Replies answers bytes old now
+    → Replies answers (bytes ++ 10 ∷ []) old (record { request = []; pending = now.pending ++ (answers now.request ++ 10 ∷ []) })
 ended answers bytes old now so_far = record {
   requests = so_far.requests ++ now.request ∷ [];
-  split = sym (append_assoc old.request bytes (10 ∷ [])) ∙ ap (λ front. front ++ 10 ∷ []) so_far.split ∙ append_assoc (lines_with_feeds so_far.requests) now.request (10 ∷ []) ∙ sym (lines_with_feeds-more so_far.requests now.request) ∙ sym (append-nil (lines_with_feeds (so_far.requests ++ now.request ∷ [])));
+  split =
+      sym (append_assoc old.request bytes (10 ∷ [])) ∙ ap (λ front. front ++ 10 ∷ []) so_far.split
+      ∙ append_assoc (lines_with_feeds so_far.requests) now.request (10 ∷ []) ∙ sym (lines_with_feeds-more so_far.requests now.request)
+      ∙ sym (append-nil (lines_with_feeds (so_far.requests ++ now.request ∷ [])));
   lines = All-append IsLine so_far.requests (now.request ∷ []) so_far.lines (single now.request so_far.rest);
   rest = refl;
-  answered = ap (λ front. front ++ (answers now.request ++ 10 ∷ [])) so_far.answered ∙ append_assoc old.pending (lines_with_feeds (map answers so_far.requests)) (answers now.request ++ 10 ∷ []) ∙ ap (λ tail. old.pending ++ tail) (sym (lines_with_feeds-more (map answers so_far.requests) (answers now.request)) ∙ ap lines_with_feeds (sym (map-append answers so_far.requests (now.request ∷ []))));
+  answered =
+      ap (λ front. front ++ (answers now.request ++ 10 ∷ [])) so_far.answered
+      ∙ append_assoc old.pending (lines_with_feeds (map answers so_far.requests)) (answers now.request ++ 10 ∷ [])
+      ∙ ap (λ tail. old.pending ++ tail) (sym (lines_with_feeds-more (map answers so_far.requests) (answers now.request)) ∙ ap lines_with_feeds (sym (map-append answers so_far.requests (now.request ∷ []))));
 }
 
 -- a byte of a request
-continued : (answers : List ℕ → List ℕ) (bytes : List ℕ) (byte : ℕ) (old now : ReplyState) → (byte == 10) ≡ false → Replies answers bytes old now → Replies answers (bytes ++ byte ∷ []) old (record { request = now.request ++ byte ∷ []; pending = now.pending })
+continued : (answers : List ℕ → List ℕ) (bytes : List ℕ) (byte : ℕ) (old now : ReplyState) → (byte == 10) ≡ false
+    → Replies answers bytes old now
+    → Replies answers (bytes ++ byte ∷ []) old (record { request = now.request ++ byte ∷ []; pending = now.pending })
 continued answers bytes byte old now other so_far = record {
   requests = so_far.requests;
-  split = sym (append_assoc old.request bytes (byte ∷ [])) ∙ ap (λ front. front ++ byte ∷ []) so_far.split ∙ append_assoc (lines_with_feeds so_far.requests) now.request (byte ∷ []);
+  split =
+      sym (append_assoc old.request bytes (byte ∷ [])) ∙ ap (λ front. front ++ byte ∷ []) so_far.split
+      ∙ append_assoc (lines_with_feeds so_far.requests) now.request (byte ∷ []);
   lines = so_far.lines;
   rest = rw (list_any-append (λ x. x == 10) now.request (byte ∷ [])) (rw so_far.rest (rw other refl));
   answered = so_far.answered;
 }
 
-by_case : (b : Bool) (answers : List ℕ → List ℕ) (bytes : List ℕ) (byte : ℕ) (old now new : ReplyState) → (byte == 10) ≡ b → Replies answers bytes old now → new ≡ (if b then record { request = []; pending = now.pending ++ (answers now.request ++ 10 ∷ []) } else record { request = now.request ++ byte ∷ []; pending = now.pending }) → Replies answers (bytes ++ byte ∷ []) old new
+by_case : (b : Bool) (answers : List ℕ → List ℕ) (bytes : List ℕ) (byte : ℕ) (old now new : ReplyState) → (byte == 10) ≡ b
+    → Replies answers bytes old now
+    → new ≡ (if b then record { request = []; pending = now.pending ++ (answers now.request ++ 10 ∷ []) } else record { request = now.request ++ byte ∷ []; pending = now.pending })
+    → Replies answers (bytes ++ byte ∷ []) old new
 by_case true answers bytes byte old now new test so_far same =
     let P : ReplyState → Type 0 = λ reply. Replies answers (bytes ++ byte ∷ []) old reply in
     subst P (sym same) (rw (eqb-true byte 10 test) (ended answers bytes old now so_far))
@@ -58,5 +74,6 @@ by_case false answers bytes byte old now new test so_far same =
     subst P (sym same) (continued answers bytes byte old now test so_far)
 
 -- one byte more was heard
-pub heard_byte : (answers : List ℕ → List ℕ) (bytes : List ℕ) (byte : ℕ) (old now new : ReplyState) → Replies answers bytes old now → HearsByte answers byte now new → Replies answers (bytes ++ byte ∷ []) old new
+pub heard_byte : (answers : List ℕ → List ℕ) (bytes : List ℕ) (byte : ℕ) (old now new : ReplyState) → Replies answers bytes old now
+    → HearsByte answers byte now new → Replies answers (bytes ++ byte ∷ []) old new
 heard_byte answers bytes byte old now new so_far here = by_case (byte == 10) answers bytes byte old now new refl so_far here

@@ -26,7 +26,9 @@ no_reply = record { request = []; pending = [] }
 
 -- a byte more: a line feed ends a request, which is answered
 abbrev pub HearsByte : (List ℕ → List ℕ) → ℕ → ReplyState → ReplyState → Type 0
-HearsByte answers byte old new = new ≡ (if byte == 10 then record { request = []; pending = old.pending ++ (answers old.request ++ 10 ∷ []) } else record { request = old.request ++ byte ∷ []; pending = old.pending })
+HearsByte answers byte old new =
+    new
+    ≡ (if byte == 10 then record { request = []; pending = old.pending ++ (answers old.request ++ 10 ∷ []) } else record { request = old.request ++ byte ∷ []; pending = old.pending })
 
 -- with these bytes so many requests became whole, and each was answered
 pub record Replies (answers : List ℕ → List ℕ) (bytes : List ℕ) (old new : ReplyState) : Type 0 where

@@ -40,11 +40,13 @@ script_of scripts child = unwrap_or (slice_get scripts child) no_script
 -- the place before which bytes may be given, `end` or less: each need that isn't met lowers it
 abbrev pub open_to : List Progress → List (ℕ × ℕ × ℕ) → ℕ → ℕ
 open_to progress [] end = end
-open_to progress (need ∷ needs) end = open_to progress needs (if nat_lt (progress_of progress need.1).lines need.2 then min end need.0 else end)
+open_to progress (need ∷ needs) end =
+    open_to progress needs (if nat_lt (progress_of progress need.1).lines need.2 then min end need.0 else end)
 
 -- the bytes of a script from a position on, up to the first place that isn't open
 abbrev pub open_bytes : Scripted → List Progress → ℕ → List ℕ
-open_bytes script progress position = take (open_to progress script.needs (length script.bytes) - position) (drop position script.bytes)
+open_bytes script progress position =
+    take (open_to progress script.needs (length script.bytes) - position) (drop position script.bytes)
 
 -- the bytes that the child may be heard to say now
 abbrev pub ready : ScriptHostState → ℕ → List ℕ

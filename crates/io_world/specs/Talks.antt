@@ -108,7 +108,9 @@ LogsTaken child bytes old new = (events : List Event) × Takes child bytes event
 
 -- the log grew by writes to a child that took the first of these bytes, and by one that answered this fault
 abbrev pub LogsTakenPart : ℕ → List ℕ → HostFault → Option (List Event) → Option (List Event) → Type 0
-LogsTakenPart child bytes fault old new = (events : List Event) × (n : ℕ) × Takes child (take n bytes) events × Grows old new (events ++ wrote child (drop n bytes) (Err fault) ∷ [])
+LogsTakenPart child bytes fault old new =
+    (events : List Event) × (n : ℕ) × Takes child (take n bytes) events
+    × Grows old new (events ++ wrote child (drop n bytes) (Err fault) ∷ [])
 
 -- reads of a child that gave these bytes in all, each at a moment at which no line feed was held yet
 pub record Gives (child : ℕ) (held bytes : List ℕ) (events : List Event) : Type 0 where
@@ -122,4 +124,6 @@ LogsGiven child held bytes old new = (events : List Event) × Gives child held b
 
 -- the log grew by reads of a child, none of which gave a line feed, and by one that answered this fault
 abbrev pub LogsGivenPart : ℕ → List ℕ → HostFault → Option (List Event) → Option (List Event) → Type 0
-LogsGivenPart child held fault old new = (events : List Event) × (bytes : List ℕ) × (room : ℕ) × Gives child held bytes events × IsLine (held ++ bytes) × Grows old new (events ++ heard child room (Err fault) ∷ [])
+LogsGivenPart child held fault old new =
+    (events : List Event) × (bytes : List ℕ) × (room : ℕ) × Gives child held bytes events × IsLine (held ++ bytes)
+    × Grows old new (events ++ heard child room (Err fault) ∷ [])

@@ -50,7 +50,9 @@ impl AskLog {
         path: &str,
         answer: Result<(), FileFault>,
     ) -> Result<(), AllocError>
-        ensures ok { OnOk result (self.new ≡ option_map (λ asks. asks ++ record { path = path.now; answer = answer } ∷ []) self.old) }
+        ensures ok { OnOk result (self.new
+            ≡ option_map (λ asks. asks ++ record { path = path.now; answer = answer } ∷ [])
+            self.old) }
         ensures err { OnErr result (self.new ≡ None) }
     {
         let Ok(path) = String::from_str(alloc, path) else {

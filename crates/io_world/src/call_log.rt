@@ -65,7 +65,8 @@ impl CallLog {
         argv: &[String],
         answer: Result<(), HostFault>,
     ) -> Result<(), AllocError>
-        ensures ok { OnOk result (Notes self.old self.new (started child (map string_bytes argv.now) answer)) }
+        ensures ok { OnOk result (Notes self.old self.new
+            (started child (map string_bytes argv.now) answer)) }
         ensures err { OnErr result (Loses self.old self.new) }
     {
         match copy_words(self.alloc, argv) {

@@ -18,9 +18,11 @@ pub fn send_all<H: Host>(host: &mut H, child: u8, bytes: &[u8]) -> Result<(), Ho
     requires runs { H.running host.old child ≡ true }
     ensures running { Same (H.running host.old) (H.running host.new) }
     ensures all { OnOk result (Writes child bytes.now (H.spoken host.old) (H.spoken host.new)) }
-    ensures part { OnErr result ((n : ℕ) × (n < length bytes.now) × Writes child (take n bytes.now) (H.spoken host.old) (H.spoken host.new)) }
+    ensures part { OnErr result ((n : ℕ) × (n < length bytes.now)
+        × Writes child (take n bytes.now) (H.spoken host.old) (H.spoken host.new)) }
     ensures log { OnOk result (LogsTaken child bytes.now (H.log host.old) (H.log host.new)) }
-    ensures log_part { IfErr result (λ fault. LogsTakenPart child bytes.now fault (H.log host.old) (H.log host.new)) }
+    ensures log_part { IfErr result
+        (λ fault. LogsTakenPart child bytes.now fault (H.log host.old) (H.log host.new)) }
     ensures cause { HasCause Failed H.last (H.faults host.old) (H.faults host.new) result }
 {
     let mut done = 0;
@@ -50,10 +52,15 @@ pub fn hear_line<H: Host>(
     ensures line { IfOk result (λ n. n < length room.new → HasLine (take n room.new)) }
     ensures kept { take held room.new ≡ take held room.old }
     ensures running { Same (H.running host.old) (H.running host.new) }
-    ensures spoken { IfOk result (λ n. Hears child (drop held (take n room.new)) (H.spoken host.old) (H.spoken host.new)) }
-    ensures part { OnErr result ((bytes : List ℕ) × IsLine (take held room.old ++ bytes) × Hears child bytes (H.spoken host.old) (H.spoken host.new)) }
-    ensures log { IfOk result (λ n. LogsGiven child (take held room.old) (drop held (take n room.new)) (H.log host.old) (H.log host.new)) }
-    ensures log_part { IfErr result (λ fault. LogsGivenPart child (take held room.old) fault (H.log host.old) (H.log host.new)) }
+    ensures spoken { IfOk result (λ n. Hears child (drop held (take n room.new)) (H.spoken host.old)
+        (H.spoken host.new)) }
+    ensures part { OnErr result ((bytes : List ℕ) × IsLine (take held room.old ++ bytes)
+        × Hears child bytes (H.spoken host.old) (H.spoken host.new)) }
+    ensures log { IfOk result (λ n. LogsGiven child (take held room.old)
+        (drop held (take n room.new)) (H.log host.old) (H.log host.new)) }
+    ensures log_part { IfErr result
+        (λ fault. LogsGivenPart child (take held room.old) fault (H.log host.old)
+        (H.log host.new)) }
     ensures cause { HasCause Failed H.last (H.faults host.old) (H.faults host.new) result }
 {
     let mut filled = held;

@@ -46,9 +46,13 @@ pub trait Host {
         requires number { child < 17 }
         requires words { 0 < length argv.now }
         requires idle { running self.old child ≡ false }
-        ensures running { MatchResult result (λ _. Becomes child true (running self.old) (running self.new)) (λ _. Same (running self.old) (running self.new)) }
-        ensures spoken { MatchResult result (λ _. Empties child (spoken self.old) (spoken self.new)) (λ _. Same (spoken self.old) (spoken self.new)) }
-        ensures log { Logs (log self.old) (log self.new) (started child (map string_bytes argv.now) result) }
+        ensures running { MatchResult result
+            (λ _. Becomes child true (running self.old) (running self.new))
+            (λ _. Same (running self.old) (running self.new)) }
+        ensures spoken { MatchResult result (λ _. Empties child (spoken self.old) (spoken self.new))
+            (λ _. Same (spoken self.old) (spoken self.new)) }
+        ensures log { Logs (log self.old) (log self.new)
+            (started child (map string_bytes argv.now) result) }
         ensures cause { HasCause Failed last (faults self.old) (faults self.new) result };
 
     /// Writes the first of these bytes to a running child, and answers how many it took: at least 1.
@@ -62,7 +66,9 @@ pub trait Host {
         requires runs { running self.old child ≡ true }
         ensures count { IfOk result (λ n. (0 < n) × (n ≤ length bytes.now)) }
         ensures running { Same (running self.old) (running self.new) }
-        ensures spoken { MatchResult result (λ n. Writes child (take n bytes.now) (spoken self.old) (spoken self.new)) (λ _. Same (spoken self.old) (spoken self.new)) }
+        ensures spoken { MatchResult result
+            (λ n. Writes child (take n bytes.now) (spoken self.old) (spoken self.new))
+            (λ _. Same (spoken self.old) (spoken self.new)) }
         ensures log { Logs (log self.old) (log self.new) (wrote child bytes.now result) }
         ensures cause { HasCause Failed last (faults self.old) (faults self.new) result };
 
@@ -78,8 +84,11 @@ pub trait Host {
         requires runs { running self.old child ≡ true }
         ensures count { IfOk result (λ n. (0 < n) × (n ≤ length room.new)) }
         ensures running { Same (running self.old) (running self.new) }
-        ensures spoken { MatchResult result (λ n. Hears child (take n room.new) (spoken self.old) (spoken self.new)) (λ _. Same (spoken self.old) (spoken self.new)) }
-        ensures log { Logs (log self.old) (log self.new) (heard child (length room.old) (given result room.new)) }
+        ensures spoken { MatchResult result
+            (λ n. Hears child (take n room.new) (spoken self.old) (spoken self.new))
+            (λ _. Same (spoken self.old) (spoken self.new)) }
+        ensures log { Logs (log self.old) (log self.new)
+            (heard child (length room.old) (given result room.new)) }
         ensures cause { HasCause Failed last (faults self.old) (faults self.new) result };
 
     /// Ends a running child. It doesn't run afterwards, whatever the answer.

@@ -5,6 +5,7 @@
 mod answer_by;
 mod ask_log;
 mod call_log;
+mod conversation;
 mod fault_count;
 mod files;
 mod host;
@@ -26,10 +27,10 @@ mod source;
 mod sure_files;
 mod sure_host;
 mod sure_sink;
-mod conversation;
 mod whole_writes;
 
 pub use answer_by::AnswerBy;
+pub use conversation::{hear_line, send_all};
 pub use fault_count::FaultCount;
 pub use files::{FileFault, Files};
 pub use host::{Host, HostFault};
@@ -46,5 +47,4 @@ pub use source::{Source, SourceFault};
 pub use sure_files::SureFiles;
 pub use sure_host::SureHost;
 pub use sure_sink::SureSink;
-pub use conversation::{hear_line, send_all};
 pub use whole_writes::write_all;

@@ -34,7 +34,12 @@ impl MemFiles {
     /// The files with these paths and bytes; of two with one path the first counts. The calls of
     /// `read` whose numbers, from 0, stand in `fails` fail. It takes its memory from `alloc`.
     pub fn new(alloc: Global, files: Vec<(String, Vec<u8>)>, fails: Vec<u64>) -> MemFiles
-        ensures { result ≡ record { files = map stored files.items; plan = planned fails.items; faults = 0; asked = Some [] } }
+        ensures { result ≡ record {
+          files = map stored files.items;
+          plan = planned fails.items;
+          faults = 0;
+          asked = Some [];
+        } }
     {
         MemFiles {
             alloc,
@@ -46,7 +51,8 @@ impl MemFiles {
     }
 
     fn answer(&self, path: &str, most: usize, fails: bool) -> Result<Vec<u8>, FileFault>
-        ensures { AnswersFile (fails || is_none (map_of self.now.files path.now)) (map_of self.now.files path.now) most result }
+        ensures { AnswersFile (fails || is_none (map_of self.now.files path.now))
+            (map_of self.now.files path.now) most result }
     {
         if fails {
             return Err(FileFault::Failed);
@@ -72,9 +78,13 @@ impl Files for MemFiles {
         ensures asked { Extends self.old.asked self.new.asked (answered path.now result ∷ []) }
         ensures cause { HasCause Failed last_count self.old.faults self.new.faults result }
         ensures counts { Counts Failed last_count self.old.faults self.new.faults result }
-        ensures exact { AnswersFile (fails_next self.old.plan || is_none (map_of self.old.files path.now)) (map_of self.old.files path.now) most result }
-        ensures log { (result ≢ Err Memory) → self.new.asked ≡ option_map (λ asks. asks ++ answered path.now result ∷ []) self.old.asked }
-        ensures kept { self.new ≡ record self.old { plan = after_call self.old.plan; faults = self.new.faults; asked = self.new.asked } }
+        ensures exact { AnswersFile
+            (fails_next self.old.plan || is_none (map_of self.old.files path.now))
+            (map_of self.old.files path.now) most result }
+        ensures log { (result ≢ Err Memory) → self.new.asked
+            ≡ option_map (λ asks. asks ++ answered path.now result ∷ []) self.old.asked }
+        ensures kept { self.new ≡ record self.old
+            { plan = after_call self.old.plan; faults = self.new.faults; asked = self.new.asked } }
     {
         let fails = self.schedule.call();
         let answer = self.answer(path, most, fails);

@@ -44,7 +44,15 @@ impl MemSink {
         fails: Vec<u64>,
     ) -> Result<MemSink, AllocError>
         requires { 0 < piece }
-        ensures { IfOk result (λ sink. sink ≡ record { piece = piece; room = room; plan = planned fails.items; faults = 0; bytes = [] }) }
+        ensures { IfOk result (λ sink. sink
+            ≡ record {
+              piece = piece;
+              room = room;
+              plan = planned fails.items;
+              faults = 0;
+              bytes
+                  = [];
+            }) }
     {
         Ok(MemSink {
             piece,
@@ -75,9 +83,11 @@ impl Sink for MemSink {
         ensures bytes { WriteAppends (Some self.old.bytes) (Some self.new.bytes) result bytes.now }
         ensures cause { HasCause Failed last_count self.old.faults self.new.faults result }
         ensures counts { Counts Failed last_count self.old.faults self.new.faults result }
-        ensures most { IfOk result (λ n. n ≡ min (length bytes.now) (min self.old.piece (room_left self.old))) }
+        ensures most { IfOk result (λ n. n
+            ≡ min (length bytes.now) (min self.old.piece (room_left self.old))) }
         ensures fails { FailsWhere Failed (refuses_next self.old) result }
-        ensures kept { self.new ≡ record self.old { plan = after_call self.old.plan; faults = self.new.faults; bytes = self.new.bytes } }
+        ensures kept { self.new ≡ record self.old
+            { plan = after_call self.old.plan; faults = self.new.faults; bytes = self.new.bytes } }
     {
         let fails = self.schedule.call();
         let count = bytes

@@ -35,7 +35,13 @@ impl MemSource {
     /// A source of these bytes. The i-th call of `read`, from 0, gives at most `cuts[i]` bytes, where
     /// such a cut is stated and at least 1. The calls whose numbers stand in `fails` fail.
     pub fn new(bytes: Vec<u8>, cuts: Vec<usize>, fails: Vec<u64>) -> MemSource
-        ensures { result ≡ record { left = bytes.items; cuts = cuts.items; plan = planned fails.items; faults = 0 } }
+        ensures { result ≡ record {
+          left = bytes.items;
+          cuts = cuts.items;
+          plan = planned
+              fails.items;
+          faults = 0;
+        } }
     {
         MemSource {
             bytes,
@@ -59,9 +65,12 @@ impl Source for MemSource {
         ensures bytes { ReadConsumes (Some self.old.left) (Some self.new.left) result room.new }
         ensures cause { HasCause Failed last_count self.old.faults self.new.faults result }
         ensures counts { Counts Failed last_count self.old.faults self.new.faults result }
-        ensures most { IfOk result (λ n. n ≡ min (length self.old.left) (min (length room.new) (cut_or self.old.cuts self.old.plan.next (length room.new)))) }
+        ensures most { IfOk result (λ n. n
+            ≡ min (length self.old.left)
+            (min (length room.new) (cut_or self.old.cuts self.old.plan.next (length room.new)))) }
         ensures fails { FailsWhere Failed (fails_next self.old.plan) result }
-        ensures kept { self.new ≡ record self.old { left = self.new.left; plan = after_call self.old.plan; faults = self.new.faults } }
+        ensures kept { self.new ≡ record self.old
+            { left = self.new.left; plan = after_call self.old.plan; faults = self.new.faults } }
     {
         let cut = cut_at(&self.cuts, self.schedule.next(), room.len());
         if self.schedule.call() {

@@ -8,8 +8,10 @@ use std::io::{ErrorKind, Read, Write};
 /// It answers None where the read fails, and then gave none.
 pub fn read_some<R: Read>(reader: &mut R, room: &mut [u8]) -> Option<usize>
     ensures count { IfSome result (λ n. n ≤ length room.new) }
-    ensures bytes { MatchOption result (Keeps (R.remaining reader.old) (R.remaining reader.new)) (λ n. Consumes (R.remaining reader.old) (R.remaining reader.new) (take n room.new)) }
-    ensures end { IfSome result (λ n. n ≡ 0 → 0 < length room.new → IsAtEnd (R.remaining reader.new)) }
+    ensures bytes { MatchOption result (Keeps (R.remaining reader.old) (R.remaining reader.new))
+        (λ n. Consumes (R.remaining reader.old) (R.remaining reader.new) (take n room.new)) }
+    ensures end { IfSome result (λ n. n ≡ 0 → 0 < length room.new
+        → IsAtEnd (R.remaining reader.new)) }
 {
     for _ in 0..u64::MAX {
         match reader.read(room) {
@@ -28,7 +30,8 @@ pub fn read_some<R: Read>(reader: &mut R, room: &mut [u8]) -> Option<usize>
 /// It answers None where the write fails or takes nothing.
 pub fn write_some<W: Write>(writer: &mut W, bytes: &[u8]) -> Option<usize>
     ensures count { IfSome result (λ n. (0 < n) × (n ≤ length bytes.now)) }
-    ensures bytes { MatchOption result (Keeps (W.contents writer.old) (W.contents writer.new)) (λ n. Appends (W.contents writer.old) (W.contents writer.new) (take n bytes.now)) }
+    ensures bytes { MatchOption result (Keeps (W.contents writer.old) (W.contents writer.new))
+        (λ n. Appends (W.contents writer.old) (W.contents writer.new) (take n bytes.now)) }
 {
     for _ in 0..u64::MAX {
         match writer.write(bytes) {

@@ -60,7 +60,14 @@ impl ScriptHost {
     /// the memory of its log from `alloc`.
     pub fn new(alloc: Global, children: Vec<Script>, fails: Vec<u64>) -> ScriptHost
         ensures idle { (k : ℕ) → is_running result k ≡ false }
-        ensures state { result ≡ record { scripts = children.items; progress = replicate 17 idle; calls = record { events = []; whole = true }; plan = planned fails.items; faults = 0 } }
+        ensures state { result ≡ record {
+          scripts = children.items;
+          progress = replicate 17 idle;
+          calls = record
+              { events = []; whole = true };
+          plan = planned fails.items;
+          faults = 0;
+        } }
     {
         ScriptHost {
             scripts: children,
@@ -85,7 +92,8 @@ impl ScriptHost {
 
     /// The most that the next read of the child gives.
     fn cut(&self, child: u8, most: usize) -> usize
-        ensures value { result ≡ cut_or (script_of self.now.scripts child).cuts (progress_of self.now.progress child).reads most }
+        ensures value { result ≡ cut_or (script_of self.now.scripts child).cuts
+            (progress_of self.now.progress child).reads most }
         ensures some { 0 < most → 0 < result }
     {
         match self.scripts.get(child as usize) {
@@ -98,7 +106,8 @@ impl ScriptHost {
     fn give(&self, child: u8, room: &mut [u8]) -> usize
         ensures count { result ≡ most_given self.now child (length room.old) }
         ensures given { take result room.new ≡ take result (ready self.now child) }
-        ensures none { result ≡ 0 → 0 < length room.old → (length (ready self.now child) == 0) ≡ true }
+        ensures none { result ≡ 0 → 0 < length room.old → (length (ready self.now child) == 0)
+            ≡ true }
         ensures some { 0 < result → (length (ready self.now child) == 0) ≡ false }
         ensures fits { (progress_of self.now.progress child).position + result < 2 ^ 64 }
     {
@@ -139,15 +148,28 @@ impl Host for ScriptHost {
         requires number { child < 17 }
         requires words { 0 < length argv.now }
         requires idle { is_running self.old child ≡ false }
-        ensures running { MatchResult result (λ _. Becomes child true (is_running self.old) (is_running self.new)) (λ _. Same (is_running self.old) (is_running self.new)) }
-        ensures spoken { MatchResult result (λ _. Empties child (talk_with self.old) (talk_with self.new)) (λ _. Same (talk_with self.old) (talk_with self.new)) }
-        ensures log { Logs (told_of self.old.calls) (told_of self.new.calls) (started child (map string_bytes argv.now) result) }
+        ensures running { MatchResult result
+            (λ _. Becomes child true (is_running self.old) (is_running self.new))
+            (λ _. Same (is_running self.old) (is_running self.new)) }
+        ensures spoken { MatchResult result
+            (λ _. Empties child (talk_with self.old) (talk_with self.new))
+            (λ _. Same (talk_with self.old) (talk_with self.new)) }
+        ensures log { Logs (told_of self.old.calls) (told_of self.new.calls)
+            (started child (map string_bytes argv.now) result) }
         ensures cause { HasCause Failed last_count self.old.faults self.new.faults result }
         ensures counts { Counts Failed last_count self.old.faults self.new.faults result }
         ensures fails { FailsWhere Failed (start_fails self.old child) result }
-        ensures progress { MatchResult result (λ _. Becomes child begun (progress_of self.old.progress) (progress_of self.new.progress)) (λ _. Same (progress_of self.old.progress) (progress_of self.new.progress)) }
+        ensures progress { MatchResult result
+            (λ _. Becomes child begun (progress_of self.old.progress)
+            (progress_of self.new.progress))
+            (λ _. Same (progress_of self.old.progress) (progress_of self.new.progress)) }
         ensures whole { (result ≢ Err Memory) → self.new.calls.whole ≡ self.old.calls.whole }
-        ensures kept { self.new ≡ record self.old { plan = after_call self.old.plan; faults = self.new.faults; calls = self.new.calls; progress = self.new.progress } }
+        ensures kept { self.new ≡ record self.old {
+          plan = after_call self.old.plan;
+          faults = self.new.faults;
+          calls = self.new.calls;
+          progress = self.new.progress;
+        } }
     {
         let scripted = (child as usize) < self.scripts.len();
         let fails = self.schedule.call() || !scripted;
@@ -173,15 +195,26 @@ impl Host for ScriptHost {
         requires runs { is_running self.old child ≡ true }
         ensures count { IfOk result (λ n. (0 < n) × (n ≤ length bytes.now)) }
         ensures running { Same (is_running self.old) (is_running self.new) }
-        ensures spoken { MatchResult result (λ n. Writes child (take n bytes.now) (talk_with self.old) (talk_with self.new)) (λ _. Same (talk_with self.old) (talk_with self.new)) }
-        ensures log { Logs (told_of self.old.calls) (told_of self.new.calls) (wrote child bytes.now result) }
+        ensures spoken { MatchResult result
+            (λ n. Writes child (take n bytes.now) (talk_with self.old) (talk_with self.new))
+            (λ _. Same (talk_with self.old) (talk_with self.new)) }
+        ensures log { Logs (told_of self.old.calls) (told_of self.new.calls)
+            (wrote child bytes.now result) }
         ensures cause { HasCause Failed last_count self.old.faults self.new.faults result }
         ensures counts { Counts Failed last_count self.old.faults self.new.faults result }
         ensures all { IfOk result (λ n. n ≡ length bytes.now) }
         ensures fails { FailsWhere Failed (fails_next self.old.plan) result }
-        ensures progress { let p = progress_of self.old.progress child in MatchResult result (λ _. Becomes child (record p { lines = more p.lines (line_feeds bytes.now) }) (progress_of self.old.progress) (progress_of self.new.progress)) (λ _. Same (progress_of self.old.progress) (progress_of self.new.progress)) }
+        ensures progress { let p = progress_of self.old.progress child in MatchResult result
+            (λ _. Becomes child (record p { lines = more p.lines (line_feeds bytes.now) })
+            (progress_of self.old.progress) (progress_of self.new.progress))
+            (λ _. Same (progress_of self.old.progress) (progress_of self.new.progress)) }
         ensures whole { (result ≢ Err Memory) → self.new.calls.whole ≡ self.old.calls.whole }
-        ensures kept { self.new ≡ record self.old { plan = after_call self.old.plan; faults = self.new.faults; calls = self.new.calls; progress = self.new.progress } }
+        ensures kept { self.new ≡ record self.old {
+          plan = after_call self.old.plan;
+          faults = self.new.faults;
+          calls = self.new.calls;
+          progress = self.new.progress;
+        } }
     {
         let fails = self.schedule.call();
         let answer = if fails {
@@ -208,16 +241,26 @@ impl Host for ScriptHost {
         requires runs { is_running self.old child ≡ true }
         ensures count { IfOk result (λ n. (0 < n) × (n ≤ length room.new)) }
         ensures running { Same (is_running self.old) (is_running self.new) }
-        ensures spoken { MatchResult result (λ n. Hears child (take n room.new) (talk_with self.old) (talk_with self.new)) (λ _. Same (talk_with self.old) (talk_with self.new)) }
-        ensures log { Logs (told_of self.old.calls) (told_of self.new.calls) (heard child (length room.old) (given result room.new)) }
+        ensures spoken { MatchResult result
+            (λ n. Hears child (take n room.new) (talk_with self.old) (talk_with self.new))
+            (λ _. Same (talk_with self.old) (talk_with self.new)) }
+        ensures log { Logs (told_of self.old.calls) (told_of self.new.calls)
+            (heard child (length room.old) (given result room.new)) }
         ensures cause { HasCause Failed last_count self.old.faults self.new.faults result }
         ensures counts { Counts Failed last_count self.old.faults self.new.faults result }
         ensures most { IfOk result (λ n. n ≡ most_given self.old child (length room.old)) }
         ensures bytes { IfOk result (λ n. take n room.new ≡ take n (ready self.old child)) }
         ensures fails { FailsWhere Failed (read_fails self.old child) result }
-        ensures progress { let p = progress_of self.old.progress child in Becomes child (record p { reads = more p.reads 1; position = p.position + given_count result }) (progress_of self.old.progress) (progress_of self.new.progress) }
+        ensures progress { let p = progress_of self.old.progress child in Becomes child
+            (record p { reads = more p.reads 1; position = p.position + given_count result })
+            (progress_of self.old.progress) (progress_of self.new.progress) }
         ensures whole { (result ≢ Err Memory) → self.new.calls.whole ≡ self.old.calls.whole }
-        ensures kept { self.new ≡ record self.old { plan = after_call self.old.plan; faults = self.new.faults; calls = self.new.calls; progress = self.new.progress } }
+        ensures kept { self.new ≡ record self.old {
+          plan = after_call self.old.plan;
+          faults = self.new.faults;
+          calls = self.new.calls;
+          progress = self.new.progress;
+        } }
     {
         let fails = self.schedule.call();
         let size = room.len();
@@ -250,13 +293,21 @@ impl Host for ScriptHost {
         requires runs { is_running self.old child ≡ true }
         ensures running { Becomes child false (is_running self.old) (is_running self.new) }
         ensures spoken { Same (talk_with self.old) (talk_with self.new) }
-        ensures log { Logs (told_of self.old.calls) (told_of self.new.calls) (stopped child result) }
+        ensures log { Logs (told_of self.old.calls) (told_of self.new.calls)
+            (stopped child result) }
         ensures cause { HasCause Failed last_count self.old.faults self.new.faults result }
         ensures counts { Counts Failed last_count self.old.faults self.new.faults result }
         ensures fails { FailsWhere Failed (fails_next self.old.plan) result }
-        ensures progress { Becomes child (record (progress_of self.old.progress child) { running = false }) (progress_of self.old.progress) (progress_of self.new.progress) }
+        ensures progress { Becomes child
+            (record (progress_of self.old.progress child) { running = false })
+            (progress_of self.old.progress) (progress_of self.new.progress) }
         ensures whole { (result ≢ Err Memory) → self.new.calls.whole ≡ self.old.calls.whole }
-        ensures kept { self.new ≡ record self.old { plan = after_call self.old.plan; faults = self.new.faults; calls = self.new.calls; progress = self.new.progress } }
+        ensures kept { self.new ≡ record self.old {
+          plan = after_call self.old.plan;
+          faults = self.new.faults;
+          calls = self.new.calls;
+          progress = self.new.progress;
+        } }
     {
         let fails = self.schedule.call();
         let mut now = progress_of(&self.progress, child);

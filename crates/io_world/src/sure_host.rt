@@ -50,7 +50,8 @@ impl<A: AnswerBy> SureHost<A> {
     /// Children that answer by this; none of them runs. It takes its memory from `alloc`.
     pub fn new(alloc: Global, answers: A) -> SureHost<A>
         ensures idle { (k : ℕ) → runs result.children k ≡ false }
-        ensures state { result ≡ record { answers = answers; children = []; calls = record { events = []; whole = true } } }
+        ensures state { result ≡ record
+            { answers = answers; children = []; calls = record { events = []; whole = true } } }
     {
         SureHost {
             answers,
@@ -68,7 +69,8 @@ impl<A: AnswerBy> SureHost<A> {
         ensures buffer { IfOk result (λ buffer. buffer ≡ no_reply) }
         ensures within { OnOk result (child < length self.new.children) }
         ensures same { (k : ℕ) → child_of self.new.children k ≡ child_of self.old.children k }
-        ensures calls { MatchResult result (λ _. self.new.calls ≡ self.old.calls) (λ _. self.new.calls ≡ record self.old.calls { whole = false }) }
+        ensures calls { MatchResult result (λ _. self.new.calls ≡ self.old.calls)
+            (λ _. self.new.calls ≡ record self.old.calls { whole = false }) }
         ensures whole { OnOk result (self.new.calls.whole ≡ self.old.calls.whole) }
         ensures answers { self.new.answers ≡ self.old.answers }
     {
@@ -119,13 +121,20 @@ impl<A: AnswerBy> Host for SureHost<A> {
         requires number { child < 17 }
         requires words { 0 < length argv.now }
         requires idle { runs self.old.children child ≡ false }
-        ensures running { MatchResult result (λ _. Becomes child true (runs self.old.children) (runs self.new.children)) (λ _. Same (runs self.old.children) (runs self.new.children)) }
-        ensures spoken { MatchResult result (λ _. Empties child (said_of self.old.calls) (said_of self.new.calls)) (λ _. Same (said_of self.old.calls) (said_of self.new.calls)) }
-        ensures log { Logs (told_of self.old.calls) (told_of self.new.calls) (started child (map string_bytes argv.now) result) }
+        ensures running { MatchResult result
+            (λ _. Becomes child true (runs self.old.children) (runs self.new.children))
+            (λ _. Same (runs self.old.children) (runs self.new.children)) }
+        ensures spoken { MatchResult result
+            (λ _. Empties child (said_of self.old.calls) (said_of self.new.calls))
+            (λ _. Same (said_of self.old.calls) (said_of self.new.calls)) }
+        ensures log { Logs (told_of self.old.calls) (told_of self.new.calls)
+            (started child (map string_bytes argv.now) result) }
         ensures cause { HasCause Failed last_count 0 0 result }
         ensures sure { IfErr result (λ fault. fault ≡ Memory) }
-        ensures child { OnOk result (child_of self.new.children child ≡ record { running = true; reply = no_reply }) }
-        ensures others { (k : ℕ) → k ≢ child → child_of self.new.children k ≡ child_of self.old.children k }
+        ensures child { OnOk result
+            (child_of self.new.children child ≡ record { running = true; reply = no_reply }) }
+        ensures others { (k : ℕ) → k ≢ child → child_of self.new.children k
+            ≡ child_of self.old.children k }
         ensures whole { OnOk result (self.new.calls.whole ≡ self.old.calls.whole) }
         ensures answers { self.new.answers ≡ self.old.answers }
     {
@@ -148,14 +157,21 @@ impl<A: AnswerBy> Host for SureHost<A> {
         requires runs { runs self.old.children child ≡ true }
         ensures count { IfOk result (λ n. (0 < n) × (n ≤ length bytes.now)) }
         ensures running { Same (runs self.old.children) (runs self.new.children) }
-        ensures spoken { MatchResult result (λ n. Writes child (take n bytes.now) (said_of self.old.calls) (said_of self.new.calls)) (λ _. Same (said_of self.old.calls) (said_of self.new.calls)) }
-        ensures log { Logs (told_of self.old.calls) (told_of self.new.calls) (wrote child bytes.now result) }
+        ensures spoken { MatchResult result
+            (λ n. Writes child (take n bytes.now) (said_of self.old.calls) (said_of self.new.calls))
+            (λ _. Same (said_of self.old.calls) (said_of self.new.calls)) }
+        ensures log { Logs (told_of self.old.calls) (told_of self.new.calls)
+            (wrote child bytes.now result) }
         ensures cause { HasCause Failed last_count 0 0 result }
         ensures sure { IfErr result (λ fault. fault ≡ Memory) }
         ensures all { IfOk result (λ n. n ≡ length bytes.now) }
-        ensures replies { OnOk result (Replies (A.answers self.old.answers) bytes.now (child_of self.old.children child).reply (child_of self.new.children child).reply) }
-        ensures others { (k : ℕ) → k ≢ child → child_of self.new.children k ≡ child_of self.old.children k }
-        ensures kept { OnErr result (child_of self.new.children child ≡ child_of self.old.children child) }
+        ensures replies { OnOk result
+            (Replies (A.answers self.old.answers) bytes.now (child_of self.old.children child).reply
+            (child_of self.new.children child).reply) }
+        ensures others { (k : ℕ) → k ≢ child → child_of self.new.children k
+            ≡ child_of self.old.children k }
+        ensures kept { OnErr result
+            (child_of self.new.children child ≡ child_of self.old.children child) }
         ensures whole { OnOk result (self.new.calls.whole ≡ self.old.calls.whole) }
         ensures answers { self.new.answers ≡ self.old.answers }
     {
@@ -182,15 +198,26 @@ impl<A: AnswerBy> Host for SureHost<A> {
         requires runs { runs self.old.children child ≡ true }
         ensures count { IfOk result (λ n. (0 < n) × (n ≤ length room.new)) }
         ensures running { Same (runs self.old.children) (runs self.new.children) }
-        ensures spoken { MatchResult result (λ n. Hears child (take n room.new) (said_of self.old.calls) (said_of self.new.calls)) (λ _. Same (said_of self.old.calls) (said_of self.new.calls)) }
-        ensures log { Logs (told_of self.old.calls) (told_of self.new.calls) (heard child (length room.old) (given result room.new)) }
+        ensures spoken { MatchResult result
+            (λ n. Hears child (take n room.new) (said_of self.old.calls) (said_of self.new.calls))
+            (λ _. Same (said_of self.old.calls) (said_of self.new.calls)) }
+        ensures log { Logs (told_of self.old.calls) (told_of self.new.calls)
+            (heard child (length room.old) (given result room.new)) }
         ensures cause { HasCause Failed last_count 0 0 result }
         ensures sure { IfErr result (λ fault. fault ≡ Memory) }
-        ensures most { IfOk result (λ n. n ≡ min (length (next_bytes (child_of self.old.children child).reply)) (length room.old)) }
-        ensures bytes { IfOk result (λ n. take n room.new ≡ take n (next_bytes (child_of self.old.children child).reply)) }
-        ensures reply { IfOk result (λ n. let reply = (child_of self.old.children child).reply in (child_of self.new.children child).reply ≡ record reply { pending = drop n (next_bytes reply) }) }
-        ensures others { (k : ℕ) → k ≢ child → child_of self.new.children k ≡ child_of self.old.children k }
-        ensures kept { OnErr result (child_of self.new.children child ≡ child_of self.old.children child) }
+        ensures most { IfOk result (λ n. n
+            ≡ min (length (next_bytes (child_of self.old.children child).reply))
+            (length room.old)) }
+        ensures bytes { IfOk result
+            (λ n. take n room.new ≡ take n (next_bytes (child_of self.old.children child).reply)) }
+        ensures reply { IfOk result
+            (λ n. let reply = (child_of self.old.children child).reply in
+            (child_of self.new.children child).reply
+            ≡ record reply { pending = drop n (next_bytes reply) }) }
+        ensures others { (k : ℕ) → k ≢ child → child_of self.new.children k
+            ≡ child_of self.old.children k }
+        ensures kept { OnErr result
+            (child_of self.new.children child ≡ child_of self.old.children child) }
         ensures whole { OnOk result (self.new.calls.whole ≡ self.old.calls.whole) }
         ensures answers { self.new.answers ≡ self.old.answers }
     {
@@ -211,10 +238,12 @@ impl<A: AnswerBy> Host for SureHost<A> {
         requires runs { runs self.old.children child ≡ true }
         ensures running { Becomes child false (runs self.old.children) (runs self.new.children) }
         ensures spoken { Same (said_of self.old.calls) (said_of self.new.calls) }
-        ensures log { Logs (told_of self.old.calls) (told_of self.new.calls) (stopped child result) }
+        ensures log { Logs (told_of self.old.calls) (told_of self.new.calls)
+            (stopped child result) }
         ensures cause { HasCause Failed last_count 0 0 result }
         ensures sure { IfErr result (λ fault. fault ≡ Memory) }
-        ensures others { (k : ℕ) → k ≢ child → child_of self.new.children k ≡ child_of self.old.children k }
+        ensures others { (k : ℕ) → k ≢ child → child_of self.new.children k
+            ≡ child_of self.old.children k }
         ensures whole { OnOk result (self.new.calls.whole ≡ self.old.calls.whole) }
         ensures answers { self.new.answers ≡ self.old.answers }
     {

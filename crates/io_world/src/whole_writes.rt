@@ -13,7 +13,8 @@ use crate::sink::{Sink, SinkFault};
 /// not all.
 pub fn write_all<O: Sink>(out: &mut O, bytes: &[u8]) -> Result<(), SinkFault>
     ensures all { OnOk result (Appends (O.taken out.old) (O.taken out.new) bytes.now) }
-    ensures part { OnErr result ((n : ℕ) × (n < length bytes.now) × Appends (O.taken out.old) (O.taken out.new) (take n bytes.now)) }
+    ensures part { OnErr result ((n : ℕ) × (n < length bytes.now)
+        × Appends (O.taken out.old) (O.taken out.new) (take n bytes.now)) }
     ensures cause { HasCause Failed last_count (O.faults out.old) (O.faults out.new) result }
 {
     let mut done = 0;

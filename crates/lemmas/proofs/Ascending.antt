@@ -40,7 +40,8 @@ all_append : {A : Type 0} (P : A → Type 0) (xs ys : List A) → AllByRecursion
 all_append P [] ys p q = q
 all_append P (x ∷ xs) ys p q = (p.0, all_append P xs ys p.1 q)
 
-pub from_flat_map : {A B : Type 0} (f : A → List B) (xs : List A) (y : B) → Contains (flat_map f xs) y → (x : A) × Contains xs x × Contains (f x) y
+pub from_flat_map : {A B : Type 0} (f : A → List B) (xs : List A) (y : B) → Contains (flat_map f xs) y
+    → (x : A) × Contains xs x × Contains (f x) y
 from_flat_map f [] y c = absurd (contains_none y c)
 from_flat_map f (x ∷ xs) y c =
     elim (Contains-append_cases (f x) (flat_map f xs) y c) [
@@ -48,7 +49,8 @@ from_flat_map f (x ∷ xs) y c =
       | inr h ↦ let rest = from_flat_map f xs y h in (rest.0, contains_later x xs rest.0 rest.1, rest.2)
     ]
 
-pub in_flat_map : {A B : Type 0} (f : A → List B) (xs : List A) (x : A) (y : B) → Contains xs x → Contains (f x) y → Contains (flat_map f xs) y
+pub in_flat_map : {A B : Type 0} (f : A → List B) (xs : List A) (x : A) (y : B) → Contains xs x → Contains (f x) y
+    → Contains (flat_map f xs) y
 in_flat_map f [] x y c d = absurd (contains_none x c)
 in_flat_map f (z ∷ zs) x y c d =
     elim (contains_cases z zs x c) [
@@ -58,7 +60,8 @@ in_flat_map f (z ∷ zs) x y c d =
 
 -- ---- ascending
 
-pub rising_append : {A : Type 0} (cmp : A → A → Ordering) (xs ys : List A) → IsStrictlySortedBy cmp xs → IsStrictlySortedBy cmp ys → ((x y : A) → Contains xs x → Contains ys y → cmp x y ≡ Less) → IsStrictlySortedBy cmp (xs ++ ys)
+pub rising_append : {A : Type 0} (cmp : A → A → Ordering) (xs ys : List A) → IsStrictlySortedBy cmp xs → IsStrictlySortedBy cmp ys
+    → ((x y : A) → Contains xs x → Contains ys y → cmp x y ≡ Less) → IsStrictlySortedBy cmp (xs ++ ys)
 unfolding IsStrictlySortedBy
 rising_append cmp [] ys p q less = q
 rising_append cmp (x ∷ xs) ys p q less = (
@@ -66,7 +69,9 @@ rising_append cmp (x ∷ xs) ys p q less = (
   rising_append cmp xs ys p.1 q (λ a b c d. less a b (contains_later x xs a c) d),
 )
 
-pub rising_flat_map : {A B : Type 0} (lt : A → A → Ordering) (cmp : B → B → Ordering) (f : A → List B) (xs : List A) → IsStrictlySortedBy lt xs → ((x : A) → IsStrictlySortedBy cmp (f x)) → ((x y : A) (a b : B) → lt x y ≡ Less → Contains (f x) a → Contains (f y) b → cmp a b ≡ Less) → IsStrictlySortedBy cmp (flat_map f xs)
+pub rising_flat_map : {A B : Type 0} (lt : A → A → Ordering) (cmp : B → B → Ordering) (f : A → List B) (xs : List A)
+    → IsStrictlySortedBy lt xs → ((x : A) → IsStrictlySortedBy cmp (f x))
+    → ((x y : A) (a b : B) → lt x y ≡ Less → Contains (f x) a → Contains (f y) b → cmp a b ≡ Less) → IsStrictlySortedBy cmp (flat_map f xs)
 unfolding IsStrictlySortedBy
 rising_flat_map lt cmp f [] p each less = tt
 rising_flat_map lt cmp f (x ∷ xs) p each less =
@@ -115,8 +120,10 @@ module _ {A : Type 0} (cmp : A → A → Ordering) (total : IsTotalOrder cmp) wh
   abbrev Same : List A → List A → Type 0
   Same xs ys = (z : A) → Contains xs z → Contains ys z
 
-  same_heads : (x y : A) (xs ys : List A) → AreAscending cmp (x ∷ xs) → AreAscending cmp (y ∷ ys) → Same (x ∷ xs) (y ∷ ys) → Same (y ∷ ys) (x ∷ xs) → x ≡ y
-  same_heads x y xs ys first second there back = by (contains_cases y ys x (there x (contains_here x xs))) (contains_cases x xs y (back y (contains_here y ys)))
+  same_heads : (x y : A) (xs ys : List A) → AreAscending cmp (x ∷ xs) → AreAscending cmp (y ∷ ys) → Same (x ∷ xs) (y ∷ ys)
+      → Same (y ∷ ys) (x ∷ xs) → x ≡ y
+  same_heads x y xs ys first second there back =
+      by (contains_cases y ys x (there x (contains_here x xs))) (contains_cases x xs y (back y (contains_here y ys)))
     where
       by : (y ≡ x) ⊎ Contains ys x → (x ≡ y) ⊎ Contains xs y → x ≡ y
       by (inl e) q = sym e

@@ -7,7 +7,8 @@ use Rattle.std.proofs.lemmas.Option.{same_Some, slice_get-get_or}
 use Rattle.std.proofs.lemmas.List.Sums.{AllPass-from_list_all}
 
 -- some member passes
-pub any_found : {A : Type 0} (p : A → Bool) (xs : List A) → list_any p xs ≡ true → (i : ℕ) × (x : A) × (slice_get xs i ≡ Some x) × (p x ≡ true)
+pub any_found : {A : Type 0} (p : A → Bool) (xs : List A) → list_any p xs ≡ true
+    → (i : ℕ) × (x : A) × (slice_get xs i ≡ Some x) × (p x ≡ true)
 any_found p [] e = absurd (cc)
 any_found p (x ∷ xs) e =
     elim (p x) as (λ b. p x ≡ b → (b || list_any p xs) ≡ true → (i : ℕ) × (y : _) × (slice_get (x ∷ xs) i ≡ Some y) × (p y ≡ true)) [
@@ -49,7 +50,8 @@ pub one_there : {A : Type 0} (xs : List A) (i : ℕ) (x y : A) → slice_get xs 
 one_there xs i x y e f = same_Some x y (sym e ∙ f)
 
 -- what is left to see from a place on
-pub any_from : {A : Type 0} (p : A → Bool) (xs : List A) (i : ℕ) (x : A) → slice_get xs i ≡ Some x → list_any p (drop i xs) ≡ (p x || list_any p (drop (i + 1) xs))
+pub any_from : {A : Type 0} (p : A → Bool) (xs : List A) (i : ℕ) (x : A) → slice_get xs i ≡ Some x
+    → list_any p (drop i xs) ≡ (p x || list_any p (drop (i + 1) xs))
 any_from p xs i x e = from xs i e ∙ ap (λ n. p x || list_any p (drop n xs)) (sym (add-one i))
   where
     from : (xs : List _) (i : ℕ) → slice_get xs i ≡ Some x → list_any p (drop i xs) ≡ (p x || list_any p (drop (suc i) xs))
@@ -78,14 +80,17 @@ any_append_right p (x ∷ xs) ys e = or_right (p x) (list_any p (xs ++ ys)) (any
 
 pub all_append : {A : Type 0} (p : A → Bool) (xs ys : List A) → list_all p xs ≡ true → list_all p ys ≡ true → list_all p (xs ++ ys) ≡ true
 all_append p [] ys e f = f
-all_append p (x ∷ xs) ys e f = and_from (p x) (list_all p (xs ++ ys)) (first_so (p x) (list_all p xs) e) (all_append p xs ys (second_so (p x) (list_all p xs) e) f)
+all_append p (x ∷ xs) ys e f =
+    and_from (p x) (list_all p (xs ++ ys)) (first_so (p x) (list_all p xs) e) (all_append p xs ys (second_so (p x) (list_all p xs) e) f)
 
 pub all_push : {A : Type 0} (p : A → Bool) (xs : List A) (x : A) → list_all p xs ≡ true → p x ≡ true → list_all p (xs ++ x ∷ []) ≡ true
 all_push p xs x e t = all_append p xs (x ∷ []) e (and_from (p x) true t refl)
 
 pub all_weaker : (p q : ℕ → Bool) → ((b : ℕ) → p b ≡ true → q b ≡ true) → (text : List ℕ) → list_all p text ≡ true → list_all q text ≡ true
 all_weaker p q so [] e = refl
-all_weaker p q so (b ∷ bs) e = and_from (q b) (list_all q bs) (so b (first_so (p b) (list_all p bs) e)) (all_weaker p q so bs (second_so (p b) (list_all p bs) e))
+all_weaker p q so (b ∷ bs) e =
+    and_from (q b) (list_all q bs) (so b (first_so (p b) (list_all p bs) e)) (all_weaker p q so bs (second_so (p b) (list_all p bs) e))
 
-pub all_at_or : {A : Type 0} (p : A → Bool) (xs : List A) (i : ℕ) (x : A) → list_all p xs ≡ true → i < length xs → x ≡ get_or xs i x → p x ≡ true
+pub all_at_or : {A : Type 0} (p : A → Bool) (xs : List A) (i : ℕ) (x : A) → list_all p xs ≡ true → i < length xs → x ≡ get_or xs i x
+    → p x ≡ true
 all_at_or p xs i x all lt is = subst (λ y. p y ≡ true) (sym is) (AllPass-from_list_all p xs all i x lt)

@@ -24,7 +24,8 @@ module _ {A : Type 0} (f : A → List ℕ) (old : List A) (key : A) (names : Lis
   key_there = any_mapped f (bytes_eq (f key)) old ∙ (λ i. list_any (bytes_eq (is i)) (same i))
 
   -- a key is put behind the others as its name is
-  pub key_added : (new : List A) → new ≡ cond (list_any (λ k. bytes_eq (f key) (f k)) old) old (old ++ key ∷ []) → map f new ≡ cond (list_any (bytes_eq name) names) names (names ++ name ∷ [])
+  pub key_added : (new : List A) → new ≡ cond (list_any (λ k. bytes_eq (f key) (f k)) old) old (old ++ key ∷ [])
+      → map f new ≡ cond (list_any (bytes_eq name) names) names (names ++ name ∷ [])
   key_added new grown = ap (map f) (grown ∙ ap (λ b. cond b old (old ++ key ∷ [])) key_there) ∙ either (list_any (bytes_eq name) names)
     where
       either : (b : Bool) → map f (cond b old (old ++ key ∷ [])) ≡ cond b names (names ++ name ∷ [])

@@ -15,7 +15,8 @@ pub place_of : {A : Type 0} (xs : List A) (x : A) → Contains xs x → (k : ℕ
 place_of xs x c = (c.0, slice_get-get_or xs c.0 x c.1 ∙ ap Some c.2)
 
 -- what stands in a list with one more member stood there, or is that member
-pub push_cases : {A : Type 0} (xs : List A) (y : A) (i : ℕ) (x : A) → slice_get (xs ++ y ∷ []) i ≡ Some x → (slice_get xs i ≡ Some x) ⊎ ((i ≡ length xs) × (x ≡ y))
+pub push_cases : {A : Type 0} (xs : List A) (y : A) (i : ℕ) (x : A) → slice_get (xs ++ y ∷ []) i ≡ Some x
+    → (slice_get xs i ≡ Some x) ⊎ ((i ≡ length xs) × (x ≡ y))
 push_cases [] y zero x e = inr (refl, cc)
 push_cases [] y (suc i) x e = absurd (cc)
 push_cases (z ∷ zs) y zero x e = inl e
@@ -49,7 +50,8 @@ get_at_length (y ∷ ys) x = get_at_length ys x
 
 pub get_behind : {A : Type 0} (xs ys : List A) (k : ℕ) (x : A) → slice_get ys k ≡ Some x → slice_get (xs ++ ys) (length xs + k) ≡ Some x
 get_behind [] ys k x at = ap (slice_get ys) (let e : 0 + k ≡ k = omega arith in e) ∙ at
-get_behind (z ∷ zs) ys k x at = ap (slice_get (z ∷ zs ++ ys)) (let e : suc (length zs) + k ≡ suc (length zs + k) = omega arith in e) ∙ get_behind zs ys k x at
+get_behind (z ∷ zs) ys k x at =
+    ap (slice_get (z ∷ zs ++ ys)) (let e : suc (length zs) + k ≡ suc (length zs + k) = omega arith in e) ∙ get_behind zs ys k x at
 
 pub get_single : {A : Type 0} (x y : A) (k : ℕ) → slice_get (x ∷ []) k ≡ Some y → (k ≡ 0) × (x ≡ y)
 get_single x y zero e = (refl, cc)
@@ -61,7 +63,8 @@ get_take (y ∷ ys) j zero x at lt = absurd (omega arith)
 get_take (y ∷ ys) zero (suc k) x at lt = at
 get_take (y ∷ ys) (suc j) (suc k) x at lt = let below : j < k = omega arith in get_take ys j k x at below
 
-pub get_and_take : {A : Type 0} (xs : List A) (j k : ℕ) (x : A) → j < k → slice_get xs j ≡ Some x → (slice_get (take k xs) j ≡ Some x) × (take j (take k xs) ≡ take j xs)
+pub get_and_take : {A : Type 0} (xs : List A) (j k : ℕ) (x : A) → j < k → slice_get xs j ≡ Some x
+    → (slice_get (take k xs) j ≡ Some x) × (take j (take k xs) ≡ take j xs)
 get_and_take [] j k x lt at = absurd (cc)
 get_and_take (y ∷ ys) j zero x lt at = absurd (omega (arith, lt))
 get_and_take (y ∷ ys) zero (suc k) x lt at = (at, refl)
@@ -89,11 +92,13 @@ append_nil_second [] ys e = e
 append_nil_second (x ∷ xs) ys e = absurd (cc)
 
 -- one member more
-pub flat_map_next : {X A : Type 0} (f : X → List A) (xs : List X) (i : ℕ) (x : X) → i < length xs → x ≡ get_or xs i x → flat_map f (take (i + 1) xs) ≡ flat_map f (take i xs) ++ f x
+pub flat_map_next : {X A : Type 0} (f : X → List A) (xs : List X) (i : ℕ) (x : X) → i < length xs → x ≡ get_or xs i x
+    → flat_map f (take (i + 1) xs) ≡ flat_map f (take i xs) ++ f x
 flat_map_next f xs i x lt is =
     let one : take (i + 1) xs ≡ take i xs ++ x ∷ [] = rw add-one (take-suc xs i x lt ∙ ap (λ y. take i xs ++ y ∷ []) (sym is)) in
     rw (one, flat_map-append) (ap (λ t. flat_map f (take i xs) ++ t) (append-nil (f x)))
 
-pub flat_map_map_next : {X B A : Type 0} (f : B → List A) (g : X → B) (xs : List X) (i : ℕ) (x : X) → i < length xs → x ≡ get_or xs i x → flat_map f (map g (take (i + 1) xs)) ≡ flat_map f (map g (take i xs)) ++ f (g x)
+pub flat_map_map_next : {X B A : Type 0} (f : B → List A) (g : X → B) (xs : List X) (i : ℕ) (x : X) → i < length xs → x ≡ get_or xs i x
+    → flat_map f (map g (take (i + 1) xs)) ≡ flat_map f (map g (take i xs)) ++ f (g x)
 flat_map_map_next f g xs i x lt is =
     flat_map-map f g (take (i + 1) xs) ∙ flat_map_next (λ y. f (g y)) xs i x lt is ∙ ap (λ t. t ++ f (g x)) (sym (flat_map-map f g (take i xs)))

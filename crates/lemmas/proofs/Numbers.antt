@@ -45,7 +45,8 @@ in_numbers first (suc count) n low high =
       | false ↦ λ f. in_numbers (first + 1) count n (omega (arith, eqb-false first n f)) (omega arith)
     ] refl
 
-pub all_numbers : (p : ℕ → Bool) (first count : ℕ) → ((n : ℕ) → first ≤ n → n < first + count → p n ≡ true) → list_all p (numbers_from first count) ≡ true
+pub all_numbers : (p : ℕ → Bool) (first count : ℕ) → ((n : ℕ) → first ≤ n → n < first + count → p n ≡ true)
+    → list_all p (numbers_from first count) ≡ true
 all_numbers p first zero each = refl
 all_numbers p first (suc count) each = and_from (p first) (list_all p (numbers_from (first + 1) count)) (each first (omega arith) (omega arith)) (all_numbers p (first + 1) count (λ n low high. each n (omega arith) (omega arith)))
 

@@ -45,7 +45,8 @@ or_length false m n le e = grind (arith, nat_tests, e)
 pub position_or : (p : ℕ → Bool) (xs : List ℕ) → unwrap_or (position p xs) (length xs) ≡ position_or_len p xs
 position_or p xs = or_length _ _ _ (prefix_len-le-length (λ x. not (p x)) xs) refl
 
-any_within_by : {A : Type 0} (p : A → Bool) (xs : List A) (b : Bool) → list_any p xs ≡ nat_lt (position_or_len p xs) (length xs) → (b || list_any p xs) ≡ nat_lt (cond (not b) (1 + position_or_len p xs) 0) (suc (length xs))
+any_within_by : {A : Type 0} (p : A → Bool) (xs : List A) (b : Bool) → list_any p xs ≡ nat_lt (position_or_len p xs) (length xs)
+    → (b || list_any p xs) ≡ nat_lt (cond (not b) (1 + position_or_len p xs) 0) (suc (length xs))
 any_within_by p xs true e = grind (arith, nat_tests)
 any_within_by p xs false e = e ∙ grind (arith, nat_tests)
 

@@ -11,7 +11,8 @@ Way edge from to = (between : List ℕ) × LeadsAlong edge from between to
 abbrev pub Cycle : (ℕ → ℕ → Bool) → Type 0
 Cycle edge = (node : ℕ) × Way edge node node
 
-along : (edge : ℕ → ℕ → Bool) (xs ys : List ℕ) (a b c : ℕ) → LeadsAlong edge a xs b → LeadsAlong edge b ys c → LeadsAlong edge a (xs ++ b ∷ ys) c
+along : (edge : ℕ → ℕ → Bool) (xs ys : List ℕ) (a b c : ℕ) → LeadsAlong edge a xs b → LeadsAlong edge b ys c
+    → LeadsAlong edge a (xs ++ b ∷ ys) c
 along edge [] ys a b c h k = (h, k)
 along edge (x ∷ xs) ys a b c h k = (h.0, along edge xs ys x b c h.1 k)
 
@@ -25,7 +26,8 @@ skip f m i = cond (f i == m) (f m) (f i)
 abbrev without : (ℕ → Bool) → ℕ → ℕ → Bool
 without inside m i = inside i && not (i == m)
 
-skip_stays : (f : ℕ → ℕ) (inside : ℕ → Bool) (m i : ℕ) → inside (f i) ≡ true → without inside m (f m) ≡ true → without inside m (skip f m i) ≡ true
+skip_stays : (f : ℕ → ℕ) (inside : ℕ → Bool) (m i : ℕ) → inside (f i) ≡ true → without inside m (f m) ≡ true
+    → without inside m (skip f m i) ≡ true
 skip_stays f inside m i stays there =
     elim (f i == m) as (λ b. (f i == m) ≡ b → without inside m (cond b (f m) (f i)) ≡ true) [
       | true ↦ λ _. there
@@ -46,7 +48,9 @@ other : (inside : ℕ → Bool) (m i : ℕ) → without inside m i ≡ true → 
 other inside m i h e = both_ways (i == m) (not-true (i == m) (second_so (inside i) (not (i == m)) h)) (eq-eqb i m e)
 
 -- where each node inside leads on inside, and all are below n
-pub cycle_in : (edge : ℕ → ℕ → Bool) (n : ℕ) (f : ℕ → ℕ) (inside : ℕ → Bool) → ((i : ℕ) → inside i ≡ true → i < n) → ((i : ℕ) → inside i ≡ true → inside (f i) ≡ true) → ((i : ℕ) → inside i ≡ true → Way edge i (f i)) → (s : ℕ) → inside s ≡ true → Cycle edge
+pub cycle_in : (edge : ℕ → ℕ → Bool) (n : ℕ) (f : ℕ → ℕ) (inside : ℕ → Bool) → ((i : ℕ) → inside i ≡ true → i < n)
+    → ((i : ℕ) → inside i ≡ true → inside (f i) ≡ true) → ((i : ℕ) → inside i ≡ true → Way edge i (f i)) → (s : ℕ) → inside s ≡ true
+    → Cycle edge
 cycle_in edge zero f inside below stays way s here = absurd (omega (arith, below s here))
 cycle_in edge (suc m) f inside below stays way s here =
     elim (inside m) as (λ b. inside m ≡ b → Cycle edge) [

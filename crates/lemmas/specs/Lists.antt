@@ -10,7 +10,8 @@ AreDistinct {A} xs = (i j : ℕ) (x : A) → slice_get xs i ≡ Some x → slice
 
 -- each member is less than all behind it
 abbrev pub AreAscending : {A : Type 0} → (A → A → Ordering) → List A → Type 0
-AreAscending {A} cmp xs = (i j : ℕ) (a b : A) → i < j → slice_get xs i ≡ Some a → slice_get xs j ≡ Some b → cmp a b ≡ Less
+AreAscending {A} cmp xs =
+    (i j : ℕ) (a b : A) → i < j → slice_get xs i ≡ Some a → slice_get xs j ≡ Some b → cmp a b ≡ Less
 
 -- so many numbers from this one on
 abbrev pub numbers_from : ℕ → ℕ → List ℕ

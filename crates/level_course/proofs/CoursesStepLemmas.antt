@@ -18,7 +18,8 @@ use Rattle.level_course.specs.Laws.{IsAt}
 -- ---- a round
 
 -- the requests of the round, one after another
-asks_lead : (limits : Limits) (task : Task) (c : Course) (before asks : List Entry) → c.asks ≡ asks → 0 < c.answers → Leads limits task c before asks (with_asks c [])
+asks_lead : (limits : Limits) (task : Task) (c : Course) (before asks : List Entry) → c.asks ≡ asks → 0 < c.answers
+    → Leads limits task c before asks (with_asks c [])
 asks_lead limits task c before [] e more = λ i. with_asks c (e i)
 asks_lead limits task c before (a ∷ asks) e more = (with_asks c asks, inr (inl (record { more = more; rest = asks; asks = e; is = refl })), asks_lead limits task (with_asks c asks) (before ++ a ∷ []) asks refl more)
 
@@ -30,7 +31,8 @@ none_for : (number n : ℕ) → AreAnswers number (suc n) [] → ⊥
 none_for number n all = all
 
 -- its answers, one after another, behind which the next round begins
-answers_lead : (limits : Limits) (task : Task) (c d : Course) (before answers : List Entry) (n : ℕ) → c.asks ≡ [] → c.answers ≡ suc n → AreAnswers c.next (suc n) answers → Opens limits task (before ++ answers) c.later c.is_cut d → Leads limits task c before answers d
+answers_lead : (limits : Limits) (task : Task) (c d : Course) (before answers : List Entry) (n : ℕ) → c.asks ≡ [] → c.answers ≡ suc n
+    → AreAnswers c.next (suc n) answers → Opens limits task (before ++ answers) c.later c.is_cut d → Leads limits task c before answers d
 answers_lead limits task c d before [] n asked count all opens = absurd (none_for c.next n all)
 answers_lead limits task c d before (a ∷ answers) zero asked count all opens =
     let over = none_there (c.next + 1) answers all.1 in
@@ -58,7 +60,8 @@ positive : {A : Type 0} (xs : List A) → 0 < length xs → (n : ℕ) × (length
 positive [] lt = absurd (omega (arith, lt))
 positive (x ∷ xs) lt = (length xs, refl)
 
-pub rounds_lead : (limits : Limits) (task : Task) (rounds : List (List Instance)) (list : List Instance) (before es : List Entry) (cut : Bool) → AreRounds limits.pools list rounds → AreRoundsRun task before rounds es → LeadsThrough limits task before list cut es
+pub rounds_lead : (limits : Limits) (task : Task) (rounds : List (List Instance)) (list : List Instance) (before es : List Entry) (cut : Bool)
+    → AreRounds limits.pools list rounds → AreRoundsRun task before rounds es → LeadsThrough limits task before list cut es
 rounds_lead limits task [] list before es cut none run =
     let c : Course = record { asks = []; next = asks_of before + 1; answers = 0; later = []; is_cut = cut } in
     record {
@@ -99,9 +102,12 @@ pub record LeadsLevel (limits : Limits) (task : Task) (c : Course) (before es : 
 
 -- the line of a level is no request
 pub same_asks : (before : List Entry) → asks_of (before ++ entry.Level ∷ []) ≡ asks_of before
-same_asks before = sum_by-append (λ e. if is_ask e then 1 else 0) before (entry.Level ∷ []) ∙ (let e : asks_of before + 0 ≡ asks_of before = omega arith in e)
+same_asks before =
+    sum_by-append (λ e. if is_ask e then 1 else 0) before (entry.Level ∷ [])
+    ∙ (let e : asks_of before + 0 ≡ asks_of before = omega arith in e)
 
-level_leads : (limits : Limits) (task : Task) (c : Course) (before es : List Entry) (cut : Bool) → c.answers ≡ 0 → c.is_cut ≡ false → MayBegin limits task before → IsLevel limits task before es cut → LeadsLevel limits task c before es cut
+level_leads : (limits : Limits) (task : Task) (c : Course) (before es : List Entry) (cut : Bool) → c.answers ≡ 0 → c.is_cut ≡ false
+    → MayBegin limits task before → IsLevel limits task before es cut → LeadsLevel limits task c before es cut
 level_leads limits task c before es cut resting uncut may level =
     let lists : level.list ≡ may.list = due_once task (known_of task before) (notes_of task before) level.list may.list level.due may.due in
     let marked = before ++ entry.Level ∷ [] in
@@ -116,7 +122,10 @@ level_leads limits task c before es cut resting uncut may level =
       cut_is = through.cut_is;
     }
   where
-    opened : (d : Course) → Opens limits task (before ++ entry.Level ∷ []) (take (calls_left limits (before ++ entry.Level ∷ [])) level.list) (is_cut limits before may.list) d → take (calls_left limits (before ++ entry.Level ∷ [])) level.list ≡ take (calls_left limits before) may.list → Opens limits task (before ++ entry.Level ∷ []) (take (calls_left limits before) may.list) (is_cut limits before may.list) d
+    opened : (d : Course)
+        → Opens limits task (before ++ entry.Level ∷ []) (take (calls_left limits (before ++ entry.Level ∷ [])) level.list) (is_cut limits before may.list) d
+        → take (calls_left limits (before ++ entry.Level ∷ [])) level.list ≡ take (calls_left limits before) may.list
+        → Opens limits task (before ++ entry.Level ∷ []) (take (calls_left limits before) may.list) (is_cut limits before may.list) d
     opened d opens taken = subst (λ is. Opens limits task (before ++ entry.Level ∷ []) is (is_cut limits before may.list) d) taken opens
 
 -- ---- turns
@@ -127,7 +136,9 @@ pub record LeadsTo (limits : Limits) (task : Task) (c : Course) (before es : Lis
   pub leads : Leads limits task c before es last
   pub at : ¬ (stage ≡ inside) → IsAt last stage
 
-pub turns_lead : (limits : Limits) (task : Task) (kept : Unit {0}) (before es : List Entry) (stage : Stage) (c : Course) → AreTurns limits task (IncrementalTurn limits task) kept before es stage → c.answers ≡ 0 → c.is_cut ≡ false → LeadsTo limits task c before es stage
+pub turns_lead : (limits : Limits) (task : Task) (kept : Unit {0}) (before es : List Entry) (stage : Stage) (c : Course)
+    → AreTurns limits task (IncrementalTurn limits task) kept before es stage → c.answers ≡ 0 → c.is_cut ≡ false
+    → LeadsTo limits task c before es stage
 turns_lead limits task kept before es stage c none_left resting uncut = record { last = c; leads = refl; at = λ other. (resting, uncut) }
 turns_lead limits task kept before es stage c (whole next {now = now} {rest = rest} may turn more) resting uncut =
     let level = level_leads limits task c before now false resting uncut may turn in

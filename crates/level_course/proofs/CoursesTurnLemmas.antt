@@ -35,7 +35,9 @@ none_there number [] all = refl
 none_there number (a ∷ answers) all = absurd all
 
 -- a batch whose first round begins, and what is left of it then
-opened_run : (limits : Limits) (task : Task) (before es : List Entry) (list : List Instance) (cut : Bool) (c : Course) → Opens limits task before list cut c → Finishes limits task c before es → (rounds : List (List Instance)) × AreRounds limits.pools list rounds × AreRoundsRun task before rounds es
+opened_run : (limits : Limits) (task : Task) (before es : List Entry) (list : List Instance) (cut : Bool) (c : Course)
+    → Opens limits task before list cut c → Finishes limits task c before es
+    → (rounds : List (List Instance)) × AreRounds limits.pools list rounds × AreRoundsRun task before rounds es
 opened_run limits task before es list cut c o f = by o.round refl
   where
     round_is : c.asks ≡ requests task before o.round
@@ -47,7 +49,8 @@ opened_run limits task before es list cut c o f = by o.round refl
     later_is : c.later ≡ o.rest
     later_is = λ i. (o.is i).later
 
-    by : (round : List Instance) → o.round ≡ round → (rounds : List (List Instance)) × AreRounds limits.pools list rounds × AreRoundsRun task before rounds es
+    by : (round : List Instance) → o.round ≡ round
+        → (rounds : List (List Instance)) × AreRounds limits.pools list rounds × AreRoundsRun task before rounds es
     by [] e =
         let over : f.answers ≡ [] = none_there (asks_of before + 1) f.answers (subst (λ (is : List Instance). AreAnswers (asks_of before + 1) (length is) f.answers) e answers_right) in
         let asks : c.asks ≡ [] = round_is ∙ ap (requests task before) e in
@@ -68,7 +71,8 @@ opened_run limits task before es list cut c o f = by o.round refl
           (now, f.later, all, (f.answers, refl, answers_right), subst (λ xs. AreRoundsRun task xs f.rounds f.later) front f.run),
         )
 
-opened_tidy : (limits : Limits) (task : Task) (before : List Entry) (list : List Instance) (cut : Bool) (c : Course) → Opens limits task before list cut c → IsTidy c
+opened_tidy : (limits : Limits) (task : Task) (before : List Entry) (list : List Instance) (cut : Bool) (c : Course)
+    → Opens limits task before list cut c → IsTidy c
 opened_tidy limits task before list cut c o none =
     let count : c.answers ≡ length o.round = λ i. (o.is i).answers in
     let short : length o.round ≡ 0 = sym count ∙ none in
@@ -99,7 +103,8 @@ runs task (round ∷ rounds) before =
     let later = runs task rounds (before ++ now) in
     (now ++ later.0, (now, later.0, refl, (answers, refl, ends_answer (asks_of before + 1) (length round)), later.1))
 
-finishing : (limits : Limits) (task : Task) (c : Course) (before : List Entry) → All (λ (p : Share). 1 ≤ p.workers) limits.pools → (es : List Entry) × Finishes limits task c before es
+finishing : (limits : Limits) (task : Task) (c : Course) (before : List Entry) → All (λ (p : Share). 1 ≤ p.workers) limits.pools
+    → (es : List Entry) × Finishes limits task c before es
 finishing limits task c before workers =
     let answers = ends c.next c.answers in
     let rounds = cuts limits.pools (length c.later) c.later (omega arith) workers in
@@ -108,7 +113,8 @@ finishing limits task c before workers =
 
 -- ---- one entry more in front
 
-finish_none : (limits : Limits) (task : Task) (c : Course) (before : List Entry) → IsTidy c → c.answers ≡ 0 → Finishes limits task c before []
+finish_none : (limits : Limits) (task : Task) (c : Course) (before : List Entry) → IsTidy c → c.answers ≡ 0
+    → Finishes limits task c before []
 finish_none limits task c before tidy none =
     let over = tidy none in
     record {
@@ -121,7 +127,8 @@ finish_none limits task c before tidy none =
       run = refl;
     }
 
-finish_ask : (limits : Limits) (task : Task) (c : Course) (before es : List Entry) (e : Entry) (rest : List Entry) → c.asks ≡ e ∷ rest → Finishes limits task (with_asks c rest) (before ++ e ∷ []) es → Finishes limits task c before (e ∷ es)
+finish_ask : (limits : Limits) (task : Task) (c : Course) (before es : List Entry) (e : Entry) (rest : List Entry) → c.asks ≡ e ∷ rest
+    → Finishes limits task (with_asks c rest) (before ++ e ∷ []) es → Finishes limits task c before (e ∷ es)
 finish_ask limits task c before es e rest asks f =
     let front : (before ++ e ∷ []) ++ (rest ++ f.answers) ≡ before ++ (c.asks ++ f.answers) = append_assoc before (e ∷ []) (rest ++ f.answers) ∙ ap (λ xs. before ++ (xs ++ f.answers)) (sym asks) in
     record {
@@ -134,7 +141,10 @@ finish_ask limits task c before es e rest asks f =
       run = subst (λ xs. AreRoundsRun task xs f.rounds f.later) front f.run;
     }
 
-finish_answer : (limits : Limits) (task : Task) (c : Course) (before es : List Entry) (e : Entry) (n : ℕ) → c.asks ≡ [] → c.answers ≡ suc (suc n) → is_answer_to c.next e ≡ true → Finishes limits task (record { asks = []; next = c.next + 1; answers = suc n; later = c.later; is_cut = c.is_cut }) (before ++ e ∷ []) es → Finishes limits task c before (e ∷ es)
+finish_answer : (limits : Limits) (task : Task) (c : Course) (before es : List Entry) (e : Entry) (n : ℕ) → c.asks ≡ []
+    → c.answers ≡ suc (suc n) → is_answer_to c.next e ≡ true
+    → Finishes limits task (record { asks = []; next = c.next + 1; answers = suc n; later = c.later; is_cut = c.is_cut }) (before ++ e ∷ []) es
+    → Finishes limits task c before (e ∷ es)
 finish_answer limits task c before es e n asked count to f =
     let front : (before ++ e ∷ []) ++ ([] ++ f.answers) ≡ before ++ (c.asks ++ e ∷ f.answers) = append_assoc before (e ∷ []) f.answers ∙ ap (λ xs. before ++ (xs ++ e ∷ f.answers)) (sym asked) in
     record {
@@ -147,7 +157,9 @@ finish_answer limits task c before es e n asked count to f =
       run = subst (λ xs. AreRoundsRun task xs f.rounds f.later) front f.run;
     }
 
-finish_last : (limits : Limits) (task : Task) (c d : Course) (before es : List Entry) (e : Entry) → c.asks ≡ [] → c.answers ≡ suc zero → is_answer_to c.next e ≡ true → Opens limits task (before ++ e ∷ []) c.later c.is_cut d → Finishes limits task d (before ++ e ∷ []) es → Finishes limits task c before (e ∷ es)
+finish_last : (limits : Limits) (task : Task) (c d : Course) (before es : List Entry) (e : Entry) → c.asks ≡ [] → c.answers ≡ suc zero
+    → is_answer_to c.next e ≡ true → Opens limits task (before ++ e ∷ []) c.later c.is_cut d → Finishes limits task d (before ++ e ∷ []) es
+    → Finishes limits task c before (e ∷ es)
 finish_last limits task c d before es e asked count to opens f =
     let run = opened_run limits task (before ++ e ∷ []) es c.later c.is_cut d opens f in
     let front : before ++ e ∷ [] ≡ before ++ (c.asks ++ e ∷ []) = ap (λ xs. before ++ (xs ++ e ∷ [])) (sym asked) in
@@ -164,18 +176,22 @@ finish_last limits task c d before es e asked count to opens f =
 -- ---- up to the end of the batch, or to where the entries stop in it
 
 pub data Walks (limits : Limits) (task : Task) (c : Course) (before es : List Entry) (d : Course) : Type 0 where
-  done : (now rest : List Entry) (m : Course) → es ≡ now ++ rest → Finishes limits task c before now → m.answers ≡ 0 → m.is_cut ≡ c.is_cut → IsTidy m → Leads limits task m (before ++ now) rest d → Walks limits task c before es d
+  done : (now rest : List Entry) (m : Course) → es ≡ now ++ rest → Finishes limits task c before now → m.answers ≡ 0 → m.is_cut ≡ c.is_cut
+      → IsTidy m → Leads limits task m (before ++ now) rest d → Walks limits task c before es d
   within : (more : List Entry) → Finishes limits task c before (es ++ more) → 0 < d.answers → Walks limits task c before es d
 
 -- from one entry on to the one before
-walk_on : (limits : Limits) (task : Task) (c m d : Course) (before es : List Entry) (e : Entry) → m.is_cut ≡ c.is_cut → ((xs : List Entry) → Finishes limits task m (before ++ e ∷ []) xs → Finishes limits task c before (e ∷ xs)) → Walks limits task m (before ++ e ∷ []) es d → Walks limits task c before (e ∷ es) d
+walk_on : (limits : Limits) (task : Task) (c m d : Course) (before es : List Entry) (e : Entry) → m.is_cut ≡ c.is_cut
+    → ((xs : List Entry) → Finishes limits task m (before ++ e ∷ []) xs → Finishes limits task c before (e ∷ xs))
+    → Walks limits task m (before ++ e ∷ []) es d → Walks limits task c before (e ∷ es) d
 walk_on limits task c m d before es e cut longer (done now rest n is finishes none same tidy leads) = done (e ∷ now) rest n (ap (λ xs. e ∷ xs) is) (longer now finishes) none (same ∙ cut) tidy (subst (λ xs. Leads limits task n xs rest d) (append_assoc before (e ∷ []) now) leads)
 walk_on limits task c m d before es e cut longer (within more finishes some) = within more (longer (es ++ more) finishes) some
 
 some_tidy : (c : Course) (n : ℕ) → c.answers ≡ suc n → IsTidy c
 some_tidy c n count none = absurd (omega (arith, count, none))
 
-pub walk : (limits : Limits) (task : Task) (c : Course) (before es : List Entry) (d : Course) (n : ℕ) → c.answers ≡ n → IsTidy c → All (λ (p : Share). 1 ≤ p.workers) limits.pools → Leads limits task c before es d → Walks limits task c before es d
+pub walk : (limits : Limits) (task : Task) (c : Course) (before es : List Entry) (d : Course) (n : ℕ) → c.answers ≡ n → IsTidy c
+    → All (λ (p : Share). 1 ≤ p.workers) limits.pools → Leads limits task c before es d → Walks limits task c before es d
 walk limits task c before es d zero none tidy workers leads = done [] es c refl (finish_none limits task c before tidy none) none refl tidy (subst (λ xs. Leads limits task c xs es d) (sym (append-nil before)) leads)
 walk limits task c before [] d (suc n) count tidy workers leads =
     let f = finishing limits task c before workers in
@@ -186,9 +202,11 @@ walk limits task c before (e ∷ es) d (suc n) count tidy workers (m, inr (inl r
     walk_on limits task c m d before es e (ap (λ (x : Course). x.is_cut) r.is)
     (λ xs f. finish_ask limits task c before xs e r.rest r.asks (subst (λ x. Finishes limits task x (before ++ e ∷ []) xs) r.is f))
     (walk limits task m (before ++ e ∷ []) es d (suc n) after (some_tidy m n after) workers more)
-walk limits task c before (e ∷ es) d (suc n) count tidy workers (m, inr (inr a), more) = answered a.left a.answers a.behind (λ k k_is t. walk limits task m (before ++ e ∷ []) es d k k_is t workers more)
+walk limits task c before (e ∷ es) d (suc n) count tidy workers (m, inr (inr a), more) =
+    answered a.left a.answers a.behind (λ k k_is t. walk limits task m (before ++ e ∷ []) es d k k_is t workers more)
   where
-    answered : (left : ℕ) → c.answers ≡ suc left → IsBehind limits task (before ++ e ∷ []) c left m → ((k : ℕ) → m.answers ≡ k → IsTidy m → Walks limits task m (before ++ e ∷ []) es d) → Walks limits task c before (e ∷ es) d
+    answered : (left : ℕ) → c.answers ≡ suc left → IsBehind limits task (before ++ e ∷ []) c left m
+        → ((k : ℕ) → m.answers ≡ k → IsTidy m → Walks limits task m (before ++ e ∷ []) es d) → Walks limits task c before (e ∷ es) d
     answered zero left_is behind rest =
         walk_on limits task c m d before es e (ap (λ (x : Course). x.is_cut) behind.is)
         (λ xs f. finish_last limits task c m before xs e a.asked left_is a.to behind f)
@@ -208,7 +226,8 @@ pub record Turned (limits : Limits) (task : Task) (before es : List Entry) (d : 
   pub turns : AreTurns limits task (IncrementalTurn limits task) tt before es stage
 
 -- a level whose line may stand, and what finishes its batch
-level_of : (limits : Limits) (task : Task) (c m : Course) (before es : List Entry) (e : Entry) (b : BeginsLevel limits task before c e m) → Finishes limits task m (before ++ e ∷ []) es → IsLevel limits task before (e ∷ es) (is_cut limits before b.may.list)
+level_of : (limits : Limits) (task : Task) (c m : Course) (before es : List Entry) (e : Entry) (b : BeginsLevel limits task before c e m)
+    → Finishes limits task m (before ++ e ∷ []) es → IsLevel limits task before (e ∷ es) (is_cut limits before b.may.list)
 level_of limits task c m before es e b f =
     let run = opened_run limits task (before ++ e ∷ []) es (take (calls_left limits before) b.may.list) (is_cut limits before b.may.list) m b.opens f in
     let taken : take (calls_left limits before) b.may.list ≡ take (calls_left limits (before ++ entry.Level ∷ [])) b.may.list = ap (λ n. take (limits.calls - n) b.may.list) (sym (same_asks before)) in
@@ -226,20 +245,27 @@ level_of limits task c m before es e b f =
     }
 
 -- behind a batch that was cut nothing comes
-nothing_more : (limits : Limits) (task : Task) (m d : Course) (before rest : List Entry) → m.answers ≡ 0 → m.is_cut ≡ true → Leads limits task m before rest d → (rest ≡ []) × (m ≡ d)
+nothing_more : (limits : Limits) (task : Task) (m d : Course) (before rest : List Entry) → m.answers ≡ 0 → m.is_cut ≡ true
+    → Leads limits task m before rest d → (rest ≡ []) × (m ≡ d)
 nothing_more limits task m d before [] none cut leads = (refl, leads)
-nothing_more limits task m d before (e ∷ es) none cut (n, inl b, more) = absurd (let both : true ≡ false = sym cut ∙ b.uncut in true≢false both)
+nothing_more limits task m d before (e ∷ es) none cut (n, inl b, more) =
+    absurd (let both : true ≡ false = sym cut ∙ b.uncut in true≢false both)
 nothing_more limits task m d before (e ∷ es) none cut (n, inr (inl r), more) = absurd (omega (arith, none, r.more))
 nothing_more limits task m d before (e ∷ es) none cut (n, inr (inr a), more) = absurd (omega (arith, none, a.answers))
 
 -- that shorter lists of entries from later places on are turns
 abbrev pub Shorter : Limits → Task → ℕ → Type 0
-Shorter limits task n = (before es : List Entry) (c d : Course) → length es ≤ n → c.answers ≡ 0 → c.is_cut ≡ false → IsTidy c → Leads limits task c before es d → Turned limits task before es d
+Shorter limits task n =
+    (before es : List Entry) (c d : Course) → length es ≤ n → c.answers ≡ 0 → c.is_cut ≡ false → IsTidy c → Leads limits task c before es d
+    → Turned limits task before es d
 
-turn_first : (limits : Limits) (task : Task) (n : ℕ) (c m d : Course) (before es : List Entry) (e : Entry) → Shorter limits task n → length es ≤ n → (b : BeginsLevel limits task before c e m) → Walks limits task m (before ++ e ∷ []) es d → Turned limits task before (e ∷ es) d
+turn_first : (limits : Limits) (task : Task) (n : ℕ) (c m d : Course) (before es : List Entry) (e : Entry) → Shorter limits task n
+    → length es ≤ n → (b : BeginsLevel limits task before c e m) → Walks limits task m (before ++ e ∷ []) es d
+    → Turned limits task before (e ∷ es) d
 turn_first limits task n c m d before es e shorter few b (within more finishes some) =
     record { stage = inside; at = some; turns = stopped tt more (is_cut limits before b.may.list) b.may (level_of limits task c m before (es ++ more) e b finishes) }
-turn_first limits task n c m d before es e shorter few b (done now rest k is finishes none cut tidy leads) = by (is_cut limits before b.may.list) refl
+turn_first limits task n c m d before es e shorter few b (done now rest k is finishes none cut tidy leads) =
+    by (is_cut limits before b.may.list) refl
   where
     cut_is : k.is_cut ≡ is_cut limits before b.may.list
     cut_is = cut ∙ ap (λ (x : Course). x.is_cut) b.opens.is

@@ -48,7 +48,8 @@ front_from : (pools : List Share) (taken rest : List Instance) → 0 < length ta
 front_from pools taken [] some fit = record { round = taken; rest = []; parts = refl; fit = fit; full = tt; some = λ lt. some }
 front_from pools taken (i ∷ is) some fit = by (fits pools (taken ++ i ∷ [])) refl (λ e. front_from pools (taken ++ i ∷ []) is (omega (arith, length-append taken (i ∷ []), some)) e)
   where
-    by : (b : Bool) → fits pools (taken ++ i ∷ []) ≡ b → (fits pools (taken ++ i ∷ []) ≡ true → HasFront pools ((taken ++ i ∷ []) ++ is)) → HasFront pools (taken ++ i ∷ is)
+    by : (b : Bool) → fits pools (taken ++ i ∷ []) ≡ b → (fits pools (taken ++ i ∷ []) ≡ true → HasFront pools ((taken ++ i ∷ []) ++ is))
+        → HasFront pools (taken ++ i ∷ is)
     by false e more = record { round = taken; rest = i ∷ is; parts = refl; fit = fit; full = e; some = λ lt. some }
     by true e more = subst (HasFront pools) (append_assoc taken (i ∷ []) is) (more e)
 
@@ -76,14 +77,16 @@ compare (x ∷ xs) us (y ∷ ys) vs e = by (compare xs us ys vs (let tail : xs +
     by (longer i is f r) h = longer i is (λ k. h k ∷ f k) r
 
 -- a front behind which an instance stands that doesn't fit is no front of a longer one that fits
-stops : (pools : List Share) (xs us ys vs : List Instance) (i : Instance) (is : List Instance) → IsFull pools xs us → ys ≡ xs ++ i ∷ is → us ≡ i ∷ is ++ vs → fits pools ys ≡ true → ⊥
+stops : (pools : List Share) (xs us ys vs : List Instance) (i : Instance) (is : List Instance) → IsFull pools xs us → ys ≡ xs ++ i ∷ is
+    → us ≡ i ∷ is ++ vs → fits pools ys ≡ true → ⊥
 stops pools xs us ys vs i is full f r fit =
     let stuck : fits pools (xs ++ i ∷ []) ≡ false = subst (IsFull pools xs) r full in
     let whole : fits pools ((xs ++ i ∷ []) ++ is) ≡ true = ap (fits pools) (append_assoc xs (i ∷ []) is ∙ sym f) ∙ fit in
     false≢true (sym stuck ∙ fits_front pools (xs ++ i ∷ []) is whole)
 
 -- two longest fronts of a list are one
-pub one_front : (pools : List Share) (xs us ys vs : List Instance) → xs ++ us ≡ ys ++ vs → fits pools xs ≡ true → fits pools ys ≡ true → IsFull pools xs us → IsFull pools ys vs → (xs ≡ ys) × (us ≡ vs)
+pub one_front : (pools : List Share) (xs us ys vs : List Instance) → xs ++ us ≡ ys ++ vs → fits pools xs ≡ true → fits pools ys ≡ true
+    → IsFull pools xs us → IsFull pools ys vs → (xs ≡ ys) × (us ≡ vs)
 one_front pools xs us ys vs e fit_x fit_y full_x full_y = by (compare xs us ys vs e)
   where
     by : Compared xs us ys vs → (xs ≡ ys) × (us ≡ vs)
@@ -94,7 +97,8 @@ one_front pools xs us ys vs e fit_x fit_y full_x full_y = by (compare xs us ys v
 -- ---- all rounds
 
 -- the list can be cut into rounds
-pub cuts : (pools : List Share) (n : ℕ) (list : List Instance) → length list ≤ n → All (λ (p : Share). 1 ≤ p.workers) pools → (rounds : List (List Instance)) × AreRounds pools list rounds
+pub cuts : (pools : List Share) (n : ℕ) (list : List Instance) → length list ≤ n → All (λ (p : Share). 1 ≤ p.workers) pools
+    → (rounds : List (List Instance)) × AreRounds pools list rounds
 cuts pools n [] few workers = ([], refl)
 cuts pools zero (i ∷ is) few workers = absurd (omega (arith, few))
 cuts pools (suc n) (i ∷ is) few workers =

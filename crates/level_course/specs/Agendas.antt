@@ -24,11 +24,13 @@ nothing_to_do = record { to_ask = []; next = 1; answers = 0; later = []; is_cut 
 
 -- one request less
 abbrev pub with_asked : Agenda → Agenda
-with_asked a = record { to_ask = drop 1 a.to_ask; next = a.next; answers = a.answers; later = a.later; is_cut = a.is_cut }
+with_asked a =
+    record { to_ask = drop 1 a.to_ask; next = a.next; answers = a.answers; later = a.later; is_cut = a.is_cut }
 
 -- one answer less
 abbrev pub with_answer : Agenda → Agenda
-with_answer a = record { to_ask = a.to_ask; next = a.next + 1; answers = a.answers - 1; later = a.later; is_cut = a.is_cut }
+with_answer a =
+    record { to_ask = a.to_ask; next = a.next + 1; answers = a.answers - 1; later = a.later; is_cut = a.is_cut }
 
 -- The first round of the list begins; its first request has this number.
 pub record Starts (pools : List Share) (list : List Instance) (number : ℕ) (cut : Bool) (a : Agenda) : Type 0 where

@@ -40,7 +40,8 @@ module _ (limits : Limits) (task : Task) (before : List Entry) where
 -- behind the next answer, if so many are left, or else the next round begins
 abbrev pub IsBehind : Limits → Task → List Entry → Course → ℕ → Course → Type 0
 IsBehind limits task before c zero after = Opens limits task before c.later c.is_cut after
-IsBehind limits task before c (suc left) after = after ≡ record { asks = []; next = c.next + 1; answers = suc left; later = c.later; is_cut = c.is_cut }
+IsBehind limits task before c (suc left) after =
+    after ≡ record { asks = []; next = c.next + 1; answers = suc left; later = c.later; is_cut = c.is_cut }
 
 -- nothing is open, and a level begins
 pub record BeginsLevel (limits : Limits) (task : Task) (before : List Entry) (c : Course) (e : Entry) (after : Course) : Type 0 where
@@ -67,9 +68,12 @@ pub record GivesAnswer (limits : Limits) (task : Task) (before : List Entry) (c 
 
 -- the entry may come next, and leads there
 abbrev pub IsCourseStep : Limits → Task → List Entry → Course → Entry → Course → Type 0
-IsCourseStep limits task before c e after = BeginsLevel limits task before c e after ⊎ (MakesRequest c e after ⊎ GivesAnswer limits task before c e after)
+IsCourseStep limits task before c e after =
+    BeginsLevel limits task before c e after ⊎ (MakesRequest c e after ⊎ GivesAnswer limits task before c e after)
 
 -- the entries may come one after another, and lead there
 abbrev pub Leads : Limits → Task → Course → List Entry → List Entry → Course → Type 0
 Leads limits task c before [] after = c ≡ after
-Leads limits task c before (e ∷ es) after = (middle : Course) × IsCourseStep limits task before c e middle × Leads limits task middle (before ++ e ∷ []) es after
+Leads limits task c before (e ∷ es) after =
+    (middle : Course) × IsCourseStep limits task before c e middle
+    × Leads limits task middle (before ++ e ∷ []) es after

@@ -27,4 +27,6 @@ TurnsAreCourses =
 
 -- The same entries lead to one place.
 abbrev pub CoursesAreOne : Type 0
-CoursesAreOne = (limits : Limits) (task : Task) (entries : List Entry) (c d : Course) → Leads limits task at_first [] entries c → Leads limits task at_first [] entries d → c ≡ d
+CoursesAreOne =
+    (limits : Limits) (task : Task) (entries : List Entry) (c d : Course) → Leads limits task at_first [] entries c
+    → Leads limits task at_first [] entries d → c ≡ d

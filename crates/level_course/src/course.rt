@@ -69,7 +69,8 @@ impl Course {
 
     /// The number of the request that is answered next, if an answer follows.
     pub fn next_answered(&self) -> Option<u32>
-        ensures some { IfSome result (λ n. (n ≡ self.now.next) × (self.now.to_ask ≡ []) × (0 < self.now.answers)) }
+        ensures some { IfSome result
+            (λ n. (n ≡ self.now.next) × (self.now.to_ask ≡ []) × (0 < self.now.answers)) }
         ensures none { IfNone result (¬ ((self.now.to_ask ≡ []) × (0 < self.now.answers))) }
     {
         if self.asked == self.round && self.answered < self.round {
@@ -83,7 +84,8 @@ impl Course {
     pub fn begin(&mut self, shares: &[Share], mut dues: Vec<Due>, before: u32, calls: u32)
         requires left { before ≤ calls }
         requires few { calls ≤ 100000 }
-        ensures { Starts (shares_of shares.now) (take (calls - before) (instances_of dues.items)) (before + 1) (nat_lt (calls - before) (length dues.items)) self.new }
+        ensures { Starts (shares_of shares.now) (take (calls - before) (instances_of dues.items))
+            (before + 1) (nat_lt (calls - before) (length dues.items)) self.new }
     {
         let left = (calls - before) as usize;
         self.is_cut = left < dues.len();
@@ -108,7 +110,9 @@ impl Course {
         requires asked { self.old.to_ask ≡ [] }
         requires some { 0 < self.old.answers }
         ensures more { 1 < self.old.answers → self.new ≡ with_answer self.old }
-        ensures last { self.old.answers ≡ 1 → Starts (shares_of shares.now) self.old.later (self.old.next + 1) self.old.is_cut self.new }
+        ensures last { self.old.answers ≡ 1
+            → Starts (shares_of shares.now) self.old.later (self.old.next + 1) self.old.is_cut
+            self.new }
     {
         self.answered += 1;
         if self.answered == self.round {

@@ -30,7 +30,8 @@ fn serves(share: &Share, instance: &Instance) -> bool
 
 /// How many of these asks the pool serves.
 fn served(share: &Share, dues: &[Due]) -> usize
-    ensures count { result ≡ count_by (serves_instance (share_of share.now)) (instances_of dues.now) }
+    ensures count { result ≡ count_by (serves_instance (share_of share.now))
+        (instances_of dues.now) }
     ensures few { result ≤ length dues.now }
 {
     dues.iter()

@@ -25,7 +25,8 @@ less a b c = omega arith
 pools_same : (head : Head) (s : State) → IsOf head s → map ready.share_of s.pools ≡ map share_of head.pools
 pools_same head s of = ap (map ready.share_of) of.pools ∙ map-map ready.share_of workers_of head.pools
 
-pub batch_none : (head : Head) (task : Task) (before : List Entry) (list : List Instance) → take (rounds.calls_left (limits_of head) before) list ≡ [] → IsBatch (limits_of head) task before list []
+pub batch_none : (head : Head) (task : Task) (before : List Entry) (list : List Instance)
+    → take (rounds.calls_left (limits_of head) before) list ≡ [] → IsBatch (limits_of head) task before list []
 batch_none head task before list e = record { rounds = []; cut = e; run = refl }
 
 module _ (head : Head) (task : Task) (s : State) (dues : List Due) (count : ℕ) (of : IsOf head s) (h : IsSession task s) (n : IsNextRound s dues count) where
@@ -49,7 +50,10 @@ module _ (head : Head) (task : Task) (s : State) (dues : List Due) (count : ℕ)
       ∙ ap instances_of (drop-take count (left - count) dues)
       ∙ sym (take-map (λ (d : Due). d.instance) (left - count) (drop count dues))
 
-  pub batch_step : (now rest : List Entry) → 0 < count → IsRound task s.entries (instances_of (take count dues)) now → asks_of (s.entries ++ now) ≡ asks_of s.entries + count → IsBatch (limits_of head) task (s.entries ++ now) (instances_of (drop count dues)) rest → IsBatch (limits_of head) task s.entries (instances_of dues) (now ++ rest)
+  pub batch_step : (now rest : List Entry) → 0 < count → IsRound task s.entries (instances_of (take count dues)) now
+      → asks_of (s.entries ++ now) ≡ asks_of s.entries + count
+      → IsBatch (limits_of head) task (s.entries ++ now) (instances_of (drop count dues)) rest
+      → IsBatch (limits_of head) task s.entries (instances_of dues) (now ++ rest)
   batch_step now rest some round counted b = record {
     rounds = instances_of (take count dues) ∷ b.rounds;
     cut = (
@@ -70,7 +74,8 @@ module _ (head : Head) (task : Task) (s : State) (dues : List Due) (count : ℕ)
 pub record SoFar (head : Head) (task : Task) (first : List Entry) (list : List Instance) (now : List Entry) (left : List Instance) : Type 0 where
   pub more : List Entry
   pub pushed : now ≡ first ++ more
-  pub with_rest : (tail : List Entry) → IsBatch (limits_of head) task now left tail → IsBatch (limits_of head) task first list (more ++ tail)
+  pub with_rest : (tail : List Entry) → IsBatch (limits_of head) task now left tail
+      → IsBatch (limits_of head) task first list (more ++ tail)
 
 pub so_far_none : (head : Head) (task : Task) (first : List Entry) (list : List Instance) → SoFar head task first list first list
 so_far_none head task first list = record { more = []; pushed = sym (append-nil first); with_rest = λ tail b. b }
@@ -85,24 +90,32 @@ so_far_step head task first list s dues count after of h n some round counted so
       (so.with_rest (round.0 ++ tail) (batch_step head task s dues count of h n round.0 tail some round.2 (ap asks_of (sym round.1) ∙ counted) (subst (λ es. IsBatch (limits_of head) task es (instances_of (drop count dues)) tail) round.1 b)));
 }
 
-pub so_far_end : (head : Head) (task : Task) (first : List Entry) (list : List Instance) (now : List Entry) (left : List Instance) → take (rounds.calls_left (limits_of head) now) left ≡ [] → SoFar head task first list now left → (more : List Entry) × (now ≡ first ++ more) × IsBatch (limits_of head) task first list more
+pub so_far_end : (head : Head) (task : Task) (first : List Entry) (list : List Instance) (now : List Entry) (left : List Instance)
+    → take (rounds.calls_left (limits_of head) now) left ≡ [] → SoFar head task first list now left
+    → (more : List Entry) × (now ≡ first ++ more) × IsBatch (limits_of head) task first list more
 so_far_end head task first list now left none so = (so.more, so.pushed, subst (IsBatch (limits_of head) task first list) (append-nil so.more) (so.with_rest [] (batch_none head task now left none)))
 
 -- ---- where a batch ends
 
-pub none_of_none : (head : Head) (before : List Entry) (dues : List Due) → dues ≡ [] → take (rounds.calls_left (limits_of head) before) (instances_of dues) ≡ []
-none_of_none head before dues none = ap (λ ds. take (rounds.calls_left (limits_of head) before) (instances_of ds)) none ∙ take_none (rounds.calls_left (limits_of head) before)
+pub none_of_none : (head : Head) (before : List Entry) (dues : List Due) → dues ≡ []
+    → take (rounds.calls_left (limits_of head) before) (instances_of dues) ≡ []
+none_of_none head before dues none =
+    ap (λ ds. take (rounds.calls_left (limits_of head) before) (instances_of ds)) none
+    ∙ take_none (rounds.calls_left (limits_of head) before)
   where
     take_none : (n : ℕ) → take n (instances_of []) ≡ []
     take_none zero = refl
     take_none (suc n) = refl
 
 -- where no ask makes a round, the calls are spent
-pub spent : (head : Head) (task : Task) (s : State) (dues : List Due) (count : ℕ) → IsOf head s → IsSession task s → IsNextRound s dues count → (0 < length dues → length s.asked < s.calls → 0 < count) → 0 < length dues → count ≡ 0 → length s.asked ≡ head.calls
+pub spent : (head : Head) (task : Task) (s : State) (dues : List Due) (count : ℕ) → IsOf head s → IsSession task s
+    → IsNextRound s dues count → (0 < length dues → length s.asked < s.calls → 0 < count) → 0 < length dues → count ≡ 0
+    → length s.asked ≡ head.calls
 spent head task s dues count of h n some there none = elim (cases_lt (length s.asked) s.calls) [
   | inl less ↦ absurd (omega (arith, some there less, none))
   | inr more ↦ omega (arith, more, n.left, of.calls, none)
 ]
 
-pub none_left : (head : Head) (task : Task) (s : State) (list : List Instance) → IsSession task s → length s.asked ≡ head.calls → take (rounds.calls_left (limits_of head) s.entries) list ≡ []
+pub none_left : (head : Head) (task : Task) (s : State) (list : List Instance) → IsSession task s → length s.asked ≡ head.calls
+    → take (rounds.calls_left (limits_of head) s.entries) list ≡ []
 none_left head task s list h all = ap (λ n. take n list) (let e : head.calls - asks_of s.entries ≡ 0 = omega (arith, h.counted, all) in e)

@@ -41,7 +41,8 @@ none_after pools (suc asked) none = absurd (omega (arith, none))
 -- ---- batches
 
 -- a start was refused
-pub start_refused : (task : Task) (head : Head) (before : List Entry) (fault : RunFault) (old new : Option (List Event)) → asks_of before ≡ 0 → LogStartsPart (starts_of head.pools) fault old new → RunBreaks task head before fault old new []
+pub start_refused : (task : Task) (head : Head) (before : List Entry) (fault : RunFault) (old new : Option (List Event))
+    → asks_of before ≡ 0 → LogStartsPart (starts_of head.pools) fault old new → RunBreaks task head before fault old new []
 start_refused task head before fault old None first log = tt
 start_refused task head before fault old (Some after) first (n, child, words, cause, at, is, (past, was, came)) = (
   past,
@@ -52,7 +53,9 @@ start_refused task head before fault old (Some after) first (n, child, words, ca
 )
 
 -- all workers run, and the rounds broke off
-pub rounds_broken : (task : Task) (head : Head) (before : List Entry) (starts : List Event) (fault : RunFault) (old mid new : Option (List Event)) → starts ≡ starts_after head.pools (asks_of before) → Extends old mid starts → (more : List Entry) → LogBreaks task head.version (workers_in head) before fault mid new more → RunBreaks task head before fault old new more
+pub rounds_broken : (task : Task) (head : Head) (before : List Entry) (starts : List Event) (fault : RunFault) (old mid new : Option (List Event))
+    → starts ≡ starts_after head.pools (asks_of before) → Extends old mid starts → (more : List Entry)
+    → LogBreaks task head.version (workers_in head) before fault mid new more → RunBreaks task head before fault old new more
 rounds_broken task head before starts fault old mid None is first more broken = tt
 rounds_broken task head before starts fault old None (Some after) is first more (reached, events, was, came, b) = absurd (cc)
 rounds_broken task head before starts fault old (Some now) (Some after) is (past, was, came) more (reached, events, told, grown, b) =
@@ -76,7 +79,9 @@ none_marked before more (inr is) none = subst (λ es. HasNoneOpen (before ++ es)
     same n = rw (list_any-append (is_ask_of n) before (entry.Level ∷ []), list_any-append (is_answer_to n) before (entry.Level ∷ []), or_false (list_any (is_ask_of n) before), or_false (list_any (is_answer_to n) before)) refl
 
 -- no call was made
-pub quiet_breaks : (task : Task) (head : Head) (before : List Entry) (fault : RunFault) (log : Option (List Event)) → Tells (HasNoneOpen before) fault [] → (more : List Entry) → (more ≡ []) ⊎ (more ≡ entry.Level ∷ []) → RunBreaks task head before fault log log more
+pub quiet_breaks : (task : Task) (head : Head) (before : List Entry) (fault : RunFault) (log : Option (List Event))
+    → Tells (HasNoneOpen before) fault [] → (more : List Entry) → (more ≡ []) ⊎ (more ≡ entry.Level ∷ [])
+    → RunBreaks task head before fault log log more
 quiet_breaks task head before fault None tells more is = tt
 quiet_breaks task head before fault (Some log) tells more is = (log, [], refl, sym (append-nil log), by (asks_of before) refl)
   where
@@ -91,14 +96,17 @@ quiet_breaks task head before fault (Some log) tells more is = (log, [], refl, s
     follows past es (inl e) = subst (λ xs. Follows task (workers_in head) past before xs []) (sym e) refl
     follows past es (inr e) = subst (λ xs. Follows task (workers_in head) past before xs []) (sym e) ([], [], refl, refl, refl)
 
-    by : (n : ℕ) → asks_of before ≡ n → Unstarted head before more fault [] ⊎ ((later : List Event) × ([] ≡ starts_after head.pools (asks_of before) ++ later) × Breaks task head.version (workers_in head) (log ++ starts_after head.pools (asks_of before)) before more fault later)
+    by : (n : ℕ) → asks_of before ≡ n
+        → Unstarted head before more fault [] ⊎ ((later : List Event) × ([] ≡ starts_after head.pools (asks_of before) ++ later) × Breaks task head.version (workers_in head) (log ++ starts_after head.pools (asks_of before)) before more fault later)
     by zero e = inl (record { first = e; none = none more is; were = inl (refl, still) })
     by (suc n) e =
         let no : starts_after head.pools (asks_of before) ≡ [] = some_after head.pools (asks_of before) (omega (arith, e)) in
         inr ([], sym (append-nil (starts_after head.pools (asks_of before)) ∙ no), record { done = []; calls = []; refused = []; cut = refl; follows = follows (log ++ starts_after head.pools (asks_of before)) more is; begun = inl (refl, refl); told = still })
 
 -- the line of a level stands before
-pub marked_breaks : (task : Task) (head : Head) (before mid front : List Entry) (fault : RunFault) (old new : Option (List Event)) → mid ≡ before ++ entry.Level ∷ [] → mid ≡ before ++ front → (more : List Entry) → RunBreaks task head mid fault old new more → RunBreaks task head before fault old new (front ++ more)
+pub marked_breaks : (task : Task) (head : Head) (before mid front : List Entry) (fault : RunFault) (old new : Option (List Event))
+    → mid ≡ before ++ entry.Level ∷ [] → mid ≡ before ++ front → (more : List Entry) → RunBreaks task head mid fault old new more
+    → RunBreaks task head before fault old new (front ++ more)
 marked_breaks task head before mid front fault old new marked pushed more broken =
     subst (λ xs. RunBreaks task head before fault old new (xs ++ more)) same (by new (subst (λ es. RunBreaks task head es fault old new more) marked broken))
   where
@@ -108,20 +116,25 @@ marked_breaks task head before mid front fault old new marked pushed more broken
     starts : starts_after head.pools (asks_of (before ++ entry.Level ∷ [])) ≡ starts_after head.pools (asks_of before)
     starts = ap (starts_after head.pools) (same_asks before)
 
-    joined : (past later : List Event) → Breaks task head.version (workers_in head) past (before ++ entry.Level ∷ []) more fault later → Breaks task head.version (workers_in head) past before (entry.Level ∷ more) fault later
+    joined : (past later : List Event) → Breaks task head.version (workers_in head) past (before ++ entry.Level ∷ []) more fault later
+        → Breaks task head.version (workers_in head) past before (entry.Level ∷ more) fault later
     joined past later b = breaks_join task head.version (workers_in head) past before (entry.Level ∷ []) more [] later fault ([], [], refl, refl, refl) (subst (λ p. Breaks task head.version (workers_in head) p (before ++ entry.Level ∷ []) more fault later) (sym (append-nil past)) b)
 
-    told : (events : List Event) → WereStarts head ((before ++ entry.Level ∷ []) ++ more) fault events → WereStarts head (before ++ entry.Level ∷ more) fault events
+    told : (events : List Event) → WereStarts head ((before ++ entry.Level ∷ []) ++ more) fault events
+        → WereStarts head (before ++ entry.Level ∷ more) fault events
     told events were = subst (λ es. WereStarts head es fault events) (append_assoc before (entry.Level ∷ []) more) were
 
-    by : (log : Option (List Event)) → RunBreaks task head (before ++ entry.Level ∷ []) fault old log more → RunBreaks task head before fault old log (entry.Level ∷ more)
+    by : (log : Option (List Event)) → RunBreaks task head (before ++ entry.Level ∷ []) fault old log more
+        → RunBreaks task head before fault old log (entry.Level ∷ more)
     by None x = tt
     by (Some after) (past, events, was, came, inl u) = (past, events, was, came, inl (record { first = sym (same_asks before) ∙ u.first; none = asks_behind more ∙ u.none; were = told events u.were }))
     by (Some after) (past, events, was, came, inr (later, cut, b)) =
         (past, events, was, came, inr (later, cut ∙ ap (λ es. es ++ later) starts, joined (past ++ starts_after head.pools (asks_of before)) later (subst (λ es. Breaks task head.version (workers_in head) (past ++ es) (before ++ entry.Level ∷ []) more fault later) starts b)))
 
 -- whole levels stand before
-pub levels_broken : (task : Task) (head : Head) (a front : List Entry) (fault : RunFault) (old mid new : Option (List Event)) → Runs task head [] a old mid → a ≡ front → (more : List Entry) → RunBreaks task head a fault mid new more → RunBreaks task head [] fault old new (front ++ more)
+pub levels_broken : (task : Task) (head : Head) (a front : List Entry) (fault : RunFault) (old mid new : Option (List Event))
+    → Runs task head [] a old mid → a ≡ front → (more : List Entry) → RunBreaks task head a fault mid new more
+    → RunBreaks task head [] fault old new (front ++ more)
 levels_broken task head a front fault old mid new runs pushed more broken =
     by mid new (subst (λ es. LogRuns task head [] es old mid) (sym runs.pushed ∙ pushed) runs.log) (subst (λ es. RunBreaks task head es fault mid new more) pushed broken)
   where
@@ -134,14 +147,18 @@ levels_broken task head a front fault old mid new runs pushed more broken =
     all : asks_of (front ++ more) ≡ asks_of front + asks_of more
     all = count_joined is_ask front more
 
-    by : (middle log : Option (List Event)) → LogRuns task head [] front old middle → RunBreaks task head front fault middle log more → RunBreaks task head [] fault old log (front ++ more)
+    by : (middle log : Option (List Event)) → LogRuns task head [] front old middle → RunBreaks task head front fault middle log more
+        → RunBreaks task head [] fault old log (front ++ more)
     by middle None f x = tt
     by None (Some after) f (reached, events, was, came, x) = absurd (cc)
     by (Some now) (Some after) (past, es, was, came, follows) (reached, events, told, grown, x) =
         let both : now ≡ reached = cc in
         of (asks_of front) refl follows (sym both ∙ came) x
       where
-        of : (n : ℕ) → asks_of front ≡ n → Follows task (workers_in head) (past ++ starts_before head.pools 0 n) [] front es → reached ≡ past ++ starts_before head.pools 0 n ++ es → Unstarted head front more fault events ⊎ ((later : List Event) × (events ≡ starts_after head.pools (asks_of front) ++ later) × Breaks task head.version (workers_in head) (reached ++ starts_after head.pools (asks_of front)) front more fault later) → RunBreaks task head [] fault old (Some after) (front ++ more)
+        of : (n : ℕ) → asks_of front ≡ n → Follows task (workers_in head) (past ++ starts_before head.pools 0 n) [] front es
+            → reached ≡ past ++ starts_before head.pools 0 n ++ es
+            → Unstarted head front more fault events ⊎ ((later : List Event) × (events ≡ starts_after head.pools (asks_of front) ++ later) × Breaks task head.version (workers_in head) (reached ++ starts_after head.pools (asks_of front)) front more fault later)
+            → RunBreaks task head [] fault old (Some after) (front ++ more)
         of zero n f here (inl u) =
             let quiet = unasked task (workers_in head) (past ++ []) [] front es refl n f in
             let still : reached ≡ past = here ∙ ap (λ xs. past ++ [] ++ xs) quiet.0 ∙ append-nil (past ++ []) ∙ append-nil past in
@@ -180,11 +197,15 @@ levels_broken task head a front fault old mid new runs pushed more broken =
 level_put : (before front more : List Entry) → before ++ entry.Level ∷ [] ≡ before ++ front → HasLevel (front ++ more)
 level_put before front more is = subst (λ es. HasLevel (es ++ more)) (append_cancel_left before (entry.Level ∷ []) front is) (0, refl)
 
-pub marked_level : (task : Task) (head : Head) (before mid front : List Entry) (fault : RunFault) (old new : Option (List Event)) → mid ≡ before ++ entry.Level ∷ [] → mid ≡ before ++ front → (more : List Entry) → RunBreaks task head mid fault old new more → LevelBreaks task head before fault old new (front ++ more)
+pub marked_level : (task : Task) (head : Head) (before mid front : List Entry) (fault : RunFault) (old new : Option (List Event))
+    → mid ≡ before ++ entry.Level ∷ [] → mid ≡ before ++ front → (more : List Entry) → RunBreaks task head mid fault old new more
+    → LevelBreaks task head before fault old new (front ++ more)
 marked_level task head before mid front fault old new marked pushed more broken =
     (marked_breaks task head before mid front fault old new marked pushed more broken, inr (level_put before front more (sym marked ∙ pushed)))
 
-pub quiet_level : (task : Task) (head : Head) (before : List Entry) (fault : RunFault) (log : Option (List Event)) → Tells (HasNoneOpen before) fault [] → (more : List Entry) → (more ≡ []) ⊎ (more ≡ entry.Level ∷ []) → LevelBreaks task head before fault log log more
+pub quiet_level : (task : Task) (head : Head) (before : List Entry) (fault : RunFault) (log : Option (List Event))
+    → Tells (HasNoneOpen before) fault [] → (more : List Entry) → (more ≡ []) ⊎ (more ≡ entry.Level ∷ [])
+    → LevelBreaks task head before fault log log more
 quiet_level task head before fault log tells more is = (quiet_breaks task head before fault log tells more is, inl refl)
 
 pub counted_level : (es : List Entry) → 0 < count_by is_level es → HasLevel es
@@ -194,7 +215,8 @@ counted_level (e ∷ es) some = by (counted_level es) e some
   where
     by : (0 < count_by is_level es → HasLevel es) → (x : Entry) → 0 < count_by is_level (x ∷ es) → HasLevel (x ∷ es)
     by later entry.Level more = (0, refl)
-    by later x more = let there = later (omega (arith, more, count_joined is_level (x ∷ []) es, count_one is_level x)) in (suc there.0, there.1)
+    by later x more =
+        let there = later (omega (arith, more, count_joined is_level (x ∷ []) es, count_one is_level x)) in (suc there.0, there.1)
 
 level_front : (front more : List Entry) → HasLevel front → HasLevel (front ++ more)
 level_front front more (k, at) = (k, get_append front more k entry.Level at)
@@ -203,7 +225,9 @@ level_behind : (front more : List Entry) → HasLevel more → HasLevel (front +
 level_behind [] more there = there
 level_behind (e ∷ front) more there = let later = level_behind front more there in (suc later.0, later.1)
 
-pub levels_needed : (task : Task) (head : Head) (a front : List Entry) (fault : RunFault) (old mid new : Option (List Event)) → Runs task head [] a old mid → (mid ≡ old) ⊎ HasLevel a → a ≡ front → (more : List Entry) → LevelBreaks task head a fault mid new more → LevelBreaks task head [] fault old new (front ++ more)
+pub levels_needed : (task : Task) (head : Head) (a front : List Entry) (fault : RunFault) (old mid new : Option (List Event))
+    → Runs task head [] a old mid → (mid ≡ old) ⊎ HasLevel a → a ≡ front → (more : List Entry) → LevelBreaks task head a fault mid new more
+    → LevelBreaks task head [] fault old new (front ++ more)
 levels_needed task head a front fault old mid new runs needed pushed more (broken, new_needed) =
     (levels_broken task head a front fault old mid new runs pushed more broken, by needed new_needed)
   where
@@ -212,17 +236,20 @@ levels_needed task head a front fault old mid new runs needed pushed more (broke
     by (inr there) w = inr (level_front front more (subst HasLevel pushed there))
     by (inl first) (inr there) = inr (level_behind front more there)
 
-pub needed_stops : (entries : List Entry) (old new : Option (List Event)) → (new ≡ old) ⊎ HasLevel entries → LogStops old new ⊎ HasLevel entries
+pub needed_stops : (entries : List Entry) (old new : Option (List Event)) → (new ≡ old) ⊎ HasLevel entries
+    → LogStops old new ⊎ HasLevel entries
 needed_stops entries old new (inl same) = inl (subst (LogStops old) (sym same) (stops_none old))
 needed_stops entries old new (inr there) = inr there
 
 -- ---- with stops
 
-pub broken_of : (task : Task) (head : Head) (entries : List Entry) (fault : RunFault) (old new : Option (List Event)) → RunBreaks task head [] fault old new entries → LogBroken task head entries fault old new
+pub broken_of : (task : Task) (head : Head) (entries : List Entry) (fault : RunFault) (old new : Option (List Event))
+    → RunBreaks task head [] fault old new entries → LogBroken task head entries fault old new
 broken_of task head entries fault old None b = tt
 broken_of task head entries fault old (Some after) b = (after, [], sym (append-nil after), λ k d below. absurd (omega (arith, below)), b)
 
-pub broken_more : (task : Task) (head : Head) (entries : List Entry) (fault : RunFault) (old mid new : Option (List Event)) → LogBroken task head entries fault old mid → LogStops mid new → LogBroken task head entries fault old new
+pub broken_more : (task : Task) (head : Head) (entries : List Entry) (fault : RunFault) (old mid new : Option (List Event))
+    → LogBroken task head entries fault old mid → LogStops mid new → LogBroken task head entries fault old new
 broken_more task head entries fault old mid None b stops = tt
 broken_more task head entries fault old None (Some after) b (more, each, (before, is, grown)) = absurd (cc)
 broken_more task head entries fault old (Some now) (Some after) (events, stops, cut, all, b) (more, each, (before, is, grown)) =
@@ -230,8 +257,10 @@ broken_more task head entries fault old (Some now) (Some after) (events, stops, 
     (events, stops ++ more, grown ∙ ap (λ es. es ++ more) (sym same ∙ cut) ∙ append_assoc events stops more, All-append IsStop stops more all each, b)
 
 pub stops_then_stops : (old mid new : Option (List Event)) → LogStops old mid → LogStops mid new → LogStops old new
-stops_then_stops old mid new (first, all, grown) (second, each, grows) = (first ++ second, All-append IsStop first second all each, extends_more old mid new first second grown grows)
+stops_then_stops old mid new (first, all, grown) (second, each, grows) =
+    (first ++ second, All-append IsStop first second all each, extends_more old mid new first second grown grows)
 
-pub needed_more : (entries : List Entry) (old mid new : Option (List Event)) → LogStops old mid ⊎ HasLevel entries → LogStops mid new → LogStops old new ⊎ HasLevel entries
+pub needed_more : (entries : List Entry) (old mid new : Option (List Event)) → LogStops old mid ⊎ HasLevel entries → LogStops mid new
+    → LogStops old new ⊎ HasLevel entries
 needed_more entries old mid new (inl first) second = inl (stops_then_stops old mid new first second)
 needed_more entries old mid new (inr there) second = inr there

@@ -21,8 +21,10 @@ spelled_join child talk [] ys = refl
 spelled_join child talk (e ∷ xs) ys = spelled_join child (said_after child talk e) xs ys
 
 -- reads add to what was heard
-pub spelled_reads : (child : ℕ) (talk : Talk) (events : List Event) → All (IsGiven child) events → spelled child talk events ≡ heard_more (spelled child silence events).heard talk
-spelled_reads child talk [] all = ap (λ bytes. let t : Talk = record { written = talk.written; heard = bytes } in t) (sym (append-nil talk.heard))
+pub spelled_reads : (child : ℕ) (talk : Talk) (events : List Event) → All (IsGiven child) events
+    → spelled child talk events ≡ heard_more (spelled child silence events).heard talk
+spelled_reads child talk [] all =
+    ap (λ bytes. let t : Talk = record { written = talk.written; heard = bytes } in t) (sym (append-nil talk.heard))
 spelled_reads child talk (heard k room (Ok bytes) ∷ events) all =
     let own : k ≡ child = all 0 (heard k room (Ok bytes)) (omega arith) in
     let here : (t : Talk) → said_after child t (heard k room (Ok bytes)) ≡ heard_more bytes t = λ t. ap (λ b. if b then heard_more bytes t else t) (eq-eqb k child own) in
@@ -41,7 +43,8 @@ spelled_reads child talk (stopped k answer ∷ events) all = absurd (all 0 (stop
 -- ---- entries, one after another
 
 module _ (task : Task) (pools : List Workers) where
-  pub follows_join : (past : List Event) (before xs ys : List Entry) (es fs : List Event) → Follows task pools past before xs es → Follows task pools (past ++ es) (before ++ xs) ys fs → Follows task pools past before (xs ++ ys) (es ++ fs)
+  pub follows_join : (past : List Event) (before xs ys : List Entry) (es fs : List Event) → Follows task pools past before xs es
+      → Follows task pools (past ++ es) (before ++ xs) ys fs → Follows task pools past before (xs ++ ys) (es ++ fs)
   follows_join past before [] ys es fs first second =
       subst (λ (zs : List Event). Follows task pools past before ys (zs ++ fs)) (sym first)
       (subst (λ (zs : List Entry). Follows task pools past zs ys fs) (append-nil before)
@@ -62,11 +65,15 @@ module _ (task : Task) (pools : List Workers) where
   log_none before (Some events) = (events, [], refl, sym (append-nil events), refl)
 
   -- the calls of one entry
-  pub log_one : (before : List Entry) (e : Entry) (old new : Option (List Event)) (events : List Event) → Extends old new events → ((past : List Event) → old ≡ Some past → new ≡ Some (past ++ events) → AreCallsOf task pools past before e events) → LogFollows task pools before (e ∷ []) old new
+  pub log_one : (before : List Entry) (e : Entry) (old new : Option (List Event)) (events : List Event) → Extends old new events
+      → ((past : List Event) → old ≡ Some past → new ≡ Some (past ++ events) → AreCallsOf task pools past before e events)
+      → LogFollows task pools before (e ∷ []) old new
   log_one before e old None events grows calls = tt
-  log_one before e old (Some after) events (past, is, grown) calls = (past, events, is, grown, (events, [], sym (append-nil events), calls past is (ap Some grown), refl))
+  log_one before e old (Some after) events (past, is, grown) calls =
+      (past, events, is, grown, (events, [], sym (append-nil events), calls past is (ap Some grown), refl))
 
-  pub log_join : (before xs ys : List Entry) (old mid new : Option (List Event)) → LogFollows task pools before xs old mid → LogFollows task pools (before ++ xs) ys mid new → LogFollows task pools before (xs ++ ys) old new
+  pub log_join : (before xs ys : List Entry) (old mid new : Option (List Event)) → LogFollows task pools before xs old mid
+      → LogFollows task pools (before ++ xs) ys mid new → LogFollows task pools before (xs ++ ys) old new
   log_join before xs ys old mid None first second = tt
   log_join before xs ys old None (Some after) first (later, fs, is, grown, follows) = absurd (cc)
   log_join before xs ys old (Some middle) (Some after) (past, es, was, came, begins) (later, fs, is, grown, follows) =
@@ -82,10 +89,12 @@ module _ (task : Task) (pools : List Workers) where
   pub calls_none : (before : List Entry) (log : Option (List Event)) → Calls task pools before before log log
   calls_none before log = record { more = []; pushed = sym (append-nil before); log = log_none before log }
 
-  pub calls_one : (before after : List Entry) (e : Entry) (old new : Option (List Event)) → after ≡ before ++ e ∷ [] → LogFollows task pools before (e ∷ []) old new → Calls task pools before after old new
+  pub calls_one : (before after : List Entry) (e : Entry) (old new : Option (List Event)) → after ≡ before ++ e ∷ []
+      → LogFollows task pools before (e ∷ []) old new → Calls task pools before after old new
   calls_one before after e old new pushed log = record { more = e ∷ []; pushed = pushed; log = log }
 
-  pub calls_then : (a b c : List Entry) (old mid new : Option (List Event)) → Calls task pools a b old mid → Calls task pools b c mid new → Calls task pools a c old new
+  pub calls_then : (a b c : List Entry) (old mid new : Option (List Event)) → Calls task pools a b old mid → Calls task pools b c mid new
+      → Calls task pools a c old new
   calls_then a b c old mid new first second = record {
     more = first.more ++ second.more;
     pushed = second.pushed ∙ ap (λ front. front ++ second.more) first.pushed ∙ append_assoc a first.more second.more;
@@ -94,7 +103,9 @@ module _ (task : Task) (pools : List Workers) where
 
   -- ---- one entry
 
-  pub ask_calls : (before : List Entry) (e : Entry) (r : Request) (past events : List Event) → is_ask e ≡ true → requests_of task pools (before ++ e ∷ []) ≡ requests_of task pools before ++ r ∷ [] → Takes r.child (text_of_request r) events → AreCallsOf task pools past before e events
+  pub ask_calls : (before : List Entry) (e : Entry) (r : Request) (past events : List Event) → is_ask e ≡ true
+      → requests_of task pools (before ++ e ∷ []) ≡ requests_of task pools before ++ r ∷ [] → Takes r.child (text_of_request r) events
+      → AreCallsOf task pools past before e events
   ask_calls before (entry.Ask number turn call) r past events ask grown takes =
       let both : next_request task pools before number turn call ∷ [] ≡ r ∷ [] =
       append_cancel_left (requests_of task pools before) (next_request task pools before number turn call ∷ []) (r ∷ []) (sym (requests_join task pools [] before (entry.Ask number turn call ∷ [])) ∙ grown) in
@@ -106,7 +117,8 @@ module _ (task : Task) (pools : List Workers) where
   ask_calls before (entry.End number) r past events ask grown takes = absurd (cc)
   ask_calls before e r past events ask grown takes = absurd (cc)
 
-  pub answer_calls : (before : List Entry) (e : Entry) (past events : List Event) → is_answer e ≡ true → Hearing task pools past before events → AreCallsOf task pools past before e events
+  pub answer_calls : (before : List Entry) (e : Entry) (past events : List Event) → is_answer e ≡ true
+      → Hearing task pools past before events → AreCallsOf task pools past before e events
   answer_calls before (entry.Got number tuples values) past events answer hearing = hearing
   answer_calls before (entry.Value number value) past events answer hearing = hearing
   answer_calls before (entry.End number) past events answer hearing = hearing

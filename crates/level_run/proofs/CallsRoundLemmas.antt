@@ -42,7 +42,8 @@ none_fed : (bytes : List ℕ) → list_any is_feed bytes ≡ false → count_by 
 none_fed [] e = refl
 none_fed (b ∷ bs) e = by (none_fed bs) (is_feed b) refl e
   where
-    by : (list_any is_feed bs ≡ false → count_by is_feed bs ≡ 0) → (t : Bool) → is_feed b ≡ t → (is_feed b || list_any is_feed bs) ≡ false → count_by is_feed (b ∷ bs) ≡ 0
+    by : (list_any is_feed bs ≡ false → count_by is_feed bs ≡ 0) → (t : Bool) → is_feed b ≡ t → (is_feed b || list_any is_feed bs) ≡ false
+        → count_by is_feed (b ∷ bs) ≡ 0
     by later true is any = absurd (let bad : true ≡ false = ap (λ t. t || list_any is_feed bs) (sym is) ∙ any in cc)
     by later false is any =
         let none : cond {A = ℕ} (is_feed b) 1 0 ≡ 0 = ap (λ t. cond {A = ℕ} t 1 0) is in
@@ -60,22 +61,28 @@ still_part kept bytes none line =
 pub reads_none : (child : ℕ) (kept : List ℕ) (log : Option (List Event)) → LogReads child kept log log
 reads_none child kept log = ([], λ k d below. absurd (omega (arith, below)), λ k below. absurd (omega (arith, below)), extends_none log)
 
-pub reads_given : (child : ℕ) (kept bytes : List ℕ) (old new : Option (List Event)) → lines_of kept ≡ [] → LogsGiven child [] bytes old new → LogReads child kept old new
+pub reads_given : (child : ℕ) (kept bytes : List ℕ) (old new : Option (List Event)) → lines_of kept ≡ [] → LogsGiven child [] bytes old new
+    → LogReads child kept old new
 reads_given child kept bytes old new none (events, gives, grows) =
     (events, gives.each, λ k below. still_part kept (spelled child silence (take k events)).heard none (gives.early k below), grows)
 
 -- ---- one answer
 
 -- what the log spells of a child was said with it
-pub told_talk : {task : Task} {version : ℕ} {rs : List Request} {replies : List Entry} {child : ℕ} {kept : List ℕ} (talk : Option Talk) (events : List Event) → talk ≡ Some (spelled child silence events) → IfSome talk (IsTalk task version rs replies child kept) → IsTalk task version rs replies child kept (spelled child silence events)
-told_talk {task} {version} {rs} {replies} {child} {kept} talk events is told = subst (λ o. IfSome o (IsTalk task version rs replies child kept)) is told
+pub told_talk : {task : Task} {version : ℕ} {rs : List Request} {replies : List Entry} {child : ℕ} {kept : List ℕ} (talk : Option Talk) (events : List Event)
+    → talk ≡ Some (spelled child silence events) → IfSome talk (IsTalk task version rs replies child kept)
+    → IsTalk task version rs replies child kept (spelled child silence events)
+told_talk {task} {version} {rs} {replies} {child} {kept} talk events is told =
+    subst (λ o. IfSome o (IsTalk task version rs replies child kept)) is told
 
 module _ (task : Task) (version : ℕ) (pools : List Workers) (rs : List Request) (replies : List Entry) (r : Request) (next : slice_get rs (length replies) ≡ Some r) (kept left : List ℕ) (past events : List Event) where
   answered : ℕ
   answered = count_to r.child (take (length replies) rs)
 
   -- while the bytes kept and those that came make no line, no more lines were read than were taken
-  pub reads_quiet : IsTalk task version rs replies r.child kept (spelled r.child silence past) → All (IsGiven r.child) events → lines_of (kept ++ (spelled r.child silence events).heard) ≡ [] → lines_read r.child (past ++ events) ≤ count_to r.child (take (length replies) rs)
+  pub reads_quiet : IsTalk task version rs replies r.child kept (spelled r.child silence past) → All (IsGiven r.child) events
+      → lines_of (kept ++ (spelled r.child silence events).heard) ≡ []
+      → lines_read r.child (past ++ events) ≤ count_to r.child (take (length replies) rs)
   reads_quiet t each none =
       let piece = (spelled r.child silence events).heard in
       let spells : spelled r.child silence (past ++ events) ≡ heard_more piece (spelled r.child silence past) =
@@ -84,7 +91,9 @@ module _ (task : Task) (version : ℕ) (pools : List Workers) (rs : List Request
       let count : lines_read r.child (past ++ events) ≡ length (t.taken ++ lines_of (kept ++ piece)) = ap (λ (x : Talk). length (lines_of x.heard)) spells ∙ ap length lines in
       omega (arith, count, length-append t.taken (lines_of (kept ++ piece)), ap length none, t.many)
 
-  pub reads_early : IsTalk task version rs replies r.child kept (spelled r.child silence past) → All (IsGiven r.child) events → ((k : ℕ) → k < length events → lines_of (kept ++ (spelled r.child silence (take k events)).heard) ≡ []) → (k : ℕ) → k < length events → lines_read r.child (past ++ take k events) ≤ count_to r.child (take (length replies) rs)
+  pub reads_early : IsTalk task version rs replies r.child kept (spelled r.child silence past) → All (IsGiven r.child) events
+      → ((k : ℕ) → k < length events → lines_of (kept ++ (spelled r.child silence (take k events)).heard) ≡ []) → (k : ℕ)
+      → k < length events → lines_read r.child (past ++ take k events) ≤ count_to r.child (take (length replies) rs)
   reads_early t each early k below =
       let piece = (spelled r.child silence (take k events)).heard in
       let spells : spelled r.child silence (past ++ take k events) ≡ heard_more piece (spelled r.child silence past) =
@@ -93,7 +102,8 @@ module _ (task : Task) (version : ℕ) (pools : List Workers) (rs : List Request
       let count : lines_read r.child (past ++ take k events) ≡ length (t.taken ++ lines_of (kept ++ piece)) = ap (λ (x : Talk). length (lines_of x.heard)) spells ∙ ap length lines in
       omega (arith, count, length-append t.taken (lines_of (kept ++ piece)), ap length (early k below), t.many)
 
-  reads_line : (e : Entry) → IsTalk task version rs (replies ++ e ∷ []) r.child left (spelled r.child silence (past ++ events)) → count_to r.child (take (length replies) rs) < lines_read r.child (past ++ events)
+  reads_line : (e : Entry) → IsTalk task version rs (replies ++ e ∷ []) r.child left (spelled r.child silence (past ++ events))
+      → count_to r.child (take (length replies) rs) < lines_read r.child (past ++ events)
   reads_line e t =
       let longer : length (replies ++ e ∷ []) ≡ length replies + 1 = length-append replies (e ∷ []) in
       let one : count_to r.child (take (length (replies ++ e ∷ [])) rs) ≡ count_to r.child (take (length replies) rs) + 1 =
@@ -101,7 +111,11 @@ module _ (task : Task) (version : ℕ) (pools : List Workers) (rs : List Request
       omega (arith, ap length (all_lines task version rs (replies ++ e ∷ []) r.child left (spelled r.child silence (past ++ events)) t), length-append t.taken (lines_of left), t.many, one)
 
 -- the answer to the next request is heard
-pub heard_log : (task : Task) (version : ℕ) (pools : List Workers) (before : List Entry) (e : Entry) (r : Request) (kept left : ℕ → List ℕ) (old new : ℕ → Option Talk) (was now : Option (List Event)) → is_answer e ≡ true → slice_get (requests_of task pools before) (length (replies_of before)) ≡ Some r → IsOneOf pools r.child → Talks task version pools (requests_of task pools before) (replies_of before) kept old → Talks task version pools (requests_of task pools before) (replies_of before ++ e ∷ []) left new → Spells was r.child (old r.child) → Spells now r.child (new r.child) → LogReads r.child (kept r.child) was now → LogFollows task pools before (e ∷ []) was now
+pub heard_log : (task : Task) (version : ℕ) (pools : List Workers) (before : List Entry) (e : Entry) (r : Request) (kept left : ℕ → List ℕ) (old new : ℕ → Option Talk) (was now : Option (List Event))
+    → is_answer e ≡ true → slice_get (requests_of task pools before) (length (replies_of before)) ≡ Some r → IsOneOf pools r.child
+    → Talks task version pools (requests_of task pools before) (replies_of before) kept old
+    → Talks task version pools (requests_of task pools before) (replies_of before ++ e ∷ []) left new → Spells was r.child (old r.child)
+    → Spells now r.child (new r.child) → LogReads r.child (kept r.child) was now → LogFollows task pools before (e ∷ []) was now
 heard_log task version pools before e r kept left old new was now answer next one talks later spells_was spells_now (events, each, early, grows) =
     log_one task pools before e was now events grows (λ past is came. answer_calls task pools before e past events answer (record {
       request = r;
@@ -115,13 +129,16 @@ heard_log task version pools before e r kept left old new was now answer next on
 
 -- ---- one request
 
-sent_log : (task : Task) (pools : List Workers) (before : List Entry) (e : Entry) (r : Request) (was now : Option (List Event)) → requests_of task pools (before ++ e ∷ []) ≡ requests_of task pools before ++ r ∷ [] → AreAsks (e ∷ []) → LogsTaken r.child (text_of_request r) was now → LogFollows task pools before (e ∷ []) was now
+sent_log : (task : Task) (pools : List Workers) (before : List Entry) (e : Entry) (r : Request) (was now : Option (List Event))
+    → requests_of task pools (before ++ e ∷ []) ≡ requests_of task pools before ++ r ∷ [] → AreAsks (e ∷ [])
+    → LogsTaken r.child (text_of_request r) was now → LogFollows task pools before (e ∷ []) was now
 sent_log task pools before e r was now grown asks (events, takes, grows) =
     log_one task pools before e was now events grows (λ past is came. ask_calls task pools before e r past events (asks 0 e refl) grown takes)
 
 module _ (task : Task) (s : State) (place : ℕ) (kept : ℕ → List ℕ) (spoken : ℕ → Option Talk) (t : Slot) (at : slice_get s.slots place ≡ Some t) (e : Entry) (at_e : slice_get s.asks place ≡ Some e) (opened : s.is_open ≡ true) (h : IsSession task s) (k : IsTalking task s place 0 kept spoken) where
   -- the request at this place comes next
-  pub sent_next : (r : (r : Request) × (slice_get (requests_of task s.pools s.asks) place ≡ Some r) × IsSlotOf task s.version s.pools r t) → requests_of task s.pools ((s.entries ++ take place s.asks) ++ e ∷ []) ≡ requests_of task s.pools (s.entries ++ take place s.asks) ++ r.0 ∷ []
+  pub sent_next : (r : (r : Request) × (slice_get (requests_of task s.pools s.asks) place ≡ Some r) × IsSlotOf task s.version s.pools r t)
+      → requests_of task s.pools ((s.entries ++ take place s.asks) ++ e ∷ []) ≡ requests_of task s.pools (s.entries ++ take place s.asks) ++ r.0 ∷ []
   sent_next r =
       let asks = round_asks task s opened h in
       ap (requests_of task s.pools) (append_assoc s.entries (take place s.asks) (e ∷ []) ∙ ap (λ es. s.entries ++ es) (sym (take_next s.asks place e at_e)))
@@ -131,7 +148,8 @@ module _ (task : Task) (s : State) (place : ℕ) (kept : ℕ → List ℕ) (spok
       ∙ ap (λ rs. rs ++ r.0 ∷ []) (sym (requests_sent task s.pools s.entries s.asks k.closed asks place))
 
   -- it is written
-  pub sent_calls : (child : ℕ) (request : List ℕ) (was now : Option (List Event)) → child ≡ t.child → request ≡ t.request → LogsTaken child request was now → LogFollows task s.pools (s.entries ++ take place s.asks) (e ∷ []) was now
+  pub sent_calls : (child : ℕ) (request : List ℕ) (was now : Option (List Event)) → child ≡ t.child → request ≡ t.request
+      → LogsTaken child request was now → LogFollows task s.pools (s.entries ++ take place s.asks) (e ∷ []) was now
   sent_calls child request was now own same log =
       let r = request_at task s place kept spoken spoken t at k.slots in
       sent_log task s.pools (s.entries ++ take place s.asks) e r.0 was now (sent_next r) (λ j x at_x. one (round_asks task s opened h) j x at_x)
@@ -145,7 +163,12 @@ module _ (task : Task) (s : State) (place : ℕ) (kept : ℕ → List ℕ) (spok
 
 module _ (task : Task) (s : State) (running : ℕ → Bool) (place : ℕ) (rolling : IsRolling s running (length s.slots) place) (within : place < length s.slots) (t : Slot) (at : slice_get s.slots place ≡ Some t) where
   -- the answer at this place is heard
-  pub heard_calls : (new : State) (slots : List Slot) (failed : Bool) (kept left : ℕ → List ℕ) (old now : ℕ → Option Talk) (e : Entry) (child : ℕ) (was came : Option (List Event)) → new ≡ with_slots s slots failed → IsSession task s → IsSession task new → IsTalking task s (length s.slots) place kept old → IsTalking task new (length new.slots) (place + 1) left now → slice_get (finished new.slots) place ≡ Some e → take place (finished new.slots) ≡ take place (finished s.slots) → child ≡ t.child → Spells was child (old child) → Spells came child (now child) → LogReads child (kept child) was came → LogFollows task s.pools (s.entries ++ s.asks ++ take place (finished s.slots)) (e ∷ []) was came
+  pub heard_calls : (new : State) (slots : List Slot) (failed : Bool) (kept left : ℕ → List ℕ) (old now : ℕ → Option Talk) (e : Entry) (child : ℕ) (was came : Option (List Event))
+      → new ≡ with_slots s slots failed → IsSession task s → IsSession task new → IsTalking task s (length s.slots) place kept old
+      → IsTalking task new (length new.slots) (place + 1) left now → slice_get (finished new.slots) place ≡ Some e
+      → take place (finished new.slots) ≡ take place (finished s.slots) → child ≡ t.child → Spells was child (old child)
+      → Spells came child (now child) → LogReads child (kept child) was came
+      → LogFollows task s.pools (s.entries ++ s.asks ++ take place (finished s.slots)) (e ∷ []) was came
   heard_calls new slots failed kept left old now e child was came is h h_new k k_new at_e front own spells_was spells_came log =
       heard_log task s.version s.pools before e r.0 kept left old now was came (round_replies task new open_new h_new place e at_e) next r.2.one talks later
       (subst (λ c. Spells was c (old c)) same spells_was) (subst (λ c. Spells came c (now c)) same spells_came) (subst (λ c. LogReads c (kept c) was came) same log)
@@ -203,7 +226,10 @@ module _ (task : Task) (s : State) (running : ℕ → Bool) (place : ℕ) (rolli
 
 -- ---- a whole round
 
-pub round_order : (task : Task) (s b m x : State) (dues : List Due) (old mid new : Option (List Event)) → b ≡ begun task s dues → IsSameRound b m → IsSameRound m x → finished x.slots ≡ answers_of x.slots → Calls task b.pools b.entries (b.entries ++ b.asks) old mid → Calls task m.pools (m.entries ++ m.asks) (m.entries ++ m.asks ++ finished x.slots) mid new → Calls task s.pools s.entries (x.entries ++ x.asks ++ answers_of x.slots) old new
+pub round_order : (task : Task) (s b m x : State) (dues : List Due) (old mid new : Option (List Event)) → b ≡ begun task s dues
+    → IsSameRound b m → IsSameRound m x → finished x.slots ≡ answers_of x.slots → Calls task b.pools b.entries (b.entries ++ b.asks) old mid
+    → Calls task m.pools (m.entries ++ m.asks) (m.entries ++ m.asks ++ finished x.slots) mid new
+    → Calls task s.pools s.entries (x.entries ++ x.asks ++ answers_of x.slots) old new
 round_order task s b m x dues old mid new starts first second all sent heard =
     subst (λ es. Calls task s.pools s.entries es old new) (sym entries_are)
     (calls_then task s.pools s.entries (s.entries ++ (begun task s dues).asks) (s.entries ++ (begun task s dues).asks ++ finished x.slots) old mid new

@@ -33,13 +33,16 @@ use Rattle.level_course.proofs.CoursesStepLemmas.{same_asks}
 
 -- ---- the starts of a pool
 
-pub starts_next : (words : List (List ℕ)) (first n : ℕ) → starts_from words first (suc n) ≡ starts_from words first n ++ started (first + n) words (Ok tt) ∷ []
-starts_next words first zero = ap (λ k. let one : List Event = started k words (Ok tt) ∷ [] in one) (let e : first ≡ first + 0 = omega arith in e)
+pub starts_next : (words : List (List ℕ)) (first n : ℕ)
+    → starts_from words first (suc n) ≡ starts_from words first n ++ started (first + n) words (Ok tt) ∷ []
+starts_next words first zero =
+    ap (λ k. let one : List Event = started k words (Ok tt) ∷ [] in one) (let e : first ≡ first + 0 = omega arith in e)
 starts_next words first (suc n) =
     ap (λ es. started first words (Ok tt) ∷ es) (starts_next words (first + 1) n ∙ ap (λ k. starts_from words (first + 1) n ++ started k words (Ok tt) ∷ []) (let e : first + 1 + n ≡ first + suc n = omega arith in e))
 
 -- so many starts, the next one, and the others
-starts_split : (words : List (List ℕ)) (first k n : ℕ) → k < n → (rest : List Event) × (starts_from words first n ≡ starts_from words first k ++ started (first + k) words (Ok tt) ∷ rest)
+starts_split : (words : List (List ℕ)) (first k n : ℕ) → k < n
+    → (rest : List Event) × (starts_from words first n ≡ starts_from words first k ++ started (first + k) words (Ok tt) ∷ rest)
 starts_split words first zero zero below = absurd (omega (arith, below))
 starts_split words first zero (suc n) below = (starts_from words (first + 1) n, ap (λ k. started k words (Ok tt) ∷ starts_from words (first + 1) n) (let e : first ≡ first + 0 = omega arith in e))
 starts_split words first (suc k) zero below = absurd (omega (arith, below))
@@ -51,10 +54,12 @@ starts_split words first (suc k) (suc n) below =
 
 get_behind : {A : Type 0} (xs ys : List A) (n : ℕ) → slice_get (xs ++ ys) (length xs + n) ≡ slice_get ys n
 get_behind [] ys n = ap (slice_get ys) (let e : 0 + n ≡ n = omega arith in e)
-get_behind (x ∷ xs) ys n = ap (slice_get (x ∷ (xs ++ ys))) (let e : suc (length xs) + n ≡ suc (length xs + n) = omega arith in e) ∙ get_behind xs ys n
+get_behind (x ∷ xs) ys n =
+    ap (slice_get (x ∷ (xs ++ ys))) (let e : suc (length xs) + n ≡ suc (length xs + n) = omega arith in e) ∙ get_behind xs ys n
 
 -- a start was refused, behind these
-pub part_behind : (front starts rest all : List Event) (fault : RunFault) (old mid new : Option (List Event)) → all ≡ front ++ (starts ++ rest) → Extends old mid front → LogStartsPart starts fault mid new → LogStartsPart all fault old new
+pub part_behind : (front starts rest all : List Event) (fault : RunFault) (old mid new : Option (List Event))
+    → all ≡ front ++ (starts ++ rest) → Extends old mid front → LogStartsPart starts fault mid new → LogStartsPart all fault old new
 part_behind front starts rest all fault old mid new whole first (n, child, words, cause, at, is, grows) = (
   length front + n,
   child,
@@ -71,11 +76,16 @@ part_behind front starts rest all fault old mid new whole first (n, child, words
         ∙ ap (λ es. es ++ started child words (Err cause) ∷ []) (take-append-add front (starts ++ rest) n ∙ ap (λ es. front ++ es) (take-append-le n starts rest (omega (arith, slice_get_within starts n (started child words (Ok tt)) at))))
         ∙ append_assoc front (take n starts) (started child words (Err cause) ∷ [])
 
-part_first : (child : ℕ) (words : List (List ℕ)) (cause : HostFault) (fault : RunFault) (rest : List Event) (mid new : Option (List Event)) → IsHostFault cause fault → Logs mid new (started child words (Err cause)) → LogStartsPart (started child words (Ok tt) ∷ rest) fault mid new
+part_first : (child : ℕ) (words : List (List ℕ)) (cause : HostFault) (fault : RunFault) (rest : List Event) (mid new : Option (List Event))
+    → IsHostFault cause fault → Logs mid new (started child words (Err cause))
+    → LogStartsPart (started child words (Ok tt) ∷ rest) fault mid new
 part_first child words cause fault rest mid new is log = (0, child, words, cause, refl, is, log)
 
 -- the next worker of a pool was refused
-pub pool_refused : (pool : Pool) (worker : ℕ) (fault : RunFault) (old mid new : Option (List Event)) → worker < pool.workers → Extends old mid (starts_from (map string_bytes pool.argv) pool.first worker) → (cause : HostFault) × IsHostFault cause fault × Logs mid new (started (pool.first + worker) (map string_bytes pool.argv) (Err cause)) → LogStartsPart (starts_in pool) fault old new
+pub pool_refused : (pool : Pool) (worker : ℕ) (fault : RunFault) (old mid new : Option (List Event)) → worker < pool.workers
+    → Extends old mid (starts_from (map string_bytes pool.argv) pool.first worker)
+    → (cause : HostFault) × IsHostFault cause fault × Logs mid new (started (pool.first + worker) (map string_bytes pool.argv) (Err cause))
+    → LogStartsPart (starts_in pool) fault old new
 pool_refused pool worker fault old mid new below first (cause, is, log) =
     let words = map string_bytes pool.argv in
     let split = starts_split words pool.first worker pool.workers below in
@@ -83,24 +93,30 @@ pool_refused pool worker fault old mid new below first (cause, is, log) =
     (split.1 ∙ ap (λ es. starts_from words pool.first worker ++ es) (sym (append-nil (started (pool.first + worker) words (Ok tt) ∷ split.0)))) first
     (part_first (pool.first + worker) words cause fault split.0 mid new is log)
 
-pub worker_started : (words : List (List ℕ)) (first n : ℕ) (old mid new : Option (List Event)) → Extends old mid (starts_from words first n) → Logs mid new (started (first + n) words (Ok tt)) → Extends old new (starts_from words first (n + 1))
+pub worker_started : (words : List (List ℕ)) (first n : ℕ) (old mid new : Option (List Event)) → Extends old mid (starts_from words first n)
+    → Logs mid new (started (first + n) words (Ok tt)) → Extends old new (starts_from words first (n + 1))
 worker_started words first n old mid new before log =
     subst (Extends old new) (sym (ap (starts_from words first) (let e : n + 1 ≡ suc n = omega arith in e) ∙ starts_next words first n)) (extends_more old mid new (starts_from words first n) (started (first + n) words (Ok tt) ∷ []) before log)
 
 -- ---- the starts of all pools
 
-cut_at : {A : Type 0} (xs : List A) (k : ℕ) (x : A) → slice_get xs k ≡ Some x → (ys : List A) × (xs ≡ take k xs ++ x ∷ ys) × (take (k + 1) xs ≡ take k xs ++ x ∷ [])
+cut_at : {A : Type 0} (xs : List A) (k : ℕ) (x : A) → slice_get xs k ≡ Some x
+    → (ys : List A) × (xs ≡ take k xs ++ x ∷ ys) × (take (k + 1) xs ≡ take k xs ++ x ∷ [])
 cut_at [] k x at = absurd (cc)
 cut_at (y ∷ ys) zero x at = let same : y ≡ x = cc in (ys, ap (λ z. z ∷ ys) same, ap (λ z. let one : List _ = z ∷ [] in one) same)
 cut_at (y ∷ ys) (suc k) x at = let later = cut_at ys k x at in (later.0, ap (λ zs. y ∷ zs) later.1, ap (λ n. take n (y ∷ ys)) (let e : suc k + 1 ≡ suc (k + 1) = omega arith in e) ∙ ap (λ zs. y ∷ zs) later.2)
 
-pub pool_started : (pools : List Pool) (i : ℕ) (pool : Pool) (old mid new : Option (List Event)) → slice_get pools i ≡ Some pool → Extends old mid (flat_map starts_in (take i pools)) → Extends mid new (starts_in pool) → Extends old new (flat_map starts_in (take (i + 1) pools))
+pub pool_started : (pools : List Pool) (i : ℕ) (pool : Pool) (old mid new : Option (List Event)) → slice_get pools i ≡ Some pool
+    → Extends old mid (flat_map starts_in (take i pools)) → Extends mid new (starts_in pool)
+    → Extends old new (flat_map starts_in (take (i + 1) pools))
 pool_started pools i pool old mid new at before log =
     let cut = cut_at pools i pool at in
     subst (Extends old new) (sym (ap (flat_map starts_in) cut.2 ∙ flat_map-append starts_in (take i pools) (pool ∷ []) ∙ ap (λ es. flat_map starts_in (take i pools) ++ es) (append-nil (starts_in pool))))
     (extends_more old mid new (flat_map starts_in (take i pools)) (starts_in pool) before log)
 
-pub pools_refused : (pools : List Pool) (i : ℕ) (pool : Pool) (fault : RunFault) (old mid new : Option (List Event)) → slice_get pools i ≡ Some pool → Extends old mid (flat_map starts_in (take i pools)) → LogStartsPart (starts_in pool) fault mid new → LogStartsPart (starts_of pools) fault old new
+pub pools_refused : (pools : List Pool) (i : ℕ) (pool : Pool) (fault : RunFault) (old mid new : Option (List Event))
+    → slice_get pools i ≡ Some pool → Extends old mid (flat_map starts_in (take i pools)) → LogStartsPart (starts_in pool) fault mid new
+    → LogStartsPart (starts_of pools) fault old new
 pools_refused pools i pool fault old mid new at before log =
     let cut = cut_at pools i pool at in
     part_behind (flat_map starts_in (take i pools)) (starts_in pool) (flat_map starts_in cut.0) (starts_of pools) fault old mid new
@@ -121,14 +137,17 @@ starts_first pools zero zero first some = absurd (omega (arith, some))
 starts_first pools zero (suc more) first some = refl
 starts_first pools (suc before) more first some = absurd (omega (arith, first))
 
-same_starts : (pools : List Pool) (before many more : ℕ) → (before ≡ 0 → many ≡ 0 → more ≡ 0) → (before ≡ 0 → 0 < many → 0 < more) → starts_before pools before many ≡ starts_before pools before more
+same_starts : (pools : List Pool) (before many more : ℕ) → (before ≡ 0 → many ≡ 0 → more ≡ 0) → (before ≡ 0 → 0 < many → 0 < more)
+    → starts_before pools before many ≡ starts_before pools before more
 same_starts pools zero zero more none some = sym (ap (starts_before pools 0) (none refl refl))
 same_starts pools zero (suc many) more none some = sym (starts_first pools 0 more refl (some refl (omega arith)))
 same_starts pools (suc before) many more none some = refl
 
 -- ---- the calls of batches
 
-runs_from : (task : Task) (head : Head) (before : List Entry) (more : List Entry) (starts : List Event) (old mid new : Option (List Event)) → starts ≡ starts_before head.pools (asks_of before) (asks_of more) → Extends old mid starts → Rattle.level_run.specs.Calls.LogFollows task (workers_in head) before more mid new → LogRuns task head before more old new
+runs_from : (task : Task) (head : Head) (before : List Entry) (more : List Entry) (starts : List Event) (old mid new : Option (List Event))
+    → starts ≡ starts_before head.pools (asks_of before) (asks_of more) → Extends old mid starts
+    → Rattle.level_run.specs.Calls.LogFollows task (workers_in head) before more mid new → LogRuns task head before more old new
 runs_from task head before more starts old mid None is first second = tt
 runs_from task head before more starts old None (Some after) is first (later, events, was, grown, follows) = absurd (cc)
 runs_from task head before more starts old (Some middle) (Some after) is (past, was, came) (later, events, told, grown, follows) =
@@ -142,7 +161,10 @@ runs_from task head before more starts old (Some middle) (Some after) is (past, 
     )
 
 -- a batch: its starts, and then its rounds
-pub batch_runs : (task : Task) (head : Head) (before after : List Entry) (asked asks many : ℕ) (b : Batch) (old mid new : Option (List Event)) → asked ≡ asks_of before → asks ≡ asks_of after → 1 ≤ head.calls → EndsBatch task after asked asks head.calls many b → Extends old mid (starts_before head.pools asked many) → Calls task (workers_in head) before after mid new → Runs task head before after old new
+pub batch_runs : (task : Task) (head : Head) (before after : List Entry) (asked asks many : ℕ) (b : Batch) (old mid new : Option (List Event))
+    → asked ≡ asks_of before → asks ≡ asks_of after → 1 ≤ head.calls → EndsBatch task after asked asks head.calls many b
+    → Extends old mid (starts_before head.pools asked many) → Calls task (workers_in head) before after mid new
+    → Runs task head before after old new
 batch_runs task head before after asked asks many b old mid new counted of_after some ends first calls = record {
   more = calls.more;
   pushed = calls.pushed;
@@ -161,7 +183,9 @@ batch_runs task head before after asked asks many b old mid new counted of_after
     filled CallsSpent e is more = omega (arith, e.0, grown, is, some)
 
     starts : starts_before head.pools asked many ≡ starts_before head.pools (asks_of before) (asks_of calls.more)
-    starts = same_starts head.pools asked many (asks_of calls.more) (none b ends) (filled b ends) ∙ ap (λ n. starts_before head.pools n (asks_of calls.more)) counted
+    starts =
+        same_starts head.pools asked many (asks_of calls.more) (none b ends) (filled b ends)
+        ∙ ap (λ n. starts_before head.pools n (asks_of calls.more)) counted
 
 -- ---- a level
 
@@ -169,7 +193,8 @@ pub asks_behind : (more : List Entry) → asks_of (entry.Level ∷ more) ≡ ask
 asks_behind more = omega (arith, count_joined is_ask (entry.Level ∷ []) more, count_one is_ask entry.Level)
 
 -- the line of a level needs no call
-pub runs_marked : (task : Task) (head : Head) (before mid after : List Entry) (old new : Option (List Event)) → mid ≡ before ++ entry.Level ∷ [] → Runs task head mid after old new → Runs task head before after old new
+pub runs_marked : (task : Task) (head : Head) (before mid after : List Entry) (old new : Option (List Event))
+    → mid ≡ before ++ entry.Level ∷ [] → Runs task head mid after old new → Runs task head before after old new
 runs_marked task head before mid after old new marked runs = record {
   more = entry.Level ∷ runs.more;
   pushed = runs.pushed ∙ ap (λ es. es ++ runs.more) marked ∙ append_assoc before (entry.Level ∷ []) runs.more;
@@ -177,9 +202,12 @@ runs_marked task head before mid after old new marked runs = record {
 }
   where
     starts : starts_before head.pools (asks_of (before ++ entry.Level ∷ [])) (asks_of runs.more) ≡ starts_before head.pools (asks_of before) (asks_of (entry.Level ∷ runs.more))
-    starts = ap (λ n. starts_before head.pools n (asks_of runs.more)) (same_asks before) ∙ ap (starts_before head.pools (asks_of before)) (sym (asks_behind runs.more))
+    starts =
+        ap (λ n. starts_before head.pools n (asks_of runs.more)) (same_asks before)
+        ∙ ap (starts_before head.pools (asks_of before)) (sym (asks_behind runs.more))
 
-    by : (log : Option (List Event)) → LogRuns task head (before ++ entry.Level ∷ []) runs.more old log → LogRuns task head before (entry.Level ∷ runs.more) old log
+    by : (log : Option (List Event)) → LogRuns task head (before ++ entry.Level ∷ []) runs.more old log
+        → LogRuns task head before (entry.Level ∷ runs.more) old log
     by None l = tt
     by (Some now) (past, events, was, came, follows) =
         subst (λ es. (p : List Event) × (later : List Event) × (old ≡ Some p) × (now ≡ p ++ es ++ later) × Follows task (workers_in head) (p ++ es) before (entry.Level ∷ runs.more) later) starts (
@@ -192,15 +220,18 @@ runs_marked task head before mid after old new marked runs = record {
 
 -- ---- levels, one after another
 
-pub runs_none : (task : Task) (head : Head) (before : List Entry) (log : Option (List Event)) → before ≡ [] → Runs task head [] before log log
-runs_none task head before log is = record { more = before; pushed = refl; log = subst (λ es. LogRuns task head [] es log log) (sym is) (by log) }
+pub runs_none : (task : Task) (head : Head) (before : List Entry) (log : Option (List Event)) → before ≡ []
+    → Runs task head [] before log log
+runs_none task head before log is =
+    record { more = before; pushed = refl; log = subst (λ es. LogRuns task head [] es log log) (sym is) (by log) }
   where
     by : (o : Option (List Event)) → LogRuns task head [] [] o o
     by None = tt
     by (Some events) = (events, [], refl, sym (append-nil events) ∙ sym (append-nil (events ++ [])), refl)
 
 -- entries without a request need no call
-pub unasked : (task : Task) (pools : List Workers) (past : List Event) (before es : List Entry) (events : List Event) → asks_of before ≡ 0 → asks_of es ≡ 0 → Follows task pools past before es events → (events ≡ []) × ((p : List Event) → Follows task pools p before es [])
+pub unasked : (task : Task) (pools : List Workers) (past : List Event) (before es : List Entry) (events : List Event) → asks_of before ≡ 0
+    → asks_of es ≡ 0 → Follows task pools past before es events → (events ≡ []) × ((p : List Event) → Follows task pools p before es [])
 unasked task pools past before [] events none no_more follows = (follows, λ p. refl)
 unasked task pools past before (e ∷ es) events none no_more (now, later, cut, calls, follows) =
     let quiet = of e one calls in
@@ -221,7 +252,8 @@ unasked task pools past before (e ∷ es) events none no_more (now, later, cut, 
     no_hearing : Hearing task pools past before now → ⊥
     no_hearing h = absurd (let bad : None ≡ Some h.request = ap (λ rs. slice_get rs (length (replies_of before))) (sym (none_asked task 0 pools before none)) ∙ h.next in cc)
 
-    of : (x : Entry) → asks_of (x ∷ []) ≡ 0 → AreCallsOf task pools past before x now → (now ≡ []) × ((p : List Event) → AreCallsOf task pools p before x [])
+    of : (x : Entry) → asks_of (x ∷ []) ≡ 0 → AreCallsOf task pools past before x now
+        → (now ≡ []) × ((p : List Event) → AreCallsOf task pools p before x [])
     of (entry.Ask number turn call) free h = absurd (omega (arith, free, count_one is_ask (entry.Ask number turn call)))
     of (entry.Got number tuples values) free h = absurd (no_hearing h)
     of (entry.Value number value) free h = absurd (no_hearing h)
@@ -233,12 +265,14 @@ unasked task pools past before (e ∷ es) events none no_more (now, later, cut, 
 pub stops_none : (log : Option (List Event)) → LogStops log log
 stops_none log = ([], λ k d below. absurd (omega (arith, below)), extends_none log)
 
-pub stops_more : (child : ℕ) (answer : Result (Unit {0}) HostFault) (old mid new : Option (List Event)) → LogStops old mid → Logs mid new (stopped child answer) → LogStops old new
+pub stops_more : (child : ℕ) (answer : Result (Unit {0}) HostFault) (old mid new : Option (List Event)) → LogStops old mid
+    → Logs mid new (stopped child answer) → LogStops old new
 stops_more child answer old mid new (stops, each, grows) log =
     (stops ++ stopped child answer ∷ [], All-append IsStop stops (stopped child answer ∷ []) each (all_one IsStop (stopped child answer) tt), extends_more old mid new stops (stopped child answer ∷ []) grows log)
 
 -- two batches, one after the other
-pub runs_then : (task : Task) (head : Head) (a b : List Entry) (old mid new : Option (List Event)) → Runs task head [] a old mid → Runs task head a b mid new → Runs task head [] b old new
+pub runs_then : (task : Task) (head : Head) (a b : List Entry) (old mid new : Option (List Event)) → Runs task head [] a old mid
+    → Runs task head a b mid new → Runs task head [] b old new
 runs_then task head a b old mid new first second = record {
   more = first.more ++ second.more;
   pushed = second.pushed ∙ ap (λ es. es ++ second.more) first.pushed;
@@ -252,7 +286,10 @@ runs_then task head a b old mid new first second = record {
     many = count_joined is_ask first.more second.more
 
     -- the first request comes in the second
-    later : (past es fs : List Event) (n : ℕ) → asks_of first.more ≡ n → n ≡ 0 → Follows task (workers_in head) (past ++ starts_before pools 0 n) [] first.more es → Follows task (workers_in head) ((past ++ starts_before pools 0 n) ++ es ++ starts_before pools n (asks_of second.more)) first.more second.more fs → Follows task (workers_in head) (past ++ starts_before pools 0 (asks_of (first.more ++ second.more))) [] (first.more ++ second.more) fs × ((past ++ starts_before pools 0 n) ++ es ++ starts_before pools n (asks_of second.more) ++ fs ≡ past ++ starts_before pools 0 (asks_of (first.more ++ second.more)) ++ fs)
+    later : (past es fs : List Event) (n : ℕ) → asks_of first.more ≡ n → n ≡ 0
+        → Follows task (workers_in head) (past ++ starts_before pools 0 n) [] first.more es
+        → Follows task (workers_in head) ((past ++ starts_before pools 0 n) ++ es ++ starts_before pools n (asks_of second.more)) first.more second.more fs
+        → Follows task (workers_in head) (past ++ starts_before pools 0 (asks_of (first.more ++ second.more))) [] (first.more ++ second.more) fs × ((past ++ starts_before pools 0 n) ++ es ++ starts_before pools n (asks_of second.more) ++ fs ≡ past ++ starts_before pools 0 (asks_of (first.more ++ second.more)) ++ fs)
     later past es fs (suc n) is none begins goes = absurd (omega (arith, none))
     later past es fs zero is none begins goes =
         let quiet = unasked task (workers_in head) (past ++ []) [] first.more es refl is begins in
@@ -265,7 +302,8 @@ runs_then task head a b old mid new first second = record {
           ap (λ xs. xs ++ fs) front,
         )
 
-    by : (middle log : Option (List Event)) → LogRuns task head [] first.more old middle → LogRuns task head first.more second.more middle log → LogRuns task head [] (first.more ++ second.more) old log
+    by : (middle log : Option (List Event)) → LogRuns task head [] first.more old middle
+        → LogRuns task head first.more second.more middle log → LogRuns task head [] (first.more ++ second.more) old log
     by middle None f s = tt
     by None (Some after) f (reached, fs, was, came, goes) = absurd (cc)
     by (Some now) (Some after) (past, es, was, came, begins) (reached, fs, told, grown, goes) =
@@ -275,7 +313,10 @@ runs_then task head a b old mid new first second = record {
         let grown_here = grown ∙ ap (λ xs. xs ++ starts_before pools (asks_of first.more) (asks_of second.more) ++ fs) here in
         of (asks_of first.more) refl begins goes_here grown_here
       where
-        of : (n : ℕ) → asks_of first.more ≡ n → Follows task (workers_in head) (past ++ starts_before pools 0 n) [] first.more es → Follows task (workers_in head) (past ++ starts_before pools 0 n ++ es ++ starts_before pools n (asks_of second.more)) first.more second.more fs → after ≡ past ++ starts_before pools 0 n ++ es ++ starts_before pools n (asks_of second.more) ++ fs → LogRuns task head [] (first.more ++ second.more) old (Some after)
+        of : (n : ℕ) → asks_of first.more ≡ n → Follows task (workers_in head) (past ++ starts_before pools 0 n) [] first.more es
+            → Follows task (workers_in head) (past ++ starts_before pools 0 n ++ es ++ starts_before pools n (asks_of second.more)) first.more second.more fs
+            → after ≡ past ++ starts_before pools 0 n ++ es ++ starts_before pools n (asks_of second.more) ++ fs
+            → LogRuns task head [] (first.more ++ second.more) old (Some after)
         of zero is b g e =
             let l = later past es fs 0 is refl b g in
             (past, fs, was, e ∙ l.1, l.0)
@@ -292,14 +333,16 @@ runs_then task head a b old mid new first second = record {
 
 -- ---- with stops
 
-pub ran_of : (task : Task) (head : Head) (entries : List Entry) (old new : Option (List Event)) → Runs task head [] entries old new → LogRan task head entries old new
+pub ran_of : (task : Task) (head : Head) (entries : List Entry) (old new : Option (List Event)) → Runs task head [] entries old new
+    → LogRan task head entries old new
 ran_of task head entries old new runs = by new (subst (λ es. LogRuns task head [] es old new) (sym runs.pushed) runs.log)
   where
     by : (log : Option (List Event)) → LogRuns task head [] entries old log → LogRan task head entries old log
     by None l = tt
     by (Some after) (past, events, was, came, follows) = (past, events, [], was, came ∙ sym (append-nil (past ++ starts_before head.pools 0 (asks_of entries) ++ events)), follows, λ k d below. absurd (omega (arith, below)))
 
-pub ran_stopped : (task : Task) (head : Head) (entries : List Entry) (old mid new : Option (List Event)) → LogRan task head entries old mid → LogStops mid new → LogRan task head entries old new
+pub ran_stopped : (task : Task) (head : Head) (entries : List Entry) (old mid new : Option (List Event)) → LogRan task head entries old mid
+    → LogStops mid new → LogRan task head entries old new
 ran_stopped task head entries old mid None ran stops = tt
 ran_stopped task head entries old None (Some after) ran (more, each, (before, is, grown)) = absurd (cc)
 ran_stopped task head entries old (Some now) (Some after) (past, events, stops, was, came, follows, all) (more, each, (before, is, grown)) =

@@ -21,7 +21,8 @@ use Rattle.level_run.specs.Talking.{IsSlotOf}
 -- ---- transcripts that go on
 
 module _ (task : Task) (pools : List Workers) where
-  pub requests_join : (round : List ℕ) (xs ys : List Entry) → requests_after task pools round (xs ++ ys) ≡ requests_after task pools round xs ++ requests_after task pools (last_round task round xs) ys
+  pub requests_join : (round : List ℕ) (xs ys : List Entry)
+      → requests_after task pools round (xs ++ ys) ≡ requests_after task pools round xs ++ requests_after task pools (last_round task round xs) ys
   requests_join round [] ys = refl
   requests_join round (entry.Ask number turn call ∷ xs) ys = ap (λ rs. record { child = child_for pools round (stream_of task call); number = number; turn = turn; call = call } ∷ rs) (requests_join (round ++ stream_of task call ∷ []) xs ys)
   requests_join round (e ∷ xs) ys = requests_join [] xs ys
@@ -31,7 +32,8 @@ module _ (task : Task) (pools : List Workers) where
   requests_counted round (entry.Ask number turn call ∷ xs) = omega (arith, requests_counted (round ++ stream_of task call ∷ []) xs, count_joined is_ask (entry.Ask number turn call ∷ []) xs, count_one is_ask (entry.Ask number turn call))
   requests_counted round (e ∷ xs) = omega (arith, requests_counted [] xs, count_joined is_ask (e ∷ []) xs, count_one is_ask e)
 
-pub last_join : (task : Task) (round : List ℕ) (xs ys : List Entry) → last_round task round (xs ++ ys) ≡ last_round task (last_round task round xs) ys
+pub last_join : (task : Task) (round : List ℕ) (xs ys : List Entry)
+    → last_round task round (xs ++ ys) ≡ last_round task (last_round task round xs) ys
 last_join task round [] ys = refl
 last_join task round (entry.Ask number turn call ∷ xs) ys = last_join task (round ++ stream_of task call ∷ []) xs ys
 last_join task round (e ∷ xs) ys = last_join task [] xs ys
@@ -52,7 +54,8 @@ asks_are task names n (d ∷ ds) (suc k) e at = asks_are task names (n + 1) ds k
 
 module _ (task : Task) (pools : List Workers) where
   -- the first requests are those of the first entries
-  pub requests_front : (round : List ℕ) (es : List Entry) (n : ℕ) → AreAsks es → requests_after task pools round (take n es) ≡ take n (requests_after task pools round es)
+  pub requests_front : (round : List ℕ) (es : List Entry) (n : ℕ) → AreAsks es
+      → requests_after task pools round (take n es) ≡ take n (requests_after task pools round es)
   requests_front round es zero asks = refl
   requests_front round [] (suc n) asks = refl
   requests_front round (entry.Ask number turn call ∷ es) (suc n) asks = ap (λ rs. record { child = child_for pools round (stream_of task call); number = number; turn = turn; call = call } ∷ rs) (requests_front (round ++ stream_of task call ∷ []) es n (λ k e at. asks (suc k) e at))
@@ -60,7 +63,8 @@ module _ (task : Task) (pools : List Workers) where
 
   pub requests_long : (round : List ℕ) (es : List Entry) → AreAsks es → length (requests_after task pools round es) ≡ length es
   requests_long round [] asks = refl
-  requests_long round (entry.Ask number turn call ∷ es) asks = ap suc (requests_long (round ++ stream_of task call ∷ []) es (λ k e at. asks (suc k) e at))
+  requests_long round (entry.Ask number turn call ∷ es) asks =
+      ap suc (requests_long (round ++ stream_of task call ∷ []) es (λ k e at. asks (suc k) e at))
   requests_long round (e ∷ es) asks = absurd (let bad = asks 0 e refl in cc)
 
   -- answers are no requests
@@ -96,7 +100,8 @@ replies_join xs ys = filter-append is_answer xs ys
 -- ---- the slots of a round
 
 -- the stream of an instance as it is shown
-pub stream_shown : (task : Task) (names : List (List ℕ)) (i : Instance) → IsFit task → i.stream < length task.streams → stream_of task (call_of_instance task names i) ≡ i.stream
+pub stream_shown : (task : Task) (names : List (List ℕ)) (i : Instance) → IsFit task → i.stream < length task.streams
+    → stream_of task (call_of_instance task names i) ≡ i.stream
 stream_shown task names i fit below =
     let bare : Instance = record { stream = i.stream; inputs = [] } in
     let named = call_names_instance task [] bare fit (λ j k x at_j at_k. absurd (cc)) below (λ o inside. absurd (omega (arith, inside.1))) in
@@ -106,7 +111,9 @@ stream_shown task names i fit below =
 
 module _ (task : Task) (names : List (List ℕ)) (version : ℕ) (pools : List Workers) (fit : IsFit task) where
   -- the requests of these asks are what their slots ask
-  pub slots_ask : (n : ℕ) (before : List ℕ) (dues : List Due) → ((k : ℕ) (d : Due) → slice_get dues k ≡ Some d → d.instance.stream < length task.streams) → ((k : ℕ) (t : Slot) → slice_get (slots_from task names version pools n before dues) k ≡ Some t → IsOneOf pools t.child)
+  pub slots_ask : (n : ℕ) (before : List ℕ) (dues : List Due)
+      → ((k : ℕ) (d : Due) → slice_get dues k ≡ Some d → d.instance.stream < length task.streams)
+      → ((k : ℕ) (t : Slot) → slice_get (slots_from task names version pools n before dues) k ≡ Some t → IsOneOf pools t.child)
       → (k : ℕ) (r : Request) (t : Slot) → slice_get (requests_after task pools before (asks_from task names n dues)) k ≡ Some r → slice_get (slots_from task names version pools n before dues) k ≡ Some t → IsSlotOf task version pools r t
   slots_ask n before [] within one k r t at_r at_t = absurd (cc)
   slots_ask n before (d ∷ ds) within one zero r t at_r at_t =

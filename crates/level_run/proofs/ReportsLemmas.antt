@@ -38,7 +38,8 @@ module _ (task : Task) (head : Head) (spoken : ℕ → Option Talk) where
   talks_nil = broken_unasked task head.version (workers_in head) [] spoken refl legal_nil
 
   -- what was said is the dialogue of the whole transcript
-  talks_whole : (entries : List Entry) → IsLegal head.version task entries → Dialogue task head.version (workers_in head) entries spoken → BrokenOff task head.version (workers_in head) entries spoken
+  talks_whole : (entries : List Entry) → IsLegal head.version task entries → Dialogue task head.version (workers_in head) entries spoken
+      → BrokenOff task head.version (workers_in head) entries spoken
   talks_whole entries legal talks = record {
     next = [];
     few = omega arith;
@@ -52,11 +53,13 @@ module _ (task : Task) (head : Head) (spoken : ℕ → Option Talk) where
   only_head = sym (append-nil (text_of_head task head))
 
   -- nothing was written, for want of memory
-  pub broken_before : (was now : Option (List Event)) (sink : Option (List ℕ)) (fault : RunFault) → LogStops was now → fault ≡ Memory → IsBroken task head spoken was now sink sink fault
+  pub broken_before : (was now : Option (List Event)) (sink : Option (List ℕ)) (fault : RunFault) → LogStops was now → fault ≡ Memory
+      → IsBroken task head spoken was now sink sink fault
   broken_before was now sink fault stops is = subst (IsBroken task head spoken was now sink sink) (sym is) (record { text = []; form = inl (refl, refl, stops); told = appends_none sink })
 
   -- the head was to be written
-  pub broken_head : head.mode ≡ Incremental → (fault : RunFault) (log : Option (List Event)) (old new : Option (List ℕ)) → Misses fault old new (text_of_head task head) → IsBroken task head spoken log log old new fault
+  pub broken_head : head.mode ≡ Incremental → (fault : RunFault) (log : Option (List Event)) (old new : Option (List ℕ))
+      → Misses fault old new (text_of_head task head) → IsBroken task head spoken log log old new fault
   broken_head mode Generator log old new misses = absurd misses
   broken_head mode (Answer number why) log old new misses = absurd misses
   broken_head mode Memory log old new misses = record { text = []; form = inl (refl, refl, stops_none log); told = misses }
@@ -67,7 +70,8 @@ module _ (task : Task) (head : Head) (spoken : ℕ → Option Talk) where
   }
 
   -- the head was written, and then no memory was there
-  pub broken_behind : head.mode ≡ Incremental → (fault : RunFault) (log : Option (List Event)) (old new : Option (List ℕ)) → Appends old new (text_of_head task head) → fault ≡ Memory → IsBroken task head spoken log log old new fault
+  pub broken_behind : head.mode ≡ Incremental → (fault : RunFault) (log : Option (List Event)) (old new : Option (List ℕ))
+      → Appends old new (text_of_head task head) → fault ≡ Memory → IsBroken task head spoken log log old new fault
   broken_behind mode fault log old new told is = subst (IsBroken task head spoken log log old new) (sym is) (record {
     text = text_of_head task head;
     form = inr (inl (record { entries = []; front = front_nil mode; blamed = tt; talks = talks_nil; calls = broken_of task head [] Memory log log (quiet_breaks task head [] Memory log (inl (refl, λ n. refl)) [] (inl refl)); needed = inl (stops_none log); is = only_head }));
@@ -75,7 +79,10 @@ module _ (task : Task) (head : Head) (spoken : ℕ → Option Talk) where
   })
 
   -- the head was written, and the levels stopped
-  pub broken_levels : (fault : RunFault) (was now : Option (List Event)) (old mid new : Option (List ℕ)) → Appends old mid (text_of_head task head) → Stopped head.version task (workers_in head) (IsFrontOfRun head task) [] fault mid new spoken (LevelBreaks task head [] fault was now) → IsBroken task head spoken was now old new fault
+  pub broken_levels : (fault : RunFault) (was now : Option (List Event)) (old mid new : Option (List ℕ))
+      → Appends old mid (text_of_head task head)
+      → Stopped head.version task (workers_in head) (IsFrontOfRun head task) [] fault mid new spoken (LevelBreaks task head [] fault was now)
+      → IsBroken task head spoken was now old new fault
   broken_levels fault was now old mid new first stopped = record {
     text = text_so_far task head stopped.more;
     form = inr (inl (record { entries = stopped.more; front = stopped.front; blamed = stopped.blamed; talks = stopped.talks; calls = broken_of task head stopped.more fault was now stopped.logged.0; needed = needed_stops stopped.more was now stopped.logged.1; is = refl }));
@@ -83,12 +90,17 @@ module _ (task : Task) (head : Head) (spoken : ℕ → Option Talk) where
   }
 
   -- the lines of the head and of the entries were written
-  pub told_so_far : (entries : List Entry) (old mid new : Option (List ℕ)) → Appends old mid (text_of_head task head) → Goes [] entries mid new → Appends old new (text_so_far task head entries)
+  pub told_so_far : (entries : List Entry) (old mid new : Option (List ℕ)) → Appends old mid (text_of_head task head)
+      → Goes [] entries mid new → Appends old new (text_so_far task head entries)
   told_so_far entries old mid new first goes =
       subst (λ es. Appends old new (text_so_far task head es)) (sym goes.pushed) (appends_then old mid new _ _ first goes.told)
 
   -- the outcome was to be written
-  pub broken_end : head.mode ≡ Incremental → (entries : List Entry) (o : Outcome) (fault : RunFault) (was now : Option (List Event)) (old mid new : Option (List ℕ)) → IsRun task head entries o → Dialogue task head.version (workers_in head) entries spoken → Runs task head [] entries was now → (now ≡ was) ⊎ HasLevel entries → HasNoneOpen entries → Appends old mid (text_so_far task head entries) → Misses fault mid new (text_of_end head.version o) → IsBroken task head spoken was now old new fault
+  pub broken_end : head.mode ≡ Incremental
+      → (entries : List Entry) (o : Outcome) (fault : RunFault) (was now : Option (List Event)) (old mid new : Option (List ℕ))
+      → IsRun task head entries o → Dialogue task head.version (workers_in head) entries spoken → Runs task head [] entries was now
+      → (now ≡ was) ⊎ HasLevel entries → HasNoneOpen entries → Appends old mid (text_so_far task head entries)
+      → Misses fault mid new (text_of_end head.version o) → IsBroken task head spoken was now old new fault
   broken_end mode entries o Generator was now old mid new run talks runs needed closed first misses = absurd misses
   broken_end mode entries o (Answer number why) was now old mid new run talks runs needed closed first misses = absurd misses
   broken_end mode entries o Memory was now old mid new run talks runs needed closed first misses = record {
@@ -106,7 +118,11 @@ module _ (task : Task) (head : Head) (spoken : ℕ → Option Talk) where
     told = stops_then Write old mid new (text_so_far task head entries) (text_of_end head.version o) first misses;
   }
 
-  pub reported : (entries : List Entry) (o : Outcome) (levels asks : ℕ) (was now : Option (List Event)) (old mid new : Option (List ℕ)) → IsRun task head entries o → Dialogue task head.version (workers_in head) entries spoken → LogRan task head entries was now → levels ≡ count_by is_level entries → asks ≡ asks_of entries → Appends old mid (text_so_far task head entries) → Appends mid new (text_of_end head.version o) → IsReported task head spoken was now old new (record { outcome = o; levels = levels; asks = asks })
+  pub reported : (entries : List Entry) (o : Outcome) (levels asks : ℕ) (was now : Option (List Event)) (old mid new : Option (List ℕ))
+      → IsRun task head entries o → Dialogue task head.version (workers_in head) entries spoken → LogRan task head entries was now
+      → levels ≡ count_by is_level entries → asks ≡ asks_of entries → Appends old mid (text_so_far task head entries)
+      → Appends mid new (text_of_end head.version o)
+      → IsReported task head spoken was now old new (record { outcome = o; levels = levels; asks = asks })
   reported entries o levels asks was now old mid new run talks calls of_levels of_asks first second = record {
     entries = entries;
     run = run;
@@ -118,7 +134,9 @@ module _ (task : Task) (head : Head) (spoken : ℕ → Option Talk) where
   }
 
 -- what was said stays, and stops come to the log, so the report is still of it
-pub reported_behind : (task : Task) (head : Head) (spoken later : ℕ → Option Talk) (was now after : Option (List Event)) (old new : Option (List ℕ)) (ran : Ran) → Same spoken later → LogStops now after → IsReported task head spoken was now old new ran → IsReported task head later was after old new ran
+pub reported_behind : (task : Task) (head : Head) (spoken later : ℕ → Option Talk) (was now after : Option (List Event)) (old new : Option (List ℕ)) (ran : Ran)
+    → Same spoken later → LogStops now after → IsReported task head spoken was now old new ran
+    → IsReported task head later was after old new ran
 reported_behind task head spoken later was now after old new ran same stops r = record {
   entries = r.entries;
   run = r.run;
@@ -130,7 +148,9 @@ reported_behind task head spoken later was now after old new ran same stops r = 
 }
 
 -- the same where there is no outcome
-pub broken_stopped : (task : Task) (head : Head) (spoken later : ℕ → Option Talk) (was now after : Option (List Event)) (old new : Option (List ℕ)) (fault : RunFault) → Same spoken later → LogStops now after → IsBroken task head spoken was now old new fault → IsBroken task head later was after old new fault
+pub broken_stopped : (task : Task) (head : Head) (spoken later : ℕ → Option Talk) (was now after : Option (List Event)) (old new : Option (List ℕ)) (fault : RunFault)
+    → Same spoken later → LogStops now after → IsBroken task head spoken was now old new fault
+    → IsBroken task head later was after old new fault
 broken_stopped task head spoken later was now after old new fault same stops b = record { text = b.text; form = subst (λ s. WasToWrite task head fault s was after b.text) (λ i. λ k. sym (same k) i) (of b.form); told = b.told }
   where
     of : {text : List ℕ} → WasToWrite task head fault spoken was now text → WasToWrite task head fault spoken was after text

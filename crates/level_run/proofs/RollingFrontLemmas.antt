@@ -37,7 +37,8 @@ pub front_first : (before now : List Entry) (Whole : List Entry → Type 0) → 
 front_first before now Whole w = record { part = []; rest = now; is = sym (append-nil before); whole = w }
 
 -- all of it is there
-pub front_whole : (before after now : List Entry) (Whole : List Entry → Type 0) → after ≡ before ++ now → Whole now → IsFront before Whole after
+pub front_whole : (before after now : List Entry) (Whole : List Entry → Type 0) → after ≡ before ++ now → Whole now
+    → IsFront before Whole after
 front_whole before after now Whole pushed w = record { part = now; rest = []; is = pushed; whole = subst Whole (sym (append-nil now)) w }
 
 -- ---- there is a round of any instances
@@ -55,9 +56,11 @@ abbrev ended : Task → List Entry → List Instance → List Entry
 ended task before round = requests task before round ++ ends_from (asks_of before + 1) (length round)
 
 pub round_exists : (task : Task) (before : List Entry) (round : List Instance) → (now : List Entry) × IsRound task before round now
-round_exists task before round = (ended task before round, (ends_from (asks_of before + 1) (length round), refl, ends_are (asks_of before + 1) (length round)))
+round_exists task before round =
+    (ended task before round, (ends_from (asks_of before + 1) (length round), refl, ends_are (asks_of before + 1) (length round)))
 
-rounds_exist : (task : Task) (before : List Entry) (rounds : List (List Instance)) → (entries : List Entry) × AreRoundsRun task before rounds entries
+rounds_exist : (task : Task) (before : List Entry) (rounds : List (List Instance))
+    → (entries : List Entry) × AreRoundsRun task before rounds entries
 rounds_exist task before [] = ([], refl)
 rounds_exist task before (round ∷ rounds) =
     let now = round_exists task before round in
@@ -65,20 +68,23 @@ rounds_exist task before (round ∷ rounds) =
     (now.0 ++ rest.0, (now.0, rest.0, refl, now.1, rest.1))
 
 -- and a batch, where each pool has a worker
-pub batch_exists : (limits : Limits) (task : Task) (before : List Entry) (list : List Instance) → All (λ (p : Share). 1 ≤ p.workers) limits.pools → (entries : List Entry) × IsBatch limits task before list entries
+pub batch_exists : (limits : Limits) (task : Task) (before : List Entry) (list : List Instance)
+    → All (λ (p : Share). 1 ≤ p.workers) limits.pools → (entries : List Entry) × IsBatch limits task before list entries
 batch_exists limits task before list work =
     let asked = take (calls_left limits before) list in
     let cut = cuts limits.pools (length asked) asked (omega arith) work in
     let run = rounds_exist task before cut.0 in
     (run.0, record { rounds = cut.0; cut = cut.1; run = run.1 })
 
-pub all_work : (pools : List Pool) → ((k : ℕ) (p : Workers) → slice_get (map workers_of pools) k ≡ Some p → 1 ≤ p.workers) → All (λ (p : Share). 1 ≤ p.workers) (map share_of pools)
+pub all_work : (pools : List Pool) → ((k : ℕ) (p : Workers) → slice_get (map workers_of pools) k ≡ Some p → 1 ≤ p.workers)
+    → All (λ (p : Share). 1 ≤ p.workers) (map share_of pools)
 all_work [] some = All-nil (λ (p : Share). 1 ≤ p.workers)
 all_work (p ∷ ps) some = All-cons (λ (q : Share). 1 ≤ q.workers) (share_of p) (map share_of ps) (some 0 (workers_of p) refl) (all_work ps (λ k q at. some (suc k) q at))
 
 -- ---- how many requests a round has
 
-round_asks : (task : Task) (before now : List Entry) (round : List Instance) → IsRound task before round now → asks_of (before ++ now) ≡ asks_of before + length round
+round_asks : (task : Task) (before now : List Entry) (round : List Instance) → IsRound task before round now
+    → asks_of (before ++ now) ≡ asks_of before + length round
 round_asks task before now round (answers, is, are) =
     asks_more before now ∙ ap (λ n. asks_of before + n)
     (ap asks_of is ∙ asks_more (requests task before round) answers ∙ (λ k. requests_asks task before (asks_of before + 1) round k + answers_asks (asks_of before + 1) (length round) answers are k) ∙ plus_zero (length round))
@@ -111,14 +117,16 @@ so_far_front head task first list s dues count es of h n some work so f = record
 -- ---- levels
 
 module _ (head : Head) (task : Task) (before : List Entry) (asks : ℕ) (dues : List Due) (turn : IsTurn head task before asks dues) where
-  level_whole : (more : List Entry) → IsBatch (limits_of head) task (before ++ entry.Level ∷ []) (instances_of dues) more → IsSomeLevel head task before (entry.Level ∷ more)
+  level_whole : (more : List Entry) → IsBatch (limits_of head) task (before ++ entry.Level ∷ []) (instances_of dues) more
+      → IsSomeLevel head task before (entry.Level ∷ more)
   level_whole more batch = (
     is_cut (limits_of head) before (instances_of dues),
     record { level = record { list = instances_of dues; due = turn.due.due; rest = more; is = refl; batch = batch; cut_is = refl }; unsolvable = turn.unsolvable },
   )
 
   -- its line is there, or not yet
-  pub front_marked : (es : List Entry) → All (λ (p : Share). 1 ≤ p.workers) (map share_of head.pools) → (es ≡ before) ⊎ (es ≡ before ++ entry.Level ∷ []) → IsFront before (IsSomeLevel head task before) es
+  pub front_marked : (es : List Entry) → All (λ (p : Share). 1 ≤ p.workers) (map share_of head.pools)
+      → (es ≡ before) ⊎ (es ≡ before ++ entry.Level ∷ []) → IsFront before (IsSomeLevel head task before) es
   front_marked es work at = by at
     where
       tail : (entries : List Entry) × IsBatch (limits_of head) task (before ++ entry.Level ∷ []) (instances_of dues) entries
@@ -129,7 +137,8 @@ module _ (head : Head) (task : Task) (before : List Entry) (asks : ℕ) (dues : 
       by (inr e) = record { part = entry.Level ∷ []; rest = tail.0; is = e; whole = level_whole tail.0 tail.1 }
 
   -- a front of its batch is one of the level
-  pub front_level : (marked es : List Entry) → marked ≡ before ++ entry.Level ∷ [] → IsFront marked (IsBatch (limits_of head) task marked (instances_of dues)) es → IsFront before (IsSomeLevel head task before) es
+  pub front_level : (marked es : List Entry) → marked ≡ before ++ entry.Level ∷ []
+      → IsFront marked (IsBatch (limits_of head) task marked (instances_of dues)) es → IsFront before (IsSomeLevel head task before) es
   front_level marked es is f = record {
     part = entry.Level ∷ f.part;
     rest = f.rest;
@@ -140,7 +149,8 @@ module _ (head : Head) (task : Task) (before : List Entry) (asks : ℕ) (dues : 
   -- ---- runs
 
   -- a front of a level behind whole levels
-  pub run_inside : (es : List Entry) → head.mode ≡ Incremental → asks ≡ asks_of before → Standing head task before → IsLegal head.version task es → IsFront before (IsSomeLevel head task before) es → IsFrontOfRun head task es
+  pub run_inside : (es : List Entry) → head.mode ≡ Incremental → asks ≡ asks_of before → Standing head task before
+      → IsLegal head.version task es → IsFront before (IsSomeLevel head task before) es → IsFrontOfRun head task es
   run_inside es mode counted st legal f =
       let may = may_begin head task before asks dues counted turn in
       record {
@@ -154,7 +164,8 @@ module _ (head : Head) (task : Task) (before : List Entry) (asks : ℕ) (dues : 
       }
 
 -- whole levels
-pub run_between : (head : Head) (task : Task) (entries : List Entry) → head.mode ≡ Incremental → Standing head task entries → IsLegal head.version task entries → IsFrontOfRun head task entries
+pub run_between : (head : Head) (task : Task) (entries : List Entry) → head.mode ≡ Incremental → Standing head task entries
+    → IsLegal head.version task entries → IsFrontOfRun head task entries
 run_between head task entries mode st legal = record {
   stage = between;
   turns = record {
@@ -166,7 +177,9 @@ run_between head task entries mode st legal = record {
 }
 
 -- the transcript of a run with an outcome
-pub run_stands : (head : Head) (task : Task) (entries : List Entry) (stage : Stage) → head.mode ≡ Incremental → IsLegal head.version task entries → AreTurnsOf Incremental (limits_of head) task entries stage → AreTurns (limits_of head) task (NeededTurn (limits_of head) task) tt [] entries stage → IsFrontOfRun head task entries
+pub run_stands : (head : Head) (task : Task) (entries : List Entry) (stage : Stage) → head.mode ≡ Incremental
+    → IsLegal head.version task entries → AreTurnsOf Incremental (limits_of head) task entries stage
+    → AreTurns (limits_of head) task (NeededTurn (limits_of head) task) tt [] entries stage → IsFrontOfRun head task entries
 run_stands head task entries stage mode legal turns needed = record {
   stage = stage;
   turns = record { legal = legal; turns = subst (λ (m : Mode). AreTurnsOf m (limits_of head) task entries stage) (sym mode) turns };

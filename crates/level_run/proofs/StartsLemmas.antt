@@ -26,25 +26,34 @@ not_started_past started child past = ap (λ o. unwrap_or o false) (slice_get_pa
 -- ---- the workers of a pool
 
 module _ (first n : ℕ) (old new : ℕ → Bool) (becomes : Becomes (first + n) true old new) where
-  pub worker_done : ((child : ℕ) → first ≤ child → child < first + n → old child ≡ true) → (child : ℕ) → first ≤ child → child < first + (n + 1) → new child ≡ true
+  pub worker_done : ((child : ℕ) → first ≤ child → child < first + n → old child ≡ true) → (child : ℕ) → first ≤ child
+      → child < first + (n + 1) → new child ≡ true
   worker_done done child from to = elim (cases_lt child (first + n)) [
     | inl less ↦ becomes.others child (λ e. omega (arith, e, less)) ∙ done child from less
     | inr more ↦ ap new (let same : child ≡ first + n = omega (arith, more, to) in same) ∙ becomes.here
   ]
 
-  pub worker_others : (base : ℕ → Bool) → ((child : ℕ) → (first ≤ child → child < first + n → ⊥) → old child ≡ base child) → (child : ℕ) → (first ≤ child → child < first + (n + 1) → ⊥) → new child ≡ base child
-  worker_others base others child not = becomes.others child (λ e. not (omega (arith, e)) (omega (arith, e))) ∙ others child (λ from to. not from (omega (arith, to)))
+  pub worker_others : (base : ℕ → Bool) → ((child : ℕ) → (first ≤ child → child < first + n → ⊥) → old child ≡ base child) → (child : ℕ)
+      → (first ≤ child → child < first + (n + 1) → ⊥) → new child ≡ base child
+  worker_others base others child not =
+      becomes.others child (λ e. not (omega (arith, e)) (omega (arith, e))) ∙ others child (λ from to. not from (omega (arith, to)))
 
-  pub next_idle : (workers : ℕ) (base : ℕ → Bool) → n < workers → ((child : ℕ) → (first ≤ child → child < first + n → ⊥) → old child ≡ base child) → base (first + n) ≡ false → old (first + n) ≡ false
+  pub next_idle : (workers : ℕ) (base : ℕ → Bool) → n < workers
+      → ((child : ℕ) → (first ≤ child → child < first + n → ⊥) → old child ≡ base child) → base (first + n) ≡ false
+      → old (first + n) ≡ false
   next_idle workers base less others idle = others (first + n) (λ from to. omega (arith, to)) ∙ idle
 
 -- ---- pools
 
 module _ (pools : List Pool) (start : AreStartable pools) (i : ℕ) (pool : Pool) (at : slice_get pools i ≡ Some pool) (old new : ℕ → Bool) (runs : (child : ℕ) → IsWorker pool child → new child ≡ true) (others : (child : ℕ) → ¬ (IsWorker pool child) → new child ≡ old child) where
-  pub pools_left : ((k child : ℕ) (p : Pool) → i ≤ k → slice_get pools k ≡ Some p → IsWorker p child → old child ≡ false) → (k child : ℕ) (p : Pool) → i + 1 ≤ k → slice_get pools k ≡ Some p → IsWorker p child → new child ≡ false
-  pools_left left k child p from at_k is = others child (λ own. let same = start.apart i k child pool p at at_k own is in omega (arith, same, from)) ∙ left k child p (omega (arith, from)) at_k is
+  pub pools_left : ((k child : ℕ) (p : Pool) → i ≤ k → slice_get pools k ≡ Some p → IsWorker p child → old child ≡ false)
+      → (k child : ℕ) (p : Pool) → i + 1 ≤ k → slice_get pools k ≡ Some p → IsWorker p child → new child ≡ false
+  pools_left left k child p from at_k is =
+      others child (λ own. let same = start.apart i k child pool p at at_k own is in omega (arith, same, from))
+      ∙ left k child p (omega (arith, from)) at_k is
 
-  pub pools_done : ((k child : ℕ) (p : Pool) → k < i → slice_get pools k ≡ Some p → IsWorker p child → old child ≡ true) → (k child : ℕ) (p : Pool) → k < i + 1 → slice_get pools k ≡ Some p → IsWorker p child → new child ≡ true
+  pub pools_done : ((k child : ℕ) (p : Pool) → k < i → slice_get pools k ≡ Some p → IsWorker p child → old child ≡ true)
+      → (k child : ℕ) (p : Pool) → k < i + 1 → slice_get pools k ≡ Some p → IsWorker p child → new child ≡ true
   pools_done done k child p to at_k is = elim (cases_lt k i) [
     | inl less ↦ others child (λ own. let same = start.apart i k child pool p at at_k own is in omega (arith, same, less)) ∙ done k child p less at_k is
     | inr more ↦
@@ -66,7 +75,8 @@ startable task head runnable = record {
     seen : (k : ℕ) (p : Pool) → slice_get head.pools k ≡ Some p → slice_get (map workers_of head.pools) k ≡ Some (workers_of p)
     seen k p at = slice_get-map workers_of head.pools k ∙ ap (option_map workers_of) at
 
-pub all_run : (pools : List Pool) (workers : List Workers) (running : ℕ → Bool) → workers ≡ map workers_of pools → AllWork pools running → AllRun workers running
+pub all_run : (pools : List Pool) (workers : List Workers) (running : ℕ → Bool) → workers ≡ map workers_of pools → AllWork pools running
+    → AllRun workers running
 all_run pools workers running is all k child w at in_w =
     by (slice_get pools k) refl (sym (slice_get-map workers_of pools k) ∙ ap (λ ws. slice_get ws k) (sym is) ∙ at)
   where
@@ -79,12 +89,15 @@ all_run pools workers running is all k child w at in_w =
 -- ---- after a batch
 
 -- an answer of which several things are known
-pub all_ok : {T E : Type 0} (r : Result T E) (P : T → Type 0) (A B R : Type 0) → ((t : T) → P t → A → B → R) → IfOk r P → OnOk r A → OnOk r B → OnOk r R
+pub all_ok : {T E : Type 0} (r : Result T E) (P : T → Type 0) (A B R : Type 0) → ((t : T) → P t → A → B → R) → IfOk r P → OnOk r A
+    → OnOk r B → OnOk r R
 all_ok (Ok t) P A B R f p a b = f t p a b
 all_ok (Err e) P A B R f p a b = tt
 
 -- whether children run after a batch
-pub started_after : (task : Task) (entries : List Entry) (before after calls many : ℕ) (b : Batch) (pools later : List Workers) (old mid new : ℕ → Bool) → EndsBatch task entries before after calls many b → before ≤ after → 1 ≤ calls → AreStarted pools before old → (0 < many → AllRun pools mid) → (many ≡ 0 → Same old mid) → Same mid new → later ≡ pools → AreStarted later after new
+pub started_after : (task : Task) (entries : List Entry) (before after calls many : ℕ) (b : Batch) (pools later : List Workers) (old mid new : ℕ → Bool)
+    → EndsBatch task entries before after calls many b → before ≤ after → 1 ≤ calls → AreStarted pools before old
+    → (0 < many → AllRun pools mid) → (many ≡ 0 → Same old mid) → Same mid new → later ≡ pools → AreStarted later after new
 started_after task entries before after calls many b pools later old mid new ends grows some started ready idle running same =
     subst (λ ps. AreStarted ps after new) (sym same) (by many b refl ends)
   where

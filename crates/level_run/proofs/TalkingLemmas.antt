@@ -16,7 +16,8 @@ use Rattle.level_run.specs.Turns.{AllRun, AreStarted}
 
 module _ (task : Task) (version : ℕ) (pools : List Workers) where
   -- at first
-  pub told_first : (entries : List Entry) (running : ℕ → Bool) (kept : ℕ → List ℕ) (spoken : ℕ → Option Talk) → entries ≡ [] → ((k : ℕ) → running k ≡ false) → ((k : ℕ) → kept k ≡ []) → IsTold task version pools entries running kept spoken
+  pub told_first : (entries : List Entry) (running : ℕ → Bool) (kept : ℕ → List ℕ) (spoken : ℕ → Option Talk) → entries ≡ []
+      → ((k : ℕ) → running k ≡ false) → ((k : ℕ) → kept k ≡ []) → IsTold task version pools entries running kept spoken
   told_first entries running kept spoken is idle none = subst (λ es. IsTold task version pools es running kept spoken) (sym is) (record {
     closed = refl;
     even = refl;
@@ -31,7 +32,8 @@ module _ (task : Task) (version : ℕ) (pools : List Workers) where
   replies_marked entries = replies_join entries (entry.Level ∷ []) ∙ append-nil (replies_of entries)
 
   -- a level begins
-  pub told_marked : (entries : List Entry) (running : ℕ → Bool) (kept : ℕ → List ℕ) (spoken : ℕ → Option Talk) → IsTold task version pools entries running kept spoken → IsTold task version pools (entries ++ entry.Level ∷ []) running kept spoken
+  pub told_marked : (entries : List Entry) (running : ℕ → Bool) (kept : ℕ → List ℕ) (spoken : ℕ → Option Talk)
+      → IsTold task version pools entries running kept spoken → IsTold task version pools (entries ++ entry.Level ∷ []) running kept spoken
   told_marked entries running kept spoken t = record {
     closed = last_join task [] entries (entry.Level ∷ []);
     even = ap length (replies_marked entries) ∙ t.even ∙ sym (ap length (requests_marked entries));
@@ -62,7 +64,8 @@ module _ (task : Task) (version : ℕ) (pools : List Workers) where
     }
 
   -- where all workers run
-  pub broken_run : (entries : List Entry) (running : ℕ → Bool) (kept : ℕ → List ℕ) (spoken : ℕ → Option Talk) → AllRun pools running → IsLegal version task entries → IsTold task version pools entries running kept spoken → BrokenOff task version pools entries spoken
+  pub broken_run : (entries : List Entry) (running : ℕ → Bool) (kept : ℕ → List ℕ) (spoken : ℕ → Option Talk) → AllRun pools running
+      → IsLegal version task entries → IsTold task version pools entries running kept spoken → BrokenOff task version pools entries spoken
   broken_run entries running kept spoken all legal t = record {
     next = [];
     few = omega arith;
@@ -74,19 +77,24 @@ module _ (task : Task) (version : ℕ) (pools : List Workers) where
     }) (t.each child one (all one.place child one.pool one.at one.has));
   }
 
-  pub broken_marked : (entries : List Entry) (asks : ℕ) (running : ℕ → Bool) (kept : ℕ → List ℕ) (spoken : ℕ → Option Talk) → asks ≡ asks_of entries → AreStarted pools asks running → IsTold task version pools entries running kept spoken → IsLegal version task (entries ++ entry.Level ∷ []) → BrokenOff task version pools (entries ++ entry.Level ∷ []) spoken
+  pub broken_marked : (entries : List Entry) (asks : ℕ) (running : ℕ → Bool) (kept : ℕ → List ℕ) (spoken : ℕ → Option Talk)
+      → asks ≡ asks_of entries → AreStarted pools asks running → IsTold task version pools entries running kept spoken
+      → IsLegal version task (entries ++ entry.Level ∷ []) → BrokenOff task version pools (entries ++ entry.Level ∷ []) spoken
   broken_marked entries asks running kept spoken counted started t legal =
       broken_told (entries ++ entry.Level ∷ []) asks running kept spoken same started (told_marked entries running kept spoken t) legal
     where
       same : asks ≡ asks_of (entries ++ entry.Level ∷ [])
-      same = counted ∙ sym (requests_counted task pools [] entries) ∙ sym (ap length (requests_marked entries)) ∙ requests_counted task pools [] (entries ++ entry.Level ∷ [])
+      same =
+          counted ∙ sym (requests_counted task pools [] entries) ∙ sym (ap length (requests_marked entries))
+          ∙ requests_counted task pools [] (entries ++ entry.Level ∷ [])
 
   -- ---- where nothing was asked
 
   pub none_asked : (entries : List Entry) → asks_of entries ≡ 0 → requests_of task pools entries ≡ []
   none_asked entries none = nil_from_length (requests_of task pools entries) (requests_counted task pools [] entries ∙ none)
 
-  pub broken_unasked : (entries : List Entry) (spoken : ℕ → Option Talk) → asks_of entries ≡ 0 → IsLegal version task entries → BrokenOff task version pools entries spoken
+  pub broken_unasked : (entries : List Entry) (spoken : ℕ → Option Talk) → asks_of entries ≡ 0 → IsLegal version task entries
+      → BrokenOff task version pools entries spoken
   broken_unasked entries spoken none legal = record {
     next = [];
     few = omega arith;
@@ -96,7 +104,9 @@ module _ (task : Task) (version : ℕ) (pools : List Workers) where
   }
 
   -- children were started
-  pub told_started : (entries : List Entry) (old now : ℕ → Bool) (kept left : ℕ → List ℕ) (before spoken : ℕ → Option Talk) → asks_of entries ≡ 0 → ((k : ℕ) → old k ≡ false) → ((k : ℕ) → left k ≡ kept k) → AreSilent now spoken → IsTold task version pools entries old kept before → IsTold task version pools entries now left spoken
+  pub told_started : (entries : List Entry) (old now : ℕ → Bool) (kept left : ℕ → List ℕ) (before spoken : ℕ → Option Talk)
+      → asks_of entries ≡ 0 → ((k : ℕ) → old k ≡ false) → ((k : ℕ) → left k ≡ kept k) → AreSilent now spoken
+      → IsTold task version pools entries old kept before → IsTold task version pools entries now left spoken
   told_started entries old now kept left before spoken none idle same silent t = record {
     closed = t.closed;
     even = t.even;

@@ -51,11 +51,13 @@ says_reply n (reply.number value) e is = let same : entry.Value n value ≡ e = 
 says_reply n reply.ends e is = let same : entry.End n ≡ e = cc in ap is_answer (sym same)
 says_reply n (reply.bad why) e is = absurd (cc)
 
-finished_each : (task : Task) (version n : ℕ) (dues : List Due) (slots : List Slot) → AreSlotsFor task version n dues slots → AreReplies (finished slots)
+finished_each : (task : Task) (version n : ℕ) (dues : List Due) (slots : List Slot) → AreSlotsFor task version n dues slots
+    → AreReplies (finished slots)
 finished_each task version n [] [] h k e at = absurd (cc)
 finished_each task version n [] (t ∷ ts) h k e at = absurd h
 finished_each task version n (d ∷ ds) [] h k e at = absurd h
-finished_each task version n (d ∷ ds) (t ∷ ts) h zero e at = by t.answer refl (let same : unwrap_or t.answer (entry.End t.number) ≡ e = cc in same)
+finished_each task version n (d ∷ ds) (t ∷ ts) h zero e at =
+    by t.answer refl (let same : unwrap_or t.answer (entry.End t.number) ≡ e = cc in same)
   where
     by : (o : Option Entry) → t.answer ≡ o → unwrap_or t.answer (entry.End t.number) ≡ e → is_answer e ≡ true
     by None is same = ap is_answer (sym same ∙ ap (λ o. unwrap_or o (entry.End t.number)) is)
@@ -75,7 +77,8 @@ front_asks es n each k e at = each k e (front_at es n k e at)
 
 module _ (task : Task) (pools : List Workers) (es asks : List Entry) (closed : last_round task [] es ≡ []) (all : AreAsks asks) where
   -- so many requests
-  pub requests_sent : (n : ℕ) → requests_of task pools (es ++ take n asks) ≡ requests_of task pools es ++ take n (requests_of task pools asks)
+  pub requests_sent : (n : ℕ)
+      → requests_of task pools (es ++ take n asks) ≡ requests_of task pools es ++ take n (requests_of task pools asks)
   requests_sent n =
       requests_join task pools [] es (take n asks)
       ∙ ap (λ round. requests_of task pools es ++ requests_after task pools round (take n asks)) closed
@@ -103,14 +106,18 @@ module _ (task : Task) (pools : List Workers) (es asks : List Entry) (closed : l
     pub closed_heard : length answers ≡ length asks → last_round task [] (es ++ asks ++ answers) ≡ []
     closed_heard same = last_join task [] (es ++ asks) answers ∙ by asks refl answers refl same
       where
-        by : (xs : List Entry) → asks ≡ xs → (ys : List Entry) → answers ≡ ys → length answers ≡ length asks → last_round task (last_round task [] (es ++ asks)) answers ≡ []
-        by xs is_xs (y ∷ ys) is same = closed_by task (last_round task [] (es ++ asks)) answers each (subst (λ zs. 0 < length zs) (sym is) (omega arith))
+        by : (xs : List Entry) → asks ≡ xs → (ys : List Entry) → answers ≡ ys → length answers ≡ length asks
+            → last_round task (last_round task [] (es ++ asks)) answers ≡ []
+        by xs is_xs (y ∷ ys) is same =
+            closed_by task (last_round task [] (es ++ asks)) answers each (subst (λ zs. 0 < length zs) (sym is) (omega arith))
         by [] is_xs [] is same =
             ap (λ zs. last_round task (last_round task [] (es ++ asks)) zs) is ∙ ap (λ zs. last_round task [] (es ++ zs)) is_xs ∙ ap (last_round task []) (append-nil es) ∙ closed
         by (x ∷ xs) is_xs [] is same = absurd (omega (arith, sym (ap length is) ∙ same ∙ ap length is_xs))
 
 -- what was said when so much of the round is printed
-pub talks_at_sent : (task : Task) (s : State) (place : ℕ) (kept : ℕ → List ℕ) (spoken : ℕ → Option Talk) → s.is_open ≡ true → IsSession task s → IsTalking task s place 0 kept spoken → Talks task s.version s.pools (requests_of task s.pools (s.entries ++ take place s.asks)) (replies_of (s.entries ++ take place s.asks)) kept spoken
+pub talks_at_sent : (task : Task) (s : State) (place : ℕ) (kept : ℕ → List ℕ) (spoken : ℕ → Option Talk) → s.is_open ≡ true
+    → IsSession task s → IsTalking task s place 0 kept spoken
+    → Talks task s.version s.pools (requests_of task s.pools (s.entries ++ take place s.asks)) (replies_of (s.entries ++ take place s.asks)) kept spoken
 talks_at_sent task s place kept spoken opened h t =
     let asks = round_asks task s opened h in
     subst (λ rs. Talks task s.version s.pools rs (replies_of (s.entries ++ take place s.asks)) kept spoken) (sym (requests_sent task s.pools s.entries s.asks t.closed asks place))
@@ -119,7 +126,9 @@ talks_at_sent task s place kept spoken opened h t =
 all_taken : {A : Type 0} (n : ℕ) (xs : List A) → length xs ≡ n → take n xs ≡ xs
 all_taken n xs e = ap (λ m. take m xs) (sym e) ∙ take-length xs
 
-pub talks_at_heard : (task : Task) (s : State) (place : ℕ) (kept : ℕ → List ℕ) (spoken : ℕ → Option Talk) → s.is_open ≡ true → IsSession task s → IsTalking task s (length s.slots) place kept spoken → Talks task s.version s.pools (requests_of task s.pools (s.entries ++ s.asks ++ take place (finished s.slots))) (replies_of (s.entries ++ s.asks ++ take place (finished s.slots))) kept spoken
+pub talks_at_heard : (task : Task) (s : State) (place : ℕ) (kept : ℕ → List ℕ) (spoken : ℕ → Option Talk) → s.is_open ≡ true
+    → IsSession task s → IsTalking task s (length s.slots) place kept spoken
+    → Talks task s.version s.pools (requests_of task s.pools (s.entries ++ s.asks ++ take place (finished s.slots))) (replies_of (s.entries ++ s.asks ++ take place (finished s.slots))) kept spoken
 talks_at_heard task s place kept spoken opened h t =
     let asks = round_asks task s opened h in
     let each = front_each (finished s.slots) place (round_replies task s opened h) in
@@ -129,12 +138,16 @@ talks_at_heard task s place kept spoken opened h t =
 
 -- ---- a round that is begun
 
-pub talking_begun : (task : Task) (s : State) (dues : List Due) (running : ℕ → Bool) (kept : ℕ → List ℕ) (spoken : ℕ → Option Talk) → s.failed ≡ false → MayBeginRound task s dues → IsSession task s → AllRun s.pools running → IsTold task s.version s.pools s.entries running kept spoken → IsTalking task (begun task s dues) 0 0 kept spoken
+pub talking_begun : (task : Task) (s : State) (dues : List Due) (running : ℕ → Bool) (kept : ℕ → List ℕ) (spoken : ℕ → Option Talk)
+    → s.failed ≡ false → MayBeginRound task s dues → IsSession task s → AllRun s.pools running
+    → IsTold task s.version s.pools s.entries running kept spoken → IsTalking task (begun task s dues) 0 0 kept spoken
 talking_begun task s dues running kept spoken works may h all told = record {
   closed = told.closed;
   even = told.even;
   slots = record {
-    many = requests_long task s.pools [] (asks_from task s.known.names (length s.asked + 1) dues) (asks_are task s.known.names (length s.asked + 1) dues) ∙ as_long task s.known.names s.version s.pools (length s.asked + 1) [] dues;
+    many =
+        requests_long task s.pools [] (asks_from task s.known.names (length s.asked + 1) dues) (asks_are task s.known.names (length s.asked + 1) dues)
+        ∙ as_long task s.known.names s.version s.pools (length s.asked + 1) [] dues;
     each = slots_ask task s.known.names s.version s.pools h.fit (length s.asked + 1) [] dues within served;
   };
   talks =
@@ -150,7 +163,8 @@ talking_begun task s dues running kept spoken works may h all told = record {
         let due = may.due d.instance (member_at (instances_of dues) k d.instance (slice_get-map (λ (u : Due). u.instance) dues k ∙ ap (option_map (λ (u : Due). u.instance)) at)) in
         slice_get_within task.streams d.instance.stream due.stream due.named
 
-    served : (k : ℕ) (t : Slot) → slice_get (slots_from task s.known.names s.version s.pools (length s.asked + 1) [] dues) k ≡ Some t → IsOneOf s.pools t.child
+    served : (k : ℕ) (t : Slot) → slice_get (slots_from task s.known.names s.version s.pools (length s.asked + 1) [] dues) k ≡ Some t
+        → IsOneOf s.pools t.child
     served k t at =
         let p = child_served task s dues works may h s.known.names s.version (length s.asked + 1) k t.child (slice_get-map (λ (v : Slot). v.child) (slots_from task s.known.names s.version s.pools (length s.asked + 1) [] dues) k ∙ ap (option_map (λ (v : Slot). v.child)) at) in
         record { place = p.0; pool = p.1; at = p.2; has = p.3 }
@@ -159,20 +173,23 @@ talking_begun task s dues running kept spoken works may h all told = record {
 
 -- a change of slots that keeps what they ask
 module _ (f : Slot → Slot) (child_same : (t : Slot) → (f t).child ≡ t.child) (number_same : (t : Slot) → (f t).number ≡ t.number) (text_same : (t : Slot) → (f t).request ≡ t.request) (wanted_same : (t : Slot) → (f t).wanted ≡ t.wanted) where
-  asks_still : (task : Task) (version : ℕ) (pools : List Workers) (r : Request) (child : ℕ) (t : Slot) → IsSlotOf task version pools r t → IsSlotOf task version pools r (at_child child f t)
+  asks_still : (task : Task) (version : ℕ) (pools : List Workers) (r : Request) (child : ℕ) (t : Slot) → IsSlotOf task version pools r t
+      → IsSlotOf task version pools r (at_child child f t)
   asks_still task version pools r child t i = by (is_slot_of child t) refl
     where
       by : (b : Bool) → is_slot_of child t ≡ b → IsSlotOf task version pools r (at_child child f t)
       by true e = subst (IsSlotOf task version pools r) (sym (at_own child f t e)) (record { one = i.one; child = child_same t ∙ i.child; number = number_same t ∙ i.number; text = text_same t ∙ i.text; wanted = wanted_same t ∙ i.wanted })
       by false e = subst (IsSlotOf task version pools r) (sym (at_other child f t e)) i
 
-  pub slots_still : (task : Task) (s : State) (child : ℕ) (failed : Bool) → AreSlotsOf task s → AreSlotsOf task (with_slots s (map (at_child child f) s.slots) failed)
+  pub slots_still : (task : Task) (s : State) (child : ℕ) (failed : Bool) → AreSlotsOf task s
+      → AreSlotsOf task (with_slots s (map (at_child child f) s.slots) failed)
   slots_still task s child failed a = record {
     many = a.many ∙ sym (length-map s.slots (at_child child f));
     each = λ k r t at_r at_t. by k r t at_r (slice_get s.slots k) refl (sym (slice_get-map (at_child child f) s.slots k) ∙ at_t);
   }
     where
-      by : (k : ℕ) (r : Request) (t : Slot) → slice_get (requests_of task s.pools s.asks) k ≡ Some r → (o : Option Slot) → slice_get s.slots k ≡ o → option_map (at_child child f) o ≡ Some t → IsSlotOf task s.version s.pools r t
+      by : (k : ℕ) (r : Request) (t : Slot) → slice_get (requests_of task s.pools s.asks) k ≡ Some r → (o : Option Slot)
+          → slice_get s.slots k ≡ o → option_map (at_child child f) o ≡ Some t → IsSlotOf task s.version s.pools r t
       by k r t at_r None is e = absurd (cc)
       by k r t at_r (Some u) is e =
           let same : at_child child f u ≡ t = cc in
@@ -180,12 +197,14 @@ module _ (f : Slot → Slot) (child_same : (t : Slot) → (f t).child ≡ t.chil
 
 module _ (task : Task) (s : State) (place : ℕ) (kept : ℕ → List ℕ) (old new : ℕ → Option Talk) (t : Slot) (at : slice_get s.slots place ≡ Some t) where
   -- the request of this place
-  pub request_at : (a : AreSlotsOf task s) → (r : Request) × (slice_get (requests_of task s.pools s.asks) place ≡ Some r) × IsSlotOf task s.version s.pools r t
+  pub request_at : (a : AreSlotsOf task s)
+      → (r : Request) × (slice_get (requests_of task s.pools s.asks) place ≡ Some r) × IsSlotOf task s.version s.pools r t
   request_at a =
       let f = get_there (requests_of task s.pools s.asks) place (omega (arith, a.many, slice_get_within s.slots place t at)) in
       (f.0, f.1, a.each place f.0 t f.1 at)
 
-  pub talking_sent : IsTalking task s place 0 kept old → Writes t.child t.request old new → IsTalking task (after_sent s t.child) (place + 1) 0 kept new
+  pub talking_sent : IsTalking task s place 0 kept old → Writes t.child t.request old new
+      → IsTalking task (after_sent s t.child) (place + 1) 0 kept new
   talking_sent k w =
       let r = request_at k.slots in
       let writes : Writes r.0.child (text_of_request r.0) old new = subst (λ c. Writes c (text_of_request r.0) old new) r.2.child (subst (λ bytes. Writes t.child bytes old new) r.2.text w) in
@@ -199,14 +218,18 @@ module _ (task : Task) (s : State) (place : ℕ) (kept : ℕ → List ℕ) (old 
       }
 
   -- the request was written in part, or is not printed
-  pub broken_sending : (e : Entry) (n : ℕ) → s.is_open ≡ true → IsSession task s → slice_get s.asks place ≡ Some e → IsLegal s.version task ((s.entries ++ take place s.asks) ++ e ∷ []) → IsTalking task s place 0 kept old → Writes t.child (take n t.request) old new → BrokenOff task s.version s.pools (s.entries ++ take place s.asks) new
+  pub broken_sending : (e : Entry) (n : ℕ) → s.is_open ≡ true → IsSession task s → slice_get s.asks place ≡ Some e
+      → IsLegal s.version task ((s.entries ++ take place s.asks) ++ e ∷ []) → IsTalking task s place 0 kept old
+      → Writes t.child (take n t.request) old new → BrokenOff task s.version s.pools (s.entries ++ take place s.asks) new
   broken_sending e n opened h at_e legal k w =
       let r = request_at k.slots in
       let asks = round_asks task s opened h in
       let writes : Writes r.0.child (take n (text_of_request r.0)) old new = subst (λ c. Writes c (take n (text_of_request r.0)) old new) r.2.child (subst (λ bytes. Writes t.child (take n bytes) old new) r.2.text w) in
       broken_one task s.version s.pools (s.entries ++ take place s.asks) e r.0 n kept old new legal (grown r asks) writes (talks_at_sent task s place kept old opened h k)
     where
-      grown : (r : (r : Request) × (slice_get (requests_of task s.pools s.asks) place ≡ Some r) × IsSlotOf task s.version s.pools r t) → AreAsks s.asks → requests_of task s.pools ((s.entries ++ take place s.asks) ++ e ∷ []) ≡ requests_of task s.pools (s.entries ++ take place s.asks) ++ r.0 ∷ []
+      grown : (r : (r : Request) × (slice_get (requests_of task s.pools s.asks) place ≡ Some r) × IsSlotOf task s.version s.pools r t)
+          → AreAsks s.asks
+          → requests_of task s.pools ((s.entries ++ take place s.asks) ++ e ∷ []) ≡ requests_of task s.pools (s.entries ++ take place s.asks) ++ r.0 ∷ []
       grown r asks =
           ap (requests_of task s.pools) (append_assoc s.entries (take place s.asks) (e ∷ []) ∙ ap (λ es. s.entries ++ es) (sym (take_next s.asks place e at_e)))
           ∙ requests_sent task s.pools s.entries s.asks k.closed asks (place + 1)
@@ -218,11 +241,14 @@ module _ (task : Task) (s : State) (place : ℕ) (kept : ℕ → List ℕ) (old 
 
 -- how many answers are printed
 printed_many : (slots : List Slot) (place : ℕ) → place < length slots → length (take place (finished slots)) ≡ place
-printed_many slots place within = length-take-le place (finished slots) (omega (arith, within, length-map slots (λ (v : Slot). unwrap_or v.answer (entry.End v.number))))
+printed_many slots place within =
+    length-take-le place (finished slots) (omega (arith, within, length-map slots (λ (v : Slot). unwrap_or v.answer (entry.End v.number))))
 
 module _ (task : Task) (s : State) (running : ℕ → Bool) (place : ℕ) (r : IsRolling s running (length s.slots) place) (within : place < length s.slots) (t : Slot) (at : slice_get s.slots place ≡ Some t) where
   -- the request that is answered next
-  pub next_is : (a : List Request) (b : List Entry) (q : Request) → length b ≡ length a → slice_get (requests_of task s.pools s.asks) place ≡ Some q → slice_get (a ++ requests_of task s.pools s.asks) (length (b ++ take place (finished s.slots))) ≡ Some q
+  pub next_is : (a : List Request) (b : List Entry) (q : Request) → length b ≡ length a
+      → slice_get (requests_of task s.pools s.asks) place ≡ Some q
+      → slice_get (a ++ requests_of task s.pools s.asks) (length (b ++ take place (finished s.slots))) ≡ Some q
   next_is a b q even at_q =
       ap (slice_get (a ++ requests_of task s.pools s.asks)) (length-append b (take place (finished s.slots)) ∙ (λ i. even i + printed_many s.slots place within i))
       ∙ get_behind a (requests_of task s.pools s.asks) place q at_q
@@ -232,14 +258,20 @@ module _ (task : Task) (s : State) (running : ℕ → Bool) (place : ℕ) (r : I
     answer_is = was_some (heard_slot line t).answer (answered_now s running (length s.slots) place r within t at line good)
 
     heard_there : slice_get (map (at_child t.child (heard_slot line)) s.slots) place ≡ Some (heard_slot line t)
-    heard_there = slice_get-map (at_child t.child (heard_slot line)) s.slots place ∙ ap (option_map (at_child t.child (heard_slot line))) at ∙ ap Some (at_own t.child (heard_slot line) t (eq-eqb t.child t.child refl))
+    heard_there =
+        slice_get-map (at_child t.child (heard_slot line)) s.slots place ∙ ap (option_map (at_child t.child (heard_slot line))) at
+        ∙ ap Some (at_own t.child (heard_slot line) t (eq-eqb t.child t.child refl))
 
     printed_next : take (place + 1) (finished (map (at_child t.child (heard_slot line)) s.slots)) ≡ take place (finished s.slots) ++ answer_is.0 ∷ []
     printed_next =
         take_next (finished (map (at_child t.child (heard_slot line)) s.slots)) place answer_is.0 (printed_there (map (at_child t.child (heard_slot line)) s.slots) place (heard_slot line t) answer_is.0 heard_there answer_is.1)
         ∙ ap (λ es. es ++ answer_is.0 ∷ []) (front_same s running (length s.slots) place r within t at line good)
 
-    talking_line : (kept left : ℕ → List ℕ) (old new : ℕ → Option Talk) (more : List ℕ) → Hears t.child more old new → lines_of (kept t.child ++ more) ≡ line ∷ lines_of (after_first is_feed (kept t.child ++ more)) → left t.child ≡ after_first is_feed (kept t.child ++ more) → ((k : ℕ) → k ≢ t.child → left k ≡ kept k) → IsTalking task s (length s.slots) place kept old → IsTalking task (after_line s t.child line false) (length s.slots) (place + 1) left new
+    talking_line : (kept left : ℕ → List ℕ) (old new : ℕ → Option Talk) (more : List ℕ) → Hears t.child more old new
+        → lines_of (kept t.child ++ more) ≡ line ∷ lines_of (after_first is_feed (kept t.child ++ more))
+        → left t.child ≡ after_first is_feed (kept t.child ++ more) → ((k : ℕ) → k ≢ t.child → left k ≡ kept k)
+        → IsTalking task s (length s.slots) place kept old
+        → IsTalking task (after_line s t.child line false) (length s.slots) (place + 1) left new
     talking_line kept left old new more h first here others k =
         let q = request_at task s place kept old new t at k.slots in
         let rest : Talks task s.version s.pools (requests_of task s.pools s.entries ++ requests_of task s.pools s.asks) (replies_of s.entries ++ take place (finished s.slots)) kept old =
@@ -264,7 +296,9 @@ module _ (task : Task) (s : State) (running : ℕ → Bool) (place : ℕ) (r : I
         }
 
   -- the line is taken, and it is an answer
-  pub talking_heard : (child : ℕ) (now : State) (kept left : ℕ → List ℕ) (old new : ℕ → Option Talk) → child ≡ t.child → TakesAnswer s child now (kept child) (left child) old new → ((k : ℕ) → k ≢ child → left k ≡ kept k) → IsTalking task s (length s.slots) place kept old → IsTalking task now (length now.slots) (place + 1) left new
+  pub talking_heard : (child : ℕ) (now : State) (kept left : ℕ → List ℕ) (old new : ℕ → Option Talk) → child ≡ t.child
+      → TakesAnswer s child now (kept child) (left child) old new → ((k : ℕ) → k ≢ child → left k ≡ kept k)
+      → IsTalking task s (length s.slots) place kept old → IsTalking task now (length now.slots) (place + 1) left new
   talking_heard child now kept left old new own takes others k =
       let here : TakesAnswer s t.child now (kept t.child) (left t.child) old new = subst (λ c. TakesAnswer s c now (kept c) (left c) old new) own takes in
       let far : (j : ℕ) → j ≢ t.child → left j ≡ kept j = subst (λ c. (j : ℕ) → j ≢ c → left j ≡ kept j) own others in
@@ -283,7 +317,10 @@ module _ (task : Task) (s : State) (running : ℕ → Bool) (place : ℕ) (r : I
   heard_is : (line : List ℕ) → heard_at s.slots t.child line ≡ heard_by t.number (fault_of (reply_to line t))
   heard_is line = rw (own_slot s.slots place t r.apart at) refl
 
-  pub may_blame : (kept : ℕ → List ℕ) (old new : ℕ → Option Talk) (fault : RunFault) → s.is_open ≡ true → IsSession task s → IsLegal s.version task (s.entries ++ s.asks ++ finished s.slots) → IsTalking task s (length s.slots) place kept old → Misheard s.slots t.child (kept t.child) old new fault → MayBlame s.version task s.pools new fault (s.entries ++ s.asks ++ take place (finished s.slots))
+  pub may_blame : (kept : ℕ → List ℕ) (old new : ℕ → Option Talk) (fault : RunFault) → s.is_open ≡ true → IsSession task s
+      → IsLegal s.version task (s.entries ++ s.asks ++ finished s.slots) → IsTalking task s (length s.slots) place kept old
+      → Misheard s.slots t.child (kept t.child) old new fault
+      → MayBlame s.version task s.pools new fault (s.entries ++ s.asks ++ take place (finished s.slots))
   may_blame kept old new fault opened h legal k m = by fault m.blamed
     where
       asks : AreAsks s.asks
@@ -292,7 +329,8 @@ module _ (task : Task) (s : State) (running : ℕ → Bool) (place : ℕ) (r : I
       each : AreReplies (take place (finished s.slots))
       each = front_each (finished s.slots) place (round_replies task s opened h)
 
-      by : (f : RunFault) → IsBlamed s.slots t.child (kept t.child ++ m.more) f → MayBlame s.version task s.pools new f (s.entries ++ s.asks ++ take place (finished s.slots))
+      by : (f : RunFault) → IsBlamed s.slots t.child (kept t.child ++ m.more) f
+          → MayBlame s.version task s.pools new f (s.entries ++ s.asks ++ take place (finished s.slots))
       by Generator b = tt
       by Memory b = tt
       by Write b = absurd b
@@ -308,7 +346,9 @@ module _ (task : Task) (s : State) (running : ℕ → Bool) (place : ℕ) (r : I
             subst (λ n. HasBadLine task s.version s.pools (s.entries ++ s.asks ++ take place (finished s.slots)) new n why) (sym (b.0 ∙ numbered ∙ q.2.number)) bad,
           )
         where
-          first : (q : Request) → IsSlotOf task s.version s.pools q t → (number : ℕ) (why : Why) → IsBadFirst s.slots t.child (kept t.child ++ m.more) number why → ((line : List ℕ) × (lines_of (kept q.child ++ m.more) ≡ line ∷ lines_of (after_first is_feed (kept q.child ++ m.more))) × (reply_of line (wanted_by task s.version q) ≡ reply.bad why)) ⊎ ((why ≡ TooLong) × (lines_of (kept q.child ++ m.more) ≡ []) × (length (kept q.child ++ m.more) ≡ 1025))
+          first : (q : Request) → IsSlotOf task s.version s.pools q t → (number : ℕ) (why : Why)
+              → IsBadFirst s.slots t.child (kept t.child ++ m.more) number why
+              → ((line : List ℕ) × (lines_of (kept q.child ++ m.more) ≡ line ∷ lines_of (after_first is_feed (kept q.child ++ m.more))) × (reply_of line (wanted_by task s.version q) ≡ reply.bad why)) ⊎ ((why ≡ TooLong) × (lines_of (kept q.child ++ m.more) ≡ []) × (length (kept q.child ++ m.more) ≡ 1025))
           first q i number why (inl (line, is, said)) = inl (
             line,
             subst (λ d. lines_of (kept d ++ m.more) ≡ line ∷ lines_of (after_first is_feed (kept d ++ m.more))) i.child is,
@@ -316,18 +356,25 @@ module _ (task : Task) (s : State) (running : ℕ → Bool) (place : ℕ) (r : I
           )
           first q i number why (inr (is, none, long)) = inr (is, subst (λ d. lines_of (kept d ++ m.more) ≡ []) i.child none, subst (λ d. length (kept d ++ m.more) ≡ 1025) i.child long)
 
-  pub broken_hearing : (kept : ℕ → List ℕ) (old new : ℕ → Option Talk) (child : ℕ) (more : List ℕ) → s.is_open ≡ true → IsSession task s → IsLegal s.version task (s.entries ++ s.asks ++ take place (finished s.slots)) → IsTalking task s (length s.slots) place kept old → Hears child more old new → BrokenOff task s.version s.pools (s.entries ++ s.asks ++ take place (finished s.slots)) new
+  pub broken_hearing : (kept : ℕ → List ℕ) (old new : ℕ → Option Talk) (child : ℕ) (more : List ℕ) → s.is_open ≡ true → IsSession task s
+      → IsLegal s.version task (s.entries ++ s.asks ++ take place (finished s.slots)) → IsTalking task s (length s.slots) place kept old
+      → Hears child more old new → BrokenOff task s.version s.pools (s.entries ++ s.asks ++ take place (finished s.slots)) new
   broken_hearing kept old new child more opened h legal k hears =
       broken_none task s.version s.pools (s.entries ++ s.asks ++ take place (finished s.slots)) new (with_more kept child more) legal
       (talks_more task s.version s.pools (requests_of task s.pools (s.entries ++ s.asks ++ take place (finished s.slots))) (replies_of (s.entries ++ s.asks ++ take place (finished s.slots))) old new kept child more hears (talks_at_heard task s place kept old opened h k))
 
 -- ---- a round that is answered
 
-pub told_closed : (task : Task) (x : State) (count : ℕ) (running : ℕ → Bool) (kept : ℕ → List ℕ) (spoken : ℕ → Option Talk) → x.is_open ≡ true → IsSession task x → count ≡ length x.slots → length x.asks ≡ length x.slots → finished x.slots ≡ answers_of x.slots → ((k : ℕ) → running k ≡ false → kept k ≡ []) → IsTalking task x count count kept spoken → IsTold task x.version x.pools (x.entries ++ x.asks ++ answers_of x.slots) running kept spoken
+pub told_closed : (task : Task) (x : State) (count : ℕ) (running : ℕ → Bool) (kept : ℕ → List ℕ) (spoken : ℕ → Option Talk)
+    → x.is_open ≡ true → IsSession task x → count ≡ length x.slots → length x.asks ≡ length x.slots → finished x.slots ≡ answers_of x.slots
+    → ((k : ℕ) → running k ≡ false → kept k ≡ []) → IsTalking task x count count kept spoken
+    → IsTold task x.version x.pools (x.entries ++ x.asks ++ answers_of x.slots) running kept spoken
 told_closed task x count running kept spoken opened h is asks_long all idle k =
     subst (λ es. IsTold task x.version x.pools (x.entries ++ x.asks ++ es) running kept spoken) all (record {
       closed = closed_heard task x.pools x.entries x.asks k.closed asks (finished x.slots) each (long ∙ sym asks_long);
-      even = ap length replies ∙ length-append (replies_of x.entries) (finished x.slots) ∙ (λ i. k.even i + (long ∙ sym k.slots.many) i) ∙ sym (length-append (requests_of task x.pools x.entries) (requests_of task x.pools x.asks)) ∙ ap length (sym requests);
+      even =
+          ap length replies ∙ length-append (replies_of x.entries) (finished x.slots) ∙ (λ i. k.even i + (long ∙ sym k.slots.many) i)
+          ∙ sym (length-append (requests_of task x.pools x.entries) (requests_of task x.pools x.asks)) ∙ ap length (sym requests);
       idle = idle;
       each = λ child one runs.
           subst (λ rs. IfSome (spoken child) (IsTalk task x.version rs (replies_of (x.entries ++ x.asks ++ finished x.slots)) child (kept child))) (sym requests)
@@ -356,7 +403,9 @@ told_closed task x count running kept spoken opened h is asks_long all idle k =
 
 -- ---- one request, as its function has it
 
-pub talking_sent_by : (task : Task) (s : State) (place : ℕ) (kept : ℕ → List ℕ) (old new : ℕ → Option Talk) (t : Slot) → slice_get s.slots place ≡ Some t → IsTalking task s place 0 kept old → (child : ℕ) (request : List ℕ) → child ≡ t.child → request ≡ t.request → Writes child request old new → IsTalking task (after_sent s t.child) (place + 1) 0 kept new
+pub talking_sent_by : (task : Task) (s : State) (place : ℕ) (kept : ℕ → List ℕ) (old new : ℕ → Option Talk) (t : Slot)
+    → slice_get s.slots place ≡ Some t → IsTalking task s place 0 kept old → (child : ℕ) (request : List ℕ) → child ≡ t.child
+    → request ≡ t.request → Writes child request old new → IsTalking task (after_sent s t.child) (place + 1) 0 kept new
 talking_sent_by task s place kept old new t at k child request own same w =
     talking_sent task s place kept old new t at k (subst (λ c. Writes c t.request old new) own (subst (λ bytes. Writes child bytes old new) same w))
 
@@ -365,11 +414,13 @@ module _ (task : Task) (s : State) (place : ℕ) (kept : ℕ → List ℕ) (old 
   pub next_legal : IsLegal s.version task ((s.entries ++ take place s.asks) ++ e ∷ [])
   next_legal = subst (IsLegal s.version task) (one_more s.entries s.asks place e at_e) (asks_legal s.version task s.entries s.asks (finished s.slots) (place + 1) (round_legal task s opened h))
 
-  pub broken_part : (child : ℕ) (request : List ℕ) (n : ℕ) → child ≡ t.child → request ≡ t.request → Writes child (take n request) old new → BrokenOff task s.version s.pools (s.entries ++ take place s.asks) new
+  pub broken_part : (child : ℕ) (request : List ℕ) (n : ℕ) → child ≡ t.child → request ≡ t.request → Writes child (take n request) old new
+      → BrokenOff task s.version s.pools (s.entries ++ take place s.asks) new
   broken_part child request n own same w =
       broken_sending task s place kept old new t at e n opened h at_e next_legal k (subst (λ c. Writes c (take n t.request) old new) own (subst (λ bytes. Writes child (take n bytes) old new) same w))
 
-  pub broken_after : (child : ℕ) (request : List ℕ) → child ≡ t.child → request ≡ t.request → Writes child request old new → IsSession task (after_sent s t.child) → BrokenOff task s.version s.pools ((s.entries ++ take place s.asks) ++ e ∷ []) new
+  pub broken_after : (child : ℕ) (request : List ℕ) → child ≡ t.child → request ≡ t.request → Writes child request old new
+      → IsSession task (after_sent s t.child) → BrokenOff task s.version s.pools ((s.entries ++ take place s.asks) ++ e ∷ []) new
   broken_after child request own same w h_after =
       broken_none task s.version s.pools ((s.entries ++ take place s.asks) ++ e ∷ []) new kept next_legal
       (subst (λ es. Talks task s.version s.pools (requests_of task s.pools es) (replies_of es) kept new) (one_more s.entries s.asks place e at_e)
@@ -377,7 +428,12 @@ module _ (task : Task) (s : State) (place : ℕ) (kept : ℕ → List ℕ) (old 
 
 -- ---- one answer, as its function has it
 
-pub broken_answered : (task : Task) (s now : State) (place : ℕ) (kept : ℕ → List ℕ) (spoken : ℕ → Option Talk) (e : Entry) → s.is_open ≡ true → IsSession task now → (slots : List Slot) (failed : Bool) → now ≡ with_slots s slots failed → s.entries ++ s.asks ++ take (place + 1) (finished now.slots) ≡ (s.entries ++ s.asks ++ take place (finished s.slots)) ++ e ∷ [] → IsLegal s.version task ((s.entries ++ s.asks ++ take place (finished s.slots)) ++ e ∷ []) → IsTalking task now (length now.slots) (place + 1) kept spoken → BrokenOff task s.version s.pools ((s.entries ++ s.asks ++ take place (finished s.slots)) ++ e ∷ []) spoken
+pub broken_answered : (task : Task) (s now : State) (place : ℕ) (kept : ℕ → List ℕ) (spoken : ℕ → Option Talk) (e : Entry)
+    → s.is_open ≡ true → IsSession task now → (slots : List Slot) (failed : Bool) → now ≡ with_slots s slots failed
+    → s.entries ++ s.asks ++ take (place + 1) (finished now.slots) ≡ (s.entries ++ s.asks ++ take place (finished s.slots)) ++ e ∷ []
+    → IsLegal s.version task ((s.entries ++ s.asks ++ take place (finished s.slots)) ++ e ∷ [])
+    → IsTalking task now (length now.slots) (place + 1) kept spoken
+    → BrokenOff task s.version s.pools ((s.entries ++ s.asks ++ take place (finished s.slots)) ++ e ∷ []) spoken
 broken_answered task s now place kept spoken e opened h slots failed is printed legal k =
     let open_now : now.is_open ≡ true = ap (λ (x : State). x.is_open) is ∙ opened in
     let talks : Talks task now.version now.pools (requests_of task now.pools (now.entries ++ now.asks ++ take (place + 1) (finished now.slots))) (replies_of (now.entries ++ now.asks ++ take (place + 1) (finished now.slots))) kept spoken = talks_at_heard task now (place + 1) kept spoken open_now h k in
@@ -388,6 +444,9 @@ broken_answered task s now place kept spoken e opened h slots failed is printed 
 
 -- ---- a whole round
 
-pub round_told : (task : Task) (x : State) (count : ℕ) (old now : ℕ → Bool) (first kept : ℕ → List ℕ) (spoken : ℕ → Option Talk) → x.is_open ≡ true → IsSession task x → count ≡ length x.slots → length x.asks ≡ length x.slots → finished x.slots ≡ answers_of x.slots → ((k : ℕ) → now k ≡ old k) → ((k : ℕ) → old k ≡ false → kept k ≡ first k) → ((k : ℕ) → old k ≡ false → first k ≡ []) → IsTalking task x count count kept spoken → IsTold task x.version x.pools (x.entries ++ x.asks ++ answers_of x.slots) now kept spoken
+pub round_told : (task : Task) (x : State) (count : ℕ) (old now : ℕ → Bool) (first kept : ℕ → List ℕ) (spoken : ℕ → Option Talk)
+    → x.is_open ≡ true → IsSession task x → count ≡ length x.slots → length x.asks ≡ length x.slots → finished x.slots ≡ answers_of x.slots
+    → ((k : ℕ) → now k ≡ old k) → ((k : ℕ) → old k ≡ false → kept k ≡ first k) → ((k : ℕ) → old k ≡ false → first k ≡ [])
+    → IsTalking task x count count kept spoken → IsTold task x.version x.pools (x.entries ++ x.asks ++ answers_of x.slots) now kept spoken
 round_told task x count old now first kept spoken opened h is asks_long all same stays empty k =
     told_closed task x count now kept spoken opened h is asks_long all (λ j off. stays j (sym (same j) ∙ off) ∙ empty j (sym (same j) ∙ off)) k

@@ -24,11 +24,13 @@ use Rattle.level_run.specs.declared.ending.Batch.{Batch}
 use Rattle.level_run.specs.declared.ending.Batch.TheVariants.{Done, CallsSpent}
 
 -- a level may follow
-pub level_legal : (version : ℕ) (task : Task) (before : List Entry) → IsLegal version task before → IsLegal version task (before ++ entry.Level ∷ [])
+pub level_legal : (version : ℕ) (task : Task) (before : List Entry) → IsLegal version task before
+    → IsLegal version task (before ++ entry.Level ∷ [])
 level_legal version task before legal = (grows version task before).next entry.Level legal tt
 
 -- what was due is due behind the line of a level
-pub ready_marked : (version : ℕ) (task : Task) (before : List Entry) (dues : List Due) → IsFit task → IsLegal version task before → AreReady task before dues → AreReady task (before ++ entry.Level ∷ []) dues
+pub ready_marked : (version : ℕ) (task : Task) (before : List Entry) (dues : List Due) → IsFit task → IsLegal version task before
+    → AreReady task before dues → AreReady task (before ++ entry.Level ∷ []) dues
 ready_marked version task before dues fit legal ready =
     let same = (mark_adds version task before fit.problem.objects.names.distinct legal entry.Level refl).same in
     record {
@@ -38,7 +40,8 @@ ready_marked version task before dues fit legal ready =
     }
 
 -- the turn may begin
-pub may_begin : (head : Head) (task : Task) (before : List Entry) (asks : ℕ) (dues : List Due) → asks ≡ asks_of before → IsTurn head task before asks dues → MayBegin (limits_of head) task before
+pub may_begin : (head : Head) (task : Task) (before : List Entry) (asks : ℕ) (dues : List Due) → asks ≡ asks_of before
+    → IsTurn head task before asks dues → MayBegin (limits_of head) task before
 may_begin head task before asks dues counted turn = record {
   list = instances_of dues;
   due = turn.due.due;
@@ -49,7 +52,8 @@ may_begin head task before asks dues counted turn = record {
 
 -- ---- the line of a level
 
-pub marked : (s new : State) → s.failed ≡ false → IsLearnt s → new ≡ after_mark s entry.Level (if s.learnt == length s.entries then s.learnt + 1 else s.learnt) → IsMarked s new
+pub marked : (s new : State) → s.failed ≡ false → IsLearnt s
+    → new ≡ after_mark s entry.Level (if s.learnt == length s.entries then s.learnt + 1 else s.learnt) → IsMarked s new
 marked s new works learnt is = subst (IsMarked s) (sym is) (record {
   entries = refl;
   asked = refl;
@@ -66,7 +70,10 @@ marked s new works learnt is = subst (IsMarked s) (sym is) (record {
 -- ---- a level
 
 -- a batch behind the line of a level is a level
-pub level_of : (head : Head) (task : Task) (before marked_entries after : List Entry) (asks later : ℕ) (dues : List Due) (b : Batch) → asks ≡ asks_of before → IsTurn head task before asks dues → marked_entries ≡ before ++ entry.Level ∷ [] → (more : List Entry) × (after ≡ marked_entries ++ more) × IsBatch (limits_of head) task marked_entries (instances_of dues) more → EndsBatch task after asks later head.calls (length dues) b → RunsLevel head task before after b
+pub level_of : (head : Head) (task : Task) (before marked_entries after : List Entry) (asks later : ℕ) (dues : List Due) (b : Batch)
+    → asks ≡ asks_of before → IsTurn head task before asks dues → marked_entries ≡ before ++ entry.Level ∷ []
+    → (more : List Entry) × (after ≡ marked_entries ++ more) × IsBatch (limits_of head) task marked_entries (instances_of dues) more
+    → EndsBatch task after asks later head.calls (length dues) b → RunsLevel head task before after b
 level_of head task before marked_entries after asks later dues b counted turn is (more, pushed, batch) ends = (
   entry.Level ∷ more,
   pushed ∙ ap (λ es. es ++ more) is ∙ append_assoc before (entry.Level ∷ []) more,
@@ -86,6 +93,8 @@ level_of head task before marked_entries after asks later dues b counted turn is
     long : length (instances_of dues) ≡ length dues
     long = length-map dues (λ (d : Due). d.instance)
 
-    cut : (c : Batch) → EndsBatch task after asks later head.calls (length dues) c → cut_by c ≡ is_cut (limits_of head) before (instances_of dues)
+    cut : (c : Batch) → EndsBatch task after asks later head.calls (length dues) c
+        → cut_by c ≡ is_cut (limits_of head) before (instances_of dues)
     cut Done e = sym (le-ltb (head.calls - asks_of before) (length (instances_of dues)) (omega (arith, long, e.0, e.1, counted)))
-    cut CallsSpent e = sym (lt-ltb (head.calls - asks_of before) (length (instances_of dues)) (omega (arith, long, e.1, counted, turn.left)))
+    cut CallsSpent e =
+        sym (lt-ltb (head.calls - asks_of before) (length (instances_of dues)) (omega (arith, long, e.1, counted, turn.left)))

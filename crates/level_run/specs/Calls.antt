@@ -26,7 +26,8 @@ lines_read child events = length (lines_of (spelled child silence events).heard)
 
 -- how many of a transcript's answers are the child's
 abbrev pub answers_by : Task → List Workers → List Entry → ℕ → ℕ
-answers_by task pools entries child = count_to child (take (length (replies_of entries)) (requests_of task pools entries))
+answers_by task pools entries child =
+    count_to child (take (length (replies_of entries)) (requests_of task pools entries))
 
 -- reads of a child, all Ok, each at a moment at which no more of its lines had been read than this
 pub record Reads (child most : ℕ) (past events : List Event) : Type 0 where

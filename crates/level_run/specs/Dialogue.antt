@@ -53,7 +53,8 @@ module _ (task : Task) (pools : List Workers) where
 -- the streams of the requests that stand at the end of a transcript, with nothing behind them
 abbrev pub last_round : Task → List ℕ → List Entry → List ℕ
 last_round task round [] = round
-last_round task round (entry.Ask number turn call ∷ entries) = last_round task (round ++ stream_of task call ∷ []) entries
+last_round task round (entry.Ask number turn call ∷ entries) =
+    last_round task (round ++ stream_of task call ∷ []) entries
 last_round task round (e ∷ entries) = last_round task [] entries
 
 abbrev pub is_to : ℕ → Request → Bool
@@ -110,7 +111,8 @@ Dialogue task version pools entries spoken =
 
 -- the requests that come with further entries
 abbrev pub further_requests : Task → List Workers → List Entry → List Entry → List Request
-further_requests task pools entries next = drop (length (requests_of task pools entries)) (requests_of task pools (entries ++ next))
+further_requests task pools entries next =
+    drop (length (requests_of task pools entries)) (requests_of task pools (entries ++ next))
 
 -- At most one request more was written, in whole or in part: one that may come next. Lines may have been read whose answers don't
 -- stand in the transcript.
@@ -119,7 +121,8 @@ pub record BrokenOff (task : Task) (version : ℕ) (pools : List Workers) (entri
   pub few : length next ≤ 1
   pub legal : IsLegal version task (entries ++ next)
   pub count : ℕ
-  pub said : (child : ℕ) → IsOneOf pools child → 0 < length (requests_of task pools (entries ++ next)) → IfSome (spoken child) (IsSaid task version (requests_of task pools entries) (replies_of entries) (take count (bytes_to child (further_requests task pools entries next))) child)
+  pub said : (child : ℕ) → IsOneOf pools child → 0 < length (requests_of task pools (entries ++ next))
+      → IfSome (spoken child) (IsSaid task version (requests_of task pools entries) (replies_of entries) (take count (bytes_to child (further_requests task pools entries next))) child)
 
 -- ---- lines that are no answer
 

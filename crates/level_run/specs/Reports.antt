@@ -90,7 +90,9 @@ pub record IsWhole (task : Task) (head : Head) (spoken : ℕ → Option Talk) (w
 -- What was to be written before the fault: nothing, for want of memory, and no child was started; or the head and whole turns,
 -- the last of which may have stopped; or, where the sink failed, a whole report.
 abbrev pub WasToWrite : Task → Head → RunFault → (ℕ → Option Talk) → (was now : Option (List Event)) → List ℕ → Type 0
-WasToWrite task head fault spoken was now text = ((fault ≡ Memory) × (text ≡ []) × LogStops was now) ⊎ IsPart task head fault spoken was now text ⊎ ((fault ≡ Write) × IsWhole task head spoken was now text)
+WasToWrite task head fault spoken was now text =
+    ((fault ≡ Memory) × (text ≡ []) × LogStops was now) ⊎ IsPart task head fault spoken was now text
+    ⊎ ((fault ≡ Write) × IsWhole task head spoken was now text)
 
 -- A run had no outcome. All that was to be written was written; but a fault of the sink left some of it out at the end.
 pub record IsBroken (task : Task) (head : Head) (spoken : ℕ → Option Talk) (was now : Option (List Event)) (old new : Option (List ℕ)) (fault : RunFault) : Type 0 where

@@ -57,7 +57,8 @@ pub record Goes (before after : List Entry) (old new : Option (List ℕ)) : Type
 
 -- The request that is blamed is open, and what its child said next is no answer.
 abbrev pub Blames : ℕ → Task → List Workers → (ℕ → Option Talk) → RunFault → List Entry → Type 0
-Blames version task pools spoken (Answer number why) entries = (is_open entries number ≡ true) × HasBadLine task version pools entries spoken number why
+Blames version task pools spoken (Answer number why) entries =
+    (is_open entries number ≡ true) × HasBadLine task version pools entries spoken number why
 Blames version task pools spoken Generator entries = Unit {0}
 Blames version task pools spoken Write entries = Unit {0}
 Blames version task pools spoken Memory entries = Unit {0}

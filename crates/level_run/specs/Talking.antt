@@ -42,12 +42,14 @@ pub record IsTold (task : Task) (version : ℕ) (pools : List Workers) (entries 
   pub closed : last_round task [] entries ≡ []
   pub even : length (replies_of entries) ≡ length (requests_of task pools entries)
   pub idle : (child : ℕ) → running child ≡ false → kept child ≡ []
-  pub each : (child : ℕ) → IsOneOf pools child → running child ≡ true → IfSome (spoken child) (IsTalk task version (requests_of task pools entries) (replies_of entries) child (kept child))
+  pub each : (child : ℕ) → IsOneOf pools child → running child ≡ true
+      → IfSome (spoken child) (IsTalk task version (requests_of task pools entries) (replies_of entries) child (kept child))
 
 -- The first requests are answered, and this was said with each child of the pools that tells it.
 pub record Talks (task : Task) (version : ℕ) (pools : List Workers) (requests : List Request) (replies : List Entry) (kept : ℕ → List ℕ) (spoken : ℕ → Option Talk) : Type 0 where
   pub few : length replies ≤ length requests
-  pub each : (child : ℕ) → IsOneOf pools child → IfSome (spoken child) (IsTalk task version requests replies child (kept child))
+  pub each : (child : ℕ) → IsOneOf pools child
+      → IfSome (spoken child) (IsTalk task version requests replies child (kept child))
 
 -- children that run have said nothing yet
 abbrev pub AreSilent : (ℕ → Bool) → (ℕ → Option Talk) → Type 0
@@ -66,7 +68,8 @@ pub record IsSlotOf (task : Task) (version : ℕ) (pools : List Workers) (r : Re
 -- The slots ask what the round's requests say, one by one.
 pub record AreSlotsOf (task : Task) (s : State) : Type 0 where
   pub many : length (requests_of task s.pools s.asks) ≡ length s.slots
-  pub each : (k : ℕ) (r : Request) (t : Slot) → slice_get (requests_of task s.pools s.asks) k ≡ Some r → slice_get s.slots k ≡ Some t → IsSlotOf task s.version s.pools r t
+  pub each : (k : ℕ) (r : Request) (t : Slot) → slice_get (requests_of task s.pools s.asks) k ≡ Some r
+      → slice_get s.slots k ≡ Some t → IsSlotOf task s.version s.pools r t
 
 -- What was said when so many requests of the round are sent, and so many of them are answered.
 pub record IsTalking (task : Task) (s : State) (sent answered : ℕ) (kept : ℕ → List ℕ) (spoken : ℕ → Option Talk) : Type 0 where
@@ -86,7 +89,8 @@ pub record Fills (child : ℕ) (kept left : List ℕ) (before after : ℕ → Op
 
 -- the line is no answer to the request of this number
 abbrev pub IsRefused : List Slot → ℕ → List ℕ → RunFault → Type 0
-IsRefused slots child line (Answer number why) = (number ≡ number_at slots child) × (heard_at slots child line ≡ heard.Bad number why)
+IsRefused slots child line (Answer number why) =
+    (number ≡ number_at slots child) × (heard_at slots child line ≡ heard.Bad number why)
 IsRefused slots child line Generator = ⊥
 IsRefused slots child line Memory = ⊥
 IsRefused slots child line Write = ⊥
@@ -110,7 +114,8 @@ IsBadFirst slots child bytes number why =
 
 -- why no answer of the child was taken, of which these bytes are known
 abbrev pub IsBlamed : List Slot → ℕ → List ℕ → RunFault → Type 0
-IsBlamed slots child bytes (Answer number why) = (number ≡ number_at slots child) × IsBadFirst slots child bytes number why
+IsBlamed slots child bytes (Answer number why) =
+    (number ≡ number_at slots child) × IsBadFirst slots child bytes number why
 IsBlamed slots child bytes Generator = Unit {0}
 IsBlamed slots child bytes Memory = Unit {0}
 IsBlamed slots child bytes Write = ⊥

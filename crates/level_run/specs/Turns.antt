@@ -39,7 +39,8 @@ pub record IsRunnable (task : Task) (head : Head) : Type 0 where
 
 -- all workers run
 abbrev pub AllRun : List Workers → (ℕ → Bool) → Type 0
-AllRun pools running = (k child : ℕ) (p : Workers) → slice_get pools k ≡ Some p → HasChild p child → running child ≡ true
+AllRun pools running =
+    (k child : ℕ) (p : Workers) → slice_get pools k ≡ Some p → HasChild p child → running child ≡ true
 
 -- Where nothing was asked no child runs, and else all workers do.
 pub record AreStarted (pools : List Workers) (asks : ℕ) (running : ℕ → Bool) : Type 0 where
@@ -51,7 +52,9 @@ pub record AreStarted (pools : List Workers) (asks : ℕ) (running : ℕ → Boo
 -- All was asked; or as many calls were made as the limit allows, and an instance that was to be asked is still due.
 abbrev pub EndsBatch : Task → List Entry → (before after calls many : ℕ) → Batch → Type 0
 EndsBatch task entries before after calls many Done = (after ≡ before + many) × (after ≤ calls)
-EndsBatch task entries before after calls many CallsSpent = (after ≡ calls) × (calls < before + many) × ((i : Instance) × IsDue task (known_of task entries) (notes_of task entries) i)
+EndsBatch task entries before after calls many CallsSpent =
+    (after ≡ calls) × (calls < before + many)
+    × ((i : Instance) × IsDue task (known_of task entries) (notes_of task entries) i)
 
 -- ---- turns
 
@@ -120,4 +123,5 @@ cut_by CallsSpent = true
 
 -- a level was run that begins where no plan exists
 abbrev pub RunsLevel : Head → Task → List Entry → List Entry → Batch → Type 0
-RunsLevel head task before after b = (now : List Entry) × (after ≡ before ++ now) × IsNeededLevel (limits_of head) task before now (cut_by b)
+RunsLevel head task before after b =
+    (now : List Entry) × (after ≡ before ++ now) × IsNeededLevel (limits_of head) task before now (cut_by b)

@@ -45,18 +45,30 @@ fn run_rounds<H: Host, O: Sink>(
     requires ready { AreReady task.now session.old.entries dues.now }
     requires all_run { 0 < length dues.now → AllRun session.old.pools (H.running host.old) }
     requires state { Same (H.running host.old) (is_running lines.old) }
-    requires told { IsTold task.now head.now.version (workers_in head.now) session.old.entries (H.running host.old) (held_of lines.old) (H.spoken host.old) }
+    requires told { IsTold task.now head.now.version (workers_in head.now) session.old.entries
+        (H.running host.old) (held_of lines.old) (H.spoken host.old) }
     ensures session { IsSession task.now session.new }
     ensures head { OnOk result (IsOf head.now session.new) }
     ensures working { OnOk result (session.new.failed ≡ false) }
     ensures learnt { OnOk result (IsLearnt session.new) }
-    ensures batch { OnOk result ((more : List AnyEntry) × (session.new.entries ≡ session.old.entries ++ more) × IsBatch (limits_of head.now) task.now session.old.entries (instances_of dues.now) more) }
+    ensures batch { OnOk result ((more : List AnyEntry)
+        × (session.new.entries ≡ session.old.entries ++ more)
+        × IsBatch (limits_of head.now) task.now session.old.entries (instances_of dues.now) more) }
     ensures grows { OnOk result (length session.old.asked ≤ length session.new.asked) }
-    ensures ends { IfOk result (EndsBatch task.now session.new.entries (length session.old.asked) (length session.new.asked) head.now.calls (length dues.now)) }
-    ensures told { OnOk result (IsTold task.now head.now.version (workers_in head.now) session.new.entries (H.running host.new) (held_of lines.new) (H.spoken host.new)) }
-    ensures goes { OnOk result (Goes session.old.entries session.new.entries (O.taken out.old) (O.taken out.new)) }
-    ensures order { OnOk result (Calls task.now (workers_in head.now) session.old.entries session.new.entries (H.log host.old) (H.log host.new)) }
-    ensures stopped { IfErr result (λ fault. Stopped head.now.version task.now (workers_in head.now) (IsFront session.old.entries (IsBatch (limits_of head.now) task.now session.old.entries (instances_of dues.now))) session.old.entries fault (O.taken out.old) (O.taken out.new) (H.spoken host.new) (LogBreaks task.now head.now.version (workers_in head.now) session.old.entries fault (H.log host.old) (H.log host.new))) }
+    ensures ends { IfOk result (EndsBatch task.now session.new.entries (length session.old.asked)
+        (length session.new.asked) head.now.calls (length dues.now)) }
+    ensures told { OnOk result (IsTold task.now head.now.version (workers_in head.now)
+        session.new.entries (H.running host.new) (held_of lines.new) (H.spoken host.new)) }
+    ensures goes { OnOk result (Goes session.old.entries session.new.entries (O.taken out.old)
+        (O.taken out.new)) }
+    ensures order { OnOk result (Calls task.now (workers_in head.now) session.old.entries
+        session.new.entries (H.log host.old) (H.log host.new)) }
+    ensures stopped { IfErr result (λ fault. Stopped head.now.version task.now (workers_in head.now)
+        (IsFront session.old.entries
+        (IsBatch (limits_of head.now) task.now session.old.entries (instances_of dues.now)))
+        session.old.entries fault (O.taken out.old) (O.taken out.new) (H.spoken host.new)
+        (LogBreaks task.now head.now.version (workers_in head.now) session.old.entries fault
+        (H.log host.old) (H.log host.new))) }
     ensures some { OnErr result (0 < length dues.now) }
     ensures started { lines.new.started ≡ lines.old.started }
     ensures running { Same (H.running host.old) (H.running host.new) }
@@ -89,17 +101,24 @@ fn start_workers<H: Host>(
 ) -> Result<(), RunFault>
     requires pools { AreStartable head.now.pools }
     requires head { IsOf head.now session.now }
-    requires started { AreStarted session.now.pools (length session.now.asked) (H.running host.old) }
+    requires started { AreStarted session.now.pools (length session.now.asked)
+        (H.running host.old) }
     requires state { Same (H.running host.old) (is_running lines.old) }
     requires session { IsSession task.now session.now }
-    requires told { IsTold task.now head.now.version (workers_in head.now) session.now.entries (H.running host.old) (held_of lines.old) (H.spoken host.old) }
-    ensures told { IsTold task.now head.now.version (workers_in head.now) session.now.entries (H.running host.new) (held_of lines.new) (H.spoken host.new) }
+    requires told { IsTold task.now head.now.version (workers_in head.now) session.now.entries
+        (H.running host.old) (held_of lines.old) (H.spoken host.old) }
+    ensures told { IsTold task.now head.now.version (workers_in head.now) session.now.entries
+        (H.running host.new) (held_of lines.new) (H.spoken host.new) }
     ensures early { OnErr result (length session.now.asked ≡ 0) }
     ensures kept { lines.new.buffers ≡ lines.old.buffers }
-    ensures ready { OnOk result (0 < length dues.now → AllRun session.now.pools (H.running host.new)) }
-    ensures idle { OnOk result (length dues.now ≡ 0 → Same (H.running host.old) (H.running host.new)) }
-    ensures log { OnOk result (Extends (H.log host.old) (H.log host.new) (starts_before head.now.pools (length session.now.asked) (length dues.now))) }
-    ensures refused { IfErr result (λ fault. LogStartsPart (starts_of head.now.pools) fault (H.log host.old) (H.log host.new)) }
+    ensures ready { OnOk result (0 < length dues.now
+        → AllRun session.now.pools (H.running host.new)) }
+    ensures idle { OnOk result (length dues.now ≡ 0
+        → Same (H.running host.old) (H.running host.new)) }
+    ensures log { OnOk result (Extends (H.log host.old) (H.log host.new)
+        (starts_before head.now.pools (length session.now.asked) (length dues.now))) }
+    ensures refused { IfErr result (λ fault. LogStartsPart (starts_of head.now.pools) fault
+        (H.log host.old) (H.log host.new)) }
     ensures state { Same (H.running host.new) (is_running lines.new) }
     ensures only { IfErr result MayHear }
     ensures cause { HasCause Generator H.last (H.faults host.old) (H.faults host.new) result }
@@ -136,21 +155,34 @@ pub fn batch<H: Host, O: Sink>(
     requires working { session.old.failed ≡ false }
     requires learnt { IsLearnt session.old }
     requires ready { AreReady task.now session.old.entries dues.now }
-    requires started { AreStarted session.old.pools (length session.old.asked) (H.running host.old) }
+    requires started { AreStarted session.old.pools (length session.old.asked)
+        (H.running host.old) }
     requires state { Same (H.running host.old) (is_running lines.old) }
-    requires told { IsTold task.now head.now.version (workers_in head.now) session.old.entries (H.running host.old) (held_of lines.old) (H.spoken host.old) }
+    requires told { IsTold task.now head.now.version (workers_in head.now) session.old.entries
+        (H.running host.old) (held_of lines.old) (H.spoken host.old) }
     ensures session { IsSession task.now session.new }
     ensures head { OnOk result (IsOf head.now session.new) }
     ensures working { OnOk result (session.new.failed ≡ false) }
     ensures learnt { OnOk result (IsLearnt session.new) }
-    ensures batch { OnOk result ((more : List AnyEntry) × (session.new.entries ≡ session.old.entries ++ more) × IsBatch (limits_of head.now) task.now session.old.entries (instances_of dues.now) more) }
+    ensures batch { OnOk result ((more : List AnyEntry)
+        × (session.new.entries ≡ session.old.entries ++ more)
+        × IsBatch (limits_of head.now) task.now session.old.entries (instances_of dues.now) more) }
     ensures grows { OnOk result (length session.old.asked ≤ length session.new.asked) }
-    ensures ends { IfOk result (EndsBatch task.now session.new.entries (length session.old.asked) (length session.new.asked) head.now.calls (length dues.now)) }
-    ensures told { OnOk result (IsTold task.now head.now.version (workers_in head.now) session.new.entries (H.running host.new) (held_of lines.new) (H.spoken host.new)) }
-    ensures goes { OnOk result (Goes session.old.entries session.new.entries (O.taken out.old) (O.taken out.new)) }
-    ensures order { OnOk result (Runs task.now head.now session.old.entries session.new.entries (H.log host.old) (H.log host.new)) }
-    ensures stopped { IfErr result (λ fault. Stopped head.now.version task.now (workers_in head.now) (IsFront session.old.entries (IsBatch (limits_of head.now) task.now session.old.entries (instances_of dues.now))) session.old.entries fault (O.taken out.old) (O.taken out.new) (H.spoken host.new) (RunBreaks task.now head.now session.old.entries fault (H.log host.old) (H.log host.new))) }
-    ensures started { OnOk result (AreStarted session.new.pools (length session.new.asked) (H.running host.new)) }
+    ensures ends { IfOk result (EndsBatch task.now session.new.entries (length session.old.asked)
+        (length session.new.asked) head.now.calls (length dues.now)) }
+    ensures told { OnOk result (IsTold task.now head.now.version (workers_in head.now)
+        session.new.entries (H.running host.new) (held_of lines.new) (H.spoken host.new)) }
+    ensures goes { OnOk result (Goes session.old.entries session.new.entries (O.taken out.old)
+        (O.taken out.new)) }
+    ensures order { OnOk result (Runs task.now head.now session.old.entries session.new.entries
+        (H.log host.old) (H.log host.new)) }
+    ensures stopped { IfErr result (λ fault. Stopped head.now.version task.now (workers_in head.now)
+        (IsFront session.old.entries
+        (IsBatch (limits_of head.now) task.now session.old.entries (instances_of dues.now)))
+        session.old.entries fault (O.taken out.old) (O.taken out.new) (H.spoken host.new)
+        (RunBreaks task.now head.now session.old.entries fault (H.log host.old) (H.log host.new))) }
+    ensures started { OnOk result (AreStarted session.new.pools (length session.new.asked)
+        (H.running host.new)) }
     ensures state { Same (H.running host.new) (is_running lines.new) }
     ensures host { HasCause Generator H.last (H.faults host.old) (H.faults host.new) result }
     ensures sink { HasCause Write last_count (O.faults out.old) (O.faults out.new) result }

@@ -36,10 +36,16 @@ pub(crate) fn start<H: Host>(host: &mut H, child: u8, argv: &[String]) -> Result
     requires number { child < 17 }
     requires words { 0 < length argv.now }
     requires idle { H.running host.old child ≡ false }
-    ensures running { MatchResult result (λ _. Becomes child true (H.running host.old) (H.running host.new)) (λ _. Same (H.running host.old) (H.running host.new)) }
-    ensures spoken { MatchResult result (λ _. Empties child (H.spoken host.old) (H.spoken host.new)) (λ _. Same (H.spoken host.old) (H.spoken host.new)) }
-    ensures log { OnOk result (Logs (H.log host.old) (H.log host.new) (started child (map string_bytes argv.now) (Ok tt))) }
-    ensures refused { IfErr result (λ fault. (cause : AnyHostFault) × IsHostFault cause fault × Logs (H.log host.old) (H.log host.new) (started child (map string_bytes argv.now) (Err cause))) }
+    ensures running { MatchResult result
+        (λ _. Becomes child true (H.running host.old) (H.running host.new))
+        (λ _. Same (H.running host.old) (H.running host.new)) }
+    ensures spoken { MatchResult result (λ _. Empties child (H.spoken host.old) (H.spoken host.new))
+        (λ _. Same (H.spoken host.old) (H.spoken host.new)) }
+    ensures log { OnOk result (Logs (H.log host.old) (H.log host.new)
+        (started child (map string_bytes argv.now) (Ok tt))) }
+    ensures refused { IfErr result (λ fault. (cause : AnyHostFault) × IsHostFault cause fault
+        × Logs (H.log host.old) (H.log host.new)
+        (started child (map string_bytes argv.now) (Err cause))) }
     ensures only { IfErr result MayHear }
     ensures cause { HasCause Generator H.last (H.faults host.old) (H.faults host.new) result }
 {
@@ -55,9 +61,11 @@ pub(crate) fn send<H: Host>(host: &mut H, child: u8, request: &[u8]) -> Result<(
     requires runs { H.running host.old child ≡ true }
     ensures running { Same (H.running host.old) (H.running host.new) }
     ensures all { OnOk result (Writes child request.now (H.spoken host.old) (H.spoken host.new)) }
-    ensures part { OnErr result ((n : ℕ) × Writes child (take n request.now) (H.spoken host.old) (H.spoken host.new)) }
+    ensures part { OnErr result ((n : ℕ)
+        × Writes child (take n request.now) (H.spoken host.old) (H.spoken host.new)) }
     ensures log { OnOk result (LogsTaken child request.now (H.log host.old) (H.log host.new)) }
-    ensures refused { IfErr result (λ fault. (cause : AnyHostFault) × IsHostFault cause fault × LogsTakenPart child request.now cause (H.log host.old) (H.log host.new)) }
+    ensures refused { IfErr result (λ fault. (cause : AnyHostFault) × IsHostFault cause fault
+        × LogsTakenPart child request.now cause (H.log host.old) (H.log host.new)) }
     ensures only { IfErr result MayHear }
     ensures cause { HasCause Generator H.last (H.faults host.old) (H.faults host.new) result }
 {
@@ -72,10 +80,14 @@ fn fill<H: Host>(host: &mut H, child: u8, buffer: &mut LineBuf) -> Result<(), Ru
     requires number { child < 17 }
     requires runs { H.running host.old child ≡ true }
     ensures running { Same (H.running host.old) (H.running host.new) }
-    ensures heard { OnOk result (Fills child buffer.old buffer.new (H.spoken host.old) (H.spoken host.new)) }
-    ensures lost { OnErr result ((more : List ℕ) × Hears child more (H.spoken host.old) (H.spoken host.new)) }
-    ensures log { OnOk result ((bytes : List ℕ) × LogsGiven child [] bytes (H.log host.old) (H.log host.new)) }
-    ensures refused { IfErr result (λ fault. (cause : AnyHostFault) × IsHostFault cause fault × LogsGivenPart child [] cause (H.log host.old) (H.log host.new)) }
+    ensures heard { OnOk result (Fills child buffer.old buffer.new (H.spoken host.old)
+        (H.spoken host.new)) }
+    ensures lost { OnErr result ((more : List ℕ)
+        × Hears child more (H.spoken host.old) (H.spoken host.new)) }
+    ensures log { OnOk result ((bytes : List ℕ)
+        × LogsGiven child [] bytes (H.log host.old) (H.log host.new)) }
+    ensures refused { IfErr result (λ fault. (cause : AnyHostFault) × IsHostFault cause fault
+        × LogsGivenPart child [] cause (H.log host.old) (H.log host.new)) }
     ensures only { IfErr result MayHear }
     ensures cause { HasCause Generator H.last (H.faults host.old) (H.faults host.new) result }
 {
@@ -131,10 +143,13 @@ pub(crate) fn hear<H: Host>(
     requires runs { H.running host.old child ≡ true }
     requires working { session.old.failed ≡ false }
     requires awaited { IsAwaited session.old.slots child }
-    ensures taken { OnOk result (TakesAnswer session.old child session.new buffer.old buffer.new (H.spoken host.old) (H.spoken host.new)) }
-    ensures misheard { IfErr result (Misheard session.old.slots child buffer.old (H.spoken host.old) (H.spoken host.new)) }
+    ensures taken { OnOk result (TakesAnswer session.old child session.new buffer.old buffer.new
+        (H.spoken host.old) (H.spoken host.new)) }
+    ensures misheard { IfErr result
+        (Misheard session.old.slots child buffer.old (H.spoken host.old) (H.spoken host.new)) }
     ensures log { OnOk result (LogReads child buffer.old (H.log host.old) (H.log host.new)) }
-    ensures refused { IfErr result (λ fault. LogHears child buffer.old fault (H.log host.old) (H.log host.new)) }
+    ensures refused { IfErr result (λ fault. LogHears child buffer.old fault (H.log host.old)
+        (H.log host.new)) }
     ensures kept { (task : AnyTask) → IsSession task session.old → IsSession task session.new }
     ensures running { Same (H.running host.old) (H.running host.new) }
     ensures cause { HasCause Generator H.last (H.faults host.old) (H.faults host.new) result }

@@ -40,7 +40,8 @@ pub(crate) fn decide(
     requires working { session.now.failed ≡ false }
     requires learnt { IsLearnt session.now }
     requires within { length session.now.asked ≤ head.now.calls }
-    ensures decided { IfOk result (IsDecided head.now task.now session.now.entries (length session.now.asked)) }
+    ensures decided { IfOk result (IsDecided head.now task.now session.now.entries
+        (length session.now.asked)) }
     ensures only { IfErr result (λ fault. fault ≡ Memory) }
 {
     let facts = session.facts();
@@ -66,8 +67,10 @@ fn decide_dues(task: &Task, head: &Head, session: &Session) -> Result<Decision, 
     requires learnt { IsLearnt session.now }
     requires within { length session.now.asked ≤ head.now.calls }
     requires unsolvable { ¬ (IsSolvable task.now (known_of task.now session.now.entries)) }
-    requires few { ¬ (MoreThan head.now.states (IsReached task.now (known_of task.now session.now.entries))) }
-    ensures decided { IfOk result (IsDecided head.now task.now session.now.entries (length session.now.asked)) }
+    requires few { ¬ (MoreThan head.now.states
+        (IsReached task.now (known_of task.now session.now.entries))) }
+    ensures decided { IfOk result (IsDecided head.now task.now session.now.entries
+        (length session.now.asked)) }
     ensures only { IfErr result (λ fault. fault ≡ Memory) }
 {
     let dues = match session.due(task) {

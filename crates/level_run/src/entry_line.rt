@@ -78,7 +78,8 @@ fn put_names<O: Sink>(out: &mut O, names: &[Name]) -> Result<(), RunFault>
 
 /// Writes a call behind the fields of a line, and ends the line.
 fn put_call<O: Sink>(out: &mut O, call: &Call) -> Result<(), RunFault>
-    ensures told { Prints result (O.taken out.old) (O.taken out.new) (fields_text (call_fields call.now) ++ 10 ∷ []) }
+    ensures told { Prints result (O.taken out.old) (O.taken out.new)
+        (fields_text (call_fields call.now) ++ 10 ∷ []) }
     ensures cause { HasCause Write last_count (O.faults out.old) (O.faults out.new) result }
 {
     put_field(out, call.name.bytes())?;
@@ -88,7 +89,8 @@ fn put_call<O: Sink>(out: &mut O, call: &Call) -> Result<(), RunFault>
 
 /// Writes a line of one word.
 fn put_word<O: Sink>(out: &mut O, word: &[u8]) -> Result<(), RunFault>
-    ensures told { Prints result (O.taken out.old) (O.taken out.new) (line_text (line word.now [])) }
+    ensures told { Prints result (O.taken out.old) (O.taken out.new)
+        (line_text (line word.now [])) }
     ensures cause { HasCause Write last_count (O.faults out.old) (O.faults out.new) result }
 {
     put(out, word)?;
@@ -97,7 +99,8 @@ fn put_word<O: Sink>(out: &mut O, word: &[u8]) -> Result<(), RunFault>
 
 /// Begins a line with a word and a number.
 fn put_begun<O: Sink, N: Integer>(out: &mut O, word: &[u8], number: N) -> Result<(), RunFault>
-    ensures told { Prints result (O.taken out.old) (O.taken out.new) (word.now ++ 32 ∷ N.text number) }
+    ensures told { Prints result (O.taken out.old) (O.taken out.new)
+        (word.now ++ 32 ∷ N.text number) }
     ensures cause { HasCause Write last_count (O.faults out.old) (O.faults out.new) result }
 {
     put(out, word)?;
@@ -106,7 +109,8 @@ fn put_begun<O: Sink, N: Integer>(out: &mut O, word: &[u8], number: N) -> Result
 
 /// Writes a line of a word and a number.
 fn put_numbered<O: Sink>(out: &mut O, word: &[u8], number: u32) -> Result<(), RunFault>
-    ensures told { Prints result (O.taken out.old) (O.taken out.new) (line_text (line word.now (decimal number ∷ []))) }
+    ensures told { Prints result (O.taken out.old) (O.taken out.new)
+        (line_text (line word.now (decimal number ∷ []))) }
     ensures cause { HasCause Write last_count (O.faults out.old) (O.faults out.new) result }
 {
     put_begun(out, word, number)?;
@@ -120,7 +124,8 @@ fn put_pair<O: Sink, N: Integer>(
     first: N,
     second: N,
 ) -> Result<(), RunFault>
-    ensures told { Prints result (O.taken out.old) (O.taken out.new) (line_text (line word.now (N.text first ∷ N.text second ∷ []))) }
+    ensures told { Prints result (O.taken out.old) (O.taken out.new)
+        (line_text (line word.now (N.text first ∷ N.text second ∷ []))) }
     ensures cause { HasCause Write last_count (O.faults out.old) (O.faults out.new) result }
 {
     put_begun(out, word, first)?;
@@ -130,7 +135,8 @@ fn put_pair<O: Sink, N: Integer>(
 
 /// Writes a request.
 fn put_ask<O: Sink>(out: &mut O, number: u32, turn: u32, call: &Call) -> Result<(), RunFault>
-    ensures told { Prints result (O.taken out.old) (O.taken out.new) (line_text (line (codes "ask") (decimal number ∷ decimal turn ∷ call_fields call.now))) }
+    ensures told { Prints result (O.taken out.old) (O.taken out.new)
+        (line_text (line (codes "ask") (decimal number ∷ decimal turn ∷ call_fields call.now))) }
     ensures cause { HasCause Write last_count (O.faults out.old) (O.faults out.new) result }
 {
     put_begun(out, b"ask", number)?;
@@ -140,7 +146,8 @@ fn put_ask<O: Sink>(out: &mut O, number: u32, turn: u32, call: &Call) -> Result<
 
 /// Writes a yield.
 fn put_got<O: Sink>(out: &mut O, number: u32, tuples: u8, values: &[Name]) -> Result<(), RunFault>
-    ensures told { Prints result (O.taken out.old) (O.taken out.new) (line_text (line (codes "got") (decimal number ∷ tuple_fields tuples values.now))) }
+    ensures told { Prints result (O.taken out.old) (O.taken out.new)
+        (line_text (line (codes "got") (decimal number ∷ tuple_fields tuples values.now))) }
     ensures cause { HasCause Write last_count (O.faults out.old) (O.faults out.new) result }
 {
     put_begun(out, b"got", number)?;
@@ -150,7 +157,8 @@ fn put_got<O: Sink>(out: &mut O, number: u32, tuples: u8, values: &[Name]) -> Re
 
 /// Writes the values of so many tuples, with a bar between each two.
 fn put_tuples<O: Sink>(out: &mut O, tuples: u8, values: &[Name]) -> Result<(), RunFault>
-    ensures told { Prints result (O.taken out.old) (O.taken out.new) (fields_text (tuple_fields tuples values.now)) }
+    ensures told { Prints result (O.taken out.old) (O.taken out.new)
+        (fields_text (tuple_fields tuples values.now)) }
     ensures cause { HasCause Write last_count (O.faults out.old) (O.faults out.new) result }
 {
     if tuples < 2 {
@@ -170,7 +178,8 @@ fn put_tuples<O: Sink>(out: &mut O, tuples: u8, values: &[Name]) -> Result<(), R
 
 /// Writes the values of a tuple, and a bar.
 fn put_tuple<O: Sink>(out: &mut O, values: &[Name]) -> Result<(), RunFault>
-    ensures told { Prints result (O.taken out.old) (O.taken out.new) (fields_text values.now ++ 32 ∷ codes "|") }
+    ensures told { Prints result (O.taken out.old) (O.taken out.new)
+        (fields_text values.now ++ 32 ∷ codes "|") }
     ensures cause { HasCause Write last_count (O.faults out.old) (O.faults out.new) result }
 {
     put_names(out, values)?;
@@ -179,7 +188,8 @@ fn put_tuple<O: Sink>(out: &mut O, values: &[Name]) -> Result<(), RunFault>
 
 /// Writes a dream.
 fn put_dream<O: Sink>(out: &mut O, uses: &[DreamUse], steps: &[Call]) -> Result<(), RunFault>
-    ensures told { Prints result (O.taken out.old) (O.taken out.new) (text_of_entry (entry.Dream uses.now steps.now)) }
+    ensures told { Prints result (O.taken out.old) (O.taken out.new)
+        (text_of_entry (entry.Dream uses.now steps.now)) }
     ensures cause { HasCause Write last_count (O.faults out.old) (O.faults out.new) result }
 {
     put_pair(out, b"dream", uses.len(), steps.len())?;
@@ -189,7 +199,8 @@ fn put_dream<O: Sink>(out: &mut O, uses: &[DreamUse], steps: &[Call]) -> Result<
 
 /// Writes the entries that a dream uses.
 fn put_uses<O: Sink>(out: &mut O, uses: &[DreamUse]) -> Result<(), RunFault>
-    ensures told { Prints result (O.taken out.old) (O.taken out.new) (lines_text (map use_line uses.now)) }
+    ensures told { Prints result (O.taken out.old) (O.taken out.new)
+        (lines_text (map use_line uses.now)) }
     ensures cause { HasCause Write last_count (O.faults out.old) (O.faults out.new) result }
 {
     for one in uses {
@@ -200,7 +211,8 @@ fn put_uses<O: Sink>(out: &mut O, uses: &[DreamUse]) -> Result<(), RunFault>
 
 /// Writes the steps of a dream.
 fn put_steps<O: Sink>(out: &mut O, steps: &[Call]) -> Result<(), RunFault>
-    ensures told { Prints result (O.taken out.old) (O.taken out.new) (lines_text (map step_line steps.now)) }
+    ensures told { Prints result (O.taken out.old) (O.taken out.new)
+        (lines_text (map step_line steps.now)) }
     ensures cause { HasCause Write last_count (O.faults out.old) (O.faults out.new) result }
 {
     for step in steps {
@@ -211,7 +223,8 @@ fn put_steps<O: Sink>(out: &mut O, steps: &[Call]) -> Result<(), RunFault>
 
 /// Writes an entry that a dream uses.
 fn put_use<O: Sink>(out: &mut O, one: &DreamUse) -> Result<(), RunFault>
-    ensures told { Prints result (O.taken out.old) (O.taken out.new) (line_text (use_line one.now)) }
+    ensures told { Prints result (O.taken out.old) (O.taken out.new)
+        (line_text (use_line one.now)) }
     ensures cause { HasCause Write last_count (O.faults out.old) (O.faults out.new) result }
 {
     put_begun(out, b"use", one.number)?;
@@ -220,7 +233,8 @@ fn put_use<O: Sink>(out: &mut O, one: &DreamUse) -> Result<(), RunFault>
 
 /// Writes a step of a dream.
 fn put_step<O: Sink>(out: &mut O, step: &Call) -> Result<(), RunFault>
-    ensures told { Prints result (O.taken out.old) (O.taken out.new) (line_text (step_line step.now)) }
+    ensures told { Prints result (O.taken out.old) (O.taken out.new)
+        (line_text (step_line step.now)) }
     ensures cause { HasCause Write last_count (O.faults out.old) (O.faults out.new) result }
 {
     put(out, b"step")?;

@@ -46,9 +46,13 @@ fn report<H: Host, O: Sink>(
     requires idle { (k : ℕ) → H.running host.old k ≡ false }
     requires state { Same (H.running host.old) (is_running lines.old) }
     requires empty { (child : ℕ) → held_of lines.old child ≡ [] }
-    ensures reported { IfOk result (IsReported task.now head.now (H.spoken host.new) (H.log host.old) (H.log host.new) (O.taken out.old) (O.taken out.new)) }
-    ensures broken { IfErr result (IsBroken task.now head.now (H.spoken host.new) (H.log host.old) (H.log host.new) (O.taken out.old) (O.taken out.new)) }
-    ensures untouched { IfOk result (λ ran. ran.asks ≡ 0 → (H.log host.new ≡ H.log host.old) × ((k : ℕ) → H.running host.new k ≡ false)) }
+    ensures reported { IfOk result (IsReported task.now head.now (H.spoken host.new)
+        (H.log host.old) (H.log host.new) (O.taken out.old) (O.taken out.new)) }
+    ensures broken { IfErr result (IsBroken task.now head.now (H.spoken host.new) (H.log host.old)
+        (H.log host.new) (O.taken out.old) (O.taken out.new)) }
+    ensures untouched { IfOk result
+        (λ ran. ran.asks ≡ 0 → (H.log host.new ≡ H.log host.old)
+        × ((k : ℕ) → H.running host.new k ≡ false)) }
     ensures state { Same (H.running host.new) (is_running lines.new) }
     ensures host { HasCause Generator H.last (H.faults host.old) (H.faults host.new) result }
     ensures sink { HasCause Write last_count (O.faults out.old) (O.faults out.new) result }
@@ -81,8 +85,10 @@ pub fn incremental<H: Host, O: Sink>(
     requires runnable { IsRunnable task.now head.now }
     requires mode { head.now.mode ≡ Incremental }
     requires idle { (k : ℕ) → H.running host.old k ≡ false }
-    ensures reported { IfOk result (IsReported task.now head.now (H.spoken host.new) (H.log host.old) (H.log host.new) (O.taken out.old) (O.taken out.new)) }
-    ensures broken { IfErr result (IsBroken task.now head.now (H.spoken host.new) (H.log host.old) (H.log host.new) (O.taken out.old) (O.taken out.new)) }
+    ensures reported { IfOk result (IsReported task.now head.now (H.spoken host.new)
+        (H.log host.old) (H.log host.new) (O.taken out.old) (O.taken out.new)) }
+    ensures broken { IfErr result (IsBroken task.now head.now (H.spoken host.new) (H.log host.old)
+        (H.log host.new) (O.taken out.old) (O.taken out.new)) }
     // Where nothing is asked no call is made on a child, so none is started without need.
     ensures unneeded { IfOk result (λ ran. ran.asks ≡ 0 → H.log host.new ≡ H.log host.old) }
     ensures idle { (k : ℕ) → H.running host.new k ≡ false }

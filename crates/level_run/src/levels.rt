@@ -37,8 +37,16 @@ fn mark_level<O: Sink>(session: &mut Session, out: &mut O) -> Result<(), RunFaul
     requires learnt { IsLearnt session.old }
     ensures marked { OnOk result (IsMarked session.old session.new) }
     ensures kept { (task : AnyTask) → IsSession task session.old → IsSession task session.new }
-    ensures goes { OnOk result (Goes session.old.entries (session.old.entries ++ Level ∷ []) (O.taken out.old) (O.taken out.new)) }
-    ensures stopped { (task : AnyTask) (running : ℕ → Bool) (kept : ℕ → List ℕ) (spoken : ℕ → Option Talk) → IsSession task session.old → IsTold task session.old.version session.old.pools session.old.entries running kept spoken → AreStarted session.old.pools (length session.old.asked) running → IfErr result (λ fault. Stopped session.old.version task session.old.pools (λ es. (es ≡ session.old.entries) ⊎ (es ≡ session.old.entries ++ Level ∷ [])) session.old.entries fault (O.taken out.old) (O.taken out.new) spoken (λ more. (more ≡ []) ⊎ (more ≡ Level ∷ []))) }
+    ensures goes { OnOk result (Goes session.old.entries (session.old.entries ++ Level ∷ [])
+        (O.taken out.old) (O.taken out.new)) }
+    ensures stopped { (task : AnyTask) (running : ℕ → Bool) (kept : ℕ → List ℕ)
+        (spoken : ℕ → Option Talk) → IsSession task session.old
+        → IsTold task session.old.version session.old.pools session.old.entries running kept spoken
+        → AreStarted session.old.pools (length session.old.asked) running
+        → IfErr result (λ fault. Stopped session.old.version task session.old.pools
+        (λ es. (es ≡ session.old.entries) ⊎ (es ≡ session.old.entries ++ Level ∷ []))
+        session.old.entries fault (O.taken out.old) (O.taken out.new) spoken
+        (λ more. (more ≡ []) ⊎ (more ≡ Level ∷ []))) }
     ensures only { IfErr result MayWrite }
     ensures cause { HasCause Write last_count (O.faults out.old) (O.faults out.new) result }
 {
@@ -61,21 +69,34 @@ fn run_level<H: Host, O: Sink>(
     requires head { IsOf head.now session.old }
     requires working { session.old.failed ≡ false }
     requires learnt { IsLearnt session.old }
-    requires turn { IsTurn head.now task.now session.old.entries (length session.old.asked) dues.now }
-    requires started { AreStarted session.old.pools (length session.old.asked) (H.running host.old) }
+    requires turn { IsTurn head.now task.now session.old.entries (length session.old.asked)
+        dues.now }
+    requires started { AreStarted session.old.pools (length session.old.asked)
+        (H.running host.old) }
     requires state { Same (H.running host.old) (is_running lines.old) }
-    requires told { IsTold task.now head.now.version (workers_in head.now) session.old.entries (H.running host.old) (held_of lines.old) (H.spoken host.old) }
+    requires told { IsTold task.now head.now.version (workers_in head.now) session.old.entries
+        (H.running host.old) (held_of lines.old) (H.spoken host.old) }
     ensures session { IsSession task.now session.new }
     ensures head { OnOk result (IsOf head.now session.new) }
     ensures working { OnOk result (session.new.failed ≡ false) }
     ensures learnt { OnOk result (IsLearnt session.new) }
-    ensures level { IfOk result (RunsLevel head.now task.now session.old.entries session.new.entries) }
-    ensures ends { IfOk result (EndsBatch task.now session.new.entries (length session.old.asked) (length session.new.asked) head.now.calls (length dues.now)) }
-    ensures told { OnOk result (IsTold task.now head.now.version (workers_in head.now) session.new.entries (H.running host.new) (held_of lines.new) (H.spoken host.new)) }
-    ensures goes { OnOk result (Goes session.old.entries session.new.entries (O.taken out.old) (O.taken out.new)) }
-    ensures order { OnOk result (Runs task.now head.now session.old.entries session.new.entries (H.log host.old) (H.log host.new)) }
-    ensures stopped { IfErr result (λ fault. Stopped head.now.version task.now (workers_in head.now) (IsFront session.old.entries (IsSomeLevel head.now task.now session.old.entries)) session.old.entries fault (O.taken out.old) (O.taken out.new) (H.spoken host.new) (LevelBreaks task.now head.now session.old.entries fault (H.log host.old) (H.log host.new))) }
-    ensures started { OnOk result (AreStarted session.new.pools (length session.new.asked) (H.running host.new)) }
+    ensures level { IfOk result (RunsLevel head.now task.now session.old.entries
+        session.new.entries) }
+    ensures ends { IfOk result (EndsBatch task.now session.new.entries (length session.old.asked)
+        (length session.new.asked) head.now.calls (length dues.now)) }
+    ensures told { OnOk result (IsTold task.now head.now.version (workers_in head.now)
+        session.new.entries (H.running host.new) (held_of lines.new) (H.spoken host.new)) }
+    ensures goes { OnOk result (Goes session.old.entries session.new.entries (O.taken out.old)
+        (O.taken out.new)) }
+    ensures order { OnOk result (Runs task.now head.now session.old.entries session.new.entries
+        (H.log host.old) (H.log host.new)) }
+    ensures stopped { IfErr result (λ fault. Stopped head.now.version task.now (workers_in head.now)
+        (IsFront session.old.entries (IsSomeLevel head.now task.now session.old.entries))
+        session.old.entries fault (O.taken out.old) (O.taken out.new) (H.spoken host.new)
+        (LevelBreaks task.now head.now session.old.entries fault (H.log host.old)
+        (H.log host.new))) }
+    ensures started { OnOk result (AreStarted session.new.pools (length session.new.asked)
+        (H.running host.new)) }
     ensures state { Same (H.running host.new) (is_running lines.new) }
     ensures host { HasCause Generator H.last (H.faults host.old) (H.faults host.new) result }
     ensures sink { HasCause Write last_count (O.faults out.old) (O.faults out.new) result }
@@ -99,19 +120,28 @@ pub(crate) fn run_levels<H: Host, O: Sink>(
     requires session { IsSession task.now session.old }
     requires first { IsNew task.now session.old }
     requires head { IsOf head.now session.old }
-    requires started { AreStarted session.old.pools (length session.old.asked) (H.running host.old) }
+    requires started { AreStarted session.old.pools (length session.old.asked)
+        (H.running host.old) }
     requires state { Same (H.running host.old) (is_running lines.old) }
     requires empty { (child : ℕ) → held_of lines.old child ≡ [] }
     ensures run { IfOk result (λ ran. IsRun task.now head.now session.new.entries ran.0) }
     ensures levels { IfOk result (λ ran. ran.1 ≡ count_by is_level session.new.entries) }
     ensures asks { OnOk result (length session.new.asked ≡ asks_of session.new.entries) }
-    ensures untouched { OnOk result (length session.new.asked ≡ 0 → (H.log host.new ≡ H.log host.old) × ((k : ℕ) → H.running host.new k ≡ false)) }
-    ensures talks { OnOk result (Dialogue task.now head.now.version (workers_in head.now) session.new.entries (H.spoken host.new)) }
+    ensures untouched { OnOk result
+        (length session.new.asked ≡ 0 → (H.log host.new ≡ H.log host.old)
+        × ((k : ℕ) → H.running host.new k ≡ false)) }
+    ensures talks { OnOk result (Dialogue task.now head.now.version (workers_in head.now)
+        session.new.entries (H.spoken host.new)) }
     ensures goes { OnOk result (Goes [] session.new.entries (O.taken out.old) (O.taken out.new)) }
-    ensures order { OnOk result (Runs task.now head.now [] session.new.entries (H.log host.old) (H.log host.new)) }
-    ensures needed { OnOk result ((H.log host.new ≡ H.log host.old) ⊎ HasLevel session.new.entries) }
+    ensures order { OnOk result (Runs task.now head.now [] session.new.entries (H.log host.old)
+        (H.log host.new)) }
+    ensures needed { OnOk result ((H.log host.new ≡ H.log host.old)
+        ⊎ HasLevel session.new.entries) }
     ensures closed { OnOk result (HasNoneOpen session.new.entries) }
-    ensures stopped { IfErr result (λ fault. Stopped head.now.version task.now (workers_in head.now) (IsFrontOfRun head.now task.now) [] fault (O.taken out.old) (O.taken out.new) (H.spoken host.new) (LevelBreaks task.now head.now [] fault (H.log host.old) (H.log host.new))) }
+    ensures stopped { IfErr result (λ fault. Stopped head.now.version task.now (workers_in head.now)
+        (IsFrontOfRun head.now task.now) [] fault (O.taken out.old) (O.taken out.new)
+        (H.spoken host.new) (LevelBreaks task.now head.now [] fault (H.log host.old)
+        (H.log host.new))) }
     ensures state { Same (H.running host.new) (is_running lines.new) }
     ensures host { HasCause Generator H.last (H.faults host.old) (H.faults host.new) result }
     ensures sink { HasCause Write last_count (O.faults out.old) (O.faults out.new) result }

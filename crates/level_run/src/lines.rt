@@ -79,11 +79,17 @@ impl Lines {
         requires idle { is_running self.old child ≡ false }
         requires state { Same (H.running host.old) (is_running self.old) }
         ensures state { Same (H.running host.new) (is_running self.new) }
-        ensures running { OnOk result (Becomes child true (is_running self.old) (is_running self.new)) }
-        ensures silent { AreSilent (is_running self.old) (H.spoken host.old) → AreSilent (is_running self.new) (H.spoken host.new) }
+        ensures running { OnOk result
+            (Becomes child true (is_running self.old) (is_running self.new)) }
+        ensures silent { AreSilent (is_running self.old) (H.spoken host.old)
+            → AreSilent (is_running self.new) (H.spoken host.new) }
         ensures kept { self.new.buffers ≡ self.old.buffers }
-        ensures log { OnOk result (Logs (H.log host.old) (H.log host.new) (started child (map string_bytes argv.now) (Ok tt))) }
-        ensures refused { IfErr result (λ fault. (cause : AnyHostFault) × IsHostFault cause fault × Logs (H.log host.old) (H.log host.new) (started child (map string_bytes argv.now) (Err cause))) }
+        ensures log { OnOk result (Logs (H.log host.old) (H.log host.new)
+            (started child (map string_bytes argv.now) (Ok tt))) }
+        ensures refused { IfErr result
+            (λ fault. (cause : AnyHostFault) × IsHostFault cause fault
+            × Logs (H.log host.old) (H.log host.new)
+            (started child (map string_bytes argv.now) (Err cause))) }
         ensures only { IfErr result MayHear }
         ensures cause { HasCause Generator H.last (H.faults host.old) (H.faults host.new) result }
     {
@@ -99,12 +105,17 @@ impl Lines {
         requires idle { (child : ℕ) → IsWorker pool.now child → is_running self.old child ≡ false }
         requires state { Same (H.running host.old) (is_running self.old) }
         ensures state { Same (H.running host.new) (is_running self.new) }
-        ensures running { OnOk result ((child : ℕ) → IsWorker pool.now child → is_running self.new child ≡ true) }
-        ensures silent { AreSilent (is_running self.old) (H.spoken host.old) → AreSilent (is_running self.new) (H.spoken host.new) }
+        ensures running { OnOk result
+            ((child : ℕ) → IsWorker pool.now child → is_running self.new child ≡ true) }
+        ensures silent { AreSilent (is_running self.old) (H.spoken host.old)
+            → AreSilent (is_running self.new) (H.spoken host.new) }
         ensures kept { self.new.buffers ≡ self.old.buffers }
         ensures log { OnOk result (Extends (H.log host.old) (H.log host.new) (starts_in pool.now)) }
-        ensures refused { IfErr result (λ fault. LogStartsPart (starts_in pool.now) fault (H.log host.old) (H.log host.new)) }
-        ensures others { OnOk result ((child : ℕ) → ¬ (IsWorker pool.now child) → is_running self.new child ≡ is_running self.old child) }
+        ensures refused { IfErr result
+            (λ fault. LogStartsPart (starts_in pool.now) fault (H.log host.old) (H.log host.new)) }
+        ensures others { OnOk result
+            ((child : ℕ) → ¬ (IsWorker pool.now child) → is_running self.new child
+            ≡ is_running self.old child) }
         ensures only { IfErr result MayHear }
         ensures cause { HasCause Generator H.last (H.faults host.old) (H.faults host.new) result }
     {
@@ -125,10 +136,13 @@ impl Lines {
         requires state { Same (H.running host.old) (is_running self.old) }
         ensures state { Same (H.running host.new) (is_running self.new) }
         ensures running { OnOk result (AllWork pools.now (is_running self.new)) }
-        ensures silent { AreSilent (is_running self.old) (H.spoken host.old) → AreSilent (is_running self.new) (H.spoken host.new) }
+        ensures silent { AreSilent (is_running self.old) (H.spoken host.old)
+            → AreSilent (is_running self.new) (H.spoken host.new) }
         ensures kept { self.new.buffers ≡ self.old.buffers }
-        ensures log { OnOk result (Extends (H.log host.old) (H.log host.new) (starts_of pools.now)) }
-        ensures refused { IfErr result (λ fault. LogStartsPart (starts_of pools.now) fault (H.log host.old) (H.log host.new)) }
+        ensures log { OnOk result (Extends (H.log host.old) (H.log host.new)
+            (starts_of pools.now)) }
+        ensures refused { IfErr result
+            (λ fault. LogStartsPart (starts_of pools.now) fault (H.log host.old) (H.log host.new)) }
         ensures only { IfErr result MayHear }
         ensures cause { HasCause Generator H.last (H.faults host.old) (H.faults host.new) result }
     {

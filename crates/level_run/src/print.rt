@@ -9,15 +9,16 @@ ghost use Rattle.report_text.specs.Texts.{text_of_head};
 
 use crate::fault::RunFault;
 use io_world::{Sink, write_all};
+use report_text::{head_text, outcome_text};
 use std::alloc::Global;
 use task_model::Task;
-use report_text::{head_text, outcome_text};
 use transcript_model::{Head, Outcome};
 
 /// Writes these bytes to the sink.
 fn print<O: Sink>(out: &mut O, bytes: &[u8]) -> Result<(), RunFault>
     ensures all { OnOk result (Appends (O.taken out.old) (O.taken out.new) bytes.now) }
-    ensures part { IfErr result (λ fault. StopsAt fault (O.taken out.old) (O.taken out.new) bytes.now) }
+    ensures part { IfErr result (λ fault. StopsAt fault (O.taken out.old) (O.taken out.new)
+        bytes.now) }
     ensures only { IfErr result (λ fault. fault ≡ Write) }
     ensures cause { HasCause Write last_count (O.faults out.old) (O.faults out.new) result }
 {
@@ -35,8 +36,10 @@ pub(crate) fn print_head<O: Sink>(
     out: &mut O,
 ) -> Result<(), RunFault>
     requires streams { AreStreamsOf task.now head.now }
-    ensures all { OnOk result (Appends (O.taken out.old) (O.taken out.new) (text_of_head task.now head.now)) }
-    ensures part { IfErr result (λ fault. Misses fault (O.taken out.old) (O.taken out.new) (text_of_head task.now head.now)) }
+    ensures all { OnOk result (Appends (O.taken out.old) (O.taken out.new)
+        (text_of_head task.now head.now)) }
+    ensures part { IfErr result (λ fault. Misses fault (O.taken out.old) (O.taken out.new)
+        (text_of_head task.now head.now)) }
     ensures only { IfErr result MayWrite }
     ensures cause { HasCause Write last_count (O.faults out.old) (O.faults out.new) result }
 {
@@ -51,8 +54,10 @@ pub(crate) fn print_end<O: Sink>(
     outcome: &Outcome,
     version: u8,
 ) -> Result<(), RunFault>
-    ensures all { OnOk result (Appends (O.taken out.old) (O.taken out.new) (text_of_end version outcome.now)) }
-    ensures part { IfErr result (λ fault. Misses fault (O.taken out.old) (O.taken out.new) (text_of_end version outcome.now)) }
+    ensures all { OnOk result (Appends (O.taken out.old) (O.taken out.new)
+        (text_of_end version outcome.now)) }
+    ensures part { IfErr result (λ fault. Misses fault (O.taken out.old) (O.taken out.new)
+        (text_of_end version outcome.now)) }
     ensures only { IfErr result MayWrite }
     ensures cause { HasCause Write last_count (O.faults out.old) (O.faults out.new) result }
 {

@@ -46,10 +46,27 @@ fn send_one<H: Host, O: Sink>(
     ensures same { OnOk result (IsSameRound session.old session.new) }
     ensures rolling { OnOk result (IsRolling session.new (H.running host.new) (place + 1) 0) }
     ensures many { OnOk result (length session.new.slots ≡ length session.old.slots) }
-    ensures goes { OnOk result (Goes (session.old.entries ++ take place session.old.asks) (session.old.entries ++ take (place + 1) session.old.asks) (O.taken out.old) (O.taken out.new)) }
-    ensures talking { (task : AnyTask) (kept : ℕ → List ℕ) → IsTalking task session.old place 0 kept (H.spoken host.old) → OnOk result (IsTalking task session.new (place + 1) 0 kept (H.spoken host.new)) }
-    ensures order { (task : AnyTask) (kept : ℕ → List ℕ) → IsSession task session.old → IsTalking task session.old place 0 kept (H.spoken host.old) → OnOk result (Calls task session.old.pools (session.old.entries ++ take place session.old.asks) (session.old.entries ++ take (place + 1) session.old.asks) (H.log host.old) (H.log host.new)) }
-    ensures stopped { (task : AnyTask) (kept : ℕ → List ℕ) → IsSession task session.old → IsTalking task session.old place 0 kept (H.spoken host.old) → IfErr result (λ fault. Stopped session.old.version task session.old.pools (IsFront session.old.entries (IsRound task session.old.entries session.old.instances)) (session.old.entries ++ take place session.old.asks) fault (O.taken out.old) (O.taken out.new) (H.spoken host.new) (LogBreaks task session.old.version session.old.pools (session.old.entries ++ take place session.old.asks) fault (H.log host.old) (H.log host.new))) }
+    ensures goes { OnOk result (Goes (session.old.entries ++ take place session.old.asks)
+        (session.old.entries ++ take (place + 1) session.old.asks) (O.taken out.old)
+        (O.taken out.new)) }
+    ensures talking { (task : AnyTask) (kept : ℕ → List ℕ)
+        → IsTalking task session.old place 0 kept (H.spoken host.old)
+        → OnOk result (IsTalking task session.new (place + 1) 0 kept (H.spoken host.new)) }
+    ensures order { (task : AnyTask) (kept : ℕ → List ℕ) → IsSession task session.old
+        → IsTalking task session.old place 0 kept (H.spoken host.old)
+        → OnOk result (Calls task session.old.pools
+        (session.old.entries ++ take place session.old.asks)
+        (session.old.entries ++ take (place + 1) session.old.asks) (H.log host.old)
+        (H.log host.new)) }
+    ensures stopped { (task : AnyTask) (kept : ℕ → List ℕ) → IsSession task session.old
+        → IsTalking task session.old place 0 kept (H.spoken host.old)
+        → IfErr result (λ fault. Stopped session.old.version task session.old.pools
+        (IsFront session.old.entries (IsRound task session.old.entries session.old.instances))
+        (session.old.entries ++ take place session.old.asks) fault (O.taken out.old)
+        (O.taken out.new) (H.spoken host.new)
+        (LogBreaks task session.old.version session.old.pools
+        (session.old.entries ++ take place session.old.asks) fault (H.log host.old)
+        (H.log host.new))) }
     ensures kept { (task : AnyTask) → IsSession task session.old → IsSession task session.new }
     ensures running { Same (H.running host.old) (H.running host.new) }
     ensures host { HasCause Generator H.last (H.faults host.old) (H.faults host.new) result }
@@ -73,10 +90,22 @@ fn send_all<H: Host, O: Sink>(
     ensures same { OnOk result (IsSameRound session.old session.new) }
     ensures rolling { OnOk result (IsRolling session.new (H.running host.new) count 0) }
     ensures many { OnOk result (length session.new.slots ≡ length session.old.slots) }
-    ensures goes { OnOk result (Goes session.old.entries (session.old.entries ++ session.old.asks) (O.taken out.old) (O.taken out.new)) }
-    ensures talking { (task : AnyTask) (kept : ℕ → List ℕ) → IsTalking task session.old 0 0 kept (H.spoken host.old) → OnOk result (IsTalking task session.new count 0 kept (H.spoken host.new)) }
-    ensures order { (task : AnyTask) (kept : ℕ → List ℕ) → IsSession task session.old → IsTalking task session.old 0 0 kept (H.spoken host.old) → OnOk result (Calls task session.old.pools session.old.entries (session.old.entries ++ session.old.asks) (H.log host.old) (H.log host.new)) }
-    ensures stopped { (task : AnyTask) (kept : ℕ → List ℕ) → IsSession task session.old → IsTalking task session.old 0 0 kept (H.spoken host.old) → IfErr result (λ fault. Stopped session.old.version task session.old.pools (IsFront session.old.entries (IsRound task session.old.entries session.old.instances)) session.old.entries fault (O.taken out.old) (O.taken out.new) (H.spoken host.new) (LogBreaks task session.old.version session.old.pools session.old.entries fault (H.log host.old) (H.log host.new))) }
+    ensures goes { OnOk result (Goes session.old.entries (session.old.entries ++ session.old.asks)
+        (O.taken out.old) (O.taken out.new)) }
+    ensures talking { (task : AnyTask) (kept : ℕ → List ℕ)
+        → IsTalking task session.old 0 0 kept (H.spoken host.old)
+        → OnOk result (IsTalking task session.new count 0 kept (H.spoken host.new)) }
+    ensures order { (task : AnyTask) (kept : ℕ → List ℕ) → IsSession task session.old
+        → IsTalking task session.old 0 0 kept (H.spoken host.old)
+        → OnOk result (Calls task session.old.pools session.old.entries
+        (session.old.entries ++ session.old.asks) (H.log host.old) (H.log host.new)) }
+    ensures stopped { (task : AnyTask) (kept : ℕ → List ℕ) → IsSession task session.old
+        → IsTalking task session.old 0 0 kept (H.spoken host.old)
+        → IfErr result (λ fault. Stopped session.old.version task session.old.pools
+        (IsFront session.old.entries (IsRound task session.old.entries session.old.instances))
+        session.old.entries fault (O.taken out.old) (O.taken out.new) (H.spoken host.new)
+        (LogBreaks task session.old.version session.old.pools session.old.entries fault
+        (H.log host.old) (H.log host.new))) }
     ensures kept { (task : AnyTask) → IsSession task session.old → IsSession task session.new }
     ensures running { Same (H.running host.old) (H.running host.new) }
     ensures host { HasCause Generator H.last (H.faults host.old) (H.faults host.new) result }
@@ -100,11 +129,16 @@ fn hear_child<H: Host>(
     requires runs { H.running host.old child ≡ true }
     requires working { session.old.failed ≡ false }
     requires awaited { IsAwaited session.old.slots child }
-    ensures taken { OnOk result (TakesAnswer session.old child session.new (held_of lines.old child) (held_of lines.new child) (H.spoken host.old) (H.spoken host.new)) }
+    ensures taken { OnOk result (TakesAnswer session.old child session.new (held_of lines.old child)
+        (held_of lines.new child) (H.spoken host.old) (H.spoken host.new)) }
     ensures others { (k : ℕ) → k ≢ child → held_of lines.new k ≡ held_of lines.old k }
-    ensures misheard { IfErr result (Misheard session.old.slots child (held_of lines.old child) (H.spoken host.old) (H.spoken host.new)) }
-    ensures log { OnOk result (LogReads child (held_of lines.old child) (H.log host.old) (H.log host.new)) }
-    ensures refused { IfErr result (λ fault. LogHears child (held_of lines.old child) fault (H.log host.old) (H.log host.new)) }
+    ensures misheard { IfErr result
+        (Misheard session.old.slots child (held_of lines.old child) (H.spoken host.old)
+        (H.spoken host.new)) }
+    ensures log { OnOk result (LogReads child (held_of lines.old child) (H.log host.old)
+        (H.log host.new)) }
+    ensures refused { IfErr result (λ fault. LogHears child (held_of lines.old child) fault
+        (H.log host.old) (H.log host.new)) }
     ensures kept { (task : AnyTask) → IsSession task session.old → IsSession task session.new }
     ensures started { lines.new.started ≡ lines.old.started }
     ensures running { Same (H.running host.old) (H.running host.new) }
@@ -125,14 +159,39 @@ fn hear_one<H: Host, O: Sink>(
     requires within { place < length session.old.slots }
     requires state { Same (H.running host.old) (is_running lines.old) }
     ensures same { OnOk result (IsSameRound session.old session.new) }
-    ensures rolling { OnOk result (IsRolling session.new (H.running host.new) (length session.new.slots) (place + 1)) }
+    ensures rolling { OnOk result (IsRolling session.new (H.running host.new)
+        (length session.new.slots) (place + 1)) }
     ensures many { OnOk result (length session.new.slots ≡ length session.old.slots) }
-    ensures front { OnOk result (take place (finished session.new.slots) ≡ take place (finished session.old.slots)) }
-    ensures goes { OnOk result (Goes (session.old.entries ++ session.old.asks ++ take place (finished session.new.slots)) (session.old.entries ++ session.old.asks ++ take (place + 1) (finished session.new.slots)) (O.taken out.old) (O.taken out.new)) }
-    ensures talking { (task : AnyTask) → IsSession task session.old → IsTalking task session.old (length session.old.slots) place (held_of lines.old) (H.spoken host.old) → OnOk result (IsTalking task session.new (length session.new.slots) (place + 1) (held_of lines.new) (H.spoken host.new)) }
-    ensures idle { (k : ℕ) → H.running host.old k ≡ false → held_of lines.new k ≡ held_of lines.old k }
-    ensures order { (task : AnyTask) → IsSession task session.old → IsTalking task session.old (length session.old.slots) place (held_of lines.old) (H.spoken host.old) → OnOk result (Calls task session.old.pools (session.old.entries ++ session.old.asks ++ take place (finished session.new.slots)) (session.old.entries ++ session.old.asks ++ take (place + 1) (finished session.new.slots)) (H.log host.old) (H.log host.new)) }
-    ensures stopped { (task : AnyTask) → IsSession task session.old → IsTalking task session.old (length session.old.slots) place (held_of lines.old) (H.spoken host.old) → IfErr result (λ fault. Stopped session.old.version task session.old.pools (IsFront session.old.entries (IsRound task session.old.entries session.old.instances)) (session.old.entries ++ session.old.asks ++ take place (finished session.old.slots)) fault (O.taken out.old) (O.taken out.new) (H.spoken host.new) (LogBreaks task session.old.version session.old.pools (session.old.entries ++ session.old.asks ++ take place (finished session.old.slots)) fault (H.log host.old) (H.log host.new))) }
+    ensures front { OnOk result (take place (finished session.new.slots)
+        ≡ take place (finished session.old.slots)) }
+    ensures goes { OnOk result (Goes
+        (session.old.entries ++ session.old.asks ++ take place (finished session.new.slots))
+        (session.old.entries ++ session.old.asks ++ take (place + 1) (finished session.new.slots))
+        (O.taken out.old) (O.taken out.new)) }
+    ensures talking { (task : AnyTask) → IsSession task session.old
+        → IsTalking task session.old (length session.old.slots) place (held_of lines.old)
+        (H.spoken host.old) → OnOk result
+        (IsTalking task session.new (length session.new.slots) (place + 1) (held_of lines.new)
+        (H.spoken host.new)) }
+    ensures idle { (k : ℕ) → H.running host.old k ≡ false → held_of lines.new k
+        ≡ held_of lines.old k }
+    ensures order { (task : AnyTask) → IsSession task session.old
+        → IsTalking task session.old (length session.old.slots) place (held_of lines.old)
+        (H.spoken host.old) → OnOk result
+        (Calls task session.old.pools
+        (session.old.entries ++ session.old.asks ++ take place (finished session.new.slots))
+        (session.old.entries ++ session.old.asks ++ take (place + 1) (finished session.new.slots))
+        (H.log host.old) (H.log host.new)) }
+    ensures stopped { (task : AnyTask) → IsSession task session.old
+        → IsTalking task session.old (length session.old.slots) place (held_of lines.old)
+        (H.spoken host.old) → IfErr result
+        (λ fault. Stopped session.old.version task session.old.pools
+        (IsFront session.old.entries (IsRound task session.old.entries session.old.instances))
+        (session.old.entries ++ session.old.asks ++ take place (finished session.old.slots)) fault
+        (O.taken out.old) (O.taken out.new) (H.spoken host.new)
+        (LogBreaks task session.old.version session.old.pools
+        (session.old.entries ++ session.old.asks ++ take place (finished session.old.slots)) fault
+        (H.log host.old) (H.log host.new))) }
     ensures kept { (task : AnyTask) → IsSession task session.old → IsSession task session.new }
     ensures started { lines.new.started ≡ lines.old.started }
     ensures running { Same (H.running host.old) (H.running host.new) }
@@ -161,11 +220,27 @@ fn hear_all<H: Host, O: Sink>(
     ensures same { OnOk result (IsSameRound session.old session.new) }
     ensures rolling { OnOk result (IsRolling session.new (H.running host.new) count count) }
     ensures many { OnOk result (length session.new.slots ≡ length session.old.slots) }
-    ensures goes { OnOk result (Goes (session.old.entries ++ session.old.asks) (session.old.entries ++ session.old.asks ++ finished session.new.slots) (O.taken out.old) (O.taken out.new)) }
-    ensures talking { (task : AnyTask) → IsSession task session.old → IsTalking task session.old count 0 (held_of lines.old) (H.spoken host.old) → OnOk result (IsTalking task session.new count count (held_of lines.new) (H.spoken host.new)) }
-    ensures idle { (k : ℕ) → H.running host.old k ≡ false → held_of lines.new k ≡ held_of lines.old k }
-    ensures order { (task : AnyTask) → IsSession task session.old → IsTalking task session.old count 0 (held_of lines.old) (H.spoken host.old) → OnOk result (Calls task session.old.pools (session.old.entries ++ session.old.asks) (session.old.entries ++ session.old.asks ++ finished session.new.slots) (H.log host.old) (H.log host.new)) }
-    ensures stopped { (task : AnyTask) → IsSession task session.old → IsTalking task session.old count 0 (held_of lines.old) (H.spoken host.old) → IfErr result (λ fault. Stopped session.old.version task session.old.pools (IsFront session.old.entries (IsRound task session.old.entries session.old.instances)) (session.old.entries ++ session.old.asks) fault (O.taken out.old) (O.taken out.new) (H.spoken host.new) (LogBreaks task session.old.version session.old.pools (session.old.entries ++ session.old.asks) fault (H.log host.old) (H.log host.new))) }
+    ensures goes { OnOk result (Goes (session.old.entries ++ session.old.asks)
+        (session.old.entries ++ session.old.asks ++ finished session.new.slots) (O.taken out.old)
+        (O.taken out.new)) }
+    ensures talking { (task : AnyTask) → IsSession task session.old
+        → IsTalking task session.old count 0 (held_of lines.old) (H.spoken host.old)
+        → OnOk result (IsTalking task session.new count count (held_of lines.new)
+        (H.spoken host.new)) }
+    ensures idle { (k : ℕ) → H.running host.old k ≡ false → held_of lines.new k
+        ≡ held_of lines.old k }
+    ensures order { (task : AnyTask) → IsSession task session.old
+        → IsTalking task session.old count 0 (held_of lines.old) (H.spoken host.old)
+        → OnOk result (Calls task session.old.pools (session.old.entries ++ session.old.asks)
+        (session.old.entries ++ session.old.asks ++ finished session.new.slots) (H.log host.old)
+        (H.log host.new)) }
+    ensures stopped { (task : AnyTask) → IsSession task session.old
+        → IsTalking task session.old count 0 (held_of lines.old) (H.spoken host.old)
+        → IfErr result (λ fault. Stopped session.old.version task session.old.pools
+        (IsFront session.old.entries (IsRound task session.old.entries session.old.instances))
+        (session.old.entries ++ session.old.asks) fault (O.taken out.old) (O.taken out.new)
+        (H.spoken host.new) (LogBreaks task session.old.version session.old.pools
+        (session.old.entries ++ session.old.asks) fault (H.log host.old) (H.log host.new))) }
     ensures kept { (task : AnyTask) → IsSession task session.old → IsSession task session.new }
     ensures started { lines.new.started ≡ lines.old.started }
     ensures running { Same (H.running host.old) (H.running host.new) }
@@ -192,20 +267,33 @@ pub(crate) fn run_round<H: Host, O: Sink>(
     requires round { MayBeginRound task.now session.old dues.now }
     requires all_run { AllRun session.old.pools (H.running host.old) }
     requires state { Same (H.running host.old) (is_running lines.old) }
-    requires told { IsTold task.now session.old.version session.old.pools session.old.entries (H.running host.old) (held_of lines.old) (H.spoken host.old) }
+    requires told { IsTold task.now session.old.version session.old.pools session.old.entries
+        (H.running host.old) (held_of lines.old) (H.spoken host.old) }
     ensures session { IsSession task.now session.new }
-    ensures told { OnOk result (IsTold task.now session.new.version session.new.pools session.new.entries (H.running host.new) (held_of lines.new) (H.spoken host.new)) }
+    ensures told { OnOk result (IsTold task.now session.new.version session.new.pools
+        session.new.entries (H.running host.new) (held_of lines.new) (H.spoken host.new)) }
     ensures working { OnOk result (session.new.failed ≡ false) }
     ensures learnt { OnOk result (IsLearnt session.new) }
     ensures calls { OnOk result (session.new.calls ≡ session.old.calls) }
     ensures version { OnOk result (session.new.version ≡ session.old.version) }
     ensures pools { OnOk result (session.new.pools ≡ session.old.pools) }
-    ensures asked { OnOk result (length session.new.asked ≡ length session.old.asked + length dues.now) }
-    ensures round { OnOk result ((more : List AnyEntry) × (session.new.entries ≡ session.old.entries ++ more) × IsRound task.now session.old.entries (instances_of dues.now) more) }
-    ensures rest { (rest : List AnyDue) (count : ℕ) → dues.now ≡ take count rest → AreReady task.now session.old.entries rest → OnOk result (AreReady task.now session.new.entries (drop count rest)) }
-    ensures goes { OnOk result (Goes session.old.entries session.new.entries (O.taken out.old) (O.taken out.new)) }
-    ensures order { OnOk result (Calls task.now session.old.pools session.old.entries session.new.entries (H.log host.old) (H.log host.new)) }
-    ensures stopped { IfErr result (λ fault. Stopped session.old.version task.now session.old.pools (IsFront session.old.entries (IsRound task.now session.old.entries (instances_of dues.now))) session.old.entries fault (O.taken out.old) (O.taken out.new) (H.spoken host.new) (LogBreaks task.now session.old.version session.old.pools session.old.entries fault (H.log host.old) (H.log host.new))) }
+    ensures asked { OnOk result (length session.new.asked
+        ≡ length session.old.asked + length dues.now) }
+    ensures round { OnOk result ((more : List AnyEntry)
+        × (session.new.entries ≡ session.old.entries ++ more)
+        × IsRound task.now session.old.entries (instances_of dues.now) more) }
+    ensures rest { (rest : List AnyDue) (count : ℕ) → dues.now ≡ take count rest
+        → AreReady task.now session.old.entries rest
+        → OnOk result (AreReady task.now session.new.entries (drop count rest)) }
+    ensures goes { OnOk result (Goes session.old.entries session.new.entries (O.taken out.old)
+        (O.taken out.new)) }
+    ensures order { OnOk result (Calls task.now session.old.pools session.old.entries
+        session.new.entries (H.log host.old) (H.log host.new)) }
+    ensures stopped { IfErr result (λ fault. Stopped session.old.version task.now session.old.pools
+        (IsFront session.old.entries (IsRound task.now session.old.entries (instances_of dues.now)))
+        session.old.entries fault (O.taken out.old) (O.taken out.new) (H.spoken host.new)
+        (LogBreaks task.now session.old.version session.old.pools session.old.entries fault
+        (H.log host.old) (H.log host.new))) }
     ensures started { lines.new.started ≡ lines.old.started }
     ensures running { Same (H.running host.old) (H.running host.new) }
     ensures host { HasCause Generator H.last (H.faults host.old) (H.faults host.new) result }

@@ -44,7 +44,8 @@ module _ (paths : TaskFiles) (old first second : Option (List Asked)) where
       both : Extends old second (ask paths.domain (Ok tt) ∷ ask paths.problem (Ok tt) ∷ [])
       both = extends_more old first second (ask paths.domain (Ok tt) ∷ []) (ask paths.problem (Ok tt) ∷ []) domain problem
 
-      pub stopped_at_streams : (third : Option (List Asked)) (why : Stop) → AsksOne paths.streams (role.Text Streams) second third why → AsksUpTo paths old third why
+      pub stopped_at_streams : (third : Option (List Asked)) (why : Stop) → AsksOne paths.streams (role.Text Streams) second third why
+          → AsksUpTo paths old third why
       stopped_at_streams third why one = record {
         text = Streams;
         answer = one.answer;
@@ -52,14 +53,16 @@ module _ (paths : TaskFiles) (old first second : Option (List Asked)) where
         asked = extends_more old second third (ask paths.domain (Ok tt) ∷ ask paths.problem (Ok tt) ∷ []) (ask paths.streams one.answer ∷ []) both one.asked;
       }
 
-      pub all_read : (third : Option (List Asked)) → Extends second third (ask paths.streams (Ok tt) ∷ []) → Extends old third (asks_to paths Streams (Ok tt))
+      pub all_read : (third : Option (List Asked)) → Extends second third (ask paths.streams (Ok tt) ∷ [])
+          → Extends old third (asks_to paths Streams (Ok tt))
       all_read third streams = extends_more old second third (ask paths.domain (Ok tt) ∷ ask paths.problem (Ok tt) ∷ []) (ask paths.streams (Ok tt) ∷ []) both streams
 
 -- ---- the files of a replay
 
 module _ (words : ReplayWords) (old first second : Option (List Asked)) (task : Extends old first (asks_to words.files Streams (Ok tt))) where
   -- the report was asked for
-  pub report_asked : (answer : Result (Unit {0}) FileFault) → Extends first second (ask words.report answer ∷ []) → Extends old second (asks_to_report words answer)
+  pub report_asked : (answer : Result (Unit {0}) FileFault) → Extends first second (ask words.report answer ∷ [])
+      → Extends old second (asks_to_report words answer)
   report_asked answer asked = extends_more old first second (asks_to words.files Streams (Ok tt)) (ask words.report answer ∷ []) task asked
 
 -- ---- a run
@@ -84,7 +87,8 @@ module _ (words : List (List ℕ)) (old new : Option (List Asked)) where
   asked_running fault.Memory all = front_of_all all
 
   -- no task was read
-  pub asked_reading : (command : Command) → command_of words ≡ Some command → (why : Stop) → AsksUpTo (files_of command) old new why → AsksBefore words old new why
+  pub asked_reading : (command : Command) → command_of words ≡ Some command → (why : Stop) → AsksUpTo (files_of command) old new why
+      → AsksBefore words old new why
   asked_reading command meant stop.Usage a = absurd a.fits
   asked_reading command meant (stop.Input which kind place) a = inl (record { command = command; meant = meant; files = a })
   asked_reading command meant (stop.Failed which) a = inl (record { command = command; meant = meant; files = a })
@@ -92,18 +96,25 @@ module _ (words : List (List ℕ)) (old new : Option (List Asked)) where
   asked_reading command meant (stop.Run (fault.Answer number why)) a = absurd a.fits
   asked_reading command meant (stop.Run fault.Generator) a = absurd a.fits
   asked_reading command meant (stop.Run fault.Write) a = absurd a.fits
-  asked_reading command meant (stop.Run fault.Memory) a = inl (record { command = command; meant = meant; text = a.text; answer = a.answer; asked = a.asked })
+  asked_reading command meant (stop.Run fault.Memory) a =
+      inl (record { command = command; meant = meant; text = a.text; answer = a.answer; asked = a.asked })
 
   -- no report was read
-  pub asked_report : (command : ReplayWords) → command_of words ≡ Some (replay command) → (why : Stop) (answer : Result (Unit {0}) FileFault) → IsAnswerFor role.Report answer why → Extends old new (asks_to_report command answer) → AsksBefore words old new why
+  pub asked_report : (command : ReplayWords) → command_of words ≡ Some (replay command)
+      → (why : Stop) (answer : Result (Unit {0}) FileFault) → IsAnswerFor role.Report answer why
+      → Extends old new (asks_to_report command answer) → AsksBefore words old new why
   asked_report command meant stop.Usage answer fits a = absurd fits
-  asked_report command meant (stop.Input which kind place) answer fits a = inr (record { command = command; meant = meant; answer = answer; fits = fits; asked = a })
-  asked_report command meant (stop.Failed which) answer fits a = inr (record { command = command; meant = meant; answer = answer; fits = fits; asked = a })
-  asked_report command meant (stop.TooLong which) answer fits a = inr (record { command = command; meant = meant; answer = answer; fits = fits; asked = a })
+  asked_report command meant (stop.Input which kind place) answer fits a =
+      inr (record { command = command; meant = meant; answer = answer; fits = fits; asked = a })
+  asked_report command meant (stop.Failed which) answer fits a =
+      inr (record { command = command; meant = meant; answer = answer; fits = fits; asked = a })
+  asked_report command meant (stop.TooLong which) answer fits a =
+      inr (record { command = command; meant = meant; answer = answer; fits = fits; asked = a })
   asked_report command meant (stop.Run (fault.Answer number why)) answer fits a = absurd fits
   asked_report command meant (stop.Run fault.Generator) answer fits a = absurd fits
   asked_report command meant (stop.Run fault.Write) answer fits a = absurd fits
-  asked_report command meant (stop.Run fault.Memory) answer fits a = inr (record { command = command; meant = meant; answer = answer; asked = a })
+  asked_report command meant (stop.Run fault.Memory) answer fits a =
+      inr (record { command = command; meant = meant; answer = answer; asked = a })
 
   some_before : (why : Stop) → AsksBefore words old new why → AsksSome words old new
   some_before stop.Usage a = inl a
@@ -121,7 +132,9 @@ module _ (words : List (List ℕ)) (old new : Option (List Asked)) where
     asked_written why a = some_before why a
 
     -- the run has an outcome
-    pub asked_completed : {unused : Type 0} {spoken : ℕ → Option Talk} {was log : Option (List Event)} {from to : Option (List ℕ)} (status : Status) → IsCompleted words told unused spoken was log from to status → AsksAll words old new → AsksFiles words told rose old new before now status
+    pub asked_completed : {unused : Type 0} {spoken : ℕ → Option Talk} {was log : Option (List Event)} {from to : Option (List ℕ)} (status : Status)
+        → IsCompleted words told unused spoken was log from to status → AsksAll words old new
+        → AsksFiles words told rose old new before now status
     asked_completed status c all = of c.has
       where
         solved : (o : Outcome) → AsksFiles words told rose old new before now (kind_of o)
@@ -134,13 +147,17 @@ module _ (words : List (List ℕ)) (old new : Option (List Asked)) where
         judged (verdict.Invalid line kind) = all
         judged verdict.Limit = all
 
-        of : {unused : Type 0} {spoken : ℕ → Option Talk} {was log : Option (List Event)} {text : List ℕ} → HasOutcome words told unused spoken was log status text ⊎ HasVerdict words told unused status text → AsksFiles words told rose old new before now status
+        of : {unused : Type 0} {spoken : ℕ → Option Talk} {was log : Option (List Event)} {text : List ℕ}
+            → HasOutcome words told unused spoken was log status text ⊎ HasVerdict words told unused status text
+            → AsksFiles words told rose old new before now status
         of (inl h) = subst (AsksFiles words told rose old new before now) h.kind (solved h.outcome)
         of (inr h) = subst (AsksFiles words told rose old new before now) h.kind (judged h.verdict)
 
     module _ (spoken : ℕ → Option Talk) (was log : Option (List Event)) (mid : Option (List ℕ)) where
       -- nothing was written before the last line of a run that reads no task
-      named : (why : Stop) → HasNoInput words told rose why × (text : List ℕ) × (text ≡ []) × Appends before mid text → Appends mid now (last_text why) → AsksWhileReading words old new why → AsksToNamed words told rose old new before now (status_at why)
+      named : (why : Stop) → HasNoInput words told rose why × (text : List ℕ) × (text ≡ []) × Appends before mid text
+          → Appends mid now (last_text why) → AsksWhileReading words old new why
+          → AsksToNamed words told rose old new before now (status_at why)
       named why (cause, text, none, took) app a = record {
         why = why;
         kind = refl;
@@ -149,9 +166,11 @@ module _ (words : List (List ℕ)) (old new : Option (List Asked)) where
         asked = a;
       }
 
-      asked_whole : (why : Stop) → IsStopped words told rose spoken was log before mid why → (why ≡ stop.Run fault.Write → ⊥) → Appends mid now (last_text why) → AsksBefore words old new why → AsksFiles words told rose old new before now (status_at why)
+      asked_whole : (why : Stop) → IsStopped words told rose spoken was log before mid why → (why ≡ stop.Run fault.Write → ⊥)
+          → Appends mid now (last_text why) → AsksBefore words old new why → AsksFiles words told rose old new before now (status_at why)
       asked_whole stop.Usage s other app a = a
-      asked_whole (stop.Input which kind place) s other app a = named (stop.Input which kind place) (s.cause.0, s.text, s.cause.1, s.took) app a
+      asked_whole (stop.Input which kind place) s other app a =
+          named (stop.Input which kind place) (s.cause.0, s.text, s.cause.1, s.took) app a
       asked_whole (stop.Failed which) s other app a = named (stop.Failed which) (s.cause.0, s.text, s.cause.1, s.took) app a
       asked_whole (stop.TooLong which) s other app a = named (stop.TooLong which) (s.cause.0, s.text, s.cause.1, s.took) app a
       asked_whole (stop.Run (fault.Answer number why)) s other app a = a
@@ -160,8 +179,11 @@ module _ (words : List (List ℕ)) (old new : Option (List Asked)) where
       asked_whole (stop.Run fault.Memory) s other app a = inr a
 
       -- the last line was written, or a part of it, or that memory is wanting
-      pub asked_closed : (why : Stop) (status : Status) → IsStopped words told rose spoken was log before mid why → (why ≡ stop.Run fault.Write → ⊥) → ClosesRun why mid now status → AsksBefore words old new why → AsksFiles words told rose old new before now status
-      asked_closed why status s other (inl (inl x)) a = subst (AsksFiles words told rose old new before now) (sym x.0) (asked_whole why s other x.1 a)
+      pub asked_closed : (why : Stop) (status : Status) → IsStopped words told rose spoken was log before mid why
+          → (why ≡ stop.Run fault.Write → ⊥) → ClosesRun why mid now status → AsksBefore words old new why
+          → AsksFiles words told rose old new before now status
+      asked_closed why status s other (inl (inl x)) a =
+          subst (AsksFiles words told rose old new before now) (sym x.0) (asked_whole why s other x.1 a)
       asked_closed why status s other (inl (inr x)) a = subst (AsksFiles words told rose old new before now) (sym x.0) (some_before why a)
       asked_closed why status s other (inr (inl x)) a = subst (AsksFiles words told rose old new before now) (sym x.0) (some_before why a)
       asked_closed why status s other (inr (inr x)) a = subst (AsksFiles words told rose old new before now) (sym x.0) (some_before why a)

@@ -29,14 +29,17 @@ use Rattle.pddlstream_app.specs.declared.stop.Text.TheVariants.{Domain, Problem,
 -- ---- texts
 
 -- a file that is told has one text
-same_bytes : (told : Option FileMap) (files : FileMap) → told ≡ Some files → (path a b : List ℕ) → Holds told path a → Holds told path b → a ≡ b
+same_bytes : (told : Option FileMap) (files : FileMap) → told ≡ Some files → (path a b : List ℕ) → Holds told path a → Holds told path b
+    → a ≡ b
 same_bytes None files e path a b x y = absurd (cc)
 same_bytes (Some all) files e path a b x y = let both = sym x ∙ y in cc
 
 -- and it isn't too long where it is short
-not_long : (told : Option FileMap) (files : FileMap) → told ≡ Some files → (path bytes : List ℕ) → Holds told path bytes → IsShort bytes → IsTooLong told text_bytes path → ⊥
+not_long : (told : Option FileMap) (files : FileMap) → told ≡ Some files → (path bytes : List ℕ) → Holds told path bytes → IsShort bytes
+    → IsTooLong told text_bytes path → ⊥
 not_long None files e path bytes held short long = absurd (cc)
-not_long (Some all) files e path bytes held short long = absurd (let more : 4194304 < length bytes = subst (λ o. HasMore o 4194304) held long in omega (arith, more, short))
+not_long (Some all) files e path bytes held short long =
+    absurd (let more : 4194304 < length bytes = subst (λ o. HasMore o 4194304) held long in omega (arith, more, short))
 
 module _ (told : Option FileMap) (files : FileMap) (are : told ≡ Some files) (paths : TaskFiles) (task : Task) (t : IsTaskOf told paths task) where
   none_refused : (which : Text) (kind : FaultKind) (place : ℕ) → IsRefused told paths which kind place → ⊥
@@ -64,7 +67,8 @@ module _ (told : Option FileMap) (files : FileMap) (are : told ≡ Some files) (
 same_command : (words : List (List ℕ)) (a b : Command) → command_of words ≡ Some a → command_of words ≡ Some b → a ≡ b
 same_command words a b x y = let both = sym x ∙ y in cc
 
-other_command : (words : List (List ℕ)) (a : SolveWords) (b : ReplayWords) → command_of words ≡ Some (solve a) → command_of words ≡ Some (replay b) → ⊥
+other_command : (words : List (List ℕ)) (a : SolveWords) (b : ReplayWords) → command_of words ≡ Some (solve a)
+    → command_of words ≡ Some (replay b) → ⊥
 other_command words a b x y = let both = sym x ∙ y in absurd (cc)
 
 module _ {words : List (List ℕ)} {told : Option FileMap} {files_rose host_rose sink_rose : Type 0} {spoken : ℕ → Option Talk} (well : GoesWell words told files_rose host_rose sink_rose spoken) where
@@ -86,7 +90,9 @@ module _ {words : List (List ℕ)} {told : Option FileMap} {files_rose host_rose
   never_long which (inr none) = other_command words well.asked none.asked well.meant none.meant
 
   -- a run stops only for want of memory
-  pub stops_for_memory : (was log : Option (List Event)) (old new : Option (List ℕ)) (why : Stop) → IsStopped words told files_rose spoken was log old new why → (why ≡ stop.Run fault.Generator → host_rose) → (why ≡ stop.Run fault.Write → ⊥) → why ≡ stop.Run fault.Memory
+  pub stops_for_memory : (was log : Option (List Event)) (old new : Option (List ℕ)) (why : Stop)
+      → IsStopped words told files_rose spoken was log old new why → (why ≡ stop.Run fault.Generator → host_rose)
+      → (why ≡ stop.Run fault.Write → ⊥) → why ≡ stop.Run fault.Memory
   stops_for_memory was log old new stop.Usage s host sink = absurd (let both = sym s.cause.0 ∙ well.meant in cc)
   stops_for_memory was log old new (stop.Input which kind place) s host sink = absurd (never_refused which kind place s.cause.0)
   stops_for_memory was log old new (stop.Failed which) s host sink = absurd (never_failed which s.cause.0)
@@ -97,7 +103,8 @@ module _ {words : List (List ℕ)} {told : Option FileMap} {files_rose host_rose
   stops_for_memory was log old new (stop.Run fault.Memory) s host sink = refl
 
   -- a task that is solved has an outcome
-  pub answered_outcome : {unused : Type 0} {was log : Option (List Event)} {old new : Option (List ℕ)} (status : Status) → IsCompleted words told unused spoken was log old new status → EndsWell status
+  pub answered_outcome : {unused : Type 0} {was log : Option (List Event)} {old new : Option (List ℕ)} (status : Status)
+      → IsCompleted words told unused spoken was log old new status → EndsWell status
   answered_outcome status c = of c.has
     where
       solved : (o : Outcome) → EndsWell (kind_of o)
@@ -105,20 +112,23 @@ module _ {words : List (List ℕ)} {told : Option FileMap} {files_rose host_rose
       solved outcome.NoPlan = tt
       solved (outcome.Limit kind) = tt
 
-      of : {unused : Type 0} {was log : Option (List Event)} {text : List ℕ} → HasOutcome words told unused spoken was log status text ⊎ HasVerdict words told unused status text → EndsWell status
+      of : {unused : Type 0} {was log : Option (List Event)} {text : List ℕ}
+          → HasOutcome words told unused spoken was log status text ⊎ HasVerdict words told unused status text → EndsWell status
       of (inl h) = subst EndsWell h.kind (solved h.outcome)
       of (inr h) = absurd (other_command words well.asked h.asked well.meant h.meant)
 
 -- ---- last lines
 
 -- the last line was written, or the sink failed
-pub answered_close : (why : Stop) (old new : Option (List ℕ)) (status : Status) → why ≡ stop.Run fault.Memory → (status ≡ WriteFault → ⊥) → ClosesRun why old new status → EndsWell status
+pub answered_close : (why : Stop) (old new : Option (List ℕ)) (status : Status) → why ≡ stop.Run fault.Memory → (status ≡ WriteFault → ⊥)
+    → ClosesRun why old new status → EndsWell status
 answered_close why old new status is sink (inl (inl x)) = subst EndsWell (sym (x.0 ∙ ap status_at is)) tt
 answered_close why old new status is sink (inl (inr x)) = absurd (sink x.0)
 answered_close why old new status is sink (inr (inl x)) = subst EndsWell (sym x.0) tt
 answered_close why old new status is sink (inr (inr x)) = absurd (sink x.0)
 
 -- a fault of the sink in the last line is one of the run
-pub sink_whole : (last before mid now : ℕ) (why : Stop) → before ≤ mid → (why ≡ stop.Run fault.Write → ⊥) → (why ≡ stop.Run fault.Write) ⊎ Rose last mid now → Rose last before now
+pub sink_whole : (last before mid now : ℕ) (why : Stop) → before ≤ mid → (why ≡ stop.Run fault.Write → ⊥)
+    → (why ≡ stop.Run fault.Write) ⊎ Rose last mid now → Rose last before now
 sink_whole last before mid now why later other (inl is) = absurd (other is)
 sink_whole last before mid now why later other (inr rose) = omega (arith, rose, later)

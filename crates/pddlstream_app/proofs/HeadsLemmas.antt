@@ -80,7 +80,8 @@ module _ (task : Task) (w : words.SolveWords) (some : 1 ≤ w.workers) (few : w.
   one_runs : (pool : Pool) → IsPoolOf task w pool → AreRunnable task (pool ∷ [])
   one_runs pool is = record {
     fit = one_pool task (workers_of pool) is.first (omega (arith, some, is.workers)) (omega (arith, few, is.workers)) is.streams;
-    words = all_one (λ (p : Pool). 0 < length p.argv) pool (omega (arith, program, length-map pool.argv string_bytes, ap length is.program));
+    words =
+        all_one (λ (p : Pool). 0 < length p.argv) pool (omega (arith, program, length-map pool.argv string_bytes, ap length is.program));
     streams = all_one (λ (p : Pool). All (λ stream. stream < length task.streams) p.streams) pool (subst (All (λ stream. stream < length task.streams)) (sym is.streams) (all_there task));
   }
 
@@ -121,7 +122,8 @@ head_runs task w head headed within =
     }
 
 -- the same of words as the program holds them
-pub runnable_head : (task : Task) (w : code.SolveWords) (head : Head) → IsHeadOf task (held_solve w) head → IsWithin w → IsRunnable task head
+pub runnable_head : (task : Task) (w : code.SolveWords) (head : Head) → IsHeadOf task (held_solve w) head → IsWithin w
+    → IsRunnable task head
 runnable_head task w head headed within = head_runs task (held_solve w) head headed (record {
   some_calls = within.some_calls;
   few_calls = within.few_calls;

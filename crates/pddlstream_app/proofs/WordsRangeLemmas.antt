@@ -43,7 +43,9 @@ module _ (name : List ℕ) (most default : ℕ) (between : IsBetween most defaul
   option_between (word ∷ []) c e = defaulted (word ∷ []) c e
   option_between (word ∷ number ∷ rest) c e = by (bytes_eq word name) e
     where
-      by : (b : Bool) → (if b then option_map (counted rest) (count_of most number) else Some (counted (word ∷ number ∷ rest) default)) ≡ Some c → IsBetween most c.count
+      by : (b : Bool)
+          → (if b then option_map (counted rest) (count_of most number) else Some (counted (word ∷ number ∷ rest) default)) ≡ Some c
+          → IsBetween most c.count
       by true said = let n = map_some (counted rest) (count_of most number) c said in subst (λ (x : Counted). IsBetween most x.count) n.2 (count_between most number n.0 n.1)
       by false said = defaulted (word ∷ number ∷ rest) c said
 
@@ -88,7 +90,9 @@ words_in_range (name ∷ domain ∷ problem ∷ streams ∷ words) w e = by (byt
     files : TaskFiles
     files = record { domain = domain; problem = problem; streams = streams }
 
-    by : (solves replays : Bool) → (if solves then option_map solve (solve_of files words) else if replays then option_map replay (replay_of files words) else None) ≡ Some (solve w) → AreInRange w
+    by : (solves replays : Bool)
+        → (if solves then option_map solve (solve_of files words) else if replays then option_map replay (replay_of files words) else None) ≡ Some (solve w)
+        → AreInRange w
     by true replays said =
         let found = map_some solve (solve_of files words) (solve w) said in
         let same : found.0 ≡ w = cc in

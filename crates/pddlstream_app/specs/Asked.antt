@@ -62,7 +62,8 @@ pub record AsksOne (path : List ℕ) (which : FileRole) (old new : Option (List 
 
 -- The report was asked for, and the run stops so at it, or behind it since the sink failed.
 abbrev pub AsksReport : List ℕ → Option (List Asked) → Option (List Asked) → Stop → Type 0
-AsksReport path old new why = AsksOne path role.Report old new why ⊎ ((why ≡ stop.Run fault.Write) × Extends old new (ask path (Ok tt) ∷ []))
+AsksReport path old new why =
+    AsksOne path role.Report old new why ⊎ ((why ≡ stop.Run fault.Write) × Extends old new (ask path (Ok tt) ∷ []))
 
 -- The files up to a text's were asked for, and the run stops so at that text.
 pub record AsksUpTo (paths : TaskFiles) (old new : Option (List Asked)) (why : Stop) : Type 0 where
@@ -132,7 +133,8 @@ pub record AsksToNamed (words : List (List ℕ)) (told : Option FileMap) (rose :
   pub asked : AsksWhileReading words old new why
 
 -- which files a run asks for that ends so: `old` and `new` are the asks that the files tell, and `before` and `now` what the sink took
-abbrev pub AsksFiles : List (List ℕ) → Option FileMap → Type 0 → Option (List Asked) → Option (List Asked) → Option (List ℕ) → Option (List ℕ) → Status → Type 0
+abbrev pub AsksFiles : List (List ℕ) → Option FileMap → Type 0 → Option (List Asked) → Option (List Asked)
+    → Option (List ℕ) → Option (List ℕ) → Status → Type 0
 AsksFiles words told rose old new before now Usage = AsksNone words old new
 AsksFiles words told rose old new before now Input = AsksToNamed words told rose old new before now Input
 AsksFiles words told rose old new before now ReadFault = AsksToNamed words told rose old new before now ReadFault

@@ -12,7 +12,8 @@ use Rattle.pddlstream_app.specs.declared.status.Status.TheVariants.{Plan, Done, 
 
 -- Whichever run's dialogue it was that was said with the children: none of its requests has a bad answer.
 abbrev pub OnlyAnswers : List (List ℕ) → Option FileMap → (ℕ → Option Talk) → Type 0
-OnlyAnswers words told spoken = (run : ProgramRun words told) (number : ℕ) (why : Why) → ¬ (HasBadAnswer words told spoken number why run)
+OnlyAnswers words told spoken =
+    (run : ProgramRun words told) (number : ℕ) (why : Why) → ¬ (HasBadAnswer words told spoken number why run)
 
 -- The words mean that a task is to be solved; the files are told, and their texts, of at most 4 MiB each, spell a task; no count of faults rose, or stood at
 -- its last value; and only answers were heard.

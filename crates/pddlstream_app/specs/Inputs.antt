@@ -59,14 +59,16 @@ IsTaskOf told paths task = HoldsText told paths.domain (λ d. HoldsText told pat
 abbrev pub IsAccepted : Option FileMap → TaskFiles → Text → Type 0
 IsAccepted told paths Domain = Unit {0}
 IsAccepted told paths Problem = (d : domains.Domain) × HasDomain told paths d
-IsAccepted told paths Streams = (d : domains.Domain) × (p : problems.Problem) × HasDomain told paths d × HasProblem told paths d p
+IsAccepted told paths Streams =
+    (d : domains.Domain) × (p : problems.Problem) × HasDomain told paths d × HasProblem told paths d p
 
 -- ---- refusals
 
 -- this text is refused for this fault, and the texts before it are not
 abbrev pub IsRefused : Option FileMap → TaskFiles → Text → FaultKind → ℕ → Type 0
 IsRefused told paths Domain kind place = HoldsText told paths.domain (λ d. RefusesDomain d kind place)
-IsRefused told paths Problem kind place = HoldsText told paths.domain (λ d. HoldsText told paths.problem (λ p. RefusesSecond d p kind place))
+IsRefused told paths Problem kind place =
+    HoldsText told paths.domain (λ d. HoldsText told paths.problem (λ p. RefusesSecond d p kind place))
 IsRefused told paths Streams kind place = HoldsText told paths.domain (λ d. HoldsText told paths.problem (λ p. HoldsText told paths.streams (λ s. RefusesThird d p s kind place)))
 
 -- the most bytes of a text: 4 MiB
@@ -94,7 +96,8 @@ MayRefuse told paths rose Usage = ⊥
 MayRefuse told paths rose (Input which kind place) = IsRefused told paths which kind place
 MayRefuse told paths rose (Failed (role.Text which)) = rose × IsAccepted told paths which
 MayRefuse told paths rose (Failed role.Report) = ⊥
-MayRefuse told paths rose (TooLong (role.Text which)) = IsTooLong told text_bytes (path_of paths which) × IsAccepted told paths which
+MayRefuse told paths rose (TooLong (role.Text which)) =
+    IsTooLong told text_bytes (path_of paths which) × IsAccepted told paths which
 MayRefuse told paths rose (TooLong role.Report) = ⊥
 MayRefuse told paths rose (Run (fault.Answer number why)) = ⊥
 MayRefuse told paths rose (Run fault.Generator) = ⊥

@@ -15,5 +15,6 @@ kind_of_verdict verdict.Limit = status.Limit
 -- the verdict's line; a breach is told with its line and the number of its kind
 abbrev pub verdict_text : Verdict → List ℕ
 verdict_text verdict.Valid = codes "valid\n"
-verdict_text (verdict.Invalid line kind) = codes "invalid " ++ decimal line ++ codes " " ++ decimal (breach_number kind) ++ codes "\n"
+verdict_text (verdict.Invalid line kind) =
+    codes "invalid " ++ decimal line ++ codes " " ++ decimal (breach_number kind) ++ codes "\n"
 verdict_text verdict.Limit = codes "limit states\n"

@@ -116,7 +116,8 @@ abbrev pub HasNoInput : List (List ℕ) → Option FileMap → Type 0 → Stop �
 HasNoInput words told rose why = HasNoTask words told rose why ⊎ HasNoReport words told rose why
 
 -- what was said with the children is the dialogue of the run's transcript, broken off behind it
-abbrev pub IsBrokenOff : (words : List (List ℕ)) (told : Option FileMap) → (ℕ → Option Talk) → ProgramRun words told → Type 0
+abbrev pub IsBrokenOff : (words : List (List ℕ)) (told : Option FileMap) → (ℕ → Option Talk) → ProgramRun words told
+    → Type 0
 IsBrokenOff words told spoken run = BrokenOff run.task run.head.version (workers_in run.head) run.entries spoken
 
 -- the run's transcript is one of whole turns, the last of which may stop at any entry; each begins where no plan exists
@@ -130,8 +131,11 @@ pub record HasCalls (words : List (List ℕ)) (told : Option FileMap) (was now :
   pub needed : LogStops was now ⊎ HasLevel run.entries
 
 -- the lines of a run's head and transcript, where it stopped with this fault and the dialogue and the calls were broken off
-abbrev pub IsPartOfRun : List (List ℕ) → Option FileMap → (ℕ → Option Talk) → (was now : Option (List Event)) → RunFault → List ℕ → Type 0
-IsPartOfRun words told spoken was now f text = (run : ProgramRun words told) × IsFrontRun words told run × IsBrokenOff words told spoken run × HasCalls words told was now f run × (text ≡ lines_so_far words told run)
+abbrev pub IsPartOfRun : List (List ℕ) → Option FileMap → (ℕ → Option Talk) → (was now : Option (List Event)) → RunFault
+    → List ℕ → Type 0
+IsPartOfRun words told spoken was now f text =
+    (run : ProgramRun words told) × IsFrontRun words told run × IsBrokenOff words told spoken run
+    × HasCalls words told was now f run × (text ≡ lines_so_far words told run)
 
 -- the transcript is a front of a run, the request that is blamed is open, all before it are answered, and what its child said next is no answer, for this cause
 pub record HasBadAnswer (words : List (List ℕ)) (told : Option FileMap) (spoken : ℕ → Option Talk) (number : ℕ) (why : Why) (run : ProgramRun words told) : Type 0 where
@@ -142,15 +146,23 @@ pub record HasBadAnswer (words : List (List ℕ)) (told : Option FileMap) (spoke
 
 -- what was written before the last line of a run that stops so, with the cause; `rose` says that the files' count of faults rose, and
 -- `spoken` what was said with each child, where that is told; for want of memory a run may stop that had another fault to tell
-abbrev pub IsBefore : List (List ℕ) → Option FileMap → Type 0 → (ℕ → Option Talk) → (was now : Option (List Event)) → Stop → List ℕ → Type 0
+abbrev pub IsBefore : List (List ℕ) → Option FileMap → Type 0 → (ℕ → Option Talk) → (was now : Option (List Event))
+    → Stop → List ℕ → Type 0
 IsBefore words told rose spoken was now stop.Usage text = (command_of words ≡ None) × (text ≡ []) × LogStops was now
-IsBefore words told rose spoken was now (stop.Input which kind place) text = HasNoInput words told rose (stop.Input which kind place) × (text ≡ []) × LogStops was now
-IsBefore words told rose spoken was now (stop.Failed which) text = HasNoInput words told rose (stop.Failed which) × (text ≡ []) × LogStops was now
-IsBefore words told rose spoken was now (stop.TooLong which) text = HasNoInput words told rose (stop.TooLong which) × (text ≡ []) × LogStops was now
-IsBefore words told rose spoken was now (stop.Run (fault.Answer number why)) text = (run : ProgramRun words told) × HasBadAnswer words told spoken number why run × HasCalls words told was now (fault.Answer number why) run × (text ≡ lines_so_far words told run)
-IsBefore words told rose spoken was now (stop.Run fault.Generator) text = IsPartOfRun words told spoken was now fault.Generator text
+IsBefore words told rose spoken was now (stop.Input which kind place) text =
+    HasNoInput words told rose (stop.Input which kind place) × (text ≡ []) × LogStops was now
+IsBefore words told rose spoken was now (stop.Failed which) text =
+    HasNoInput words told rose (stop.Failed which) × (text ≡ []) × LogStops was now
+IsBefore words told rose spoken was now (stop.TooLong which) text =
+    HasNoInput words told rose (stop.TooLong which) × (text ≡ []) × LogStops was now
+IsBefore words told rose spoken was now (stop.Run (fault.Answer number why)) text =
+    (run : ProgramRun words told) × HasBadAnswer words told spoken number why run
+    × HasCalls words told was now (fault.Answer number why) run × (text ≡ lines_so_far words told run)
+IsBefore words told rose spoken was now (stop.Run fault.Generator) text =
+    IsPartOfRun words told spoken was now fault.Generator text
 IsBefore words told rose spoken was now (stop.Run fault.Write) text = ⊥
-IsBefore words told rose spoken was now (stop.Run fault.Memory) text = ((text ≡ []) × LogStops was now) ⊎ ((f : RunFault) × IsPartOfRun words told spoken was now f text)
+IsBefore words told rose spoken was now (stop.Run fault.Memory) text =
+    ((text ≡ []) × LogStops was now) ⊎ ((f : RunFault) × IsPartOfRun words told spoken was now f text)
 
 -- The text is what a run wrote that stops so, and its last line.
 pub record HasFault (words : List (List ℕ)) (told : Option FileMap) (rose : Type 0) (spoken : ℕ → Option Talk) (was now : Option (List Event)) (status : Status) (text : List ℕ) : Type 0 where
@@ -163,15 +175,18 @@ pub record HasFault (words : List (List ℕ)) (told : Option FileMap) (rose : Ty
 -- ---- all that a run writes
 
 -- what a run writes in all that ends so
-abbrev pub RunWrites : List (List ℕ) → Option FileMap → Type 0 → Type 0 → (ℕ → Option Talk) → (was now : Option (List Event)) → Status → List ℕ → Type 0
+abbrev pub RunWrites : List (List ℕ) → Option FileMap → Type 0 → Type 0 → (ℕ → Option Talk)
+    → (was now : Option (List Event)) → Status → List ℕ → Type 0
 RunWrites words told rose unused spoken was now Plan text = HasOutcome words told unused spoken was now Plan text
 RunWrites words told rose unused spoken was now NoPlan text = HasOutcome words told unused spoken was now NoPlan text
-RunWrites words told rose unused spoken was now Limit text = HasOutcome words told unused spoken was now Limit text ⊎ HasVerdict words told unused Limit text
+RunWrites words told rose unused spoken was now Limit text =
+    HasOutcome words told unused spoken was now Limit text ⊎ HasVerdict words told unused Limit text
 RunWrites words told rose unused spoken was now Usage text = HasFault words told rose spoken was now Usage text
 RunWrites words told rose unused spoken was now Input text = HasFault words told rose spoken was now Input text
 RunWrites words told rose unused spoken was now BadAnswer text = HasFault words told rose spoken was now BadAnswer text
 RunWrites words told rose unused spoken was now ReadFault text = HasFault words told rose spoken was now ReadFault text
-RunWrites words told rose unused spoken was now GeneratorFault text = HasFault words told rose spoken was now GeneratorFault text
+RunWrites words told rose unused spoken was now GeneratorFault text =
+    HasFault words told rose spoken was now GeneratorFault text
 RunWrites words told rose unused spoken was now Memory text = HasFault words told rose spoken was now Memory text
 RunWrites words told rose unused spoken was now WriteFault text = ⊥
 RunWrites words told rose unused spoken was now Done text = HasVerdict words told unused Done text
@@ -192,19 +207,24 @@ pub record TookPart (words : List (List ℕ)) (told : Option FileMap) (rose : Ty
   pub took : Appends old new (take count text)
 
 -- how a run ends
-abbrev pub Ends : List (List ℕ) → Option FileMap → Type 0 → Type 0 → (ℕ → Option Talk) → (was now : Option (List Event)) → Option (List ℕ) → Option (List ℕ) → Status → Type 0
+abbrev pub Ends : List (List ℕ) → Option FileMap → Type 0 → Type 0 → (ℕ → Option Talk) → (was now : Option (List Event))
+    → Option (List ℕ) → Option (List ℕ) → Status → Type 0
 Ends words told rose unused spoken was now old new WriteFault = TookPart words told rose spoken was now old new
 Ends words told rose unused spoken was now old new Plan = TookAll words told rose unused spoken was now old new Plan
 Ends words told rose unused spoken was now old new NoPlan = TookAll words told rose unused spoken was now old new NoPlan
 Ends words told rose unused spoken was now old new Limit = TookAll words told rose unused spoken was now old new Limit
 Ends words told rose unused spoken was now old new Usage = TookAll words told rose unused spoken was now old new Usage
 Ends words told rose unused spoken was now old new Input = TookAll words told rose unused spoken was now old new Input
-Ends words told rose unused spoken was now old new BadAnswer = TookAll words told rose unused spoken was now old new BadAnswer
-Ends words told rose unused spoken was now old new ReadFault = TookAll words told rose unused spoken was now old new ReadFault
-Ends words told rose unused spoken was now old new GeneratorFault = TookAll words told rose unused spoken was now old new GeneratorFault
+Ends words told rose unused spoken was now old new BadAnswer =
+    TookAll words told rose unused spoken was now old new BadAnswer
+Ends words told rose unused spoken was now old new ReadFault =
+    TookAll words told rose unused spoken was now old new ReadFault
+Ends words told rose unused spoken was now old new GeneratorFault =
+    TookAll words told rose unused spoken was now old new GeneratorFault
 Ends words told rose unused spoken was now old new Memory = TookAll words told rose unused spoken was now old new Memory
 Ends words told rose unused spoken was now old new Done = TookAll words told rose unused spoken was now old new Done
-Ends words told rose unused spoken was now old new Invalid = TookAll words told rose unused spoken was now old new Invalid
+Ends words told rose unused spoken was now old new Invalid =
+    TookAll words told rose unused spoken was now old new Invalid
 
 -- the count has not fallen, and it rose where the run ended so
 pub record Caused (failed : Status) (last before now : ℕ) (status : Status) : Type 0 where
@@ -226,30 +246,48 @@ pub record IsBeforeLast (words : List (List ℕ)) (told : Option FileMap) (rose 
   pub took : Appends old new text
 
 -- how a run stands that has no outcome
-abbrev pub IsStopped : List (List ℕ) → Option FileMap → Type 0 → (ℕ → Option Talk) → (was now : Option (List Event)) → Option (List ℕ) → Option (List ℕ) → Stop → Type 0
-IsStopped words told rose spoken was now old new (stop.Run fault.Write) = TookPart words told rose spoken was now old new
-IsStopped words told rose spoken was now old new (stop.Run fault.Generator) = IsBeforeLast words told rose spoken was now old new (stop.Run fault.Generator)
-IsStopped words told rose spoken was now old new (stop.Run fault.Memory) = IsBeforeLast words told rose spoken was now old new (stop.Run fault.Memory)
-IsStopped words told rose spoken was now old new (stop.Run (fault.Answer number why)) = IsBeforeLast words told rose spoken was now old new (stop.Run (fault.Answer number why))
-IsStopped words told rose spoken was now old new stop.Usage = IsBeforeLast words told rose spoken was now old new stop.Usage
-IsStopped words told rose spoken was now old new (stop.Input which kind place) = IsBeforeLast words told rose spoken was now old new (stop.Input which kind place)
-IsStopped words told rose spoken was now old new (stop.Failed which) = IsBeforeLast words told rose spoken was now old new (stop.Failed which)
-IsStopped words told rose spoken was now old new (stop.TooLong which) = IsBeforeLast words told rose spoken was now old new (stop.TooLong which)
+abbrev pub IsStopped : List (List ℕ) → Option FileMap → Type 0 → (ℕ → Option Talk) → (was now : Option (List Event))
+    → Option (List ℕ) → Option (List ℕ) → Stop → Type 0
+IsStopped words told rose spoken was now old new (stop.Run fault.Write) =
+    TookPart words told rose spoken was now old new
+IsStopped words told rose spoken was now old new (stop.Run fault.Generator) =
+    IsBeforeLast words told rose spoken was now old new (stop.Run fault.Generator)
+IsStopped words told rose spoken was now old new (stop.Run fault.Memory) =
+    IsBeforeLast words told rose spoken was now old new (stop.Run fault.Memory)
+IsStopped words told rose spoken was now old new (stop.Run (fault.Answer number why)) =
+    IsBeforeLast words told rose spoken was now old new (stop.Run (fault.Answer number why))
+IsStopped words told rose spoken was now old new stop.Usage =
+    IsBeforeLast words told rose spoken was now old new stop.Usage
+IsStopped words told rose spoken was now old new (stop.Input which kind place) =
+    IsBeforeLast words told rose spoken was now old new (stop.Input which kind place)
+IsStopped words told rose spoken was now old new (stop.Failed which) =
+    IsBeforeLast words told rose spoken was now old new (stop.Failed which)
+IsStopped words told rose spoken was now old new (stop.TooLong which) =
+    IsBeforeLast words told rose spoken was now old new (stop.TooLong which)
 
 -- the text was written, and the status is this; or the sink failed and took a part
 abbrev pub TellsStatus : Status → List ℕ → Option (List ℕ) → Option (List ℕ) → Status → Type 0
-TellsStatus status text old new ended = ((ended ≡ status) × Appends old new text) ⊎ ((ended ≡ WriteFault) × (n : ℕ) × (n < length text) × Appends old new (take n text))
+TellsStatus status text old new ended =
+    ((ended ≡ status) × Appends old new text)
+    ⊎ ((ended ≡ WriteFault) × (n : ℕ) × (n < length text) × Appends old new (take n text))
 
 -- the last line was written, for this cause or for want of memory
 abbrev pub ClosesRun : Stop → Option (List ℕ) → Option (List ℕ) → Status → Type 0
-ClosesRun why old new ended = TellsStatus (status_at why) (last_text why) old new ended ⊎ TellsStatus Memory (last_text (stop.Run fault.Memory)) old new ended
+ClosesRun why old new ended =
+    TellsStatus (status_at why) (last_text why) old new ended
+    ⊎ TellsStatus Memory (last_text (stop.Run fault.Memory)) old new ended
 
 -- the line of a verdict was written; or memory was wanting, or the sink failed and took a part
 abbrev pub IsShown : Verdict → Option (List ℕ) → Option (List ℕ) → Result Status Stop → Type 0
 IsShown v old new (Ok status) = (status ≡ kind_of_verdict v) × Appends old new (verdict_text v)
-IsShown v old new (Err why) = ((why ≡ stop.Run fault.Memory) × Appends old new []) ⊎ ((why ≡ stop.Run fault.Write) × (n : ℕ) × (n < length (verdict_text v)) × Appends old new (take n (verdict_text v)))
+IsShown v old new (Err why) =
+    ((why ≡ stop.Run fault.Memory) × Appends old new [])
+    ⊎ ((why ≡ stop.Run fault.Write) × (n : ℕ) × (n < length (verdict_text v)) × Appends old new (take n (verdict_text v)))
 
 -- What a replay says of the bytes was written; or memory was wanting, or the sink failed and took a part of it.
 abbrev pub IsSaidOf : ℕ → Task → List ℕ → Option (List ℕ) → Option (List ℕ) → Result Status Stop → Type 0
-IsSaidOf limit task bytes old new (Ok status) = (v : Verdict) × IsVerdict limit task bytes v × IsShown v old new (Ok status)
-IsSaidOf limit task bytes old new (Err why) = ((why ≡ stop.Run fault.Memory) × Appends old new []) ⊎ ((v : Verdict) × IsVerdict limit task bytes v × IsShown v old new (Err why))
+IsSaidOf limit task bytes old new (Ok status) =
+    (v : Verdict) × IsVerdict limit task bytes v × IsShown v old new (Ok status)
+IsSaidOf limit task bytes old new (Err why) =
+    ((why ≡ stop.Run fault.Memory) × Appends old new [])
+    ⊎ ((v : Verdict) × IsVerdict limit task bytes v × IsShown v old new (Err why))

@@ -56,10 +56,12 @@ memory_line = codes "fault memory\n"
 -- the last line of the run; behind the line for wrong words stands the usage text
 abbrev pub last_text : Stop → List ℕ
 last_text Usage = codes "fault usage\nusage: pddlstream solve DOMAIN PROBLEM STREAMS [OPTIONS] [-- PROGRAM WORDS]\nusage: pddlstream replay DOMAIN PROBLEM STREAMS REPORT [--states N]\n"
-last_text (Input which kind place) = codes "fault input " ++ text_word which ++ codes " " ++ kind_word kind ++ codes " " ++ decimal place ++ codes "\n"
+last_text (Input which kind place) =
+    codes "fault input " ++ text_word which ++ codes " " ++ kind_word kind ++ codes " " ++ decimal place ++ codes "\n"
 last_text (Failed which) = codes "fault read " ++ role_word which ++ codes " failed\n"
 last_text (TooLong which) = codes "fault read " ++ role_word which ++ codes " too-long\n"
-last_text (Run (fault.Answer number why)) = codes "fault answer " ++ decimal number ++ codes " " ++ why_word why ++ codes "\n"
+last_text (Run (fault.Answer number why)) =
+    codes "fault answer " ++ decimal number ++ codes " " ++ why_word why ++ codes "\n"
 last_text (Run fault.Generator) = codes "fault generator\n"
 last_text (Run fault.Write) = []
 last_text (Run fault.Memory) = memory_line

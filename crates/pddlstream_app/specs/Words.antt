@@ -46,7 +46,9 @@ files_of (replay words) = words.files
 
 -- from one to seven digits alone, which write a number from 1 to the most
 unfoldable pub is_count : ℕ → List ℕ → Bool
-is_count most word = is_filled word && list_all is_ascii_digit word && nat_le (digits_value 10 word) most && nat_le 1 (digits_value 10 word) && nat_le (length word) 7
+is_count most word =
+    is_filled word && list_all is_ascii_digit word && nat_le (digits_value 10 word) most
+    && nat_le 1 (digits_value 10 word) && nat_le (length word) 7
 
 abbrev pub count_of : ℕ → List ℕ → Option ℕ
 count_of most word = if is_count most word then Some (digits_value 10 word) else None
@@ -96,7 +98,8 @@ named name files words = if bytes_eq name (codes "solve") then option_map solve 
 
 -- solve DOMAIN PROBLEM STREAMS, or replay DOMAIN PROBLEM STREAMS, and the words behind
 abbrev pub command_of : List (List ℕ) → Option Command
-command_of (name ∷ domain ∷ problem ∷ streams ∷ words) = named name (record { domain = domain; problem = problem; streams = streams }) words
+command_of (name ∷ domain ∷ problem ∷ streams ∷ words) =
+    named name (record { domain = domain; problem = problem; streams = streams }) words
 command_of words = None
 
 -- ---- the words as the program holds them

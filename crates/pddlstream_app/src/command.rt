@@ -33,7 +33,8 @@ fn tell<O: Sink>(out: &mut O, text: &[u8], status: Status) -> Status
 fn close<O: Sink>(alloc: Global, out: &mut O, stop: &Stop) -> Status
     ensures closed { ClosesRun stop.now (O.taken out.old) (O.taken out.new) result }
     ensures later { O.faults out.old ≤ O.faults out.new }
-    ensures cause { result ≡ WriteFault → (stop.now ≡ Run fault.Write) ⊎ Rose last_count (O.faults out.old) (O.faults out.new) }
+    ensures cause { result ≡ WriteFault → (stop.now ≡ Run fault.Write)
+        ⊎ Rose last_count (O.faults out.old) (O.faults out.new) }
 {
     match stop.last_text(alloc) {
         Ok(text) => tell(out, text.as_slice(), stop.status()),
@@ -50,14 +51,23 @@ fn attempt<F: Files, H: Host, O: Sink>(
     out: &mut O,
 ) -> Result<Status, Stop>
     requires idle { (k : ℕ) → H.running host.old k ≡ false }
-    ensures completed { IfOk result (IsCompleted (map string_bytes words.now) (F.told files.old) (H.log host.new ≡ H.log host.old) (H.spoken host.new) (H.log host.old) (H.log host.new) (O.taken out.old) (O.taken out.new)) }
-    ensures stopped { IfErr result (IsStopped (map string_bytes words.now) (F.told files.old) (Rose last_count (F.faults files.old) (F.faults files.new)) (H.spoken host.new) (H.log host.old) (H.log host.new) (O.taken out.old) (O.taken out.new)) }
+    ensures completed { IfOk result
+        (IsCompleted (map string_bytes words.now) (F.told files.old)
+        (H.log host.new ≡ H.log host.old) (H.spoken host.new) (H.log host.old) (H.log host.new)
+        (O.taken out.old) (O.taken out.new)) }
+    ensures stopped { IfErr result (IsStopped (map string_bytes words.now) (F.told files.old)
+        (Rose last_count (F.faults files.old) (F.faults files.new)) (H.spoken host.new)
+        (H.log host.old) (H.log host.new) (O.taken out.old) (O.taken out.new)) }
     ensures idle { (k : ℕ) → H.running host.new k ≡ false }
     ensures files { F.faults files.old ≤ F.faults files.new }
-    ensures host { HasCause (Run fault.Generator) H.last (H.faults host.old) (H.faults host.new) result }
-    ensures sink { HasCause (Run fault.Write) last_count (O.faults out.old) (O.faults out.new) result }
-    ensures asked { IfOk result (λ _. AsksAll (map string_bytes words.now) (F.asked files.old) (F.asked files.new)) }
-    ensures asked_before { IfErr result (AsksBefore (map string_bytes words.now) (F.asked files.old) (F.asked files.new)) }
+    ensures host { HasCause (Run fault.Generator) H.last (H.faults host.old) (H.faults host.new)
+        result }
+    ensures sink { HasCause (Run fault.Write) last_count (O.faults out.old) (O.faults out.new)
+        result }
+    ensures asked { IfOk result (λ _. AsksAll (map string_bytes words.now) (F.asked files.old)
+        (F.asked files.new)) }
+    ensures asked_before { IfErr result
+        (AsksBefore (map string_bytes words.now) (F.asked files.old) (F.asked files.new)) }
 {
     let Some(command) = command_of(words) else {
         return Err(Stop::Usage);
@@ -103,17 +113,26 @@ pub fn run<F: Files, H: Host, O: Sink>(
     // transcript, in order, and then stops: the starts of all workers, the writes of each request and the reads of each answer. A run
     // without an outcome has them up to where it broke off; a fault of the generator has a call that failed, and where no line of a
     // level stands only stops came. Where nothing was asked in a run with an outcome, no call was made on a child.
-    ensures ends { Ends (map string_bytes words.now) (F.told files.old) (Rose last_count (F.faults files.old) (F.faults files.new)) (H.log host.new ≡ H.log host.old) (H.spoken host.new) (H.log host.old) (H.log host.new) (O.taken out.old) (O.taken out.new) result }
+    ensures ends { Ends (map string_bytes words.now) (F.told files.old)
+        (Rose last_count (F.faults files.old) (F.faults files.new))
+        (H.log host.new ≡ H.log host.old) (H.spoken host.new) (H.log host.old) (H.log host.new)
+        (O.taken out.old) (O.taken out.new) result }
     // A fault of the generator or of the sink is answered only where its count rose.
     ensures host { Caused GeneratorFault H.last (H.faults host.old) (H.faults host.new) result }
     ensures sink { Caused WriteFault last_count (O.faults out.old) (O.faults out.new) result }
     // Where the words mean that a task is to be solved, the files are told and spell one, no count of faults rose and only answers were heard, the run has an
     // outcome, or memory is wanting.
-    ensures complete { GoesWell (map string_bytes words.now) (F.told files.old) (Rose last_count (F.faults files.old) (F.faults files.new)) (Rose H.last (H.faults host.old) (H.faults host.new)) (Rose last_count (O.faults out.old) (O.faults out.new)) (H.spoken host.new) → EndsWell result }
+    ensures complete { GoesWell (map string_bytes words.now) (F.told files.old)
+        (Rose last_count (F.faults files.old) (F.faults files.new))
+        (Rose H.last (H.faults host.old) (H.faults host.new))
+        (Rose last_count (O.faults out.old) (O.faults out.new)) (H.spoken host.new)
+        → EndsWell result }
     // Where the files tell which paths were asked for, those of this call are the command's files, each once and in their order: none where
     // the words are no command, those up to the text that the last line names where it was refused or not read, and else all three. Where
     // memory is wanting or the sink failed, they are a front of these.
-    ensures asked { AsksFiles (map string_bytes words.now) (F.told files.old) (Rose last_count (F.faults files.old) (F.faults files.new)) (F.asked files.old) (F.asked files.new) (O.taken out.old) (O.taken out.new) result }
+    ensures asked { AsksFiles (map string_bytes words.now) (F.told files.old)
+        (Rose last_count (F.faults files.old) (F.faults files.new)) (F.asked files.old)
+        (F.asked files.new) (O.taken out.old) (O.taken out.new) result }
 {
     match attempt(alloc, words, files, host, out) {
         Ok(status) => status,

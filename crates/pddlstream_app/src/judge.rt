@@ -39,7 +39,8 @@ fn status_of(verdict: Verdict) -> Status
 
 /// The line for a breach.
 fn breach_line(alloc: Global, line: u32, kind: BreachKind) -> Result<Vec<u8>, AllocError>
-    ensures { IfOk result (λ text. text.items ≡ codes "invalid " ++ decimal line ++ codes " " ++ decimal (breach_number kind) ++ codes "\n") }
+    ensures { IfOk result (λ text. text.items ≡ codes "invalid " ++ decimal line ++ codes " "
+        ++ decimal (breach_number kind) ++ codes "\n") }
 {
     let kind = kind.number();
     let text = format!(in alloc; "invalid {line} {kind}\n")?;
@@ -60,7 +61,8 @@ fn verdict_line(alloc: Global, verdict: Verdict) -> Result<Vec<u8>, AllocError>
 /// Writes the line for a verdict.
 fn show<O: Sink>(alloc: Global, verdict: Verdict, out: &mut O) -> Result<Status, Stop>
     ensures shown { IsShown verdict (O.taken out.old) (O.taken out.new) result }
-    ensures sink { HasCause (Run fault.Write) last_count (O.faults out.old) (O.faults out.new) result }
+    ensures sink { HasCause (Run fault.Write) last_count (O.faults out.old) (O.faults out.new)
+        result }
 {
     let line = verdict_line(alloc, verdict)?;
     match write_all(out, line.as_slice()) {
@@ -82,7 +84,8 @@ fn judge_bytes<O: Sink>(
     requires few { states ≤ 200000 }
     requires bytes { length bytes.now < 2 ^ 31 }
     ensures said { IsSaidOf states task.now bytes.now (O.taken out.old) (O.taken out.new) result }
-    ensures sink { HasCause (Run fault.Write) last_count (O.faults out.old) (O.faults out.new) result }
+    ensures sink { HasCause (Run fault.Write) last_count (O.faults out.old) (O.faults out.new)
+        result }
 {
     let verdict = replay(alloc, task, bytes, states)?;
     show(alloc, verdict, out)
@@ -98,13 +101,26 @@ fn judge_report<F: Files, O: Sink>(
 ) -> Result<Status, Stop>
     requires within { IsWithinReplay words.now }
     requires fit { IsFit task.now }
-    ensures completed { (line : List (List ℕ)) (spoken : ℕ → Option Talk) (log : Option (List Event)) → command_of line ≡ Some (to_replay (held_replay words.now)) → IsTaskOf (F.told files.old) (held_files words.now.files) task.now → IfOk result (IsCompleted line (F.told files.old) (Unit {0}) spoken log log (O.taken out.old) (O.taken out.new)) }
-    ensures stopped { (line : List (List ℕ)) (spoken : ℕ → Option Talk) (log : Option (List Event)) (first : ℕ) → first ≤ F.faults files.old → command_of line ≡ Some (to_replay (held_replay words.now)) → IsTaskOf (F.told files.old) (held_files words.now.files) task.now → IfErr result (IsStopped line (F.told files.old) (Rose last_count first (F.faults files.new)) spoken log log (O.taken out.old) (O.taken out.new)) }
+    ensures completed { (line : List (List ℕ)) (spoken : ℕ → Option Talk)
+        (log : Option (List Event)) → command_of line ≡ Some (to_replay (held_replay words.now))
+        → IsTaskOf (F.told files.old) (held_files words.now.files) task.now
+        → IfOk result (IsCompleted line (F.told files.old) (Unit {0}) spoken log log
+        (O.taken out.old) (O.taken out.new)) }
+    ensures stopped { (line : List (List ℕ)) (spoken : ℕ → Option Talk) (log : Option (List Event))
+        (first : ℕ) → first ≤ F.faults files.old → command_of line
+        ≡ Some (to_replay (held_replay words.now))
+        → IsTaskOf (F.told files.old) (held_files words.now.files) task.now
+        → IfErr result (IsStopped line (F.told files.old)
+        (Rose last_count first (F.faults files.new)) spoken log log (O.taken out.old)
+        (O.taken out.new)) }
     ensures files { F.faults files.old ≤ F.faults files.new }
     ensures host { IfErr result (λ why. ¬ (why ≡ Run fault.Generator)) }
-    ensures sink { HasCause (Run fault.Write) last_count (O.faults out.old) (O.faults out.new) result }
-    ensures asked { IfOk result (λ _. Extends (F.asked files.old) (F.asked files.new) (ask words.now.report.now (Ok tt) ∷ [])) }
-    ensures asked_before { IfErr result (AsksReport words.now.report.now (F.asked files.old) (F.asked files.new)) }
+    ensures sink { HasCause (Run fault.Write) last_count (O.faults out.old) (O.faults out.new)
+        result }
+    ensures asked { IfOk result (λ _. Extends (F.asked files.old) (F.asked files.new)
+        (ask words.now.report.now (Ok tt) ∷ [])) }
+    ensures asked_before { IfErr result
+        (AsksReport words.now.report.now (F.asked files.old) (F.asked files.new)) }
 {
     let report = read_file(files, words.report, FileRole::Report, REPORT_BYTES)?;
     judge_bytes(alloc, task, report.as_slice(), words.states, out)
@@ -118,13 +134,25 @@ pub(crate) fn judge<F: Files, O: Sink>(
     out: &mut O,
 ) -> Result<Status, Stop>
     requires within { IsWithinReplay words.now }
-    ensures completed { (line : List (List ℕ)) (spoken : ℕ → Option Talk) (log : Option (List Event)) → command_of line ≡ Some (to_replay (held_replay words.now)) → IfOk result (IsCompleted line (F.told files.old) (Unit {0}) spoken log log (O.taken out.old) (O.taken out.new)) }
-    ensures stopped { (line : List (List ℕ)) (spoken : ℕ → Option Talk) (log : Option (List Event)) → command_of line ≡ Some (to_replay (held_replay words.now)) → IfErr result (IsStopped line (F.told files.old) (Rose last_count (F.faults files.old) (F.faults files.new)) spoken log log (O.taken out.old) (O.taken out.new)) }
+    ensures completed { (line : List (List ℕ)) (spoken : ℕ → Option Talk)
+        (log : Option (List Event)) → command_of line ≡ Some (to_replay (held_replay words.now))
+        → IfOk result (IsCompleted line (F.told files.old) (Unit {0}) spoken log log
+        (O.taken out.old) (O.taken out.new)) }
+    ensures stopped { (line : List (List ℕ)) (spoken : ℕ → Option Talk) (log : Option (List Event))
+        → command_of line ≡ Some (to_replay (held_replay words.now))
+        → IfErr result (IsStopped line (F.told files.old)
+        (Rose last_count (F.faults files.old) (F.faults files.new)) spoken log log (O.taken out.old)
+        (O.taken out.new)) }
     ensures files { F.faults files.old ≤ F.faults files.new }
     ensures host { IfErr result (λ why. ¬ (why ≡ Run fault.Generator)) }
-    ensures sink { HasCause (Run fault.Write) last_count (O.faults out.old) (O.faults out.new) result }
-    ensures asked { (line : List (List ℕ)) → command_of line ≡ Some (to_replay (held_replay words.now)) → IfOk result (λ _. AsksAll line (F.asked files.old) (F.asked files.new)) }
-    ensures asked_before { (line : List (List ℕ)) → command_of line ≡ Some (to_replay (held_replay words.now)) → IfErr result (AsksBefore line (F.asked files.old) (F.asked files.new)) }
+    ensures sink { HasCause (Run fault.Write) last_count (O.faults out.old) (O.faults out.new)
+        result }
+    ensures asked { (line : List (List ℕ)) → command_of line
+        ≡ Some (to_replay (held_replay words.now))
+        → IfOk result (λ _. AsksAll line (F.asked files.old) (F.asked files.new)) }
+    ensures asked_before { (line : List (List ℕ)) → command_of line
+        ≡ Some (to_replay (held_replay words.now))
+        → IfErr result (AsksBefore line (F.asked files.old) (F.asked files.new)) }
 {
     let task = read_input(alloc, files, &words.files)?;
     judge_report(alloc, words, &task, files, out)

@@ -38,14 +38,27 @@ pub(crate) fn solve<F: Files, H: Host, O: Sink>(
 ) -> Result<Status, Stop>
     requires within { IsWithin words.now }
     requires idle { (k : ℕ) → H.running host.old k ≡ false }
-    ensures completed { (line : List (List ℕ)) → command_of line ≡ Some (to_solve (held_solve words.now)) → IfOk result (IsCompleted line (F.told files.old) (H.log host.new ≡ H.log host.old) (H.spoken host.new) (H.log host.old) (H.log host.new) (O.taken out.old) (O.taken out.new)) }
-    ensures stopped { (line : List (List ℕ)) → command_of line ≡ Some (to_solve (held_solve words.now)) → IfErr result (IsStopped line (F.told files.old) (Rose last_count (F.faults files.old) (F.faults files.new)) (H.spoken host.new) (H.log host.old) (H.log host.new) (O.taken out.old) (O.taken out.new)) }
+    ensures completed { (line : List (List ℕ)) → command_of line
+        ≡ Some (to_solve (held_solve words.now))
+        → IfOk result (IsCompleted line (F.told files.old) (H.log host.new ≡ H.log host.old)
+        (H.spoken host.new) (H.log host.old) (H.log host.new) (O.taken out.old) (O.taken out.new)) }
+    ensures stopped { (line : List (List ℕ)) → command_of line
+        ≡ Some (to_solve (held_solve words.now))
+        → IfErr result (IsStopped line (F.told files.old)
+        (Rose last_count (F.faults files.old) (F.faults files.new)) (H.spoken host.new)
+        (H.log host.old) (H.log host.new) (O.taken out.old) (O.taken out.new)) }
     ensures idle { (k : ℕ) → H.running host.new k ≡ false }
     ensures files { F.faults files.old ≤ F.faults files.new }
-    ensures host { HasCause (Run fault.Generator) H.last (H.faults host.old) (H.faults host.new) result }
-    ensures sink { HasCause (Run fault.Write) last_count (O.faults out.old) (O.faults out.new) result }
-    ensures asked { (line : List (List ℕ)) → command_of line ≡ Some (to_solve (held_solve words.now)) → IfOk result (λ _. AsksAll line (F.asked files.old) (F.asked files.new)) }
-    ensures asked_before { (line : List (List ℕ)) → command_of line ≡ Some (to_solve (held_solve words.now)) → IfErr result (AsksBefore line (F.asked files.old) (F.asked files.new)) }
+    ensures host { HasCause (Run fault.Generator) H.last (H.faults host.old) (H.faults host.new)
+        result }
+    ensures sink { HasCause (Run fault.Write) last_count (O.faults out.old) (O.faults out.new)
+        result }
+    ensures asked { (line : List (List ℕ)) → command_of line
+        ≡ Some (to_solve (held_solve words.now))
+        → IfOk result (λ _. AsksAll line (F.asked files.old) (F.asked files.new)) }
+    ensures asked_before { (line : List (List ℕ)) → command_of line
+        ≡ Some (to_solve (held_solve words.now))
+        → IfErr result (AsksBefore line (F.asked files.old) (F.asked files.new)) }
 {
     let task = read_input(alloc, files, &words.files)?;
     let head = head_of(alloc, &task, words)?;

@@ -158,7 +158,8 @@ fn parts(alloc: Global, first: &[u8], second: &[u8], third: &[u8]) -> Result<Vec
 
 /// The line for a bad answer.
 fn answer_line(alloc: Global, number: u32, why: Why) -> Result<Vec<u8>, AllocError>
-    ensures { IfOk result (λ text. text.items ≡ codes "fault answer " ++ decimal number ++ codes " " ++ why_word why ++ codes "\n") }
+    ensures { IfOk result (λ text. text.items ≡ codes "fault answer " ++ decimal number ++ codes " "
+        ++ why_word why ++ codes "\n") }
 {
     let number = format!(in alloc; "{number}")?;
     let mut text = parts(alloc, b"fault answer ", number.as_bytes(), b" ")?;
@@ -174,7 +175,8 @@ fn input_line(
     kind: FaultKind,
     place: usize,
 ) -> Result<Vec<u8>, AllocError>
-    ensures { IfOk result (λ line. line.items ≡ codes "fault input " ++ text_word text ++ codes " " ++ kind_word kind ++ codes " " ++ decimal place ++ codes "\n") }
+    ensures { IfOk result (λ line. line.items ≡ codes "fault input " ++ text_word text ++ codes " "
+        ++ kind_word kind ++ codes " " ++ decimal place ++ codes "\n") }
 {
     let place = format!(in alloc; "{place}")?;
     let mut line = parts(alloc, b"fault input ", text.word(), b" ")?;

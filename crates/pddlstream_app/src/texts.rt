@@ -28,12 +28,15 @@ pub(crate) fn read_file<F: Files>(
     role: FileRole,
     most: usize,
 ) -> Result<Vec<u8>, Stop>
-    ensures bytes { IfOk result (λ bytes. IfSome (F.told files.old) (λ map. map path.now ≡ Some bytes.items)) }
+    ensures bytes { IfOk result (λ bytes. IfSome (F.told files.old)
+        (λ map. map path.now ≡ Some bytes.items)) }
     ensures short { IfOk result (λ bytes. length bytes.items ≤ most) }
-    ensures stop { IfErr result (MayNotRead (F.told files.old) role most path.now (Rose last_count (F.faults files.old) (F.faults files.new))) }
+    ensures stop { IfErr result (MayNotRead (F.told files.old) role most path.now
+        (Rose last_count (F.faults files.old) (F.faults files.new))) }
     ensures same { F.told files.new ≡ F.told files.old }
     ensures later { F.faults files.old ≤ F.faults files.new }
-    ensures asked { IfOk result (λ _. Extends (F.asked files.old) (F.asked files.new) (ask path.now (Ok tt) ∷ [])) }
+    ensures asked { IfOk result (λ _. Extends (F.asked files.old) (F.asked files.new)
+        (ask path.now (Ok tt) ∷ [])) }
     ensures last { IfErr result (AsksOne path.now role (F.asked files.old) (F.asked files.new)) }
 {
     match files.read(path, most) {
@@ -46,13 +49,17 @@ pub(crate) fn read_file<F: Files>(
 
 /// Reads the file of a text.
 fn read_text<F: Files>(files: &mut F, path: &str, text: Text) -> Result<Vec<u8>, Stop>
-    ensures bytes { IfOk result (λ bytes. IfSome (F.told files.old) (λ map. map path.now ≡ Some bytes.items)) }
+    ensures bytes { IfOk result (λ bytes. IfSome (F.told files.old)
+        (λ map. map path.now ≡ Some bytes.items)) }
     ensures short { IfOk result (λ bytes. IsShort bytes.items) }
-    ensures stop { IfErr result (MayNotRead (F.told files.old) (role.Text text) text_bytes path.now (Rose last_count (F.faults files.old) (F.faults files.new))) }
+    ensures stop { IfErr result (MayNotRead (F.told files.old) (role.Text text) text_bytes path.now
+        (Rose last_count (F.faults files.old) (F.faults files.new))) }
     ensures same { F.told files.new ≡ F.told files.old }
     ensures later { F.faults files.old ≤ F.faults files.new }
-    ensures asked { IfOk result (λ _. Extends (F.asked files.old) (F.asked files.new) (ask path.now (Ok tt) ∷ [])) }
-    ensures last { IfErr result (AsksOne path.now (role.Text text) (F.asked files.old) (F.asked files.new)) }
+    ensures asked { IfOk result (λ _. Extends (F.asked files.old) (F.asked files.new)
+        (ask path.now (Ok tt) ∷ [])) }
+    ensures last { IfErr result (AsksOne path.now (role.Text text) (F.asked files.old)
+        (F.asked files.new)) }
 {
     read_file(files, path, FileRole::Text(text), TEXT_BYTES)
 }
@@ -74,11 +81,14 @@ fn read_domain<F: Files>(
     paths: &TaskFiles<'_>,
 ) -> Result<Domain, Stop>
     ensures domain { IfOk result (HasDomain (F.told files.old) (held_files paths.now)) }
-    ensures stop { IfErr result (MayRefuse (F.told files.old) (held_files paths.now) (Rose last_count (F.faults files.old) (F.faults files.new))) }
+    ensures stop { IfErr result (MayRefuse (F.told files.old) (held_files paths.now)
+        (Rose last_count (F.faults files.old) (F.faults files.new))) }
     ensures same { F.told files.new ≡ F.told files.old }
     ensures later { F.faults files.old ≤ F.faults files.new }
-    ensures asked { IfOk result (λ _. Extends (F.asked files.old) (F.asked files.new) (ask paths.now.domain.now (Ok tt) ∷ [])) }
-    ensures last { IfErr result (AsksOne paths.now.domain.now (role.Text text.Domain) (F.asked files.old) (F.asked files.new)) }
+    ensures asked { IfOk result (λ _. Extends (F.asked files.old) (F.asked files.new)
+        (ask paths.now.domain.now (Ok tt) ∷ [])) }
+    ensures last { IfErr result (AsksOne paths.now.domain.now (role.Text text.Domain)
+        (F.asked files.old) (F.asked files.new)) }
 {
     let bytes = read_text(files, paths.domain, Text::Domain)?;
     match domain_in(alloc, bytes.as_slice()) {
@@ -95,12 +105,16 @@ fn read_problem<F: Files>(
     domain: &Domain,
 ) -> Result<Problem, Stop>
     requires domain { HasDomain (F.told files.old) (held_files paths.now) domain.now }
-    ensures problem { IfOk result (HasProblem (F.told files.old) (held_files paths.now) domain.now) }
-    ensures stop { IfErr result (MayRefuse (F.told files.old) (held_files paths.now) (Rose last_count (F.faults files.old) (F.faults files.new))) }
+    ensures problem { IfOk result (HasProblem (F.told files.old) (held_files paths.now)
+        domain.now) }
+    ensures stop { IfErr result (MayRefuse (F.told files.old) (held_files paths.now)
+        (Rose last_count (F.faults files.old) (F.faults files.new))) }
     ensures same { F.told files.new ≡ F.told files.old }
     ensures later { F.faults files.old ≤ F.faults files.new }
-    ensures asked { IfOk result (λ _. Extends (F.asked files.old) (F.asked files.new) (ask paths.now.problem.now (Ok tt) ∷ [])) }
-    ensures last { IfErr result (AsksOne paths.now.problem.now (role.Text text.Problem) (F.asked files.old) (F.asked files.new)) }
+    ensures asked { IfOk result (λ _. Extends (F.asked files.old) (F.asked files.new)
+        (ask paths.now.problem.now (Ok tt) ∷ [])) }
+    ensures last { IfErr result (AsksOne paths.now.problem.now (role.Text text.Problem)
+        (F.asked files.old) (F.asked files.new)) }
 {
     let bytes = read_text(files, paths.problem, Text::Problem)?;
     match problem_in(alloc, bytes.as_slice(), domain) {
@@ -117,13 +131,18 @@ fn read_streams<F: Files>(
     domain: &Domain,
 ) -> Result<Seq<Stream>, Stop>
     requires domain { HasDomain (F.told files.old) (held_files paths.now) domain.now }
-    requires problem { (p : Problem) × HasProblem (F.told files.old) (held_files paths.now) domain.now p }
-    ensures streams { IfOk result (HasStreams (F.told files.old) (held_files paths.now) domain.now) }
-    ensures stop { IfErr result (MayRefuse (F.told files.old) (held_files paths.now) (Rose last_count (F.faults files.old) (F.faults files.new))) }
+    requires problem { (p : Problem)
+        × HasProblem (F.told files.old) (held_files paths.now) domain.now p }
+    ensures streams { IfOk result (HasStreams (F.told files.old) (held_files paths.now)
+        domain.now) }
+    ensures stop { IfErr result (MayRefuse (F.told files.old) (held_files paths.now)
+        (Rose last_count (F.faults files.old) (F.faults files.new))) }
     ensures same { F.told files.new ≡ F.told files.old }
     ensures later { F.faults files.old ≤ F.faults files.new }
-    ensures asked { IfOk result (λ _. Extends (F.asked files.old) (F.asked files.new) (ask paths.now.streams.now (Ok tt) ∷ [])) }
-    ensures last { IfErr result (AsksOne paths.now.streams.now (role.Text text.Streams) (F.asked files.old) (F.asked files.new)) }
+    ensures asked { IfOk result (λ _. Extends (F.asked files.old) (F.asked files.new)
+        (ask paths.now.streams.now (Ok tt) ∷ [])) }
+    ensures last { IfErr result (AsksOne paths.now.streams.now (role.Text text.Streams)
+        (F.asked files.old) (F.asked files.new)) }
 {
     let bytes = read_text(files, paths.streams, Text::Streams)?;
     match streams_in(alloc, bytes.as_slice(), domain) {
@@ -135,11 +154,14 @@ fn read_streams<F: Files>(
 /// Reads the task that the files spell. A file is read only after the texts before it were accepted.
 fn read_spelled<F: Files>(alloc: Global, files: &mut F, paths: &TaskFiles<'_>) -> Result<Task, Stop>
     ensures task { IfOk result (IsTaskOf (F.told files.old) (held_files paths.now)) }
-    ensures stop { IfErr result (MayRefuse (F.told files.old) (held_files paths.now) (Rose last_count (F.faults files.old) (F.faults files.new))) }
+    ensures stop { IfErr result (MayRefuse (F.told files.old) (held_files paths.now)
+        (Rose last_count (F.faults files.old) (F.faults files.new))) }
     ensures same { F.told files.new ≡ F.told files.old }
     ensures later { F.faults files.old ≤ F.faults files.new }
-    ensures asked { IfOk result (λ _. Extends (F.asked files.old) (F.asked files.new) (asks_to (held_files paths.now) text.Streams (Ok tt))) }
-    ensures last { IfErr result (AsksUpTo (held_files paths.now) (F.asked files.old) (F.asked files.new)) }
+    ensures asked { IfOk result (λ _. Extends (F.asked files.old) (F.asked files.new)
+        (asks_to (held_files paths.now) text.Streams (Ok tt))) }
+    ensures last { IfErr result (AsksUpTo (held_files paths.now) (F.asked files.old)
+        (F.asked files.new)) }
 {
     let domain = read_domain(alloc, files, paths)?;
     let problem = read_problem(alloc, files, paths, &domain)?;
@@ -159,11 +181,14 @@ pub(crate) fn read_input<F: Files>(
 ) -> Result<Task, Stop>
     ensures task { IfOk result (IsTaskOf (F.told files.old) (held_files paths.now)) }
     ensures fit { IfOk result (λ task. IsFit task) }
-    ensures stop { IfErr result (MayRefuse (F.told files.old) (held_files paths.now) (Rose last_count (F.faults files.old) (F.faults files.new))) }
+    ensures stop { IfErr result (MayRefuse (F.told files.old) (held_files paths.now)
+        (Rose last_count (F.faults files.old) (F.faults files.new))) }
     ensures same { F.told files.new ≡ F.told files.old }
     ensures later { F.faults files.old ≤ F.faults files.new }
-    ensures asked { IfOk result (λ _. Extends (F.asked files.old) (F.asked files.new) (asks_to (held_files paths.now) text.Streams (Ok tt))) }
-    ensures last { IfErr result (AsksUpTo (held_files paths.now) (F.asked files.old) (F.asked files.new)) }
+    ensures asked { IfOk result (λ _. Extends (F.asked files.old) (F.asked files.new)
+        (asks_to (held_files paths.now) text.Streams (Ok tt))) }
+    ensures last { IfErr result (AsksUpTo (held_files paths.now) (F.asked files.old)
+        (F.asked files.new)) }
 {
     read_spelled(alloc, files, paths)
 }

@@ -92,7 +92,8 @@ fn option_of<'a>(name: &str, most: u32, default: u32, words: &'a [String]) -> Op
     requires few { most ≤ 1000000 }
     requires some { (1 ≤ default) × (default ≤ most) }
     ensures within { IfSome result (λ found. (1 ≤ found.count) × (found.count ≤ most)) }
-    ensures value { shown_count result ≡ option_of name.now most default (map string_bytes words.now) }
+    ensures value { shown_count result
+        ≡ option_of name.now most default (map string_bytes words.now) }
 {
     let [word, number, rest @ ..] = words else {
         return Some(Counted {
@@ -115,7 +116,8 @@ fn option_of<'a>(name: &str, most: u32, default: u32, words: &'a [String]) -> Op
 /// The program behind `--`.
 fn program_of(words: &[String]) -> Option<&[String]>
     ensures some { IfSome result (λ program. 1 ≤ length program.now) }
-    ensures value { option_map (λ program. map string_bytes program.now) result ≡ program_of (map string_bytes words.now) }
+    ensures value { option_map (λ program. map string_bytes program.now) result
+        ≡ program_of (map string_bytes words.now) }
 {
     let [dashes, program @ ..] = words else {
         return None;
@@ -129,7 +131,8 @@ fn program_of(words: &[String]) -> Option<&[String]>
 /// The words of `solve` behind its files: `[--calls N] [--states N] [--workers N] -- PROGRAM WORDS`.
 fn solve_of<'a>(files: TaskFiles<'a>, words: &'a [String]) -> Option<SolveWords<'a>>
     ensures within { IfSome result IsWithin }
-    ensures value { shown_solve result ≡ solve_of (held_files files.entry) (map string_bytes words.now) }
+    ensures value { shown_solve result
+        ≡ solve_of (held_files files.entry) (map string_bytes words.now) }
 {
     let Some(calls) = option_of("--calls", 100_000, 10_000, words) else {
         return None;
@@ -155,7 +158,8 @@ fn solve_of<'a>(files: TaskFiles<'a>, words: &'a [String]) -> Option<SolveWords<
 /// The words of `replay` behind its task's files: `REPORT [--states N]`.
 fn replay_of<'a>(files: TaskFiles<'a>, words: &'a [String]) -> Option<ReplayWords<'a>>
     ensures within { IfSome result IsWithinReplay }
-    ensures value { shown_replay result ≡ replay_of (held_files files.entry) (map string_bytes words.now) }
+    ensures value { shown_replay result
+        ≡ replay_of (held_files files.entry) (map string_bytes words.now) }
 {
     let [report, options @ ..] = words else {
         return None;
@@ -176,7 +180,8 @@ fn replay_of<'a>(files: TaskFiles<'a>, words: &'a [String]) -> Option<ReplayWord
 /// What is to be done with these files, by the command's name and the words behind them.
 fn named<'a>(name: &str, files: TaskFiles<'a>, words: &'a [String]) -> Option<Command<'a>>
     ensures within { IfSome result AreWithin }
-    ensures value { shown result ≡ named name.now (held_files files.entry) (map string_bytes words.now) }
+    ensures value { shown result ≡ named name.now (held_files files.entry)
+        (map string_bytes words.now) }
 {
     if name == "solve" {
         let solve = solve_of(files, words)?;

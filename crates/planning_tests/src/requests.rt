@@ -153,7 +153,8 @@ fn no_object_has_a_name_that_is_not_there(rt: HostRuntime) -> Result<(), Fail> {
 
 /// That the object has this type.
 fn sort_fact(alloc: Global, sort: u32, object: Obj) -> Result<Fact, AllocError>
-    ensures { IfOk result (λ fact. fact ≡ record { kind = kind.Sort; name = sort; args = object ∷ [] }) }
+    ensures { IfOk result (λ fact. fact
+        ≡ record { kind = kind.Sort; name = sort; args = object ∷ [] }) }
 {
     Ok(Fact {
         kind: Kind::Sort,

@@ -3,9 +3,9 @@ ghost use Rattle.std.specs.Prelude.{◌≡◌, IfOk, OnOk};
 ghost use Rattle.sexpr_text.specs.Trees.{trees};
 ghost use Rattle.problem_reader.specs.Tables as specs;
 
+use domain_reader::add_named;
 use form_reader::{Item, TextKind, head_of, tail_of};
 use name_tables::{NameTable, Signatures, Vocabulary};
-use domain_reader::add_named;
 use sexpr_text::{Front, Tree, front_of};
 use std::alloc::{AllocError, Global};
 use task_model::{Declared, Domain, Signature, Sort};

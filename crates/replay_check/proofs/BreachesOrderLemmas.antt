@@ -38,9 +38,12 @@ none_to_ask task es number [] e = refl
 none_to_ask task es number (i ∷ is) e = absurd (cc)
 
 -- where this request is the first to come, it is that of the first instance
-first_request : (task : Task) (es : List Entry) (number : ℕ) (is : List Instance) (e : Entry) (rest : List Entry) → requests_from task es number is ≡ e ∷ rest → (i : Instance) × (slice_get is 0 ≡ Some i) × (e ≡ entry.Ask number (yields_of (notes_of task es) i) (call_of_instance task (names_of task es) i))
+first_request : (task : Task) (es : List Entry) (number : ℕ) (is : List Instance) (e : Entry) (rest : List Entry)
+    → requests_from task es number is ≡ e ∷ rest
+    → (i : Instance) × (slice_get is 0 ≡ Some i) × (e ≡ entry.Ask number (yields_of (notes_of task es) i) (call_of_instance task (names_of task es) i))
 first_request task es number [] e rest asks = absurd (nothing_left e rest asks)
-first_request task es number (i ∷ is) e rest asks = (i, refl, let same : e ≡ entry.Ask number (yields_of (notes_of task es) i) (call_of_instance task (names_of task es) i) = cc in same)
+first_request task es number (i ∷ is) e rest asks =
+    (i, refl, let same : e ≡ entry.Ask number (yields_of (notes_of task es) i) (call_of_instance task (names_of task es) i) = cc in same)
 
 ask_is : (number : ℕ) (e : Entry) (turn : ℕ) (call : Call) → e ≡ entry.Ask number turn call → is_ask e ≡ true
 ask_is number e turn call is = ap is_ask is
@@ -77,7 +80,8 @@ some_is m n e = cc
 
 module _ (limits : Limits) (task : Task) (entries : List Entry) (l : Ledger) (a : Agenda) (mode : limits.mode ≡ Incremental) (s : StandsBehind limits task entries l a) where
   -- where a turn goes on with the entry, it is a step from here
-  step_of : (e : Entry) → AreBegun limits task (entries ++ e ∷ []) → (after : Course) × IsCourseStep limits task entries (place_in task entries a) e after
+  step_of : (e : Entry) → AreBegun limits task (entries ++ e ∷ [])
+      → (after : Course) × IsCourseStep limits task entries (place_in task entries a) e after
   step_of e (stage, turns) =
       let those : AreTurns limits task (IncrementalTurn limits task) tt [] (entries ++ e ∷ []) stage = subst (λ m. AreTurnsOf m limits task (entries ++ e ∷ []) stage) mode turns in
       let to = turns_lead limits task tt [] (entries ++ e ∷ []) stage at_first those refl refl in
@@ -86,25 +90,31 @@ module _ (limits : Limits) (task : Task) (entries : List Entry) (l : Ledger) (a 
       (parts.2.0, subst (λ c. IsCourseStep limits task entries c e parts.2.0) same parts.2.1)
 
   -- a request with which a turn goes on is the next
-  pub next_request : (number turn : ℕ) (call : Call) → AreBegun limits task (entries ++ entry.Ask number turn call ∷ []) → IsNextRequest task l a number turn call
+  pub next_request : (number turn : ℕ) (call : Call) → AreBegun limits task (entries ++ entry.Ask number turn call ∷ [])
+      → IsNextRequest task l a number turn call
   next_request number turn call begun = by (step_of (entry.Ask number turn call) begun)
     where
-      by : (after : Course) × IsCourseStep limits task entries (place_in task entries a) (entry.Ask number turn call) after → IsNextRequest task l a number turn call
+      by : (after : Course) × IsCourseStep limits task entries (place_in task entries a) (entry.Ask number turn call) after
+          → IsNextRequest task l a number turn call
       by (after, inl b) = absurd (let is = b.is in cc)
       by (after, inr (inl m)) =
           let first = first_request task entries (asks_of entries + 1) a.to_ask (entry.Ask number turn call) m.rest m.asks in
           record {
             instance = first.0;
             head = first.1;
-            is = first.2 ∙ (λ k. entry.Ask (sym s.ledger.counted k + 1) (yields_of (sym s.ledger.notes k) first.0) (call_of_instance task (sym s.ledger.known k).names first.0));
+            is =
+                first.2
+                ∙ (λ k. entry.Ask (sym s.ledger.counted k + 1) (yields_of (sym s.ledger.notes k) first.0) (call_of_instance task (sym s.ledger.known k).names first.0));
           }
       by (after, inr (inr g)) = absurd (let to = g.to in cc)
 
   -- an answer with which a turn goes on answers the next request of a round that is asked
-  pub next_answer : (e : Entry) (n : ℕ) → answered_number e ≡ Some n → AreBegun limits task (entries ++ e ∷ []) → (n ≡ a.next) × (a.to_ask ≡ []) × (0 < a.answers)
+  pub next_answer : (e : Entry) (n : ℕ) → answered_number e ≡ Some n → AreBegun limits task (entries ++ e ∷ [])
+      → (n ≡ a.next) × (a.to_ask ≡ []) × (0 < a.answers)
   next_answer e n is begun = by (step_of e begun)
     where
-      by : (after : Course) × IsCourseStep limits task entries (place_in task entries a) e after → (n ≡ a.next) × (a.to_ask ≡ []) × (0 < a.answers)
+      by : (after : Course) × IsCourseStep limits task entries (place_in task entries a) e after
+          → (n ≡ a.next) × (a.to_ask ≡ []) × (0 < a.answers)
       by (after, inl b) = absurd (let level : answered_number entry.Level ≡ Some n = ap answered_number (sym b.is) ∙ is in cc)
       by (after, inr (inl m)) =
           let first = first_request task entries (asks_of entries + 1) a.to_ask e m.rest m.asks in
@@ -118,7 +128,8 @@ module _ (limits : Limits) (task : Task) (entries : List Entry) (l : Ledger) (a 
   pub next_level : AreBegun limits task (entries ++ entry.Level ∷ []) → (a.answers ≡ 0) × (a.is_cut ≡ false) × MayBegin limits task entries
   next_level begun = by (step_of entry.Level begun)
     where
-      by : (after : Course) × IsCourseStep limits task entries (place_in task entries a) entry.Level after → (a.answers ≡ 0) × (a.is_cut ≡ false) × MayBegin limits task entries
+      by : (after : Course) × IsCourseStep limits task entries (place_in task entries a) entry.Level after
+          → (a.answers ≡ 0) × (a.is_cut ≡ false) × MayBegin limits task entries
       by (after, inl b) = (b.resting, b.uncut, b.may)
       by (after, inr (inl m)) =
           let first = first_request task entries (asks_of entries + 1) a.to_ask entry.Level m.rest m.asks in
@@ -126,7 +137,8 @@ module _ (limits : Limits) (task : Task) (entries : List Entry) (l : Ledger) (a 
       by (after, inr (inr g)) = absurd (let to = g.to in cc)
 
   -- no turn goes on with any other entry
-  pub next_other : (e : Entry) → is_ask e ≡ false → answered_number e ≡ None → ¬ (e ≡ entry.Level) → ¬ (AreBegun limits task (entries ++ e ∷ []))
+  pub next_other : (e : Entry) → is_ask e ≡ false → answered_number e ≡ None → ¬ (e ≡ entry.Level)
+      → ¬ (AreBegun limits task (entries ++ e ∷ []))
   next_other e no_ask no_answer no_level begun = by (step_of e begun)
     where
       by : (after : Course) × IsCourseStep limits task entries (place_in task entries a) e after → ⊥
@@ -175,7 +187,8 @@ module _ (limits : Limits) (task : Task) (before : List Entry) (e : Entry) where
       first kind.From lt breaks = omega (arith, lt)
       first kind.Outcome lt breaks = omega (arith, lt)
 
-  pub wrong_answer : is_answer e ≡ true → is_ask e ≡ false → ¬ (MayFollow limits.version task before e) → IsWrong limits task before e kind.Answer
+  pub wrong_answer : is_answer e ≡ true → is_ask e ≡ false → ¬ (MayFollow limits.version task before e)
+      → IsWrong limits task before e kind.Answer
   wrong_answer is no_ask bad = record { breaks = (is, bad); first = first }
     where
       first : (other : BreachKind) → kind_number other < kind_number kind.Answer → ¬ (BreaksEntry limits task before e other)
@@ -190,7 +203,8 @@ module _ (limits : Limits) (task : Task) (before : List Entry) (e : Entry) where
       first kind.From lt breaks = omega (arith, lt)
       first kind.Outcome lt breaks = omega (arith, lt)
 
-  pub wrong_order : (is_ask e ≡ true → MayAsk limits task before e) → (is_answer e ≡ true → MayFollow limits.version task before e) → ¬ (AreBegun limits task (before ++ e ∷ [])) → IsWrong limits task before e kind.Order
+  pub wrong_order : (is_ask e ≡ true → MayAsk limits task before e) → (is_answer e ≡ true → MayFollow limits.version task before e)
+      → ¬ (AreBegun limits task (before ++ e ∷ [])) → IsWrong limits task before e kind.Order
   wrong_order asks answers bad = record { breaks = bad; first = first }
     where
       first : (other : BreachKind) → kind_number other < kind_number kind.Order → ¬ (BreaksEntry limits task before e other)

@@ -55,7 +55,8 @@ module _ (b : Bounds) (limit : ℕ) (task : Task) (entries : List Entry) (l : Le
     past : (i : Instance) → IsDue task (known_of task entries) (notes_of task entries) i → IsSaid True
     past i due = (record { calls = sym h.counted ∙ all; none_open = none_wait empty; instance = i; due = due }, λ none. none)
 
-    of_many : (instances : List Instance) → 1000000 < length instances → ((i : Instance) → Contains instances i → IsDue task (known_of task entries) (notes_of task entries) i) → IsSaid True
+    of_many : (instances : List Instance) → 1000000 < length instances
+        → ((i : Instance) → Contains instances i → IsDue task (known_of task entries) (notes_of task entries) i) → IsSaid True
     of_many [] many each = absurd (omega (arith, many))
     of_many (i ∷ more) many each = past i (each i (0, omega arith, refl))
 

@@ -46,7 +46,8 @@ smaller line k than (inr (is, lt)) = lt
 -- ---- plans that run
 
 module _ (task : Task) (entries : List Entry) where
-  shown_front : (k : ℕ) (steps : List GroundAction) → take k (map (call_of_step task (names_of task entries)) steps) ≡ map (call_of_step task (names_of task entries)) (take k steps)
+  shown_front : (k : ℕ) (steps : List GroundAction)
+      → take k (map (call_of_step task (names_of task entries)) steps) ≡ map (call_of_step task (names_of task entries)) (take k steps)
   shown_front zero steps = refl
   shown_front (suc k) [] = refl
   shown_front (suc k) (s ∷ steps) = ap (λ cs. call_of_step task (names_of task entries) s ∷ cs) (shown_front k steps)
@@ -69,8 +70,10 @@ module _ (task : Task) (entries : List Entry) where
   take_fewer (suc m) (suc n) (c ∷ calls) le = let below : m ≤ n = omega (arith, le) in ap (λ cs. c ∷ cs) (take_fewer m n calls below)
 
   -- no step of these is stuck
-  none_stuck : (calls : List Call) (n offset : ℕ) → CanRun task entries (take n calls) → (b : BreaksStep task entries calls offset) → b.place + 1 ≤ n → ⊥
-  none_stuck calls n offset can b le = b.stuck (subst (CanRun task entries) (take_fewer (b.place + 1) n calls le) (front_can (take n calls) (b.place + 1) can))
+  none_stuck : (calls : List Call) (n offset : ℕ) → CanRun task entries (take n calls) → (b : BreaksStep task entries calls offset)
+      → b.place + 1 ≤ n → ⊥
+  none_stuck calls n offset can b le =
+      b.stuck (subst (CanRun task entries) (take_fewer (b.place + 1) n calls le) (front_can (take n calls) (b.place + 1) can))
 
   none_stuck_in : (calls : List Call) (offset : ℕ) → CanRun task entries calls → BreaksStep task entries calls offset → ⊥
   none_stuck_in calls offset can b = b.stuck (front_can calls (b.place + 1) can)
@@ -79,7 +82,8 @@ module _ (task : Task) (entries : List Entry) where
 
 module _ (limits : Limits) (limit : ℕ) (task : Task) (entries : List Entry) (calls : List Call) (cost : ℕ) (from : List Origin) (legal : IsLegal limits.version task entries) (placed : IsPlaced limits limit task entries (outcome.Plan calls cost from)) where
   -- of a plan that stands in its place only the plan can be wrong
-  said : (offset : ℕ) (k : BreachKind) → BreaksOutcome limits task entries (outcome.Plan calls cost from) offset k → BreaksPlan limits task entries calls cost from offset k
+  said : (offset : ℕ) (k : BreachKind) → BreaksOutcome limits task entries (outcome.Plan calls cost from) offset k
+      → BreaksPlan limits task entries calls cost from offset k
   said offset kind.Order wrong = absurd (placed.right wrong.1)
   said offset kind.Text wrong = wrong
   said offset kind.Head wrong = wrong
@@ -91,15 +95,18 @@ module _ (limits : Limits) (limit : ℕ) (task : Task) (entries : List Entry) (c
   said offset kind.From wrong = wrong
   said offset kind.Outcome wrong = wrong
 
-  stuck_first : (place other : ℕ) (than : BreachKind) → StopsAtStep task entries calls place → BreaksPlan limits task entries calls cost from other than → Precedes other than (place + 1) kind.Plan → ⊥
+  stuck_first : (place other : ℕ) (than : BreachKind) → StopsAtStep task entries calls place
+      → BreaksPlan limits task entries calls cost from other than → Precedes other than (place + 1) kind.Plan → ⊥
   stuck_first place other kind.Plan stops (inl b) before =
       none_stuck task entries calls place other stops.runs b (earlier before)
     where
       earlier : Precedes other kind.Plan (place + 1) kind.Plan → b.place + 1 ≤ place
       earlier (inl lt) = omega (arith, lt, b.is)
       earlier (inr (is, lt)) = absurd (omega (arith, lt))
-  stuck_first place other kind.Plan stops (inr (is, none)) before = let le = not_later other kind.Plan (place + 1) kind.Plan before in let within = stops.within in omega (arith, within, is, le)
-  stuck_first place other kind.Cost stops (is, wrong) before = let le = not_later other kind.Cost (place + 1) kind.Plan before in let within = stops.within in omega (arith, within, is, le)
+  stuck_first place other kind.Plan stops (inr (is, none)) before =
+      let le = not_later other kind.Plan (place + 1) kind.Plan before in let within = stops.within in omega (arith, within, is, le)
+  stuck_first place other kind.Cost stops (is, wrong) before =
+      let le = not_later other kind.Cost (place + 1) kind.Plan before in let within = stops.within in omega (arith, within, is, le)
   stuck_first place other kind.From stops b before = let le = not_later other kind.From (place + 1) kind.Plan before in let within = stops.within in let is = b.is in omega (arith, within, is, le)
   stuck_first place other kind.Text stops wrong before = wrong
   stuck_first place other kind.Head stops wrong before = wrong
@@ -109,13 +116,15 @@ module _ (limits : Limits) (limit : ℕ) (task : Task) (entries : List Entry) (c
   stuck_first place other kind.Dream stops wrong before = wrong
   stuck_first place other kind.Outcome stops wrong before = wrong
 
-  goal_first : (other : ℕ) (than : BreachKind) → CanRun task entries calls → BreaksPlan limits task entries calls cost from other than → Precedes other than (length calls + 1) kind.Plan → ⊥
+  goal_first : (other : ℕ) (than : BreachKind) → CanRun task entries calls → BreaksPlan limits task entries calls cost from other than
+      → Precedes other than (length calls + 1) kind.Plan → ⊥
   goal_first other kind.Plan can (inl b) before = none_stuck_in task entries calls other can b
   goal_first other kind.Plan can (inr (is, none)) (inl lt) = omega (arith, is, lt)
   goal_first other kind.Plan can (inr (is, none)) (inr (at, lt)) = omega (arith, lt)
   goal_first other kind.Cost can (is, wrong) (inl lt) = omega (arith, is, lt)
   goal_first other kind.Cost can (is, wrong) (inr (at, lt)) = omega (arith, lt)
-  goal_first other kind.From can b before = let le = not_later other kind.From (length calls + 1) kind.Plan before in let is = b.is in omega (arith, is, le)
+  goal_first other kind.From can b before =
+      let le = not_later other kind.From (length calls + 1) kind.Plan before in let is = b.is in omega (arith, is, le)
   goal_first other kind.Text can wrong before = wrong
   goal_first other kind.Head can wrong before = wrong
   goal_first other kind.Ask can wrong before = wrong
@@ -124,12 +133,15 @@ module _ (limits : Limits) (limit : ℕ) (task : Task) (entries : List Entry) (c
   goal_first other kind.Dream can wrong before = wrong
   goal_first other kind.Outcome can wrong before = wrong
 
-  cost_first : (other true_cost : ℕ) (than : BreachKind) → IsPlan task entries calls true_cost → BreaksPlan limits task entries calls cost from other than → Precedes other than (length calls + 1) kind.Cost → ⊥
-  cost_first other true_cost kind.Plan plan (inl b) before = none_stuck_in task entries calls other (plan_can task entries calls true_cost plan) b
+  cost_first : (other true_cost : ℕ) (than : BreachKind) → IsPlan task entries calls true_cost
+      → BreaksPlan limits task entries calls cost from other than → Precedes other than (length calls + 1) kind.Cost → ⊥
+  cost_first other true_cost kind.Plan plan (inl b) before =
+      none_stuck_in task entries calls other (plan_can task entries calls true_cost plan) b
   cost_first other true_cost kind.Plan plan (inr (is, none)) before = none true_cost plan
   cost_first other true_cost kind.Cost plan (is, wrong) (inl lt) = omega (arith, is, lt)
   cost_first other true_cost kind.Cost plan (is, wrong) (inr (at, lt)) = omega (arith, lt)
-  cost_first other true_cost kind.From plan b before = let le = not_later other kind.From (length calls + 1) kind.Cost before in let is = b.is in omega (arith, is, le)
+  cost_first other true_cost kind.From plan b before =
+      let le = not_later other kind.From (length calls + 1) kind.Cost before in let is = b.is in omega (arith, is, le)
   cost_first other true_cost kind.Text plan wrong before = wrong
   cost_first other true_cost kind.Head plan wrong before = wrong
   cost_first other true_cost kind.Ask plan wrong before = wrong
@@ -138,8 +150,10 @@ module _ (limits : Limits) (limit : ℕ) (task : Task) (entries : List Entry) (c
   cost_first other true_cost kind.Dream plan wrong before = wrong
   cost_first other true_cost kind.Outcome plan wrong before = wrong
 
-  from_first : (place other : ℕ) (than : BreachKind) → IsPlan task entries calls cost → DiffersAt limits.version entries calls from place → BreaksPlan limits task entries calls cost from other than → Precedes other than (length calls + 2 + place) kind.From → ⊥
-  from_first place other kind.Plan plan differs (inl b) before = none_stuck_in task entries calls other (plan_can task entries calls cost plan) b
+  from_first : (place other : ℕ) (than : BreachKind) → IsPlan task entries calls cost → DiffersAt limits.version entries calls from place
+      → BreaksPlan limits task entries calls cost from other than → Precedes other than (length calls + 2 + place) kind.From → ⊥
+  from_first place other kind.Plan plan differs (inl b) before =
+      none_stuck_in task entries calls other (plan_can task entries calls cost plan) b
   from_first place other kind.Plan plan differs (inr (is, none)) before = none cost plan
   from_first place other kind.Cost plan differs (is, wrong) before = wrong plan
   from_first place other kind.From plan differs b before =
@@ -156,10 +170,12 @@ module _ (limits : Limits) (limit : ℕ) (task : Task) (entries : List Entry) (c
   from_first place other kind.Dream plan differs wrong before = wrong
   from_first place other kind.Outcome plan differs wrong before = wrong
 
-  pub right_found : IsPlanned limits.version task entries calls cost from planned.Right → IsFound limits limit task entries (outcome.Plan calls cost from) finding.Holds
+  pub right_found : IsPlanned limits.version task entries calls cost from planned.Right
+      → IsFound limits limit task entries (outcome.Plan calls cost from) finding.Holds
   right_found plan = (placed.stands plan, λ none. none)
 
-  pub stuck_found : (place : ℕ) → StopsAtStep task entries calls place → IsFound limits limit task entries (outcome.Plan calls cost from) (finding.Breaks (place + 1) kind.Plan)
+  pub stuck_found : (place : ℕ) → StopsAtStep task entries calls place
+      → IsFound limits limit task entries (outcome.Plan calls cost from) (finding.Breaks (place + 1) kind.Plan)
   stuck_found place stops =
       record {
         breaks = inl (record { place = place; within = stops.within; stuck = stops.stuck; is = refl });
@@ -167,17 +183,21 @@ module _ (limits : Limits) (limit : ℕ) (task : Task) (entries : List Entry) (c
         decided = λ none. absurd none;
       }
 
-  pub no_goal_found : (n : ℕ) → length calls ≡ n → IsPlanned limits.version task entries calls cost from planned.NoGoal → IsFound limits limit task entries (outcome.Plan calls cost from) (finding.Breaks (n + 1) kind.Plan)
+  pub no_goal_found : (n : ℕ) → length calls ≡ n → IsPlanned limits.version task entries calls cost from planned.NoGoal
+      → IsFound limits limit task entries (outcome.Plan calls cost from) (finding.Breaks (n + 1) kind.Plan)
   no_goal_found n is missed =
       subst (λ m. IsFound limits limit task entries (outcome.Plan calls cost from) (finding.Breaks (m + 1) kind.Plan)) is
       (record { breaks = inr (refl, missed.1); first = λ other than wrong. goal_first other than missed.0 (said other than wrong); decided = λ none. absurd none })
 
-  pub wrong_cost_found : (n : ℕ) → length calls ≡ n → IsPlanned limits.version task entries calls cost from planned.WrongCost → IsFound limits limit task entries (outcome.Plan calls cost from) (finding.Breaks (n + 1) kind.Cost)
+  pub wrong_cost_found : (n : ℕ) → length calls ≡ n → IsPlanned limits.version task entries calls cost from planned.WrongCost
+      → IsFound limits limit task entries (outcome.Plan calls cost from) (finding.Breaks (n + 1) kind.Cost)
   wrong_cost_found n is wrong_cost =
       subst (λ m. IsFound limits limit task entries (outcome.Plan calls cost from) (finding.Breaks (m + 1) kind.Cost)) is
       (record { breaks = (refl, wrong_cost.1); first = λ other than wrong. cost_first other wrong_cost.0.0 than wrong_cost.0.1 (said other than wrong); decided = λ none. absurd none })
 
-  pub wrong_origin_found : (n place : ℕ) → length calls ≡ n → IsPlanned limits.version task entries calls cost from (planned.WrongOrigin place) → IsFound limits limit task entries (outcome.Plan calls cost from) (finding.Breaks (n + 2 + place) kind.From)
+  pub wrong_origin_found : (n place : ℕ) → length calls ≡ n
+      → IsPlanned limits.version task entries calls cost from (planned.WrongOrigin place)
+      → IsFound limits limit task entries (outcome.Plan calls cost from) (finding.Breaks (n + 2 + place) kind.From)
   wrong_origin_found n place is differs =
       subst (λ m. IsFound limits limit task entries (outcome.Plan calls cost from) (finding.Breaks (m + 2 + place) kind.From)) is
       (record {
@@ -189,18 +209,21 @@ module _ (limits : Limits) (limit : ℕ) (task : Task) (entries : List Entry) (c
 -- ---- claims
 
 module _ (limits : Limits) (limit : ℕ) (task : Task) (entries : List Entry) where
-  as_claim : (o : Outcome) (offset : ℕ) (k : BreachKind) → IsClaim o → BreaksSaid limits task entries o offset k → BreaksClaim limits task entries o offset k
+  as_claim : (o : Outcome) (offset : ℕ) (k : BreachKind) → IsClaim o → BreaksSaid limits task entries o offset k
+      → BreaksClaim limits task entries o offset k
   as_claim (outcome.Plan calls cost from) offset k is wrong = absurd is
   as_claim outcome.NoPlan offset k is wrong = wrong
   as_claim (outcome.Limit which) offset k is wrong = wrong
 
-  as_said : (o : Outcome) (offset : ℕ) (k : BreachKind) → IsClaim o → BreaksClaim limits task entries o offset k → BreaksSaid limits task entries o offset k
+  as_said : (o : Outcome) (offset : ℕ) (k : BreachKind) → IsClaim o → BreaksClaim limits task entries o offset k
+      → BreaksSaid limits task entries o offset k
   as_said (outcome.Plan calls cost from) offset k is wrong = absurd is
   as_said outcome.NoPlan offset k is wrong = wrong
   as_said (outcome.Limit which) offset k is wrong = wrong
 
   -- what is wrong with a claim in its place is what it says
-  only_said : (o : Outcome) (offset : ℕ) (k : BreachKind) → IsPlaced limits limit task entries o → BreaksOutcome limits task entries o offset k → BreaksSaid limits task entries o offset k
+  only_said : (o : Outcome) (offset : ℕ) (k : BreachKind) → IsPlaced limits limit task entries o
+      → BreaksOutcome limits task entries o offset k → BreaksSaid limits task entries o offset k
   only_said o offset kind.Order placed wrong = absurd (placed.right wrong.1)
   only_said o offset kind.Text placed wrong = wrong
   only_said o offset kind.Head placed wrong = wrong
@@ -212,7 +235,8 @@ module _ (limits : Limits) (limit : ℕ) (task : Task) (entries : List Entry) wh
   only_said o offset kind.From placed wrong = wrong
   only_said o offset kind.Outcome placed wrong = wrong
 
-  last_of_all : (o : Outcome) (offset : ℕ) (k : BreachKind) → BreaksClaim limits task entries o offset k → Precedes offset k 0 kind.Outcome → ⊥
+  last_of_all : (o : Outcome) (offset : ℕ) (k : BreachKind) → BreaksClaim limits task entries o offset k → Precedes offset k 0 kind.Outcome
+      → ⊥
   last_of_all o offset kind.Outcome wrong (inl lt) = omega (arith, lt)
   last_of_all o offset kind.Outcome wrong (inr (is, lt)) = omega (arith, lt)
   last_of_all o offset kind.Order wrong before = wrong
@@ -233,7 +257,8 @@ module _ (limits : Limits) (limit : ℕ) (task : Task) (entries : List Entry) wh
     true_found judged = (placed.stands judged.0, judged.1)
 
     pub false_found : IsJudged limits limit task entries o claim.False → IsFound limits limit task entries o (finding.Breaks 0 kind.Outcome)
-    false_found judged = record { breaks = as_said o 0 kind.Outcome is (refl, judged.0); first = none_earlier; decided = λ unsure. absurd (judged.1 unsure) }
+    false_found judged =
+        record { breaks = as_said o 0 kind.Outcome is (refl, judged.0); first = none_earlier; decided = λ unsure. absurd (judged.1 unsure) }
 
     pub open_found : IsJudged limits limit task entries o claim.Open → IsFound limits limit task entries o finding.Open
     open_found judged = (judged, none_earlier)
@@ -242,8 +267,10 @@ module _ (limits : Limits) (limit : ℕ) (task : Task) (entries : List Entry) wh
 
 module _ (limits : Limits) (limit : ℕ) (task : Task) (entries : List Entry) (o : Outcome) where
   -- an outcome that may stand at the stage of the entries
-  pub placed_at : (stage : Stage) → AreTurnsOf limits.mode limits task entries stage → MayStand stage o → IsPlaced limits limit task entries o
-  placed_at stage turns stands = record { right = right stands; stands = λ said. record { stage = stage; turns = turns; stands = stands; true = said } }
+  pub placed_at : (stage : Stage) → AreTurnsOf limits.mode limits task entries stage → MayStand stage o
+      → IsPlaced limits limit task entries o
+  placed_at stage turns stands =
+      record { right = right stands; stands = λ said. record { stage = stage; turns = turns; stands = stands; true = said } }
     where
       right : MayStand stage o → ¬ (IsMisplaced limits task entries o)
       right (inl rests) wrong = wrong.1 (subst (λ s. AreTurnsOf limits.mode limits task entries s) rests turns)

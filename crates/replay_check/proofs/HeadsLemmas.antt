@@ -28,7 +28,8 @@ module _ (task : Task) (r : Report) (place : ℕ) (mode : r.mode ≡ Incremental
       by (inr le) = let is = b.is in omega (arith, is, le)
   none_before other (inr (inr (inr (at, wrong)))) = omega (arith, at, within)
 
-  pub first_wrong : IfSome (slice_get r.pools place) (λ pool. is_fit_pool task (take place r.pools) pool ≡ false) → BreaksHead task r (place + 3) × (place + 3 ≤ line_behind_pools r) × ((other : ℕ) → BreaksHead task r other → place + 3 ≤ other)
+  pub first_wrong : IfSome (slice_get r.pools place) (λ pool. is_fit_pool task (take place r.pools) pool ≡ false)
+      → BreaksHead task r (place + 3) × (place + 3 ≤ line_behind_pools r) × ((other : ℕ) → BreaksHead task r other → place + 3 ≤ other)
   first_wrong said =
       let here = get_there r.pools place within in
       let wrong = subst (λ o. IfSome o (λ pool. is_fit_pool task (take place r.pools) pool ≡ false)) here.1 said in

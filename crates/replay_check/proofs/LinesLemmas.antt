@@ -56,7 +56,8 @@ entry_long (entry.Pick number) = omega arith
 entry_long (entry.Retire number) = omega arith
 
 -- an entry begins behind the first line of each that precedes it
-pub lines_rise : (xs : List Entry) (j k : ℕ) → j < length xs → j < k → length (flat_map entry_lines (take j xs)) + 1 ≤ length (flat_map entry_lines (take k xs))
+pub lines_rise : (xs : List Entry) (j k : ℕ) → j < length xs → j < k
+    → length (flat_map entry_lines (take j xs)) + 1 ≤ length (flat_map entry_lines (take k xs))
 lines_rise [] j k within lt = absurd (omega (arith, within))
 lines_rise (x ∷ xs) j zero within lt = absurd (omega (arith, lt))
 lines_rise (x ∷ xs) zero (suc k) within lt =
@@ -72,7 +73,8 @@ lines_rise (x ∷ xs) (suc j) (suc k) within lt =
     omega (arith, first, second, rest)
 
 -- all entries end behind the first line of each
-pub lines_past : (xs : List Entry) (j : ℕ) → j < length xs → length (flat_map entry_lines (take j xs)) + 1 ≤ length (flat_map entry_lines xs)
+pub lines_past : (xs : List Entry) (j : ℕ) → j < length xs
+    → length (flat_map entry_lines (take j xs)) + 1 ≤ length (flat_map entry_lines xs)
 lines_past xs j within =
     let all : length (flat_map entry_lines (take (length xs) xs)) ≡ length (flat_map entry_lines xs) = ap (λ (es : List Entry). length (flat_map entry_lines es)) (take_all (length xs) xs (omega arith)) in
     let rise = lines_rise xs j (length xs) within within in
@@ -99,31 +101,38 @@ there_or_past [] k = inr (refl, omega arith)
 there_or_past (x ∷ xs) zero = inl (x, refl)
 there_or_past (x ∷ xs) (suc k) = one_more x xs k (there_or_past xs k)
   where
-    one_more : {A : Type 0} (x : A) (xs : List A) (k : ℕ) → ((y : A) × (slice_get xs k ≡ Some y)) ⊎ ((slice_get xs k ≡ None) × (length xs ≤ k)) → ((y : A) × (slice_get (x ∷ xs) (suc k) ≡ Some y)) ⊎ ((slice_get (x ∷ xs) (suc k) ≡ None) × (length (x ∷ xs) ≤ suc k))
+    one_more : {A : Type 0} (x : A) (xs : List A) (k : ℕ)
+        → ((y : A) × (slice_get xs k ≡ Some y)) ⊎ ((slice_get xs k ≡ None) × (length xs ≤ k))
+        → ((y : A) × (slice_get (x ∷ xs) (suc k) ≡ Some y)) ⊎ ((slice_get (x ∷ xs) (suc k) ≡ None) × (length (x ∷ xs) ≤ suc k))
     one_more x xs k (inl r) = inl r
     one_more x xs k (inr r) = inr (r.0, omega (arith, r.1))
 
 module _ (limits : Limits) (limit : ℕ) (task : Task) (entries : List Entry) where
   -- the first origin that differs is at most the one behind those that are shown
-  from_few : (calls : List Call) (cost : ℕ) (from : List Origin) (offset : ℕ) → NoneEarlier limits limit task entries (outcome.Plan calls cost from) offset kind.From → (b : BreaksFrom limits.version entries calls from offset) → b.place ≤ length from
+  from_few : (calls : List Call) (cost : ℕ) (from : List Origin) (offset : ℕ)
+      → NoneEarlier limits limit task entries (outcome.Plan calls cost from) offset kind.From
+      → (b : BreaksFrom limits.version entries calls from offset) → b.place ≤ length from
   from_few calls cost from offset first b = by (cases_lt (length from) b.place)
     where
       earlier : length from < b.place → ⊥
       earlier lt = at (there_or_past b.due (length from))
         where
-          at : ((o : Origin) × (slice_get b.due (length from) ≡ Some o)) ⊎ ((slice_get b.due (length from) ≡ None) × (length b.due ≤ length from)) → ⊥
+          at : ((o : Origin) × (slice_get b.due (length from) ≡ Some o)) ⊎ ((slice_get b.due (length from) ≡ None) × (length b.due ≤ length from))
+              → ⊥
           at (inl (o, there)) =
               let here : BreaksFrom limits.version entries calls from (length calls + 2 + length from) =
               record { due = b.due; origins = b.origins; place = length from; other = λ same. none-some o (sym (slice_get_past from (length from) (omega arith)) ∙ same ∙ there); is = refl } in
               let is = b.is in
               first (length calls + 2 + length from) kind.From here (inl (omega (arith, is, lt)))
-          at (inr (none, past)) = b.other (slice_get_past from b.place (omega (arith, lt)) ∙ sym (slice_get_past b.due b.place (omega (arith, lt, past))))
+          at (inr (none, past)) =
+              b.other (slice_get_past from b.place (omega (arith, lt)) ∙ sym (slice_get_past b.due b.place (omega (arith, lt, past))))
 
       by : (length from < b.place) ⊎ (b.place ≤ length from) → b.place ≤ length from
       by (inl lt) = absurd (earlier lt)
       by (inr le) = le
 
-  plan_count : (version cost : ℕ) (calls : List Call) (from : List Origin) → length (outcome_lines version (outcome.Plan calls cost from)) ≡ length calls + 2 + length from
+  plan_count : (version cost : ℕ) (calls : List Call) (from : List Origin)
+      → length (outcome_lines version (outcome.Plan calls cost from)) ≡ length calls + 2 + length from
   plan_count version cost calls from =
       let last = line (codes "cost") (decimal cost ∷ []) ∷ map (from_line version) from in
       let sum = length-append (map do_line calls) last in
@@ -131,12 +140,15 @@ module _ (limits : Limits) (limit : ℕ) (task : Task) (entries : List Entry) wh
       let origins = length-map from (from_line version) in
       omega (arith, sum, steps, origins)
 
-  plan_few : (calls : List Call) (cost : ℕ) (from : List Origin) (offset : ℕ) (k : BreachKind) → NoneEarlier limits limit task entries (outcome.Plan calls cost from) offset k → BreaksOutcome limits task entries (outcome.Plan calls cost from) offset k → offset ≤ length calls + 2 + length from
+  plan_few : (calls : List Call) (cost : ℕ) (from : List Origin) (offset : ℕ) (k : BreachKind)
+      → NoneEarlier limits limit task entries (outcome.Plan calls cost from) offset k
+      → BreaksOutcome limits task entries (outcome.Plan calls cost from) offset k → offset ≤ length calls + 2 + length from
   plan_few calls cost from offset kind.Order first wrong = omega (arith, wrong.0)
   plan_few calls cost from offset kind.Plan first (inl b) = let within = b.within in let is = b.is in omega (arith, within, is)
   plan_few calls cost from offset kind.Plan first (inr (is, none)) = omega (arith, is)
   plan_few calls cost from offset kind.Cost first (is, wrong) = omega (arith, is)
-  plan_few calls cost from offset kind.From first b = let few = from_few calls cost from offset first b in let is = b.is in omega (arith, few, is)
+  plan_few calls cost from offset kind.From first b =
+      let few = from_few calls cost from offset first b in let is = b.is in omega (arith, few, is)
   plan_few calls cost from offset kind.Text first wrong = absurd wrong
   plan_few calls cost from offset kind.Head first wrong = absurd wrong
   plan_few calls cost from offset kind.Ask first wrong = absurd wrong
@@ -156,7 +168,8 @@ module _ (limits : Limits) (limit : ℕ) (task : Task) (entries : List Entry) wh
   no_plan_few offset kind.Cost wrong = absurd wrong
   no_plan_few offset kind.From wrong = absurd wrong
 
-  limit_few : (which : LimitKind) (offset : ℕ) (k : BreachKind) → BreaksOutcome limits task entries (outcome.Limit which) offset k → offset ≡ 0
+  limit_few : (which : LimitKind) (offset : ℕ) (k : BreachKind) → BreaksOutcome limits task entries (outcome.Limit which) offset k
+      → offset ≡ 0
   limit_few which offset kind.Order wrong = wrong.0
   limit_few which offset kind.Outcome wrong = wrong.0
   limit_few which offset kind.Text wrong = absurd wrong
@@ -169,7 +182,8 @@ module _ (limits : Limits) (limit : ℕ) (task : Task) (entries : List Entry) wh
   limit_few which offset kind.From wrong = absurd wrong
 
   -- the line of an outcome that is told is one of its own
-  pub offset_few : (version : ℕ) (o : Outcome) (offset : ℕ) (k : BreachKind) → IsFirstWrong limits limit task entries o offset k → offset ≤ length (outcome_lines version o)
+  pub offset_few : (version : ℕ) (o : Outcome) (offset : ℕ) (k : BreachKind) → IsFirstWrong limits limit task entries o offset k
+      → offset ≤ length (outcome_lines version o)
   offset_few version (outcome.Plan calls cost from) offset k w =
       let few = plan_few calls cost from offset k w.first w.breaks in
       let count = plan_count version cost calls from in

@@ -20,7 +20,8 @@ four_parts true false c d e = absurd (cc)
 four_parts false b c d e = absurd (cc)
 
 module _ (task : Task) (names : List (List ℕ)) (notes : List Note) (number : ℕ) (i : Instance) (shown turn : ℕ) (call : Call) where
-  pub same_yes : is_same_request task names notes number i shown turn call ≡ true → entry.Ask shown turn call ≡ entry.Ask number (yields_of notes i) (call_of_instance task names i)
+  pub same_yes : is_same_request task names notes number i shown turn call ≡ true
+      → entry.Ask shown turn call ≡ entry.Ask number (yields_of notes i) (call_of_instance task names i)
   same_yes e =
       let p = four_parts (shown == number) (turn == yields_of notes i) (same_numbers call.name (stream_name task i.stream)) (pointwise same_numbers call.args (map (name_at names) i.inputs)) e in
       let first : shown ≡ number = eqb-true shown number p.0 in
@@ -29,7 +30,8 @@ module _ (task : Task) (names : List (List ℕ)) (notes : List Note) (number : �
       let fourth : call.args ≡ map (name_at names) i.inputs = (pointwise_decides numbers_decided call.args (map (name_at names) i.inputs)).0 p.3 in
       λ k. entry.Ask (first k) (second k) (record { name = third k; args = fourth k })
 
-  pub same_no : entry.Ask shown turn call ≡ entry.Ask number (yields_of notes i) (call_of_instance task names i) → is_same_request task names notes number i shown turn call ≡ true
+  pub same_no : entry.Ask shown turn call ≡ entry.Ask number (yields_of notes i) (call_of_instance task names i)
+      → is_same_request task names notes number i shown turn call ≡ true
   same_no e =
       let first : shown ≡ number = cc in
       let second : turn ≡ yields_of notes i = cc in

@@ -79,7 +79,8 @@ kind_is kind.Cost = refl
 kind_is kind.From = refl
 kind_is kind.Outcome = refl
 
-neither : (line other : ℕ) (k than : BreachKind) → ¬ (Precedes line k other than) → ¬ (Precedes other than line k) → (line ≡ other) × (k ≡ than)
+neither : (line other : ℕ) (k than : BreachKind) → ¬ (Precedes line k other than) → ¬ (Precedes other than line k)
+    → (line ≡ other) × (k ≡ than)
 neither line other k than first second =
     let lines : line ≡ other = by (cases_lt line other) (cases_lt other line) in
     let numbers = of lines (cases_lt (breach_number k) (breach_number than)) (cases_lt (breach_number than) (breach_number k)) in
@@ -90,7 +91,8 @@ neither line other k than first second =
     by (inr ge) (inl lt) = absurd (second (inl lt))
     by (inr ge) (inr le) = omega (arith, ge, le)
 
-    of : line ≡ other → (breach_number k < breach_number than) ⊎ (breach_number than ≤ breach_number k) → (breach_number than < breach_number k) ⊎ (breach_number k ≤ breach_number than) → breach_number k ≡ breach_number than
+    of : line ≡ other → (breach_number k < breach_number than) ⊎ (breach_number than ≤ breach_number k)
+        → (breach_number than < breach_number k) ⊎ (breach_number k ≤ breach_number than) → breach_number k ≡ breach_number than
     of same (inl lt) q = absurd (first (inr (same, lt)))
     of same (inr ge) (inl lt) = absurd (second (inr (sym same, lt)))
     of same (inr ge) (inr le) = omega (arith, ge, le)
@@ -111,7 +113,8 @@ module _ (limit : ℕ) (task : Task) (r : Report) where
   said_once Limit (Invalid line k) first second = absurd (first.1 line k second.breach (second.decided first.0))
   said_once Limit Limit first second = refl
 
-pub verdict_once : (limit : ℕ) (task : Task) (bytes : List ℕ) (v w : Verdict) → IsVerdict limit task bytes v → IsVerdict limit task bytes w → v ≡ w
+pub verdict_once : (limit : ℕ) (task : Task) (bytes : List ℕ) (v w : Verdict) → IsVerdict limit task bytes v → IsVerdict limit task bytes w
+    → v ≡ w
 verdict_once limit task bytes v w (inl (line, is, fault)) (inl (other, also, again)) =
     is ∙ (λ i. Invalid (fault_once bytes line other fault again i) kind.Text) ∙ sym also
 verdict_once limit task bytes v w (inl (line, is, fault)) (inr of) = absurd (fault.none (of.report, of.formed, of.spelled))
@@ -121,6 +124,7 @@ verdict_once limit task bytes v w (inr first) (inr second) =
     said_once limit task first.report v w first.said (subst (λ r. IsReportVerdict limit task r w) same second.said)
 
 -- Of a report that is right, and whose claim is decided, nothing else is said.
-pub right_valid : (limit : ℕ) (task : Task) (r : Report) (v : Verdict) → IsFormed r → IsRightReport task r → ¬ (IsUndecided limit task r) → IsVerdict limit task (text_of_report r) v → v ≡ Valid
+pub right_valid : (limit : ℕ) (task : Task) (r : Report) (v : Verdict) → IsFormed r → IsRightReport task r → ¬ (IsUndecided limit task r)
+    → IsVerdict limit task (text_of_report r) v → v ≡ Valid
 right_valid limit task r v formed right decided is =
     verdict_once limit task (text_of_report r) v Valid is (inr (record { report = r; formed = formed; spelled = refl; said = (right, decided) }))

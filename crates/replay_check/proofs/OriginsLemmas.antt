@@ -27,13 +27,15 @@ not_both : (a : Bool) → a ≡ true → not a ≡ true → ⊥
 not_both true first second = absurd (cc)
 not_both false first second = absurd (cc)
 
-answered_before : (version : ℕ) (task : Task) (entries : List Entry) (n j k : ℕ) (e f : Entry) → IsLegal version task entries → slice_get entries j ≡ Some e → slice_get entries k ≡ Some f → is_answer_to n e ≡ true → is_answer_to n f ≡ true → j < k → ⊥
+answered_before : (version : ℕ) (task : Task) (entries : List Entry) (n j k : ℕ) (e f : Entry) → IsLegal version task entries
+    → slice_get entries j ≡ Some e → slice_get entries k ≡ Some f → is_answer_to n e ≡ true → is_answer_to n f ≡ true → j < k → ⊥
 answered_before version task entries n j k e f legal at_j at_k first second lt =
     let open_there = waiting_of version task (take k entries) n f (legal k f at_k) second in
     let unanswered = second_so (list_any (is_ask_of n) (take k entries)) (not (list_any (is_answer_to n) (take k entries))) open_there in
     not_both (list_any (is_answer_to n) (take k entries)) (any_passes_from_place (is_answer_to n) (take k entries) j e (get_take entries j k e at_j lt) first) unanswered
 
-pub answered_once : (version : ℕ) (task : Task) (entries : List Entry) (n j k : ℕ) (e f : Entry) → IsLegal version task entries → slice_get entries j ≡ Some e → slice_get entries k ≡ Some f → is_answer_to n e ≡ true → is_answer_to n f ≡ true → e ≡ f
+pub answered_once : (version : ℕ) (task : Task) (entries : List Entry) (n j k : ℕ) (e f : Entry) → IsLegal version task entries
+    → slice_get entries j ≡ Some e → slice_get entries k ≡ Some f → is_answer_to n e ≡ true → is_answer_to n f ≡ true → e ≡ f
 answered_once version task entries n j k e f legal at_j at_k first second = by (cases_lt j k) (cases_lt k j)
   where
     by : (j < k) ⊎ (k ≤ j) → (k < j) ⊎ (j ≤ k) → e ≡ f
@@ -55,7 +57,8 @@ found_answers value n t e is = absurd (cc)
 -- ---- one origin
 
 module _ (version : ℕ) (task : Task) (entries : List Entry) (legal : IsLegal version task entries) where
-  tuple_once : (value : List ℕ) (n s t : ℕ) (e f : Entry) → Contains entries e → Contains entries f → tuple_with value n e ≡ Some s → tuple_with value n f ≡ Some t → s ≡ t
+  tuple_once : (value : List ℕ) (n s t : ℕ) (e f : Entry) → Contains entries e → Contains entries f → tuple_with value n e ≡ Some s
+      → tuple_with value n f ≡ Some t → s ≡ t
   tuple_once value n s t e f in_e in_f first second =
       let j = place_of entries e in_e in
       let k = place_of entries f in_f in
@@ -85,7 +88,8 @@ module _ (version : ℕ) (task : Task) (entries : List Entry) (legal : IsLegal v
 abbrev object_of : Origin → List ℕ
 object_of o = o.object
 
-same_members : (xs ys : List Origin) → map object_of xs ≡ map object_of ys → ((o p : Origin) → Contains xs o → Contains ys p → o.object ≡ p.object → o ≡ p) → xs ≡ ys
+same_members : (xs ys : List Origin) → map object_of xs ≡ map object_of ys
+    → ((o p : Origin) → Contains xs o → Contains ys p → o.object ≡ p.object → o ≡ p) → xs ≡ ys
 same_members [] [] e each = refl
 same_members [] (y ∷ ys) e each = absurd (cc)
 same_members (x ∷ xs) [] e each = absurd (cc)
@@ -99,7 +103,8 @@ same_members (x ∷ xs) (y ∷ ys) e each =
     behind : (w : Origin) (ws : List Origin) (z : Origin) → Contains ws z → Contains (w ∷ ws) z
     behind w ws z there = let p = place_of ws z there in member_at (w ∷ ws) (suc p.0) z p.1
 
-pub origins_once : (version : ℕ) (task : Task) (entries : List Entry) (calls : List Call) (xs ys : List Origin) → IsLegal version task entries → AreOrigins version entries calls xs → AreOrigins version entries calls ys → xs ≡ ys
+pub origins_once : (version : ℕ) (task : Task) (entries : List Entry) (calls : List Call) (xs ys : List Origin)
+    → IsLegal version task entries → AreOrigins version entries calls xs → AreOrigins version entries calls ys → xs ≡ ys
 origins_once version task entries calls xs ys legal first second =
     let names = same_list (slice_cmp nat_cmp) nat_list_cmp_total (map object_of xs) (map object_of ys) first.ascend second.ascend
     (λ z m. (second.each z).1 ((first.each z).0 m)) (λ z m. (first.each z).1 ((second.each z).0 m)) in

@@ -44,14 +44,16 @@ module _ (version : ℕ) (task : Task) (fit : IsFit task) (entries : List Entry)
   summed (Some n) cost few is same = ap Some (same ∙ sym is)
 
   -- they reach it, and cost another sum
-  pub costs_other : (cost : ℕ) → cost < 2 ^ 64 → IsGoal task (known_of task entries) run.state → ¬ (run.cost ≡ Some cost) → IsPlanned version task entries calls cost from WrongCost
+  pub costs_other : (cost : ℕ) → cost < 2 ^ 64 → IsGoal task (known_of task entries) run.state → ¬ (run.cost ≡ Some cost)
+      → IsPlanned version task entries calls cost from WrongCost
   costs_other cost few reached other = (
     (r.total, record { steps = run.steps.items; shown = r.shown; valid = (run.state, r.runs, reached) }),
     λ plan. other (summed run.cost cost few (same_end cost plan).1 r.sum),
   )
 
   -- they reach it, and cost so much
-  pub plan_run : (cost : ℕ) → IsGoal task (known_of task entries) run.state → run.cost ≡ Some cost → IsPlanOf task entries calls cost run.steps.items
+  pub plan_run : (cost : ℕ) → IsGoal task (known_of task entries) run.state → run.cost ≡ Some cost
+      → IsPlanOf task entries calls cost run.steps.items
   plan_run cost reached is =
       let total : r.total ≡ cost = sym (subst (IsSum r.total) is r.sum) in
       record { shown = r.shown; valid = (run.state, subst (Executes task (known_of task entries) (initial_state task) run.steps.items run.state) total r.runs, reached) }
@@ -59,7 +61,9 @@ module _ (version : ℕ) (task : Task) (fit : IsFit task) (entries : List Entry)
 -- ---- origins
 
 -- the origins that are shown with a plan are those that are due
-pub shown_origins : (version : ℕ) (task : Task) (entries : List Entry) (steps : List GroundAction) (cost : ℕ) (o : Outcome) (calls told : List Call) (other : ℕ) (from : List Origin) → ShowsPlan version task entries steps cost o → o ≡ outcome.Plan told other from → calls ≡ map (call_of_step task (names_of task entries)) steps → AreOrigins version entries calls from
+pub shown_origins : (version : ℕ) (task : Task) (entries : List Entry) (steps : List GroundAction) (cost : ℕ) (o : Outcome) (calls told : List Call) (other : ℕ) (from : List Origin)
+    → ShowsPlan version task entries steps cost o → o ≡ outcome.Plan told other from
+    → calls ≡ map (call_of_step task (names_of task entries)) steps → AreOrigins version entries calls from
 shown_origins version task entries steps cost o calls told other from s is shown =
     let both : outcome.Plan s.calls cost s.from ≡ outcome.Plan told other from = sym s.is ∙ is in
     let origins : s.from ≡ from = cc in

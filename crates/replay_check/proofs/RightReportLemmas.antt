@@ -86,7 +86,8 @@ module _ (limits : Limits) (task : Task) (entries : List Entry) (stage : Stage) 
       let front = front_turns limits task tt [] entries stage incremental (suc place) in
       (front.0, subst (λ m. AreTurnsOf m limits task (take place entries ++ e ∷ []) front.0) (sym mode) (subst (λ es. AreTurns limits task (IncrementalTurn limits task) tt [] es front.0) (front_is place e at) front.1))
 
-  pub entry_right : (place : ℕ) (e : Entry) (k : BreachKind) → slice_get entries place ≡ Some e → BreaksEntry limits task (take place entries) e k → ⊥
+  pub entry_right : (place : ℕ) (e : Entry) (k : BreachKind) → slice_get entries place ≡ Some e
+      → BreaksEntry limits task (take place entries) e k → ⊥
   entry_right place e kind.Ask at wrong = wrong.1 (may_ask place e at wrong.0)
   entry_right place e kind.Answer at wrong = wrong.1 (legal place e at)
   entry_right place e kind.Order at wrong = wrong (begun place e at)
@@ -101,7 +102,8 @@ module _ (limits : Limits) (task : Task) (entries : List Entry) (stage : Stage) 
 -- ---- plans
 
 module _ (limits : Limits) (task : Task) (entries : List Entry) (calls : List Call) (cost : ℕ) (from : List Origin) (legal : IsLegal limits.version task entries) (plan : IsTruePlan limits.version task entries calls cost from) where
-  take_map : (k : ℕ) (steps : List GroundAction) → take k (map (call_of_step task (names_of task entries)) steps) ≡ map (call_of_step task (names_of task entries)) (take k steps)
+  take_map : (k : ℕ) (steps : List GroundAction)
+      → take k (map (call_of_step task (names_of task entries)) steps) ≡ map (call_of_step task (names_of task entries)) (take k steps)
   take_map zero steps = refl
   take_map (suc k) [] = refl
   take_map (suc k) (s ∷ steps) = ap (λ cs. call_of_step task (names_of task entries) s ∷ cs) (take_map k steps)
@@ -130,7 +132,8 @@ module _ (limits : Limits) (task : Task) (entries : List Entry) (calls : List Ca
 
 -- ---- outcomes
 
-claim_right : (limits : Limits) (task : Task) (entries : List Entry) (o : Outcome) (offset : ℕ) (k : BreachKind) → IsTrueOutcome limits task entries o → BreaksClaim limits task entries o offset k → ⊥
+claim_right : (limits : Limits) (task : Task) (entries : List Entry) (o : Outcome) (offset : ℕ) (k : BreachKind)
+    → IsTrueOutcome limits task entries o → BreaksClaim limits task entries o offset k → ⊥
 claim_right limits task entries o offset kind.Outcome holds wrong = wrong.1 holds
 claim_right limits task entries o offset kind.Text holds wrong = wrong
 claim_right limits task entries o offset kind.Head holds wrong = wrong
@@ -147,12 +150,14 @@ module _ (limits : Limits) (task : Task) (entries : List Entry) (stage : Stage) 
   placed o (inl rests) wrong = wrong.1 (subst (λ s. AreTurnsOf limits.mode limits task entries s) rests turns)
   placed o (inr (cut, is)) wrong = wrong.0 is
 
-  said_right : (o : Outcome) (offset : ℕ) (k : BreachKind) → IsTrueOutcome limits task entries o → BreaksSaid limits task entries o offset k → ⊥
+  said_right : (o : Outcome) (offset : ℕ) (k : BreachKind) → IsTrueOutcome limits task entries o → BreaksSaid limits task entries o offset k
+      → ⊥
   said_right (outcome.Plan calls cost from) offset k holds wrong = plan_right limits task entries calls cost from legal holds offset k wrong
   said_right outcome.NoPlan offset k holds wrong = claim_right limits task entries outcome.NoPlan offset k holds wrong
   said_right (outcome.Limit kind) offset k holds wrong = claim_right limits task entries (outcome.Limit kind) offset k holds wrong
 
-  outcome_right : (o : Outcome) (offset : ℕ) (k : BreachKind) → MayStand stage o → IsTrueOutcome limits task entries o → BreaksOutcome limits task entries o offset k → ⊥
+  outcome_right : (o : Outcome) (offset : ℕ) (k : BreachKind) → MayStand stage o → IsTrueOutcome limits task entries o
+      → BreaksOutcome limits task entries o offset k → ⊥
   outcome_right o offset kind.Order stands holds wrong = placed o stands wrong.1
   outcome_right o offset kind.Text stands holds wrong = said_right o offset kind.Text holds wrong
   outcome_right o offset kind.Head stands holds wrong = said_right o offset kind.Head holds wrong

@@ -36,7 +36,8 @@ use Rattle.transcript_ledger.specs.Steps.{action_named, step_named}
 
 -- ---- names of objects
 
-names_there : (names more : List (List ℕ)) (objects : List ℕ) → map (slice_get names) objects ≡ map Some more → map (name_at names) objects ≡ more
+names_there : (names more : List (List ℕ)) (objects : List ℕ) → map (slice_get names) objects ≡ map Some more
+    → map (name_at names) objects ≡ more
 names_there names [] [] e = refl
 names_there names [] (o ∷ os) e = absurd (cc)
 names_there names (n ∷ more) [] e = absurd (cc)
@@ -46,7 +47,8 @@ names_there names (n ∷ more) (o ∷ os) e =
     let name : name_at names o ≡ n = ap (λ (s : Option (List ℕ)). unwrap_or s []) first in
     λ i. name i ∷ names_there names more os rest i
 
-there_named : (names : List (List ℕ)) (objects : List ℕ) → All (IsIn names) objects → map (slice_get names) objects ≡ map Some (map (name_at names) objects)
+there_named : (names : List (List ℕ)) (objects : List ℕ) → All (IsIn names) objects
+    → map (slice_get names) objects ≡ map Some (map (name_at names) objects)
 there_named names [] all = refl
 there_named names (o ∷ os) all =
     let first = named_at names o (All-head (IsIn names) o os all) in
@@ -74,17 +76,20 @@ module _ (task : Task) (fit : IsFit task) (names : List (List ℕ)) (distinct : 
       let named : action_name task k ≡ a.name = rw at refl in
       position_only (λ (b : Action). same_numbers (action_name task k) b.name) task.domain.actions k a at ((numbers_decided (action_name task k) a.name).1 named) (λ m b there same. fit.domain.action_names.distinct m k a.name (name_there m b there ∙ ap Some (sym ((numbers_decided (action_name task k) b.name).0 same) ∙ named)) (name_there k a at))
     where
-      name_there : (m : ℕ) (b : Action) → slice_get task.domain.actions m ≡ Some b → slice_get (map (λ (c : Action). c.name) task.domain.actions) m ≡ Some b.name
+      name_there : (m : ℕ) (b : Action) → slice_get task.domain.actions m ≡ Some b
+          → slice_get (map (λ (c : Action). c.name) task.domain.actions) m ≡ Some b.name
       name_there m b there = slice_get-map (λ (c : Action). c.name) task.domain.actions m ∙ ap (option_map (λ (c : Action). c.name)) there
 
   -- the call that shows a step stands for it
-  pub step_found : (step : GroundAction) (a : Action) → slice_get task.domain.actions step.action ≡ Some a → All (IsIn names) step.args → step_named task names (call_of_step task names step) ≡ Some step
+  pub step_found : (step : GroundAction) (a : Action) → slice_get task.domain.actions step.action ≡ Some a → All (IsIn names) step.args
+      → step_named task names (call_of_step task names step) ≡ Some step
   step_found step a at all =
       rw (action_found step.action a at, (places_exact names (map (name_at names) step.args) step.args distinct).1 (there_named names step.args all)) refl
 
 -- ---- lists of calls
 
-ends : (f : GroundAction → Call) (cs : List Call) (c : Call) (steps : List GroundAction) → cs ++ c ∷ [] ≡ map f steps → (front : List GroundAction) × (last : GroundAction) × (steps ≡ front ++ last ∷ []) × (cs ≡ map f front) × (c ≡ f last)
+ends : (f : GroundAction → Call) (cs : List Call) (c : Call) (steps : List GroundAction) → cs ++ c ∷ [] ≡ map f steps
+    → (front : List GroundAction) × (last : GroundAction) × (steps ≡ front ++ last ∷ []) × (cs ≡ map f front) × (c ≡ f last)
 ends f [] c [] e = absurd (cc)
 ends f [] c (s ∷ []) e = ([], s, refl, refl, cc)
 ends f [] c (s ∷ t ∷ more) e = absurd (cc)
@@ -103,11 +108,13 @@ module _ (task : Task) (fit : IsFit task) (entries : List Entry) (coherent : IsC
   found_in = step_named task (names_of task entries)
 
   -- a step that can be taken is found by its call
-  found : (before after : Atoms) (step : GroundAction) (cost : ℕ) → IsStep task (known_of task entries) before step after cost → found_in (cs step) ≡ Some step
+  found : (before after : Atoms) (step : GroundAction) (cost : ℕ) → IsStep task (known_of task entries) before step after cost
+      → found_in (cs step) ≡ Some step
   found before after step cost s = step_found task fit (names_of task entries) coherent.names step s.action s.named (All-head (λ (x : GroundAction). All (IsIn (names_of task entries)) x.args) step [] (named_steps task (known_of task entries) coherent before after (step ∷ []) cost (after, cost, 0, s, (refl, refl), omega arith)).objects)
 
   -- calls show one list of steps that can be taken
-  pub same_steps : (before a b : Atoms) (xs ys : List GroundAction) (m n : ℕ) → Executes task (known_of task entries) before xs a m → Executes task (known_of task entries) before ys b n → map cs xs ≡ map cs ys → xs ≡ ys
+  pub same_steps : (before a b : Atoms) (xs ys : List GroundAction) (m n : ℕ) → Executes task (known_of task entries) before xs a m
+      → Executes task (known_of task entries) before ys b n → map cs xs ≡ map cs ys → xs ≡ ys
   same_steps before a b [] [] m n first second e = refl
   same_steps before a b [] (y ∷ ys) m n first second e = absurd (cc)
   same_steps before a b (x ∷ xs) [] m n first second e = absurd (cc)
@@ -146,7 +153,8 @@ module _ (task : Task) (fit : IsFit task) (entries : List Entry) (coherent : IsC
       let l = last_of calls call can in
       none-some l.last (sym none ∙ ap found_in l.is ∙ found l.state l.after l.last l.more l.step)
 
-  fails_not : (state after : Atoms) (step : GroundAction) (cost : ℕ) (fault : StepFault) → ¬ (fault ≡ Memory) → IsStep task (known_of task entries) state step after cost → StepFails task (known_of task entries) state step fault → ⊥
+  fails_not : (state after : Atoms) (step : GroundAction) (cost : ℕ) (fault : StepFault) → ¬ (fault ≡ Memory)
+      → IsStep task (known_of task entries) state step after cost → StepFails task (known_of task entries) state step fault → ⊥
   fails_not state after step cost NoAction other s fails = none-some s.action (sym fails ∙ s.named)
   fails_not state after step cost Args other s (a, named, wrong) =
       let same = same_Some s.action a (sym s.named ∙ named) in
@@ -168,7 +176,9 @@ module _ (task : Task) (fit : IsFit task) (entries : List Entry) (coherent : IsC
   fails_not state after step cost Memory other s fails = other refl
 
   -- a step that isn't applicable can't be taken
-  pub step_stuck : (calls : List Call) (call : Call) (run : Run) (step : GroundAction) (fault : StepFault) → ¬ (fault ≡ Memory) → IsRunOf task entries calls run → found_in call ≡ Some step → StepFails task (known_of task entries) run.state step fault → ¬ (CanRun task entries (calls ++ call ∷ []))
+  pub step_stuck : (calls : List Call) (call : Call) (run : Run) (step : GroundAction) (fault : StepFault) → ¬ (fault ≡ Memory)
+      → IsRunOf task entries calls run → found_in call ≡ Some step → StepFails task (known_of task entries) run.state step fault
+      → ¬ (CanRun task entries (calls ++ call ∷ []))
   step_stuck calls call run step fault other r is fails can =
       let l = last_of calls call can in
       let same : l.last ≡ step = same_Some l.last step (sym (found l.state l.after l.last l.more l.step) ∙ ap found_in (sym l.is) ∙ is) in
@@ -180,12 +190,17 @@ module _ (task : Task) (fit : IsFit task) (entries : List Entry) (coherent : IsC
       fails_not run.state l.after step l.more fault other taken fails
 
   -- one step more
-  pub step_more : (calls : List Call) (call : Call) (run next : Run) (step : GroundAction) (cost : ℕ) → IsRunOf task entries calls run → found_in call ≡ Some step → IsStep task (known_of task entries) run.state step next.state cost → next.steps.items ≡ run.steps.items ++ step ∷ [] → ((total : ℕ) → IsSum total run.cost → IsSum (total + cost) next.cost) → IsRunOf task entries (calls ++ call ∷ []) next
+  pub step_more : (calls : List Call) (call : Call) (run next : Run) (step : GroundAction) (cost : ℕ) → IsRunOf task entries calls run
+      → found_in call ≡ Some step → IsStep task (known_of task entries) run.state step next.state cost
+      → next.steps.items ≡ run.steps.items ++ step ∷ [] → ((total : ℕ) → IsSum total run.cost → IsSum (total + cost) next.cost)
+      → IsRunOf task entries (calls ++ call ∷ []) next
   step_more calls call run next step cost r is taken steps sum =
       let one : Executes task (known_of task entries) run.state (step ∷ []) next.state cost = (next.state, cost, 0, taken, (refl, refl), omega arith) in
       let whole = whole_of_parts task (known_of task entries) (initial_state task) next.state run.steps.items (step ∷ []) (r.total + cost) (run.state, r.total, cost, r.runs, one, refl) in
       record {
-        shown = (λ i. r.shown i ++ step_shown task fit (names_of task entries) coherent.names call step is i ∷ []) ∙ sym (map-append cs run.steps.items (step ∷ [])) ∙ ap (map cs) (sym steps);
+        shown =
+            (λ i. r.shown i ++ step_shown task fit (names_of task entries) coherent.names call step is i ∷ [])
+            ∙ sym (map-append cs run.steps.items (step ∷ [])) ∙ ap (map cs) (sym steps);
         total = r.total + cost;
         runs = subst (λ xs. Executes task (known_of task entries) (initial_state task) xs next.state (r.total + cost)) (sym steps) whole;
         sum = sum r.total r.sum;
@@ -202,7 +217,9 @@ module _ (task : Task) (fit : IsFit task) (entries : List Entry) (coherent : IsC
       }
 
 -- a front that was taken can be taken, and with the next call it is stuck
-pub stops_at : (task : Task) (entries : List Entry) (calls : List Call) (place : ℕ) (call : Call) (run : Run) → IsRunOf task entries (take place calls) run → place < length calls → call ≡ get_or calls place call → ¬ (CanRun task entries (take place calls ++ call ∷ [])) → StopsAtStep task entries calls place
+pub stops_at : (task : Task) (entries : List Entry) (calls : List Call) (place : ℕ) (call : Call) (run : Run)
+    → IsRunOf task entries (take place calls) run → place < length calls → call ≡ get_or calls place call
+    → ¬ (CanRun task entries (take place calls ++ call ∷ [])) → StopsAtStep task entries calls place
 stops_at task entries calls place call run r lt is stuck =
     let next : take (place + 1) calls ≡ take place calls ++ call ∷ [] = take_more calls place call lt ∙ ap (λ (c : Call). take place calls ++ c ∷ []) (sym is) in
     record {

@@ -43,7 +43,8 @@ head_is [] x at = absurd (cc)
 head_is (y ∷ ys) x at = let same : y ≡ x = cc in ap (λ z. z ∷ ys) same
 
 -- each entry so far has one line, and so has this one
-lines_more : (entries : List Entry) (e : Entry) → length (entry_lines e) ≡ 1 → length (flat_map entry_lines entries) ≡ length entries → length (flat_map entry_lines (entries ++ e ∷ [])) ≡ length (entries ++ e ∷ [])
+lines_more : (entries : List Entry) (e : Entry) → length (entry_lines e) ≡ 1 → length (flat_map entry_lines entries) ≡ length entries
+    → length (flat_map entry_lines (entries ++ e ∷ [])) ≡ length (entries ++ e ∷ [])
 lines_more entries e one so_far =
     let parts : length (flat_map entry_lines (entries ++ e ∷ [])) ≡ length (flat_map entry_lines entries) + length (entry_lines e ++ []) =
     ap length (flat_map-append entry_lines entries (e ∷ [])) ∙ length-append (flat_map entry_lines entries) (entry_lines e ++ []) in
@@ -54,7 +55,8 @@ lines_more entries e one so_far =
 -- ---- requests of the open round
 
 -- the requests are the same where the names and the notes are
-requests_same : (task : Task) (before after : List Entry) (number : ℕ) (is : List Instance) → names_of task after ≡ names_of task before → notes_of task after ≡ notes_of task before → requests_from task after number is ≡ requests_from task before number is
+requests_same : (task : Task) (before after : List Entry) (number : ℕ) (is : List Instance) → names_of task after ≡ names_of task before
+    → notes_of task after ≡ notes_of task before → requests_from task after number is ≡ requests_from task before number is
 requests_same task before after number [] names notes = refl
 requests_same task before after number (i ∷ is) names notes =
     let rest = requests_same task before after (number + 1) is names notes in
@@ -76,7 +78,9 @@ module _ (pools : List Share) (list : List Instance) (number : ℕ) (cut : Bool)
       let all : length list ≡ length st.round + length st.rest = ap length st.parts ∙ length-append st.round st.rest in
       omega (arith, here, later, all)
 
-starts_open : (limits : Limits) (task : Task) (es : List Entry) (list : List Instance) (number : ℕ) (cut : Bool) (b : Agenda) → AllWork limits.pools → number ≡ asks_of es + 1 → Starts limits.pools list number cut b → Opens limits task es list cut (place_in task es b)
+starts_open : (limits : Limits) (task : Task) (es : List Entry) (list : List Instance) (number : ℕ) (cut : Bool) (b : Agenda)
+    → AllWork limits.pools → number ≡ asks_of es + 1 → Starts limits.pools list number cut b
+    → Opens limits task es list cut (place_in task es b)
 starts_open limits task es list number cut b workers next st =
     record {
       round = st.round;
@@ -85,14 +89,17 @@ starts_open limits task es list number cut b workers next st =
       fit = st.fit;
       full = st.full;
       some = st.some workers;
-      is = ap (place_in task es) st.is ∙ (λ k. record { asks = requests_from task es (asks_of es + 1) st.round; next = next k; answers = length st.round; later = st.rest; is_cut = cut });
+      is =
+          ap (place_in task es) st.is
+          ∙ (λ k. record { asks = requests_from task es (asks_of es + 1) st.round; next = next k; answers = length st.round; later = st.rest; is_cut = cut });
     }
 
 -- ---- answers
 
 -- ---- before the first entry
 
-pub stands_first : (limits : Limits) (task : Task) (l : Ledger) → IsLedger limits.version task [] l → StandsBehind limits task [] l nothing_to_do
+pub stands_first : (limits : Limits) (task : Task) (l : Ledger) → IsLedger limits.version task [] l
+    → StandsBehind limits task [] l nothing_to_do
 stands_first limits task l ledger =
     record {
       ledger = ledger;
@@ -108,7 +115,8 @@ stands_first limits task l ledger =
 -- ---- one entry more
 
 module _ (limits : Limits) (task : Task) (entries : List Entry) (l : Ledger) (a : Agenda) (s : StandsBehind limits task entries l a) where
-  one_step : (e : Entry) (after : Course) → IsCourseStep limits task entries (place_in task entries a) e after → Leads limits task at_first [] (entries ++ e ∷ []) after
+  one_step : (e : Entry) (after : Course) → IsCourseStep limits task entries (place_in task entries a) e after
+      → Leads limits task at_first [] (entries ++ e ∷ []) after
   one_step e after step = leads_then limits task at_first [] entries (e ∷ []) (place_in task entries a) after s.leads (after, step, refl)
 
   -- ---- a request
@@ -124,7 +132,9 @@ module _ (limits : Limits) (task : Task) (entries : List Entry) (l : Ledger) (a 
     is_longer = let e : length a.to_ask ≡ length (n.instance ∷ drop 1 a.to_ask) = ap length head_asked in omega (arith, e)
 
     request_is : entry.Ask number turn call ≡ entry.Ask (asks_of entries + 1) (yields_of (notes_of task entries) n.instance) (call_of_instance task (names_of task entries) n.instance)
-    request_is = n.is ∙ (λ k. entry.Ask (s.ledger.counted k + 1) (yields_of (s.ledger.notes k) n.instance) (call_of_instance task (s.ledger.known k).names n.instance))
+    request_is =
+        n.is
+        ∙ (λ k. entry.Ask (s.ledger.counted k + 1) (yields_of (s.ledger.notes k) n.instance) (call_of_instance task (s.ledger.known k).names n.instance))
 
     adds : AddsRequest task entries (entries ++ entry.Ask number turn call ∷ []) number (record { stream = right.due.stream; instance = right.instance })
     adds =
@@ -143,7 +153,8 @@ module _ (limits : Limits) (task : Task) (entries : List Entry) (l : Ledger) (a 
         one_step (entry.Ask number turn call) (place_in task after (with_asked a))
         (inr (inl (record { more = some; rest = rest; asks = asks; is = λ k. record { asks = later k; next = a.next; answers = a.answers; later = a.later; is_cut = a.is_cut } })))
 
-    ask_waits : (m : ℕ) → a.next ≤ m → m ≤ asks_of (entries ++ entry.Ask number turn call ∷ []) → is_open (entries ++ entry.Ask number turn call ∷ []) m ≡ true
+    ask_waits : (m : ℕ) → a.next ≤ m → m ≤ asks_of (entries ++ entry.Ask number turn call ∷ [])
+        → is_open (entries ++ entry.Ask number turn call ∷ []) m ≡ true
     ask_waits m from upto = by (cases_lt (asks_of entries) m)
       where
         by : (asks_of entries < m) ⊎ (m ≤ asks_of entries) → is_open (entries ++ entry.Ask number turn call ∷ []) m ≡ true
@@ -152,7 +163,8 @@ module _ (limits : Limits) (task : Task) (entries : List Entry) (l : Ledger) (a 
             adds.waiting m ∙ ap (λ b. is_open entries m || b) (eq-eqb m number same) ∙ or_true (is_open entries m)
         by (inr below) = adds.waiting m ∙ ap (λ b. b || (m == number)) (s.waiting m from below)
 
-    ask_answered : (m : ℕ) → is_open (entries ++ entry.Ask number turn call ∷ []) m ≡ true → (a.next ≤ m) × (m ≤ asks_of (entries ++ entry.Ask number turn call ∷ []))
+    ask_answered : (m : ℕ) → is_open (entries ++ entry.Ask number turn call ∷ []) m ≡ true
+        → (a.next ≤ m) × (m ≤ asks_of (entries ++ entry.Ask number turn call ∷ []))
     ask_answered m waits = by (or_cases (is_open entries m) (m == number) (sym (adds.waiting m) ∙ waits))
       where
         by : (is_open entries m ≡ true) ⊎ ((m == number) ≡ true) → (a.next ≤ m) × (m ≤ asks_of (entries ++ entry.Ask number turn call ∷ []))
@@ -165,7 +177,8 @@ module _ (limits : Limits) (task : Task) (entries : List Entry) (l : Ledger) (a 
             let few = s.some in
             (omega (arith, same, next, count, few), omega (arith, same, next, more))
 
-    pub ask_onward : (new : Ledger) → IsLedger limits.version task (entries ++ entry.Ask number turn call ∷ []) new → StandsBehind limits task (entries ++ entry.Ask number turn call ∷ []) new (with_asked a)
+    pub ask_onward : (new : Ledger) → IsLedger limits.version task (entries ++ entry.Ask number turn call ∷ []) new
+        → StandsBehind limits task (entries ++ entry.Ask number turn call ∷ []) new (with_asked a)
     ask_onward new ledger =
         let more = adds.asks in
         let count = s.count in
@@ -231,7 +244,8 @@ module _ (limits : Limits) (task : Task) (entries : List Entry) (l : Ledger) (a 
             absurd (true≢false (sym (eq-eqb m n is_n) ∙ other))
 
     -- the round has more answers to come
-    pub answer_more : (new : Ledger) (b : Agenda) → IsLedger limits.version task (entries ++ e ∷ []) new → 1 < a.answers → b ≡ with_answer a → StandsBehind limits task (entries ++ e ∷ []) new b
+    pub answer_more : (new : Ledger) (b : Agenda) → IsLedger limits.version task (entries ++ e ∷ []) new → 1 < a.answers → b ≡ with_answer a
+        → StandsBehind limits task (entries ++ e ∷ []) new b
     answer_more new b ledger some b_is =
         subst (λ (x : Agenda). StandsBehind limits task (entries ++ e ∷ []) new x) (sym b_is)
         (let left = less some in
@@ -268,7 +282,8 @@ module _ (limits : Limits) (task : Task) (entries : List Entry) (l : Ledger) (a 
         one_less k e = omega (arith, e)
 
     -- it was the last of its round
-    pub answer_last : (new : Ledger) (b : Agenda) → IsLedger limits.version task (entries ++ e ∷ []) new → a.answers ≡ 1 → Starts limits.pools a.later (a.next + 1) a.is_cut b → StandsBehind limits task (entries ++ e ∷ []) new b
+    pub answer_last : (new : Ledger) (b : Agenda) → IsLedger limits.version task (entries ++ e ∷ []) new → a.answers ≡ 1
+        → Starts limits.pools a.later (a.next + 1) a.is_cut b → StandsBehind limits task (entries ++ e ∷ []) new b
     answer_last new b ledger one st =
         let count = s.count in
         let same = gives.asks in
@@ -329,7 +344,8 @@ module _ (limits : Limits) (task : Task) (entries : List Entry) (l : Ledger) (a 
           left = left;
         }
 
-    pub level_onward : Starts limits.pools (take (limits.calls - asks_of entries) (instances_of dues)) (asks_of entries + 1) (nat_lt (limits.calls - asks_of entries) (length dues)) b → StandsBehind limits task (entries ++ entry.Level ∷ []) l b
+    pub level_onward : Starts limits.pools (take (limits.calls - asks_of entries) (instances_of dues)) (asks_of entries + 1) (nat_lt (limits.calls - asks_of entries) (length dues)) b
+        → StandsBehind limits task (entries ++ entry.Level ∷ []) l b
     unfolding may_begin
     level_onward st =
         let most = limits.calls - asks_of entries in
@@ -358,6 +374,7 @@ module _ (limits : Limits) (task : Task) (entries : List Entry) (l : Ledger) (a 
           left = omega (arith, b_all, same, taken, left);
           some = omega (arith, b_answers);
           waiting = λ m from upto. absurd (omega (arith, from, upto, b_next, same));
-          answered = λ m waits. let r = s.answered m (sym (level_adds.waiting m) ∙ waits) in absurd (omega (arith, r.0, r.1, count, resting, few));
+          answered =
+              λ m waits. let r = s.answered m (sym (level_adds.waiting m) ∙ waits) in absurd (omega (arith, r.0, r.1, count, resting, few));
           lines = lines_more entries entry.Level refl s.lines;
         }

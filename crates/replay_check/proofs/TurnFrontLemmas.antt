@@ -16,7 +16,8 @@ use Rattle.transcript_model.specs.Rounds as rounds
 
 -- ---- how many requests are made
 
-rounds_count : (limits : Limits) (task : Task) (rounds : List (List Instance)) (list : List Instance) (before es : List Entry) → AreRounds limits.pools list rounds → AreRoundsRun task before rounds es → asks_of es ≡ length list
+rounds_count : (limits : Limits) (task : Task) (rounds : List (List Instance)) (list : List Instance) (before es : List Entry)
+    → AreRounds limits.pools list rounds → AreRoundsRun task before rounds es → asks_of es ≡ length list
 rounds_count limits task [] list before es none run = ap asks_of run ∙ sym (ap length none)
 rounds_count limits task (round ∷ rounds) list before es (rest, parts, some, fit, full, more) (now, later, es_is, (answers, now_is, right), run) =
     let first = ap asks_of now_is in
@@ -29,7 +30,8 @@ rounds_count limits task (round ∷ rounds) list before es (rest, parts, some, f
     let all = ap length parts ∙ length-append round rest in
     omega (arith, first, asked, count, none, next, joined, sum, all)
 
-level_count : (limits : Limits) (task : Task) (before now : List Entry) (cut : Bool) → asks_of before ≤ limits.calls → IsLevel limits task before now cut → asks_of (before ++ now) ≤ limits.calls
+level_count : (limits : Limits) (task : Task) (before now : List Entry) (cut : Bool) → asks_of before ≤ limits.calls
+    → IsLevel limits task before now cut → asks_of (before ++ now) ≤ limits.calls
 level_count limits task before now cut few level =
     let marked = before ++ entry.Level ∷ [] in
     let most = rounds.calls_left limits marked in
@@ -42,7 +44,9 @@ level_count limits task before now cut few level =
     omega (arith, count, taken, here, behind, same, few, least)
 
 -- No more requests are made than the limit allows.
-pub turns_count : (limits : Limits) (task : Task) (kept : Unit {0}) (before es : List Entry) (stage : Stage) → AreTurns limits task (IncrementalTurn limits task) kept before es stage → asks_of before ≤ limits.calls → asks_of (before ++ es) ≤ limits.calls
+pub turns_count : (limits : Limits) (task : Task) (kept : Unit {0}) (before es : List Entry) (stage : Stage)
+    → AreTurns limits task (IncrementalTurn limits task) kept before es stage → asks_of before ≤ limits.calls
+    → asks_of (before ++ es) ≤ limits.calls
 turns_count limits task kept before es stage none_left few = omega (arith, ap asks_of (append-nil before), few)
 turns_count limits task kept before es stage (whole next {now = now} {rest = rest} may turn more) few =
     let later = turns_count limits task next (before ++ now) rest stage more (level_count limits task before now false few turn) in
@@ -59,8 +63,11 @@ take_none zero = refl
 take_none (suc k) = refl
 
 -- The front of turns is turns.
-pub front_turns : (limits : Limits) (task : Task) (kept : Unit {0}) (before es : List Entry) (stage : Stage) → AreTurns limits task (IncrementalTurn limits task) kept before es stage → (k : ℕ) → (s : Stage) × AreTurns limits task (IncrementalTurn limits task) kept before (take k es) s
-front_turns limits task kept before es stage none_left k = (between, subst (λ xs. AreTurns limits task (IncrementalTurn limits task) kept before xs between) (sym (take_none k)) none_left)
+pub front_turns : (limits : Limits) (task : Task) (kept : Unit {0}) (before es : List Entry) (stage : Stage)
+    → AreTurns limits task (IncrementalTurn limits task) kept before es stage → (k : ℕ)
+    → (s : Stage) × AreTurns limits task (IncrementalTurn limits task) kept before (take k es) s
+front_turns limits task kept before es stage none_left k =
+    (between, subst (λ xs. AreTurns limits task (IncrementalTurn limits task) kept before xs between) (sym (take_none k)) none_left)
 front_turns limits task kept before es stage (whole next {now = now} {rest = rest} may turn more) k =
     by (cases_lt k (length now)) (front_turns limits task next (before ++ now) rest stage more (k - length now))
   where
@@ -70,7 +77,9 @@ front_turns limits task kept before es stage (whole next {now = now} {rest = res
         subst (λ xs. AreTurns limits task (IncrementalTurn limits task) kept before xs inside) (sym (take-append-le k now rest (omega (arith, lt))))
         (stopped next (drop k now) false may (subst (λ xs. IsLevel limits task before xs false) parts turn))
 
-    by : (k < length now) ⊎ (length now ≤ k) → (s : Stage) × AreTurns limits task (IncrementalTurn limits task) next (before ++ now) (take (k - length now) rest) s → (s : Stage) × AreTurns limits task (IncrementalTurn limits task) kept before (take k (now ++ rest)) s
+    by : (k < length now) ⊎ (length now ≤ k)
+        → (s : Stage) × AreTurns limits task (IncrementalTurn limits task) next (before ++ now) (take (k - length now) rest) s
+        → (s : Stage) × AreTurns limits task (IncrementalTurn limits task) kept before (take k (now ++ rest)) s
     by (inl lt) later = (inside, begun lt)
     by (inr ge) later =
         let sum : k ≡ length now + (k - length now) = omega (arith, ge) in

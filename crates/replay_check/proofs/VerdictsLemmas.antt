@@ -46,18 +46,21 @@ use Rattle.replay_check.specs.declared.verdict.Verdict.TheVariants.{Valid, Inval
 -- ---- order
 
 -- the same number of lines further on
-further : (base line : ℕ) (k : BreachKind) (other : ℕ) (than : BreachKind) → Precedes line k other than → Precedes (base + line) k (base + other) than
+further : (base line : ℕ) (k : BreachKind) (other : ℕ) (than : BreachKind) → Precedes line k other than
+    → Precedes (base + line) k (base + other) than
 further base line k other than (inl lt) = inl (omega (arith, lt))
 further base line k other than (inr (is, lt)) = inr (ap (λ n. base + n) is, lt)
 
-nearer : (base line : ℕ) (k : BreachKind) (other : ℕ) (than : BreachKind) → Precedes (base + line) k (base + other) than → Precedes line k other than
+nearer : (base line : ℕ) (k : BreachKind) (other : ℕ) (than : BreachKind) → Precedes (base + line) k (base + other) than
+    → Precedes line k other than
 nearer base line k other than (inl lt) = inl (omega (arith, lt))
 nearer base line k other than (inr (is, lt)) = inr (omega (arith, is), lt)
 
 -- ---- kinds
 
 -- an entry is wrong in none of the first two ways
-entry_kind : (limits : Limits) (task : Task) (before : List Entry) (e : Entry) (k : BreachKind) → BreaksEntry limits task before e k → 3 ≤ breach_number k
+entry_kind : (limits : Limits) (task : Task) (before : List Entry) (e : Entry) (k : BreachKind) → BreaksEntry limits task before e k
+    → 3 ≤ breach_number k
 entry_kind limits task before e kind.Text wrong = absurd wrong
 entry_kind limits task before e kind.Head wrong = absurd wrong
 entry_kind limits task before e kind.Ask wrong = omega arith
@@ -70,7 +73,8 @@ entry_kind limits task before e kind.From wrong = omega arith
 entry_kind limits task before e kind.Outcome wrong = omega arith
 
 -- and so is an outcome
-outcome_kind : (limits : Limits) (task : Task) (entries : List Entry) (o : Outcome) (offset : ℕ) (k : BreachKind) → BreaksOutcome limits task entries o offset k → 3 ≤ breach_number k
+outcome_kind : (limits : Limits) (task : Task) (entries : List Entry) (o : Outcome) (offset : ℕ) (k : BreachKind)
+    → BreaksOutcome limits task entries o offset k → 3 ≤ breach_number k
 outcome_kind limits task entries (outcome.Plan calls cost from) offset kind.Text wrong = absurd wrong
 outcome_kind limits task entries outcome.NoPlan offset kind.Text wrong = absurd wrong
 outcome_kind limits task entries (outcome.Limit which) offset kind.Text wrong = absurd wrong
@@ -132,12 +136,14 @@ module _ (b : Bounds) (r : Report) (limit : ℕ) (bounds : AreBounds b) (head : 
       (t.stage, t.turns)
 
   -- none of them is wrong
-  none_wrong : (es : List Entry) (s : Standing) → IsStanding b es s → (place : ℕ) (e : Entry) (k : BreachKind) → slice_get es place ≡ Some e → BreaksEntry (limits_by b) task (take place es) e k → ⊥
+  none_wrong : (es : List Entry) (s : Standing) → IsStanding b es s → (place : ℕ) (e : Entry) (k : BreachKind) → slice_get es place ≡ Some e
+      → BreaksEntry (limits_by b) task (take place es) e k → ⊥
   none_wrong es s stands place e k at wrong =
       let turns = turns_of es s stands in
       entry_right (limits_by b) task es turns.0 refl stands.ledger.legal turns.1 place e k at wrong
 
-  by_bounds : (before : List Entry) (e : Entry) (k : BreachKind) → BreaksEntry (limits_in task r) task before e k → BreaksEntry (limits_by b) task before e k
+  by_bounds : (before : List Entry) (e : Entry) (k : BreachKind) → BreaksEntry (limits_in task r) task before e k
+      → BreaksEntry (limits_by b) task before e k
   by_bounds before e k wrong = subst (λ ls. BreaksEntry ls task before e k) limits wrong
 
   -- ---- an entry that is wrong
@@ -161,7 +167,8 @@ module _ (b : Bounds) (r : Report) (limit : ℕ) (bounds : AreBounds b) (head : 
         none_wrong (take place r.entries) w.before w.standing x.place x.e than front.0
         (subst (λ es. BreaksEntry (limits_by b) task es x.e than) (sym front.1) (by_bounds (take x.place r.entries) x.e than x.wrong))
 
-    not_behind : (other : ℕ) (than : BreachKind) → (x : BreaksEntries task r other than) → place < x.place → Precedes other than (line_behind_pools r + place) k → ⊥
+    not_behind : (other : ℕ) (than : BreachKind) → (x : BreaksEntries task r other than) → place < x.place
+        → Precedes other than (line_behind_pools r + place) k → ⊥
     not_behind other than x lt before =
         let rise = lines_rise r.entries place x.place place_within lt in
         let le = not_later other than (line_behind_pools r + place) k before in
@@ -169,7 +176,8 @@ module _ (b : Bounds) (r : Report) (limit : ℕ) (bounds : AreBounds b) (head : 
         let here = line_is in
         omega (arith, rise, le, is, here)
 
-    not_here : (other : ℕ) (than : BreachKind) → (x : BreaksEntries task r other than) → x.place ≡ place → Precedes other than (line_behind_pools r + place) k → ⊥
+    not_here : (other : ℕ) (than : BreachKind) → (x : BreaksEntries task r other than) → x.place ≡ place
+        → Precedes other than (line_behind_pools r + place) k → ⊥
     not_here other than x same before =
         w.wrong.first than (smaller before)
         (subst (λ e. BreaksEntry (limits_by b) task (take place r.entries) e than) entry_is
@@ -222,7 +230,8 @@ module _ (b : Bounds) (r : Report) (limit : ℕ) (bounds : AreBounds b) (head : 
     outcome_at = let lines = stands.lines in omega (arith, lines)
 
     -- the line that is told is one of the report's
-    pub end_line_few : (offset : ℕ) (k : BreachKind) → IsFound (limits_by b) limit task r.entries r.outcome (finding.Breaks offset k) → length (lines_of_report r) < 2 ^ 31 → length r.pools + 3 + length r.entries + offset < 2 ^ 31
+    pub end_line_few : (offset : ℕ) (k : BreachKind) → IsFound (limits_by b) limit task r.entries r.outcome (finding.Breaks offset k)
+        → length (lines_of_report r) < 2 ^ 31 → length r.pools + 3 + length r.entries + offset < 2 ^ 31
     end_line_few offset k w short =
         let few = offset_few (limits_by b) limit task r.entries r.version r.outcome offset k w in
         let count = report_count r in
@@ -230,9 +239,11 @@ module _ (b : Bounds) (r : Report) (limit : ℕ) (bounds : AreBounds b) (head : 
         omega (arith, few, count, at, short)
 
     -- a breach is one of the outcome
-    in_end : (other : ℕ) (than : BreachKind) → IsBreach task r other than → (offset : ℕ) × (other ≡ outcome_line r + offset) × BreaksOutcome (limits_by b) task r.entries r.outcome offset than
+    in_end : (other : ℕ) (than : BreachKind) → IsBreach task r other than
+        → (offset : ℕ) × (other ≡ outcome_line r + offset) × BreaksOutcome (limits_by b) task r.entries r.outcome offset than
     in_end other than (inl (is, wrong)) = absurd (head_right task r other head wrong)
-    in_end other than (inr (inl x)) = absurd (none_wrong r.entries s stands x.place x.e than x.there (by_bounds (take x.place r.entries) x.e than x.wrong))
+    in_end other than (inr (inl x)) =
+        absurd (none_wrong r.entries s stands x.place x.e than x.there (by_bounds (take x.place r.entries) x.e than x.wrong))
     in_end other than (inr (inr x)) = (x.offset, x.is, subst (λ ls. BreaksOutcome ls task r.entries r.outcome x.offset than) limits x.wrong)
 
     states_same : r.states ≡ b.states
@@ -243,14 +254,16 @@ module _ (b : Bounds) (r : Report) (limit : ℕ) (bounds : AreBounds b) (head : 
       record {
         head = head;
         stage = end.stage;
-        legal = subst (λ ls. IsModeLegal ls task r.entries end.stage) (sym limits) (record { legal = stands.ledger.legal; turns = end.turns });
+        legal =
+            subst (λ ls. IsModeLegal ls task r.entries end.stage) (sym limits) (record { legal = stands.ledger.legal; turns = end.turns });
         stands = end.stands;
         true = subst (λ ls. IsTrueOutcome ls task r.entries r.outcome) (sym limits) end.true;
       },
       λ unsure. decided (subst (λ n. IsUndecidedClaim limit n task r.entries r.outcome) states_same unsure),
     )
 
-    none_ahead : (offset : ℕ) (k : BreachKind) → NoneEarlier (limits_by b) limit task r.entries r.outcome offset k → NonePrecedes task r (outcome_line r + offset) k
+    none_ahead : (offset : ℕ) (k : BreachKind) → NoneEarlier (limits_by b) limit task r.entries r.outcome offset k
+        → NonePrecedes task r (outcome_line r + offset) k
     none_ahead offset k none other than breach before =
         let at = in_end other than breach in
         none at.0 than at.2 (nearer (outcome_line r) at.0 than offset k (subst (λ l. Precedes l than (outcome_line r + offset) k) at.1 before))
@@ -261,7 +274,8 @@ module _ (b : Bounds) (r : Report) (limit : ℕ) (bounds : AreBounds b) (head : 
       subst (λ l. NonePrecedes task r l kind.Outcome) (plus_zero (outcome_line r)) (none_ahead 0 kind.Outcome none),
     )
 
-    pub wrong_end : (offset : ℕ) (k : BreachKind) → IsFound (limits_by b) limit task r.entries r.outcome (finding.Breaks offset k) → IsReportVerdict limit task r (Invalid (outcome_line r + offset) k)
+    pub wrong_end : (offset : ℕ) (k : BreachKind) → IsFound (limits_by b) limit task r.entries r.outcome (finding.Breaks offset k)
+        → IsReportVerdict limit task r (Invalid (outcome_line r + offset) k)
     wrong_end offset k w =
         record {
           breach = inr (inr (record { offset = offset; wrong = subst (λ ls. BreaksOutcome ls task r.entries r.outcome offset k) (sym limits) w.breaks; is = refl }));
@@ -279,7 +293,8 @@ some_worker task before pool fits = leb-true 1 pool.workers (first_of (nat_le 1 
     first_of true y z w e = refl
     first_of false y z w e = absurd (cc)
 
-shared_at : (task : Task) (pools : List PoolLine) (k : ℕ) (p : Share) → slice_get (map (share_in task) pools) k ≡ Some p → (pool : PoolLine) × (slice_get pools k ≡ Some pool) × (share_in task pool ≡ p)
+shared_at : (task : Task) (pools : List PoolLine) (k : ℕ) (p : Share) → slice_get (map (share_in task) pools) k ≡ Some p
+    → (pool : PoolLine) × (slice_get pools k ≡ Some pool) × (share_in task pool ≡ p)
 shared_at task [] k p at = absurd (cc)
 shared_at task (pool ∷ pools) zero p at = (pool, refl, let same : share_in task pool ≡ p = cc in same)
 shared_at task (pool ∷ pools) (suc k) p at = shared_at task pools k p at

@@ -41,7 +41,8 @@ BreaksHead task r line =
 
 -- a request may follow, and its number is at most the limit of calls
 abbrev pub MayAsk : Limits → Task → List Entry → Entry → Type 0
-MayAsk limits task before (entry.Ask number turn call) = MayFollow limits.version task before (entry.Ask number turn call) × (number ≤ limits.calls)
+MayAsk limits task before (entry.Ask number turn call) =
+    MayFollow limits.version task before (entry.Ask number turn call) × (number ≤ limits.calls)
 MayAsk limits task before e = ⊥
 
 -- the entries are turns of the mode, the last of which may stop at any entry
@@ -83,8 +84,11 @@ pub record BreaksFrom (version : ℕ) (entries : List Entry) (calls : List Call)
 -- So many lines behind the plan's first: a step that can't be taken, or a plan that doesn't reach the goal, which is told with its
 -- cost; a wrong cost; a wrong origin.
 abbrev pub BreaksPlan : Limits → Task → List Entry → List Call → ℕ → List Origin → ℕ → BreachKind → Type 0
-BreaksPlan limits task entries calls cost from offset kind.Plan = BreaksStep task entries calls offset ⊎ ((offset ≡ length calls + 1) × ((other : ℕ) → ¬ (IsPlan task entries calls other)))
-BreaksPlan limits task entries calls cost from offset kind.Cost = (offset ≡ length calls + 1) × ¬ (IsPlan task entries calls cost)
+BreaksPlan limits task entries calls cost from offset kind.Plan =
+    BreaksStep task entries calls offset
+    ⊎ ((offset ≡ length calls + 1) × ((other : ℕ) → ¬ (IsPlan task entries calls other)))
+BreaksPlan limits task entries calls cost from offset kind.Cost =
+    (offset ≡ length calls + 1) × ¬ (IsPlan task entries calls cost)
 BreaksPlan limits task entries calls cost from offset kind.From = BreaksFrom limits.version entries calls from offset
 BreaksPlan limits task entries calls cost from offset other = ⊥
 
@@ -95,7 +99,8 @@ BreaksClaim limits task entries o offset other = ⊥
 
 -- what the outcome says is wrong
 abbrev pub BreaksSaid : Limits → Task → List Entry → Outcome → ℕ → BreachKind → Type 0
-BreaksSaid limits task entries (outcome.Plan calls cost from) offset k = BreaksPlan limits task entries calls cost from offset k
+BreaksSaid limits task entries (outcome.Plan calls cost from) offset k =
+    BreaksPlan limits task entries calls cost from offset k
 BreaksSaid limits task entries o offset k = BreaksClaim limits task entries o offset k
 
 -- The outcome stands inside a turn, or behind a batch that was cut. The limit of calls is false there, and so has the other kind.
@@ -116,4 +121,5 @@ pub record BreaksEnd (task : Task) (r : Report) (line : ℕ) (k : BreachKind) : 
 
 -- the line of the report is wrong so
 abbrev pub IsBreach : Task → Report → ℕ → BreachKind → Type 0
-IsBreach task r line k = ((k ≡ kind.Head) × BreaksHead task r line) ⊎ (BreaksEntries task r line k ⊎ BreaksEnd task r line k)
+IsBreach task r line k =
+    ((k ≡ kind.Head) × BreaksHead task r line) ⊎ (BreaksEntries task r line k ⊎ BreaksEnd task r line k)

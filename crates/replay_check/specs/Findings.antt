@@ -40,7 +40,9 @@ module _ (limits : Limits) (limit : ℕ) (task : Task) (entries : List Entry) (o
 
   -- no line of it that precedes this one is wrong
   abbrev pub NoneEarlier : ℕ → BreachKind → Type 0
-  NoneEarlier offset k = (other : ℕ) (than : BreachKind) → BreaksOutcome limits task entries o other than → ¬ (Precedes other than offset k)
+  NoneEarlier offset k =
+      (other : ℕ) (than : BreachKind) → BreaksOutcome limits task entries o other than
+      → ¬ (Precedes other than offset k)
 
   pub record IsFirstWrong (offset : ℕ) (k : BreachKind) : Type 0 where
     pub breaks : BreaksOutcome limits task entries o offset k

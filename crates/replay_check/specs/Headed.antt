@@ -26,4 +26,5 @@ IsPassed task before pool b false = is_fit_pool task before pool ≡ false
 
 abbrev pub IsHeaded : Task → Report → Headed → Type 0
 IsHeaded task r (Fits shares) = IsFitHead task r × (shares_of shares.items ≡ map (share_in task) r.pools)
-IsHeaded task r (Breaks line) = BreaksHead task r line × (line ≤ line_behind_pools r) × ((other : ℕ) → BreaksHead task r other → line ≤ other)
+IsHeaded task r (Breaks line) =
+    BreaksHead task r line × (line ≤ line_behind_pools r) × ((other : ℕ) → BreaksHead task r other → line ≤ other)

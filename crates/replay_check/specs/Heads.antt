@@ -28,7 +28,9 @@ limits_in task r = record { version = r.version; mode = r.mode; calls = r.calls;
 
 -- from 1 to 100,000 calls, from 1 to 200,000 states, and from 1 to 8 deep
 abbrev pub are_fit_limits : Report → Bool
-are_fit_limits r = nat_le 1 r.calls && nat_le r.calls 100000 && nat_le 1 r.states && nat_le r.states 200000 && nat_le 1 r.depth && nat_le r.depth 8
+are_fit_limits r =
+    nat_le 1 r.calls && nat_le r.calls 100000 && nat_le 1 r.states && nat_le r.states 200000 && nat_le 1 r.depth
+    && nat_le r.depth 8
 
 -- the workers of these pools together
 abbrev pub workers_in : List PoolLine → ℕ
@@ -46,19 +48,25 @@ is_new before (Some stream) = not (list_any (λ s. s == stream) before)
 -- each of the names is that of a stream of the task, and none of a stream that was named before
 abbrev pub are_new : Task → List ℕ → List (List ℕ) → Bool
 are_new task before [] = true
-are_new task before (name ∷ names) = is_new before (stream_named task name) && are_new task (before ++ unwrap_or (option_map (λ stream. stream ∷ []) (stream_named task name)) []) names
+are_new task before (name ∷ names) =
+    is_new before (stream_named task name)
+    && are_new task (before ++ unwrap_or (option_map (λ stream. stream ∷ []) (stream_named task name)) []) names
 
 -- From 1 to 16 workers, with the pools before at most 17 together; streams of the task that aren't served before.
 abbrev pub is_fit_pool : Task → List PoolLine → PoolLine → Bool
-is_fit_pool task before pool = nat_le 1 pool.workers && nat_le pool.workers 16 && nat_le (workers_in before + pool.workers) 17 && are_new task (served_by task before) pool.streams
+is_fit_pool task before pool =
+    nat_le 1 pool.workers && nat_le pool.workers 16 && nat_le (workers_in before + pool.workers) 17
+    && are_new task (served_by task before) pool.streams
 
 -- each stream of the task has a pool
 abbrev pub are_served : Task → List PoolLine → Bool
-are_served task pools = list_all (λ (s : Stream). list_any (λ (p : PoolLine). list_any (same_numbers s.name) p.streams) pools) task.streams
+are_served task pools =
+    list_all (λ (s : Stream). list_any (λ (p : PoolLine). list_any (same_numbers s.name) p.streams) pools) task.streams
 
 -- each pool fits behind those before it
 abbrev pub AreFitPoolLines : Task → List PoolLine → Type 0
-AreFitPoolLines task pools = (place : ℕ) (pool : PoolLine) → slice_get pools place ≡ Some pool → is_fit_pool task (take place pools) pool ≡ true
+AreFitPoolLines task pools =
+    (place : ℕ) (pool : PoolLine) → slice_get pools place ≡ Some pool → is_fit_pool task (take place pools) pool ≡ true
 
 -- The head fits the task: its mode is one that is replayed, and its limits and pools are as they should.
 pub record IsFitHead (task : Task) (r : Report) : Type 0 where

@@ -15,4 +15,6 @@ RightReportsAreValid =
 
 -- Of one text, with one limit, one thing is said.
 abbrev pub VerdictsAreUnique : Type 0
-VerdictsAreUnique = (limit : ℕ) (task : Task) (bytes : List ℕ) (v w : Verdict) → IsVerdict limit task bytes v → IsVerdict limit task bytes w → v ≡ w
+VerdictsAreUnique =
+    (limit : ℕ) (task : Task) (bytes : List ℕ) (v w : Verdict) → IsVerdict limit task bytes v
+    → IsVerdict limit task bytes w → v ≡ w

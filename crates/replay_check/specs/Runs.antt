@@ -59,9 +59,12 @@ pub record DiffersAt (version : ℕ) (entries : List Entry) (calls : List Call) 
 abbrev pub IsPlanned : ℕ → Task → List Entry → List Call → ℕ → List Origin → Planned → Type 0
 IsPlanned version task entries calls cost from Right = IsTruePlan version task entries calls cost from
 IsPlanned version task entries calls cost from (Stuck place) = StopsAtStep task entries calls place
-IsPlanned version task entries calls cost from NoGoal = CanRun task entries calls × ((other : ℕ) → ¬ (IsPlan task entries calls other))
-IsPlanned version task entries calls cost from WrongCost = ((other : ℕ) × IsPlan task entries calls other) × ¬ (IsPlan task entries calls cost)
-IsPlanned version task entries calls cost from (WrongOrigin place) = IsPlan task entries calls cost × DiffersAt version entries calls from place
+IsPlanned version task entries calls cost from NoGoal =
+    CanRun task entries calls × ((other : ℕ) → ¬ (IsPlan task entries calls other))
+IsPlanned version task entries calls cost from WrongCost =
+    ((other : ℕ) × IsPlan task entries calls other) × ¬ (IsPlan task entries calls cost)
+IsPlanned version task entries calls cost from (WrongOrigin place) =
+    IsPlan task entries calls cost × DiffersAt version entries calls from place
 
 -- the place that is told is less than 2^62
 abbrev pub IsNear : Planned → Type 0

@@ -27,8 +27,11 @@ use Rattle.replay_check.specs.declared.verdict.Verdict.TheVariants.{Valid, Inval
 -- More than so many states are reached. So it isn't decided that there is no plan, where nothing is due; nor, where the report
 -- allows more states, that more than those are reached.
 abbrev pub IsUndecidedClaim : ℕ → ℕ → Task → List Entry → Outcome → Type 0
-IsUndecidedClaim limit states task entries outcome.NoPlan = NothingIsDue task (known_of task entries) (notes_of task entries) × MoreThan limit (IsReached task (known_of task entries))
-IsUndecidedClaim limit states task entries (outcome.Limit States) = (limit < states) × MoreThan limit (IsReached task (known_of task entries))
+IsUndecidedClaim limit states task entries outcome.NoPlan =
+    NothingIsDue task (known_of task entries) (notes_of task entries)
+    × MoreThan limit (IsReached task (known_of task entries))
+IsUndecidedClaim limit states task entries (outcome.Limit States) =
+    (limit < states) × MoreThan limit (IsReached task (known_of task entries))
 IsUndecidedClaim limit states task entries o = ⊥
 
 abbrev pub IsUndecided : ℕ → Task → Report → Type 0
@@ -47,7 +50,8 @@ pub record IsRightReport (task : Task) (r : Report) : Type 0 where
 
 -- no breach precedes this one
 abbrev pub NonePrecedes : Task → Report → ℕ → BreachKind → Type 0
-NonePrecedes task r line k = (other : ℕ) (than : BreachKind) → IsBreach task r other than → ¬ (Precedes other than line k)
+NonePrecedes task r line k =
+    (other : ℕ) (than : BreachKind) → IsBreach task r other than → ¬ (Precedes other than line k)
 
 -- The first breach; a claim that isn't decided would be told behind it, with its line and the last kind.
 pub record IsFirstBreach (limit : ℕ) (task : Task) (r : Report) (line : ℕ) (k : BreachKind) : Type 0 where

@@ -40,7 +40,10 @@ pub(crate) fn judge_no_plan(
     requires bounds { AreBounds bounds.now }
     requires some { 1 ≤ limit }
     requires few { limit ≤ 200000 }
-    ensures { (entries : List AnyEntry) → IsLedger bounds.now.version bounds.now.task.now entries ledger.now → HasNoneOpen entries → IfOk result (IsJudged (limits_by bounds.now) limit bounds.now.task.now entries outcome.NoPlan) }
+    ensures { (entries : List AnyEntry)
+        → IsLedger bounds.now.version bounds.now.task.now entries ledger.now → HasNoneOpen entries
+        → IfOk result (IsJudged (limits_by bounds.now) limit bounds.now.task.now entries
+        outcome.NoPlan) }
 {
     let Some(dues) = dues_of(bounds.task, ledger)? else {
         return Ok(Claim::False);
@@ -61,7 +64,10 @@ pub(crate) fn judge_no_plan(
 /// That all calls are made and answered, and an instance is still due.
 pub(crate) fn judge_calls(bounds: &Bounds<'_>, ledger: &Ledger) -> Result<Claim, AllocError>
     requires bounds { AreBounds bounds.now }
-    ensures { (limit : ℕ) (entries : List AnyEntry) → IsLedger bounds.now.version bounds.now.task.now entries ledger.now → IfOk result (IsJudged (limits_by bounds.now) limit bounds.now.task.now entries (outcome.Limit Calls)) }
+    ensures { (limit : ℕ) (entries : List AnyEntry)
+        → IsLedger bounds.now.version bounds.now.task.now entries ledger.now
+        → IfOk result (IsJudged (limits_by bounds.now) limit bounds.now.task.now entries
+        (outcome.Limit Calls)) }
 {
     if ledger.asked.len() != bounds.calls as usize || !ledger.unanswered.as_slice().is_empty() {
         return Ok(Claim::False);
@@ -81,7 +87,10 @@ pub(crate) fn judge_states(
     requires bounds { AreBounds bounds.now }
     requires some { 1 ≤ limit }
     requires few { limit ≤ 200000 }
-    ensures { (entries : List AnyEntry) → IsLedger bounds.now.version bounds.now.task.now entries ledger.now → IfOk result (IsJudged (limits_by bounds.now) limit bounds.now.task.now entries (outcome.Limit States)) }
+    ensures { (entries : List AnyEntry)
+        → IsLedger bounds.now.version bounds.now.task.now entries ledger.now
+        → IfOk result (IsJudged (limits_by bounds.now) limit bounds.now.task.now entries
+        (outcome.Limit States)) }
 {
     if limit >= bounds.states {
         let more = exceeds(bounds.alloc, bounds.task, &ledger.facts, bounds.states)?;
@@ -96,7 +105,10 @@ pub(crate) fn judge_states(
 /// That more than 1,000,000 instances are due.
 pub(crate) fn judge_instances(bounds: &Bounds<'_>, ledger: &Ledger) -> Result<Claim, AllocError>
     requires bounds { AreBounds bounds.now }
-    ensures { (limit : ℕ) (entries : List AnyEntry) → IsLedger bounds.now.version bounds.now.task.now entries ledger.now → IfOk result (IsJudged (limits_by bounds.now) limit bounds.now.task.now entries (outcome.Limit Instances)) }
+    ensures { (limit : ℕ) (entries : List AnyEntry)
+        → IsLedger bounds.now.version bounds.now.task.now entries ledger.now
+        → IfOk result (IsJudged (limits_by bounds.now) limit bounds.now.task.now entries
+        (outcome.Limit Instances)) }
 {
     let Some(dues) = dues_of(bounds.task, ledger)? else {
         return Ok(Claim::True);

@@ -27,8 +27,11 @@ impl Standing {
     /// Whether the request is the next of the open round.
     fn is_next(&self, bounds: &Bounds<'_>, number: u32, turn: u32, call: &Call) -> bool
         requires { length self.now.ledger.asked.items ≤ 100000 }
-        ensures yes { IsTrue result → IsNextRequest bounds.now.task.now self.now.ledger self.now.course number turn call.now }
-        ensures no { IsNextRequest bounds.now.task.now self.now.ledger self.now.course number turn call.now → IsTrue result }
+        ensures yes { IsTrue result
+            → IsNextRequest bounds.now.task.now self.now.ledger self.now.course number turn
+            call.now }
+        ensures no { IsNextRequest bounds.now.task.now self.now.ledger self.now.course number turn
+            call.now → IsTrue result }
     {
         let ledger = &self.ledger;
         let due = ledger.asked.len() as u32 + 1;

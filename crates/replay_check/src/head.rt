@@ -50,8 +50,12 @@ fn streams_of(
     names: &[Name],
 ) -> Result<Option<Vec<u32>>, AllocError>
     requires { IsFit task.now }
-    ensures some { IfOk result (λ found. IfSome found (λ streams. (are_new task.now served.old.items names.now ≡ true) × (streams.items ≡ filter_map (stream_at task.now) names.now) × (served.new.items ≡ served.old.items ++ streams.items))) }
-    ensures none { IfOk result (λ found. IfNone found (are_new task.now served.old.items names.now ≡ false)) }
+    ensures some { IfOk result (λ found. IfSome found
+        (λ streams. (are_new task.now served.old.items names.now ≡ true)
+        × (streams.items ≡ filter_map (stream_at task.now) names.now)
+        × (served.new.items ≡ served.old.items ++ streams.items))) }
+    ensures none { IfOk result (λ found. IfNone found
+        (are_new task.now served.old.items names.now ≡ false)) }
 {
     let mut streams = Vec::new(alloc);
     for name in names {
@@ -82,7 +86,8 @@ impl Before {
     fn add(&mut self, alloc: Global, task: &Task, pool: &PoolLine) -> Result<bool, AllocError>
         requires fit { IsFit task.now }
         requires few { self.old.workers ≤ 17 }
-        ensures { (before : List AnyPool) → IsAfter task.now before self.old → IfOk result (IsPassed task.now before pool.now self.new) }
+        ensures { (before : List AnyPool) → IsAfter task.now before self.old
+            → IfOk result (IsPassed task.now before pool.now self.new) }
     {
         let workers = pool.workers;
         self.workers += workers as u32;
@@ -132,8 +137,13 @@ fn judge_pools(
     pools: &[PoolLine],
 ) -> Result<Result<Vec<Share>, usize>, AllocError>
     requires { IsFit task.now }
-    ensures fit { IfOk result (λ judged. IfOk judged (λ shares. AreFitPoolLines task.now pools.now × (shares_of shares.items ≡ map (share_in task.now) pools.now))) }
-    ensures wrong { IfOk result (λ judged. IfErr judged (λ place. AreFitPoolLines task.now (take place pools.now) × IfSome (slice_get pools.now place) (λ pool. is_fit_pool task.now (take place pools.now) pool ≡ false))) }
+    ensures fit { IfOk result (λ judged. IfOk judged
+        (λ shares. AreFitPoolLines task.now pools.now
+        × (shares_of shares.items ≡ map (share_in task.now) pools.now))) }
+    ensures wrong { IfOk result (λ judged. IfErr judged
+        (λ place. AreFitPoolLines task.now (take place pools.now)
+        × IfSome (slice_get pools.now place)
+        (λ pool. is_fit_pool task.now (take place pools.now) pool ≡ false))) }
     ensures there { IfOk result (λ judged. IfErr judged (λ place. place < length pools.now)) }
 {
     let mut before = Before {

@@ -14,9 +14,9 @@ use crate::head::{Headed, judge_head};
 use crate::outcome::Finding;
 use crate::verdict::{BreachKind, Verdict};
 use report_reader::read_report;
+use report_text::ReportFault;
 use std::alloc::{AllocError, Global};
 use task_model::Task;
-use report_text::ReportFault;
 use transcript_model::Report;
 
 /// The verdict that this is wrong.

@@ -35,7 +35,9 @@ pub enum Finding {
 
 /// What is found of a claim in a place where it may stand.
 fn claimed(claim: Claim) -> Finding
-    ensures { (limits : Limits) (limit : ℕ) (task : AnyTask) (entries : List AnyEntry) (o : AnyOutcome) → IsClaim o → IsPlaced limits limit task entries o → IsJudged limits limit task entries o claim → IsFound limits limit task entries o result }
+    ensures { (limits : Limits) (limit : ℕ) (task : AnyTask) (entries : List AnyEntry)
+        (o : AnyOutcome) → IsClaim o → IsPlaced limits limit task entries o
+        → IsJudged limits limit task entries o claim → IsFound limits limit task entries o result }
 {
     match claim {
         Claim::True => Finding::Holds,
@@ -48,7 +50,12 @@ fn claimed(claim: Claim) -> Finding
 fn planned(steps: usize, planned: Planned) -> Finding
     requires few { steps < 2 ^ 62 }
     requires near { IsNear planned }
-    ensures { (limits : Limits) (limit : ℕ) (task : AnyTask) (entries : List AnyEntry) (calls : List AnyCall) (cost : ℕ) (from : List AnyOrigin) → length calls ≡ steps → IsLegal limits.version task entries → IsPlaced limits limit task entries (said.Plan calls cost from) → IsPlanned limits.version task entries calls cost from planned → IsFound limits limit task entries (said.Plan calls cost from) result }
+    ensures { (limits : Limits) (limit : ℕ) (task : AnyTask) (entries : List AnyEntry)
+        (calls : List AnyCall) (cost : ℕ) (from : List AnyOrigin) → length calls ≡ steps
+        → IsLegal limits.version task entries
+        → IsPlaced limits limit task entries (said.Plan calls cost from)
+        → IsPlanned limits.version task entries calls cost from planned
+        → IsFound limits limit task entries (said.Plan calls cost from) result }
 {
     match planned {
         Planned::Right => Finding::Holds,
@@ -82,11 +89,13 @@ impl Standing {
     ) -> Result<Finding, AllocError>
         requires bounds { AreBounds bounds.now }
         requires standing { IsStanding bounds.now entries.now self.now }
-        requires placed { IsPlaced (limits_by bounds.now) limit bounds.now.task.now entries.now outcome.now }
+        requires placed { IsPlaced (limits_by bounds.now) limit bounds.now.task.now entries.now
+            outcome.now }
         requires resting { outcome.now ≡ said.NoPlan → HasNoneOpen entries.now }
         requires some { 1 ≤ limit }
         requires few { limit ≤ 200000 }
-        ensures { IfOk result (IsFound (limits_by bounds.now) limit bounds.now.task.now entries.now outcome.now) }
+        ensures { IfOk result (IsFound (limits_by bounds.now) limit bounds.now.task.now entries.now
+            outcome.now) }
     {
         let claim = match outcome {
             Outcome::Plan { steps, cost, from } => {
@@ -119,7 +128,8 @@ impl Standing {
         requires standing { IsStanding bounds.now entries.now self.now }
         requires some { 1 ≤ limit }
         requires few { limit ≤ 200000 }
-        ensures { IfOk result (IsFound (limits_by bounds.now) limit bounds.now.task.now entries.now outcome.now) }
+        ensures { IfOk result (IsFound (limits_by bounds.now) limit bounds.now.task.now entries.now
+            outcome.now) }
     {
         if !is_limit_of_calls(outcome) && !self.course.is_between() {
             return Ok(Finding::Breaks(0, BreachKind::Order));

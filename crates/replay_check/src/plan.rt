@@ -46,9 +46,12 @@ fn judge_origins(
     steps: &[GroundAction],
 ) -> Result<Planned, AllocError>
     requires bounds { AreBounds bounds.now }
-    requires ledger { IsLedger bounds.now.version bounds.now.task.now plan.now.entries.now ledger.now }
-    requires plan { IsPlanOf bounds.now.task.now plan.now.entries.now plan.now.calls.now plan.now.cost steps.now }
-    ensures said { IfOk result (IsPlanned bounds.now.version bounds.now.task.now plan.now.entries.now plan.now.calls.now plan.now.cost plan.now.from.now) }
+    requires ledger { IsLedger bounds.now.version bounds.now.task.now plan.now.entries.now
+        ledger.now }
+    requires plan { IsPlanOf bounds.now.task.now plan.now.entries.now plan.now.calls.now
+        plan.now.cost steps.now }
+    ensures said { IfOk result (IsPlanned bounds.now.version bounds.now.task.now
+        plan.now.entries.now plan.now.calls.now plan.now.cost plan.now.from.now) }
     ensures near { IfOk result IsNear }
 {
     let shown = plan_outcome(
@@ -76,8 +79,10 @@ pub(crate) fn judge_plan(
     plan: &ShownPlan<'_>,
 ) -> Result<Planned, AllocError>
     requires bounds { AreBounds bounds.now }
-    requires ledger { IsLedger bounds.now.version bounds.now.task.now plan.now.entries.now ledger.now }
-    ensures said { IfOk result (IsPlanned bounds.now.version bounds.now.task.now plan.now.entries.now plan.now.calls.now plan.now.cost plan.now.from.now) }
+    requires ledger { IsLedger bounds.now.version bounds.now.task.now plan.now.entries.now
+        ledger.now }
+    ensures said { IfOk result (IsPlanned bounds.now.version bounds.now.task.now
+        plan.now.entries.now plan.now.calls.now plan.now.cost plan.now.from.now) }
     ensures near { IfOk result IsNear }
 {
     let run = match run_steps(bounds, &ledger.facts, plan.calls)? {

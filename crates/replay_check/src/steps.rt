@@ -57,7 +57,10 @@ impl Run {
     /// Takes one more step, and answers whether it can be taken.
     fn take(&mut self, bounds: &Bounds<'_>, facts: &Facts, call: &Call) -> Result<bool, AllocError>
         requires { AreBounds bounds.now }
-        ensures { (entries : List AnyEntry) (calls : List AnyCall) → facts.now.known ≡ known_of bounds.now.task.now entries → IsRunOf bounds.now.task.now entries calls self.old → IfOk result (IsStepTaken bounds.now.task.now entries calls call.now self.new) }
+        ensures { (entries : List AnyEntry) (calls : List AnyCall) → facts.now.known
+            ≡ known_of bounds.now.task.now entries
+            → IsRunOf bounds.now.task.now entries calls self.old
+            → IfOk result (IsStepTaken bounds.now.task.now entries calls call.now self.new) }
     {
         let Some(step) = step_of(bounds.alloc, bounds.task, facts, call)? else {
             return Ok(false);
@@ -93,7 +96,8 @@ pub(crate) fn run_steps(
     calls: &[Call],
 ) -> Result<Ran, AllocError>
     requires { AreBounds bounds.now }
-    ensures { (entries : List AnyEntry) → facts.now.known ≡ known_of bounds.now.task.now entries → IfOk result (IsRan bounds.now.task.now entries calls.now) }
+    ensures { (entries : List AnyEntry) → facts.now.known ≡ known_of bounds.now.task.now entries
+        → IfOk result (IsRan bounds.now.task.now entries calls.now) }
 {
     let mut run = Run {
         steps: Vec::new(bounds.alloc),

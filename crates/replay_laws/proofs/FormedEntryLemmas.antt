@@ -33,7 +33,8 @@ use Rattle.report_text.proofs.FormsNameLemmas.{names_formed}
 
 -- ---- names
 
-placed_formed : (names more : List (List ℕ)) (objects : List ℕ) → All IsObject names → places_of names more ≡ Some objects → All IsObject more
+placed_formed : (names more : List (List ℕ)) (objects : List ℕ) → All IsObject names → places_of names more ≡ Some objects
+    → All IsObject more
 placed_formed names [] objects all is = All-nil IsObject
 placed_formed names (name ∷ more) objects all is =
     let first = and_then_some (λ object. option_map (λ os. object ∷ os) (places_of names more)) (place_of names name) objects is in
@@ -47,7 +48,8 @@ no_width : (tuples outputs : ℕ) → 1 ≤ tuples → tuples * outputs ≡ 0 �
 no_width zero outputs some none = absurd (omega (arith, some))
 no_width (suc t) outputs some none = omega (arith, none)
 
-tuples_formed : (version outputs tuples : ℕ) (values : List (List ℕ)) → IsRight outputs (has_several version) tuples values → AreTuples version tuples values
+tuples_formed : (version outputs tuples : ℕ) (values : List (List ℕ)) → IsRight outputs (has_several version) tuples values
+    → AreTuples version tuples values
 tuples_formed version outputs tuples values right = record {
   some = right.some;
   few = right.few;
@@ -73,10 +75,12 @@ module _ (version : ℕ) (task : Task) (fit : IsFit task) (entries : List Entry)
       asked_few n (subst (λ es. list_any (is_ask_of n) es ≡ true) (take-append-drop k entries) (any_append_left (is_ask_of n) (take k entries) (drop k entries) there))
 
   -- an answer's number is one of a request's
-  pub answer_few : (k number tuples : ℕ) (values : List (List ℕ)) → slice_get entries k ≡ Some (entry.Got number tuples values) → number ≤ 100000
+  pub answer_few : (k number tuples : ℕ) (values : List (List ℕ)) → slice_get entries k ≡ Some (entry.Got number tuples values)
+      → number ≤ 100000
   answer_few k number tuples values at = open_few k number (legal k (entry.Got number tuples values) at).waiting
 
-  call_formed : (k : ℕ) (call : Call) (i : Instance) → instance_of task (names_of task (take k entries)) call ≡ Some i → IsFormedCall IsObject call
+  call_formed : (k : ℕ) (call : Call) (i : Instance) → instance_of task (names_of task (take k entries)) call ≡ Some i
+      → IsFormedCall IsObject call
   call_formed k call i named =
       let names = names_of task (take k entries) in
       let first = and_then_some (λ stream. option_map (λ inputs. record { stream = stream; inputs = inputs }) (places_of names call.args)) (stream_named task call.name) i named in

@@ -43,7 +43,8 @@ use Rattle.replay_check.proofs.LinesLemmas.{lines_long}
 -- ---- how long a text is
 
 -- a plan has fewer steps than its text has bytes
-steps_few : (version cost : ℕ) (calls : List Call) (from : List Origin) → length calls ≤ length (lines_text (outcome_lines version (outcome.Plan calls cost from)))
+steps_few : (version cost : ℕ) (calls : List Call) (from : List Origin)
+    → length calls ≤ length (lines_text (outcome_lines version (outcome.Plan calls cost from)))
 steps_few version cost calls from =
     let last = line (codes "cost") (decimal cost ∷ []) ∷ map (from_line version) from in
     let long = lines_long (outcome_lines version (outcome.Plan calls cost from)) in
@@ -76,19 +77,24 @@ module _ (version : ℕ) (task : Task) (fit : IsFit task) (entries : List Entry)
           let there = slice_get-map (λ (x : Action). x.name) task.domain.actions k ∙ ap (option_map (λ (x : Action). x.name)) at in
           ap is_name named ∙ all_at is_name (map (λ (x : Action). x.name) task.domain.actions) k a.name fit.domain.action_names.each there
 
-  calls_formed : (steps : List GroundAction) → All (λ (s : GroundAction). s.action < length task.domain.actions) steps → All (λ (s : GroundAction). All (IsIn (names_of task entries)) s.args) steps → All (IsFormedCall IsTerm) (map (call_of_step task (names_of task entries)) steps)
-  calls_formed steps actions objects = All-map (IsFormedCall IsTerm) (call_of_step task (names_of task entries)) steps (all_by_place _ steps one)
+  calls_formed : (steps : List GroundAction) → All (λ (s : GroundAction). s.action < length task.domain.actions) steps
+      → All (λ (s : GroundAction). All (IsIn (names_of task entries)) s.args) steps
+      → All (IsFormedCall IsTerm) (map (call_of_step task (names_of task entries)) steps)
+  calls_formed steps actions objects =
+      All-map (IsFormedCall IsTerm) (call_of_step task (names_of task entries)) steps (all_by_place _ steps one)
     where
       one : (k : ℕ) (s : GroundAction) → slice_get steps k ≡ Some s → IsFormedCall IsTerm (call_of_step task (names_of task entries) s)
       one k s at =
           let there = member_at steps k s at in
           let args = All-contains (λ (x : GroundAction). All (IsIn (names_of task entries)) x.args) steps s objects there in
           record {
-            name = action_formed s.action (All-contains (λ (x : GroundAction). x.action < length task.domain.actions) steps s actions there);
+            name =
+                action_formed s.action (All-contains (λ (x : GroundAction). x.action < length task.domain.actions) steps s actions there);
             args = All-map IsTerm (name_at (names_of task entries)) s.args (All-weaker (IsIn (names_of task entries)) (λ o. IsTerm (name_at (names_of task entries) o)) (λ o within. inl (name_formed o within)) s.args args);
           }
 
-  plan_formed : (limits : Limits) (calls : List Call) (cost : ℕ) (from : List Origin) → IsTruePlan limits.version task entries calls cost from → All (IsFormedCall IsTerm) calls
+  plan_formed : (limits : Limits) (calls : List Call) (cost : ℕ) (from : List Origin)
+      → IsTruePlan limits.version task entries calls cost from → All (IsFormedCall IsTerm) calls
   plan_formed limits calls cost from plan =
       let named = valid_named task (known_of task entries) (coherent version task entries fit legal) plan.steps cost plan.valid in
       subst (All (IsFormedCall IsTerm)) (sym plan.shown) (calls_formed plan.steps named.actions named.objects)
@@ -96,18 +102,23 @@ module _ (version : ℕ) (task : Task) (fit : IsFit task) (entries : List Entry)
 -- ---- origins
 
 -- the first entry that has the value
-has_at : (number : ℕ) (value : List ℕ) (es : List Entry) → has_value es number value ≡ true → (k : ℕ) × (e : Entry) × (slice_get es k ≡ Some e) × (has_value (e ∷ []) number value ≡ true)
+has_at : (number : ℕ) (value : List ℕ) (es : List Entry) → has_value es number value ≡ true
+    → (k : ℕ) × (e : Entry) × (slice_get es k ≡ Some e) × (has_value (e ∷ []) number value ≡ true)
 has_at number value [] has = absurd (cc)
-has_at number value (entry.Got n tuples values ∷ xs) has = by ((number == n) && list_any (same_numbers value) values) refl has (has_at number value xs)
+has_at number value (entry.Got n tuples values ∷ xs) has =
+    by ((number == n) && list_any (same_numbers value) values) refl has (has_at number value xs)
   where
-    by : (b : Bool) → ((number == n) && list_any (same_numbers value) values) ≡ b → (b || has_value xs number value) ≡ true → (has_value xs number value ≡ true → (k : ℕ) × (e : Entry) × (slice_get xs k ≡ Some e) × (has_value (e ∷ []) number value ≡ true)) → (k : ℕ) × (e : Entry) × (slice_get (entry.Got n tuples values ∷ xs) k ≡ Some e) × (has_value (e ∷ []) number value ≡ true)
+    by : (b : Bool) → ((number == n) && list_any (same_numbers value) values) ≡ b → (b || has_value xs number value) ≡ true
+        → (has_value xs number value ≡ true → (k : ℕ) × (e : Entry) × (slice_get xs k ≡ Some e) × (has_value (e ∷ []) number value ≡ true))
+        → (k : ℕ) × (e : Entry) × (slice_get (entry.Got n tuples values ∷ xs) k ≡ Some e) × (has_value (e ∷ []) number value ≡ true)
     by true here all later = (0, entry.Got n tuples values, refl, (rw here refl))
     by false other all later = let r = later all in (suc r.0, r.1, r.2, r.3)
 has_at number value (x ∷ xs) has = let r = has_at number value xs has in (suc r.0, r.1, r.2, r.3)
 
 module _ (version : ℕ) (task : Task) (fit : IsFit task) (entries : List Entry) (legal : IsLegal version task entries) (few : AreFew entries) where
   -- the value is one of an answer's, and the request is one that was made
-  given : (number : ℕ) (value : List ℕ) (k : ℕ) (e : Entry) → slice_get entries k ≡ Some e → has_value (e ∷ []) number value ≡ true → (is_value value ≡ true) × (number ≤ 100000)
+  given : (number : ℕ) (value : List ℕ) (k : ℕ) (e : Entry) → slice_get entries k ≡ Some e → has_value (e ∷ []) number value ≡ true
+      → (is_value value ≡ true) × (number ≤ 100000)
   given number value k (entry.Got n tuples values) at has =
       let parts = from_or_false ((number == n) && list_any (same_numbers value) values) has in
       let same = eqb-true number n (first_so (number == n) (list_any (same_numbers value) values) parts) in
@@ -125,7 +136,8 @@ module _ (version : ℕ) (task : Task) (fit : IsFit task) (entries : List Entry)
   tuples_long width zero values = refl
   tuples_long width (suc tuples) values = let rest = tuples_long width tuples (drop width values) in omega (arith, rest)
 
-  tuple_few : (value : List ℕ) (number tuple k : ℕ) (e : Entry) → slice_get entries k ≡ Some e → tuple_with value number e ≡ Some tuple → tuple ≤ 16
+  tuple_few : (value : List ℕ) (number tuple k : ℕ) (e : Entry) → slice_get entries k ≡ Some e → tuple_with value number e ≡ Some tuple
+      → tuple ≤ 16
   tuple_few value number tuple k (entry.Got n tuples values) at is =
       let list = tuples_in (length values / tuples) tuples values in
       let found = chosen (number == n) (option_map (λ place. place + 1) (position (list_any (same_numbers value)) list)) is in
@@ -153,7 +165,8 @@ module _ (version : ℕ) (task : Task) (fit : IsFit task) (entries : List Entry)
 
   -- ---- outcomes
 
-  pub outcome_formed : (limits : Limits) → limits.version ≡ version → (o : Outcome) → IsTrueOutcome limits task entries o → HasRoom o → length (lines_text (outcome_lines version o)) < 2 ^ 31 → IsFormedOutcome version o
+  pub outcome_formed : (limits : Limits) → limits.version ≡ version → (o : Outcome) → IsTrueOutcome limits task entries o → HasRoom o
+      → length (lines_text (outcome_lines version o)) < 2 ^ 31 → IsFormedOutcome version o
   outcome_formed limits same (outcome.Plan calls cost from) plan room short =
       let steps = steps_few version cost calls from in
       let origins = subst (λ v. (o : Origin) → Contains from o → IsOrigin v entries o) same plan.origins.origins in

@@ -39,24 +39,28 @@ pub record ArePlain (es : List Entry) (many : ℕ) : Type 0 where
 joined_plain : (xs ys : List Entry) → list_all is_plain xs ≡ true → list_all is_plain ys ≡ true → list_all is_plain (xs ++ ys) ≡ true
 joined_plain xs ys first second = list_all-append is_plain xs ys ∙ and_from (list_all is_plain xs) (list_all is_plain ys) first second
 
-requests_plain : (task : Task) (before : List Entry) (number : ℕ) (is : List Instance) → list_all is_plain (requests_from task before number is) ≡ true
+requests_plain : (task : Task) (before : List Entry) (number : ℕ) (is : List Instance)
+    → list_all is_plain (requests_from task before number is) ≡ true
 requests_plain task before number [] = refl
 requests_plain task before number (i ∷ is) = requests_plain task before (number + 1) is
 
-requests_unanswered : (task : Task) (before : List Entry) (number : ℕ) (is : List Instance) → count_by is_answer (requests_from task before number is) ≡ 0
+requests_unanswered : (task : Task) (before : List Entry) (number : ℕ) (is : List Instance)
+    → count_by is_answer (requests_from task before number is) ≡ 0
 requests_unanswered task before number [] = refl
 requests_unanswered task before number (i ∷ is) =
     let one = entry.Ask number (yields_of (notes_of task before) i) (call_of_instance task (names_of task before) i) in
     omega (arith, count_joined is_answer (one ∷ []) (requests_from task before (number + 1) is), requests_unanswered task before (number + 1) is)
 
 -- an answer is one entry of them, and no request
-answer_plain : (number : ℕ) (e : Entry) → is_answer_to number e ≡ true → (is_plain e ≡ true) × (count_by is_answer (e ∷ []) ≡ 1) × (asks_of (e ∷ []) ≡ 0)
+answer_plain : (number : ℕ) (e : Entry) → is_answer_to number e ≡ true
+    → (is_plain e ≡ true) × (count_by is_answer (e ∷ []) ≡ 1) × (asks_of (e ∷ []) ≡ 0)
 answer_plain number (entry.Got n tuples values) is = (refl, refl, refl)
 answer_plain number (entry.Value n value) is = (refl, refl, refl)
 answer_plain number (entry.End n) is = (refl, refl, refl)
 answer_plain number e is = absurd (cc)
 
-answers_plain : (number n : ℕ) (es : List Entry) → AreAnswers number n es → (list_all is_plain es ≡ true) × (count_by is_answer es ≡ n) × (asks_of es ≡ 0)
+answers_plain : (number n : ℕ) (es : List Entry) → AreAnswers number n es
+    → (list_all is_plain es ≡ true) × (count_by is_answer es ≡ n) × (asks_of es ≡ 0)
 answers_plain number zero [] are = (refl, refl, refl)
 answers_plain number zero (e ∷ es) are = absurd are
 answers_plain number (suc n) [] are = absurd are
@@ -67,7 +71,8 @@ answers_plain number (suc n) (e ∷ es) are =
     let asks = asks_more (e ∷ []) es in
     (and_from (is_plain e) (list_all is_plain es) here.0 rest.0, omega (arith, here.1, rest.1, count), omega (arith, here.2, rest.2, asks))
 
-rounds_plain : (limits : Limits) (task : Task) (rounds : List (List Instance)) (list : List Instance) (before es : List Entry) → AreRounds limits.pools list rounds → AreRoundsRun task before rounds es → ArePlain es (length list)
+rounds_plain : (limits : Limits) (task : Task) (rounds : List (List Instance)) (list : List Instance) (before es : List Entry)
+    → AreRounds limits.pools list rounds → AreRoundsRun task before rounds es → ArePlain es (length list)
 rounds_plain limits task [] list before es none run = subst (λ xs. ArePlain xs (length list)) (sym run) (subst (λ is. ArePlain [] (length is)) (sym none) (record { plain = refl; answers = refl; asks = refl }))
 rounds_plain limits task (round ∷ rounds) list before es (rest, parts, some, fit, full, more) (now, later, es_is, (answers, now_is, right), run) =
     let next = rounds_plain limits task rounds rest (before ++ now) later more run in
@@ -89,7 +94,8 @@ rounds_plain limits task (round ∷ rounds) list before es (rest, parts, some, f
     })
 
 -- whether or not the batch was cut, a level has as many answers as requests
-level_plain : (limits : Limits) (task : Task) (before now : List Entry) (cut : Bool) → IsLevel limits task before now cut → ArePlain now (asks_of now)
+level_plain : (limits : Limits) (task : Task) (before now : List Entry) (cut : Bool) → IsLevel limits task before now cut
+    → ArePlain now (asks_of now)
 level_plain limits task before now cut level =
     let marked = before ++ entry.Level ∷ [] in
     let batch = rounds_plain limits task level.batch.rounds (take (calls_left limits marked) level.list) marked level.rest level.batch.cut level.batch.run in
@@ -98,7 +104,8 @@ level_plain limits task before now cut level =
     subst (λ xs. ArePlain xs (asks_of xs)) (sym level.is) (record { plain = batch.plain; answers = omega (arith, count, asks, batch.answers, batch.asks); asks = refl })
 
 -- Turns none of which stops inside have as many answers as requests.
-pub turns_plain : (limits : Limits) (task : Task) (kept : Unit {0}) (before es : List Entry) (stage : Stage) → AreTurns limits task (IncrementalTurn limits task) kept before es stage → ¬ (stage ≡ inside) → ArePlain es (asks_of es)
+pub turns_plain : (limits : Limits) (task : Task) (kept : Unit {0}) (before es : List Entry) (stage : Stage)
+    → AreTurns limits task (IncrementalTurn limits task) kept before es stage → ¬ (stage ≡ inside) → ArePlain es (asks_of es)
 turns_plain limits task kept before es stage none_left resting = record { plain = refl; answers = refl; asks = refl }
 turns_plain limits task kept before es stage (whole next {now = now} {rest = rest} may turn more) resting =
     let here = level_plain limits task before now false turn in
@@ -112,7 +119,9 @@ turns_plain limits task kept before es stage (stopped next more cut may turn) re
 -- ---- how often an instance has yielded
 
 -- an answer tells at most sixteen things
-pub notes_few : (f : Entry → List Note) (xs : List Entry) → ((k : ℕ) (e : Entry) → slice_get xs k ≡ Some e → length (f e) ≤ 16 * cond (is_answer e) 1 0) → length (flat_map f xs) ≤ 16 * count_by is_answer xs
+pub notes_few : (f : Entry → List Note) (xs : List Entry)
+    → ((k : ℕ) (e : Entry) → slice_get xs k ≡ Some e → length (f e) ≤ 16 * cond (is_answer e) 1 0)
+    → length (flat_map f xs) ≤ 16 * count_by is_answer xs
 notes_few f [] each = omega arith
 notes_few f (x ∷ xs) each =
     let here = each 0 x refl in
@@ -122,7 +131,8 @@ notes_few f (x ∷ xs) each =
     let sizes = length-append (f x) (flat_map f xs) in
     omega (arith, here, rest, count, one, sizes)
 
-told_few : (version : ℕ) (task : Task) (entries before : List Entry) (e : Entry) → MayFollow version task before e → length (note_of task entries e) ≤ 16 * cond (is_answer e) 1 0
+told_few : (version : ℕ) (task : Task) (entries before : List Entry) (e : Entry) → MayFollow version task before e
+    → length (note_of task entries e) ≤ 16 * cond (is_answer e) 1 0
 told_few version task entries before (entry.Got n tuples values) may = by (asked task entries n)
   where
     by : (o : Option Asked) → length (option_map_or (λ (a : Asked). replicate tuples (Yielded a.instance)) o []) ≤ 16 * cond true 1 0
@@ -153,7 +163,8 @@ count_few f (x ∷ xs) =
     at_most true = omega arith
     at_most false = omega arith
 
-pub yields_few : (version : ℕ) (task : Task) (entries : List Entry) (i : Instance) → IsLegal version task entries → yields_of (notes_of task entries) i ≤ 16 * count_by is_answer entries
+pub yields_few : (version : ℕ) (task : Task) (entries : List Entry) (i : Instance) → IsLegal version task entries
+    → yields_of (notes_of task entries) i ≤ 16 * count_by is_answer entries
 yields_few version task entries i legal =
     let few = count_few (is_yield_of i) (notes_of task entries) in
     let told = notes_few (note_of task entries) entries (λ k e at. told_few version task entries (take k entries) e (legal k e at)) in

@@ -21,7 +21,8 @@ has m p = nat_le p.first m && nat_lt m (p.first + p.workers)
 cover_more : (m : ℕ) (p : Workers) → cover (suc m) p ≤ cover m p + cond (has m p) 1 0
 cover_more m p = by (cases_lt m p.first) (cases_lt m (p.first + p.workers))
   where
-    by : (m < p.first) ⊎ (p.first ≤ m) → (m < p.first + p.workers) ⊎ (p.first + p.workers ≤ m) → cover (suc m) p ≤ cover m p + cond (has m p) 1 0
+    by : (m < p.first) ⊎ (p.first ≤ m) → (m < p.first + p.workers) ⊎ (p.first + p.workers ≤ m)
+        → cover (suc m) p ≤ cover m p + cond (has m p) 1 0
     by (inl below) q = omega (arith, below)
     by (inr from) (inr past) = omega (arith, from, past)
     by (inr from) (inl within) =
@@ -46,7 +47,8 @@ module _ {A : Type 0} where
       by true e = absurd (none 0 x refl e)
       by false e = ap (λ b. cond {A = ℕ} b 1 0) e
 
-  at_most_one : (f : A → Bool) (xs : List A) → ((j k : ℕ) (x y : A) → slice_get xs j ≡ Some x → slice_get xs k ≡ Some y → f x ≡ true → f y ≡ true → j ≡ k) → count_by f xs ≤ 1
+  at_most_one : (f : A → Bool) (xs : List A)
+      → ((j k : ℕ) (x y : A) → slice_get xs j ≡ Some x → slice_get xs k ≡ Some y → f x ≡ true → f y ≡ true → j ≡ k) → count_by f xs ≤ 1
   at_most_one f [] one = omega arith
   at_most_one f (x ∷ xs) one = by (f x) refl (at_most_one f xs (λ j k y z at_j at_k. let same = one (suc j) (suc k) y z at_j at_k in λ fy fz. suc_same j k (same fy fz)))
     where
@@ -61,7 +63,8 @@ module _ {A : Type 0} where
 
 sum_more : (m : ℕ) (all : List Workers) → sum_by (cover (suc m)) all ≤ sum_by (cover m) all + count_by (has m) all
 sum_more m [] = omega arith
-sum_more m (p ∷ all) = omega (arith, sum_next (cover (suc m)) p all, sum_next (cover m) p all, count_next (has m) p all, cover_more m p, sum_more m all)
+sum_more m (p ∷ all) =
+    omega (arith, sum_next (cover (suc m)) p all, sum_next (cover m) p all, count_next (has m) p all, cover_more m p, sum_more m all)
 
 none_covered : (all : List Workers) → sum_by (cover 0) all ≡ 0
 none_covered [] = refl
@@ -78,7 +81,8 @@ module _ (task : Task) (all : List Workers) (fit : AreFitPools task all) where
       own : (j k : ℕ) (p q : Workers) → slice_get all j ≡ Some p → slice_get all k ≡ Some q → has m p ≡ true → has m q ≡ true → j ≡ k
       own j k p q at_j at_k in_p in_q = fit.apart j k m p q at_j at_k (child p in_p) (child q in_q)
 
-  all_covered : (some : List Workers) → ((k : ℕ) (p : Workers) → slice_get some k ≡ Some p → p.first + p.workers ≤ 17) → sum_by (λ (p : Workers). p.workers) some ≤ sum_by (cover 17) some
+  all_covered : (some : List Workers) → ((k : ℕ) (p : Workers) → slice_get some k ≡ Some p → p.first + p.workers ≤ 17)
+      → sum_by (λ (p : Workers). p.workers) some ≤ sum_by (cover 17) some
   all_covered [] few = omega arith
   all_covered (p ∷ some) few =
       let rest = all_covered some (λ k q at. few (suc k) q at) in

@@ -85,7 +85,8 @@ module _ (task : Task) (fit : IsFit task) where
   share_same : (p : Pool) → AreStreams task p.streams → share_in task (shown_pool task p) ≡ share_of p
   share_same p are = λ i. record { workers = p.workers; streams = all_found p.streams are i }
 
-  shares_same : (pools : List Pool) → All (λ (p : Pool). AreStreams task p.streams) pools → map (share_in task) (map (shown_pool task) pools) ≡ map share_of pools
+  shares_same : (pools : List Pool) → All (λ (p : Pool). AreStreams task p.streams) pools
+      → map (share_in task) (map (shown_pool task) pools) ≡ map share_of pools
   shares_same [] are = refl
   shares_same (p ∷ pools) are =
       let here = share_same p (All-head (λ (q : Pool). AreStreams task q.streams) p pools are) in
@@ -93,12 +94,14 @@ module _ (task : Task) (fit : IsFit task) where
       λ i. here i ∷ rest i
 
   -- The report binds the transcript as the run's head does.
-  pub limits_same : (head : Head) (entries : List Entry) (o : Outcome) → All (λ (p : Pool). AreStreams task p.streams) head.pools → limits_in task (report_of task head entries o) ≡ limits_of head
+  pub limits_same : (head : Head) (entries : List Entry) (o : Outcome) → All (λ (p : Pool). AreStreams task p.streams) head.pools
+      → limits_in task (report_of task head entries o) ≡ limits_of head
   limits_same head entries o are = λ i. record { version = head.version; mode = head.mode; calls = head.calls; states = head.states; depth = head.depth; pools = shares_same head.pools are i }
 
   -- ---- pools
 
-  served_same : (pools : List Pool) → All (λ (p : Pool). AreStreams task p.streams) pools → served_by task (map (shown_pool task) pools) ≡ streams_of pools
+  served_same : (pools : List Pool) → All (λ (p : Pool). AreStreams task p.streams) pools
+      → served_by task (map (shown_pool task) pools) ≡ streams_of pools
   served_same [] are = refl
   served_same (p ∷ pools) are =
       let here = all_found p.streams (All-head (λ (q : Pool). AreStreams task q.streams) p pools are) in
@@ -129,7 +132,8 @@ module _ (task : Task) (fit : IsFit task) where
           let one = distinct place.0 (length before) s (here ∙ ap Some same) (at_end before rest) in
           absurd (omega (arith, one, slice_get_within before place.0 place.1 place.2))
 
-  all_new : (before streams : List ℕ) → AreStreams task streams → AreDistinct (before ++ streams) → are_new task before (map (stream_name task) streams) ≡ true
+  all_new : (before streams : List ℕ) → AreStreams task streams → AreDistinct (before ++ streams)
+      → are_new task before (map (stream_name task) streams) ≡ true
   all_new before [] are distinct = refl
   all_new before (s ∷ streams) are distinct =
       let found = stream_found s (All-head (λ stream. stream < length task.streams) s streams are) in
@@ -150,10 +154,13 @@ module _ (task : Task) (fit : IsFit task) where
     are : All (λ (p : Pool). AreStreams task p.streams) head.pools
     are = can.runnable.streams
 
-    shown_at : (place : ℕ) (line : PoolLine) → slice_get (map (shown_pool task) head.pools) place ≡ Some line → (p : Pool) × (slice_get head.pools place ≡ Some p) × (shown_pool task p ≡ line)
-    shown_at place line at = map_some (shown_pool task) (slice_get head.pools place) line (sym (slice_get-map (shown_pool task) head.pools place) ∙ at)
+    shown_at : (place : ℕ) (line : PoolLine) → slice_get (map (shown_pool task) head.pools) place ≡ Some line
+        → (p : Pool) × (slice_get head.pools place ≡ Some p) × (shown_pool task p ≡ line)
+    shown_at place line at =
+        map_some (shown_pool task) (slice_get head.pools place) line (sym (slice_get-map (shown_pool task) head.pools place) ∙ at)
 
-    one_fits : (place : ℕ) (p : Pool) → slice_get head.pools place ≡ Some p → is_fit_pool task (map (shown_pool task) (take place head.pools)) (shown_pool task p) ≡ true
+    one_fits : (place : ℕ) (p : Pool) → slice_get head.pools place ≡ Some p
+        → is_fit_pool task (map (shown_pool task) (take place head.pools)) (shown_pool task p) ≡ true
     one_fits place p at =
         let there = member_at head.pools place p at in
         let before = take place head.pools in
@@ -183,7 +190,8 @@ module _ (task : Task) (fit : IsFit task) where
 
     -- ---- each stream has a pool
 
-    is_served : (k : ℕ) (s : Stream) → slice_get task.streams k ≡ Some s → list_any (λ (p : PoolLine). list_any (same_numbers s.name) p.streams) (map (shown_pool task) head.pools) ≡ true
+    is_served : (k : ℕ) (s : Stream) → slice_get task.streams k ≡ Some s
+        → list_any (λ (p : PoolLine). list_any (same_numbers s.name) p.streams) (map (shown_pool task) head.pools) ≡ true
     is_served k s at =
         let pool = can.runnable.fit.pools.served k (slice_get_within task.streams k s at) in
         let found = server_is (map workers_of head.pools) k pool.0 pool.1 in

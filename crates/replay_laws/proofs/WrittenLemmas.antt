@@ -35,11 +35,13 @@ use Rattle.replay_laws.proofs.PlainEntryLemmas.{is_plain, turns_plain}
 use Rattle.replay_laws.specs.Written.{IsHeadOfReports}
 
 -- the text of a run is that of its report
-pub text_same : (task : Task) (head : Head) (entries : List Entry) (o : Outcome) → whole_text task head entries o ≡ text_of_report (report_of task head entries o)
+pub text_same : (task : Task) (head : Head) (entries : List Entry) (o : Outcome)
+    → whole_text task head entries o ≡ text_of_report (report_of task head entries o)
 text_same task head entries o = sym (append_assoc (text_so_far task head entries) (text_of_outcome head.version o) (line_text done_line))
 
 -- the outcome's lines are a part of it
-outcome_short : (task : Task) (head : Head) (entries : List Entry) (o : Outcome) → length (whole_text task head entries o) < 2 ^ 31 → length (lines_text (outcome_lines head.version o)) < 2 ^ 31
+outcome_short : (task : Task) (head : Head) (entries : List Entry) (o : Outcome) → length (whole_text task head entries o) < 2 ^ 31
+    → length (lines_text (outcome_lines head.version o)) < 2 ^ 31
 outcome_short task head entries o short =
     let sum = length-append (text_so_far task head entries) (text_of_end head.version o) in
     let end = length-append (text_of_outcome head.version o) (line_text done_line) in
@@ -50,9 +52,11 @@ outcome_short task head entries o short =
 fewer : (P : Atoms → Type 0) (few many : ℕ) → few ≤ many → MoreThan many P → MoreThan few P
 fewer P few many le more = (more.0, omega (arith, le, more.1), more.2, more.3)
 
-decided : (limit : ℕ) (task : Task) (head : Head) (entries : List Entry) (o : Outcome) → IsSure head task entries o → head.states ≤ limit → ¬ (IsUndecided limit task (report_of task head entries o))
+decided : (limit : ℕ) (task : Task) (head : Head) (entries : List Entry) (o : Outcome) → IsSure head task entries o → head.states ≤ limit
+    → ¬ (IsUndecided limit task (report_of task head entries o))
 decided limit task head entries (outcome.Plan calls cost from) sure le open_claim = open_claim
-decided limit task head entries outcome.NoPlan sure le open_claim = sure.within refl (fewer (IsReached task (known_of task entries)) head.states limit le open_claim.1)
+decided limit task head entries outcome.NoPlan sure le open_claim =
+    sure.within refl (fewer (IsReached task (known_of task entries)) head.states limit le open_claim.1)
 decided limit task head entries (outcome.Limit Calls) sure le open_claim = open_claim
 decided limit task head entries (outcome.Limit States) sure le open_claim = omega (arith, le, open_claim.0)
 decided limit task head entries (outcome.Limit Instances) sure le open_claim = open_claim
@@ -121,6 +125,7 @@ module _ (task : Task) (head : Head) (entries : List Entry) (o : Outcome) (fit :
         true = subst (λ (l : Limits). IsTrueOutcome l task entries o) (sym limits) run.sure.holds;
       }
 
-  pub written_valid : (limit : ℕ) (v : Verdict) → length (whole_text task head entries o) < 2 ^ 31 → head.states ≤ limit → IsVerdict limit task (whole_text task head entries o) v → v ≡ Valid
+  pub written_valid : (limit : ℕ) (v : Verdict) → length (whole_text task head entries o) < 2 ^ 31 → head.states ≤ limit
+      → IsVerdict limit task (whole_text task head entries o) v → v ≡ Valid
   written_valid limit v short le is =
       right_valid limit task (report_of task head entries o) v (formed short) right (decided limit task head entries o run.sure le) (subst (λ bytes. IsVerdict limit task bytes v) (text_same task head entries o) is)

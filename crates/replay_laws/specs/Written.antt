@@ -23,7 +23,9 @@ pub record ArePoolsOfReports (pools : List Pool) : Type 0 where
 
 -- One pool serves all streams, in their order, if there are any; and else there is none.
 abbrev pub IsOnePool : Task → List Pool → Type 0
-IsOnePool task pools = (pools ≡ []) ⊎ ((pool : Pool) × (pools ≡ pool ∷ []) × (pool.workers ≤ 16) × (pool.streams ≡ numbers_from 0 (length task.streams)) × (0 < length task.streams))
+IsOnePool task pools =
+    (pools ≡ [])
+    ⊎ ((pool : Pool) × (pools ≡ pool ∷ []) × (pool.workers ≤ 16) × (pool.streams ≡ numbers_from 0 (length task.streams)) × (0 < length task.streams))
 
 -- The one pool of a run without a map is such as a report shows.
 abbrev pub OnePoolIsOfReports : Type 0

@@ -66,12 +66,14 @@ named_spelled word.Limit = refl
 spelled_same : (w u : Word) → spelled w ≡ spelled u → w ≡ u
 spelled_same w u e = sym (named_spelled w) ∙ ap named e ∙ named_spelled u
 
-pub no_word : (v : ℕ) (field : List ℕ) (left old : List (List ℕ)) → old ≡ field ∷ left → ((w : Word) → ¬ (spelled w ≡ field)) → (b : BodyLine) → IsBodyLine v b → ¬ (fields_of (body_line b) ≡ old)
+pub no_word : (v : ℕ) (field : List ℕ) (left old : List (List ℕ)) → old ≡ field ∷ left → ((w : Word) → ¬ (spelled w ≡ field))
+    → (b : BodyLine) → IsBodyLine v b → ¬ (fields_of (body_line b) ≡ old)
 no_word v field left old is none b formed e =
     let same : (body_line b).first ≡ field = cc in
     none (word_of_line b) (sym (first_word b) ∙ same)
 
-pub of_word : (v : ℕ) (w : Word) (field : List ℕ) (left old : List (List ℕ)) (found : Option BodyLine) → old ≡ field ∷ left → spelled w ≡ field → Finds (IsBodyLineOf v w) body_more found left → Finds (IsBodyLine v) (λ b. fields_of (body_line b)) found old
+pub of_word : (v : ℕ) (w : Word) (field : List ℕ) (left old : List (List ℕ)) (found : Option BodyLine) → old ≡ field ∷ left
+    → spelled w ≡ field → Finds (IsBodyLineOf v w) body_more found left → Finds (IsBodyLine v) (λ b. fields_of (body_line b)) found old
 of_word v w field left old (Some b) is spells found =
     let first : (body_line b).first ≡ field = first_word b ∙ ap spelled found.0.1 ∙ spells in
     (found.0.0, (λ i. first i ∷ found.1 i) ∙ sym is)
@@ -80,7 +82,9 @@ of_word v w field left old None is spells none = λ b formed e.
     let more : body_more b ≡ left = cc in
     none b (formed, spelled_same (word_of_line b) w (sym (first_word b) ∙ first ∙ sym spells)) more
 
-pub no_got : (v number : ℕ) (left old : List (List ℕ)) → decimal number ∷ left ≡ old → ((t : Tuples) → AreTuples v t.tuples t.values → ¬ (tuple_fields t.tuples t.values ≡ left)) → (b : BodyLine) → IsBodyLineOf v word.Got b → ¬ (body_more b ≡ old)
+pub no_got : (v number : ℕ) (left old : List (List ℕ)) → decimal number ∷ left ≡ old
+    → ((t : Tuples) → AreTuples v t.tuples t.values → ¬ (tuple_fields t.tuples t.values ≡ left)) → (b : BodyLine)
+    → IsBodyLineOf v word.Got b → ¬ (body_more b ≡ old)
 no_got v number left old is none b formed e = by_line b formed.1 formed.0 e
   where
     by_line : (b : BodyLine) → word_of_line b ≡ word.Got → IsBodyLine v b → body_more b ≡ old → ⊥

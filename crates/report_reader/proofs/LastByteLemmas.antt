@@ -33,11 +33,13 @@ by_last x (y ∷ ys) =
       | false ↦ behind_other (slice_split is_feed (y ∷ ys)) (never_empty is_feed (y ∷ ys)) (sole y ys) (by_last y ys)
     ]
   where
-    behind_feed : (parts : List (List ℕ)) → ¬ (parts ≡ []) → (is_feed (last_of y ys) ≡ true) ↔ (open_part parts ≡ []) → (is_feed (last_of y ys) ≡ true) ↔ (open_part ([] ∷ parts) ≡ [])
+    behind_feed : (parts : List (List ℕ)) → ¬ (parts ≡ []) → (is_feed (last_of y ys) ≡ true) ↔ (open_part parts ≡ [])
+        → (is_feed (last_of y ys) ≡ true) ↔ (open_part ([] ∷ parts) ≡ [])
     behind_feed [] some here = absurd (some refl)
     behind_feed (p ∷ parts) some here = here
 
-    behind_other : (parts : List (List ℕ)) → ¬ (parts ≡ []) → ((p : List ℕ) → parts ≡ p ∷ [] → ¬ (p ≡ [])) → (is_feed (last_of y ys) ≡ true) ↔ (open_part parts ≡ []) → (is_feed (last_of y ys) ≡ true) ↔ (open_part (onto_first x parts) ≡ [])
+    behind_other : (parts : List (List ℕ)) → ¬ (parts ≡ []) → ((p : List ℕ) → parts ≡ p ∷ [] → ¬ (p ≡ []))
+        → (is_feed (last_of y ys) ≡ true) ↔ (open_part parts ≡ []) → (is_feed (last_of y ys) ≡ true) ↔ (open_part (onto_first x parts) ≡ [])
     behind_other [] some one here = absurd (some refl)
     behind_other (p ∷ []) some one here = (λ e. absurd (one p refl (here.0 e)), λ e. absurd (cc))
     behind_other (p ∷ q ∷ parts) some one here = here
@@ -47,7 +49,8 @@ unfolding last_of
 last_read x [] d = refl
 last_read x (y ∷ ys) d = last_read y ys d
 
-pub feed_ends : (bytes : List ℕ) (b : ℕ) → 0 < length bytes → b ≡ get_or bytes (length bytes - 1) b → ((b == 10) ≡ true) ↔ (unfinished bytes ≡ [])
+pub feed_ends : (bytes : List ℕ) (b : ℕ) → 0 < length bytes → b ≡ get_or bytes (length bytes - 1) b
+    → ((b == 10) ≡ true) ↔ (unfinished bytes ≡ [])
 feed_ends [] b some is = absurd (omega arith)
 feed_ends (x ∷ xs) b some is =
     let place : suc (length xs) - 1 ≡ length xs = omega arith in

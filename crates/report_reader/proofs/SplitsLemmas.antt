@@ -11,7 +11,8 @@ use Rattle.report_text.proofs.FaultsLemmas.{line_clear}
 use Rattle.report_reader.specs.Splits.{fields_of}
 
 -- the text of a line that may stand is cut into its fields
-pub cut_fields : (p : Place) (l : Line) (n : Place) (text : List ℕ) → IsLineStep p l n → line_body l ≡ text → slice_split is_space text ≡ fields_of l
+pub cut_fields : (p : Place) (l : Line) (n : Place) (text : List ℕ) → IsLineStep p l n → line_body l ≡ text
+    → slice_split is_space text ≡ fields_of l
 cut_fields p l n text step is =
     let clear = line_clear p l n step in
     ap (slice_split is_space) (sym is) ∙ spaces_cut l.first l.more (first_so (is_inked l.first) (list_all is_inked l.more) clear) (second_so (is_inked l.first) (list_all is_inked l.more) clear)

@@ -23,13 +23,16 @@ same_behind [] (y ∷ ys) us vs len e = absurd (omega (arith, len))
 same_behind (x ∷ xs) [] us vs len e = absurd (omega (arith, len))
 same_behind (x ∷ xs) (y ∷ ys) us vs len e = same_behind xs ys us vs (omega (arith, len)) (cc)
 
-pub member_of : {A : Type 0} (P : A → Type 0) (xs : List A) (x : A) (new own rest : List A) → length xs < length own → own ++ rest ≡ xs ++ x ∷ new → All P own → P x
+pub member_of : {A : Type 0} (P : A → Type 0) (xs : List A) (x : A) (new own rest : List A) → length xs < length own
+    → own ++ rest ≡ xs ++ x ∷ new → All P own → P x
 member_of P xs x new [] rest lt e all = absurd (omega arith)
 member_of P [] x new (o ∷ own) rest lt e all = let same : o ≡ x = cc in subst P same (all 0 o (omega arith))
-member_of P (z ∷ xs) x new (o ∷ own) rest lt e all = member_of P xs x new own rest (omega (arith, lt)) (cc) (λ k d within. all (suc k) d (omega arith))
+member_of P (z ∷ xs) x new (o ∷ own) rest lt e all =
+    member_of P xs x new own rest (omega (arith, lt)) (cc) (λ k d within. all (suc k) d (omega arith))
 
 -- a field that is no value stands among the first ones
-pub value_wanting : (xs : List (List ℕ)) (x : List ℕ) (new given own rest : List (List ℕ)) → xs ++ x ∷ new ≡ given → ¬ (IsValue x) → length xs < length own → All IsValue own → ¬ (own ++ rest ≡ given)
+pub value_wanting : (xs : List (List ℕ)) (x : List ℕ) (new given own rest : List (List ℕ)) → xs ++ x ∷ new ≡ given → ¬ (IsValue x)
+    → length xs < length own → All IsValue own → ¬ (own ++ rest ≡ given)
 value_wanting xs x new given own rest is not lt all e = not (member_of IsValue xs x new own rest lt (e ∙ sym is) all)
 
 -- ---- so many tuples
@@ -41,20 +44,25 @@ less : (width b n : ℕ) → n ≡ (suc b + 1) * width → (width ≤ n) × (n -
 less width b n e =
     (omega (arith, e, one_more width b), omega (arith, e, one_more width b))
 
-pub no_values : (width bars : ℕ) (given own : List (List ℕ)) → ((first rest : List (List ℕ)) → length first ≡ width → All IsValue first → ¬ (first ++ rest ≡ given)) → length own ≡ (bars + 1) * width → All IsValue own → ¬ (tuples_of width bars own ≡ given)
+pub no_values : (width bars : ℕ) (given own : List (List ℕ))
+    → ((first rest : List (List ℕ)) → length first ≡ width → All IsValue first → ¬ (first ++ rest ≡ given))
+    → length own ≡ (bars + 1) * width → All IsValue own → ¬ (tuples_of width bars own ≡ given)
 no_values width zero given own none len all e = none own [] (omega (arith, len)) all (append-nil own ∙ e)
 no_values width (suc b) given own none len all e =
     let enough = less width b (length own) len in
     none (take width own) (codes "|" ∷ tuples_of width b (drop width own)) (length-take-le width own enough.0) (All-take IsValue width own all) e
 
-pub no_bar : (width bars : ℕ) (before mid given left own : List (List ℕ)) → HasTaken width before mid given left → ¬ (bars ≡ 0) → ((more : List (List ℕ)) → ¬ (left ≡ codes "|" ∷ more)) → length own ≡ (bars + 1) * width → All IsValue own → ¬ (tuples_of width bars own ≡ given)
+pub no_bar : (width bars : ℕ) (before mid given left own : List (List ℕ)) → HasTaken width before mid given left → ¬ (bars ≡ 0)
+    → ((more : List (List ℕ)) → ¬ (left ≡ codes "|" ∷ more)) → length own ≡ (bars + 1) * width → All IsValue own
+    → ¬ (tuples_of width bars own ≡ given)
 no_bar width zero before mid given left own taken some none len all e = some refl
 no_bar width (suc b) before mid given left own taken some none len all e =
     let enough = less width b (length own) len in
     let sizes : length taken.own ≡ length (take width own) = taken.many ∙ sym (length-take-le width own enough.0) in
     none (tuples_of width b (drop width own)) (same_behind taken.own (take width own) left (codes "|" ∷ tuples_of width b (drop width own)) sizes (taken.fields ∙ sym e))
 
-pub one_tuple : (width : ℕ) (before mid given left : List (List ℕ)) → HasTaken width before mid given left → left ≡ [] → HasTuples width 0 before mid given
+pub one_tuple : (width : ℕ) (before mid given left : List (List ℕ)) → HasTaken width before mid given left → left ≡ []
+    → HasTuples width 0 before mid given
 one_tuple width before mid given left taken over = record {
   own = taken.own;
   put = taken.put;
@@ -63,15 +71,19 @@ one_tuple width before mid given left taken over = record {
   each = taken.each;
 }
 
-pub not_over : (width : ℕ) (before mid given left own : List (List ℕ)) → HasTaken width before mid given left → ¬ (left ≡ []) → length own ≡ (0 + 1) * width → All IsValue own → ¬ (tuples_of width 0 own ≡ given)
+pub not_over : (width : ℕ) (before mid given left own : List (List ℕ)) → HasTaken width before mid given left → ¬ (left ≡ [])
+    → length own ≡ (0 + 1) * width → All IsValue own → ¬ (tuples_of width 0 own ≡ given)
 not_over width before mid given left own taken more len all e =
     more (same_behind taken.own own left [] (omega (arith, taken.many, len)) (taken.fields ∙ sym e ∙ sym (append-nil own)))
 
-next_tuples : (width b : ℕ) (found : Bool) (before mid after given left fields : List (List ℕ)) → HasTaken width before mid given left → left ≡ codes "|" ∷ fields → TakesTuples width b found mid after fields → TakesTuples width (suc b) found before after given
+next_tuples : (width b : ℕ) (found : Bool) (before mid after given left fields : List (List ℕ)) → HasTaken width before mid given left
+    → left ≡ codes "|" ∷ fields → TakesTuples width b found mid after fields → TakesTuples width (suc b) found before after given
 next_tuples width b true before mid after given left fields taken bar later = record {
   own = taken.own ++ later.own;
   put = later.put ∙ ap (λ l. l ++ later.own) taken.put ∙ append_assoc before taken.own later.own;
-  fields = (λ i. front i ++ codes "|" ∷ tuples_of width b (back i)) ∙ ap (λ l. taken.own ++ codes "|" ∷ l) later.fields ∙ ap (λ l. taken.own ++ l) (sym bar) ∙ taken.fields;
+  fields =
+      (λ i. front i ++ codes "|" ∷ tuples_of width b (back i)) ∙ ap (λ l. taken.own ++ codes "|" ∷ l) later.fields
+      ∙ ap (λ l. taken.own ++ l) (sym bar) ∙ taken.fields;
   many = omega (arith, length-append taken.own later.own, taken.many, later.many, one_more width b);
   each = All-append IsValue taken.own later.own taken.each later.each;
 }
@@ -90,7 +102,9 @@ next_tuples width b false before mid after given left fields taken bar later = �
     let size : length (drop width own) ≡ (b + 1) * width = omega (arith, both, length-append (take width own) (drop width own), length-take-le width own enough.0, enough.1) in
     later (drop width own) size (All-drop IsValue width own all) same
 
-pub more_tuples : (width bars : ℕ) (found : Bool) (before mid after given left fields : List (List ℕ)) → HasTaken width before mid given left → ¬ (bars ≡ 0) → left ≡ codes "|" ∷ fields → TakesTuples width (bars - 1) found mid after fields → TakesTuples width bars found before after given
+pub more_tuples : (width bars : ℕ) (found : Bool) (before mid after given left fields : List (List ℕ))
+    → HasTaken width before mid given left → ¬ (bars ≡ 0) → left ≡ codes "|" ∷ fields → TakesTuples width (bars - 1) found mid after fields
+    → TakesTuples width bars found before after given
 more_tuples width zero found before mid after given left fields taken some bar later = absurd (some refl)
 more_tuples width (suc b) found before mid after given left fields taken some bar later =
     let one : suc b - 1 ≡ b = omega arith in
@@ -115,7 +129,8 @@ no_bars (v ∷ values) all =
     let one : count_by is_bar (v ∷ []) ≡ 0 = ap (λ b. 0 + cond b 1 0) (value_no_bar v (all 0 v (omega arith))) in
     omega (arith, sum_by-append (λ y. cond (is_bar y) 1 0) (v ∷ []) values, one, no_bars values (λ k d within. all (suc k) d (omega arith)))
 
-counted : (width bars : ℕ) (values : List (List ℕ)) → All IsValue values → (count_by is_bar (tuples_of width bars values) ≡ bars) × (length (tuples_of width bars values) ≡ length values + bars)
+counted : (width bars : ℕ) (values : List (List ℕ)) → All IsValue values
+    → (count_by is_bar (tuples_of width bars values) ≡ bars) × (length (tuples_of width bars values) ≡ length values + bars)
 counted width zero values all = (no_bars values all, omega arith)
 counted width (suc b) values all =
     let front = take width values in
@@ -127,7 +142,10 @@ counted width (suc b) values all =
       omega (arith, both, length-append front behind, length-append front (codes "|" ∷ later), rest.1),
     )
   where
-    sums : (later : List (List ℕ)) → count_by is_bar (take width values ++ codes "|" ∷ later) ≡ count_by is_bar (take width values) + count_by is_bar (codes "|" ∷ later) → count_by is_bar (codes "|" ∷ later) ≡ 1 + count_by is_bar later → count_by is_bar (take width values) ≡ 0 → count_by is_bar later ≡ b → count_by is_bar (take width values ++ codes "|" ∷ later) ≡ suc b
+    sums : (later : List (List ℕ))
+        → count_by is_bar (take width values ++ codes "|" ∷ later) ≡ count_by is_bar (take width values) + count_by is_bar (codes "|" ∷ later)
+        → count_by is_bar (codes "|" ∷ later) ≡ 1 + count_by is_bar later → count_by is_bar (take width values) ≡ 0
+        → count_by is_bar later ≡ b → count_by is_bar (take width values ++ codes "|" ∷ later) ≡ suc b
     sums later whole one front rest = omega (arith, whole, one, front, rest)
 
 -- what tuples that may stand say of the numbers of bars and fields
@@ -138,7 +156,8 @@ record Fits (bars tuples : ℕ) (values given : List (List ℕ)) : Type 0 where
 is_one : (version : ℕ) → (version == 1) ≡ false → ¬ (version ≡ 1)
 is_one version e one = let same : (1 == 1) ≡ false = subst (λ v. (v == 1) ≡ false) one e in absurd (cc)
 
-fits : (version tuples bars : ℕ) (values given : List (List ℕ)) → AreTuples version tuples values → tuple_fields tuples values ≡ given → AreBars version bars given → Fits bars tuples values given
+fits : (version tuples bars : ℕ) (values given : List (List ℕ)) → AreTuples version tuples values → tuple_fields tuples values ≡ given
+    → AreBars version bars given → Fits bars tuples values given
 fits version tuples bars values given t is b =
     let numbers = counted (length values / tuples) (tuples - 1) values t.each in
     let bars_is : bars ≡ tuples - 1 = elim (version == 1) as (λ c. (version == 1) ≡ c → bars ≡ tuples - 1) [
@@ -148,19 +167,24 @@ fits version tuples bars values given t is b =
     record { count = omega (arith, bars_is, t.some); size = ap length (sym is) ∙ numbers.1 ∙ ap (λ n. length values + n) (sym bars_is) }
 
 pub too_many : (version bars : ℕ) (given : List (List ℕ)) → AreBars version bars given → 16 ≤ bars → AreNoTuples version given
-too_many version bars given b many tuples values t is = let f = fits version tuples bars values given t is b in omega (arith, f.count, t.few)
+too_many version bars given b many tuples values t is =
+    let f = fits version tuples bars values given t is b in omega (arith, f.count, t.few)
 
-pub unequal : (version bars many : ℕ) (given : List (List ℕ)) → AreBars version bars given → many ≡ length given - bars → ((width : ℕ) → ¬ (many ≡ (bars + 1) * width)) → AreNoTuples version given
+pub unequal : (version bars many : ℕ) (given : List (List ℕ)) → AreBars version bars given → many ≡ length given - bars
+    → ((width : ℕ) → ¬ (many ≡ (bars + 1) * width)) → AreNoTuples version given
 unequal version bars many given b is_many none tuples values t is =
     let f = fits version tuples bars values given t is b in
     none t.width (omega (arith, is_many, f.size, t.equal ∙ ap (λ n. n * t.width) f.count))
 
-pub no_width : (version bars many : ℕ) (given : List (List ℕ)) → AreBars version bars given → many ≡ length given - bars → many ≡ 0 → 0 < bars → AreNoTuples version given
+pub no_width : (version bars many : ℕ) (given : List (List ℕ)) → AreBars version bars given → many ≡ length given - bars → many ≡ 0
+    → 0 < bars → AreNoTuples version given
 no_width version bars many given b is_many none some tuples values t is =
     let f = fits version tuples bars values given t is b in
     omega (arith, is_many, f.size, f.count, t.empty)
 
-pub no_tuples : (version bars width : ℕ) (given : List (List ℕ)) → HasShape version bars width given → ((own : List (List ℕ)) → length own ≡ (bars + 1) * width → All IsValue own → ¬ (tuples_of width bars own ≡ given)) → AreNoTuples version given
+pub no_tuples : (version bars width : ℕ) (given : List (List ℕ)) → HasShape version bars width given
+    → ((own : List (List ℕ)) → length own ≡ (bars + 1) * width → All IsValue own → ¬ (tuples_of width bars own ≡ given))
+    → AreNoTuples version given
 no_tuples version bars width given s none tuples values t is =
     let f = fits version tuples bars values given t is s.bars_are in
     let size : length values ≡ (bars + 1) * width = omega (arith, f.size, s.size) in
@@ -169,7 +193,8 @@ no_tuples version bars width given s none tuples values t is =
     none values size t.each ((λ i. tuples_of (sym each i) (sym less_one i) values) ∙ is)
 
 -- tuples of this shape may stand
-pub tuples_found : (version bars width : ℕ) (values given : List (List ℕ)) → HasShape version bars width given → HasTuples width bars [] values given → AreTuples version (bars + 1) values × (tuple_fields (bars + 1) values ≡ given)
+pub tuples_found : (version bars width : ℕ) (values given : List (List ℕ)) → HasShape version bars width given
+    → HasTuples width bars [] values given → AreTuples version (bars + 1) values × (tuple_fields (bars + 1) values ≡ given)
 tuples_found version bars width values given s h =
     let own : values ≡ h.own = h.put in
     let size : length values ≡ (bars + 1) * width = ap length own ∙ h.many in
@@ -196,10 +221,12 @@ tuples_found version bars width values given s h =
 
 -- ---- the tests of the code
 
-pub no_parts : (version bars : ℕ) (given : List (List ℕ)) (fields : ℕ) → AreBars version bars given → fields ≡ length given → ¬ ((fields - bars) % (bars + 1) ≡ 0) → AreNoTuples version given
+pub no_parts : (version bars : ℕ) (given : List (List ℕ)) (fields : ℕ) → AreBars version bars given → fields ≡ length given
+    → ¬ ((fields - bars) % (bars + 1) ≡ 0) → AreNoTuples version given
 no_parts version bars given fields b all rest = unequal version bars (fields - bars) given b (ap (λ n. n - bars) all) (λ width e. rest (ap (λ n. n % (bars + 1)) e ∙ mul-mod_right (bars + 1) width))
 
-pub no_wide : (version bars : ℕ) (given : List (List ℕ)) (fields : ℕ) → AreBars version bars given → fields ≡ length given → (fields - bars) % (bars + 1) ≡ 0 → (fields - bars) / (bars + 1) ≡ 0 → 0 < bars → AreNoTuples version given
+pub no_wide : (version bars : ℕ) (given : List (List ℕ)) (fields : ℕ) → AreBars version bars given → fields ≡ length given
+    → (fields - bars) % (bars + 1) ≡ 0 → (fields - bars) / (bars + 1) ≡ 0 → 0 < bars → AreNoTuples version given
 no_wide version bars given fields b all whole none some =
     no_width version bars (fields - bars) given b (ap (λ n. n - bars) all) (div_mod (fields - bars) (bars + 1) (omega arith) whole none) some
   where

@@ -108,7 +108,8 @@ IsBodyLineOf version w b = IsBodyLine version b × (word_of_line b ≡ w)
 
 -- a dream of so many entries and steps
 abbrev pub IsDream : ℕ → ℕ → ℕ → Entry → Type 0
-IsDream version uses steps (entry.Dream us ss) = IsFormedEntry version (entry.Dream us ss) × (length us ≡ uses) × (length ss ≡ steps)
+IsDream version uses steps (entry.Dream us ss) =
+    IsFormedEntry version (entry.Dream us ss) × (length us ≡ uses) × (length ss ≡ steps)
 IsDream version uses steps e = ⊥
 
 -- the lines behind its first one
@@ -153,7 +154,8 @@ IsOutcomeOf version ending o = IsFormedOutcome version o × (ending_of o ≡ end
 
 -- the lines behind its first one, and the last line of the report
 abbrev pub outcome_rest : ℕ → Outcome → List Line
-outcome_rest version (outcome.Plan steps cost from) = map do_line steps ++ cost_line cost ∷ (map (from_line version) from ++ done_line ∷ [])
+outcome_rest version (outcome.Plan steps cost from) =
+    map do_line steps ++ cost_line cost ∷ (map (from_line version) from ++ done_line ∷ [])
 outcome_rest version outcome.NoPlan = done_line ∷ []
 outcome_rest version (outcome.Limit kind) = done_line ∷ []
 

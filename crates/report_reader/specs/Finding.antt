@@ -27,7 +27,8 @@ abbrev pub shown_lines : {X : Type 0} → (X → Line) → List X → List (List
 shown_lines line_of xs = map fields_of (map line_of xs)
 
 -- an item of the form in the next line, which is taken, or that the next line shows none and stays
-abbrev pub TakesLine : {X : Type 0} → (X → Type 0) → (X → Line) → Option X → List (List (List ℕ)) → List (List (List ℕ)) → Type 0
+abbrev pub TakesLine : {X : Type 0} → (X → Type 0) → (X → Line) → Option X → List (List (List ℕ)) → List (List (List ℕ))
+    → Type 0
 TakesLine IsFormed line_of (Some x) old new = IsFormed x × (fields_of (line_of x) ∷ new ≡ old)
 TakesLine IsFormed line_of None old new = (new ≡ old) × HasNo IsFormed (λ x. fields_of (line_of x)) old
 
@@ -50,7 +51,8 @@ pub record TakesFewer {X : Type 0} (IsFormed : X → Type 0) (line_of : X → Li
   pub fewer : length xs < count
   pub none : HasNo IsFormed (λ x. fields_of (line_of x)) new
 
-abbrev pub TakesCounted : {X : Type 0} → (X → Type 0) → (X → Line) → ℕ → Option (List X) → List (List (List ℕ)) → List (List (List ℕ)) → Type 0
+abbrev pub TakesCounted : {X : Type 0} → (X → Type 0) → (X → Line) → ℕ → Option (List X) → List (List (List ℕ))
+    → List (List (List ℕ)) → Type 0
 TakesCounted IsFormed line_of count (Some xs) old new = TakesMany IsFormed line_of count xs old new
 TakesCounted IsFormed line_of count None old new = TakesFewer IsFormed line_of count old new
 
@@ -70,6 +72,7 @@ pub record Stops (from : Place) (old new : List (List (List ℕ))) : Type 0 wher
   pub held : IsHeld at new
 
 -- an item of the form that was in these lines, or that a line may not stand where it is
-abbrev pub PartReads : {X : Type 0} → Place → (X → Type 0) → (X → List Line) → Option X → List (List (List ℕ)) → List (List (List ℕ)) → Type 0
+abbrev pub PartReads : {X : Type 0} → Place → (X → Type 0) → (X → List Line) → Option X → List (List (List ℕ))
+    → List (List (List ℕ)) → Type 0
 PartReads from IsFormed lines_of (Some x) old new = IsFormed x × (map fields_of (lines_of x) ++ new ≡ old)
 PartReads from IsFormed lines_of None old new = Stops from old new

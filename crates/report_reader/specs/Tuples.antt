@@ -22,7 +22,8 @@ pub record HasTaken (width : ℕ) (before values given left : List (List ℕ)) :
 
 abbrev pub TakesValues : ℕ → Bool → List (List ℕ) → List (List ℕ) → List (List ℕ) → List (List ℕ) → Type 0
 TakesValues width true before values given left = HasTaken width before values given left
-TakesValues width false before values given left = (own rest : List (List ℕ)) → length own ≡ width → All IsValue own → ¬ (own ++ rest ≡ given)
+TakesValues width false before values given left =
+    (own rest : List (List ℕ)) → length own ≡ width → All IsValue own → ¬ (own ++ rest ≡ given)
 
 -- the fields are tuples of this width with so many bars, and their values stand behind the values before
 pub record HasTuples (width bars : ℕ) (before values given : List (List ℕ)) : Type 0 where
@@ -34,7 +35,8 @@ pub record HasTuples (width bars : ℕ) (before values given : List (List ℕ)) 
 
 abbrev pub TakesTuples : ℕ → ℕ → Bool → List (List ℕ) → List (List ℕ) → List (List ℕ) → Type 0
 TakesTuples width bars true before values given = HasTuples width bars before values given
-TakesTuples width bars false before values given = (own : List (List ℕ)) → length own ≡ (bars + 1) * width → All IsValue own → ¬ (tuples_of width bars own ≡ given)
+TakesTuples width bars false before values given =
+    (own : List (List ℕ)) → length own ≡ (bars + 1) * width → All IsValue own → ¬ (tuples_of width bars own ≡ given)
 
 -- how many bars part tuples: none in version 1
 pub record AreBars (version bars : ℕ) (given : List (List ℕ)) : Type 0 where
@@ -50,7 +52,8 @@ pub record HasShape (version bars width : ℕ) (given : List (List ℕ)) : Type 
 
 -- no tuples that may stand are written so
 abbrev pub AreNoTuples : ℕ → List (List ℕ) → Type 0
-AreNoTuples version given = (tuples : ℕ) (values : List (List ℕ)) → AreTuples version tuples values → ¬ (tuple_fields tuples values ≡ given)
+AreNoTuples version given =
+    (tuples : ℕ) (values : List (List ℕ)) → AreTuples version tuples values → ¬ (tuple_fields tuples values ≡ given)
 
 abbrev pub IsShape : ℕ → Option Shape → List (List ℕ) → Type 0
 IsShape version (Some s) given = HasShape version s.bars s.width given

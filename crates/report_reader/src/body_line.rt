@@ -51,7 +51,8 @@ pub(crate) fn body_line_in(
     version: u8,
     fields: &mut Fields<'_>,
 ) -> Result<Option<BodyLine>, AllocError>
-    ensures { IfOk result (λ found. Finds (IsBodyLine version) (λ b. fields_of (body_line b)) found fields.old) }
+    ensures { IfOk result (λ found. Finds (IsBodyLine version) (λ b. fields_of (body_line b)) found
+        fields.old) }
 {
     let Some(field) = fields.next() else {
         return Ok(None);
@@ -89,7 +90,8 @@ fn line_of_word(
 }
 
 fn ask_in(alloc: Global, fields: &mut Fields<'_>) -> Result<Option<BodyLine>, AllocError>
-    ensures { IfOk result (λ found. (version : ℕ) → Finds (IsBodyLineOf version Ask) body_more found fields.old) }
+    ensures { IfOk result (λ found. (version : ℕ)
+        → Finds (IsBodyLineOf version Ask) body_more found fields.old) }
 {
     let Some(number) = fields.number() else {
         return Ok(None);
@@ -194,7 +196,8 @@ fn limit_in(fields: &mut Fields<'_>) -> Option<BodyLine>
 
 /// The limit that this word names.
 fn kind_in(field: &[u8]) -> Option<LimitKind>
-    ensures { MatchOption result ((kind : LimitKind) → ¬ (limit_word kind ≡ field.now)) (λ kind. limit_word kind ≡ field.now) }
+    ensures { MatchOption result ((kind : LimitKind) → ¬ (limit_word kind ≡ field.now))
+        (λ kind. limit_word kind ≡ field.now) }
 {
     if field == b"calls".as_slice() {
         return Some(LimitKind::Calls);

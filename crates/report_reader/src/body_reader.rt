@@ -37,7 +37,8 @@ pub(crate) fn body_in(
     version: u8,
     lines: &mut Lines<'_>,
 ) -> Result<Option<Body>, AllocError>
-    ensures { IfOk result (λ found. PartReads (entries version) (IsBody version) body_lines found lines.old lines.new) }
+    ensures { IfOk result (λ found. PartReads (entries version) (IsBody version) body_lines found
+        lines.old lines.new) }
 {
     let mut entries = Vec::new(alloc);
     while let Some(part) = part_in(alloc, version, lines)? {
@@ -56,7 +57,8 @@ pub(crate) fn body_in(
 
 /// The next entry, or the line that ends them; None where a line may not stand.
 fn part_in(alloc: Global, version: u8, lines: &mut Lines<'_>) -> Result<Option<Part>, AllocError>
-    ensures { IfOk result (λ found. PartReads (entries version) (IsReportPart version) part_lines found lines.old lines.new) }
+    ensures { IfOk result (λ found. PartReads (entries version) (IsReportPart version) part_lines
+        found lines.old lines.new) }
 {
     match next_line(alloc, version, lines)? {
         Some(BodyLine::Single(entry)) => Ok(Some(Part::Entry(entry))),
@@ -75,7 +77,8 @@ fn next_line(
     version: u8,
     lines: &mut Lines<'_>,
 ) -> Result<Option<BodyLine>, AllocError>
-    ensures { IfOk result (λ found. TakesLine (IsBodyLine version) body_line found lines.old lines.new) }
+    ensures { IfOk result (λ found. TakesLine (IsBodyLine version) body_line found lines.old
+        lines.new) }
 {
     let Some(mut fields) = lines.front() else {
         return Ok(None);
@@ -94,7 +97,9 @@ fn dream_in(
     steps: u32,
     lines: &mut Lines<'_>,
 ) -> Result<Option<Entry>, AllocError>
-    ensures { IfOk result (λ found. (version : ℕ) → PartReads (dreaming version uses steps) (IsDream version uses steps) dream_lines found lines.old lines.new) }
+    ensures { IfOk result (λ found. (version : ℕ)
+        → PartReads (dreaming version uses steps) (IsDream version uses steps) dream_lines found
+        lines.old lines.new) }
 {
     let Some(uses) = uses_in(alloc, uses, lines)? else {
         return Ok(None);
@@ -112,7 +117,8 @@ fn uses_in(
     count: u32,
     lines: &mut Lines<'_>,
 ) -> Result<Option<Seq<DreamUse>>, AllocError>
-    ensures { IfOk result (λ found. TakesCounted IsFormedUse use_line count found lines.old lines.new) }
+    ensures { IfOk result (λ found. TakesCounted IsFormedUse use_line count found lines.old
+        lines.new) }
 {
     let mut uses = Vec::new(alloc);
     for _ in 0..count {
@@ -139,7 +145,8 @@ fn next_use(alloc: Global, lines: &mut Lines<'_>) -> Result<Option<DreamUse>, Al
 }
 
 fn use_in(alloc: Global, fields: &mut Fields<'_>) -> Result<Option<DreamUse>, AllocError>
-    ensures { IfOk result (λ found. Finds IsFormedUse (λ u. fields_of (use_line u)) found fields.old) }
+    ensures { IfOk result (λ found. Finds IsFormedUse (λ u. fields_of (use_line u)) found
+        fields.old) }
 {
     if !fields.begin_with(b"use") {
         return Ok(None);
@@ -161,7 +168,8 @@ pub(crate) fn calls_in(
     count: u32,
     lines: &mut Lines<'_>,
 ) -> Result<Option<Seq<Call>>, AllocError>
-    ensures { IfOk result (λ found. TakesCounted (IsFormedCall IsTerm) (λ call. line word.now (call_fields call)) count found lines.old lines.new) }
+    ensures { IfOk result (λ found. TakesCounted (IsFormedCall IsTerm)
+        (λ call. line word.now (call_fields call)) count found lines.old lines.new) }
 {
     let mut calls = Vec::new(alloc);
     for _ in 0..count {
@@ -175,7 +183,8 @@ pub(crate) fn calls_in(
 
 /// The call of the next line, behind this word.
 fn next_call(alloc: Global, word: &[u8], lines: &mut Lines<'_>) -> Result<Option<Call>, AllocError>
-    ensures { IfOk result (λ found. TakesLine (IsFormedCall IsTerm) (λ call. line word.now (call_fields call)) found lines.old lines.new) }
+    ensures { IfOk result (λ found. TakesLine (IsFormedCall IsTerm)
+        (λ call. line word.now (call_fields call)) found lines.old lines.new) }
 {
     let Some(mut fields) = lines.front() else {
         return Ok(None);
@@ -192,7 +201,8 @@ fn call_behind(
     word: &[u8],
     fields: &mut Fields<'_>,
 ) -> Result<Option<Call>, AllocError>
-    ensures { IfOk result (λ found. Finds (IsFormedCall IsTerm) (λ call. word.now ∷ call_fields call) found fields.old) }
+    ensures { IfOk result (λ found. Finds (IsFormedCall IsTerm)
+        (λ call. word.now ∷ call_fields call) found fields.old) }
 {
     if !fields.begin_with(word) {
         return Ok(None);

@@ -18,7 +18,8 @@ fn arguments_in(
     fields: &mut Fields<'_>,
     objects: Objects,
 ) -> Result<Option<Seq<Name>>, AllocError>
-    ensures { IfOk result (λ found. Finds (All (IsArgument objects)) (λ names. names) found fields.old) }
+    ensures { IfOk result (λ found. Finds (All (IsArgument objects)) (λ names. names) found
+        fields.old) }
 {
     let mut names = Vec::new(alloc);
     while let Some(field) = fields.next() {
@@ -54,7 +55,8 @@ pub(crate) fn call_in(
     fields: &mut Fields<'_>,
     objects: Objects,
 ) -> Result<Option<Call>, AllocError>
-    ensures { IfOk result (λ found. Finds (IsFormedCall (IsArgument objects)) call_fields found fields.old) }
+    ensures { IfOk result (λ found. Finds (IsFormedCall (IsArgument objects)) call_fields found
+        fields.old) }
 {
     let Some(head) = fields.next() else {
         return Ok(None);

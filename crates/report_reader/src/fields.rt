@@ -85,7 +85,8 @@ impl<'a> Fields<'a> {
 
     /// Whether the next field is this word. It is taken, whatever it is.
     pub(crate) fn begin_with(&mut self, word: &[u8]) -> bool
-        ensures { MatchBool result (self.old ≡ word.now ∷ self.new) ((more : List (List ℕ)) → ¬ (self.old ≡ word.now ∷ more)) }
+        ensures { MatchBool result (self.old ≡ word.now ∷ self.new)
+            ((more : List (List ℕ)) → ¬ (self.old ≡ word.now ∷ more)) }
     {
         match self.next() {
             Some(field) => field == word,

@@ -68,7 +68,8 @@ fn version_in(fields: &mut Fields<'_>) -> Option<u8>
 
 /// The mode that this word names.
 fn mode_in(word: &[u8]) -> Option<Mode>
-    ensures { MatchOption result ((mode : Mode) → ¬ (mode_word mode ≡ word.now)) (λ mode. mode_word mode ≡ word.now) }
+    ensures { MatchOption result ((mode : Mode) → ¬ (mode_word mode ≡ word.now))
+        (λ mode. mode_word mode ≡ word.now) }
 {
     if word == b"incremental".as_slice() {
         return Some(Mode::Incremental);
@@ -148,7 +149,8 @@ fn next_pool(alloc: Global, lines: &mut Lines<'_>) -> Result<Option<PoolLine>, A
 }
 
 fn pool_in(alloc: Global, fields: &mut Fields<'_>) -> Result<Option<PoolLine>, AllocError>
-    ensures { IfOk result (λ found. Finds IsFormedPool (λ p. fields_of (pool_line p)) found fields.old) }
+    ensures { IfOk result (λ found. Finds IsFormedPool (λ p. fields_of (pool_line p)) found
+        fields.old) }
 {
     if !fields.begin_with(b"pool") {
         return Ok(None);

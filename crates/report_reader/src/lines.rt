@@ -30,7 +30,8 @@ impl<'a> Lines<'a> {
     /// The fields of the next line; None where no line is left.
     #[tactic(auto, using(crate::proofs::SplitsCutLemmas::lines_some, crate::proofs::SplitsCutLemmas::lines_none))]
     pub(crate) fn front(&self) -> Option<Fields<'a>>
-        ensures { MatchOption result (self.now ≡ []) (λ fields. self.now ≡ fields ∷ drop 1 self.now) }
+        ensures { MatchOption result (self.now ≡ [])
+            (λ fields. self.now ≡ fields ∷ drop 1 self.now) }
     {
         let end = first_feed(self.rest)?;
         Some(Fields::of(before(self.rest, end)))

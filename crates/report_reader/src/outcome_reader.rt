@@ -25,7 +25,8 @@ pub(crate) fn outcome_in(
     ending: Ending,
     lines: &mut Lines<'_>,
 ) -> Result<Option<Outcome>, AllocError>
-    ensures { IfOk result (λ found. PartReads (ending_place version ending) (IsOutcomeOf version ending) (outcome_rest version) found lines.old lines.new) }
+    ensures { IfOk result (λ found. PartReads (ending_place version ending)
+        (IsOutcomeOf version ending) (outcome_rest version) found lines.old lines.new) }
 {
     match ending {
         Ending::Plan(steps) => plan_in(alloc, version, steps, lines),
@@ -52,7 +53,8 @@ fn plan_in(
     steps: u32,
     lines: &mut Lines<'_>,
 ) -> Result<Option<Outcome>, AllocError>
-    ensures { IfOk result (λ found. PartReads (planning version steps) (IsOutcomeOf version (Plan steps)) (outcome_rest version) found lines.old lines.new) }
+    ensures { IfOk result (λ found. PartReads (planning version steps)
+        (IsOutcomeOf version (Plan steps)) (outcome_rest version) found lines.old lines.new) }
 {
     let Some(steps) = calls_in(alloc, b"do", steps, lines)? else {
         return Ok(None);
@@ -91,7 +93,8 @@ fn cost_in(fields: &mut Fields<'_>) -> Option<u64>
 /// The origins, as far as there are lines of origins.
 #[tactic(auto, using(crate::proofs::FindingLemmas::many_all))]
 fn origins_in(alloc: Global, version: u8, lines: &mut Lines<'_>) -> Result<Seq<Origin>, AllocError>
-    ensures { IfOk result (λ from. TakesAll (IsFormedOrigin version) (from_line version) from lines.old lines.new) }
+    ensures { IfOk result (λ from. TakesAll (IsFormedOrigin version) (from_line version) from
+        lines.old lines.new) }
 {
     let mut origins = Vec::new(alloc);
     while let Some(origin) = next_origin(alloc, version, lines)? {
@@ -106,7 +109,8 @@ fn next_origin(
     version: u8,
     lines: &mut Lines<'_>,
 ) -> Result<Option<Origin>, AllocError>
-    ensures { IfOk result (λ found. TakesLine (IsFormedOrigin version) (from_line version) found lines.old lines.new) }
+    ensures { IfOk result (λ found. TakesLine (IsFormedOrigin version) (from_line version) found
+        lines.old lines.new) }
 {
     let Some(mut fields) = lines.front() else {
         return Ok(None);
@@ -123,7 +127,8 @@ fn origin_in(
     version: u8,
     fields: &mut Fields<'_>,
 ) -> Result<Option<Origin>, AllocError>
-    ensures { IfOk result (λ found. Finds (IsFormedOrigin version) (λ o. fields_of (from_line version o)) found fields.old) }
+    ensures { IfOk result (λ found. Finds (IsFormedOrigin version)
+        (λ o. fields_of (from_line version o)) found fields.old) }
 {
     if !fields.begin_with(b"from") {
         return Ok(None);
@@ -146,7 +151,8 @@ fn origin_in(
 
 /// The next field, if it is an object.
 fn next_object<'a>(fields: &mut Fields<'a>) -> Option<&'a [u8]>
-    ensures { MatchOption result (HasNo IsObject (λ o. o) fields.old) (λ object. IsObject object.now × (object.now ∷ fields.new ≡ fields.old)) }
+    ensures { MatchOption result (HasNo IsObject (λ o. o) fields.old)
+        (λ object. IsObject object.now × (object.now ∷ fields.new ≡ fields.old)) }
 {
     let field = fields.next()?;
     if is_object(field) { Some(field) } else { None }
@@ -162,7 +168,9 @@ fn last_tuple(version: u8, fields: &mut Fields<'_>) -> Option<u8>
 
 /// Goes on behind the next line, if that is the last one of a report.
 fn takes_done(lines: &mut Lines<'_>) -> bool
-    ensures { MatchBool result (fields_of done_line ∷ lines.new ≡ lines.old) ((lines.new ≡ lines.old) × ((rest : List (List (List ℕ))) → ¬ (fields_of done_line ∷ rest ≡ lines.old))) }
+    ensures { MatchBool result (fields_of done_line ∷ lines.new ≡ lines.old)
+        ((lines.new ≡ lines.old) × ((rest : List (List (List ℕ)))
+        → ¬ (fields_of done_line ∷ rest ≡ lines.old))) }
 {
     let Some(mut fields) = lines.front() else {
         return false;

@@ -7,8 +7,8 @@ ghost use Rattle.report_text.specs.Texts.{text_of_report};
 
 use crate::lines::Lines;
 use crate::whole::report_in;
-use std::alloc::Global;
 use report_text::ReportFault;
+use std::alloc::Global;
 use transcript_model::Report;
 
 /// The kind of a fault of the text.

@@ -37,7 +37,8 @@ pub(crate) fn tuples_in(
     version: u8,
     fields: &mut Fields<'_>,
 ) -> Result<Option<Tuples>, AllocError>
-    ensures { IfOk result (λ found. Finds (λ t. AreTuples version t.tuples t.values) (λ t. tuple_fields t.tuples t.values) found fields.old) }
+    ensures { IfOk result (λ found. Finds (λ t. AreTuples version t.tuples t.values)
+        (λ t. tuple_fields t.tuples t.values) found fields.old) }
 {
     let Some(Shape { bars, width }) = shape_of(version, fields) else {
         return Ok(None);
@@ -102,7 +103,8 @@ fn take_tuples(
     bars: usize,
     values: &mut Vec<Name>,
 ) -> Result<bool, AllocError>
-    ensures { IfOk result (λ yes. TakesTuples width bars yes values.old.items values.new.items fields.old) }
+    ensures { IfOk result (λ yes. TakesTuples width bars yes values.old.items values.new.items
+        fields.old) }
 {
     if !take_values(alloc, fields, width, values)? {
         return Ok(false);
@@ -123,7 +125,8 @@ fn take_values(
     width: usize,
     values: &mut Vec<Name>,
 ) -> Result<bool, AllocError>
-    ensures { IfOk result (λ yes. TakesValues width yes values.old.items values.new.items fields.old fields.new) }
+    ensures { IfOk result (λ yes. TakesValues width yes values.old.items values.new.items fields.old
+        fields.new) }
 {
     for _ in 0..width {
         let Some(field) = fields.next() else {

@@ -24,7 +24,8 @@ use Rattle.gen_lines.proofs.CuttingLemmas.{parts_left}
 -- ---- the lines of a text
 
 -- lines that have no line feed, each with one behind it, and then more
-parts_of : (lines : List (List ℕ)) (rest : List ℕ) → All (λ line. All (λ b. is_feed b ≡ false) line) lines → slice_split is_feed (lines_with_feeds lines ++ rest) ≡ lines ++ slice_split is_feed rest
+parts_of : (lines : List (List ℕ)) (rest : List ℕ) → All (λ line. All (λ b. is_feed b ≡ false) line) lines
+    → slice_split is_feed (lines_with_feeds lines ++ rest) ≡ lines ++ slice_split is_feed rest
 parts_of [] rest all = refl
 parts_of (l ∷ ls) rest all =
     let whole : lines_with_feeds (l ∷ ls) ++ rest ≡ l ++ 10 ∷ (lines_with_feeds ls ++ rest) = append_assoc (l ++ 10 ∷ []) (lines_with_feeds ls) rest ∙ append_assoc l (10 ∷ []) (lines_with_feeds ls ++ rest) in
@@ -38,7 +39,8 @@ ended_more (x ∷ z ∷ xs) ys some = ap (λ ps. x ∷ ps) (ended_more (z ∷ xs
 
 -- the lines of a report's text are those of the report
 lines_written : (lines : List Line) → list_all is_clear lines ≡ true → whole_lines (lines_text lines) ≡ map line_body lines
-lines_written lines clear = ap ended (feeds_cut lines clear) ∙ ended_more (map line_body lines) ([] ∷ []) (omega arith) ∙ append-nil (map line_body lines)
+lines_written lines clear =
+    ap ended (feeds_cut lines clear) ∙ ended_more (map line_body lines) ([] ∷ []) (omega arith) ∙ append-nil (map line_body lines)
 
 joined_text : (lines : List Line) → lines_with_feeds (map line_body lines) ≡ lines_text lines
 joined_text [] = refl
@@ -51,10 +53,12 @@ report_text_path bytes (r, formed, is) =
     (report_lines r, sym (lines_written (report_lines r) (report_clear r formed)) ∙ ap whole_lines (sym (report_text r) ∙ is), report_path r formed)
 
 -- the front of a path of texts
-path_front : (from to : Place) (front rest : List (List ℕ)) → IsTextPath from (front ++ rest) to → (m : Place) × IsTextPath from front m × ((text : List ℕ) (later : List (List ℕ)) → rest ≡ text ∷ later → (n : Place) × IsTextStep m text n)
+path_front : (from to : Place) (front rest : List (List ℕ)) → IsTextPath from (front ++ rest) to
+    → (m : Place) × IsTextPath from front m × ((text : List ℕ) (later : List (List ℕ)) → rest ≡ text ∷ later → (n : Place) × IsTextStep m text n)
 path_front from to [] rest (lines, is, path) = (from, ([], refl, refl), λ text later e. next lines is path text later e)
   where
-    next : (lines : List Line) → map line_body lines ≡ rest → IsPath from lines to → (text : List ℕ) (later : List (List ℕ)) → rest ≡ text ∷ later → (n : Place) × IsTextStep from text n
+    next : (lines : List Line) → map line_body lines ≡ rest → IsPath from lines to → (text : List ℕ) (later : List (List ℕ))
+        → rest ≡ text ∷ later → (n : Place) × IsTextStep from text n
     next [] is path text later e = let none : [] ≡ text ∷ later = is ∙ e in absurd (cc)
     next (l ∷ ls) is path text later e = let both : line_body l ∷ map line_body ls ≡ text ∷ later = is ∙ e in let same : line_body l ≡ text = cc in (path.0, (l, same, path.1))
 path_front from to (t ∷ front) rest ([], is, path) = absurd (cc)
@@ -118,7 +122,8 @@ text_path_same from m n (t ∷ texts) (l ∷ ls, is, path) (k ∷ ks, also, othe
 
 -- ---- parts of a text
 
-no_feed_first : (x : ℕ) (parts : List (List ℕ)) → is_feed x ≡ false → All (λ line. All (λ b. is_feed b ≡ false) line) parts → All (λ line. All (λ b. is_feed b ≡ false) line) (onto_first x parts)
+no_feed_first : (x : ℕ) (parts : List (List ℕ)) → is_feed x ≡ false → All (λ line. All (λ b. is_feed b ≡ false) line) parts
+    → All (λ line. All (λ b. is_feed b ≡ false) line) (onto_first x parts)
 no_feed_first x [] e all = all_one (λ line. All (λ b. is_feed b ≡ false) line) (x ∷ []) (all_one (λ b. is_feed b ≡ false) x e)
 no_feed_first x (p ∷ ps) e all = All-cons (λ line. All (λ b. is_feed b ≡ false) line) (x ∷ p) ps (All-cons (λ b. is_feed b ≡ false) x p e (all 0 p (omega arith))) (λ k d lt. all (suc k) d (omega arith))
 
@@ -141,7 +146,8 @@ lines_free bytes k =
     let lines : All (λ line. All (λ b. is_feed b ≡ false) line) (whole_lines bytes) = All-append_front (whole_lines bytes) (unfinished bytes ∷ []) whole in
     All-append_front (take k (whole_lines bytes)) (drop k (whole_lines bytes)) (subst (All (λ line. All (λ b. is_feed b ≡ false) line)) (sym (take-append-drop k (whole_lines bytes))) lines)
   where
-    All-append_front : (xs ys : List (List ℕ)) → All (λ line. All (λ b. is_feed b ≡ false) line) (xs ++ ys) → All (λ line. All (λ b. is_feed b ≡ false) line) xs
+    All-append_front : (xs ys : List (List ℕ)) → All (λ line. All (λ b. is_feed b ≡ false) line) (xs ++ ys)
+        → All (λ line. All (λ b. is_feed b ≡ false) line) xs
     All-append_front [] ys all = All-nil (λ line. All (λ b. is_feed b ≡ false) line)
     All-append_front (x ∷ xs) ys all = All-cons (λ line. All (λ b. is_feed b ≡ false) line) x xs (all 0 x (omega arith)) (All-append_front xs ys (λ k d lt. all (suc k) d (omega arith)))
 
@@ -155,14 +161,16 @@ begins texts m (lines, is, path) =
     (lines_text rest.0, (r.0, r.1, report_text r.0 ∙ ap lines_text r.2 ∙ flat_map-append line_text lines rest.0 ∙ ap (λ t. t ++ lines_text rest.0) (sym (joined_text lines) ∙ ap lines_with_feeds is)))
 
 -- no report begins with these lines and the one at which reading is stuck
-stuck_there : (front : List (List ℕ)) (text : List ℕ) (m : Place) → IsTextPath first front m → ((n : Place) → ¬ (IsTextStep m text n)) → (more : List (List ℕ)) (bytes : List ℕ) → whole_lines bytes ≡ front ++ text ∷ more → ¬ (IsReport bytes)
+stuck_there : (front : List (List ℕ)) (text : List ℕ) (m : Place) → IsTextPath first front m → ((n : Place) → ¬ (IsTextStep m text n))
+    → (more : List (List ℕ)) (bytes : List ℕ) → whole_lines bytes ≡ front ++ text ∷ more → ¬ (IsReport bytes)
 stuck_there front text m path stuck more bytes is report =
     let other = path_front first behind front (text ∷ more) (subst (λ ts. IsTextPath first ts behind) is (report_text_path bytes report)) in
     let next = other.2 text more refl in
     let same : other.0 ≡ m = text_path_same first other.0 m front other.1 path in
     stuck next.0 (subst (λ q. IsTextStep q text next.0) same next.1)
 
-cut_lines : (texts : List (List ℕ)) (k : ℕ) (text : List ℕ) (later : List (List ℕ)) → drop k texts ≡ text ∷ later → take (suc k) texts ≡ take k texts ++ text ∷ []
+cut_lines : (texts : List (List ℕ)) (k : ℕ) (text : List ℕ) (later : List (List ℕ)) → drop k texts ≡ text ∷ later
+    → take (suc k) texts ≡ take k texts ++ text ∷ []
 cut_lines [] zero text later e = absurd (cc)
 cut_lines [] (suc k) text later e = absurd (cc)
 cut_lines (t ∷ ts) zero text later e = let same : t ≡ text = cc in ap (λ x. x ∷ []) same
@@ -193,7 +201,8 @@ stops_fault bytes k s = by_rest (drop k (whole_lines bytes)) refl s.stuck
         record {
           some = omega arith;
           upto = omega (arith, s.within);
-          before = subst (λ m. BeginsReport (take m (whole_lines bytes))) (sym (minus_one k)) (begins (take k (whole_lines bytes)) s.at s.path);
+          before =
+              subst (λ m. BeginsReport (take m (whole_lines bytes))) (sym (minus_one k)) (begins (take k (whole_lines bytes)) s.at s.path);
           here = λ le more.
               let there : whole_lines (lines_with_feeds (take (k + 1) (whole_lines bytes)) ++ more.0) ≡ take k (whole_lines bytes) ++ text ∷ ended (slice_split is_feed more.0) =
               ap ended (parts_of (take (k + 1) (whole_lines bytes)) more.0 (lines_free bytes (k + 1))) ∙ ended_more (take (k + 1) (whole_lines bytes)) (slice_split is_feed more.0) (parts_left more.0) ∙ ap (λ ts. ts ++ ended (slice_split is_feed more.0)) next ∙ append_assoc (take k (whole_lines bytes)) (text ∷ []) (ended (slice_split is_feed more.0)) in
@@ -224,7 +233,8 @@ text_parts (x ∷ xs) =
     ] refl
 
 -- lines that are those of a report, with nothing behind them, are its text
-pub lines_report : (r : Report) (bytes : List ℕ) → whole_lines bytes ≡ map line_body (report_lines r) → unfinished bytes ≡ [] → text_of_report r ≡ bytes
+pub lines_report : (r : Report) (bytes : List ℕ) → whole_lines bytes ≡ map line_body (report_lines r) → unfinished bytes ≡ []
+    → text_of_report r ≡ bytes
 lines_report r bytes lines none =
     report_text r ∙ sym (joined_text (report_lines r)) ∙ ap lines_with_feeds (sym lines) ∙ sym (append-nil (lines_with_feeds (whole_lines bytes))) ∙ ap (λ t. lines_with_feeds (whole_lines bytes) ++ t) (sym none) ∙ text_parts bytes
 
@@ -239,7 +249,8 @@ report_ends bytes (r, formed, is) =
     last_part (x ∷ y ∷ xs) = last_part (y ∷ xs)
 
 -- behind the lines of a report stands a line without a line feed
-pub leftover_fault : (bytes : List ℕ) → IsTextPath first (whole_lines bytes) behind → 0 < length (unfinished bytes) → IsFirstFault bytes (length (whole_lines bytes) + 1)
+pub leftover_fault : (bytes : List ℕ) → IsTextPath first (whole_lines bytes) behind → 0 < length (unfinished bytes)
+    → IsFirstFault bytes (length (whole_lines bytes) + 1)
 leftover_fault bytes path left =
     let all : take (length (whole_lines bytes) + 1 - 1) (whole_lines bytes) ≡ whole_lines bytes = ap (λ n. take n (whole_lines bytes)) (same (length (whole_lines bytes))) ∙ take-length (whole_lines bytes) in
     record {
@@ -255,13 +266,16 @@ leftover_fault bytes path left =
 
 -- ---- reading in parts
 
-pub text_path_then : (from middle to : Place) (xs ys : List (List ℕ)) → IsTextPath from xs middle → IsTextPath middle ys to → IsTextPath from (xs ++ ys) to
-text_path_then from middle to xs ys (ls, is, path) (ms, also, later) = (ls ++ ms, map-append line_body ls ms ∙ (λ i. is i ++ also i), path_then from ls ms middle to path later)
+pub text_path_then : (from middle to : Place) (xs ys : List (List ℕ)) → IsTextPath from xs middle → IsTextPath middle ys to
+    → IsTextPath from (xs ++ ys) to
+text_path_then from middle to xs ys (ls, is, path) (ms, also, later) =
+    (ls ++ ms, map-append line_body ls ms ∙ (λ i. is i ++ also i), path_then from ls ms middle to path later)
 
 pub stops_here : (from : Place) (texts : List (List ℕ)) → IsStuck from texts → StopsAfter from texts 0
 stops_here from texts stuck = record { within = omega arith; at = from; path = ([], refl, refl); stuck = stuck }
 
-pub stops_then : (from middle : Place) (front rest : List (List ℕ)) (k : ℕ) → IsTextPath from front middle → StopsAfter middle rest k → StopsAfter from (front ++ rest) (length front + k)
+pub stops_then : (from middle : Place) (front rest : List (List ℕ)) (k : ℕ) → IsTextPath from front middle → StopsAfter middle rest k
+    → StopsAfter from (front ++ rest) (length front + k)
 stops_then from middle front rest k path s = record {
   within = omega (arith, s.within, length-append front rest);
   at = s.at;

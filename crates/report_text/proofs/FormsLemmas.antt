@@ -29,9 +29,11 @@ use Rattle.transcript_model.specs.declared.outcome.Outcome.TheVariants as outcom
 use Rattle.transcript_model.specs.declared.report.Report.{Report}
 use Rattle.report_text.proofs.LineTextLemmas.{is_ink, is_inked, is_clear, number_inked}
 
-pub each_passes : {A : Type 0} (p : A → Bool) (P : A → Type 0) (xs : List A) → ((x : A) → P x → p x ≡ true) → All P xs → list_all p xs ≡ true
+pub each_passes : {A : Type 0} (p : A → Bool) (P : A → Type 0) (xs : List A) → ((x : A) → P x → p x ≡ true) → All P xs
+    → list_all p xs ≡ true
 each_passes p P [] so all = refl
-each_passes p P (x ∷ xs) so all = and_from (p x) (list_all p xs) (so x (all 0 x (omega arith))) (each_passes p P xs so (λ k d lt. all (suc k) d (omega arith)))
+each_passes p P (x ∷ xs) so all =
+    and_from (p x) (list_all p xs) (so x (all 0 x (omega arith))) (each_passes p P xs so (λ k d lt. all (suc k) d (omega arith)))
 
 -- ---- names
 
@@ -80,12 +82,14 @@ term_inked name (inr p) =
     let numbers : is_inked (decimal p.j ++ 46 ∷ decimal p.i) ≡ true = rw (list_all-append is_ink (decimal p.j) (46 ∷ decimal p.i), number_of_32 p.j p.upto.0, number_of_32 p.i p.upto.1) refl in
     rw (p.is, numbers) refl
 
-call_inked : (IsArgument : List ℕ → Type 0) → ((name : List ℕ) → IsArgument name → is_inked name ≡ true) → (call : Call) → IsFormedCall IsArgument call → list_all is_inked (call_fields call) ≡ true
+call_inked : (IsArgument : List ℕ → Type 0) → ((name : List ℕ) → IsArgument name → is_inked name ≡ true) → (call : Call)
+    → IsFormedCall IsArgument call → list_all is_inked (call_fields call) ≡ true
 call_inked IsArgument inks call formed = and_from (is_inked call.name) (list_all is_inked call.args) (name_inked call.name formed.name) (each_passes is_inked IsArgument call.args inks formed.args)
 
 -- ---- entries
 
-bars_inked : (width bars : ℕ) (values : List (List ℕ)) → list_all is_inked values ≡ true → list_all is_inked (tuples_of width bars values) ≡ true
+bars_inked : (width bars : ℕ) (values : List (List ℕ)) → list_all is_inked values ≡ true
+    → list_all is_inked (tuples_of width bars values) ≡ true
 bars_inked width zero values e = e
 bars_inked width (suc bars) values e =
     let parts : (list_all is_inked (take width values) && list_all is_inked (drop width values)) ≡ true = sym (list_all-append is_inked (take width values) (drop width values)) ∙ ap (list_all is_inked) (take-append-drop width values) ∙ e in
@@ -100,12 +104,14 @@ step_clear call formed = call_inked IsTerm term_inked call formed
 pub do_clear : (call : Call) → IsFormedCall IsTerm call → is_clear (do_line call) ≡ true
 do_clear call formed = call_inked IsTerm term_inked call formed
 
-mapped_clear : {A : Type 0} (P : A → Type 0) (f : A → Line) (xs : List A) → ((x : A) → P x → is_clear (f x) ≡ true) → All P xs → list_all is_clear (map f xs) ≡ true
+mapped_clear : {A : Type 0} (P : A → Type 0) (f : A → Line) (xs : List A) → ((x : A) → P x → is_clear (f x) ≡ true) → All P xs
+    → list_all is_clear (map f xs) ≡ true
 mapped_clear P f xs so all = list_all-map is_clear f xs ∙ each_passes (λ x. is_clear (f x)) P xs so all
 
 pub entry_clear : (version : ℕ) (e : Entry) → IsFormedEntry version e → list_all is_clear (entry_lines e) ≡ true
 entry_clear version entry.Level formed = refl
-entry_clear version (entry.Ask number turn call) formed = rw (number_of_32 number formed.0, number_of_32 turn formed.1, call_inked IsObject object_inked call formed.2) refl
+entry_clear version (entry.Ask number turn call) formed =
+    rw (number_of_32 number formed.0, number_of_32 turn formed.1, call_inked IsObject object_inked call formed.2) refl
 entry_clear version (entry.Got number tuples values) formed =
     let inked = each_passes is_inked (λ value. is_value value ≡ true) values value_inked formed.1.each in
     rw (number_of_32 number formed.0, bars_inked (length values / tuples) (tuples - 1) values inked) refl
@@ -118,7 +124,8 @@ entry_clear version entry.Reset formed = refl
 entry_clear version (entry.Pick number) formed = rw (number_of_32 number formed) refl
 entry_clear version (entry.Retire number) formed = rw (number_of_32 number formed) refl
 
-entries_clear : (version : ℕ) (entries : List Entry) → All (IsFormedEntry version) entries → list_all is_clear (flat_map entry_lines entries) ≡ true
+entries_clear : (version : ℕ) (entries : List Entry) → All (IsFormedEntry version) entries
+    → list_all is_clear (flat_map entry_lines entries) ≡ true
 entries_clear version [] all = refl
 entries_clear version (e ∷ es) all =
     rw (list_all-append is_clear (entry_lines e) (flat_map entry_lines es), entry_clear version e (all 0 e (omega arith)), entries_clear version es (λ k d lt. all (suc k) d (omega arith))) refl
@@ -150,7 +157,8 @@ mode_clear Binding = refl
 mode_clear Adaptive = refl
 
 pub pool_clear : (pool : PoolLine) → IsFormedPool pool → is_clear (pool_line pool) ≡ true
-pool_clear pool formed = rw (number_of_8 pool.workers formed.workers, each_passes is_inked IsName pool.streams name_inked formed.streams) refl
+pool_clear pool formed =
+    rw (number_of_8 pool.workers formed.workers, each_passes is_inked IsName pool.streams name_inked formed.streams) refl
 
 head_clear : (r : Report) → IsFormed r → list_all is_clear (head_lines r.version r.mode r.calls r.states r.depth r.pools) ≡ true
 head_clear r formed =
@@ -167,7 +175,8 @@ report_lines r = head_of r ++ (flat_map entry_lines r.entries ++ (outcome_lines 
 
 entries_text : (entries : List Entry) → flat_map text_of_entry entries ≡ lines_text (flat_map entry_lines entries)
 entries_text [] = refl
-entries_text (e ∷ es) = ap (λ later. text_of_entry e ++ later) (entries_text es) ∙ sym (flat_map-append line_text (entry_lines e) (flat_map entry_lines es))
+entries_text (e ∷ es) =
+    ap (λ later. text_of_entry e ++ later) (entries_text es) ∙ sym (flat_map-append line_text (entry_lines e) (flat_map entry_lines es))
 
 pub report_text : (r : Report) → text_of_report r ≡ lines_text (report_lines r)
 report_text r =

@@ -23,9 +23,11 @@ with_name-all P names name all one = by (list_any (same_numbers name) names)
     by true = all
     by false = All-push P names name all one
 
-with_names-all : (P : List ℕ → Type 0) (names more : List (List ℕ)) → All P names → ((k : ℕ) (name : List ℕ) → slice_get more k ≡ Some name → P name) → All P (with_names names more)
+with_names-all : (P : List ℕ → Type 0) (names more : List (List ℕ)) → All P names
+    → ((k : ℕ) (name : List ℕ) → slice_get more k ≡ Some name → P name) → All P (with_names names more)
 with_names-all P names [] all each = all
-with_names-all P names (name ∷ more) all each = with_names-all P (with_name names name) more (with_name-all P names name all (each 0 name refl)) (λ k n at. each (suc k) n at)
+with_names-all P names (name ∷ more) all each =
+    with_names-all P (with_name names name) more (with_name-all P names name all (each 0 name refl)) (λ k n at. each (suc k) n at)
 
 module _ (version : ℕ) (task : Task) (fit : IsFit task) (entries : List Entry) (legal : IsLegal version task entries) where
   values_named : (k : ℕ) (e : Entry) → slice_get entries k ≡ Some e → All IsObject (objects_in e)

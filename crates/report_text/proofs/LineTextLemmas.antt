@@ -41,7 +41,8 @@ no_feed b e = grind (arith, nat_tests, e)
 inked_free : (text : List ℕ) → is_inked text ≡ true → All (λ b. is_space b ≡ false) text
 inked_free text e k d lt = no_space _ (AllPass-from_list_all is_ink text e k d lt)
 
-pub spaces_cut : (first : List ℕ) (more : List (List ℕ)) → is_inked first ≡ true → list_all is_inked more ≡ true → slice_split is_space (first ++ fields_text more) ≡ first ∷ more
+pub spaces_cut : (first : List ℕ) (more : List (List ℕ)) → is_inked first ≡ true → list_all is_inked more ≡ true
+    → slice_split is_space (first ++ fields_text more) ≡ first ∷ more
 spaces_cut first [] e f = ap (slice_split is_space) (append-nil first) ∙ slice_split_none is_space first (inked_free first e)
 spaces_cut first (next ∷ more) e f =
     slice_split_at is_space first 32 (next ++ fields_text more) (inked_free first e) refl ∙ ap (λ fields. first ∷ fields) (spaces_cut next more (first_so (is_inked next) (list_all is_inked more) f) (second_so (is_inked next) (list_all is_inked more) f))
@@ -82,7 +83,8 @@ feeds_cut (l ∷ lines) e =
 
 -- ---- both
 
-read_body : (lines : List Line) → list_all is_clear lines ≡ true → map (slice_split is_space) (map body lines ++ [] ∷ []) ≡ map (λ (l : Line). l.first ∷ l.more) lines ++ ([] ∷ []) ∷ []
+read_body : (lines : List Line) → list_all is_clear lines ≡ true
+    → map (slice_split is_space) (map body lines ++ [] ∷ []) ≡ map (λ (l : Line). l.first ∷ l.more) lines ++ ([] ∷ []) ∷ []
 read_body [] e = refl
 read_body (l ∷ lines) e =
     let clear = first_so (is_clear l) (list_all is_clear lines) e in
@@ -111,7 +113,9 @@ lines_back (l ∷ m ∷ lines) = ap (λ ls. l ∷ ls) (lines_back (m ∷ lines))
 
 pub lines_read : (lines : List Line) → list_all is_clear lines ≡ true → read_lines (lines_text lines) ≡ lines
 unfolding read_lines
-lines_read lines e = ap (λ parts. map line_from (front_of (map (slice_split is_space) parts))) (feeds_cut lines e) ∙ ap (λ fields. map line_from (front_of fields)) (read_body lines e) ∙ lines_back lines
+lines_read lines e =
+    ap (λ parts. map line_from (front_of (map (slice_split is_space) parts))) (feeds_cut lines e)
+    ∙ ap (λ fields. map line_from (front_of fields)) (read_body lines e) ∙ lines_back lines
 
 -- ---- numbers
 

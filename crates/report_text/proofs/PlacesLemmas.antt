@@ -118,8 +118,10 @@ step_same (plan version zero) l m n a b = absurd a
 step_same (plan version (suc steps)) l m n a b = a.3 ∙ sym b.3
 step_same (cost version) l m n a b = a.3 ∙ sym b.3
 step_same (origins version) l m n (inl a) (inl b) = a.3 ∙ sym b.3
-step_same (origins version) l m n (inl a) (inr b) = let same : true ≡ false = ap (λ (x : Line). bytes_eq x.first (codes "from")) (sym a.2 ∙ b.0) in absurd (cc)
-step_same (origins version) l m n (inr a) (inl b) = let same : true ≡ false = ap (λ (x : Line). bytes_eq x.first (codes "from")) (sym b.2 ∙ a.0) in absurd (cc)
+step_same (origins version) l m n (inl a) (inr b) =
+    let same : true ≡ false = ap (λ (x : Line). bytes_eq x.first (codes "from")) (sym a.2 ∙ b.0) in absurd (cc)
+step_same (origins version) l m n (inr a) (inl b) =
+    let same : true ≡ false = ap (λ (x : Line). bytes_eq x.first (codes "from")) (sym b.2 ∙ a.0) in absurd (cc)
 step_same (origins version) l m n (inr a) (inr b) = a.1 ∙ sym b.1
 step_same last l m n a b = a.1 ∙ sym b.1
 step_same behind l m n a b = absurd a
@@ -203,7 +205,8 @@ from_limits : (version : ℕ) → Completes (limits version)
 from_limits version = let rest = from_pools version in (limits_line 1 1 1 ∷ rest.0, (pools version, (1, 1, 1, omega arith, omega arith, omega arith, refl, refl), rest.1))
 
 pub completes : (p : Place) → IsLive p → (ls : List Line) × IsPath p ls behind
-completes first live = let rest = from_limits 1 in (first_line 1 Incremental ∷ rest.0, (limits 1, (1, Incremental, inl refl, refl, refl), rest.1))
+completes first live =
+    let rest = from_limits 1 in (first_line 1 Incremental ∷ rest.0, (limits 1, (1, Incremental, inl refl, refl, refl), rest.1))
 completes (limits version) live = from_limits version
 completes (pools version) live = from_pools version
 completes (entries version) live = from_entries version
@@ -228,6 +231,8 @@ path_same p [] m n a b = sym a ∙ b
 path_same p (l ∷ ls) m n a b = path_same a.0 ls m n a.2 (subst (λ q. IsPath q ls n) (step_same p l b.0 a.0 b.1 a.1) b.2)
 
 -- where a path goes on behind its front, the next line may stand there
-pub path_goes_on : (p : Place) (front rest : List Line) (l : Line) (m to : Place) → IsPath p (front ++ l ∷ rest) to → IsPath p front m → (n : Place) × IsLineStep m l n
+pub path_goes_on : (p : Place) (front rest : List Line) (l : Line) (m to : Place) → IsPath p (front ++ l ∷ rest) to → IsPath p front m
+    → (n : Place) × IsLineStep m l n
 path_goes_on p [] rest l m to whole here = (whole.0, subst (λ q. IsLineStep q l whole.0) here whole.1)
-path_goes_on p (k ∷ front) rest l m to whole here = path_goes_on whole.0 front rest l m to whole.2 (subst (λ q. IsPath q front m) (step_same p k here.0 whole.0 here.1 whole.1) here.2)
+path_goes_on p (k ∷ front) rest l m to whole here =
+    path_goes_on whole.0 front rest l m to whole.2 (subst (λ q. IsPath q front m) (step_same p k here.0 whole.0 here.1 whole.1) here.2)

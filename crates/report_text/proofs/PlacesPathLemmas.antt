@@ -19,21 +19,25 @@ use Rattle.report_text.proofs.FormsLemmas.{report_lines}
 
 -- ---- paths in two parts
 
-pub path_then : (from : Place) (xs ys : List Line) (middle to : Place) → IsPath from xs middle → IsPath middle ys to → IsPath from (xs ++ ys) to
+pub path_then : (from : Place) (xs ys : List Line) (middle to : Place) → IsPath from xs middle → IsPath middle ys to
+    → IsPath from (xs ++ ys) to
 path_then from [] ys middle to here later = subst (λ p. IsPath p ys to) (sym here) later
 path_then from (l ∷ xs) ys middle to here later = (here.0, here.1, path_then here.0 xs ys middle to here.2 later)
 
 -- ---- the lines of a report are a path
 
-steps_path : (version : ℕ) (steps : List Call) → All (IsFormedCall IsTerm) steps → IsPath (dreaming version 0 (length steps)) (map step_line steps) (entries version)
+steps_path : (version : ℕ) (steps : List Call) → All (IsFormedCall IsTerm) steps
+    → IsPath (dreaming version 0 (length steps)) (map step_line steps) (entries version)
 steps_path version [] all = refl
 steps_path version (c ∷ cs) all = (dreaming version 0 (length cs), (c, All-head (IsFormedCall IsTerm) c cs all, refl, refl), steps_path version cs (All-tail (IsFormedCall IsTerm) c cs all))
 
-uses_path : (version : ℕ) (uses : List DreamUse) (steps : ℕ) → All IsFormedUse uses → IsPath (dreaming version (length uses) steps) (map use_line uses) (dreaming version 0 steps)
+uses_path : (version : ℕ) (uses : List DreamUse) (steps : ℕ) → All IsFormedUse uses
+    → IsPath (dreaming version (length uses) steps) (map use_line uses) (dreaming version 0 steps)
 uses_path version [] steps all = refl
 uses_path version (u ∷ us) steps all = (dreaming version (length us) steps, (u, All-head IsFormedUse u us all, refl, refl), uses_path version us steps (All-tail IsFormedUse u us all))
 
-pub single_path : (version : ℕ) (e : Entry) (l : Line) → IsFormedEntry version e → is_dream e ≡ false → entry_lines e ≡ l ∷ [] → IsPath (entries version) (entry_lines e) (entries version)
+pub single_path : (version : ℕ) (e : Entry) (l : Line) → IsFormedEntry version e → is_dream e ≡ false → entry_lines e ≡ l ∷ []
+    → IsPath (entries version) (entry_lines e) (entries version)
 single_path version e l formed single is = subst (λ ls. IsPath (entries version) ls (entries version)) (sym is) (entries version, inl (record { entry = e; formed = formed; single = single; is = is }, refl), refl)
 
 pub entry_path : (version : ℕ) (e : Entry) → IsFormedEntry version e → IsPath (entries version) (entry_lines e) (entries version)
@@ -49,19 +53,23 @@ entry_path version entry.Reset formed = single_path version entry.Reset _ formed
 entry_path version (entry.Pick n) formed = single_path version (entry.Pick n) _ formed refl refl
 entry_path version (entry.Retire n) formed = single_path version (entry.Retire n) _ formed refl refl
 
-pub entries_path : (version : ℕ) (es : List Entry) → All (IsFormedEntry version) es → IsPath (entries version) (flat_map entry_lines es) (entries version)
+pub entries_path : (version : ℕ) (es : List Entry) → All (IsFormedEntry version) es
+    → IsPath (entries version) (flat_map entry_lines es) (entries version)
 entries_path version [] all = refl
 entries_path version (e ∷ es) all = path_then (entries version) (entry_lines e) (flat_map entry_lines es) (entries version) (entries version) (entry_path version e (All-head (IsFormedEntry version) e es all)) (entries_path version es (All-tail (IsFormedEntry version) e es all))
 
-dos_path : (version : ℕ) (steps : List Call) → All (IsFormedCall IsTerm) steps → IsPath (planning version (length steps)) (map do_line steps) (cost version)
+dos_path : (version : ℕ) (steps : List Call) → All (IsFormedCall IsTerm) steps
+    → IsPath (planning version (length steps)) (map do_line steps) (cost version)
 dos_path version [] all = refl
 dos_path version (c ∷ cs) all = (planning version (length cs), (c, All-head (IsFormedCall IsTerm) c cs all, refl, refl), dos_path version cs (All-tail (IsFormedCall IsTerm) c cs all))
 
-origins_path : (version : ℕ) (from : List Origin) → All (IsFormedOrigin version) from → IsPath (origins version) (map (from_line version) from ++ done_line ∷ []) behind
+origins_path : (version : ℕ) (from : List Origin) → All (IsFormedOrigin version) from
+    → IsPath (origins version) (map (from_line version) from ++ done_line ∷ []) behind
 origins_path version [] all = (behind, inr (refl, refl), refl)
 origins_path version (o ∷ os) all = (origins version, inl (o, All-head (IsFormedOrigin version) o os all, refl, refl), origins_path version os (All-tail (IsFormedOrigin version) o os all))
 
-outcome_path : (version : ℕ) (o : Outcome) → IsFormedOutcome version o → IsPath (entries version) (outcome_lines version o ++ done_line ∷ []) behind
+outcome_path : (version : ℕ) (o : Outcome) → IsFormedOutcome version o
+    → IsPath (entries version) (outcome_lines version o ++ done_line ∷ []) behind
 outcome_path version (outcome.Plan steps c from) formed =
     let dos = map do_line steps in
     let later = cost_line c ∷ map (from_line version) from in
@@ -83,9 +91,11 @@ body_from_pools version [] path = absurd (apart path)
     apart e = let same : true ≡ false = ap is_entries e in absurd (cc)
 body_from_pools version (l ∷ ls) path = (path.0, inr path.1, path.2)
 
-pools_path : (version : ℕ) (ps : List PoolLine) (ls : List Line) → All IsFormedPool ps → IsPath (entries version) ls behind → IsPath (pools version) (map pool_line ps ++ ls) behind
+pools_path : (version : ℕ) (ps : List PoolLine) (ls : List Line) → All IsFormedPool ps → IsPath (entries version) ls behind
+    → IsPath (pools version) (map pool_line ps ++ ls) behind
 pools_path version [] ls all path = body_from_pools version ls path
-pools_path version (p ∷ ps) ls all path = (pools version, inl (p, All-head IsFormedPool p ps all, refl, refl), pools_path version ps ls (All-tail IsFormedPool p ps all) path)
+pools_path version (p ∷ ps) ls all path =
+    (pools version, inl (p, All-head IsFormedPool p ps all, refl, refl), pools_path version ps ls (All-tail IsFormedPool p ps all) path)
 
 pub report_path : (r : Report) → IsFormed r → IsPath first (report_lines r) behind
 report_path r formed =
@@ -98,7 +108,8 @@ report_path r formed =
 -- what the lines from a place on are
 abbrev Sound : Place → List Line → Type 0
 Sound first ls = (r : Report) × IsFormed r × (report_lines r ≡ ls)
-Sound (limits version) ls = (version ≡ 1) ⊎ (version ≡ 2) → (mode : Mode) → (r : Report) × IsFormed r × (report_lines r ≡ first_line version mode ∷ ls)
+Sound (limits version) ls =
+    (version ≡ 1) ⊎ (version ≡ 2) → (mode : Mode) → (r : Report) × IsFormed r × (report_lines r ≡ first_line version mode ∷ ls)
 Sound (pools version) ls =
     (ps : List PoolLine) × (es : List Entry) × (o : Outcome) × All IsFormedPool ps × All (IsFormedEntry version) es × IsFormedOutcome version o × (map pool_line ps ++ (flat_map entry_lines es ++ (outcome_lines version o ++ done_line ∷ [])) ≡ ls)
 Sound (entries version) ls =
@@ -107,8 +118,11 @@ Sound (dream version uses steps) ls =
     (us : List DreamUse) × (ss : List Call) × (es : List Entry) × (o : Outcome) × (length us ≡ uses) × (length ss ≡ steps) × All IsFormedUse us × All (IsFormedCall IsTerm) ss × All (IsFormedEntry version) es × IsFormedOutcome version o × ((map use_line us ++ map step_line ss) ++ (flat_map entry_lines es ++ (outcome_lines version o ++ done_line ∷ [])) ≡ ls)
 Sound (plan version steps) ls =
     (ss : List Call) × (c : ℕ) × (from : List Origin) × (length ss ≡ steps) × All (IsFormedCall IsTerm) ss × (c < 2 ^ 64) × All (IsFormedOrigin version) from × ((map do_line ss ++ cost_line c ∷ map (from_line version) from) ++ done_line ∷ [] ≡ ls)
-Sound (cost version) ls = (c : ℕ) × (from : List Origin) × (c < 2 ^ 64) × All (IsFormedOrigin version) from × (cost_line c ∷ (map (from_line version) from ++ done_line ∷ []) ≡ ls)
-Sound (origins version) ls = (from : List Origin) × All (IsFormedOrigin version) from × (map (from_line version) from ++ done_line ∷ [] ≡ ls)
+Sound (cost version) ls =
+    (c : ℕ) × (from : List Origin) × (c < 2 ^ 64) × All (IsFormedOrigin version) from
+    × (cost_line c ∷ (map (from_line version) from ++ done_line ∷ []) ≡ ls)
+Sound (origins version) ls =
+    (from : List Origin) × All (IsFormedOrigin version) from × (map (from_line version) from ++ done_line ∷ [] ≡ ls)
 Sound last ls = done_line ∷ [] ≡ ls
 Sound behind ls = [] ≡ ls
 
@@ -121,7 +135,8 @@ sound_planning : (version steps : ℕ) (ls : List Line) → Sound (planning vers
 sound_planning version zero ls s = ([], s.0, s.1, refl, All-nil (IsFormedCall IsTerm), s.2, s.3, s.4)
 sound_planning version (suc steps) ls s = s
 
-sound_body : (version : ℕ) (l : Line) (ls : List Line) (next : Place) → IsBodyStep version l next → Sound next ls → Sound (entries version) (l ∷ ls)
+sound_body : (version : ℕ) (l : Line) (ls : List Line) (next : Place) → IsBodyStep version l next → Sound next ls
+    → Sound (entries version) (l ∷ ls)
 sound_body version l ls next (inl single) s =
     let here : IsEntryLine version l = single.0 in
     let later : Sound (entries version) ls = subst (λ p. Sound p ls) single.1 s in

@@ -13,7 +13,8 @@ use Rattle.task_model.specs.declared.task.Task.{Task}
 use Rattle.report_text.specs.Texts.{Line, line, line_text, lines_text, fields_text, tuples_of}
 use Rattle.gen_lines.specs.Request.{stream_name}
 
-pub shown_next : {X C B A : Type 0} (f : B → List A) (g : C → B) (h : X → C) (xs : List X) (i : ℕ) (x : X) → i < length xs → x ≡ get_or xs i x → flat_map f (map g (map h (take (i + 1) xs))) ≡ flat_map f (map g (map h (take i xs))) ++ f (g (h x))
+pub shown_next : {X C B A : Type 0} (f : B → List A) (g : C → B) (h : X → C) (xs : List X) (i : ℕ) (x : X) → i < length xs
+    → x ≡ get_or xs i x → flat_map f (map g (map h (take (i + 1) xs))) ≡ flat_map f (map g (map h (take i xs))) ++ f (g (h x))
 shown_next f g h xs i x lt is =
     let one : take (i + 1) xs ≡ take i xs ++ x ∷ [] = rw add-one (take-suc xs i x lt ∙ ap (λ y. take i xs ++ y ∷ []) (sym is)) in
     rw (one, map-append, map-append, flat_map-append) (ap (λ t. flat_map f (map g (map h (take i xs))) ++ t) (append-nil (f (g (h x)))))
@@ -25,7 +26,8 @@ pub assoc : (first second third : List ℕ) → first ++ second ++ third ≡ fir
 assoc first second third = append_assoc first second third
 
 -- the name of a stream that was looked up
-pub stream_named : (task : Task) (streams : List Stream) (place : ℕ) (stream : Stream) → streams ≡ task.streams → place < length task.streams → stream ≡ get_or streams place stream → stream.name ≡ stream_name task place
+pub stream_named : (task : Task) (streams : List Stream) (place : ℕ) (stream : Stream) → streams ≡ task.streams
+    → place < length task.streams → stream ≡ get_or streams place stream → stream.name ≡ stream_name task place
 stream_named task streams place stream same lt is =
     let found : slice_get task.streams place ≡ Some stream = slice_get_read task.streams (length task.streams) place stream refl lt (is ∙ ap (λ s. get_or s place stream) same) in
     rw found refl
@@ -34,9 +36,11 @@ suc_times : (n m : ℕ) → suc n * m ≡ m + n * m
 suc_times n m = suc-mul n m ∙ add_comm (n * m) m
 
 -- the next tuple, a bar, and the tuples behind it
-pub tuples_step : (width bars : ℕ) (rest : List (List ℕ)) → 0 < bars → fields_text (tuples_of width bars rest) ≡ fields_text (take width rest) ++ ((32 ∷ codes "|") ++ fields_text (tuples_of width (bars - 1) (drop width rest)))
+pub tuples_step : (width bars : ℕ) (rest : List (List ℕ)) → 0 < bars
+    → fields_text (tuples_of width bars rest) ≡ fields_text (take width rest) ++ ((32 ∷ codes "|") ++ fields_text (tuples_of width (bars - 1) (drop width rest)))
 tuples_step width zero rest lt = absurd (omega arith)
-tuples_step width (suc bars) rest lt = rw (suc_minus_one bars) (flat_map-append (λ field. 32 ∷ field) (take width rest) (codes "|" ∷ tuples_of width bars (drop width rest)))
+tuples_step width (suc bars) rest lt =
+    rw (suc_minus_one bars) (flat_map-append (λ field. 32 ∷ field) (take width rest) (codes "|" ∷ tuples_of width bars (drop width rest)))
 
 -- so many tuples of equal length are in the list
 pub enough_first : (n tuples : ℕ) → 0 < tuples → n / tuples + (tuples - 1) * (n / tuples) ≤ n
@@ -47,10 +51,12 @@ enough_first n (suc bars) lt = rw (suc_minus_one bars) (enough (n / suc bars * s
     enough p q rest turned all = omega arith
 
 -- the first line of a head, field after field
-pub first_written : (text number mode : List ℕ) → (((text ++ codes "pddlstream") ++ 32 ∷ number) ++ 32 ∷ mode) ++ 10 ∷ [] ≡ text ++ line_text (line (codes "pddlstream") (number ∷ mode ∷ []))
+pub first_written : (text number mode : List ℕ)
+    → (((text ++ codes "pddlstream") ++ 32 ∷ number) ++ 32 ∷ mode) ++ 10 ∷ [] ≡ text ++ line_text (line (codes "pddlstream") (number ∷ mode ∷ []))
 first_written text number mode = behind (codes "pddlstream")
   where
-    behind : (word : List ℕ) → (((text ++ word) ++ 32 ∷ number) ++ 32 ∷ mode) ++ 10 ∷ [] ≡ text ++ line_text (line word (number ∷ mode ∷ []))
+    behind : (word : List ℕ)
+        → (((text ++ word) ++ 32 ∷ number) ++ 32 ∷ mode) ++ 10 ∷ [] ≡ text ++ line_text (line word (number ∷ mode ∷ []))
     behind word =
         ap (λ t. (t ++ 32 ∷ mode) ++ 10 ∷ []) (append_assoc text word (32 ∷ number))
         ∙ ap (λ t. t ++ 10 ∷ []) (append_assoc text (word ++ 32 ∷ number) (32 ∷ mode))

@@ -93,7 +93,8 @@ none_counted (x ∷ xs) e =
     single true e = absurd (cc)
     single false e = refl
 
-bars_counted : (width bars : ℕ) (values : List (List ℕ)) → list_all is_no_bar values ≡ true → (filter is_no_bar (tuples_of width bars values) ≡ values) × (count_by is_bar (tuples_of width bars values) ≡ bars)
+bars_counted : (width bars : ℕ) (values : List (List ℕ)) → list_all is_no_bar values ≡ true
+    → (filter is_no_bar (tuples_of width bars values) ≡ values) × (count_by is_bar (tuples_of width bars values) ≡ bars)
 bars_counted width zero values e = (kept is_no_bar values e, none_counted values e)
 bars_counted width (suc bars) values e =
     let parts : (list_all is_no_bar (take width values) && list_all is_no_bar (drop width values)) ≡ true = sym (list_all-append is_no_bar (take width values) (drop width values)) ∙ ap (list_all is_no_bar) (take-append-drop width values) ∙ e in
@@ -104,7 +105,10 @@ bars_counted width (suc bars) values e =
       counted later (sum_by-append (λ y. cond (is_bar y) 1 0) (take width values) (codes "|" ∷ later)) (sum_by-append (λ y. cond (is_bar y) 1 0) (codes "|" ∷ []) later) (none_counted (take width values) front) rest.1,
     )
   where
-    counted : (later : List (List ℕ)) → count_by is_bar (take width values ++ codes "|" ∷ later) ≡ count_by is_bar (take width values) + count_by is_bar (codes "|" ∷ later) → count_by is_bar (codes "|" ∷ later) ≡ 1 + count_by is_bar later → count_by is_bar (take width values) ≡ 0 → count_by is_bar later ≡ bars → count_by is_bar (take width values ++ codes "|" ∷ later) ≡ suc bars
+    counted : (later : List (List ℕ))
+        → count_by is_bar (take width values ++ codes "|" ∷ later) ≡ count_by is_bar (take width values) + count_by is_bar (codes "|" ∷ later)
+        → count_by is_bar (codes "|" ∷ later) ≡ 1 + count_by is_bar later → count_by is_bar (take width values) ≡ 0
+        → count_by is_bar later ≡ bars → count_by is_bar (take width values ++ codes "|" ∷ later) ≡ suc bars
     counted later whole one front rest = omega (arith, whole, one, front, rest)
 
 -- ---- entries
@@ -116,7 +120,8 @@ abbrev call_on : Line → Call
 call_on l = call_in l.more
 
 abbrev dream_in : ℕ → ℕ → List Line → Option (Entry × List Line)
-dream_in uses steps rest = Some (entry.Dream (map use_in (take uses rest)) (map call_on (take steps (drop uses rest))), drop steps (drop uses rest))
+dream_in uses steps rest =
+    Some (entry.Dream (map use_in (take uses rest)) (map call_on (take steps (drop uses rest))), drop steps (drop uses rest))
 
 abbrev ask_in : List (List ℕ) → Entry
 ask_in fields = entry.Ask (first_number fields) (first_number (after_first fields)) (call_in (after_first (after_first fields)))
@@ -162,7 +167,8 @@ front_taken n xs ys e = ap (λ m. take m (xs ++ ys)) e ∙ take-append_seam xs y
 front_dropped : {A : Type 0} (n : ℕ) (xs ys : List A) → n ≡ length xs → drop n (xs ++ ys) ≡ ys
 front_dropped n xs ys e = ap (λ m. drop m (xs ++ ys)) e ∙ drop-append_seam xs ys
 
-dream_back : (uses : List DreamUse) (steps : List Call) (rest : List Line) → All IsFormedUse uses → dream_in (length uses) (length steps) ((map use_line uses ++ map step_line steps) ++ rest) ≡ Some (entry.Dream uses steps, rest)
+dream_back : (uses : List DreamUse) (steps : List Call) (rest : List Line) → All IsFormedUse uses
+    → dream_in (length uses) (length steps) ((map use_line uses ++ map step_line steps) ++ rest) ≡ Some (entry.Dream uses steps, rest)
 dream_back uses steps rest all =
     let us = map use_line uses in
     let ss = map step_line steps in
@@ -186,7 +192,8 @@ entry_back version (entry.Got number tuples values) rest formed =
     rw (back_32 number formed.0) (λ i. Some (entry.Got number (all_tuples i) (counted.0 i), rest))
 entry_back version (entry.Value number value) rest formed = rw (back_32 number formed.0, number_back value (omega (arith, formed.1))) refl
 entry_back version (entry.End number) rest formed = rw (back_32 number formed) refl
-entry_back version (entry.Dream uses steps) rest formed = rw (back_32 (length uses) formed.0, back_32 (length steps) formed.1) (dream_back uses steps rest formed.2)
+entry_back version (entry.Dream uses steps) rest formed =
+    rw (back_32 (length uses) formed.0, back_32 (length steps) formed.1) (dream_back uses steps rest formed.2)
 entry_back version entry.Nothing rest formed = refl
 entry_back version entry.Reset rest formed = refl
 entry_back version (entry.Pick number) rest formed = rw (back_32 number formed) refl
@@ -201,7 +208,9 @@ entries_in (suc most) lines = after (λ rest. entries_in most rest) (read_entry 
     after later None = ([], lines)
     after later (Some r) = (r.0 ∷ (later r.1).0, (later r.1).1)
 
-entries_back : (version : ℕ) (most : ℕ) (entries : List Entry) (tail : List Line) → length entries ≤ most → All (IsFormedEntry version) entries → read_entry tail ≡ None → entries_in most (flat_map entry_lines entries ++ tail) ≡ (entries, tail)
+entries_back : (version : ℕ) (most : ℕ) (entries : List Entry) (tail : List Line) → length entries ≤ most
+    → All (IsFormedEntry version) entries → read_entry tail ≡ None
+    → entries_in most (flat_map entry_lines entries ++ tail) ≡ (entries, tail)
 unfolding entries_in
 entries_back version zero [] tail le all none = refl
 entries_back version (suc most) [] tail le all none = rw none refl
@@ -253,17 +262,21 @@ outcome_in (l ∷ rest) = if is_word (codes "plan") l then plan_in (first_number
 
 origin_back : (version : ℕ) (o : Origin) → (version ≡ 1) ⊎ (version ≡ 2) → IsFormedOrigin version o → origin_in (from_line version o) ≡ o
 unfolding origin_in
-origin_back version o (inl one) formed = rw (one, back_32 o.number formed.number) (λ i. record { object = o.object; number = o.number; tuple = sym (formed.one one) i })
+origin_back version o (inl one) formed =
+    rw (one, back_32 o.number formed.number) (λ i. record { object = o.object; number = o.number; tuple = sym (formed.one one) i })
 origin_back version o (inr two) formed = rw (two, back_32 o.number formed.number, back_8 o.tuple formed.tuple) refl
 
-origins_back : (version : ℕ) (from : List Origin) → (version ≡ 1) ⊎ (version ≡ 2) → All (IsFormedOrigin version) from → map origin_in (map (from_line version) from) ≡ from
+origins_back : (version : ℕ) (from : List Origin) → (version ≡ 1) ⊎ (version ≡ 2) → All (IsFormedOrigin version) from
+    → map origin_in (map (from_line version) from) ≡ from
 origins_back version [] is all = refl
 origins_back version (o ∷ os) is all =
     let first = origin_back version o is (all 0 o (omega arith)) in
     let rest = origins_back version os is (λ k d lt. all (suc k) d (omega arith)) in
     λ i. first i ∷ rest i
 
-plan_back : (version : ℕ) (steps : List Call) (cost : ℕ) (from : List Origin) → (version ≡ 1) ⊎ (version ≡ 2) → cost < 2 ^ 64 → All (IsFormedOrigin version) from → plan_in (length steps) ((map do_line steps ++ line (codes "cost") (decimal cost ∷ []) ∷ map (from_line version) from) ++ done_line ∷ []) ≡ outcome.Plan steps cost from
+plan_back : (version : ℕ) (steps : List Call) (cost : ℕ) (from : List Origin) → (version ≡ 1) ⊎ (version ≡ 2) → cost < 2 ^ 64
+    → All (IsFormedOrigin version) from
+    → plan_in (length steps) ((map do_line steps ++ line (codes "cost") (decimal cost ∷ []) ∷ map (from_line version) from) ++ done_line ∷ []) ≡ outcome.Plan steps cost from
 unfolding plan_in cost_in
 plan_back version steps cost from is small all =
     let dos = map do_line steps in
@@ -281,9 +294,11 @@ limit_back Calls = refl
 limit_back States = refl
 limit_back Instances = refl
 
-outcome_back : (version : ℕ) (o : Outcome) → (version ≡ 1) ⊎ (version ≡ 2) → IsFormedOutcome version o → outcome_in (outcome_lines version o ++ done_line ∷ []) ≡ o
+outcome_back : (version : ℕ) (o : Outcome) → (version ≡ 1) ⊎ (version ≡ 2) → IsFormedOutcome version o
+    → outcome_in (outcome_lines version o ++ done_line ∷ []) ≡ o
 unfolding outcome_in
-outcome_back version (outcome.Plan steps cost from) is formed = rw (back_32 (length steps) formed.0) (plan_back version steps cost from is formed.1 formed.3)
+outcome_back version (outcome.Plan steps cost from) is formed =
+    rw (back_32 (length steps) formed.0) (plan_back version steps cost from is formed.1 formed.3)
 outcome_back version outcome.NoPlan is formed = refl
 outcome_back version (outcome.Limit kind) is formed = ap outcome.Limit (limit_back kind)
 
@@ -306,11 +321,13 @@ is_pool_first : List Line → Bool
 is_pool_first [] = false
 is_pool_first (l ∷ rest) = is_word (codes "pool") l
 
-pools_back : (pools : List PoolLine) (tail : List Line) → All IsFormedPool pools → is_pool_first tail ≡ false → pools_in (map pool_line pools ++ tail) ≡ (pools, tail)
+pools_back : (pools : List PoolLine) (tail : List Line) → All IsFormedPool pools → is_pool_first tail ≡ false
+    → pools_in (map pool_line pools ++ tail) ≡ (pools, tail)
 unfolding pools_in pool_in is_pool_first
 pools_back [] [] all none = refl
 pools_back [] (l ∷ tail) all none = rw none refl
-pools_back (p ∷ ps) tail all none = rw (pools_back ps tail (λ k d lt. all (suc k) d (omega arith)) none, back_8 p.workers (all 0 p (omega arith)).workers) refl
+pools_back (p ∷ ps) tail all none =
+    rw (pools_back ps tail (λ k d lt. all (suc k) d (omega arith)) none, back_8 p.workers (all 0 p (omega arith)).workers) refl
 
 mode_in : List (List ℕ) → Mode
 mode_in [] = Incremental
@@ -344,9 +361,12 @@ outcome_no_pool version (outcome.Plan steps cost from) = refl
 outcome_no_pool version outcome.NoPlan = refl
 outcome_no_pool version (outcome.Limit kind) = refl
 
-behind_no_pool : (version : ℕ) (entries : List Entry) (o : Outcome) → is_pool_first (flat_map entry_lines entries ++ (outcome_lines version o ++ done_line ∷ [])) ≡ false
+behind_no_pool : (version : ℕ) (entries : List Entry) (o : Outcome)
+    → is_pool_first (flat_map entry_lines entries ++ (outcome_lines version o ++ done_line ∷ [])) ≡ false
 behind_no_pool version [] o = outcome_no_pool version o
-behind_no_pool version (e ∷ es) o = ap is_pool_first (append_assoc (entry_lines e) (flat_map entry_lines es) (outcome_lines version o ++ done_line ∷ [])) ∙ entry_no_pool e (flat_map entry_lines es ++ (outcome_lines version o ++ done_line ∷ []))
+behind_no_pool version (e ∷ es) o =
+    ap is_pool_first (append_assoc (entry_lines e) (flat_map entry_lines es) (outcome_lines version o ++ done_line ∷ []))
+    ∙ entry_no_pool e (flat_map entry_lines es ++ (outcome_lines version o ++ done_line ∷ []))
 
 -- what is behind the first two lines of a report with at most so many entries
 behind_head : ℕ → List (List ℕ) → List (List ℕ) → List Line → Report

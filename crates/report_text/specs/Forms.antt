@@ -73,7 +73,8 @@ IsFormedEntry version (entry.Ask number turn call) = IsNumber number × IsNumber
 IsFormedEntry version (entry.Got number tuples values) = IsNumber number × AreTuples version tuples values
 IsFormedEntry version (entry.Value number value) = IsNumber number × (value ≤ 1000000)
 IsFormedEntry version (entry.End number) = IsNumber number
-IsFormedEntry version (entry.Dream uses steps) = IsNumber (length uses) × IsNumber (length steps) × All IsFormedUse uses × All (IsFormedCall IsTerm) steps
+IsFormedEntry version (entry.Dream uses steps) =
+    IsNumber (length uses) × IsNumber (length steps) × All IsFormedUse uses × All (IsFormedCall IsTerm) steps
 IsFormedEntry version (entry.Pick number) = IsNumber number
 IsFormedEntry version (entry.Retire number) = IsNumber number
 IsFormedEntry version e = Unit {0}
@@ -88,7 +89,8 @@ pub record IsFormedOrigin (version : ℕ) (origin : Origin) : Type 0 where
   pub one : version ≡ 1 → origin.tuple ≡ 1
 
 abbrev pub IsFormedOutcome : ℕ → Outcome → Type 0
-IsFormedOutcome version (outcome.Plan steps cost from) = IsNumber (length steps) × (cost < 2 ^ 64) × All (IsFormedCall IsTerm) steps × All (IsFormedOrigin version) from
+IsFormedOutcome version (outcome.Plan steps cost from) =
+    IsNumber (length steps) × (cost < 2 ^ 64) × All (IsFormedCall IsTerm) steps × All (IsFormedOrigin version) from
 IsFormedOutcome version outcome.NoPlan = Unit {0}
 IsFormedOutcome version (outcome.Limit kind) = Unit {0}
 

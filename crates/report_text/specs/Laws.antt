@@ -6,4 +6,6 @@ use Rattle.transcript_model.specs.declared.report.Report.{Report}
 
 -- The text of a report determines it: reports of the stated forms with equal texts are equal.
 abbrev pub TextsDetermineReports : Type 0
-TextsDetermineReports = (first second : Report) → IsFormed first → IsFormed second → text_of_report first ≡ text_of_report second → first ≡ second
+TextsDetermineReports =
+    (first second : Report) → IsFormed first → IsFormed second → text_of_report first ≡ text_of_report second
+    → first ≡ second

@@ -77,17 +77,27 @@ IsBodyStep version l next =
 
 -- the line may stand at the place, and the next place follows
 abbrev pub IsLineStep : Place → Line → Place → Type 0
-IsLineStep first l next = (version : ℕ) × (mode : Mode) × ((version ≡ 1) ⊎ (version ≡ 2)) × (l ≡ first_line version mode) × (next ≡ limits version)
-IsLineStep (limits version) l next = (calls : ℕ) × (states : ℕ) × (depth : ℕ) × IsNumber calls × IsNumber states × IsSmall depth × (l ≡ limits_line calls states depth) × (next ≡ pools version)
-IsLineStep (pools version) l next = ((pool : PoolLine) × IsFormedPool pool × (l ≡ pool_line pool) × (next ≡ pools version)) ⊎ IsBodyStep version l next
+IsLineStep first l next =
+    (version : ℕ) × (mode : Mode) × ((version ≡ 1) ⊎ (version ≡ 2)) × (l ≡ first_line version mode)
+    × (next ≡ limits version)
+IsLineStep (limits version) l next =
+    (calls : ℕ) × (states : ℕ) × (depth : ℕ) × IsNumber calls × IsNumber states × IsSmall depth
+    × (l ≡ limits_line calls states depth) × (next ≡ pools version)
+IsLineStep (pools version) l next =
+    ((pool : PoolLine) × IsFormedPool pool × (l ≡ pool_line pool) × (next ≡ pools version)) ⊎ IsBodyStep version l next
 IsLineStep (entries version) l next = IsBodyStep version l next
 IsLineStep (dream version zero zero) l next = ⊥
-IsLineStep (dream version zero (suc steps)) l next = (call : Call) × IsFormedCall IsTerm call × (l ≡ step_line call) × (next ≡ dreaming version zero steps)
-IsLineStep (dream version (suc uses) steps) l next = (u : DreamUse) × IsFormedUse u × (l ≡ use_line u) × (next ≡ dreaming version uses steps)
+IsLineStep (dream version zero (suc steps)) l next =
+    (call : Call) × IsFormedCall IsTerm call × (l ≡ step_line call) × (next ≡ dreaming version zero steps)
+IsLineStep (dream version (suc uses) steps) l next =
+    (u : DreamUse) × IsFormedUse u × (l ≡ use_line u) × (next ≡ dreaming version uses steps)
 IsLineStep (plan version zero) l next = ⊥
-IsLineStep (plan version (suc steps)) l next = (call : Call) × IsFormedCall IsTerm call × (l ≡ do_line call) × (next ≡ planning version steps)
+IsLineStep (plan version (suc steps)) l next =
+    (call : Call) × IsFormedCall IsTerm call × (l ≡ do_line call) × (next ≡ planning version steps)
 IsLineStep (cost version) l next = (c : ℕ) × (c < 2 ^ 64) × (l ≡ cost_line c) × (next ≡ origins version)
-IsLineStep (origins version) l next = ((o : Origin) × IsFormedOrigin version o × (l ≡ from_line version o) × (next ≡ origins version)) ⊎ ((l ≡ done_line) × (next ≡ behind))
+IsLineStep (origins version) l next =
+    ((o : Origin) × IsFormedOrigin version o × (l ≡ from_line version o) × (next ≡ origins version))
+    ⊎ ((l ≡ done_line) × (next ≡ behind))
 IsLineStep last l next = (l ≡ done_line) × (next ≡ behind)
 IsLineStep behind l next = ⊥
 

@@ -67,7 +67,9 @@ entry_lines (entry.Ask number turn call) = line (codes "ask") (decimal number �
 entry_lines (entry.Got number tuples values) = line (codes "got") (decimal number ∷ tuple_fields tuples values) ∷ []
 entry_lines (entry.Value number value) = line (codes "value") (decimal number ∷ decimal value ∷ []) ∷ []
 entry_lines (entry.End number) = line (codes "end") (decimal number ∷ []) ∷ []
-entry_lines (entry.Dream uses steps) = line (codes "dream") (decimal (length uses) ∷ decimal (length steps) ∷ []) ∷ map use_line uses ++ map step_line steps
+entry_lines (entry.Dream uses steps) =
+    line (codes "dream") (decimal (length uses) ∷ decimal (length steps) ∷ []) ∷ map use_line uses
+    ++ map step_line steps
 entry_lines entry.Nothing = line (codes "none") [] ∷ []
 entry_lines entry.Reset = line (codes "reset") [] ∷ []
 entry_lines (entry.Pick number) = line (codes "pick") (decimal number ∷ []) ∷ []
@@ -82,7 +84,8 @@ abbrev pub do_line : Call → Line
 do_line call = line (codes "do") (call_fields call)
 
 abbrev pub from_line : ℕ → Origin → Line
-from_line version o = line (codes "from") (o.object ∷ decimal o.number ∷ (if version == 1 then [] else decimal o.tuple ∷ []))
+from_line version o =
+    line (codes "from") (o.object ∷ decimal o.number ∷ (if version == 1 then [] else decimal o.tuple ∷ []))
 
 abbrev pub limit_word : LimitKind → List ℕ
 limit_word Calls = codes "calls"
@@ -90,7 +93,9 @@ limit_word States = codes "states"
 limit_word Instances = codes "instances"
 
 abbrev pub outcome_lines : ℕ → Outcome → List Line
-outcome_lines version (outcome.Plan steps cost from) = line (codes "plan") (decimal (length steps) ∷ []) ∷ map do_line steps ++ line (codes "cost") (decimal cost ∷ []) ∷ map (from_line version) from
+outcome_lines version (outcome.Plan steps cost from) =
+    line (codes "plan") (decimal (length steps) ∷ []) ∷ map do_line steps
+    ++ line (codes "cost") (decimal cost ∷ []) ∷ map (from_line version) from
 outcome_lines version outcome.NoPlan = line (codes "no") (codes "plan" ∷ []) ∷ []
 outcome_lines version (outcome.Limit kind) = line (codes "limit") (limit_word kind ∷ []) ∷ []
 
@@ -117,7 +122,8 @@ head_lines version mode calls states depth pools =
     line (codes "pddlstream") (decimal version ∷ mode_word mode ∷ []) ∷ line (codes "limits") (decimal calls ∷ decimal states ∷ decimal depth ∷ []) ∷ map pool_line pools
 
 abbrev pub text_of_head : Task → Head → List ℕ
-text_of_head task head = lines_text (head_lines head.version head.mode head.calls head.states head.depth (map (shown_pool task) head.pools))
+text_of_head task head =
+    lines_text (head_lines head.version head.mode head.calls head.states head.depth (map (shown_pool task) head.pools))
 
 -- ---- reports
 
@@ -128,7 +134,7 @@ done_line = line (codes "done") []
 abbrev pub lines_of_report : Report → List Line
 lines_of_report r =
     head_lines r.version r.mode r.calls r.states r.depth r.pools
-        ++ (flat_map entry_lines r.entries ++ (outcome_lines r.version r.outcome ++ done_line ∷ []))
+    ++ (flat_map entry_lines r.entries ++ (outcome_lines r.version r.outcome ++ done_line ∷ []))
 
 -- the head, the transcript, the outcome, and `done`
 abbrev pub text_of_report : Report → List ℕ

@@ -3,9 +3,9 @@ ghost use Rattle.std.specs.Prelude.{◌≡◌, [], ◌∷◌, ◌++◌, map, OnO
 ghost use Rattle.std.specs.Fmt.{decimal};
 ghost use Rattle.report_text.specs.Texts.{line, line_text, lines_text, fields_text, call_fields};
 
-use transcript_model::Call;
 use std::alloc::{AllocError, Global};
 use task_model::Name;
+use transcript_model::Call;
 
 /// Writes a space and a field.
 pub(crate) fn push_field(text: &mut Vec<u8>, field: &[u8]) -> Result<(), AllocError>
@@ -48,7 +48,8 @@ pub(crate) fn push_numbered(
     word: &[u8],
     number: u64,
 ) -> Result<(), AllocError>
-    ensures { OnOk result (text.new.items ≡ text.old.items ++ line_text (line word.now (decimal number ∷ []))) }
+    ensures { OnOk result (text.new.items ≡ text.old.items
+        ++ line_text (line word.now (decimal number ∷ []))) }
 {
     text.extend_from_slice(word)?;
     push_number(alloc, text, number)?;
@@ -64,7 +65,8 @@ pub(crate) fn push_pair(
     first: u64,
     second: u64,
 ) -> Result<(), AllocError>
-    ensures { OnOk result (text.new.items ≡ text.old.items ++ line_text (line word.now (decimal first ∷ decimal second ∷ []))) }
+    ensures { OnOk result (text.new.items ≡ text.old.items
+        ++ line_text (line word.now (decimal first ∷ decimal second ∷ []))) }
 {
     text.extend_from_slice(word)?;
     push_number(alloc, text, first)?;
@@ -76,7 +78,8 @@ pub(crate) fn push_pair(
 /// Writes a line for each call, with this word first.
 #[tactic(auto, using(crate::proofs::TextsLemmas::lines_next))]
 pub(crate) fn push_calls(text: &mut Vec<u8>, word: &[u8], calls: &[Call]) -> Result<(), AllocError>
-    ensures { OnOk result (text.new.items ≡ text.old.items ++ lines_text (map (λ call. line word.now (call_fields call)) calls.now)) }
+    ensures { OnOk result (text.new.items ≡ text.old.items
+        ++ lines_text (map (λ call. line word.now (call_fields call)) calls.now)) }
 {
     for call in calls {
         text.extend_from_slice(word)?;

@@ -4,12 +4,12 @@ ghost use Rattle.std.specs.Fmt.{decimal};
 ghost use Rattle.transcript_model.specs.declared.entry.Entry.TheVariants as entry;
 ghost use Rattle.report_text.specs.Texts.{line, line_text, lines_text, fields_text, tuple_fields, call_fields, use_line, text_of_entry};
 
-use transcript_model::{Call, DreamUse, Entry};
 use crate::lines::{
     push_call, push_calls, push_field, push_names, push_number, push_numbered, push_pair,
 };
 use std::alloc::{AllocError, Global};
 use task_model::Name;
+use transcript_model::{Call, DreamUse, Entry};
 
 /// The lines of an entry, each with its line feed. Fails only where memory is wanting.
 pub fn entry_text(alloc: Global, entry: &Entry) -> Result<Vec<u8>, AllocError>
@@ -63,7 +63,8 @@ fn push_ask(
     turn: u32,
     call: &Call,
 ) -> Result<(), AllocError>
-    ensures { OnOk result (text.new.items ≡ text.old.items ++ line_text (line (codes "ask") (decimal number ∷ decimal turn ∷ call_fields call.now))) }
+    ensures { OnOk result (text.new.items ≡ text.old.items
+        ++ line_text (line (codes "ask") (decimal number ∷ decimal turn ∷ call_fields call.now))) }
 {
     text.extend_from_slice(b"ask")?;
     push_number(alloc, text, u64::from(number))?;
@@ -81,7 +82,8 @@ fn push_got(
     tuples: u8,
     values: &[Name],
 ) -> Result<(), AllocError>
-    ensures { OnOk result (text.new.items ≡ text.old.items ++ line_text (line (codes "got") (decimal number ∷ tuple_fields tuples values.now))) }
+    ensures { OnOk result (text.new.items ≡ text.old.items
+        ++ line_text (line (codes "got") (decimal number ∷ tuple_fields tuples values.now))) }
 {
     text.extend_from_slice(b"got")?;
     push_number(alloc, text, u64::from(number))?;
@@ -93,7 +95,8 @@ fn push_got(
 /// Writes the values of so many tuples, with a bar between each two.
 #[tactic(auto, using(crate::proofs::TextsLemmas::tuples_step, crate::proofs::TextsLemmas::enough_first, crate::proofs::TextsLemmas::enough_next, crate::proofs::TextsLemmas::assoc))]
 fn push_tuples(text: &mut Vec<u8>, tuples: u8, values: &[Name]) -> Result<(), AllocError>
-    ensures { OnOk result (text.new.items ≡ text.old.items ++ fields_text (tuple_fields tuples values.now)) }
+    ensures { OnOk result (text.new.items ≡ text.old.items
+        ++ fields_text (tuple_fields tuples values.now)) }
 {
     if tuples < 2 {
         return push_names(text, values);
@@ -119,7 +122,8 @@ fn push_dream(
     uses: &[DreamUse],
     steps: &[Call],
 ) -> Result<(), AllocError>
-    ensures { OnOk result (text.new.items ≡ text.old.items ++ text_of_entry (entry.Dream uses.now steps.now)) }
+    ensures { OnOk result (text.new.items ≡ text.old.items
+        ++ text_of_entry (entry.Dream uses.now steps.now)) }
 {
     push_pair(alloc, text, b"dream", uses.len() as u64, steps.len() as u64)?;
     push_uses(alloc, text, uses)?;

@@ -4,16 +4,17 @@ ghost use Rattle.std.specs.Fmt.{decimal};
 ghost use Rattle.report_text.specs.Texts.{line, line_text, lines_text, fields_text, mode_word, shown_pool, pool_line, text_of_head};
 ghost use Rattle.gen_lines.specs.Request.{stream_name};
 
-use transcript_model::{Head, Mode, Pool};
 use crate::lines::{push_field, push_number};
 use std::alloc::{AllocError, Global};
 use task_model::Task;
+use transcript_model::{Head, Mode, Pool};
 
 /// The first lines of a report, each with its line feed: the version and the mode, the limits, and the pools. Fails
 /// only where memory is wanting.
 #[tactic(auto, using(crate::proofs::TextsLemmas::assoc))]
 pub fn head_text(alloc: Global, task: &Task, head: &Head) -> Result<Vec<u8>, AllocError>
-    requires { All (λ pool. All (λ stream. stream < length task.now.streams) pool.streams) head.now.pools }
+    requires { All (λ pool. All (λ stream. stream < length task.now.streams) pool.streams)
+        head.now.pools }
     ensures { IfOk result (λ text. text.items ≡ text_of_head task.now head.now) }
 {
     let mut text = Vec::new(alloc);
@@ -25,7 +26,8 @@ pub fn head_text(alloc: Global, task: &Task, head: &Head) -> Result<Vec<u8>, All
 
 /// Writes the version and the word of the mode.
 fn push_first(alloc: Global, text: &mut Vec<u8>, version: u8, mode: &[u8]) -> Result<(), AllocError>
-    ensures { OnOk result (text.new.items ≡ text.old.items ++ line_text (line (codes "pddlstream") (decimal version ∷ mode.now ∷ []))) }
+    ensures { OnOk result (text.new.items ≡ text.old.items
+        ++ line_text (line (codes "pddlstream") (decimal version ∷ mode.now ∷ []))) }
 {
     text.extend_from_slice(b"pddlstream")?;
     push_number(alloc, text, u64::from(version))?;
@@ -36,7 +38,9 @@ fn push_first(alloc: Global, text: &mut Vec<u8>, version: u8, mode: &[u8]) -> Re
 
 /// Writes the limits.
 fn push_limits(alloc: Global, text: &mut Vec<u8>, head: &Head) -> Result<(), AllocError>
-    ensures { OnOk result (text.new.items ≡ text.old.items ++ line_text (line (codes "limits") (decimal head.now.calls ∷ decimal head.now.states ∷ decimal head.now.depth ∷ []))) }
+    ensures { OnOk result (text.new.items ≡ text.old.items
+        ++ line_text (line (codes "limits")
+        (decimal head.now.calls ∷ decimal head.now.states ∷ decimal head.now.depth ∷ []))) }
 {
     text.extend_from_slice(b"limits")?;
     push_number(alloc, text, u64::from(head.calls))?;
@@ -54,8 +58,10 @@ fn push_pools(
     task: &Task,
     pools: &[Pool],
 ) -> Result<(), AllocError>
-    requires { All (λ pool. All (λ stream. stream < length task.now.streams) pool.streams) pools.now }
-    ensures { OnOk result (text.new.items ≡ text.old.items ++ lines_text (map pool_line (map (shown_pool task.now) pools.now))) }
+    requires { All (λ pool. All (λ stream. stream < length task.now.streams) pool.streams)
+        pools.now }
+    ensures { OnOk result (text.new.items ≡ text.old.items
+        ++ lines_text (map pool_line (map (shown_pool task.now) pools.now))) }
 {
     for pool in pools {
         push_pool(alloc, text, task, pool)?;
@@ -78,7 +84,8 @@ fn mode_bytes(mode: Mode) -> &'static [u8]
 /// Writes the line of a pool.
 fn push_pool(alloc: Global, text: &mut Vec<u8>, task: &Task, pool: &Pool) -> Result<(), AllocError>
     requires { All (λ stream. stream < length task.now.streams) pool.now.streams }
-    ensures { OnOk result (text.new.items ≡ text.old.items ++ line_text (pool_line (shown_pool task.now pool.now))) }
+    ensures { OnOk result (text.new.items ≡ text.old.items
+        ++ line_text (pool_line (shown_pool task.now pool.now))) }
 {
     text.extend_from_slice(b"pool")?;
     push_number(alloc, text, u64::from(pool.workers))?;
@@ -91,7 +98,8 @@ fn push_pool(alloc: Global, text: &mut Vec<u8>, task: &Task, pool: &Pool) -> Res
 #[tactic(auto, using(crate::proofs::TextsLemmas::lines_next))]
 fn push_streams(text: &mut Vec<u8>, task: &Task, streams: &[u32]) -> Result<(), AllocError>
     requires { All (λ stream. stream < length task.now.streams) streams.now }
-    ensures { OnOk result (text.new.items ≡ text.old.items ++ fields_text (map (stream_name task.now) streams.now)) }
+    ensures { OnOk result (text.new.items ≡ text.old.items
+        ++ fields_text (map (stream_name task.now) streams.now)) }
 {
     for stream in streams {
         push_stream(text, task, *stream)?;

@@ -3,10 +3,9 @@ ghost use Rattle.std.specs.Prelude.{◌≡◌, [], ◌++◌, map, IfOk, OnOk};
 ghost use Rattle.report_text.specs.Texts.{line_text, lines_text, from_line, text_of_outcome};
 ghost use Rattle.transcript_model.specs.declared.outcome.Outcome.TheVariants as outcome;
 
-use transcript_model::Call;
 use crate::lines::{push_calls, push_field, push_number, push_numbered};
-use transcript_model::{LimitKind, Origin, Outcome};
 use std::alloc::{AllocError, Global};
+use transcript_model::{Call, LimitKind, Origin, Outcome};
 
 /// The lines of an outcome, each with its line feed, as this version of reports has them: version 1 does not show the
 /// tuple of an origin. Fails only where memory is wanting.
@@ -40,7 +39,8 @@ fn limit_line(kind: LimitKind) -> &'static [u8]
 /// Writes the steps of a plan and its cost.
 #[tactic(auto, using(crate::proofs::TextsLemmas::lines_joined, crate::proofs::TextsLemmas::assoc))]
 fn push_plan(alloc: Global, text: &mut Vec<u8>, steps: &[Call], cost: u64) -> Result<(), AllocError>
-    ensures { OnOk result (text.new.items ≡ text.old.items ++ text_of_outcome 1 (outcome.Plan steps.now cost [])) }
+    ensures { OnOk result (text.new.items ≡ text.old.items
+        ++ text_of_outcome 1 (outcome.Plan steps.now cost [])) }
 {
     push_numbered(alloc, text, b"plan", steps.len() as u64)?;
     push_calls(text, b"do", steps)?;
@@ -56,7 +56,8 @@ fn push_origins(
     from: &[Origin],
     version: u8,
 ) -> Result<(), AllocError>
-    ensures { OnOk result (text.new.items ≡ text.old.items ++ lines_text (map (from_line version) from.now)) }
+    ensures { OnOk result (text.new.items ≡ text.old.items
+        ++ lines_text (map (from_line version) from.now)) }
 {
     for origin in from {
         push_origin(alloc, text, origin, version)?;
@@ -71,7 +72,8 @@ fn push_origin(
     origin: &Origin,
     version: u8,
 ) -> Result<(), AllocError>
-    ensures { OnOk result (text.new.items ≡ text.old.items ++ line_text (from_line version origin.now)) }
+    ensures { OnOk result (text.new.items ≡ text.old.items
+        ++ line_text (from_line version origin.now)) }
 {
     text.extend_from_slice(b"from")?;
     push_field(text, origin.object.bytes())?;

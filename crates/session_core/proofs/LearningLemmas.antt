@@ -39,7 +39,8 @@ use Rattle.lemmas.proofs.ListTests.{get_there}
 pub take_next : {A : Type 0} (xs : List A) (k : ℕ) (x : A) → slice_get xs k ≡ Some x → take (k + 1) xs ≡ take k xs ++ x ∷ []
 take_next [] k x at = absurd (cc)
 take_next (y ∷ ys) zero x at = let same : y ≡ x = cc in ap (λ z. z ∷ []) same
-take_next (y ∷ ys) (suc k) x at = ap (λ m. take m (y ∷ ys)) (let e : suc k + 1 ≡ suc (k + 1) = omega arith in e) ∙ ap (λ zs. y ∷ zs) (take_next ys k x at)
+take_next (y ∷ ys) (suc k) x at =
+    ap (λ m. take m (y ∷ ys)) (let e : suc k + 1 ≡ suc (k + 1) = omega arith in e) ∙ ap (λ zs. y ∷ zs) (take_next ys k x at)
 
 pub front_at : {A : Type 0} (xs : List A) (n k : ℕ) (x : A) → slice_get (take n xs) k ≡ Some x → slice_get xs k ≡ Some x
 front_at [] zero k x at = absurd (cc)
@@ -54,7 +55,9 @@ abbrev weight : Entry → ℕ
 weight e = cond (is_answer e) 1 0
 
 -- where each answer gives at most so many
-few_joined : {A : Type 0} (most : ℕ) (f : Entry → List A) (es : List Entry) → ((k : ℕ) (e : Entry) → slice_get es k ≡ Some e → length (f e) ≤ most * weight e) → length (flat_map f es) ≤ most * count_by is_answer es
+few_joined : {A : Type 0} (most : ℕ) (f : Entry → List A) (es : List Entry)
+    → ((k : ℕ) (e : Entry) → slice_get es k ≡ Some e → length (f e) ≤ most * weight e)
+    → length (flat_map f es) ≤ most * count_by is_answer es
 few_joined most f [] each = omega arith
 few_joined most f (e ∷ es) each =
     let first : length (f e) ≤ most * weight e = each 0 e refl in
@@ -76,7 +79,8 @@ answers_to (entry.End m) n is = let same : n ≡ m = cc in eq-eqb n m same
 answers_to e n is = absurd (cc)
 
 module _ (task : Task) (asked_all : List Instance) (entries : List Entry) (can : CanLearn task asked_all entries) where
-  small_got : (place : ℕ) (n tuples : ℕ) (values : List (List ℕ)) → slice_get entries place ≡ Some (entry.Got n tuples values) → (tuples ≤ 16) × (length values ≤ 128)
+  small_got : (place : ℕ) (n tuples : ℕ) (values : List (List ℕ)) → slice_get entries place ≡ Some (entry.Got n tuples values)
+      → (tuples ≤ 16) × (length values ≤ 128)
   small_got place n tuples values at =
       let may : IsRightGot can.version task (take place entries) n tuples values = can.legal place (entry.Got n tuples values) at in
       let is = asked_is can.version task (take place entries) can.fit (legal_take can.version task entries place can.legal) n may.request may.of in
@@ -103,7 +107,8 @@ module _ (task : Task) (asked_all : List Instance) (entries : List Entry) (can :
       let front = take place entries in
       omega (arith, few_joined 16 (note_of task front) front (λ k e at. notes_few front k e (front_at entries place k e at)), few_front place)
     where
-      tuples_few : (tuples : ℕ) (o : Option Asked) → tuples ≤ 16 → length (option_map_or (λ (a : Asked). replicate tuples (Yielded a.instance)) o []) ≤ 16
+      tuples_few : (tuples : ℕ) (o : Option Asked) → tuples ≤ 16
+          → length (option_map_or (λ (a : Asked). replicate tuples (Yielded a.instance)) o []) ≤ 16
       tuples_few tuples None few = omega arith
       tuples_few tuples (Some a) few = omega (arith, few, length-replicate tuples (Yielded a.instance))
 
@@ -134,7 +139,9 @@ module _ (task : Task) (asked_all : List Instance) (entries : List Entry) (can :
     pub known : known_of task (take (place + 1) entries) ≡ known_with task (known_of task (take place entries)) request e
     pub notes : notes_of task (take (place + 1) entries) ≡ notes_with (notes_of task (take place entries)) request e
 
-  room_after : (place n : ℕ) (e : Entry) (a : Asked) → slice_get entries place ≡ Some e → asked task (take place entries) n ≡ Some a → is_answer_to n e ≡ true → MayFollow can.version task (take place entries) e → IsRoomAfter (known_of task (take place entries)) (notes_of task (take place entries)) a.stream e
+  room_after : (place n : ℕ) (e : Entry) (a : Asked) → slice_get entries place ≡ Some e → asked task (take place entries) n ≡ Some a
+      → is_answer_to n e ≡ true → MayFollow can.version task (take place entries) e
+      → IsRoomAfter (known_of task (take place entries)) (notes_of task (take place entries)) a.stream e
   room_after place n (entry.Got m tuples values) a at was answers may =
       let same : m ≡ n = sym (eqb-true n m answers) in
       let one : may.request ≡ a = same_some (asked task (take place entries) n) may.request a (ap (asked task (take place entries)) (sym same) ∙ may.of) was in
@@ -215,7 +222,8 @@ module _ (task : Task) (asked_all : List Instance) (entries : List Entry) (can :
   other_at place (entry.Retire n) at none = mark_at place (entry.Retire n) at refl
 
   -- what was asked, as it is read
-  pub request_read : (place n : ℕ) (e : Entry) (h : IsAnswerAt place n e) (i : Instance) (s : Stream) → i ≡ get_or asked_all (n - 1) i → s ≡ get_or task.streams i.stream s → record { stream = s; instance = i } ≡ h.request
+  pub request_read : (place n : ℕ) (e : Entry) (h : IsAnswerAt place n e) (i : Instance) (s : Stream) → i ≡ get_or asked_all (n - 1) i
+      → s ≡ get_or task.streams i.stream s → record { stream = s; instance = i } ≡ h.request
   request_read place n e h i s i_is s_is =
       let instance : i ≡ h.request.instance = i_is ∙ get_or_from_slice_get asked_all (n - 1) h.request.instance i h.is in
       let stream : s ≡ h.request.stream = s_is ∙ get_or_from_slice_get task.streams i.stream h.request.stream s (ap (λ (j : Instance). slice_get task.streams j.stream) instance ∙ h.streamed) in

@@ -17,7 +17,9 @@ use Rattle.transcript_model.specs.declared.entry.Entry.TheVariants as entry
 use Rattle.task_model.proofs.KnownLemmas.{facts_then}
 
 -- what a tuple certifies, where its outputs have these names, and more names may stand behind them
-tuple_certifies : (task : Task) (names more : List (List ℕ)) (a : Asked) (values : List (List ℕ)) (outputs : List ℕ) → AreDistinct names → AreNamed names outputs values → tuple_facts task (with_names names more) a values ≡ certified_by task.domain a.stream a.instance.inputs outputs
+tuple_certifies : (task : Task) (names more : List (List ℕ)) (a : Asked) (values : List (List ℕ)) (outputs : List ℕ) → AreDistinct names
+    → AreNamed names outputs values
+    → tuple_facts task (with_names names more) a values ≡ certified_by task.domain a.stream a.instance.inputs outputs
 tuple_certifies task names more a values outputs distinct named =
     let here : places_of names (map generated values) ≡ Some outputs = (places_exact names (map generated values) outputs distinct).1 (named ∙ sym (map-map Some generated values)) in
     let front = with_names-front names more in
@@ -25,7 +27,10 @@ tuple_certifies task names more a values outputs distinct named =
     ap (λ o. certified_by task.domain a.stream a.instance.inputs (unwrap_or o [])) there
 
 -- a tuple is learnt, and then the others are
-pub tuple_learnt : (task : Task) (known after : Known) (a : Asked) (n : ℕ) (values : List (List ℕ)) (outputs : List ℕ) → after.names ≡ with_names known.names (map generated (take (length a.stream.outputs) values)) → AreDistinct after.names → AreNamed after.names outputs (take (length a.stream.outputs) values) → after.facts ≡ with_facts known.facts (certified_by task.domain a.stream a.instance.inputs outputs) → after.values ≡ known.values
+pub tuple_learnt : (task : Task) (known after : Known) (a : Asked) (n : ℕ) (values : List (List ℕ)) (outputs : List ℕ)
+    → after.names ≡ with_names known.names (map generated (take (length a.stream.outputs) values)) → AreDistinct after.names
+    → AreNamed after.names outputs (take (length a.stream.outputs) values)
+    → after.facts ≡ with_facts known.facts (certified_by task.domain a.stream a.instance.inputs outputs) → after.values ≡ known.values
     → known_with task after a (entry.Got 0 n (drop (length a.stream.outputs) values)) ≡ known_with task known a (entry.Got 0 (suc n) values)
 tuple_learnt task known after a n values outputs names_are distinct named facts_are values_are =
     let width = length a.stream.outputs in
@@ -42,7 +47,8 @@ tuple_learnt task known after a n values outputs names_are distinct named facts_
     λ i. record { names = names i; facts = facts i; values = values_are i }
 
 -- where no tuple is left, all is known
-pub none_left : (task : Task) (known : Known) (a : Asked) (values : List (List ℕ)) → length values ≡ 0 → known ≡ known_with task known a (entry.Got 0 0 values)
+pub none_left : (task : Task) (known : Known) (a : Asked) (values : List (List ℕ)) → length values ≡ 0
+    → known ≡ known_with task known a (entry.Got 0 0 values)
 none_left task known a [] e = refl
 none_left task known a (v ∷ vs) e = absurd (cc)
 

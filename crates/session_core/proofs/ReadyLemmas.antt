@@ -69,7 +69,8 @@ two_parts n dues = ap instances_of (sym (take-append-drop n dues)) ∙ map-appen
 -- ---- levels
 
 less_apart : {A : Type 0} (cmp : A → A → Ordering) → IsTotalOrder cmp → (x : A) → cmp x x ≡ Less → ⊥
-less_apart cmp total x less = let turned : Less ≡ Greater = sym less ∙ total.antisymm x x ∙ ap ordering_reverse less in absurd (less_greater turned)
+less_apart cmp total x less =
+    let turned : Less ≡ Greater = sym less ∙ total.antisymm x x ∙ ap ordering_reverse less in absurd (less_greater turned)
 
 ascending_distinct : {A : Type 0} (cmp : A → A → Ordering) → IsTotalOrder cmp → (xs : List A) → AreAscending cmp xs → AreDistinct xs
 ascending_distinct cmp total xs ascends i j x at_i at_j = by (nat_lt i j) refl (nat_lt j i) refl
@@ -79,7 +80,8 @@ ascending_distinct cmp total xs ascends i j x at_i at_j = by (nat_lt i j) refl (
     by false ge true lt = absurd (less_apart cmp total x (ascends j i x x (ltb-true j i lt) at_j at_i))
     by false ge false le = omega (arith, ltb-false i j ge, ltb-false j i le)
 
-pub level_ready : (task : Task) (entries : List Entry) (dues : List Due) → AreDueInTurn task (known_of task entries) (notes_of task entries) dues → AreReady task entries dues
+pub level_ready : (task : Task) (entries : List Entry) (dues : List Due)
+    → AreDueInTurn task (known_of task entries) (notes_of task entries) dues → AreReady task entries dues
 level_ready task entries dues level = record {
   due = λ i m. (level.due.each i).0 m;
   turns = level.turns;
@@ -88,7 +90,8 @@ level_ready task entries dues level = record {
 
 -- ---- the next round may begin
 
-pub may_begin : (task : Task) (s : State) (dues : List Due) (count : ℕ) → IsSession task s → s.failed ≡ false → IsLearnt s → AreReady task s.entries dues → IsNextRound s dues count → MayBeginRound task s (take count dues)
+pub may_begin : (task : Task) (s : State) (dues : List Due) (count : ℕ) → IsSession task s → s.failed ≡ false → IsLearnt s
+    → AreReady task s.entries dues → IsNextRound s dues count → MayBeginRound task s (take count dues)
 may_begin task s dues count h works learnt ready next =
     let all = ap (λ n. take n s.entries) learnt.all ∙ take-length s.entries in
     let known : s.known ≡ known_of task s.entries = h.known works ∙ ap (known_of task) all in
@@ -127,7 +130,8 @@ module _ (known after : Known) (kept : (fact : Fact) → is_fact known.facts fac
   types_kept (o ∷ os) [] e = e
   types_kept (o ∷ os) (s ∷ ss) e = and_from _ _ (kept (type_fact s o) (first_so (has_type known o s) (have_types known os ss) e)) (types_kept os ss (second_so (has_type known o s) (have_types known os ss) e))
 
-  patterns_kept : (slots : List ℕ) (ps : List Pattern) → list_all (λ p. is_fact known.facts (fact_of slots p)) ps ≡ true → list_all (λ p. is_fact after.facts (fact_of slots p)) ps ≡ true
+  patterns_kept : (slots : List ℕ) (ps : List Pattern) → list_all (λ p. is_fact known.facts (fact_of slots p)) ps ≡ true
+      → list_all (λ p. is_fact after.facts (fact_of slots p)) ps ≡ true
   patterns_kept slots [] e = refl
   patterns_kept slots (p ∷ ps) e = and_from _ _ (kept (fact_of slots p) (first_so (is_fact known.facts (fact_of slots p)) _ e)) (patterns_kept slots ps (second_so (is_fact known.facts (fact_of slots p)) _ e))
 
@@ -158,11 +162,13 @@ record IsAnswerOf (number : ℕ) (dues : List Due) (e : Entry) : Type 0 where
   at : slice_get dues place ≡ Some due
   numbered : answered_number e ≡ Some (number + place)
 
-answer_of_due : (task : Task) (version number : ℕ) (dues : List Due) (slots : List Slot) → AreSlotsFor task version number dues slots → (k : ℕ) (e : Entry) → slice_get (answers_of slots) k ≡ Some e → IsAnswerOf number dues e
+answer_of_due : (task : Task) (version number : ℕ) (dues : List Due) (slots : List Slot) → AreSlotsFor task version number dues slots
+    → (k : ℕ) (e : Entry) → slice_get (answers_of slots) k ≡ Some e → IsAnswerOf number dues e
 answer_of_due task version number [] [] h k e at = absurd (cc)
 answer_of_due task version number [] (s ∷ ss) h k e at = absurd h
 answer_of_due task version number (d ∷ ds) [] h k e at = absurd h
-answer_of_due task version number (d ∷ ds) (s ∷ ss) h k e at = by (λ j there. later (answer_of_due task version (number + 1) ds ss h.1 j e there)) s.answer refl k at
+answer_of_due task version number (d ∷ ds) (s ∷ ss) h k e at =
+    by (λ j there. later (answer_of_due task version (number + 1) ds ss h.1 j e there)) s.answer refl k at
   where
     later : IsAnswerOf (number + 1) ds e → IsAnswerOf number (d ∷ ds) e
     later r =
@@ -174,7 +180,8 @@ answer_of_due task version number (d ∷ ds) (s ∷ ss) h k e at = by (λ j ther
         let n : s.number ≡ number + 0 = h.0.numbered ∙ (let z : number ≡ number + 0 = omega arith in z) in
         record { place = 0; due = d; at = refl; numbered = ap answered_number (sym same) ∙ entry_number s.number (reply_of said.0 s.wanted) a said.1 ∙ ap Some n }
 
-    by : ((j : ℕ) → slice_get (answers_of ss) j ≡ Some e → IsAnswerOf number (d ∷ ds) e) → (o : Option Entry) → s.answer ≡ o → (j : ℕ) → slice_get (cons_option s.answer (answers_of ss)) j ≡ Some e → IsAnswerOf number (d ∷ ds) e
+    by : ((j : ℕ) → slice_get (answers_of ss) j ≡ Some e → IsAnswerOf number (d ∷ ds) e) → (o : Option Entry) → s.answer ≡ o → (j : ℕ)
+        → slice_get (cons_option s.answer (answers_of ss)) j ≡ Some e → IsAnswerOf number (d ∷ ds) e
     by again None is j there = again j (ap (λ o. slice_get (cons_option o (answers_of ss)) j) (sym is) ∙ there)
     by again (Some a) is zero there = first a is (let one : slice_get (a ∷ answers_of ss) 0 ≡ Some e = ap (λ o. slice_get (cons_option o (answers_of ss)) 0) (sym is) ∙ there in head one)
       where
@@ -183,7 +190,8 @@ answer_of_due task version number (d ∷ ds) (s ∷ ss) h k e at = by (λ j ther
     by again (Some a) is (suc j) there = again j (ap (λ o. slice_get (cons_option o (answers_of ss)) (suc j)) (sym is) ∙ there)
 
 -- what an answer to this request tells is about its instance
-notes_about : (task : Task) (all : List Entry) (e : Entry) (n : ℕ) (a : Asked) (i : Instance) → answered_number e ≡ Some n → asked task all n ≡ Some a → ¬ (a.instance ≡ i) → All (λ m. ¬ (about m ≡ i)) (note_of task all e)
+notes_about : (task : Task) (all : List Entry) (e : Entry) (n : ℕ) (a : Asked) (i : Instance) → answered_number e ≡ Some n
+    → asked task all n ≡ Some a → ¬ (a.instance ≡ i) → All (λ m. ¬ (about m ≡ i)) (note_of task all e)
 notes_about task all (entry.Got m tuples values) n a i number was apart =
     let same : m ≡ n = cc in
     let there : asked task all m ≡ Some a = ap (asked task all) same ∙ was in
@@ -198,7 +206,8 @@ notes_about task all (entry.End m) n a i number was apart =
     rw there (all_one (λ k. ¬ (about k ≡ i)) (Ended a.instance) apart)
 notes_about task all e n a i number was apart = All-nil (λ k. ¬ (about k ≡ i))
 
-no_notes : (task : Task) (all : List Entry) (names : List (List ℕ)) (n : ℕ) (dues : List Due) → flat_map (note_of task all) (asks_from task names n dues) ≡ []
+no_notes : (task : Task) (all : List Entry) (names : List (List ℕ)) (n : ℕ) (dues : List Due)
+    → flat_map (note_of task all) (asks_from task names n dues) ≡ []
 no_notes task all names n [] = refl
 no_notes task all names n (d ∷ ds) = no_notes task all names (n + 1) ds
 
@@ -212,7 +221,8 @@ module _ (task : Task) (s : State) (open_now : s.is_open ≡ true) (answered : a
   entries_are = append_assoc s.entries s.asks (answers_of s.slots)
 
   -- the round's notes are about others
-  others : (i : Instance) → ¬ (Contains s.instances i) → All (λ m. ¬ (about m ≡ i)) (flat_map (note_of task all) (s.asks ++ answers_of s.slots))
+  others : (i : Instance) → ¬ (Contains s.instances i)
+      → All (λ m. ¬ (about m ≡ i)) (flat_map (note_of task all) (s.asks ++ answers_of s.slots))
   others i apart =
       let r = h.round open_now in
       let after = subst (λ es. (k : ℕ) (j : Instance) → slice_get (s.asked ++ s.instances) k ≡ Some j → Asks task es (k + 1) j) entries_are (close_kept task s open_now answered h).asked in
@@ -232,7 +242,9 @@ module _ (task : Task) (s : State) (open_now : s.is_open ≡ true) (answered : a
     told = (longer s.version task s.entries (s.asks ++ answers_of s.slots) h.fit.problem.objects.names.distinct h.legal).notes
 
     tally : tally_of (notes_of task all) i ≡ tally_of (notes_of task s.entries) i
-    tally = ap (λ ns. tally_of ns i) told ∙ tally_apart (notes_of task s.entries) (flat_map (note_of task all) (s.asks ++ answers_of s.slots)) i (others i apart)
+    tally =
+        ap (λ ns. tally_of ns i) told
+        ∙ tally_apart (notes_of task s.entries) (flat_map (note_of task all) (s.asks ++ answers_of s.slots)) i (others i apart)
 
     yields_kept : yields_of (notes_of task all) i ≡ yields_of (notes_of task s.entries) i
     yields_kept = ap (λ (t : Tally). t.yields) tally
@@ -250,7 +262,8 @@ module _ (task : Task) (s : State) (open_now : s.is_open ≡ true) (answered : a
           unfinished = (λ j. ends j || (is_test due.stream && yielded j)) ∙ due.unfinished;
         }
 
-  pub rest_ready : (dues : List Due) (count : ℕ) → s.instances ≡ instances_of (take count dues) → AreReady task s.entries dues → AreReady task (after_close s).entries (drop count dues)
+  pub rest_ready : (dues : List Due) (count : ℕ) → s.instances ≡ instances_of (take count dues) → AreReady task s.entries dues
+      → AreReady task (after_close s).entries (drop count dues)
   rest_ready dues count front ready =
       let parts = two_parts count dues in
       let distinct = subst AreDistinct parts ready.distinct in
@@ -262,7 +275,9 @@ module _ (task : Task) (s : State) (open_now : s.is_open ≡ true) (answered : a
         distinct = distinct_right (instances_of (take count dues)) (instances_of (drop count dues)) distinct;
       })
     where
-      turns_kept : (us : List Due) → ((i : Instance) → Contains (instances_of us) i → ¬ (Contains s.instances i)) → All (λ (d : Due). d.turn ≡ yields_of (notes_of task s.entries) d.instance) us → All (λ (d : Due). d.turn ≡ yields_of (notes_of task all) d.instance) us
+      turns_kept : (us : List Due) → ((i : Instance) → Contains (instances_of us) i → ¬ (Contains s.instances i))
+          → All (λ (d : Due). d.turn ≡ yields_of (notes_of task s.entries) d.instance) us
+          → All (λ (d : Due). d.turn ≡ yields_of (notes_of task all) d.instance) us
       turns_kept [] apart turns = All-nil (λ (d : Due). d.turn ≡ yields_of (notes_of task all) d.instance)
       turns_kept (u ∷ us) apart turns =
           All-cons (λ (d : Due). d.turn ≡ yields_of (notes_of task all) d.instance) u us

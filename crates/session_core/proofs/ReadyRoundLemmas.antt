@@ -30,7 +30,8 @@ none_fit [] = refl
 none_fit (p ∷ ps) = and_from (nat_le 0 p.workers) _ (le-leb 0 p.workers (omega arith)) (none_fit ps)
 
 -- one ask fits workers, of which each pool has one at least
-pub one_fits : (pools : List Workers) (stream : ℕ) → ((k : ℕ) (p : Workers) → slice_get pools k ≡ Some p → 1 ≤ p.workers) → fits_workers pools (stream ∷ []) ≡ true
+pub one_fits : (pools : List Workers) (stream : ℕ) → ((k : ℕ) (p : Workers) → slice_get pools k ≡ Some p → 1 ≤ p.workers)
+    → fits_workers pools (stream ∷ []) ≡ true
 one_fits [] stream some = refl
 one_fits (p ∷ ps) stream some = and_from (nat_le (count_by (serves p) (stream ∷ [])) p.workers) _ (le-leb (count_by (serves p) (stream ∷ [])) p.workers (omega (arith, cond_le_one (serves p stream), count_one (serves p) stream, some 0 p refl))) (one_fits ps stream (λ k q at. some (suc k) q at))
 
@@ -39,18 +40,21 @@ workers_fit [] streams e k p at = absurd (cc)
 workers_fit (q ∷ qs) streams e zero p at =
     let same : q ≡ p = cc in
     subst (λ (w : Workers). count_by (serves w) streams ≤ w.workers) same (leb-true (count_by (serves q) streams) q.workers (first_so (nat_le (count_by (serves q) streams) q.workers) (fits_workers qs streams) e))
-workers_fit (q ∷ qs) streams e (suc k) p at = workers_fit qs streams (second_so (nat_le (count_by (serves q) streams) q.workers) (fits_workers qs streams) e) k p at
+workers_fit (q ∷ qs) streams e (suc k) p at =
+    workers_fit qs streams (second_so (nat_le (count_by (serves q) streams) q.workers) (fits_workers qs streams) e) k p at
 
 -- ---- by streams and by instances
 
-count_same : (p : Workers) (dues : List Due) → count_by (rounds.serves (share_of p)) (instances_of dues) ≡ count_by (serves p) (streams_of dues)
+count_same : (p : Workers) (dues : List Due)
+    → count_by (rounds.serves (share_of p)) (instances_of dues) ≡ count_by (serves p) (streams_of dues)
 count_same p [] = refl
 count_same p (d ∷ ds) =
     count_joined (rounds.serves (share_of p)) (d.instance ∷ []) (instances_of ds)
     ∙ (λ i. count_one (rounds.serves (share_of p)) d.instance i + count_same p ds i)
     ∙ sym (count_joined (serves p) (d.instance.stream ∷ []) (streams_of ds) ∙ ap (λ n. n + count_by (serves p) (streams_of ds)) (count_one (serves p) d.instance.stream))
 
-pub fits_same : (pools : List Workers) (dues : List Due) → rounds.fits (map share_of pools) (instances_of dues) ≡ fits_workers pools (streams_of dues)
+pub fits_same : (pools : List Workers) (dues : List Due)
+    → rounds.fits (map share_of pools) (instances_of dues) ≡ fits_workers pools (streams_of dues)
 fits_same [] dues = refl
 fits_same (p ∷ ps) dues = λ i. nat_le (count_same p dues i) p.workers && fits_same ps dues i
 
@@ -72,7 +76,8 @@ behind (y ∷ ys) zero x rest e = let same : y ≡ x = cc in (ap Some same, omeg
 behind (y ∷ ys) (suc k) x rest e = let r = behind ys k x rest e in let below : k < length ys = r.1 in (r.0, omega arith)
 
 module _ (pools : List Workers) (dues : List Due) (count : ℕ) (longest : IsLongestFront pools dues count) where
-  full_by : (rest : List Due) → drop count dues ≡ rest → rounds.IsFull (map share_of pools) (instances_of (take count dues)) (instances_of rest)
+  full_by : (rest : List Due) → drop count dues ≡ rest
+      → rounds.IsFull (map share_of pools) (instances_of (take count dues)) (instances_of rest)
   full_by [] e = tt
   full_by (d ∷ ds) e =
       let at = behind dues count d ds e in
@@ -96,7 +101,8 @@ module _ (pools : List Workers) (dues : List Due) (count : ℕ) (longest : IsLon
           absurd (true≢false (sym (ap (λ us. fits_workers pools (streams_of us)) one ∙ fits) ∙ never))
 
 -- the round of those for which calls are left
-pub next_is : (s : State) (dues : List Due) (most count : ℕ) → length s.asked ≤ s.calls → most ≡ min (length dues) (calls_left s) → IsLongestFront s.pools (take most dues) count → IsNextRound s dues count
+pub next_is : (s : State) (dues : List Due) (most count : ℕ) → length s.asked ≤ s.calls → most ≡ min (length dues) (calls_left s)
+    → IsLongestFront s.pools (take most dues) count → IsNextRound s dues count
 next_is s dues most count few is longest =
     let least : most ≤ length dues = omega (arith, is) in
     let left : most ≤ calls_left s = omega (arith, is) in
@@ -121,11 +127,18 @@ next_is s dues most count few is longest =
 
 -- ---- pools one after another
 
-pub one_left : (pools : List Workers) (k : ℕ) (p : Workers) (streams : List ℕ) → k < length pools → p ≡ get_or pools k p → fits_workers (drop k pools) streams ≡ (nat_le (count_by (serves p) streams) p.workers && fits_workers (drop (k + 1) pools) streams)
+pub one_left : (pools : List Workers) (k : ℕ) (p : Workers) (streams : List ℕ) → k < length pools → p ≡ get_or pools k p
+    → fits_workers (drop k pools) streams ≡ (nat_le (count_by (serves p) streams) p.workers && fits_workers (drop (k + 1) pools) streams)
 one_left pools k p streams lt is = ap (λ ps. fits_workers ps streams) (drop_more pools k p lt ∙ ap (λ q. q ∷ drop (k + 1) pools) (sym is))
 
-pub too_many : (pools : List Workers) (k : ℕ) (p : Workers) (streams : List ℕ) → k < length pools → p ≡ get_or pools k p → p.workers < count_by (serves p) streams → fits_workers (drop k pools) streams ≡ false
-too_many pools k p streams lt is more = one_left pools k p streams lt is ∙ (λ i. lt-leb (count_by (serves p) streams) p.workers more i && fits_workers (drop (k + 1) pools) streams)
+pub too_many : (pools : List Workers) (k : ℕ) (p : Workers) (streams : List ℕ) → k < length pools → p ≡ get_or pools k p
+    → p.workers < count_by (serves p) streams → fits_workers (drop k pools) streams ≡ false
+too_many pools k p streams lt is more =
+    one_left pools k p streams lt is
+    ∙ (λ i. lt-leb (count_by (serves p) streams) p.workers more i && fits_workers (drop (k + 1) pools) streams)
 
-pub few_enough : (pools : List Workers) (k : ℕ) (p : Workers) (streams : List ℕ) → k < length pools → p ≡ get_or pools k p → count_by (serves p) streams ≤ p.workers → fits_workers (drop k pools) streams ≡ fits_workers (drop (k + 1) pools) streams
-few_enough pools k p streams lt is few = one_left pools k p streams lt is ∙ (λ i. le-leb (count_by (serves p) streams) p.workers few i && fits_workers (drop (k + 1) pools) streams)
+pub few_enough : (pools : List Workers) (k : ℕ) (p : Workers) (streams : List ℕ) → k < length pools → p ≡ get_or pools k p
+    → count_by (serves p) streams ≤ p.workers → fits_workers (drop k pools) streams ≡ fits_workers (drop (k + 1) pools) streams
+few_enough pools k p streams lt is few =
+    one_left pools k p streams lt is
+    ∙ (λ i. le-leb (count_by (serves p) streams) p.workers few i && fits_workers (drop (k + 1) pools) streams)

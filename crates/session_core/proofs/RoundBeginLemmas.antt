@@ -30,7 +30,8 @@ use Rattle.session_core.specs.declared.pools.Workers.{Workers}
 -- ---- one due more
 
 module _ (task : Task) (names : List (List ℕ)) where
-  pub asks_step : (n : ℕ) (dues : List Due) (k : ℕ) (d : Due) → slice_get dues k ≡ Some d → asks_from task names n (take (k + 1) dues) ≡ asks_from task names n (take k dues) ++ ask_for task names (n + k) d ∷ []
+  pub asks_step : (n : ℕ) (dues : List Due) (k : ℕ) (d : Due) → slice_get dues k ≡ Some d
+      → asks_from task names n (take (k + 1) dues) ≡ asks_from task names n (take k dues) ++ ask_for task names (n + k) d ∷ []
   asks_step n [] k d at = absurd (cc)
   asks_step n (u ∷ us) zero d at = let same : u ≡ d = cc in λ i. ask_for task names ((let e : n ≡ n + 0 = omega arith in e) i) (same i) ∷ []
   asks_step n (u ∷ us) (suc k) d at =
@@ -38,7 +39,8 @@ module _ (task : Task) (names : List (List ℕ)) where
       ∙ ap (λ es. ask_for task names n u ∷ es) (asks_step (n + 1) us k d at ∙ ap (λ m. asks_from task names (n + 1) (take k us) ++ ask_for task names m d ∷ []) (let e : (n + 1) + k ≡ n + suc k = omega arith in e))
 
   module _ (version : ℕ) (pools : List Workers) where
-    pub slots_step : (n : ℕ) (before : List ℕ) (dues : List Due) (k : ℕ) (d : Due) → slice_get dues k ≡ Some d → slots_from task names version pools n before (take (k + 1) dues) ≡ slots_from task names version pools n before (take k dues) ++ slot_for task names version pools (n + k) (before ++ streams_of (take k dues)) d ∷ []
+    pub slots_step : (n : ℕ) (before : List ℕ) (dues : List Due) (k : ℕ) (d : Due) → slice_get dues k ≡ Some d
+        → slots_from task names version pools n before (take (k + 1) dues) ≡ slots_from task names version pools n before (take k dues) ++ slot_for task names version pools (n + k) (before ++ streams_of (take k dues)) d ∷ []
     slots_step n before [] k d at = absurd (cc)
     slots_step n before (u ∷ us) zero d at =
         let same : u ≡ d = cc in λ i. slot_for task names version pools ((let e : n ≡ n + 0 = omega arith in e) i) (sym (append-nil before) i) (same i) ∷ []
@@ -48,16 +50,20 @@ module _ (task : Task) (names : List (List ℕ)) where
         ∙ (λ i. slots_from task names version pools (n + 1) (before ++ u.instance.stream ∷ []) (take k us) ++ slot_for task names version pools ((let e : (n + 1) + k ≡ n + suc k = omega arith in e) i) (append_assoc before (u.instance.stream ∷ []) (streams_of (take k us)) i) d ∷ []))
 
     -- the child of each slot
-    child_at : (n : ℕ) (before : List ℕ) (dues : List Due) (k c : ℕ) → slice_get (children_of (slots_from task names version pools n before dues)) k ≡ Some c → (d : Due) × (slice_get dues k ≡ Some d) × (c ≡ child_for pools (before ++ streams_of (take k dues)) d.instance.stream)
+    child_at : (n : ℕ) (before : List ℕ) (dues : List Due) (k c : ℕ)
+        → slice_get (children_of (slots_from task names version pools n before dues)) k ≡ Some c
+        → (d : Due) × (slice_get dues k ≡ Some d) × (c ≡ child_for pools (before ++ streams_of (take k dues)) d.instance.stream)
     child_at n before [] k c at = absurd (cc)
     child_at n before (u ∷ us) zero c at = (u, refl, (let e : c ≡ child_for pools before u.instance.stream = cc in e) ∙ ap (λ b. child_for pools b u.instance.stream) (sym (append-nil before)))
     child_at n before (u ∷ us) (suc k) c at =
         let r = child_at (n + 1) (before ++ u.instance.stream ∷ []) us k c at in
         (r.0, r.1, r.2 ∙ ap (λ b. child_for pools b r.0.instance.stream) (append_assoc before (u.instance.stream ∷ []) (streams_of (take k us))))
 
-    fresh_slots : (n : ℕ) (before : List ℕ) (dues : List Due) → AreSlotsFor task version n dues (slots_from task names version pools n before dues)
+    fresh_slots : (n : ℕ) (before : List ℕ) (dues : List Due)
+        → AreSlotsFor task version n dues (slots_from task names version pools n before dues)
     fresh_slots n before [] = tt
-    fresh_slots n before (d ∷ ds) = (record { numbered = refl; wanted = refl; right = λ e is. absurd (cc) }, fresh_slots (n + 1) (before ++ d.instance.stream ∷ []) ds)
+    fresh_slots n before (d ∷ ds) =
+        (record { numbered = refl; wanted = refl; right = λ e is. absurd (cc) }, fresh_slots (n + 1) (before ++ d.instance.stream ∷ []) ds)
 
     long_slots : (n : ℕ) (before : List ℕ) (dues : List Due) → length (slots_from task names version pools n before dues) ≡ length dues
     long_slots n before [] = refl
@@ -67,14 +73,18 @@ module _ (task : Task) (names : List (List ℕ)) where
   long_asks n [] = refl
   long_asks n (d ∷ ds) = ap suc (long_asks (n + 1) ds)
 
-pub instances_step : (dues : List Due) (k : ℕ) (d : Due) → slice_get dues k ≡ Some d → instances_of (take (k + 1) dues) ≡ instances_of (take k dues) ++ d.instance ∷ []
+pub instances_step : (dues : List Due) (k : ℕ) (d : Due) → slice_get dues k ≡ Some d
+    → instances_of (take (k + 1) dues) ≡ instances_of (take k dues) ++ d.instance ∷ []
 instances_step [] k d at = absurd (cc)
 instances_step (u ∷ us) zero d at = let same : u ≡ d = cc in λ i. (same i).instance ∷ []
-instances_step (u ∷ us) (suc k) d at = ap (λ m. instances_of (take m (u ∷ us))) (let e : suc k + 1 ≡ suc (k + 1) = omega arith in e) ∙ ap (λ is. u.instance ∷ is) (instances_step us k d at)
+instances_step (u ∷ us) (suc k) d at =
+    ap (λ m. instances_of (take m (u ∷ us))) (let e : suc k + 1 ≡ suc (k + 1) = omega arith in e)
+    ∙ ap (λ is. u.instance ∷ is) (instances_step us k d at)
 
 -- ---- children
 
-pub server_is : (pools : List Workers) (stream : ℕ) (p : Workers) → server pools stream ≡ Some p → (k : ℕ) × (slice_get pools k ≡ Some p) × (serves p stream ≡ true)
+pub server_is : (pools : List Workers) (stream : ℕ) (p : Workers) → server pools stream ≡ Some p
+    → (k : ℕ) × (slice_get pools k ≡ Some p) × (serves p stream ≡ true)
 server_is [] stream p e = absurd (cc)
 server_is (q ∷ qs) stream p e =
     elim (serves q stream) as (λ b. serves q stream ≡ b → cond b (Some q) (server qs stream) ≡ Some p → (k : ℕ) × (slice_get (q ∷ qs) k ≡ Some p) × (serves p stream ≡ true)) [
@@ -91,7 +101,8 @@ count_front p [] (suc k) = omega arith
 count_front p (x ∷ xs) (suc k) = omega (arith, count_head p x (take k xs), count_head p x xs, count_front p xs k)
 
 -- a member that passes counts from its place on
-count_passes : (p : ℕ → Bool) (xs : List ℕ) (j k x : ℕ) → j < k → slice_get xs j ≡ Some x → p x ≡ true → count_by p (take j xs) + 1 ≤ count_by p (take k xs)
+count_passes : (p : ℕ → Bool) (xs : List ℕ) (j k x : ℕ) → j < k → slice_get xs j ≡ Some x → p x ≡ true
+    → count_by p (take j xs) + 1 ≤ count_by p (take k xs)
 count_passes p [] j k x lt at passes = absurd (cc)
 count_passes p (y ∷ ys) j zero x lt at passes = absurd (omega (arith, lt))
 count_passes p (y ∷ ys) zero (suc k) x lt at passes =
@@ -99,7 +110,8 @@ count_passes p (y ∷ ys) zero (suc k) x lt at passes =
     let one : cond {A = ℕ} (p y) 1 0 ≡ 1 = ap (λ b. cond {A = ℕ} b 1 0) (ap p same ∙ passes) in
     let none : count_by p (take 0 (y ∷ ys)) ≡ 0 = refl in
     omega (arith, count_head p y (take k ys), one, none)
-count_passes p (y ∷ ys) (suc j) (suc k) x lt at passes = omega (arith, count_head p y (take j ys), count_head p y (take k ys), count_passes p ys j k x (omega (arith, lt)) at passes)
+count_passes p (y ∷ ys) (suc j) (suc k) x lt at passes =
+    omega (arith, count_head p y (take j ys), count_head p y (take k ys), count_passes p ys j k x (omega (arith, lt)) at passes)
 
 count_whole : (p : ℕ → Bool) (xs : List ℕ) (j x : ℕ) → slice_get xs j ≡ Some x → p x ≡ true → count_by p (take j xs) + 1 ≤ count_by p xs
 count_whole p xs j x at passes = subst (λ ys. count_by p (take j xs) + 1 ≤ count_by p ys) (take-length xs) (count_passes p xs j (length xs) x (slice_get_within xs j x at) at passes)
@@ -118,7 +130,8 @@ record Served (pools : List Workers) (dues : List Due) (k : ℕ) (d : Due) : Typ
   child : child_for pools (streams_of (take k dues)) d.instance.stream ≡ pool.first + count_by (serves pool) (take k (streams_of dues))
   inside : count_by (serves pool) (take k (streams_of dues)) + 1 ≤ pool.workers
 
-served_at : (task : Task) (pools : List Workers) (dues : List Due) → AreFitPools task pools → FitWorkers pools (streams_of dues) → (k : ℕ) (d : Due) → slice_get dues k ≡ Some d → d.instance.stream < length task.streams → Served pools dues k d
+served_at : (task : Task) (pools : List Workers) (dues : List Due) → AreFitPools task pools → FitWorkers pools (streams_of dues)
+    → (k : ℕ) (d : Due) → slice_get dues k ≡ Some d → d.instance.stream < length task.streams → Served pools dues k d
 served_at task pools dues fit fits k d at below =
     let found = fit.served d.instance.stream below in
     let is = server_is pools d.instance.stream found.0 found.1 in
@@ -133,7 +146,8 @@ served_at task pools dues fit fits k d at below =
       inside = omega (arith, enough, fits is.0 found.0 is.1);
     }
   where
-    child_is : (p : Workers) → server pools d.instance.stream ≡ Some p → child_for pools (streams_of (take k dues)) d.instance.stream ≡ p.first + count_by (serves p) (streams_of (take k dues))
+    child_is : (p : Workers) → server pools d.instance.stream ≡ Some p
+        → child_for pools (streams_of (take k dues)) d.instance.stream ≡ p.first + count_by (serves p) (streams_of (take k dues))
     child_is p e = rw e refl
 
 -- ---- the state with the round
@@ -176,14 +190,18 @@ module _ (task : Task) (s : State) (dues : List Due) (works : s.failed ≡ false
   children_fit k d at = let p = served k d at in omega (arith, p.child, p.inside, h.pools.few p.place p.pool p.at)
 
   -- each slot's child is one of a pool
-  pub child_served : (names : List (List ℕ)) (version n k c : ℕ) → slice_get (children_of (slots_from task names version s.pools n [] dues)) k ≡ Some c → (j : ℕ) × (p : Workers) × (slice_get s.pools j ≡ Some p) × HasChild p c
+  pub child_served : (names : List (List ℕ)) (version n k c : ℕ)
+      → slice_get (children_of (slots_from task names version s.pools n [] dues)) k ≡ Some c
+      → (j : ℕ) × (p : Workers) × (slice_get s.pools j ≡ Some p) × HasChild p c
   child_served names version n k c at_k =
       let x = child_at task names version s.pools n [] dues k c at_k in
       let p = served k x.0 x.1 in
       let is : c ≡ p.pool.first + count_by (serves p.pool) (take k (streams_of dues)) = x.2 ∙ p.child in
       (p.place, p.pool, p.at, record { from = omega (arith, is); to = omega (arith, is, p.inside) })
 
-  children_apart : (names : List (List ℕ)) (version n j k c : ℕ) → j < k → slice_get (children_of (slots_from task names version s.pools n [] dues)) j ≡ Some c → slice_get (children_of (slots_from task names version s.pools n [] dues)) k ≡ Some c → ⊥
+  children_apart : (names : List (List ℕ)) (version n j k c : ℕ) → j < k
+      → slice_get (children_of (slots_from task names version s.pools n [] dues)) j ≡ Some c
+      → slice_get (children_of (slots_from task names version s.pools n [] dues)) k ≡ Some c → ⊥
   children_apart names version n j k c below at_j at_k =
       let x = child_at task names version s.pools n [] dues j c at_j in
       let y = child_at task names version s.pools n [] dues k c at_k in
@@ -203,14 +221,16 @@ module _ (task : Task) (s : State) (dues : List Due) (works : s.failed ≡ false
       same_pool : (o : Option Workers) (a b : Workers) → o ≡ Some a → o ≡ Some b → a ≡ b
       same_pool o a b u v = let e : Some a ≡ Some b = sym u ∙ v in cc
 
-  pub children_distinct : (names : List (List ℕ)) (version n : ℕ) → AreDistinct (children_of (slots_from task names version s.pools n [] dues))
+  pub children_distinct : (names : List (List ℕ)) (version n : ℕ)
+      → AreDistinct (children_of (slots_from task names version s.pools n [] dues))
   children_distinct names version n j k c at_j at_k =
       elim (cases_lt j k) [
         | inl below ↦ absurd (children_apart names version n j k c below at_j at_k)
         | inr over ↦ elim (cases_lt k j) [ inl below ↦ absurd (children_apart names version n k j c below at_k at_j) | inr under ↦ omega (arith, over, under) ]
       ]
 
-  pub begun_sound : (entries_room asked_room : ℕ) → length s.entries + 2 * length dues ≤ entries_room → length s.asked + length dues ≤ asked_room → s.calls ≤ 100000 → IsSound (begun task s dues) entries_room asked_room
+  pub begun_sound : (entries_room asked_room : ℕ) → length s.entries + 2 * length dues ≤ entries_room
+      → length s.asked + length dues ≤ asked_room → s.calls ≤ 100000 → IsSound (begun task s dues) entries_room asked_room
   begun_sound entries_room asked_room room more calls =
       let names = s.known.names in
       let first = length s.asked + 1 in
@@ -229,7 +249,8 @@ module _ (task : Task) (s : State) (dues : List Due) (works : s.failed ≡ false
       }
 
   -- nothing is sent, and each request has a child of its own
-  unsent : (names : List (List ℕ)) (n : ℕ) (before : List ℕ) (us : List Due) → All (λ (t : Slot). (t.sent ≡ false) × (t.answer ≡ None)) (slots_from task names s.version s.pools n before us)
+  unsent : (names : List (List ℕ)) (n : ℕ) (before : List ℕ) (us : List Due)
+      → All (λ (t : Slot). (t.sent ≡ false) × (t.answer ≡ None)) (slots_from task names s.version s.pools n before us)
   unsent names n before [] = All-nil (λ (t : Slot). (t.sent ≡ false) × (t.answer ≡ None))
   unsent names n before (u ∷ us) = All-cons (λ (t : Slot). (t.sent ≡ false) × (t.answer ≡ None)) (slot_for task names s.version s.pools n before u) (slots_from task names s.version s.pools (n + 1) (before ++ u.instance.stream ∷ []) us) (refl, refl) (unsent names (n + 1) (before ++ u.instance.stream ∷ []) us)
 
@@ -264,7 +285,9 @@ module _ (task : Task) (s : State) (dues : List Due) (works : s.failed ≡ false
       }
 
 -- the state whose round has these lists
-pub the_state : (s : State) (entries : List Entry) (asked : List Instance) (asks : List Entry) (instances : List Instance) (slots : List Slot) (task : Task) (dues : List Due) → entries ≡ s.entries → asked ≡ s.asked → asks ≡ asks_from task s.known.names (length s.asked + 1) dues → instances ≡ instances_of dues → slots ≡ slots_from task s.known.names s.version s.pools (length s.asked + 1) [] dues
+pub the_state : (s : State) (entries : List Entry) (asked : List Instance) (asks : List Entry) (instances : List Instance) (slots : List Slot) (task : Task) (dues : List Due)
+    → entries ≡ s.entries → asked ≡ s.asked → asks ≡ asks_from task s.known.names (length s.asked + 1) dues → instances ≡ instances_of dues
+    → slots ≡ slots_from task s.known.names s.version s.pools (length s.asked + 1) [] dues
     → record {
       version = s.version;
       calls = s.calls;

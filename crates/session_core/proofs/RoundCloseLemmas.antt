@@ -60,7 +60,8 @@ module _ (version : ℕ) (task : Task) (fit : IsFit task) (entries : List Entry)
   named_below (n ∷ ns) (suc o) h = omega (arith, named_below ns o h)
 
   -- an instance that is due is shown so that it is found again
-  shown_again : (i : Instance) → IsDue task (known_of task entries) (notes_of task entries) i → instance_of task (names_of task entries) (call_of_instance task (names_of task entries) i) ≡ Some i
+  shown_again : (i : Instance) → IsDue task (known_of task entries) (notes_of task entries) i
+      → instance_of task (names_of task entries) (call_of_instance task (names_of task entries) i) ≡ Some i
   shown_again i d =
       call_names_instance task (names_of task entries) i fit distinct_names (slice_get_within task.streams i.stream d.stream d.named)
       (λ o m. named_below (names_of task entries) o (All-contains (IsIn (names_of task entries)) i.inputs o (due_in task (known_of task entries) (notes_of task entries) (coherent version task entries fit legal) i d) m))
@@ -75,7 +76,8 @@ module _ (version : ℕ) (task : Task) (fit : IsFit task) (entries : List Entry)
     only : (m : ℕ) → is_open after m ≡ true → (is_open before m ≡ true) ⊎ ((n ≤ m) × (m < n + length dues))
 
   -- the requests of a round, one after another
-  requested : (dues : List Due) (before : List Entry) (n : ℕ) → IsLegal version task before → known_of task before ≡ known_of task entries → notes_of task before ≡ notes_of task entries → n ≡ asks_of before + 1
+  requested : (dues : List Due) (before : List Entry) (n : ℕ) → IsLegal version task before → known_of task before ≡ known_of task entries
+      → notes_of task before ≡ notes_of task entries → n ≡ asks_of before + 1
       → ((i : Instance) → Contains (instances_of dues) i → IsDue task (known_of task entries) (notes_of task entries) i) → All (λ (d : Due). d.turn ≡ yields_of (notes_of task entries) d.instance) dues → AreDistinct (instances_of dues)
       → ((m : ℕ) (a : Asked) → asked task before m ≡ Some a → is_open before m ≡ true → ¬ (Contains (instances_of dues) a.instance))
       → Requested before (before ++ asks_from task (names_of task entries) n dues) n dues
@@ -97,7 +99,9 @@ module _ (version : ℕ) (task : Task) (fit : IsFit task) (entries : List Entry)
         named = named;
         due = subst (λ ns. IsDue task (known_of task before) ns i) (sym notes) (subst (λ k. IsDue task k (notes_of task entries) i) (sym known) here);
         closed = λ m a is same. false_from_ne_true (is_open before m) (λ o. apart m a is o (subst (Contains (instances_of (d ∷ ds))) (sym same) (contains_here i (instances_of ds))));
-        turned = All-head (λ (u : Due). u.turn ≡ yields_of (notes_of task entries) u.instance) d ds turns ∙ ap (λ ns. yields_of ns i) (sym notes);
+        turned =
+            All-head (λ (u : Due). u.turn ≡ yields_of (notes_of task entries) u.instance) d ds turns
+            ∙ ap (λ ns. yields_of ns i) (sym notes);
       } in
       let fresh = ap (λ k. list_any (is_ask_of k) before) next ∙ next_is_fresh version task before ok in
       let adds = request_adds version task before fit.problem.objects.names.distinct ok n d.turn call here.stream i right fresh named here.named in
@@ -139,7 +143,11 @@ module _ (version : ℕ) (task : Task) (fit : IsFit task) (entries : List Entry)
       same_instance_of : (o : Option Asked) (a b : Asked) → o ≡ Some a → o ≡ Some b → a.instance ≡ b.instance
       same_instance_of o a b p q = let f : Some a ≡ Some b = sym p ∙ q in let g : a ≡ b = cc in ap (λ (c : Asked). c.instance) g
 
-      still_apart : (m : ℕ) (a : Asked) → asked task (before ++ entry.Ask n d.turn (call_of_instance task (names_of task entries) d.instance) ∷ []) m ≡ Some a → is_open before m ≡ true → Contains (instances_of ds) a.instance → (k : ℕ) → ((j : ℕ) → ¬ (j ≡ k) → asked task (before ++ entry.Ask n d.turn (call_of_instance task (names_of task entries) d.instance) ∷ []) j ≡ asked task before j) → k ≡ asks_of before + 1 → IsLegal version task before → ⊥
+      still_apart : (m : ℕ) (a : Asked)
+          → asked task (before ++ entry.Ask n d.turn (call_of_instance task (names_of task entries) d.instance) ∷ []) m ≡ Some a
+          → is_open before m ≡ true → Contains (instances_of ds) a.instance → (k : ℕ)
+          → ((j : ℕ) → ¬ (j ≡ k) → asked task (before ++ entry.Ask n d.turn (call_of_instance task (names_of task entries) d.instance) ∷ []) j ≡ asked task before j)
+          → k ≡ asks_of before + 1 → IsLegal version task before → ⊥
       still_apart m a is old there k others is_next ok =
           let older : m ≤ asks_of before = (number_below version task before m ok (and_parts (list_any (is_ask_of m) before) (not (list_any (is_answer_to m) before)) old).0).1 in
           apart m a (sym (others m (λ f. absurd (omega (arith, f, older, is_next)))) ∙ is) old (contains_later d.instance (instances_of ds) a.instance there)
@@ -151,7 +159,8 @@ ends_no_yield : (given : List (List ℕ)) (t : ℕ) (vs : List (List ℕ)) → r
 ends_no_yield [] t vs e = absurd (cc)
 ends_no_yield (f ∷ fs) t vs e = absurd (cc)
 
-choice_no_yield : (b : Bool) (n : ℕ) (why : _) (t : ℕ) (vs : List (List ℕ)) → cond b (reply.number n) (reply.bad why) ≡ reply.yields t vs → ⊥
+choice_no_yield : (b : Bool) (n : ℕ) (why : _) (t : ℕ) (vs : List (List ℕ)) → cond b (reply.number n) (reply.bad why) ≡ reply.yields t vs
+    → ⊥
 choice_no_yield true n why t vs e = absurd (cc)
 choice_no_yield false n why t vs e = absurd (cc)
 
@@ -160,40 +169,48 @@ number_no_yield [] t vs e = absurd (cc)
 number_no_yield (f ∷ []) t vs e = choice_no_yield (reply.is_number f) _ _ t vs e
 number_no_yield (f ∷ (g ∷ gs)) t vs e = absurd (cc)
 
-either_no_yield : (a b : Bool) (x y : Reply) (why : _) (t : ℕ) (vs : List (List ℕ)) → (x ≡ reply.yields t vs → ⊥) → (y ≡ reply.yields t vs → ⊥) → cond a x (cond b y (reply.bad why)) ≡ reply.yields t vs → ⊥
+either_no_yield : (a b : Bool) (x y : Reply) (why : _) (t : ℕ) (vs : List (List ℕ)) → (x ≡ reply.yields t vs → ⊥)
+    → (y ≡ reply.yields t vs → ⊥) → cond a x (cond b y (reply.bad why)) ≡ reply.yields t vs → ⊥
 either_no_yield true b x y why t vs no_x no_y e = no_x e
 either_no_yield false true x y why t vs no_x no_y e = no_y e
 either_no_yield false false x y why t vs no_x no_y e = absurd (cc)
 
 fields_no_yield : (fields : List (List ℕ)) (t : ℕ) (vs : List (List ℕ)) → reply.reply_of_fields wanted.Number fields ≡ reply.yields t vs → ⊥
 fields_no_yield [] t vs e = absurd (cc)
-fields_no_yield (word ∷ given) t vs e = either_no_yield _ _ (reply.end_reply given) (reply.number_reply given) _ t vs (ends_no_yield given t vs) (number_no_yield given t vs) e
+fields_no_yield (word ∷ given) t vs e =
+    either_no_yield _ _ (reply.end_reply given) (reply.number_reply given) _ t vs (ends_no_yield given t vs) (number_no_yield given t vs) e
 
 -- another stream's answer is no number
 ends_no_number : (given : List (List ℕ)) (v : ℕ) → reply.end_reply given ≡ reply.number v → ⊥
 ends_no_number [] v e = absurd (cc)
 ends_no_number (f ∷ fs) v e = absurd (cc)
 
-yields_no_number : (a b : Bool) (n : ℕ) (us : List (List ℕ)) (x y : _) (v : ℕ) → cond a (cond b (reply.yields n us) (reply.bad x)) (reply.bad y) ≡ reply.number v → ⊥
+yields_no_number : (a b : Bool) (n : ℕ) (us : List (List ℕ)) (x y : _) (v : ℕ)
+    → cond a (cond b (reply.yields n us) (reply.bad x)) (reply.bad y) ≡ reply.number v → ⊥
 yields_no_number true true n us x y v e = absurd (cc)
 yields_no_number true false n us x y v e = absurd (cc)
 yields_no_number false b n us x y v e = absurd (cc)
 
-either_no_number : (a b : Bool) (x y : Reply) (why : _) (v : ℕ) → (x ≡ reply.number v → ⊥) → (y ≡ reply.number v → ⊥) → cond a x (cond b y (reply.bad why)) ≡ reply.number v → ⊥
+either_no_number : (a b : Bool) (x y : Reply) (why : _) (v : ℕ) → (x ≡ reply.number v → ⊥) → (y ≡ reply.number v → ⊥)
+    → cond a x (cond b y (reply.bad why)) ≡ reply.number v → ⊥
 either_no_number true b x y why v no_x no_y e = no_x e
 either_no_number false true x y why v no_x no_y e = no_y e
 either_no_number false false x y why v no_x no_y e = absurd (cc)
 
-fields_no_number : (width : ℕ) (several : Bool) (fields : List (List ℕ)) (v : ℕ) → reply.reply_of_fields (wanted.Outputs width several) fields ≡ reply.number v → ⊥
+fields_no_number : (width : ℕ) (several : Bool) (fields : List (List ℕ)) (v : ℕ)
+    → reply.reply_of_fields (wanted.Outputs width several) fields ≡ reply.number v → ⊥
 fields_no_number width several [] v e = absurd (cc)
 fields_no_number width several (word ∷ given) v e = either_no_number _ _ (reply.end_reply given) (reply.given_reply (wanted.Outputs width several) given) _ v (ends_no_number given v) (yields_no_number _ _ _ _ _ _ v) e
 
-wanted_is : (task : Task) (version stream : ℕ) (s : Stream) → slice_get task.streams stream ≡ Some s → wanted_at task version stream ≡ wanted_of version s
+wanted_is : (task : Task) (version stream : ℕ) (s : Stream) → slice_get task.streams stream ≡ Some s
+    → wanted_at task version stream ≡ wanted_of version s
 wanted_is task version stream s at = rw at refl
 
 module _ (version : ℕ) (task : Task) (fit : IsFit task) where
   -- what a stream's line says may follow
-  says_right : (before : List Entry) (n : ℕ) (s : Stream) (i : Instance) (line : List ℕ) (e : Entry) → is_open before n ≡ true → asked task before n ≡ Some (record { stream = s; instance = i }) → entry_of n (reply_of line (wanted_of version s)) ≡ Some e → MayFollow version task before e × (is_answer_to n e ≡ true) × (is_answer e ≡ true)
+  says_right : (before : List Entry) (n : ℕ) (s : Stream) (i : Instance) (line : List ℕ) (e : Entry) → is_open before n ≡ true
+      → asked task before n ≡ Some (record { stream = s; instance = i }) → entry_of n (reply_of line (wanted_of version s)) ≡ Some e
+      → MayFollow version task before e × (is_answer_to n e ≡ true) × (is_answer e ≡ true)
   says_right before n s i line e waiting request is =
       elim (is_none s.worth) as (λ b. is_none s.worth ≡ b → entry_of n (reply_of line (cond b (wanted.Outputs (length s.outputs) (has_several version)) wanted.Number)) ≡ Some e → MayFollow version task before e × (is_answer_to n e ≡ true) × (is_answer e ≡ true)) [
         | true ↦ λ none said. by_outputs none (reply_of line (wanted.Outputs (length s.outputs) (has_several version))) refl said
@@ -203,16 +220,19 @@ module _ (version : ℕ) (task : Task) (fit : IsFit task) where
       itself : (n == n) ≡ true
       itself = eq-eqb n n refl
 
-      by_outputs : is_none s.worth ≡ true → (r : Reply) → reply_of line (wanted.Outputs (length s.outputs) (has_several version)) ≡ r → entry_of n r ≡ Some e → MayFollow version task before e × (is_answer_to n e ≡ true) × (is_answer e ≡ true)
+      by_outputs : is_none s.worth ≡ true → (r : Reply) → reply_of line (wanted.Outputs (length s.outputs) (has_several version)) ≡ r
+          → entry_of n r ≡ Some e → MayFollow version task before e × (is_answer_to n e ≡ true) × (is_answer e ≡ true)
       by_outputs none (reply.yields t vs) says said =
           let same : entry.Got n t vs ≡ e = cc in
           subst (λ x. MayFollow version task before x × (is_answer_to n x ≡ true) × (is_answer x ≡ true)) same
           (record { waiting = waiting; request = record { stream = s; instance = i }; of = request; no_cost = none; right = yields_are_right line (length s.outputs) (has_several version) t vs says }, itself, refl)
-      by_outputs none (reply.number v) says said = absurd (fields_no_number (length s.outputs) (has_several version) (reply.fields line) v says)
+      by_outputs none (reply.number v) says said =
+          absurd (fields_no_number (length s.outputs) (has_several version) (reply.fields line) v says)
       by_outputs none reply.ends says said = let same : entry.End n ≡ e = cc in subst (λ x. MayFollow version task before x × (is_answer_to n x ≡ true) × (is_answer x ≡ true)) same (waiting, itself, refl)
       by_outputs none (reply.bad why) says said = absurd (cc)
 
-      by_number : is_none s.worth ≡ false → (r : Reply) → reply_of line wanted.Number ≡ r → entry_of n r ≡ Some e → MayFollow version task before e × (is_answer_to n e ≡ true) × (is_answer e ≡ true)
+      by_number : is_none s.worth ≡ false → (r : Reply) → reply_of line wanted.Number ≡ r → entry_of n r ≡ Some e
+          → MayFollow version task before e × (is_answer_to n e ≡ true) × (is_answer e ≡ true)
       by_number some (reply.yields t vs) says said = absurd (fields_no_yield (reply.fields line) t vs says)
       by_number some (reply.number v) says said =
           let same : entry.Value n v ≡ e = cc in
@@ -228,7 +248,8 @@ module _ (version : ℕ) (task : Task) (fit : IsFit task) where
     requests : (m : ℕ) → asked task after m ≡ asked task before m
 
   -- those that wait still wait where nothing of them changes
-  wait_still : (before after : List Entry) (n k : ℕ) (dues : List Due) → n < k → ((m : ℕ) → ¬ (m ≡ n) → is_open after m ≡ is_open before m) → ((m : ℕ) → asked task after m ≡ asked task before m) → AllWait task before k dues → AllWait task after k dues
+  wait_still : (before after : List Entry) (n k : ℕ) (dues : List Due) → n < k → ((m : ℕ) → ¬ (m ≡ n) → is_open after m ≡ is_open before m)
+      → ((m : ℕ) → asked task after m ≡ asked task before m) → AllWait task before k dues → AllWait task after k dues
   wait_still before after n k [] below opens requests w = tt
   wait_still before after n k (d ∷ ds) below opens requests w = (
     opens k (λ e. absurd (omega (arith, e, below))) ∙ w.0,
@@ -236,7 +257,9 @@ module _ (version : ℕ) (task : Task) (fit : IsFit task) where
     wait_still before after n (k + 1) ds (omega (arith, below)) opens requests w.2,
   )
 
-  answered_all : (dues : List Due) (slots : List Slot) (before : List Entry) (n : ℕ) → IsLegal version task before → AllWait task before n dues → AreSlotsFor task version n dues slots → all_answered slots ≡ true → ((m : ℕ) → is_open before m ≡ true → (n ≤ m) × (m < n + length dues)) → Answered before (before ++ answers_of slots) (length dues)
+  answered_all : (dues : List Due) (slots : List Slot) (before : List Entry) (n : ℕ) → IsLegal version task before
+      → AllWait task before n dues → AreSlotsFor task version n dues slots → all_answered slots ≡ true
+      → ((m : ℕ) → is_open before m ≡ true → (n ≤ m) × (m < n + length dues)) → Answered before (before ++ answers_of slots) (length dues)
   answered_all [] [] before n ok waits h all only =
       subst (λ after. Answered before after 0) (sym (append-nil before))
       (record { legal = ok; none_open = λ m. false_from_ne_true (is_open before m) (λ o. let w = only m o in absurd (omega (arith, w.0, w.1))); asks = refl; requests = λ m. refl })
@@ -245,7 +268,9 @@ module _ (version : ℕ) (task : Task) (fit : IsFit task) where
   answered_all (d ∷ ds) (s ∷ ss) before n ok waits h all only =
       by s.answer refl (λ after good still bounds. answered_all ds ss after (n + 1) good still h.1 (and_parts (not (is_none s.answer)) (all_answered ss) all).1 bounds)
     where
-      by : (o : Option Entry) → s.answer ≡ o → ((after : List Entry) → IsLegal version task after → AllWait task after (n + 1) ds → ((m : ℕ) → is_open after m ≡ true → (n + 1 ≤ m) × (m < (n + 1) + length ds)) → Answered after (after ++ answers_of ss) (length ds)) → Answered before (before ++ answers_of (s ∷ ss)) (length (d ∷ ds))
+      by : (o : Option Entry) → s.answer ≡ o
+          → ((after : List Entry) → IsLegal version task after → AllWait task after (n + 1) ds → ((m : ℕ) → is_open after m ≡ true → (n + 1 ≤ m) × (m < (n + 1) + length ds)) → Answered after (after ++ answers_of ss) (length ds))
+          → Answered before (before ++ answers_of (s ∷ ss)) (length (d ∷ ds))
       by None is again = absurd (no_both (is_none s.answer) (ap is_none is) (not-true (is_none s.answer) (and_parts (not (is_none s.answer)) (all_answered ss) all).0))
       by (Some e) is again =
           let slot = h.0 in
@@ -276,7 +301,8 @@ module _ (version : ℕ) (task : Task) (fit : IsFit task) where
 -- ---- the whole round
 
 -- what stands in two lists stands in the first or the second
-two_parts : {A : Type 0} (xs ys : List A) (k : ℕ) (x : A) → slice_get (xs ++ ys) k ≡ Some x → (slice_get xs k ≡ Some x) ⊎ ((j : ℕ) × (k ≡ length xs + j) × (slice_get ys j ≡ Some x))
+two_parts : {A : Type 0} (xs ys : List A) (k : ℕ) (x : A) → slice_get (xs ++ ys) k ≡ Some x
+    → (slice_get xs k ≡ Some x) ⊎ ((j : ℕ) × (k ≡ length xs + j) × (slice_get ys j ≡ Some x))
 two_parts [] ys k x at = inr (k, (let e : k ≡ 0 + k = omega arith in e), at)
 two_parts (z ∷ zs) ys zero x at = inl at
 two_parts (z ∷ zs) ys (suc k) x at =
@@ -285,7 +311,8 @@ two_parts (z ∷ zs) ys (suc k) x at =
       | inr h ↦ inr (h.0, (let e : suc k ≡ suc (length zs) + h.0 = omega (arith, h.1) in e), h.2)
     ]
 
-wait_at : (task : Task) (before : List Entry) (n : ℕ) (dues : List Due) (j : ℕ) (i : Instance) → AllWait task before n dues → slice_get (instances_of dues) j ≡ Some i → Asks task before (n + j) i
+wait_at : (task : Task) (before : List Entry) (n : ℕ) (dues : List Due) (j : ℕ) (i : Instance) → AllWait task before n dues
+    → slice_get (instances_of dues) j ≡ Some i → Asks task before (n + j) i
 wait_at task before n [] j i w at = absurd (cc)
 wait_at task before n (d ∷ ds) zero i w at =
     let same : d.instance ≡ i = cc in
@@ -297,7 +324,9 @@ wait_at task before n (d ∷ ds) (suc j) i w at =
 
 no_answers : (task : Task) (names : List (List ℕ)) (n : ℕ) (dues : List Due) → count_by is_answer (asks_from task names n dues) ≡ 0
 no_answers task names n [] = refl
-no_answers task names n (d ∷ ds) = count_joined is_answer (ask_for task names n d ∷ []) (asks_from task names (n + 1) ds) ∙ (λ k. count_one is_answer (ask_for task names n d) k + no_answers task names (n + 1) ds k)
+no_answers task names n (d ∷ ds) =
+    count_joined is_answer (ask_for task names n d ∷ []) (asks_from task names (n + 1) ds)
+    ∙ (λ k. count_one is_answer (ask_for task names n d) k + no_answers task names (n + 1) ds k)
 
 few_answers : (slots : List Slot) → length (answers_of slots) ≤ length slots
 few_answers [] = omega arith
@@ -307,13 +336,15 @@ few_answers (s ∷ ss) =
       | Some e ↦ omega (arith, few_answers ss)
     ]
 
-as_many : (task : Task) (version n : ℕ) (dues : List Due) (slots : List Slot) → AreSlotsFor task version n dues slots → length slots ≡ length dues
+as_many : (task : Task) (version n : ℕ) (dues : List Due) (slots : List Slot) → AreSlotsFor task version n dues slots
+    → length slots ≡ length dues
 as_many task version n [] [] h = refl
 as_many task version n [] (s ∷ ss) h = absurd h
 as_many task version n (d ∷ ds) [] h = absurd h
 as_many task version n (d ∷ ds) (s ∷ ss) h = ap suc (as_many task version (n + 1) ds ss h.1)
 
-pub close_kept : (task : Task) (s : State) → s.is_open ≡ true → all_answered s.slots ≡ true → IsSession task s → IsSession task (after_close s)
+pub close_kept : (task : Task) (s : State) → s.is_open ≡ true → all_answered s.slots ≡ true → IsSession task s
+    → IsSession task (after_close s)
 close_kept task s open_now answered h =
     let r = h.round open_now in
     let first = length s.asked + 1 in

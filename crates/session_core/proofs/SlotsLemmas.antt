@@ -26,10 +26,13 @@ at_other child f s e = ap (λ b. cond b (f s) s) e
 pub child_kept : (child : ℕ) (f : Slot → Slot) → ((s : Slot) → (f s).child ≡ s.child) → (s : Slot) → (at_child child f s).child ≡ s.child
 child_kept child f keeps s = elim (is_slot_of child s) as (λ b. (cond b (f s) s).child ≡ s.child) [ true ↦ keeps s | false ↦ refl ]
 
-pub children_kept : (g : Slot → Slot) → ((s : Slot) → (g s).child ≡ s.child) → (slots : List Slot) → children_of (map g slots) ≡ children_of slots
-children_kept g keeps slots = map-map (λ (s : Slot). s.child) g slots ∙ map_at (λ (s : Slot). (g s).child) (λ (s : Slot). s.child) slots (λ k s at. keeps s)
+pub children_kept : (g : Slot → Slot) → ((s : Slot) → (g s).child ≡ s.child) → (slots : List Slot)
+    → children_of (map g slots) ≡ children_of slots
+children_kept g keeps slots =
+    map-map (λ (s : Slot). s.child) g slots ∙ map_at (λ (s : Slot). (g s).child) (λ (s : Slot). s.child) slots (λ k s at. keeps s)
 
-pub slot_of-map : (g : Slot → Slot) → ((s : Slot) → (g s).child ≡ s.child) → (slots : List Slot) (child : ℕ) → slot_of (map g slots) child ≡ option_map g (slot_of slots child)
+pub slot_of-map : (g : Slot → Slot) → ((s : Slot) → (g s).child ≡ s.child) → (slots : List Slot) (child : ℕ)
+    → slot_of (map g slots) child ≡ option_map g (slot_of slots child)
 slot_of-map g keeps [] child = refl
 slot_of-map g keeps (s ∷ ss) child =
     ap (λ c. cond (c == child) (Some (g s)) (slot_of (map g ss) child)) (keeps s)
@@ -47,7 +50,8 @@ slot_child (t ∷ ts) child s e =
     ] refl e
 
 -- where children are distinct, each slot is the one of its child
-pub own_slot : (slots : List Slot) (k : ℕ) (s : Slot) → AreDistinct (children_of slots) → slice_get slots k ≡ Some s → slot_of slots s.child ≡ Some s
+pub own_slot : (slots : List Slot) (k : ℕ) (s : Slot) → AreDistinct (children_of slots) → slice_get slots k ≡ Some s
+    → slot_of slots s.child ≡ Some s
 own_slot [] k s d at = absurd (cc)
 own_slot (t ∷ ts) zero s d at =
     let same : t ≡ s = cc in
@@ -79,7 +83,8 @@ slot_place (t ∷ ts) child s e =
     ] e
 
 -- a write at the place of a child's slot changes the slot of the child alone
-pub set_at_child : (slots : List Slot) (child k : ℕ) (s : Slot) (f : Slot → Slot) → AreDistinct (children_of slots) → slice_get slots k ≡ Some s → s.child ≡ child → set slots k (f s) ≡ map (at_child child f) slots
+pub set_at_child : (slots : List Slot) (child k : ℕ) (s : Slot) (f : Slot → Slot) → AreDistinct (children_of slots)
+    → slice_get slots k ≡ Some s → s.child ≡ child → set slots k (f s) ≡ map (at_child child f) slots
 set_at_child [] child k s f d at own = refl
 set_at_child (t ∷ ts) child zero s f d at own =
     let same : t ≡ s = cc in
@@ -113,7 +118,8 @@ set_at_child (t ∷ ts) child (suc k) s f d at own =
     first_apart false e later = e
 
 -- the slot of the child, where that stands first among those that are left
-pub found_first : (slots : List Slot) (place child : ℕ) (s : Slot) → slice_get slots place ≡ Some s → s.child ≡ child → slot_of (drop place slots) child ≡ Some s
+pub found_first : (slots : List Slot) (place child : ℕ) (s : Slot) → slice_get slots place ≡ Some s → s.child ≡ child
+    → slot_of (drop place slots) child ≡ Some s
 found_first [] place child s at own = absurd (cc)
 found_first (t ∷ ts) zero child s at own =
     let same : t ≡ s = cc in

@@ -23,7 +23,8 @@ after slots (e ∷ events) = after (map (change_by e) slots) events
 -- the event may come where these are the slots; the line is an answer
 abbrev pub MayCome : List Slot → Event → Type 0
 MayCome slots (sends child) = IsUnsent slots child
-MayCome slots (says child line) = (waits : IsAwaited slots child) × (length line ≤ 1024) × (fault_of (reply_to line waits.slot) ≡ None)
+MayCome slots (says child line) =
+    (waits : IsAwaited slots child) × (length line ≤ 1024) × (fault_of (reply_to line waits.slot) ≡ None)
 
 -- Each event may come after those before it, and in the end each request has its answer.
 abbrev pub IsPlayed : List Slot → List Event → Type 0
@@ -34,7 +35,8 @@ IsPlayed slots (e ∷ events) = MayCome slots e × IsPlayed (map (change_by e) s
 abbrev pub lines_of : ℕ → List Event → List (List ℕ)
 lines_of child [] = []
 lines_of child (sends other ∷ events) = lines_of child events
-lines_of child (says other line ∷ events) = if child == other then line ∷ lines_of child events else lines_of child events
+lines_of child (says other line ∷ events) =
+    if child == other then line ∷ lines_of child events else lines_of child events
 
 -- nothing was sent, and each slot has a child of its own
 pub record IsFresh (slots : List Slot) : Type 0 where
@@ -51,7 +53,9 @@ own_answer events slot = of (lines_of slot.child events)
 
 -- In whatever order the events of a round come, its answers are those that each slot's own child gave in its one line.
 abbrev pub AnswersAreOwn : Type 0
-AnswersAreOwn = (slots : List Slot) (events : List Event) → IsFresh slots → IsPlayed slots events → answers_of (after slots events) ≡ filter_map (own_answer events) slots
+AnswersAreOwn =
+    (slots : List Slot) (events : List Event) → IsFresh slots → IsPlayed slots events
+    → answers_of (after slots events) ≡ filter_map (own_answer events) slots
 
 -- Two orders in which each child says the same leave the same answers.
 abbrev pub OrderDoesNotMatter : Type 0
@@ -60,4 +64,6 @@ OrderDoesNotMatter =
 
 -- Each child of a round says one line.
 abbrev pub EachSaysOne : Type 0
-EachSaysOne = (slots : List Slot) (events : List Event) → IsFresh slots → IsPlayed slots events → All (λ (s : Slot). length (lines_of s.child events) ≡ 1) slots
+EachSaysOne =
+    (slots : List Slot) (events : List Event) → IsFresh slots → IsPlayed slots events
+    → All (λ (s : Slot). length (lines_of s.child events) ≡ 1) slots

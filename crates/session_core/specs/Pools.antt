@@ -34,8 +34,10 @@ pub record HasChild (pool : Workers) (child : ℕ) : Type 0 where
 -- Each stream of the task is served by one pool, and pools have children of their own, one at least, with numbers up to 16.
 pub record AreFitPools (task : Task) (all : List Workers) : Type 0 where
   pub served : (stream : ℕ) → stream < length task.streams → (pool : Workers) × (server all stream ≡ Some pool)
-  pub apart : (j k child : ℕ) (p q : Workers) → slice_get all j ≡ Some p → slice_get all k ≡ Some q → HasChild p child → HasChild q child → j ≡ k
-  pub once : (j k stream : ℕ) (p q : Workers) → slice_get all j ≡ Some p → slice_get all k ≡ Some q → serves p stream ≡ true → serves q stream ≡ true → j ≡ k
+  pub apart : (j k child : ℕ) (p q : Workers) → slice_get all j ≡ Some p → slice_get all k ≡ Some q → HasChild p child
+      → HasChild q child → j ≡ k
+  pub once : (j k stream : ℕ) (p q : Workers) → slice_get all j ≡ Some p → slice_get all k ≡ Some q
+      → serves p stream ≡ true → serves q stream ≡ true → j ≡ k
   pub some : (k : ℕ) (p : Workers) → slice_get all k ≡ Some p → 1 ≤ p.workers
   pub few : (k : ℕ) (p : Workers) → slice_get all k ≡ Some p → p.first + p.workers ≤ 17
 

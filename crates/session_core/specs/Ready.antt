@@ -16,7 +16,8 @@ use Rattle.session_core.specs.declared.pools.Workers.{Workers}
 
 -- The asks are due after the transcript, each with its turn, and of different instances.
 pub record AreReady (task : Task) (entries : List Entry) (dues : List Due) : Type 0 where
-  pub due : (i : Instance) → Contains (instances_of dues) i → IsDue task (known_of task entries) (notes_of task entries) i
+  pub due : (i : Instance) → Contains (instances_of dues) i
+      → IsDue task (known_of task entries) (notes_of task entries) i
   pub turns : All (λ (d : Due). d.turn ≡ yields_of (notes_of task entries) d.instance) dues
   pub distinct : AreDistinct (instances_of dues)
 

@@ -36,18 +36,21 @@ pub record IsFitHead (task : Task) (head : Head) : Type 0 where
 pub record IsSlotFor (task : Task) (version number : ℕ) (due : Due) (slot : Slot) : Type 0 where
   pub numbered : slot.number ≡ number
   pub wanted : slot.wanted ≡ wanted_at task version due.instance.stream
-  pub right : (e : Entry) → slot.answer ≡ Some e → (line : List ℕ) × (entry_of slot.number (reply_of line slot.wanted) ≡ Some e)
+  pub right : (e : Entry) → slot.answer ≡ Some e
+      → (line : List ℕ) × (entry_of slot.number (reply_of line slot.wanted) ≡ Some e)
 
 abbrev pub AreSlotsFor : Task → ℕ → ℕ → List Due → List Slot → Type 0
 AreSlotsFor task version number [] [] = Unit {0}
-AreSlotsFor task version number (due ∷ dues) (slot ∷ slots) = IsSlotFor task version number due slot × AreSlotsFor task version (number + 1) dues slots
+AreSlotsFor task version number (due ∷ dues) (slot ∷ slots) =
+    IsSlotFor task version number due slot × AreSlotsFor task version (number + 1) dues slots
 AreSlotsFor task version number [] (slot ∷ slots) = ⊥
 AreSlotsFor task version number (due ∷ dues) [] = ⊥
 
 -- The open round is one of asks that are due after the transcript, each with its turn, of different instances.
 pub record IsRoundOf (task : Task) (s : State) : Type 0 where
   pub dues : List Due
-  pub due : (i : Instance) → Contains (instances_of dues) i → IsDue task (known_of task s.entries) (notes_of task s.entries) i
+  pub due : (i : Instance) → Contains (instances_of dues) i
+      → IsDue task (known_of task s.entries) (notes_of task s.entries) i
   pub turns : All (λ (d : Due). d.turn ≡ yields_of (notes_of task s.entries) d.instance) dues
   pub distinct : AreDistinct (instances_of dues)
   pub instances : s.instances ≡ instances_of dues

@@ -31,7 +31,8 @@ pub record Slot : Type 0 where
 
 -- what a stream may answer in this version of the protocol
 abbrev pub wanted_of : ℕ → Stream → Wanted
-wanted_of version stream = if is_none stream.worth then wanted.Outputs (length stream.outputs) (has_several version) else wanted.Number
+wanted_of version stream =
+    if is_none stream.worth then wanted.Outputs (length stream.outputs) (has_several version) else wanted.Number
 
 abbrev pub wanted_at : Task → ℕ → ℕ → Wanted
 wanted_at task version stream = of (slice_get task.streams stream)
@@ -67,11 +68,13 @@ module _ (task : Task) (names : List (List ℕ)) where
 
     abbrev pub slots_from : ℕ → List ℕ → List Due → List Slot
     slots_from number before [] = []
-    slots_from number before (due ∷ dues) = slot_for number before due ∷ slots_from (number + 1) (before ++ due.instance.stream ∷ []) dues
+    slots_from number before (due ∷ dues) =
+        slot_for number before due ∷ slots_from (number + 1) (before ++ due.instance.stream ∷ []) dues
 
 -- each due has a child, whose number is at most 16
 abbrev pub AreFitChildren : List Workers → List Due → Type 0
-AreFitChildren pools dues = (k : ℕ) (d : Due) → slice_get dues k ≡ Some d → child_for pools (streams_of (take k dues)) d.instance.stream ≤ 16
+AreFitChildren pools dues =
+    (k : ℕ) (d : Due) → slice_get dues k ≡ Some d → child_for pools (streams_of (take k dues)) d.instance.stream ≤ 16
 
 -- ---- what was heard
 

@@ -77,7 +77,15 @@ impl Cell {
         wanted: Wanted,
     ) -> Result<Cell, AllocError>
         requires { IsNarrow wanted }
-        ensures { IfOk result (λ cell. cell ≡ record { number = number; child = child; request = request.items; wanted = wanted; sent = false; answer = None }) }
+        ensures { IfOk result (λ cell. cell
+            ≡ record {
+              number = number;
+              child = child;
+              request = request.items;
+              wanted = wanted;
+              sent = false;
+              answer = None;
+            }) }
     {
         let room = Room::new(alloc, most(wanted))?;
         Ok(Cell {

@@ -35,8 +35,11 @@ fn learn_tuples(
     tuples: u8,
     values: &[Name],
 ) -> Result<(), AllocError>
-    requires may { MayLearn task.now facts.old.known [] (record { stream = stream.now; instance = instance.now }) (entry.Got 0 tuples values.now) }
-    ensures known { OnOk result (facts.new.known ≡ known_with task.now facts.old.known (record { stream = stream.now; instance = instance.now }) (entry.Got 0 tuples values.now)) }
+    requires may { MayLearn task.now facts.old.known []
+        (record { stream = stream.now; instance = instance.now }) (entry.Got 0 tuples values.now) }
+    ensures known { OnOk result (facts.new.known
+        ≡ known_with task.now facts.old.known
+        (record { stream = stream.now; instance = instance.now }) (entry.Got 0 tuples values.now)) }
 {
     let mut rest = values;
     for _ in 0..tuples {
@@ -75,9 +78,14 @@ fn learn_answer(
     instance: &Instance,
     entry: &Entry,
 ) -> Result<(), AllocError>
-    requires { MayLearn task.now facts.old.known queue.old (record { stream = stream.now; instance = instance.now }) entry.now }
-    ensures known { OnOk result (facts.new.known ≡ known_with task.now facts.old.known (record { stream = stream.now; instance = instance.now }) entry.now) }
-    ensures notes { OnOk result (queue.new ≡ notes_with queue.old (record { stream = stream.now; instance = instance.now }) entry.now) }
+    requires { MayLearn task.now facts.old.known queue.old
+        (record { stream = stream.now; instance = instance.now }) entry.now }
+    ensures known { OnOk result (facts.new.known
+        ≡ known_with task.now facts.old.known
+        (record { stream = stream.now; instance = instance.now }) entry.now) }
+    ensures notes { OnOk result (queue.new
+        ≡ notes_with queue.old (record { stream = stream.now; instance = instance.now })
+        entry.now) }
 {
     match entry {
         Entry::Got { tuples, values, .. } => {

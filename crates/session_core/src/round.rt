@@ -67,7 +67,8 @@ fn names_of(alloc: Global, facts: &Facts, objects: &[Obj]) -> Result<Seq<Name>, 
 /// How an instance is shown.
 fn call_of(scene: &Scene<'_>, instance: &Instance) -> Result<Call, AllocError>
     requires { IsNamed scene.now.task.now scene.now.facts.now.known.names instance.now }
-    ensures { IfOk result (λ call. call ≡ call_of_instance scene.now.task.now scene.now.facts.now.known.names instance.now) }
+    ensures { IfOk result (λ call. call
+        ≡ call_of_instance scene.now.task.now scene.now.facts.now.known.names instance.now) }
 {
     let stream = &scene.task.streams.as_slice()[instance.stream as usize];
     let name = stream.name.copy(scene.alloc)?;
@@ -93,7 +94,8 @@ fn wanted_for(scene: &Scene<'_>, stream: u32) -> Wanted
 /// The request of this number as an entry.
 fn ask_for(scene: &Scene<'_>, number: u32, due: &Due) -> Result<Entry, AllocError>
     requires { IsNamed scene.now.task.now scene.now.facts.now.known.names due.now.instance }
-    ensures { IfOk result (λ ask. ask ≡ ask_of scene.now.task.now scene.now.facts.now.known.names number due.now) }
+    ensures { IfOk result (λ ask. ask
+        ≡ ask_of scene.now.task.now scene.now.facts.now.known.names number due.now) }
 {
     let call = call_of(scene, &due.instance)?;
     Ok(Entry::Ask {
@@ -107,8 +109,11 @@ fn ask_for(scene: &Scene<'_>, number: u32, due: &Due) -> Result<Entry, AllocErro
 fn cell_for(scene: &Scene<'_>, number: u32, before: &[Due], due: &Due) -> Result<Cell, AllocError>
     requires fit { IsFit scene.now.task.now }
     requires named { IsNamed scene.now.task.now scene.now.facts.now.known.names due.now.instance }
-    requires child { child_for scene.now.pools.now (streams_of before.now) due.now.instance.stream ≤ 16 }
-    ensures { IfOk result (λ cell. cell ≡ slot_for scene.now.task.now scene.now.facts.now.known.names scene.now.version scene.now.pools.now number (streams_of before.now) due.now) }
+    requires child { child_for scene.now.pools.now (streams_of before.now)
+        due.now.instance.stream ≤ 16 }
+    ensures { IfOk result (λ cell. cell
+        ≡ slot_for scene.now.task.now scene.now.facts.now.known.names scene.now.version
+        scene.now.pools.now number (streams_of before.now) due.now) }
 {
     let request = request_text(
         scene.alloc,
@@ -126,11 +131,15 @@ fn cell_for(scene: &Scene<'_>, number: u32, before: &[Due], due: &Due) -> Result
 pub(crate) fn round_of(scene: &Scene<'_>, first: u32, dues: &[Due]) -> Result<Round, AllocError>
     requires fit { IsFit scene.now.task.now }
     requires few { first + length dues.now < 2 ^ 32 }
-    requires named { All (λ d. IsNamed scene.now.task.now scene.now.facts.now.known.names d.instance) dues.now }
+    requires named { All (λ d. IsNamed scene.now.task.now scene.now.facts.now.known.names
+        d.instance) dues.now }
     requires children { AreFitChildren scene.now.pools.now dues.now }
-    ensures asks { IfOk result (λ round. round.asks.items ≡ asks_from scene.now.task.now scene.now.facts.now.known.names first dues.now) }
+    ensures asks { IfOk result (λ round. round.asks.items
+        ≡ asks_from scene.now.task.now scene.now.facts.now.known.names first dues.now) }
     ensures instances { IfOk result (λ round. round.instances.items ≡ instances_of dues.now) }
-    ensures cells { IfOk result (λ round. round.cells.items ≡ slots_from scene.now.task.now scene.now.facts.now.known.names scene.now.version scene.now.pools.now first [] dues.now) }
+    ensures cells { IfOk result (λ round. round.cells.items
+        ≡ slots_from scene.now.task.now scene.now.facts.now.known.names scene.now.version
+        scene.now.pools.now first [] dues.now) }
 {
     let mut asks = Vec::new(scene.alloc);
     let mut instances = Vec::new(scene.alloc);

@@ -95,8 +95,11 @@ impl Session {
     /// that was answered is learnt, and the asks are due, that front of them may begin.
     pub fn next_round(&self, dues: &[Due]) -> usize
         ensures cut { IsNextRound self.now dues.now result }
-        ensures some { (task : AnyTask) → IsSession task self.now → 0 < length dues.now → length self.now.asked < self.now.calls → 0 < result }
-        ensures may { (task : AnyTask) → IsSession task self.now → self.now.failed ≡ false → IsLearnt self.now → AreReady task self.now.entries dues.now → MayBeginRound task self.now (take result dues.now) }
+        ensures some { (task : AnyTask) → IsSession task self.now → 0 < length dues.now
+            → length self.now.asked < self.now.calls → 0 < result }
+        ensures may { (task : AnyTask) → IsSession task self.now → self.now.failed ≡ false
+            → IsLearnt self.now → AreReady task self.now.entries dues.now
+            → MayBeginRound task self.now (take result dues.now) }
     {
         let left = self.calls as usize - self.asked.len();
         let most = dues.len().min(left);
@@ -140,7 +143,8 @@ impl Session {
     pub fn request(&self, number: usize) -> (u8, &[u8])
         requires working { self.now.failed ≡ false }
         requires number { number < length self.now.slots }
-        ensures { IfSome (slice_get self.now.slots number) (λ slot. (result.0 ≡ slot.child) × (result.1.now ≡ slot.request)) }
+        ensures { IfSome (slice_get self.now.slots number)
+            (λ slot. (result.0 ≡ slot.child) × (result.1.now ≡ slot.request)) }
     {
         let cell = &self.round.cells[number];
         (cell.child(), cell.request())
@@ -186,7 +190,8 @@ impl Session {
     /// What was heard for the due at this place, from 0, of the open round, if it is answered.
     pub fn answer(&self, number: usize) -> Option<&Entry>
         requires number { number < length self.now.slots }
-        ensures { IfSome (slice_get self.now.slots number) (λ slot. option_copied result ≡ slot.answer) }
+        ensures { IfSome (slice_get self.now.slots number)
+            (λ slot. option_copied result ≡ slot.answer) }
     {
         self.round.cells[number].answer()
     }
@@ -211,7 +216,8 @@ impl Session {
         requires awaited { IsAwaited self.old.slots child }
         requires few { length bytes.now ≤ 1024 }
         ensures heard { result ≡ heard_at self.old.slots child bytes.now }
-        ensures after { self.new ≡ after_line self.old child bytes.now (is_bad_at self.old.slots child bytes.now) }
+        ensures after { self.new ≡ after_line self.old child bytes.now
+            (is_bad_at self.old.slots child bytes.now) }
         ensures kept { (task : AnyTask) → IsSession task self.old → IsSession task self.new }
     {
         let Some(place) = place_of(self.round.cells.as_slice(), child) else {
@@ -252,7 +258,10 @@ impl Session {
         requires answered { all_answered self.old.slots ≡ true }
         ensures after { self.new ≡ after_close self.old }
         ensures kept { (task : AnyTask) → IsSession task self.old → IsSession task self.new }
-        ensures rest { (task : AnyTask) (dues : List AnyDue) (count : ℕ) → IsSession task self.old → self.old.instances ≡ instances_of (take count dues) → AreReady task self.old.entries dues → AreReady task self.new.entries (drop count dues) }
+        ensures rest { (task : AnyTask) (dues : List AnyDue) (count : ℕ) → IsSession task self.old
+            → self.old.instances ≡ instances_of (take count dues)
+            → AreReady task self.old.entries dues
+            → AreReady task self.new.entries (drop count dues) }
     {
         let round = mem::replace(&mut self.round, Round::empty(self.alloc));
         let Round {
@@ -273,7 +282,8 @@ impl Session {
         requires session { IsSession task.now self.old }
         ensures learnt { OnOk result (self.new ≡ after_learn task.now self.old) }
         ensures working { OnOk result (self.old.failed ≡ false) }
-        ensures err { OnErr result (self.new ≡ with_learnt self.old self.new.known self.new.notes self.old.learnt true) }
+        ensures err { OnErr result (self.new
+            ≡ with_learnt self.old self.new.known self.new.notes self.old.learnt true) }
         ensures failed { IfErr result (λ fault. fault ≡ Failed → self.new ≡ self.old) }
         ensures fault { IfErr result (ComesOf self.old) }
         ensures kept { IsSession task.now self.new }
@@ -308,7 +318,10 @@ impl Session {
         requires working { self.old.failed ≡ false }
         requires closed { self.old.is_open ≡ false }
         requires mark { is_mark entry ≡ true }
-        ensures ok { OnOk result (self.new ≡ after_mark self.old entry (if self.old.learnt == length self.old.entries then self.old.learnt + 1 else self.old.learnt)) }
+        ensures ok { OnOk result (self.new
+            ≡ after_mark self.old entry
+            (if self.old.learnt == length self.old.entries then self.old.learnt + 1 else
+            self.old.learnt)) }
         ensures err { OnErr result (self.new ≡ self.old) }
         ensures kept { (task : AnyTask) → IsSession task self.old → IsSession task self.new }
     {
@@ -325,9 +338,12 @@ impl Session {
         requires session { IsSession task.now self.now }
         requires working { self.now.failed ≡ false }
         requires learnt { IsLearnt self.now }
-        ensures due { IfOk result (λ dues. level.AreDueInTurn task.now (known_of task.now self.now.entries) (notes_of task.now self.now.entries) dues.items) }
+        ensures due { IfOk result (λ dues. level.AreDueInTurn task.now
+            (known_of task.now self.now.entries) (notes_of task.now self.now.entries) dues.items) }
         ensures ready { IfOk result (λ dues. AreReady task.now self.now.entries dues.items) }
-        ensures fault { IfErr result (level.ComesOf task.now (known_of task.now self.now.entries) (notes_of task.now self.now.entries)) }
+        ensures fault { IfErr result
+            (level.ComesOf task.now (known_of task.now self.now.entries)
+            (notes_of task.now self.now.entries)) }
     {
         self.queue.next_level(task, &self.facts)
     }

@@ -22,7 +22,13 @@ fn streams(alloc: Global, task: &Task) -> Result<Seq<u32>, AllocError>
 /// One pool of so many workers, which serves all streams.
 fn pools(alloc: Global, task: &Task, workers: u8) -> Result<Seq<Pool>, AllocError>
     requires { length task.now.streams ≤ 99 }
-    ensures { IfOk result (λ pools. pools ≡ record { first = 0; workers = workers; streams = numbers_from 0 (length task.now.streams); argv = [] } ∷ []) }
+    ensures { IfOk result (λ pools. pools
+        ≡ record {
+          first = 0;
+          workers = workers;
+          streams = numbers_from 0 (length task.now.streams);
+          argv = [];
+        } ∷ []) }
 {
     let streams = streams(alloc, task)?;
     let pool = Pool {

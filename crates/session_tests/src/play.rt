@@ -98,7 +98,8 @@ pub fn round(
     requires ready { AreReady task.now session.old.entries dues.now }
     ensures within { IfOk result (λ count. count ≤ length dues.now) }
     ensures stands { IfOk result (λ count. Stands task.now session.new) }
-    ensures rest { IfOk result (λ count. AreReady task.now session.new.entries (drop count dues.now)) }
+    ensures rest { IfOk result (λ count. AreReady task.now session.new.entries
+        (drop count dues.now)) }
 {
     let count = session.next_round(dues);
     session.begin_round(task, &dues[..count])?;

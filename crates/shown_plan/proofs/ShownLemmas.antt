@@ -30,7 +30,8 @@ module _ (task : Task) (known : Known) (coherent : IsCoherent known) where
   args_in (o ∷ os) (s ∷ ss) e = All-cons (IsIn known.names) o os (typed_in o s (first_so (has_type known o s) (have_types known os ss) e)) (args_in os ss (second_so (has_type known o s) (have_types known os ss) e))
 
   -- the steps of a plan that can be executed
-  pub named_steps : (before after : Atoms) (steps : List GroundAction) (total : ℕ) → Executes task known before steps after total → AreNamedSteps task known.names steps
+  pub named_steps : (before after : Atoms) (steps : List GroundAction) (total : ℕ) → Executes task known before steps after total
+      → AreNamedSteps task known.names steps
   named_steps before after [] total e = record { actions = All-nil _; objects = All-nil _ }
   named_steps before after (step ∷ steps) total e =
       let one : IsStep task known before step e.0 e.1 = e.3 in
@@ -45,6 +46,8 @@ module _ (task : Task) (known : Known) (coherent : IsCoherent known) where
   valid_named steps cost v = named_steps _ v.0 steps cost v.1
 
 -- an outcome that shows a valid plan is true
-pub true_outcome : (limits : Limits) (task : Task) (entries : List Entry) (steps : List GroundAction) (cost : ℕ) (o : Outcome) → ShowsPlan limits.version task entries steps cost o → IsValid task (known_of task entries) steps cost → IsTrueOutcome limits task entries o
+pub true_outcome : (limits : Limits) (task : Task) (entries : List Entry) (steps : List GroundAction) (cost : ℕ) (o : Outcome)
+    → ShowsPlan limits.version task entries steps cost o → IsValid task (known_of task entries) steps cost
+    → IsTrueOutcome limits task entries o
 true_outcome limits task entries steps cost o s valid =
     subst (IsTrueOutcome limits task entries) (sym s.is) (record { steps = steps; shown = s.shown; valid = valid; origins = s.origins })

@@ -11,7 +11,8 @@ use Rattle.shown_plan.specs.declared.source.Source.{Source}
 
 -- ---- one entry more
 
-pub value_next : (entries : List Entry) (e : Entry) (n : ℕ) (value : List ℕ) → has_value (entries ++ e ∷ []) n value ≡ (has_value entries n value || has_value (e ∷ []) n value)
+pub value_next : (entries : List Entry) (e : Entry) (n : ℕ) (value : List ℕ)
+    → has_value (entries ++ e ∷ []) n value ≡ (has_value entries n value || has_value (e ∷ []) n value)
 value_next entries e n value = list_any-append _ entries (e ∷ [])
 
 module _ (entries : List Entry) (e : Entry) (value : List ℕ) where
@@ -22,14 +23,17 @@ module _ (entries : List Entry) (e : Entry) (value : List ℕ) where
   value_here : (n : ℕ) → has_value (e ∷ []) n value ≡ true → has_value (entries ++ e ∷ []) n value ≡ true
   value_here n h = value_next entries e n value ∙ or_right _ _ h
 
-  value_cases : (n : ℕ) → has_value (entries ++ e ∷ []) n value ≡ true → (has_value entries n value ≡ true) ⊎ (has_value (e ∷ []) n value ≡ true)
+  value_cases : (n : ℕ) → has_value (entries ++ e ∷ []) n value ≡ true
+      → (has_value entries n value ≡ true) ⊎ (has_value (e ∷ []) n value ≡ true)
   value_cases n h = or_cases _ _ (sym (value_next entries e n value) ∙ h)
 
-  none_next : ((n : ℕ) → has_value entries n value ≡ false) → ((n : ℕ) → has_value (e ∷ []) n value ≡ false) → (n : ℕ) → has_value (entries ++ e ∷ []) n value ≡ false
+  none_next : ((n : ℕ) → has_value entries n value ≡ false) → ((n : ℕ) → has_value (e ∷ []) n value ≡ false) → (n : ℕ)
+      → has_value (entries ++ e ∷ []) n value ≡ false
   none_next before here n = value_next entries e n value ∙ (λ i. before n i || here n i)
 
   -- the entry doesn't have the value
-  kept_none : (source : Source) → IsSource entries value source → ((n : ℕ) → has_value (e ∷ []) n value ≡ false) → IsSource (entries ++ e ∷ []) value source
+  kept_none : (source : Source) → IsSource entries value source → ((n : ℕ) → has_value (e ∷ []) n value ≡ false)
+      → IsSource (entries ++ e ∷ []) value source
   kept_none source s here = record {
     there = value_before source.number s.there;
     first = λ n h. elim (value_cases n h) [ inl before ↦ s.first n before | inr now ↦ absurd (both_ways _ (here n) now) ];
@@ -37,7 +41,8 @@ module _ (entries : List Entry) (e : Entry) (value : List ℕ) where
   }
 
   -- the entry has the value, for no lesser request
-  kept_some : (source found : Source) → IsSource entries value source → IsSourceIn e value found → source.number ≤ found.number → IsSource (entries ++ e ∷ []) value source
+  kept_some : (source found : Source) → IsSource entries value source → IsSourceIn e value found → source.number ≤ found.number
+      → IsSource (entries ++ e ∷ []) value source
   kept_some source found s f le = record {
     there = value_before source.number s.there;
     first = λ n h. elim (value_cases n h) [ inl before ↦ s.first n before | inr now ↦ let same : n ≡ found.number = eqb-true n found.number (sym (f.there n) ∙ now) in omega (arith, le, same) ];
@@ -45,14 +50,19 @@ module _ (entries : List Entry) (e : Entry) (value : List ℕ) where
   }
 
   -- the entry has the value, for the least request
-  taken : (found : Source) → IsSourceIn e value found → ((n : ℕ) → has_value entries n value ≡ true → found.number ≤ n) → IsSource (entries ++ e ∷ []) value found
+  taken : (found : Source) → IsSourceIn e value found → ((n : ℕ) → has_value entries n value ≡ true → found.number ≤ n)
+      → IsSource (entries ++ e ∷ []) value found
   taken found f before = record {
     there = value_here found.number (f.there found.number ∙ eq-eqb found.number found.number refl);
     first = λ n h. elim (value_cases n h) [ inl old ↦ before n old | inr now ↦ let same : n ≡ found.number = eqb-true n found.number (sym (f.there n) ∙ now) in omega (arith, same) ];
     tuple = (e, Contains-append_right entries (e ∷ []) e (0, omega arith, refl), f.tuple);
   }
 
-  pub best_next : (best found result : Option Source) → IsBest entries value best → IfNone found ((n : ℕ) → has_value (e ∷ []) n value ≡ false) → IfSome found (IsSourceIn e value) → (result ≡ best) ⊎ (result ≡ found) → IfSome result (λ (least : Source). IfSome best (λ (source : Source). least.number ≤ source.number)) → IfSome result (λ (least : Source). IfSome found (λ (source : Source). least.number ≤ source.number)) → IfNone result ((best ≡ None) × (found ≡ None)) → IsBest (entries ++ e ∷ []) value result
+  pub best_next : (best found result : Option Source) → IsBest entries value best
+      → IfNone found ((n : ℕ) → has_value (e ∷ []) n value ≡ false) → IfSome found (IsSourceIn e value) → (result ≡ best) ⊎ (result ≡ found)
+      → IfSome result (λ (least : Source). IfSome best (λ (source : Source). least.number ≤ source.number))
+      → IfSome result (λ (least : Source). IfSome found (λ (source : Source). least.number ≤ source.number))
+      → IfNone result ((best ≡ None) × (found ≡ None)) → IsBest (entries ++ e ∷ []) value result
   best_next None None None b none some one lb lf nn = record { some = tt; none = none_next b.none none }
   best_next None None (Some r) b none some one lb lf nn = elim one [ inl h ↦ absurd (cc) | inr h ↦ absurd (cc) ]
   best_next (Some s) found None b none some one lb lf nn = let no : Some s ≡ None = nn.0 in absurd (cc)
@@ -70,5 +80,6 @@ module _ (entries : List Entry) (e : Entry) (value : List ℕ) where
     | inr h ↦ let same : r ≡ f = cc in record { some = subst (IsSource (entries ++ e ∷ []) value) (sym same) (taken f some (λ n there. let below : f.number ≤ s.number = subst (λ (x : Source). x.number ≤ s.number) same lb in omega (arith, below, b.some.first n there))); none = tt }
   ]
 
-pub next_entry : (entries : List Entry) (i : ℕ) (e : Entry) → i < length entries → e ≡ get_or entries i e → take (i + 1) entries ≡ take i entries ++ e ∷ []
+pub next_entry : (entries : List Entry) (i : ℕ) (e : Entry) → i < length entries → e ≡ get_or entries i e
+    → take (i + 1) entries ≡ take i entries ++ e ∷ []
 next_entry entries i e lt is = take_more entries i e lt ∙ ap (λ x. take i entries ++ x ∷ []) (sym is)

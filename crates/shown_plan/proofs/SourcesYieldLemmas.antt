@@ -54,7 +54,8 @@ even_entry version task before (entry.Pick number) h = tt
 even_entry version task before (entry.Retire number) h = tt
 
 pub even_entries : (version : ℕ) (task : Task) (entries : List Entry) → IsLegal version task entries → All IsEven entries
-even_entries version task entries legal k d lt = even_entry version task (take k entries) (get_or entries k d) (legal k (get_or entries k d) (slice_get-get_or entries k d lt))
+even_entries version task entries legal k d lt =
+    even_entry version task (take k entries) (get_or entries k d) (legal k (get_or entries k d) (slice_get-get_or entries k d lt))
 
 -- ---- generated names
 
@@ -85,7 +86,8 @@ given_by entries entry.Reset name there c = absurd (omega (arith, c.1))
 given_by entries (entry.Pick number) name there c = absurd (omega (arith, c.1))
 given_by entries (entry.Retire number) name there c = absurd (omega (arith, c.1))
 
-given_in : (task : Task) (fit : IsFit task) (entries : List Entry) (name : List ℕ) → is_generated name ≡ true → Contains (names_of task entries) name → IsGiven entries name
+given_in : (task : Task) (fit : IsFit task) (entries : List Entry) (name : List ℕ) → is_generated name ≡ true
+    → Contains (names_of task entries) name → IsGiven entries name
 given_in task fit entries name hash c = elim (with_names_from (declared_names task) (flat_map objects_in entries) name c) [
   | inl old ↦
       let v = hash_value name hash in
@@ -106,7 +108,8 @@ stands calls name e =
     let any = Any-from_list_any (λ (c : Call). is_among c.args name) calls e in
     record { call = any.1; there = (any.0, any.2, any.3); here = among_from any.1.args name any.4 }
 
-stands_back : (calls : List Call) (name : List ℕ) (call : Call) → Contains calls call → Contains call.args name → stands_in calls name ≡ true
+stands_back : (calls : List Call) (name : List ℕ) (call : Call) → Contains calls call → Contains call.args name
+    → stands_in calls name ≡ true
 stands_back calls name call there here =
     list_any_at (λ (c : Call). is_among c.args name) calls there.0 call there.1 (subst (λ (c : Call). is_among c.args name ≡ true) (sym there.2) (among_is call.args name here))
 
@@ -121,7 +124,8 @@ used_is calls name = (
 )
 
 -- a name that stands in the calls of named steps is in the table
-named_in : (task : Task) (names : List (List ℕ)) (steps : List GroundAction) (name : List ℕ) → AreNamedSteps task names steps → Stands (map (call_of_step task names) steps) name → Contains names name
+named_in : (task : Task) (names : List (List ℕ)) (steps : List GroundAction) (name : List ℕ) → AreNamedSteps task names steps
+    → Stands (map (call_of_step task names) steps) name → Contains names name
 named_in task names steps name named s =
     let step = mapped_from (call_of_step task names) steps s.call s.there in
     let here : Contains (map (name_at names) step.0.args) name = subst (λ (c : Call). Contains c.args name) (sym step.2) s.here in
@@ -129,13 +133,17 @@ named_in task names steps name named s =
     let all : All (IsIn names) step.0.args = All-contains (λ (g : GroundAction). All (IsIn names) g.args) steps step.0 named.objects step.1 in
     subst (Contains names) object.2 (in_table names object.0 (All-contains (IsIn names) step.0.args object.0 all object.1))
 
-pub given_names : (task : Task) (fit : IsFit task) (entries : List Entry) (steps : List GroundAction) (calls : List Call) (keys : List (List ℕ)) → AreNamedSteps task (names_of task entries) steps → calls ≡ map (call_of_step task (names_of task entries)) steps → ((name : List ℕ) → is_among keys name ≡ (is_generated name && stands_in calls name)) → All (IsGiven entries) keys
+pub given_names : (task : Task) (fit : IsFit task) (entries : List Entry) (steps : List GroundAction) (calls : List Call) (keys : List (List ℕ))
+    → AreNamedSteps task (names_of task entries) steps → calls ≡ map (call_of_step task (names_of task entries)) steps
+    → ((name : List ℕ) → is_among keys name ≡ (is_generated name && stands_in calls name)) → All (IsGiven entries) keys
 given_names task fit entries steps calls keys named shown each =
     All-from_any numbers_equivalence (IsGiven entries) keys (λ name among.
     let parts = and_parts (is_generated name) (stands_in calls name) (sym (each name) ∙ among) in
     given_in task fit entries name parts.0 (named_in task (names_of task entries) steps name named (subst (λ cs. Stands cs name) shown (stands calls name parts.1))))
 
-pub each_used : (calls : List Call) (keys : List (List ℕ)) → ((name : List ℕ) → is_among keys name ≡ (is_generated name && stands_in calls name)) → (name : List ℕ) → Contains keys name ↔ IsUsed calls name
+pub each_used : (calls : List Call) (keys : List (List ℕ))
+    → ((name : List ℕ) → is_among keys name ≡ (is_generated name && stands_in calls name)) → (name : List ℕ)
+    → Contains keys name ↔ IsUsed calls name
 each_used calls keys each name = (
   λ c. (used_is calls name).0 (sym (each name) ∙ among_is keys name c),
   λ u. among_from keys name (each name ∙ (used_is calls name).1 u),
@@ -150,7 +158,9 @@ value_is name value e = subst (λ n. take (length n - 1) (drop 1 n) ≡ value) (
 pub has_source : (entries : List Entry) (value : List ℕ) (n : ℕ) → IsBest entries value None → has_value entries n value ≡ true → ⊥
 has_source entries value n best there = both_ways _ (best.none n) there
 
-pub origin_is : (version : ℕ) (entries : List Entry) (object value : List ℕ) (source : Source) (tuple : ℕ) → object ≡ generated value → IsSource entries value source → (version ≡ 1 → tuple ≡ 1) → (¬ (version ≡ 1) → tuple ≡ source.tuple) → IsOrigin version entries (record { object = object; number = source.number; tuple = tuple })
+pub origin_is : (version : ℕ) (entries : List Entry) (object value : List ℕ) (source : Source) (tuple : ℕ) → object ≡ generated value
+    → IsSource entries value source → (version ≡ 1 → tuple ≡ 1) → (¬ (version ≡ 1) → tuple ≡ source.tuple)
+    → IsOrigin version entries (record { object = object; number = source.number; tuple = tuple })
 origin_is version entries object value source tuple named s one first = record {
   value = value;
   named = named;
@@ -161,7 +171,9 @@ origin_is version entries object value source tuple named s one first = record {
 }
 
 -- one origin more
-pub objects_next : {K : Type 0} (shows : K → List ℕ) (from : List Origin) (o : Origin) (key : K) (rest : List K) (all : List (List ℕ)) → o.object ≡ shows key → map (λ (x : Origin). x.object) from ++ map shows (key ∷ rest) ≡ all → map (λ (x : Origin). x.object) (from ++ o ∷ []) ++ map shows rest ≡ all
+pub objects_next : {K : Type 0} (shows : K → List ℕ) (from : List Origin) (o : Origin) (key : K) (rest : List K) (all : List (List ℕ))
+    → o.object ≡ shows key → map (λ (x : Origin). x.object) from ++ map shows (key ∷ rest) ≡ all
+    → map (λ (x : Origin). x.object) (from ++ o ∷ []) ++ map shows rest ≡ all
 objects_next shows from o key rest all same e =
     ap (λ xs. xs ++ map shows rest) (map-append (λ (x : Origin). x.object) from (o ∷ []))
     ∙ append_assoc (map (λ (x : Origin). x.object) from) (o.object ∷ []) (map shows rest)

@@ -10,7 +10,8 @@ use Rattle.transcript_model.specs.Transcript.{tuples_in}
 -- ---- positions
 
 -- nothing passes in front
-skipped : {A : Type 0} (p : A → Bool) (w j : ℕ) (xs : List A) → list_any p (take w xs) ≡ false → position_from p j xs ≡ position_from p (j + w) (drop w xs)
+skipped : {A : Type 0} (p : A → Bool) (w j : ℕ) (xs : List A) → list_any p (take w xs) ≡ false
+    → position_from p j xs ≡ position_from p (j + w) (drop w xs)
 skipped p zero j xs e = let none : j ≡ j + 0 = omega arith in ap (λ k. position_from p k xs) none
 skipped p (suc w) j [] e = refl
 skipped p (suc w) j (x ∷ xs) e =
@@ -45,7 +46,8 @@ less_one t w n e = let more : suc t * w ≡ t * w + w = suc-mul t w in omega (ar
 next_row : (s w : ℕ) → s * w + w ≡ (s + 1) * w
 next_row s w = sym (ap (λ k. k * w) (add-one s) ∙ suc-mul s w)
 
-tuples_from : (p : List ℕ → Bool) (w t s : ℕ) (vs : List (List ℕ)) → length vs ≡ t * w → position_from (list_any p) s (tuples_in w t vs) ≡ option_map (λ k. k / w) (position_from p (s * w) vs)
+tuples_from : (p : List ℕ → Bool) (w t s : ℕ) (vs : List (List ℕ)) → length vs ≡ t * w
+    → position_from (list_any p) s (tuples_in w t vs) ≡ option_map (λ k. k / w) (position_from p (s * w) vs)
 tuples_from p w zero s [] e = refl
 tuples_from p w zero s (v ∷ vs) e = absurd (omega (arith, e))
 tuples_from p w (suc t) s vs e =
@@ -55,7 +57,8 @@ tuples_from p w (suc t) s vs e =
     ] refl
 
 -- the place of the first tuple, from the place of the first value
-pub first_tuple_is : (p : List ℕ → Bool) (w t : ℕ) (vs : List (List ℕ)) → length vs ≡ t * w → position (list_any p) (tuples_in w t vs) ≡ option_map (λ k. k / w) (position p vs)
+pub first_tuple_is : (p : List ℕ → Bool) (w t : ℕ) (vs : List (List ℕ)) → length vs ≡ t * w
+    → position (list_any p) (tuples_in w t vs) ≡ option_map (λ k. k / w) (position p vs)
 first_tuple_is p w t vs e =
     let none : 0 * w ≡ 0 = omega arith in
     position_from-zero (list_any p) (tuples_in w t vs) ∙ tuples_from p w t 0 vs e ∙ ap (option_map (λ k. k / w)) (ap (λ j. position_from p j vs) none ∙ sym (position_from-zero p vs))

@@ -13,7 +13,9 @@ use Rattle.shown_plan.specs.Shown.{AreNamedSteps, ShowsPlan}
 
 -- The steps of a valid plan have actions of the task and objects with names.
 abbrev pub ValidPlansHaveNames : Type 0
-ValidPlansHaveNames = (task : Task) (known : Known) (steps : List GroundAction) (cost : ℕ) → IsCoherent known → IsValid task known steps cost → AreNamedSteps task known.names steps
+ValidPlansHaveNames =
+    (task : Task) (known : Known) (steps : List GroundAction) (cost : ℕ) → IsCoherent known
+    → IsValid task known steps cost → AreNamedSteps task known.names steps
 
 -- An outcome that shows a valid plan is true.
 abbrev pub ShownPlansAreTrue : Type 0

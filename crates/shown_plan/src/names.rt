@@ -20,7 +20,9 @@ fn begins_with_hash(name: &[u8]) -> bool
 
 /// Puts the name into the set if it belongs to a generated object.
 fn add_if_generated<'a>(names: &mut BTreeSet<&'a [u8]>, name: &'a [u8]) -> Result<(), AllocError>
-    ensures { OnOk result ((other : List ℕ) → is_among (map (λ n. n.now) names.new.keys) other ≡ (is_among (map (λ n. n.now) names.old.keys) other || (is_generated other && same_numbers other name.now))) }
+    ensures { OnOk result ((other : List ℕ) → is_among (map (λ n. n.now) names.new.keys) other
+        ≡ (is_among (map (λ n. n.now) names.old.keys) other
+        || (is_generated other && same_numbers other name.now))) }
 {
     if !begins_with_hash(name) {
         return Ok(());
@@ -31,7 +33,9 @@ fn add_if_generated<'a>(names: &mut BTreeSet<&'a [u8]>, name: &'a [u8]) -> Resul
 
 /// Puts those of the names into the set that belong to generated objects.
 fn add_generated<'a>(names: &mut BTreeSet<&'a [u8]>, args: &'a [Name]) -> Result<(), AllocError>
-    ensures { OnOk result ((name : List ℕ) → is_among (map (λ n. n.now) names.new.keys) name ≡ (is_among (map (λ n. n.now) names.old.keys) name || (is_generated name && is_among args.now name))) }
+    ensures { OnOk result ((name : List ℕ) → is_among (map (λ n. n.now) names.new.keys) name
+        ≡ (is_among (map (λ n. n.now) names.old.keys) name
+        || (is_generated name && is_among args.now name))) }
 {
     for arg in args {
         add_if_generated(names, arg.bytes())?;
@@ -41,7 +45,8 @@ fn add_generated<'a>(names: &mut BTreeSet<&'a [u8]>, args: &'a [Name]) -> Result
 
 /// The names of the generated objects that stand in the calls.
 pub(crate) fn generated_names(alloc: Global, calls: &[Call]) -> Result<BTreeSet<&[u8]>, AllocError>
-    ensures { IfOk result (λ names. (name : List ℕ) → is_among (map (λ n. n.now) names.keys) name ≡ (is_generated name && stands_in calls.now name)) }
+    ensures { IfOk result (λ names. (name : List ℕ) → is_among (map (λ n. n.now) names.keys) name
+        ≡ (is_generated name && stands_in calls.now name)) }
 {
     let mut names = BTreeSet::new(alloc);
     for call in calls {

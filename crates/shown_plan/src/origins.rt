@@ -53,9 +53,12 @@ pub(crate) fn origins_of(
 ) -> Result<Seq<Origin>, AllocError>
     requires even { All IsEven entries.now }
     requires given { All (IsGiven entries.now) (map (λ n. n.now) names.now.keys) }
-    ensures objects { IfOk result (λ from. map (λ o. o.object) from ≡ map (λ n. n.now) names.now.keys) }
-    ensures ascend { IfOk result (λ from. AreAscending (slice_cmp nat_cmp) (map (λ o. o.object) from)) }
-    ensures origins { IfOk result (λ from. (o : Origin) → Contains from o → IsOrigin version entries.now o) }
+    ensures objects { IfOk result (λ from. map (λ o. o.object) from
+        ≡ map (λ n. n.now) names.now.keys) }
+    ensures ascend { IfOk result (λ from. AreAscending (slice_cmp nat_cmp)
+        (map (λ o. o.object) from)) }
+    ensures origins { IfOk result (λ from. (o : Origin) → Contains from o
+        → IsOrigin version entries.now o) }
 {
     let mut from = Vec::new(alloc);
     for name in names {

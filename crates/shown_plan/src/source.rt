@@ -21,7 +21,9 @@ fn first_tuple(values: &[Name], tuples: u8, value: &[u8]) -> Option<u8>
     requires some { 1 ≤ tuples }
     requires even { (width : ℕ) × (length values.now ≡ tuples * width) }
     ensures there { is_some result ≡ is_among values.now value.now }
-    ensures place { result ≡ option_map (λ place. place + 1) (position (list_any (same_numbers value.now)) (tuples_in (length values.now / tuples) tuples values.now)) }
+    ensures place { result ≡ option_map (λ place. place + 1)
+        (position (list_any (same_numbers value.now))
+        (tuples_in (length values.now / tuples) tuples values.now)) }
 {
     let place = values.iter().position(|v| value == v.bytes())?;
     let width = values.len() / tuples as usize;
@@ -52,8 +54,10 @@ fn source_in(entry: &Entry, value: &[u8]) -> Option<Source>
 /// The one of the lesser request, where there are two.
 fn earlier(best: Option<Source>, found: Option<Source>) -> Option<Source>
     ensures one { (result ≡ best) ⊎ (result ≡ found) }
-    ensures least_best { IfSome result (λ least. IfSome best (λ source. least.number ≤ source.number)) }
-    ensures least_found { IfSome result (λ least. IfSome found (λ source. least.number ≤ source.number)) }
+    ensures least_best { IfSome result
+        (λ least. IfSome best (λ source. least.number ≤ source.number)) }
+    ensures least_found { IfSome result
+        (λ least. IfSome found (λ source. least.number ≤ source.number)) }
     ensures none { IfNone result ((best ≡ None) × (found ≡ None)) }
 {
     match (best, found) {

@@ -47,7 +47,8 @@ pub(crate) fn name_steps<L: Look>(
     steps: &[GroundAction],
 ) -> Result<Seq<Call>, AllocError>
     requires { AreNamedSteps task.now (L.known look.now).names steps.now }
-    ensures { IfOk result (λ calls. calls ≡ map (call_of_step task.now (L.known look.now).names) steps.now) }
+    ensures { IfOk result (λ calls. calls
+        ≡ map (call_of_step task.now (L.known look.now).names) steps.now) }
 {
     let mut calls = Vec::new(alloc);
     for step in steps {

@@ -107,7 +107,8 @@ values_same a b e =
     λ i. record { func = eqb-true a.func b.func func i; args = (numbers_decided a.args b.args).0 args i; value = eqb-true a.value b.value value i }
 
 pub value_itself : (a : Valued) → same_value a a ≡ true
-value_itself a = and_from _ _ (and_from _ _ (eq-eqb a.func a.func refl) ((numbers_decided a.args a.args).1 refl)) (eq-eqb a.value a.value refl)
+value_itself a =
+    and_from _ _ (and_from _ _ (eq-eqb a.func a.func refl) ((numbers_decided a.args a.args).1 refl)) (eq-eqb a.value a.value refl)
 
 pub value_decided : (a b : Valued) → Decides (same_value a b) (a ≡ b)
 value_decided a b = (values_same a b, λ e. subst (λ x. same_value a x ≡ true) e (value_itself a))

@@ -66,7 +66,8 @@ turn k q = (eq_by_cmp_equiv atoms_total).symm k q
 abbrev pair : Atom → Atom × Unit {0}
 pair a = (a, tt)
 
-put_first : (k : Atom) (es : List Atom) → AllByRecursion (λ q. atom_cmp k q ≡ Less) es → finite.put atom_cmp k tt (map pair es) ≡ map pair (k ∷ es)
+put_first : (k : Atom) (es : List Atom) → AllByRecursion (λ q. atom_cmp k q ≡ Less) es
+    → finite.put atom_cmp k tt (map pair es) ≡ map pair (k ∷ es)
 put_first k [] below = refl
 put_first k (e ∷ es) below = rw below.0
 
@@ -76,7 +77,9 @@ entries-from_list [] sorted = empty_entries
   where
     empty_entries : finite.entries empty ≡ []
     empty_entries = nil_from_length _ (sym (finite.len-entries empty) ∙ finite.len-empty atom_cmp (Unit {0}))
-entries-from_list (k ∷ ks) sorted = finite.entries-insert atoms_total (from_list ks) k tt ∙ ap (finite.put atom_cmp k tt) (entries-from_list ks sorted.1) ∙ put_first k ks sorted.0
+entries-from_list (k ∷ ks) sorted =
+    finite.entries-insert atoms_total (from_list ks) k tt ∙ ap (finite.put atom_cmp k tt) (entries-from_list ks sorted.1)
+    ∙ put_first k ks sorted.0
 
 firsts : (ks : List Atom) → map (λ (e : Atom × Unit {0}). e.0) (map pair ks) ≡ ks
 firsts [] = refl
@@ -94,8 +97,8 @@ len-from_list ks sorted = finite.len-entries (from_list ks) ∙ ap length (entri
 
 -- ---- one atom after another
 
-
-pub contains-with_atoms : (s : Atoms) (ks : List Atom) (q : Atom) → contains (with_atoms s ks) q ≡ (list_any (eq_by_cmp atom_cmp q) ks || contains s q)
+pub contains-with_atoms : (s : Atoms) (ks : List Atom) (q : Atom)
+    → contains (with_atoms s ks) q ≡ (list_any (eq_by_cmp atom_cmp q) ks || contains s q)
 contains-with_atoms s [] q = refl
 contains-with_atoms s (k ∷ ks) q =
     contains-with_atoms (insert s k) ks q ∙ ap (λ b. list_any (eq_by_cmp atom_cmp q) ks || b) (contains-insert s k q)
@@ -112,12 +115,15 @@ not_or true true c = refl
 not_or true false c = refl
 not_or false b c = refl
 
-pub contains-without_atoms : (s : Atoms) (ks : List Atom) (q : Atom) → contains (without_atoms s ks) q ≡ (not (list_any (eq_by_cmp atom_cmp q) ks) && contains s q)
+pub contains-without_atoms : (s : Atoms) (ks : List Atom) (q : Atom)
+    → contains (without_atoms s ks) q ≡ (not (list_any (eq_by_cmp atom_cmp q) ks) && contains s q)
 contains-without_atoms s [] q = refl
 contains-without_atoms s (k ∷ ks) q =
     contains-without_atoms (remove s k) ks q ∙ ap (λ b. not (list_any (eq_by_cmp atom_cmp q) ks) && b) (contains-remove s k q)
     ∙ not_or (eq_by_cmp atom_cmp q k) (list_any (eq_by_cmp atom_cmp q) ks) (contains s q)
 
 -- an atom is there afterwards where it is put in, or was there and isn't taken out
-pub contains-changed : (s : Atoms) (outs ins : List Atom) (q : Atom) → contains (with_atoms (without_atoms s outs) ins) q ≡ (list_any (eq_by_cmp atom_cmp q) ins || (not (list_any (eq_by_cmp atom_cmp q) outs) && contains s q))
-contains-changed s outs ins q = contains-with_atoms (without_atoms s outs) ins q ∙ ap (λ b. list_any (eq_by_cmp atom_cmp q) ins || b) (contains-without_atoms s outs q)
+pub contains-changed : (s : Atoms) (outs ins : List Atom) (q : Atom)
+    → contains (with_atoms (without_atoms s outs) ins) q ≡ (list_any (eq_by_cmp atom_cmp q) ins || (not (list_any (eq_by_cmp atom_cmp q) outs) && contains s q))
+contains-changed s outs ins q =
+    contains-with_atoms (without_atoms s outs) ins q ∙ ap (λ b. list_any (eq_by_cmp atom_cmp q) ins || b) (contains-without_atoms s outs q)

@@ -31,7 +31,8 @@ searchable ks k sorted =
     searchable_from_sorted atoms_total (λ a. a) ks k (λ j d low high.
     ap is_lt (atoms_total.antisymm (get_or ks (j + 1) d) (get_or ks j d) ∙ ap ordering_reverse (Less-from_sorted atom_cmp ks j (j + 1) d sorted (omega arith) high)))
 
-pub any_found : (ks : List Atom) (k : Atom) (i : ℕ) → i < length ks → HoldsAt (λ y. atom_cmp y k ≡ Equal) ks i → list_any (eq_by_cmp atom_cmp k) ks ≡ true
+pub any_found : (ks : List Atom) (k : Atom) (i : ℕ) → i < length ks → HoldsAt (λ y. atom_cmp y k ≡ Equal) ks i
+    → list_any (eq_by_cmp atom_cmp k) ks ≡ true
 any_found ks k i within at = list_any_at (eq_by_cmp atom_cmp k) ks i k within (ap is_eq (tied_back atoms_total (get_or ks i k) k (at k)))
 
 apart_below : (y k : Atom) → atom_cmp y k ≡ Less → eq_by_cmp atom_cmp k y ≡ false
@@ -60,11 +61,13 @@ all_with P [] (suc i) x all here = (here, tt)
 all_with P (y ∷ ys) zero x all here = (here, all)
 all_with P (y ∷ ys) (suc i) x all here = (all.0, all_with P ys i x all.1 here)
 
-all_above : (k x : Atom) (ys : List Atom) → atom_cmp k x ≡ Less → AllByRecursion (λ y. atom_cmp x y ≡ Less) ys → AllByRecursion (λ y. atom_cmp k y ≡ Less) ys
+all_above : (k x : Atom) (ys : List Atom) → atom_cmp k x ≡ Less → AllByRecursion (λ y. atom_cmp x y ≡ Less) ys
+    → AllByRecursion (λ y. atom_cmp k y ≡ Less) ys
 all_above k x [] less all = tt
 all_above k x (y ∷ ys) less all = (atoms_total.trans k x y less all.0, all_above k x ys less all.1)
 
-pub sorted_with : (ks : List Atom) (k : Atom) (i : ℕ) → IsStrictlySortedBy atom_cmp ks → i ≤ length ks → Parts k ks i → IsStrictlySortedBy atom_cmp (insert_at ks i k)
+pub sorted_with : (ks : List Atom) (k : Atom) (i : ℕ) → IsStrictlySortedBy atom_cmp ks → i ≤ length ks → Parts k ks i
+    → IsStrictlySortedBy atom_cmp (insert_at ks i k)
 unfolding IsStrictlySortedBy
 sorted_with [] k zero sorted within parts = (tt, tt)
 sorted_with [] k (suc i) sorted within parts = (tt, tt)
@@ -128,27 +131,35 @@ none_above : (k : Atom) (ys : List Atom) → AllByRecursion (λ y. atom_cmp k y 
 none_above k [] all = refl
 none_above k (y ∷ ys) all = neither _ _ (ap is_eq all.0) (none_above k ys all.1)
 
-gone : (ks : List Atom) (k : Atom) (i : ℕ) → IsStrictlySortedBy atom_cmp ks → i < length ks → HoldsAt (λ y. atom_cmp y k ≡ Equal) ks i → list_any (eq_by_cmp atom_cmp k) (remove_at ks i) ≡ false
+gone : (ks : List Atom) (k : Atom) (i : ℕ) → IsStrictlySortedBy atom_cmp ks → i < length ks → HoldsAt (λ y. atom_cmp y k ≡ Equal) ks i
+    → list_any (eq_by_cmp atom_cmp k) (remove_at ks i) ≡ false
 unfolding IsStrictlySortedBy
 gone [] k i sorted within at = absurd (omega arith)
-gone (x ∷ xs) k zero sorted within at = none_above k xs (subst (λ a. AllByRecursion (λ y. atom_cmp a y ≡ Less) xs) (atoms_tied x k (at x)) sorted.0)
+gone (x ∷ xs) k zero sorted within at =
+    none_above k xs (subst (λ a. AllByRecursion (λ y. atom_cmp a y ≡ Less) xs) (atoms_tied x k (at x)) sorted.0)
 gone (x ∷ xs) k (suc i) sorted within at =
     let less : atom_cmp x k ≡ Less = subst (λ a. atom_cmp x a ≡ Less) (atoms_tied (get_or xs i x) k (at x)) (all_got (λ y. atom_cmp x y ≡ Less) xs i x sorted.0 (omega arith)) in
     neither _ _ (apart_below x k less) (gone xs k i sorted.1 (omega arith) (λ d. at d))
 
-others : (ks : List Atom) (k q : Atom) (i : ℕ) → i < length ks → HoldsAt (λ y. atom_cmp y k ≡ Equal) ks i → eq_by_cmp atom_cmp q k ≡ false → list_any (eq_by_cmp atom_cmp q) (remove_at ks i) ≡ list_any (eq_by_cmp atom_cmp q) ks
+others : (ks : List Atom) (k q : Atom) (i : ℕ) → i < length ks → HoldsAt (λ y. atom_cmp y k ≡ Equal) ks i → eq_by_cmp atom_cmp q k ≡ false
+    → list_any (eq_by_cmp atom_cmp q) (remove_at ks i) ≡ list_any (eq_by_cmp atom_cmp q) ks
 others [] k q i within at e = absurd (omega arith)
-others (x ∷ xs) k q zero within at e = ap (λ b. b || list_any (eq_by_cmp atom_cmp q) xs) (sym (ap (eq_by_cmp atom_cmp q) (atoms_tied x k (at x)) ∙ e))
+others (x ∷ xs) k q zero within at e =
+    ap (λ b. b || list_any (eq_by_cmp atom_cmp q) xs) (sym (ap (eq_by_cmp atom_cmp q) (atoms_tied x k (at x)) ∙ e))
 others (x ∷ xs) k q (suc i) within at e = ap (λ b. eq_by_cmp atom_cmp q x || b) (others xs k q i (omega arith) (λ d. at d) e)
 
-any_without : (ks : List Atom) (k q : Atom) (i : ℕ) → IsStrictlySortedBy atom_cmp ks → i < length ks → HoldsAt (λ y. atom_cmp y k ≡ Equal) ks i → list_any (eq_by_cmp atom_cmp q) (remove_at ks i) ≡ (not (eq_by_cmp atom_cmp q k) && list_any (eq_by_cmp atom_cmp q) ks)
+any_without : (ks : List Atom) (k q : Atom) (i : ℕ) → IsStrictlySortedBy atom_cmp ks → i < length ks
+    → HoldsAt (λ y. atom_cmp y k ≡ Equal) ks i
+    → list_any (eq_by_cmp atom_cmp q) (remove_at ks i) ≡ (not (eq_by_cmp atom_cmp q k) && list_any (eq_by_cmp atom_cmp q) ks)
 any_without ks k q i sorted within at = by (eq_by_cmp atom_cmp q k) refl
   where
-    by : (b : Bool) → eq_by_cmp atom_cmp q k ≡ b → list_any (eq_by_cmp atom_cmp q) (remove_at ks i) ≡ (not b && list_any (eq_by_cmp atom_cmp q) ks)
+    by : (b : Bool) → eq_by_cmp atom_cmp q k ≡ b
+        → list_any (eq_by_cmp atom_cmp q) (remove_at ks i) ≡ (not b && list_any (eq_by_cmp atom_cmp q) ks)
     by true e = ap (λ a. list_any (eq_by_cmp atom_cmp a) (remove_at ks i)) (tied q k e) ∙ gone ks k i sorted within at
     by false e = others ks k q i within at e
 
-pub from_list-remove : (ks : List Atom) (k : Atom) (i : ℕ) → IsStrictlySortedBy atom_cmp ks → i < length ks → HoldsAt (λ y. atom_cmp y k ≡ Equal) ks i → from_list (remove_at ks i) ≡ remove (from_list ks) k
+pub from_list-remove : (ks : List Atom) (k : Atom) (i : ℕ) → IsStrictlySortedBy atom_cmp ks → i < length ks
+    → HoldsAt (λ y. atom_cmp y k ≡ Equal) ks i → from_list (remove_at ks i) ≡ remove (from_list ks) k
 from_list-remove ks k i sorted within at =
     same_atoms (from_list (remove_at ks i)) (remove (from_list ks) k) (λ q.
     contains-from_list (remove_at ks i) q ∙ any_without ks k q i sorted within at
@@ -164,7 +175,8 @@ remove-absent s k absent = same_atoms (remove s k) s (λ q. contains-remove s k 
 
 -- ---- whether an atom is there
 
-pub found_is : (ks : List Atom) (k : Atom) → IsStrictlySortedBy atom_cmp ks → (found : Result ℕ ℕ) → IsSearchInRange found (length ks) → IsBinarySearchResult (λ y. atom_cmp y k) ks found → is_ok found ≡ list_any (eq_by_cmp atom_cmp k) ks
+pub found_is : (ks : List Atom) (k : Atom) → IsStrictlySortedBy atom_cmp ks → (found : Result ℕ ℕ) → IsSearchInRange found (length ks)
+    → IsBinarySearchResult (λ y. atom_cmp y k) ks found → is_ok found ≡ list_any (eq_by_cmp atom_cmp k) ks
 found_is ks k sorted (Ok i) within at = sym (any_found ks k i within at)
 found_is ks k sorted (Err i) within parts = sym (any_absent ks k i (parts (searchable ks k sorted)))
 

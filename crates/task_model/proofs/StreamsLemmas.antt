@@ -40,7 +40,8 @@ pub instances_total : (names : List (List ℕ)) → IsTotalOrder (instance_cmp n
 instances_total names = then_total (on_total (λ (i : Instance). i.stream) nat_cmp_total) (on_total (λ (i : Instance). map (name_at names) i.inputs) (lists_total nat_list_cmp_total))
 
 -- all that is due is one list
-pub due_once : (task : Task) (known : Known) (notes : List Note) (xs ys : List Instance) → AreDue task known notes xs → AreDue task known notes ys → xs ≡ ys
+pub due_once : (task : Task) (known : Known) (notes : List Note) (xs ys : List Instance) → AreDue task known notes xs
+    → AreDue task known notes ys → xs ≡ ys
 due_once task known notes xs ys first second =
     same_list (instance_cmp known.names) (instances_total known.names) xs ys first.ascend second.ascend (λ i m. (second.each i).1 ((first.each i).0 m)) (λ i m. (first.each i).1 ((second.each i).0 m))
 

@@ -8,4 +8,5 @@ pub have_types-length : (known : Known) (objects sorts : List ℕ) → have_type
 have_types-length known [] [] e = refl
 have_types-length known [] (s ∷ ss) e = absurd (cc)
 have_types-length known (o ∷ os) [] e = absurd (cc)
-have_types-length known (o ∷ os) (s ∷ ss) e = ap suc (have_types-length known os ss (second_so (has_type known o s) (have_types known os ss) e))
+have_types-length known (o ∷ os) (s ∷ ss) e =
+    ap suc (have_types-length known os ss (second_so (has_type known o s) (have_types known os ss) e))

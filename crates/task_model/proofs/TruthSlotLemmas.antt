@@ -19,7 +19,8 @@ agree_left p q s t a = record { long = a.long; at = λ n h. a.at n (or_left (p n
 agree_right : (p q : ℕ → Bool) (s t : List ℕ) → Agree (λ n. p n || q n) s t → Agree q s t
 agree_right p q s t a = record { long = a.long; at = λ n h. a.at n (or_right (p n) (q n) h) }
 
-index_set : (s t : List ℕ) (i v n : ℕ) → length s ≡ length t → slice_index s n ≡ slice_index t n → slice_index (slice_set s i v) n ≡ slice_index (slice_set t i v) n
+index_set : (s t : List ℕ) (i v n : ℕ) → length s ≡ length t → slice_index s n ≡ slice_index t n
+    → slice_index (slice_set s i v) n ≡ slice_index (slice_set t i v) n
 index_set [] [] i v n long e = refl
 index_set [] (y ∷ ys) i v n long e = absurd (omega arith)
 index_set (x ∷ xs) [] i v n long e = absurd (omega arith)
@@ -55,7 +56,9 @@ any_same p q same [] = refl
 any_same p q same (x ∷ xs) = λ i. same x i || any_same p q same xs i
 
 module _ (atom : ℕ → List ℕ → Bool) (objects : ℕ → List ℕ) where
-  same_tuples : (test : ℕ → Bool) (body : List ℕ → Bool) → ((s t : List ℕ) → Agree test s t → body s ≡ body t) → (sorts : List ℕ) (first : ℕ) (s t : List ℕ) → Agree test s t → some_tuple objects body first sorts s ≡ some_tuple objects body first sorts t
+  same_tuples : (test : ℕ → Bool) (body : List ℕ → Bool) → ((s t : List ℕ) → Agree test s t → body s ≡ body t)
+      → (sorts : List ℕ) (first : ℕ) (s t : List ℕ) → Agree test s t
+      → some_tuple objects body first sorts s ≡ some_tuple objects body first sorts t
   same_tuples test body same [] first s t a = same s t a
   same_tuples test body same (sort ∷ sorts) first s t a =
       any_same _ _ (λ o. same_tuples test body same sorts (first + 1) (slice_set s first o) (slice_set t first o) (agree_set test s t first o a)) (objects sort)

@@ -67,7 +67,8 @@ instances_of entries = map (λ (e : Entry). e.instance) entries
 pub record IsPass (task : Task) (known : Known) (notes : List Note) (tried : List Instance) (old new : List Entry) : Type 0 where
   pub more : List Entry
   pub added : new ≡ old ++ more
-  pub each : (i : Instance) → Contains (instances_of more) i ↔ (IsDue task (supposing task known old old) notes i × (list_any (same_instance i) tried ≡ false) × (list_any (same_instance i) (instances_of old) ≡ false))
+  pub each : (i : Instance)
+      → Contains (instances_of more) i ↔ (IsDue task (supposing task known old old) notes i × (list_any (same_instance i) tried ≡ false) × (list_any (same_instance i) (instances_of old) ≡ false))
   pub ascend : AreAscending (instance_cmp (supposing task known old old).names) (instances_of more)
   pub fresh : (k : ℕ) (e : Entry) → slice_get more k ≡ Some e → HasFreshOutputs task known (old ++ take k more) e
 
@@ -91,7 +92,8 @@ module _ (task : Task) (known : Known) (list : List Entry) where
   -- the kept entries, and then those of the rest that still have support behind what is kept
   abbrev pub supported_after : List Entry → List Entry → List Entry
   supported_after kept [] = kept
-  supported_after kept (e ∷ rest) = if is_supported kept e then supported_after (kept ++ e ∷ []) rest else supported_after kept rest
+  supported_after kept (e ∷ rest) =
+      if is_supported kept e then supported_after (kept ++ e ∷ []) rest else supported_after kept rest
 
   -- without the entry at this place, and without those that then lack support
   abbrev pub without_entry : List Entry → ℕ → List Entry
@@ -108,7 +110,8 @@ module _ (task : Task) (known : Known) (list : List Entry) where
     pub support : HaveSupport entries
     pub cost : ℕ
     pub valid : IsValid task (supposing task known list entries) steps cost
-    pub needed : (place other : ℕ) → place < length entries → ¬ (IsValid task (supposing task known list (without_entry entries place)) steps other)
+    pub needed : (place other : ℕ) → place < length entries
+        → ¬ (IsValid task (supposing task known list (without_entry entries place)) steps other)
 
   -- No plan rests on the list: none exists over all of it, or it is too long, or more than so many states are reached over it.
   abbrev pub HasNoDream : ℕ → Type 0

@@ -73,13 +73,15 @@ has_arity signatures place n = is (slice_get signatures place)
     is None = false
 
 abbrev pub is_fit_application : List Signature → ℕ → List ℕ → ℕ → List Term → Bool
-is_fit_application signatures objects filled place args = has_arity signatures place (length args) && list_all (is_fit_term objects filled) args
+is_fit_application signatures objects filled place args =
+    has_arity signatures place (length args) && list_all (is_fit_term objects filled) args
 
 abbrev pub is_fit_pattern : Domain → ℕ → List ℕ → Pattern → Bool
 is_fit_pattern domain objects filled p = is_fit_application domain.predicates objects filled p.pred p.args
 
 abbrev pub are_fit_patterns : Domain → ℕ → List ℕ → List Pattern → Bool
-are_fit_patterns domain objects filled patterns = is_short patterns && list_all (is_fit_pattern domain objects filled) patterns
+are_fit_patterns domain objects filled patterns =
+    is_short patterns && list_all (is_fit_pattern domain objects filled) patterns
 
 -- ---- conditions
 
@@ -112,7 +114,9 @@ module _ (domain : Domain) (objects : ℕ) where
     is_sound (every parts) filled = nat_le (count_of parts) 8388608 && are_sound parts filled
     is_sound (Any parts) filled = nat_le (count_of parts) 8388608 && are_sound parts filled
     is_sound (Not part) filled = is_sound part filled
-    is_sound (Exists first sorts body) filled = nat_le (first + length sorts) 16 && are_places (length domain.sorts) sorts && is_sound body (numbers_from first (length sorts) ++ filled)
+    is_sound (Exists first sorts body) filled =
+        nat_le (first + length sorts) 16 && are_places (length domain.sorts) sorts
+        && is_sound body (numbers_from first (length sorts) ++ filled)
 
     pub are_sound : Conditions → List ℕ → Bool
     are_sound none filled = true
@@ -159,7 +163,8 @@ pub record AreFitSorts (all : List sorts.Sort) : Type 0 where
   pub short : is_short all ≡ true
   pub places : list_all (λ (s : sorts.Sort). are_places (length all) s.above) all ≡ true
   pub proper : (k : ℕ) (s : sorts.Sort) → slice_get all k ≡ Some s → list_any (λ a. a == k) s.above ≡ false
-  pub closed : (k a b : ℕ) (s t : sorts.Sort) → slice_get all k ≡ Some s → list_any (λ n. n == a) s.above ≡ true → slice_get all a ≡ Some t → list_any (λ n. n == b) t.above ≡ true → list_any (λ n. n == b) s.above ≡ true
+  pub closed : (k a b : ℕ) (s t : sorts.Sort) → slice_get all k ≡ Some s → list_any (λ n. n == a) s.above ≡ true
+      → slice_get all a ≡ Some t → list_any (λ n. n == b) t.above ≡ true → list_any (λ n. n == b) s.above ≡ true
 
 pub record AreFitSignatures (all : List Signature) : Type 0 where
   pub names : AreNames (map (λ (s : Signature). s.name) all)
@@ -181,11 +186,14 @@ is_fit_item domain d =
 
 abbrev pub is_fit_cost : Domain → List ℕ → CostTerm → Bool
 is_fit_cost domain filled (Number n) = nat_le n 1000000
-is_fit_cost domain filled (Value func args) = is_fit_application domain.functions (length domain.constants) filled func args
+is_fit_cost domain filled (Value func args) =
+    is_fit_application domain.functions (length domain.constants) filled func args
 
 -- atoms of predicates that aren't derived
 abbrev pub are_fit_effects : Domain → List ℕ → List Pattern → Bool
-are_fit_effects domain filled patterns = are_fit_patterns domain (length domain.constants) filled patterns && list_all (λ (p : Pattern). not (is_derived_role (role_of domain p.pred))) patterns
+are_fit_effects domain filled patterns =
+    are_fit_patterns domain (length domain.constants) filled patterns
+    && list_all (λ (p : Pattern). not (is_derived_role (role_of domain p.pred))) patterns
 
 -- the slots of an action's parameters
 abbrev pub param_slots : Action → List ℕ
@@ -220,7 +228,9 @@ is_fit_fact domain objects fact =
     is_predicate fact.kind && has_arity domain.predicates fact.name (length fact.args) && list_all (λ o. nat_lt o objects) fact.args && not (is_derived_role (role_of domain fact.name))
 
 abbrev pub is_fit_value : Domain → ℕ → Valued → Bool
-is_fit_value domain objects v = has_arity domain.functions v.func (length v.args) && list_all (λ o. nat_lt o objects) v.args && nat_le v.value 1000000
+is_fit_value domain objects v =
+    has_arity domain.functions v.func (length v.args) && list_all (λ o. nat_lt o objects) v.args
+    && nat_le v.value 1000000
 
 pub record IsFitProblem (task : Task) : Type 0 where
   pub name : is_name task.problem.name ≡ true
@@ -228,7 +238,8 @@ pub record IsFitProblem (task : Task) : Type 0 where
   pub constants_first : map (λ (d : Declared). d.name) task.domain.constants ≡ take (length task.domain.constants) (declared_names task)
   pub init : (is_short task.problem.init && list_all (is_fit_fact task.domain (length task.problem.objects)) task.problem.init) ≡ true
   pub values : (is_short task.problem.values && list_all (is_fit_value task.domain (length task.problem.objects)) task.problem.values) ≡ true
-  pub one_value : (i j : ℕ) (v w : Valued) → slice_get task.problem.values i ≡ Some v → slice_get task.problem.values j ≡ Some w → v.func ≡ w.func → v.args ≡ w.args → v.value ≡ w.value
+  pub one_value : (i j : ℕ) (v w : Valued) → slice_get task.problem.values i ≡ Some v
+      → slice_get task.problem.values j ≡ Some w → v.func ≡ w.func → v.args ≡ w.args → v.value ≡ w.value
   pub goal : is_fit_condition task.domain (length task.problem.objects) [] task.problem.goal ≡ true
 
 -- ---- streams
@@ -242,7 +253,9 @@ is_fit_worth domain s = of s.worth
   where
     of : Option Worth → Bool
     of None = true
-    of (Some worth) = is_empty s.outputs && is_empty s.certified && is_fit_application domain.functions (length domain.constants) (numbers_from 0 (length s.inputs)) worth.func worth.args
+    of (Some worth) =
+        is_empty s.outputs && is_empty s.certified
+        && is_fit_application domain.functions (length domain.constants) (numbers_from 0 (length s.inputs)) worth.func worth.args
 
 abbrev pub is_fit_stream : Domain → Stream → Bool
 is_fit_stream domain s =

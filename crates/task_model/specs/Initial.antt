@@ -19,7 +19,8 @@ use Rattle.task_model.specs.declared.task.Task.{Task}
 
 -- the type and all its supertypes; every object has type `object`, which is sort 0
 abbrev pub sorts_with : Domain → ℕ → List ℕ
-sorts_with domain sort = sort ∷ unwrap_or (option_map (λ (s : sorts.Sort). s.above) (slice_get domain.sorts sort)) [] ++ 0 ∷ []
+sorts_with domain sort =
+    sort ∷ unwrap_or (option_map (λ (s : sorts.Sort). s.above) (slice_get domain.sorts sort)) [] ++ 0 ∷ []
 
 -- that the object has the type, with all supertypes
 abbrev pub type_facts : Domain → ℕ → ℕ → List Fact
@@ -28,7 +29,8 @@ type_facts domain sort object = map (λ s. type_fact s object) (sorts_with domai
 -- the types of declared objects, the first of which is the object of this number; one without a type has type `object`
 abbrev pub declared_types : Domain → ℕ → List Declared → List Fact
 declared_types domain object [] = []
-declared_types domain object (d ∷ ds) = flat_map (λ sort. type_facts domain sort object) (d.sorts ++ 0 ∷ []) ++ declared_types domain (object + 1) ds
+declared_types domain object (d ∷ ds) =
+    flat_map (λ sort. type_facts domain sort object) (d.sorts ++ 0 ∷ []) ++ declared_types domain (object + 1) ds
 
 -- ---- atoms in `:init`
 
@@ -62,7 +64,8 @@ abbrev pub declared_names : Task → List (List ℕ)
 declared_names task = map (λ (d : Declared). d.name) task.problem.objects
 
 abbrev pub initial_known : Task → Known
-initial_known task = record { names = declared_names task; facts = initial_facts task; values = with_values [] task.problem.values }
+initial_known task =
+    record { names = declared_names task; facts = initial_facts task; values = with_values [] task.problem.values }
 
 -- the state from which plans start: the atoms of fluents in `:init`
 abbrev pub initial_state : Task → Atoms

@@ -66,7 +66,8 @@ objects_of facts sort = filter_map (object_with sort) facts
 
 -- whether a fact is an atom of the predicate with this object at this place
 abbrev pub is_match : ℕ → ℕ → ℕ → Fact → Bool
-is_match pred place object fact = same_kind Predicate fact.kind && (fact.name == pred) && is_object (slice_get fact.args place)
+is_match pred place object fact =
+    same_kind Predicate fact.kind && (fact.name == pred) && is_object (slice_get fact.args place)
   where
     is_object : Option ℕ → Bool
     is_object (Some o) = o == object

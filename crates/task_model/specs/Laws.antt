@@ -69,10 +69,12 @@ InitialStateIsReached = (task : Task) (known : Known) → IsReachedWithin task k
 -- Where more than some number of states are reached, more than any smaller number are, within a number of steps too.
 pub record MoreThanFewer (task : Task) (known : Known) (fewer most : ℕ) : Type 0 where
   pub reached : MoreThan most (IsReached task known) → MoreThan fewer (IsReached task known)
-  pub within : (steps : ℕ) → MoreThan most (IsReachedWithin task known steps) → MoreThan fewer (IsReachedWithin task known steps)
+  pub within : (steps : ℕ) → MoreThan most (IsReachedWithin task known steps)
+      → MoreThan fewer (IsReachedWithin task known steps)
 
 abbrev pub MoreIsMoreThanFewer : Type 0
-MoreIsMoreThanFewer = (task : Task) (known : Known) (fewer most : ℕ) → fewer ≤ most → MoreThanFewer task known fewer most
+MoreIsMoreThanFewer =
+    (task : Task) (known : Known) (fewer most : ℕ) → fewer ≤ most → MoreThanFewer task known fewer most
 
 -- ---- facts
 

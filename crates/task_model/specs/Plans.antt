@@ -21,7 +21,8 @@ IsGoal task known state = is_true task.domain known state task.problem.goal (slo
 
 -- The plan can be executed from the initial state, ends where the goal is true, and costs `cost`.
 abbrev pub IsValid : Task → Known → List GroundAction → ℕ → Type 0
-IsValid task known steps cost = (end : Atoms) × Executes task known (initial_state task) steps end cost × IsGoal task known end
+IsValid task known steps cost =
+    (end : Atoms) × Executes task known (initial_state task) steps end cost × IsGoal task known end
 
 -- there is a plan
 abbrev pub IsSolvable : Task → Known → Type 0
@@ -35,11 +36,14 @@ pub record IsLeastCost (task : Task) (known : Known) (cost : ℕ) : Type 0 where
 
 -- some steps lead from the initial state to this one
 abbrev pub IsReached : Task → Known → Atoms → Type 0
-IsReached task known state = (steps : List GroundAction) × (cost : ℕ) × Executes task known (initial_state task) steps state cost
+IsReached task known state =
+    (steps : List GroundAction) × (cost : ℕ) × Executes task known (initial_state task) steps state cost
 
 -- at most so many steps lead there
 abbrev pub IsReachedWithin : Task → Known → ℕ → Atoms → Type 0
-IsReachedWithin task known most state = (steps : List GroundAction) × (cost : ℕ) × (length steps ≤ most) × Executes task known (initial_state task) steps state cost
+IsReachedWithin task known most state =
+    (steps : List GroundAction) × (cost : ℕ) × (length steps ≤ most)
+    × Executes task known (initial_state task) steps state cost
 
 -- more than so many states are such
 abbrev pub MoreThan : ℕ → (Atoms → Type 0) → Type 0
@@ -48,4 +52,5 @@ MoreThan most IsSuch = (states : List Atoms) × (most < length states) × AreDis
 -- More than so many states are reached, and so many also within the number of steps of any plan.
 pub record IsFar (task : Task) (known : Known) (most : ℕ) : Type 0 where
   pub reached : MoreThan most (IsReached task known)
-  pub nearer : (steps : List GroundAction) (cost : ℕ) → IsValid task known steps cost → MoreThan most (IsReachedWithin task known (length steps))
+  pub nearer : (steps : List GroundAction) (cost : ℕ) → IsValid task known steps cost
+      → MoreThan most (IsReachedWithin task known (length steps))

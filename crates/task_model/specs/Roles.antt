@@ -14,7 +14,8 @@ is_derived domain pred = list_any (λ (d : derived.Derived). d.pred == pred) dom
 
 -- it occurs in an action's effect
 abbrev pub is_changed : Domain → ℕ → Bool
-is_changed domain pred = list_any (λ (a : Action). list_any (λ (p : Pattern). p.pred == pred) (a.adds ++ a.deletes)) domain.actions
+is_changed domain pred =
+    list_any (λ (a : Action). list_any (λ (p : Pattern). p.pred == pred) (a.adds ++ a.deletes)) domain.actions
 
 -- derived where an item heads it, else a fluent where an effect has it, else static
 unfoldable pub role_of : Domain → ℕ → Role

@@ -71,7 +71,8 @@ abbrev mutual
   code_condition (All parts) = gcons (gnum 2) (code_conditions parts)
   code_condition (Any parts) = gcons (gnum 3) (code_conditions parts)
   code_condition (Not part) = gcons (gnum 4) (code_condition part)
-  code_condition (Exists first sorts body) = gcons (gnum 5) (gcons (gcons (gnum first) (code_numbers sorts)) (code_condition body))
+  code_condition (Exists first sorts body) =
+      gcons (gnum 5) (gcons (gcons (gnum first) (code_numbers sorts)) (code_condition body))
 
   code_conditions : Conditions → Gv
   code_conditions none = gnil
@@ -88,8 +89,10 @@ inj_numbers ms ns e = sym (back_numbers-code_numbers ms) ∙ ap back_numbers e �
 
 mutual
   inj_condition : (x y : Condition) → code_condition x ≡ code_condition y → x ≡ y
-  inj_condition (Atom p xs) (Atom q ys) e = λ i. Atom (ap (λ g. num_of (head (tail g))) e i) (inj_terms xs ys (ap (λ g. tail (tail g)) e) i)
-  inj_condition (Equal a b) (Equal c d) e = λ i. Equal (inj_term a c (ap (λ g. head (tail g)) e) i) (inj_term b d (ap (λ g. tail (tail g)) e) i)
+  inj_condition (Atom p xs) (Atom q ys) e =
+      λ i. Atom (ap (λ g. num_of (head (tail g))) e i) (inj_terms xs ys (ap (λ g. tail (tail g)) e) i)
+  inj_condition (Equal a b) (Equal c d) e =
+      λ i. Equal (inj_term a c (ap (λ g. head (tail g)) e) i) (inj_term b d (ap (λ g. tail (tail g)) e) i)
   inj_condition (All xs) (All ys) e = ap All (inj_conditions xs ys (ap tail e))
   inj_condition (Any xs) (Any ys) e = ap Any (inj_conditions xs ys (ap tail e))
   inj_condition (Not x) (Not y) e = ap Not (inj_condition x y (ap tail e))
@@ -99,7 +102,8 @@ mutual
 
   inj_conditions : (xs ys : Conditions) → code_conditions xs ≡ code_conditions ys → xs ≡ ys
   inj_conditions none none e = refl
-  inj_conditions (more x xs) (more y ys) e = λ i. more (inj_condition x y (ap head e) i) (inj_conditions xs ys (ap tail e) i)
+  inj_conditions (more x xs) (more y ys) e =
+      λ i. more (inj_condition x y (ap head e) i) (inj_conditions xs ys (ap tail e) i)
   inj_conditions none (more y ys) e = absurd (cc)
   inj_conditions (more x xs) none e = absurd (cc)
 

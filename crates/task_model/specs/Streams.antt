@@ -26,13 +26,15 @@ fact_of slots pattern = atom_fact pattern.pred (objects_at slots pattern.args)
 
 -- that each output has its type, with all supertypes
 abbrev pub output_types : Domain → List ℕ → List ℕ → List Fact
-output_types domain (sort ∷ sorts) (object ∷ objects) = type_facts domain sort object ++ output_types domain sorts objects
+output_types domain (sort ∷ sorts) (object ∷ objects) =
+    type_facts domain sort object ++ output_types domain sorts objects
 output_types domain [] objects = []
 output_types domain (sort ∷ sorts) [] = []
 
 -- what one yield certifies: the types of the outputs, and the stream's certified atoms
 abbrev pub certified_by : Domain → Stream → List ℕ → List ℕ → List Fact
-certified_by domain stream inputs outputs = output_types domain stream.outputs outputs ++ map (fact_of (slots_of (inputs ++ outputs))) stream.certified
+certified_by domain stream inputs outputs =
+    output_types domain stream.outputs outputs ++ map (fact_of (slots_of (inputs ++ outputs))) stream.certified
 
 -- the value that a cost stream's answer gives its function term; other streams give none
 abbrev pub worth_by : Stream → List ℕ → ℕ → List Valued
@@ -74,13 +76,16 @@ is_test stream = is_empty stream.outputs && is_none stream.worth
 
 -- it has ended, or it is one of a test and has yielded
 abbrev pub is_finished : Stream → List Note → Instance → Bool
-is_finished stream notes instance = list_any (is_end_of instance) notes || (is_test stream && list_any (is_yield_of instance) notes)
+is_finished stream notes instance =
+    list_any (is_end_of instance) notes || (is_test stream && list_any (is_yield_of instance) notes)
 
 -- ---- which instances may be asked
 
 -- its inputs have their types, and its domain facts are known
 abbrev pub is_reachable : Stream → Known → Instance → Bool
-is_reachable stream known instance = have_types known instance.inputs stream.inputs && list_all (λ p. is_fact known.facts (fact_of (slots_of instance.inputs) p)) stream.domain
+is_reachable stream known instance =
+    have_types known instance.inputs stream.inputs
+    && list_all (λ p. is_fact known.facts (fact_of (slots_of instance.inputs) p)) stream.domain
 
 -- what is said of the task's stream at this place, and something else where it has none there
 abbrev pub at_stream : {A : Type 0} → Task → ℕ → A → (Stream → A) → A
@@ -96,7 +101,8 @@ is_due_at known notes stream instance = is_reachable stream known instance && no
 
 -- the instance is of a stream of the task, is reachable and hasn't finished
 abbrev pub is_due : Task → Known → List Note → Instance → Bool
-is_due task known notes instance = at_stream task instance.stream false (λ stream. is_due_at known notes stream instance)
+is_due task known notes instance =
+    at_stream task instance.stream false (λ stream. is_due_at known notes stream instance)
 
 -- `is_due` with the stream that it speaks of: the instance is of a stream of the task, is reachable and hasn't finished
 pub record IsDue (task : Task) (known : Known) (notes : List Note) (instance : Instance) : Type 0 where
@@ -123,4 +129,6 @@ NothingIsDue task known notes = (i : Instance) → ¬ (IsDue task known notes i)
 
 -- more than so many instances are due
 abbrev pub MoreAreDue : ℕ → Task → Known → List Note → Type 0
-MoreAreDue most task known notes = (instances : List Instance) × (most < length instances) × AreDistinct instances × ((i : Instance) → Contains instances i → IsDue task known notes i)
+MoreAreDue most task known notes =
+    (instances : List Instance) × (most < length instances) × AreDistinct instances
+    × ((i : Instance) → Contains instances i → IsDue task known notes i)

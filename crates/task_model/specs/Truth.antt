@@ -36,7 +36,8 @@ objects_at slots terms = map (object_of slots) terms
 -- some objects of these types, put into the slots from `first` on, pass the test
 abbrev pub some_tuple : (ℕ → List ℕ) → (List ℕ → Bool) → ℕ → List ℕ → List ℕ → Bool
 some_tuple objects test first [] slots = test slots
-some_tuple objects test first (sort ∷ sorts) slots = list_any (λ o. some_tuple objects test (first + 1) sorts (slice_set slots first o)) (objects sort)
+some_tuple objects test first (sort ∷ sorts) slots =
+    list_any (λ o. some_tuple objects test (first + 1) sorts (slice_set slots first o)) (objects sort)
 
 module _ (atom : ℕ → List ℕ → Bool) (objects : ℕ → List ℕ) where
   abbrev mutual

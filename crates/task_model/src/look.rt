@@ -40,7 +40,8 @@ pub trait Look {
     /// One of these atoms, by its number from 0. Each stands there once.
     fn matched(&self, pred: u32, place: usize, object: Obj, number: usize) -> &Fact
         requires { number < length (matches_of (known self.now).facts pred place object) }
-        ensures { slice_get (matches_of (known self.now).facts pred place object) number ≡ Some result.now };
+        ensures { slice_get (matches_of (known self.now).facts pred place object) number
+            ≡ Some result.now };
 
     /// Names, facts and values stand once each, objects have names, and values are costs.
     ghost coherent: { (look : Self) → IsCoherent (known look) };

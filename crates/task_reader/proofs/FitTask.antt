@@ -45,7 +45,8 @@ problem_fit d bytes p over short is =
     let tree = tree_of bytes is.tree short is.spelled in
     read_problems_fit d is.tree p (fit_read d over) tree.bounded tree.there is.holds
 
-pub streams_fit : (d : Domain) (bytes : List ℕ) (ss : List Stream) → HasShortText d → IsShort bytes → SpellsStreams d bytes ss → AreFitOver d ss
+pub streams_fit : (d : Domain) (bytes : List ℕ) (ss : List Stream) → HasShortText d → IsShort bytes → SpellsStreams d bytes ss
+    → AreFitOver d ss
 streams_fit d bytes ss over short is =
     read_streams_fit d is.tree ss (domain_fit over.bytes d over.short over.spelled) (tree_of bytes is.tree short is.spelled).bounded is.holds
 

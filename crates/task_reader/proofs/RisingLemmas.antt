@@ -34,7 +34,8 @@ from_low low (n ∷ ns) b r h = elim (or_cases (b == n) (has_number ns b) h) [
 ]
 
 -- the first of two such lists with the same members is one
-same_first : (low n m : ℕ) (ns ms : List ℕ) → Rises low (n ∷ ns) → Rises low (m ∷ ms) → has_number (m ∷ ms) n ≡ true → has_number (n ∷ ns) m ≡ true → n ≡ m
+same_first : (low n m : ℕ) (ns ms : List ℕ) → Rises low (n ∷ ns) → Rises low (m ∷ ms) → has_number (m ∷ ms) n ≡ true
+    → has_number (n ∷ ns) m ≡ true → n ≡ m
 same_first low n m ns ms r s there here = elim (or_cases (n == m) (has_number ms n) there) [
   | inl e ↦ eqb-true n m e
   | inr later ↦ elim (or_cases (m == n) (has_number ns m) here) [
@@ -44,13 +45,15 @@ same_first low n m ns ms r s there here = elim (or_cases (n == m) (has_number ms
 ]
 
 -- a member that comes behind the first is one of the others
-behind_first : (n m : ℕ) (ns ms : List ℕ) (b : ℕ) → n ≡ m → Rises (n + 1) ns → has_number ns b ≡ true → has_number (m ∷ ms) b ≡ true → has_number ms b ≡ true
+behind_first : (n m : ℕ) (ns ms : List ℕ) (b : ℕ) → n ≡ m → Rises (n + 1) ns → has_number ns b ≡ true → has_number (m ∷ ms) b ≡ true
+    → has_number ms b ≡ true
 behind_first n m ns ms b same r h there = elim (or_cases (b == m) (has_number ms b) there) [
   | inl e ↦ absurd (omega (arith, from_low (n + 1) ns b r h, eqb-true b m e, same))
   | inr e ↦ e
 ]
 
-pub one_rise : (low : ℕ) (ns ms : List ℕ) → Rises low ns → Rises low ms → ((b : ℕ) → has_number ns b ≡ true → has_number ms b ≡ true) → ((b : ℕ) → has_number ms b ≡ true → has_number ns b ≡ true) → ns ≡ ms
+pub one_rise : (low : ℕ) (ns ms : List ℕ) → Rises low ns → Rises low ms → ((b : ℕ) → has_number ns b ≡ true → has_number ms b ≡ true)
+    → ((b : ℕ) → has_number ms b ≡ true → has_number ns b ≡ true) → ns ≡ ms
 one_rise low [] [] r s to from = refl
 one_rise low [] (m ∷ ms) r s to from = absurd (let bad = from m (or_left (m == m) (has_number ms m) (eq-eqb m m refl)) in cc)
 one_rise low (n ∷ ns) [] r s to from = absurd (let bad = to n (or_left (n == n) (has_number ns n) (eq-eqb n n refl)) in cc)
@@ -64,8 +67,11 @@ one_rise low (n ∷ ns) (m ∷ ms) r s to from =
     λ i. same i ∷ rest i
 
 -- the numbers of two lists with the same members, ascending
-pub one_ascending : (ns ms : List ℕ) → ((b : ℕ) → has_number ns b ≡ true → has_number ms b ≡ true) → ((b : ℕ) → has_number ms b ≡ true → has_number ns b ≡ true) → ascending [] ns ≡ ascending [] ms
-one_ascending ns ms to from = one_rise 0 (ascending [] ns) (ascending [] ms) (rises_all [] ns tt) (rises_all [] ms tt) (along ns ms to) (along ms ns from)
+pub one_ascending : (ns ms : List ℕ) → ((b : ℕ) → has_number ns b ≡ true → has_number ms b ≡ true)
+    → ((b : ℕ) → has_number ms b ≡ true → has_number ns b ≡ true) → ascending [] ns ≡ ascending [] ms
+one_ascending ns ms to from =
+    one_rise 0 (ascending [] ns) (ascending [] ms) (rises_all [] ns tt) (rises_all [] ms tt) (along ns ms to) (along ms ns from)
   where
-    along : (xs ys : List ℕ) → ((b : ℕ) → has_number xs b ≡ true → has_number ys b ≡ true) → (b : ℕ) → has_number (ascending [] xs) b ≡ true → has_number (ascending [] ys) b ≡ true
+    along : (xs ys : List ℕ) → ((b : ℕ) → has_number xs b ≡ true → has_number ys b ≡ true) → (b : ℕ) → has_number (ascending [] xs) b ≡ true
+        → has_number (ascending [] ys) b ≡ true
     along xs ys f b h = elim (in_ascending [] xs b h) [ inl e ↦ absurd (no_number b e) | inr e ↦ ascending_in [] ys b (inr (f b e)) ]

@@ -45,11 +45,13 @@ ok_no_err : {A E : Type 0} (r : Result A E) (x : A) (e : E) → r ≡ Ok x → r
 ok_no_err r x e a b = absurd (let both = sym a ∙ b in cc)
 
 -- two things that a text spells are those of one tree
-pub of_one_tree : (bytes : List ℕ) (P Q : Trees → Type 0) (C : Type 0) → ((t : Trees) → P t → Q t → C) → SpellsTree bytes P → SpellsTree bytes Q → C
+pub of_one_tree : (bytes : List ℕ) (P Q : Trees → Type 0) (C : Type 0) → ((t : Trees) → P t → Q t → C) → SpellsTree bytes P
+    → SpellsTree bytes Q → C
 of_one_tree bytes P Q C f a b = f a.tree a.holds (subst Q (same_ok (reading bytes) b.tree a.tree b.spelled a.spelled) b.holds)
 
 -- a text that spells a tree is refused only for a fault of the tree
-pub not_refused : (bytes : List ℕ) (Holds : Trees → Type 0) (IsAnswered : Trees → Fault → Type 0) (kind : FaultKind) (place : ℕ) → ((t : Trees) (f : Fault) → Holds t → IsAnswered t f → ⊥) → SpellsTree bytes Holds → IsRefused IsAnswered bytes kind place → ⊥
+pub not_refused : (bytes : List ℕ) (Holds : Trees → Type 0) (IsAnswered : Trees → Fault → Type 0) (kind : FaultKind) (place : ℕ)
+    → ((t : Trees) (f : Fault) → Holds t → IsAnswered t f → ⊥) → SpellsTree bytes Holds → IsRefused IsAnswered bytes kind place → ⊥
 not_refused bytes Holds IsAnswered BadByte place f s r = ok_no_err (reading bytes) s.tree _ s.spelled r
 not_refused bytes Holds IsAnswered Unclosed place f s r = ok_no_err (reading bytes) s.tree _ s.spelled r
 not_refused bytes Holds IsAnswered Extra place f s r = ok_no_err (reading bytes) s.tree _ s.spelled r
@@ -62,16 +64,20 @@ no_least : (fs : List Fault) (f : Fault) → fs ≡ [] → least_fault fs ≡ So
 no_least fs f none e = absurd (let both = sym (ap least_fault none) ∙ e in cc)
 
 -- the faults of cycles are one list
-one_cycles : (kind : InputKind) (edges : List (List ℕ)) (cs : _) (fs gs : List Fault) → CycleFaults kind edges cs fs → CycleFaults kind edges cs gs → fs ≡ gs
+one_cycles : (kind : InputKind) (edges : List (List ℕ)) (cs : _) (fs gs : List Fault) → CycleFaults kind edges cs fs
+    → CycleFaults kind edges cs gs → fs ≡ gs
 one_cycles kind edges [] fs gs no_more no_more = refl
-one_cycles kind edges (c ∷ cs) fs gs (cyclic way a) (cyclic other b) = ap (λ rest. record { place = c.place; kind = kind } ∷ rest) (one_cycles kind edges cs _ _ a b)
+one_cycles kind edges (c ∷ cs) fs gs (cyclic way a) (cyclic other b) =
+    ap (λ rest. record { place = c.place; kind = kind } ∷ rest) (one_cycles kind edges cs _ _ a b)
 one_cycles kind edges (c ∷ cs) fs gs (cyclic way a) (free none b) = absurd (none way)
 one_cycles kind edges (c ∷ cs) fs gs (free none a) (cyclic way b) = absurd (none way)
 one_cycles kind edges (c ∷ cs) fs gs (free none a) (free other b) = one_cycles kind edges cs fs gs a b
 
-one_stream_cycles : (edges : List (List ℕ)) (cs : _) (fs gs : List Fault) → stream_cycles.CycleFaults edges cs fs → stream_cycles.CycleFaults edges cs gs → fs ≡ gs
+one_stream_cycles : (edges : List (List ℕ)) (cs : _) (fs gs : List Fault) → stream_cycles.CycleFaults edges cs fs
+    → stream_cycles.CycleFaults edges cs gs → fs ≡ gs
 one_stream_cycles edges [] fs gs stream_cycles.no_more stream_cycles.no_more = refl
-one_stream_cycles edges (c ∷ cs) fs gs (stream_cycles.cyclic way a) (stream_cycles.cyclic other b) = ap (λ rest. stream_cycles.cycle_at c.place ∷ rest) (one_stream_cycles edges cs _ _ a b)
+one_stream_cycles edges (c ∷ cs) fs gs (stream_cycles.cyclic way a) (stream_cycles.cyclic other b) =
+    ap (λ rest. stream_cycles.cycle_at c.place ∷ rest) (one_stream_cycles edges cs _ _ a b)
 one_stream_cycles edges (c ∷ cs) fs gs (stream_cycles.cyclic way a) (stream_cycles.free none b) = absurd (none way)
 one_stream_cycles edges (c ∷ cs) fs gs (stream_cycles.free none a) (stream_cycles.cyclic way b) = absurd (none way)
 one_stream_cycles edges (c ∷ cs) fs gs (stream_cycles.free none a) (stream_cycles.free other b) = one_stream_cycles edges cs fs gs a b
@@ -85,7 +91,8 @@ one_names v body fs gs a b =
 
 read_domain : (t : Trees) (d : Domain) (f : Fault) → domains.IsDomainRead t d → domains.IsDomainAnswered t f → ⊥
 read_domain t d f r (domains.of_form e) = no_least _ f r.formed e
-read_domain t d f r (domains.of_names {faults} formed are e) = no_least faults f (one_names (domains.domain_names t) (body_of t) faults [] are r.named) e
+read_domain t d f r (domains.of_names {faults} formed are e) =
+    no_least faults f (one_names (domains.domain_names t) (body_of t) faults [] are r.named) e
 
 read_problem : (d : Domain) (t : Trees) (p : Problem) (f : Fault) → problems.IsProblemRead d t p → problems.IsProblemAnswered d t f → ⊥
 read_problem d t p f r (problems.of_form e) = no_least _ f r.formed e
@@ -101,14 +108,16 @@ read_streams d t ss f r (streams.of_text formed n) = read_names d t ss f r.named
 
 -- ---- a tree is one domain
 
-one_reached : (edges : List (List ℕ)) (a : ℕ) (xs ys : List ℕ) → AreReached edges a xs → AreReached edges a ys → (b : ℕ) → has_number xs b ≡ true → has_number ys b ≡ true
+one_reached : (edges : List (List ℕ)) (a : ℕ) (xs ys : List ℕ) → AreReached edges a xs → AreReached edges a ys → (b : ℕ)
+    → has_number xs b ≡ true → has_number ys b ≡ true
 one_reached edges a xs ys x y b h = let way = x.only b h in y.all b way.between way.steps
 
 one_above : (edges : List (List ℕ)) (k : ℕ) (xs ys : List ℕ) → IsAbove edges k xs → IsAbove edges k ys → xs ≡ ys
 one_above edges k xs ys x y =
     x.sorted ∙ one_ascending x.reached y.reached (one_reached edges k x.reached y.reached x.right y.right) (one_reached edges k y.reached x.reached y.right x.right) ∙ sym y.sorted
 
-one_sorts : (edges : List (List ℕ)) (k : ℕ) (names : List (List ℕ)) (ss ts : List sort.Sort) → AreSorts edges k names ss → AreSorts edges k names ts → ss ≡ ts
+one_sorts : (edges : List (List ℕ)) (k : ℕ) (names : List (List ℕ)) (ss ts : List sort.Sort) → AreSorts edges k names ss
+    → AreSorts edges k names ts → ss ≡ ts
 one_sorts edges k [] [] [] no_sorts no_sorts = refl
 one_sorts edges k [] [] (t ∷ ts) x y = elim y [ ]
 one_sorts edges k [] (s ∷ ss) ts x y = elim x [ ]
@@ -140,7 +149,8 @@ one_domain t d e r s =
 -- ---- texts
 
 pub text_one_domain : (bytes : List ℕ) (d e : Domain) → SpellsDomain bytes d → SpellsDomain bytes e → d ≡ e
-text_one_domain bytes d e a b = of_one_tree bytes (λ t. domains.IsDomainRead t d) (λ t. domains.IsDomainRead t e) (d ≡ e) (λ t r s. one_domain t d e r s) a b
+text_one_domain bytes d e a b =
+    of_one_tree bytes (λ t. domains.IsDomainRead t d) (λ t. domains.IsDomainRead t e) (d ≡ e) (λ t r s. one_domain t d e r s) a b
 
 pub text_one_problem : (d : Domain) (bytes : List ℕ) (p q : Problem) → SpellsProblem d bytes p → SpellsProblem d bytes q → p ≡ q
 text_one_problem d bytes p q a b = of_one_tree bytes (λ t. problems.IsProblemRead d t p) (λ t. problems.IsProblemRead d t q) (p ≡ q) (λ t r s. r.problem ∙ sym s.problem) a b
@@ -148,14 +158,20 @@ text_one_problem d bytes p q a b = of_one_tree bytes (λ t. problems.IsProblemRe
 pub text_one_streams : (d : Domain) (bytes : List ℕ) (ss ts : List Stream) → SpellsStreams d bytes ss → SpellsStreams d bytes ts → ss ≡ ts
 text_one_streams d bytes ss ts a b = of_one_tree bytes (λ t. streams.AreRead d t ss) (λ t. streams.AreRead d t ts) (ss ≡ ts) (λ t r s. r.named.streams ∙ sym s.named.streams) a b
 
-pub domain_not_refused : (bytes : List ℕ) (d : Domain) (kind : FaultKind) (place : ℕ) → SpellsDomain bytes d → RefusesDomain bytes kind place → ⊥
-domain_not_refused bytes d kind place s r = not_refused bytes (λ t. domains.IsDomainRead t d) domains.IsDomainAnswered kind place (λ t f. read_domain t d f) s r
+pub domain_not_refused : (bytes : List ℕ) (d : Domain) (kind : FaultKind) (place : ℕ) → SpellsDomain bytes d
+    → RefusesDomain bytes kind place → ⊥
+domain_not_refused bytes d kind place s r =
+    not_refused bytes (λ t. domains.IsDomainRead t d) domains.IsDomainAnswered kind place (λ t f. read_domain t d f) s r
 
-pub problem_not_refused : (d : Domain) (bytes : List ℕ) (p : Problem) (kind : FaultKind) (place : ℕ) → SpellsProblem d bytes p → RefusesProblem d bytes kind place → ⊥
-problem_not_refused d bytes p kind place s r = not_refused bytes (λ t. problems.IsProblemRead d t p) (problems.IsProblemAnswered d) kind place (λ t f. read_problem d t p f) s r
+pub problem_not_refused : (d : Domain) (bytes : List ℕ) (p : Problem) (kind : FaultKind) (place : ℕ) → SpellsProblem d bytes p
+    → RefusesProblem d bytes kind place → ⊥
+problem_not_refused d bytes p kind place s r =
+    not_refused bytes (λ t. problems.IsProblemRead d t p) (problems.IsProblemAnswered d) kind place (λ t f. read_problem d t p f) s r
 
-pub streams_not_refused : (d : Domain) (bytes : List ℕ) (ss : List Stream) (kind : FaultKind) (place : ℕ) → SpellsStreams d bytes ss → RefusesStreams d bytes kind place → ⊥
-streams_not_refused d bytes ss kind place s r = not_refused bytes (λ t. streams.AreRead d t ss) (streams.AreStreamsAnswered d) kind place (λ t f. read_streams d t ss f) s r
+pub streams_not_refused : (d : Domain) (bytes : List ℕ) (ss : List Stream) (kind : FaultKind) (place : ℕ) → SpellsStreams d bytes ss
+    → RefusesStreams d bytes kind place → ⊥
+streams_not_refused d bytes ss kind place s r =
+    not_refused bytes (λ t. streams.AreRead d t ss) (streams.AreStreamsAnswered d) kind place (λ t f. read_streams d t ss f) s r
 
 -- ---- tasks
 

@@ -18,4 +18,6 @@ pub record HasShortText (d : Domain) : Type 0 where
 
 -- The task that three texts of at most 4 MiB spell is fit.
 abbrev pub SpelledTasksAreFit : Type 0
-SpelledTasksAreFit = (domain_bytes problem_bytes stream_bytes : List ℕ) (task : Task) → IsShort domain_bytes → IsShort problem_bytes → IsShort stream_bytes → Spells domain_bytes problem_bytes stream_bytes task → IsFit task
+SpelledTasksAreFit =
+    (domain_bytes problem_bytes stream_bytes : List ℕ) (task : Task) → IsShort domain_bytes → IsShort problem_bytes
+    → IsShort stream_bytes → Spells domain_bytes problem_bytes stream_bytes task → IsFit task

@@ -24,7 +24,8 @@ IsRefused IsAnswered bytes BadByte place = reading bytes ≡ Err (text.BadByte p
 IsRefused IsAnswered bytes Unclosed place = reading bytes ≡ Err (text.Unclosed place)
 IsRefused IsAnswered bytes Extra place = reading bytes ≡ Err (text.Extra place)
 IsRefused IsAnswered bytes TooDeep place = reading bytes ≡ Err (text.TooDeep place)
-IsRefused IsAnswered bytes (Input kind) place = SpellsTree bytes (λ t. IsAnswered t (record { place = place; kind = kind }))
+IsRefused IsAnswered bytes (Input kind) place =
+    SpellsTree bytes (λ t. IsAnswered t (record { place = place; kind = kind }))
 
 -- A refusal has its cause. Memory is free.
 abbrev pub Refuses : (FaultKind → ℕ → Type 0) → InputRefusal → Type 0

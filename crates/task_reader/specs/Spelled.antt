@@ -7,7 +7,9 @@ use Rattle.task_reader.specs.declared.refusal.FaultKind.{FaultKind}
 
 -- three texts spell one task at most
 abbrev pub TextsSpellOneTask : Type 0
-TextsSpellOneTask = (domain_bytes problem_bytes stream_bytes : List ℕ) (t u : Task) → Spells domain_bytes problem_bytes stream_bytes t → Spells domain_bytes problem_bytes stream_bytes u → t ≡ u
+TextsSpellOneTask =
+    (domain_bytes problem_bytes stream_bytes : List ℕ) (t u : Task) → Spells domain_bytes problem_bytes stream_bytes t
+    → Spells domain_bytes problem_bytes stream_bytes u → t ≡ u
 
 -- None of the texts is refused, whichever fault one looks for.
 pub record AreNotRefused (domain_bytes problem_bytes stream_bytes : List ℕ) : Type 0 where
@@ -17,4 +19,6 @@ pub record AreNotRefused (domain_bytes problem_bytes stream_bytes : List ℕ) : 
 
 -- where three texts spell a task, that is so
 abbrev pub SpelledTextsAreNotRefused : Type 0
-SpelledTextsAreNotRefused = (domain_bytes problem_bytes stream_bytes : List ℕ) (task : Task) → Spells domain_bytes problem_bytes stream_bytes task → AreNotRefused domain_bytes problem_bytes stream_bytes
+SpelledTextsAreNotRefused =
+    (domain_bytes problem_bytes stream_bytes : List ℕ) (task : Task)
+    → Spells domain_bytes problem_bytes stream_bytes task → AreNotRefused domain_bytes problem_bytes stream_bytes

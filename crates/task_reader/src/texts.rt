@@ -48,7 +48,8 @@ pub fn domain_in(alloc: Global, bytes: &[u8]) -> Result<Domain, InputRefusal>
 pub fn problem_in(alloc: Global, bytes: &[u8], domain: &Domain) -> Result<Problem, InputRefusal>
     ensures read { IfOk result (specs.SpellsProblem domain.now bytes.now) }
     // The problem of a text of at most 4 MiB, over a domain of such a text, is fit.
-    ensures fit { IfOk result (λ p. HasShortText domain.now → IsShort bytes.now → IsFitOver domain.now p) }
+    ensures fit { IfOk result (λ p. HasShortText domain.now → IsShort bytes.now
+        → IsFitOver domain.now p) }
     ensures refused { IfErr result (Refuses (specs.RefusesProblem domain.now bytes.now)) }
 {
     let tree = read_tree(alloc, bytes)?;
@@ -69,7 +70,8 @@ pub fn problem_in(alloc: Global, bytes: &[u8], domain: &Domain) -> Result<Proble
 pub fn streams_in(alloc: Global, bytes: &[u8], domain: &Domain) -> Result<Seq<Stream>, InputRefusal>
     ensures read { IfOk result (specs.SpellsStreams domain.now bytes.now) }
     // The streams of a text of at most 4 MiB, over a domain of such a text, are fit.
-    ensures fit { IfOk result (λ ss. HasShortText domain.now → IsShort bytes.now → AreFitOver domain.now ss) }
+    ensures fit { IfOk result (λ ss. HasShortText domain.now → IsShort bytes.now
+        → AreFitOver domain.now ss) }
     ensures refused { IfErr result (Refuses (specs.RefusesStreams domain.now bytes.now)) }
 {
     let tree = read_tree(alloc, bytes)?;

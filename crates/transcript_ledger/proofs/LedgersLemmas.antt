@@ -35,7 +35,8 @@ any_push : {A : Type 0} (p : A → Bool) (xs : List A) (x : A) → list_any p (x
 any_push p [] x = or_false (p x)
 any_push p (y ∷ ys) x = ap (λ b. p y || b) (any_push p ys x) ∙ or_assoc (p y) (list_any p ys) (p x)
 
-at_push : {A : Type 0} (xs : List A) (x y : A) (k : ℕ) → slice_get (xs ++ x ∷ []) k ≡ Some y → (slice_get xs k ≡ Some y) ⊎ ((k ≡ length xs) × (x ≡ y))
+at_push : {A : Type 0} (xs : List A) (x y : A) (k : ℕ) → slice_get (xs ++ x ∷ []) k ≡ Some y
+    → (slice_get xs k ≡ Some y) ⊎ ((k ≡ length xs) × (x ≡ y))
 at_push [] x y zero at = inr (refl, (let same : x ≡ y = cc in same))
 at_push [] x y (suc k) at = absurd (cc)
 at_push (z ∷ zs) x y zero at = inl at
@@ -50,9 +51,12 @@ not_same n k m e f = eq-eqb k n (eqb-true k m f ∙ sym (eqb-true n m e))
 
 -- by the three tests
 abbrev Without : ℕ → ℕ → ℕ → List ℕ → Bool → Bool → Bool → Type 0
-Without n k m ms first here same = has_number (without n ms) k ≡ (has_number ms k && not same) → has_number (cond (not first) (m ∷ without n ms) (without n ms)) k ≡ ((here || has_number ms k) && not same)
+Without n k m ms first here same =
+    has_number (without n ms) k ≡ (has_number ms k && not same)
+    → has_number (cond (not first) (m ∷ without n ms) (without n ms)) k ≡ ((here || has_number ms k) && not same)
 
-without_by : (n k m : ℕ) (ms : List ℕ) (first here same : Bool) → (n == m) ≡ first → (k == m) ≡ here → (k == n) ≡ same → Without n k m ms first here same
+without_by : (n k m : ℕ) (ms : List ℕ) (first here same : Bool) → (n == m) ≡ first → (k == m) ≡ here → (k == n) ≡ same
+    → Without n k m ms first here same
 without_by n k m ms true true true e f g rest = rest ∙ and_false (has_number ms k)
 without_by n k m ms true true false e f g rest = absurd (true≢false (sym (not_same n k m e f) ∙ g))
 without_by n k m ms true false same e f g rest = rest
@@ -85,7 +89,11 @@ fewer n ms there = omega (arith, length-filter_both (λ m. not (n == m)) (λ m. 
 
 -- ---- a request
 
-pub ask_kept : (version turn : ℕ) (task : Task) (before : List Entry) (call : Call) (l new : Ledger) (i : Instance) → IsLedger version task before l → IsRightAsk task before (length l.asked.items + 1) turn call → instance_of task (names_of task before) call ≡ Some i → new.facts.known ≡ l.facts.known → new.queue ≡ l.queue → new.asked.items ≡ l.asked.items ++ i ∷ [] → new.unanswered.items ≡ l.unanswered.items ++ (length l.asked.items + 1) ∷ [] → IsLedger version task (before ++ entry.Ask (length l.asked.items + 1) turn call ∷ []) new
+pub ask_kept : (version turn : ℕ) (task : Task) (before : List Entry) (call : Call) (l new : Ledger) (i : Instance)
+    → IsLedger version task before l → IsRightAsk task before (length l.asked.items + 1) turn call
+    → instance_of task (names_of task before) call ≡ Some i → new.facts.known ≡ l.facts.known → new.queue ≡ l.queue
+    → new.asked.items ≡ l.asked.items ++ i ∷ [] → new.unanswered.items ≡ l.unanswered.items ++ (length l.asked.items + 1) ∷ []
+    → IsLedger version task (before ++ entry.Ask (length l.asked.items + 1) turn call ∷ []) new
 ask_kept version turn task before call l new i h right named facts queue asked_is unanswered_is =
     let number = length l.asked.items + 1 in
     let e = entry.Ask number turn call in
@@ -99,13 +107,18 @@ ask_kept version turn task before call l new i h right named facts queue asked_i
       legal = (grows version task before).next e h.legal right;
       known = facts ∙ h.known ∙ sym adds.same.known;
       notes = queue ∙ h.notes ∙ sym adds.same.notes;
-      counted = ap length asked_is ∙ (let e : length (l.asked.items ++ i ∷ []) ≡ asks_of (before ++ entry.Ask number turn call ∷ []) = omega (arith, length-append l.asked.items (i ∷ []), h.counted, adds.asks) in e);
+      counted =
+          ap length asked_is
+          ∙ (let e : length (l.asked.items ++ i ∷ []) ≡ asks_of (before ++ entry.Ask number turn call ∷ []) = omega (arith, length-append l.asked.items (i ∷ []), h.counted, adds.asks) in e);
       asks = λ k j at. asks_by k j (at_push l.asked.items i j k (ap (λ is. slice_get is k) (sym asked_is) ∙ at)) right.due.stream streamed adds.here;
       unanswered = λ n. ap (λ ms. has_number ms n) unanswered_is ∙ any_push (λ m. n == m) l.unanswered.items number ∙ (λ t. h.unanswered n t || (n == number)) ∙ sym (adds.waiting n);
       answered = omega (arith, ap length unanswered_is, length-append l.unanswered.items (number ∷ []), h.answered, adds.asks, count_joined is_answer before (e ∷ []), count_one is_answer e);
     }
   where
-    asks_by : (k : ℕ) (j : Instance) → (slice_get l.asked.items k ≡ Some j) ⊎ ((k ≡ length l.asked.items) × (i ≡ j)) → (stream : Stream) → slice_get task.streams i.stream ≡ Some stream → asked task (before ++ entry.Ask (length l.asked.items + 1) turn call ∷ []) (length l.asked.items + 1) ≡ Some (record { stream = stream; instance = i }) → Asks task (before ++ entry.Ask (length l.asked.items + 1) turn call ∷ []) (k + 1) j
+    asks_by : (k : ℕ) (j : Instance) → (slice_get l.asked.items k ≡ Some j) ⊎ ((k ≡ length l.asked.items) × (i ≡ j)) → (stream : Stream)
+        → slice_get task.streams i.stream ≡ Some stream
+        → asked task (before ++ entry.Ask (length l.asked.items + 1) turn call ∷ []) (length l.asked.items + 1) ≡ Some (record { stream = stream; instance = i })
+        → Asks task (before ++ entry.Ask (length l.asked.items + 1) turn call ∷ []) (k + 1) j
     asks_by k j (inl at) stream streamed here = let a = h.asks k j at in record { stream = a.stream; streamed = a.streamed; asks = asked-kept task before (entry.Ask (length l.asked.items + 1) turn call ∷ []) (k + 1) (record { stream = a.stream; instance = j }) a.asks }
     asks_by k j (inr (last, is)) stream streamed here = subst (λ x. Asks task (before ++ entry.Ask (length l.asked.items + 1) turn call ∷ []) (k + 1) x) is (record { stream = stream; streamed = streamed; asks = ap (λ n. asked task (before ++ entry.Ask (length l.asked.items + 1) turn call ∷ []) (n + 1)) last ∙ here })
 
@@ -123,7 +136,8 @@ is_answer_so entry.Reset n e = absurd (cc)
 is_answer_so (entry.Pick m) n e = absurd (cc)
 is_answer_so (entry.Retire m) n e = absurd (cc)
 
-waits_for : (version : ℕ) (task : Task) (before : List Entry) (e : Entry) (n : ℕ) → answered_number e ≡ Some n → MayFollow version task before e → is_open before n ≡ true
+waits_for : (version : ℕ) (task : Task) (before : List Entry) (e : Entry) (n : ℕ) → answered_number e ≡ Some n
+    → MayFollow version task before e → is_open before n ≡ true
 waits_for version task before (entry.Got m tuples values) n e may = let same : m ≡ n = cc in ap (is_open before) (sym same) ∙ may.waiting
 waits_for version task before (entry.Value m value) n e may = let same : m ≡ n = cc in ap (is_open before) (sym same) ∙ may.waiting
 waits_for version task before (entry.End m) n e may = let same : m ≡ n = cc in ap (is_open before) (sym same) ∙ may
@@ -155,7 +169,9 @@ module _ (version : ℕ) (task : Task) (before : List Entry) (l : Ledger) (e : E
   same_asks = omega (arith, count_joined is_ask before (e ∷ []), no_ask e n answers)
 
   one_more : count_by is_answer (before ++ e ∷ []) ≡ count_by is_answer before + 1
-  one_more = count_joined is_answer before (e ∷ []) ∙ ap (λ m. count_by is_answer before + m) (count_one is_answer e ∙ (λ i. cond (is_answer_so e n answers i) 1 0))
+  one_more =
+      count_joined is_answer before (e ∷ [])
+      ∙ ap (λ m. count_by is_answer before + m) (count_one is_answer e ∙ (λ i. cond (is_answer_so e n answers i) 1 0))
 
   left : length (without n l.unanswered.items) + 1 ≤ length l.unanswered.items
   left = fewer n l.unanswered.items (h.unanswered n ∙ open_here)
@@ -178,7 +194,9 @@ module _ (version : ℕ) (task : Task) (before : List Entry) (l : Ledger) (e : E
       let same : n ≡ n - 1 + 1 = omega (arith, w.some) in
       (record { stream = a.stream; instance = w.request.instance }, ap (asked task before) same ∙ a.asks)
 
-  pub answer_kept : (new : Ledger) (a : Asked) → asked task before n ≡ Some a → new.facts.known ≡ known_of task (before ++ e ∷ []) → new.queue ≡ notes_of task (before ++ e ∷ []) → new.asked.items ≡ l.asked.items → new.unanswered.items ≡ without n l.unanswered.items → IsLedger version task (before ++ e ∷ []) new
+  pub answer_kept : (new : Ledger) (a : Asked) → asked task before n ≡ Some a → new.facts.known ≡ known_of task (before ++ e ∷ [])
+      → new.queue ≡ notes_of task (before ++ e ∷ []) → new.asked.items ≡ l.asked.items → new.unanswered.items ≡ without n l.unanswered.items
+      → IsLedger version task (before ++ e ∷ []) new
   answer_kept new a was known notes asked_is unanswered_is =
       let adds = answer_adds version task before h.fit.problem.objects.names.distinct h.legal n a was e (answers_to e n answers) in
       record {

@@ -17,7 +17,8 @@ no_place names name absent = by (place_of names name) refl
     by (Some k) e = absurd (absent (member_at names k name (place_at names name k e)))
 
 -- where one of the names is unknown, they have no places
-pub no_places : (names more : List (List ℕ)) (k : ℕ) (name : List ℕ) → slice_get more k ≡ Some name → ¬ (Contains names name) → places_of names more ≡ None
+pub no_places : (names more : List (List ℕ)) (k : ℕ) (name : List ℕ) → slice_get more k ≡ Some name → ¬ (Contains names name)
+    → places_of names more ≡ None
 no_places names [] k name at absent = absurd (cc)
 no_places names (first ∷ more) zero name at absent =
     let same : first ≡ name = cc in
@@ -26,7 +27,9 @@ no_places names (first ∷ more) (suc k) name at absent =
     ap (λ os. option_and_then (λ object. option_map (λ objects. object ∷ objects) os) (place_of names first)) (no_places names more k name at absent) ∙ nothing (place_of names first)
 
 -- one object more
-pub places_push : (names more : List (List ℕ)) (objects : List ℕ) (k o : ℕ) (name : List ℕ) → k < length more → name ≡ get_or more k name → map (slice_get names) objects ≡ map Some (take k more) → slice_get names o ≡ Some name → map (slice_get names) (objects ++ o ∷ []) ≡ map Some (take (k + 1) more)
+pub places_push : (names more : List (List ℕ)) (objects : List ℕ) (k o : ℕ) (name : List ℕ) → k < length more → name ≡ get_or more k name
+    → map (slice_get names) objects ≡ map Some (take k more) → slice_get names o ≡ Some name
+    → map (slice_get names) (objects ++ o ∷ []) ≡ map Some (take (k + 1) more)
 places_push names more objects k o name lt is so_far here =
     map-append (slice_get names) objects (o ∷ [])
     ∙ (λ i. so_far i ++ here i ∷ [])

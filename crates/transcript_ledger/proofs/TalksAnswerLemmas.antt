@@ -21,7 +21,8 @@ use Rattle.lemmas.proofs.ListTests.{get_there}
 
 all_pass : (p : List ℕ → Bool) (xs : List (List ℕ)) → All (λ v. p v ≡ true) xs → list_all p xs ≡ true
 all_pass p [] every = refl
-all_pass p (x ∷ xs) every = and_from (p x) (list_all p xs) (All-head (λ v. p v ≡ true) x xs every) (all_pass p xs (All-tail (λ v. p v ≡ true) x xs every))
+all_pass p (x ∷ xs) every =
+    and_from (p x) (list_all p xs) (All-head (λ v. p v ≡ true) x xs every) (all_pass p xs (All-tail (λ v. p v ≡ true) x xs every))
 
 not_several : (version : ℕ) → has_several version ≡ false → version ≡ 1
 not_several version e = by (version == 1) refl e
@@ -31,7 +32,8 @@ not_several version e = by (version == 1) refl e
     by false is e = absurd (false≢true (sym e))
 
 -- tuples of a formed yield that are as wide as the stream says
-right : (version tuples width : ℕ) (values : List (List ℕ)) → AreTuples version tuples values → length values ≡ tuples * width → IsRight width (has_several version) tuples values
+right : (version tuples width : ℕ) (values : List (List ℕ)) → AreTuples version tuples values → length values ≡ tuples * width
+    → IsRight width (has_several version) tuples values
 right version tuples width values formed count = record {
   some = formed.some;
   few = formed.few;
@@ -72,7 +74,8 @@ module _ (version : ℕ) (task : Task) (before : List Entry) (l : Ledger) (h : I
       by true is = sym (h.unanswered n) ∙ is
       by false is = let r : false ≡ true = rw is at passed in absurd (false≢true r)
 
-  gives : (n : ℕ) (e : Entry) → IsFormedEntry version e → answered_number e ≡ Some n → is_open before n ≡ true → (f : Found n) → may_give f.request.stream e ≡ true → MayFollow version task before e
+  gives : (n : ℕ) (e : Entry) → IsFormedEntry version e → answered_number e ≡ Some n → is_open before n ≡ true → (f : Found n)
+      → may_give f.request.stream e ≡ true → MayFollow version task before e
   gives n (entry.Got m tuples values) formed is waits f given =
       let same : m ≡ n = cc in
       subst (λ k. MayFollow version task before (entry.Got k tuples values)) (sym same)
@@ -90,13 +93,15 @@ module _ (version : ℕ) (task : Task) (before : List Entry) (l : Ledger) (h : I
   gives n (entry.Pick m) formed is waits f given = absurd (cc)
   gives n (entry.Retire m) formed is waits f given = absurd (cc)
 
-  pub may_be_given : (n : ℕ) (e : Entry) → IsFormedEntry version e → answered_number e ≡ Some n → may_answer task l n e ≡ true → MayFollow version task before e
+  pub may_be_given : (n : ℕ) (e : Entry) → IsFormedEntry version e → answered_number e ≡ Some n → may_answer task l n e ≡ true
+      → MayFollow version task before e
   may_be_given n e formed is passed =
       let waits = is_waiting n e passed in
       let f = found n waits in
       gives n e formed is waits f (sym (test_is n e waits f) ∙ passed)
 
-  given_by : (n : ℕ) (e : Entry) → answered_number e ≡ Some n → MayFollow version task before e → (f : Found n) → may_give f.request.stream e ≡ true
+  given_by : (n : ℕ) (e : Entry) → answered_number e ≡ Some n → MayFollow version task before e → (f : Found n)
+      → may_give f.request.stream e ≡ true
   given_by n (entry.Got m tuples values) is may f =
       let same : m ≡ n = cc in
       let request : may.request ≡ f.request = same_some (asked task before n) may.request f.request (ap (asked task before) (sym same) ∙ may.of) f.of in

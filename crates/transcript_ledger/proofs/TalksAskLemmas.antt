@@ -27,11 +27,11 @@ use Rattle.std.proofs.lemmas.Map.Keys.{any_passes_from_place}
 use Rattle.lemmas.proofs.Options.{same_some}
 use Rattle.lemmas.proofs.ListTests.{get_there}
 
-
 -- ---- open requests
 
 -- an open request was made
-pub opened : (version : ℕ) (task : Task) (before : List Entry) (n : ℕ) → IsLegal version task before → is_open before n ≡ true → (1 ≤ n) × (n ≤ asks_of before)
+pub opened : (version : ℕ) (task : Task) (before : List Entry) (n : ℕ) → IsLegal version task before → is_open before n ≡ true
+    → (1 ≤ n) × (n ≤ asks_of before)
 opened version task before n legal waits =
     let made = first_request before n (first_so (list_any (is_ask_of n) before) (not (list_any (is_answer_to n) before)) waits) in
     let e = entry.Ask n made.1 made.2 in
@@ -55,7 +55,8 @@ such p (y ∷ ys) e = by (p y) refl e (such p ys)
     by true is e rest = record { place = 0; member = y; at = refl; passes_it = is }
     by false is e rest = let r = rest e in record { place = suc r.place; member = r.member; at = r.at; passes_it = r.passes_it }
 
-asked_yes : (asked_all : List Instance) (i j : Instance) (n : ℕ) → slice_get asked_all (n - 1) ≡ Some j → j ≡ i → asked_it asked_all i n ≡ true
+asked_yes : (asked_all : List Instance) (i j : Instance) (n : ℕ) → slice_get asked_all (n - 1) ≡ Some j → j ≡ i
+    → asked_it asked_all i n ≡ true
 asked_yes asked_all i j n at same = let r : same_instance j i ≡ true = itself in rw at r
   where
     numbers : (xs : List ℕ) → same_numbers xs xs ≡ true
@@ -63,9 +64,12 @@ asked_yes asked_all i j n at same = let r : same_instance j i ≡ true = itself 
     numbers (x ∷ xs) = and_from (nat_eq x x) (same_numbers xs xs) (eq-eqb x x refl) (numbers xs)
 
     itself : same_instance j i ≡ true
-    itself = ap (λ (k : Instance). same_instance k i) same ∙ and_from (i.stream == i.stream) (same_numbers i.inputs i.inputs) (eq-eqb i.stream i.stream refl) (numbers i.inputs)
+    itself =
+        ap (λ (k : Instance). same_instance k i) same
+        ∙ and_from (i.stream == i.stream) (same_numbers i.inputs i.inputs) (eq-eqb i.stream i.stream refl) (numbers i.inputs)
 
-asked_is : (asked_all : List Instance) (i : Instance) (n : ℕ) (o : Option Instance) → slice_get asked_all (n - 1) ≡ o → asked_it asked_all i n ≡ true → (j : Instance) × (slice_get asked_all (n - 1) ≡ Some j) × (j ≡ i)
+asked_is : (asked_all : List Instance) (i : Instance) (n : ℕ) (o : Option Instance) → slice_get asked_all (n - 1) ≡ o
+    → asked_it asked_all i n ≡ true → (j : Instance) × (slice_get asked_all (n - 1) ≡ Some j) × (j ≡ i)
 asked_is asked_all i n None at e = let r : false ≡ true = rw at at e in absurd (false≢true r)
 asked_is asked_all i n (Some j) at e = let r : same_instance j i ≡ true = rw at at e in (j, at, instances_same j i r)
 
@@ -124,12 +128,15 @@ module _ (version : ℕ) (task : Task) (before : List Entry) (l : Ledger) (h : I
       let after_turn = second_so turn_test (due_test && idle_test) after_next in
       let due : IsDue task l.facts.known l.queue i = due_holds task l.facts.known l.queue i (first_so due_test idle_test after_turn) in
       record {
-        next = eqb-true number (length l.asked.items + 1) (first_so next_test (turn_test && (due_test && idle_test)) e) ∙ ap (λ m. m + 1) h.counted;
+        next =
+            eqb-true number (length l.asked.items + 1) (first_so next_test (turn_test && (due_test && idle_test)) e)
+            ∙ ap (λ m. m + 1) h.counted;
         instance = i;
         named = named;
         due = subst (λ k. IsDue task k (notes_of task before) i) h.known (subst (λ ns. IsDue task l.facts.known ns i) h.notes due);
         closed = idle (not-true (is_waiting l.asked.items l.unanswered.items i) (second_so due_test idle_test after_turn));
-        turned = eqb-true turn (yields_of l.queue i) (first_so turn_test (due_test && idle_test) after_next) ∙ ap (λ ns. yields_of ns i) h.notes;
+        turned =
+            eqb-true turn (yields_of l.queue i) (first_so turn_test (due_test && idle_test) after_next) ∙ ap (λ ns. yields_of ns i) h.notes;
       }
 
   pub must_pass : IsRightAsk task before number turn call → may_ask task l number turn i ≡ true

@@ -24,7 +24,8 @@ may_ask task l number turn i =
 
 -- the stream may give this answer, whose tuples are of equal width
 abbrev pub may_give : Stream → Entry → Bool
-may_give stream (entry.Got number tuples values) = is_none stream.worth && (length values == tuples * length stream.outputs)
+may_give stream (entry.Got number tuples values) =
+    is_none stream.worth && (length values == tuples * length stream.outputs)
 may_give stream (entry.Value number value) = not (is_none stream.worth)
 may_give stream e = true
 
@@ -42,7 +43,8 @@ may_answer task l number e = has_number l.unanswered.items number && asked (slic
 
 -- the request may be made, its number is at most the limit, and it asks the instance that was found
 abbrev pub IsAskedBy : ℕ → Task → List Entry → ℕ → ℕ → Call → Option Instance → Type 0
-IsAskedBy calls task before number turn call (Some i) = IsRightAsk task before number turn call × (number ≤ calls) × (instance_of task (names_of task before) call ≡ Some i)
+IsAskedBy calls task before number turn call (Some i) =
+    IsRightAsk task before number turn call × (number ≤ calls) × (instance_of task (names_of task before) call ≡ Some i)
 IsAskedBy calls task before number turn call None = ¬ (IsRightAsk task before number turn call × (number ≤ calls))
 
 -- the request of these fields is the one of this number, of this instance

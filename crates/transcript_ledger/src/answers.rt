@@ -57,7 +57,9 @@ fn is_given(task: &Task, ledger: &Ledger, number: u32, entry: &Entry) -> bool
 /// Whether the answer to the request of this number may follow the entries so far. It has the form of an answer in a report.
 pub fn may_answer(task: &Task, ledger: &Ledger, number: u32, entry: &Entry) -> bool
     requires { IsFit task.now }
-    ensures { (version : ℕ) (before : List AnyEntry) → IsLedger version task.now before ledger.now → IsFormedEntry version entry.now → answered_number entry.now ≡ Some number → IsTrue result ↔ MayFollow version task.now before entry.now }
+    ensures { (version : ℕ) (before : List AnyEntry) → IsLedger version task.now before ledger.now
+        → IsFormedEntry version entry.now → answered_number entry.now ≡ Some number → IsTrue result
+        ↔ MayFollow version task.now before entry.now }
 {
     is_given(task, ledger, number, entry)
 }

@@ -35,7 +35,8 @@ pub fn asked_by(
     call: &Call,
 ) -> Result<Option<Instance>, AllocError>
     requires { IsFit task.now }
-    ensures { (version : ℕ) (before : List AnyEntry) → IsLedger version task.now before ledger.now → IfOk result (IsAskedBy calls task.now before number turn call.now) }
+    ensures { (version : ℕ) (before : List AnyEntry) → IsLedger version task.now before ledger.now
+        → IfOk result (IsAskedBy calls task.now before number turn call.now) }
 {
     if number > calls {
         return Ok(None);

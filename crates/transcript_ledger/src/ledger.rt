@@ -89,7 +89,12 @@ impl Ledger {
     /// Takes a request of the instance, which may be made.
     pub fn ask(&mut self, instance: Instance) -> Result<(), AllocError>
         requires { length self.old.asked.items < 100000 }
-        ensures kept { OnOk result ((version turn : ℕ) (task : AnyTask) (before : List AnyEntry) (call : AnyCall) → IsLedger version task before self.old → IsRightAsk task before (length self.old.asked.items + 1) turn call → instance_of task (names_of task before) call ≡ Some instance → IsLedger version task (before ++ entry.Ask (length self.old.asked.items + 1) turn call ∷ []) self.new) }
+        ensures kept { OnOk result ((version turn : ℕ) (task : AnyTask) (before : List AnyEntry)
+            (call : AnyCall) → IsLedger version task before self.old
+            → IsRightAsk task before (length self.old.asked.items + 1) turn call
+            → instance_of task (names_of task before) call ≡ Some instance
+            → IsLedger version task
+            (before ++ entry.Ask (length self.old.asked.items + 1) turn call ∷ []) self.new) }
     {
         let number = self.asked.len() as u32 + 1;
         self.unanswered.push(number)?;
@@ -109,7 +114,9 @@ impl Ledger {
     ) -> Result<(), AllocError>
         requires ledger { IsLedger version task.now (take place entries.now) self.old }
         requires few { length self.old.asked.items ≤ 100000 }
-        requires there { (e : AnyEntry) × (slice_get entries.now place ≡ Some e) × (answered_number e ≡ Some number) × MayFollow version task.now (take place entries.now) e }
+        requires there { (e : AnyEntry) × (slice_get entries.now place ≡ Some e)
+            × (answered_number e ≡ Some number)
+            × MayFollow version task.now (take place entries.now) e }
         ensures { OnOk result (IsLedger version task.now (take (place + 1) entries.now) self.new) }
     {
         self.unanswered = left_out(alloc, self.unanswered.as_slice(), number)?;

@@ -12,8 +12,10 @@ use task_model::Task;
 /// What is due, or None where that is more than 1,000,000 instances.
 pub fn dues_of(task: &Task, ledger: &Ledger) -> Result<Option<Vec<Due>>, AllocError>
     requires { IsFit task.now }
-    ensures some { IfOk result (λ found. IfSome found (λ dues. AreDueInTurn task.now ledger.now.facts.known ledger.now.queue dues.items)) }
-    ensures none { IfOk result (λ found. IfNone found (MoreAreDue 1000000 task.now ledger.now.facts.known ledger.now.queue)) }
+    ensures some { IfOk result (λ found. IfSome found
+        (λ dues. AreDueInTurn task.now ledger.now.facts.known ledger.now.queue dues.items)) }
+    ensures none { IfOk result (λ found. IfNone found
+        (MoreAreDue 1000000 task.now ledger.now.facts.known ledger.now.queue)) }
 {
     match ledger.queue.next_level(task, &ledger.facts) {
         Ok(dues) => Ok(Some(dues)),

@@ -54,7 +54,8 @@ pub fn is_request(
     turn: u32,
     call: &Call,
 ) -> bool
-    ensures { result ≡ is_same_request task.now names.now queue.now number instance.now shown turn call.now }
+    ensures { result ≡ is_same_request task.now names.now queue.now number instance.now shown turn
+        call.now }
 {
     shown == number
         && turn == queue.yields(instance)

@@ -122,8 +122,8 @@ module _ (version : ℕ) (task : Task) (entries : List Entry) (fit : IsFit task)
         streamed = streamed.0;
         many =
             (λ i. length (sym same i).inputs)
-                ∙ have_types-length (known_of task (take at.0 entries)) right.instance.inputs right.due.stream.inputs typed
-                ∙ ap (λ (s : Stream). length s.inputs) same_stream;
+            ∙ have_types-length (known_of task (take at.0 entries)) right.instance.inputs right.due.stream.inputs typed
+            ∙ ap (λ (s : Stream). length s.inputs) same_stream;
         named = subst (λ (x : Instance). All (IsIn (names_of task entries)) x.inputs) streamed.1 (instance_in task (names_of task entries) call.0 whole.0 call.2);
       }
 

@@ -45,7 +45,7 @@ member_joined f (z ∷ zs) (suc k) x y at m = Contains-append_right (f z) (flat_
 pub names_of-more : (task : Task) (xs ys : List Entry) → names_of task (xs ++ ys) ≡ with_names (names_of task xs) (flat_map objects_in ys)
 names_of-more task xs ys =
     ap (with_names (declared_names task)) (flat_map-append objects_in xs ys)
-        ∙ with_names-then (declared_names task) (flat_map objects_in xs) (flat_map objects_in ys)
+    ∙ with_names-then (declared_names task) (flat_map objects_in xs) (flat_map objects_in ys)
 
 pub names_of-front : (task : Task) (xs ys : List Entry) → (added : List (List ℕ)) × (names_of task (xs ++ ys) ≡ names_of task xs ++ added)
 names_of-front task xs ys =
@@ -203,9 +203,9 @@ module _ (version : ℕ) (task : Task) (entries more : List Entry) (distinct : A
     requests = asked-kept task entries more;
     facts =
         ap (with_facts (initial_known task).facts) (in_front (certified task (entries ++ more)) (certified task entries) certified_same)
-            ∙ facts_then (initial_known task).facts (flat_map (certified task entries) entries) (flat_map (certified task (entries ++ more)) more);
+        ∙ facts_then (initial_known task).facts (flat_map (certified task entries) entries) (flat_map (certified task (entries ++ more)) more);
     values =
         ap (with_values (initial_known task).values) (in_front (told_value task (entries ++ more)) (told_value task entries) told_same)
-            ∙ values_then (initial_known task).values (flat_map (told_value task entries) entries) (flat_map (told_value task (entries ++ more)) more);
+        ∙ values_then (initial_known task).values (flat_map (told_value task entries) entries) (flat_map (told_value task (entries ++ more)) more);
     notes = in_front (note_of task (entries ++ more)) (note_of task entries) note_same;
   }

@@ -23,7 +23,7 @@ use Rattle.transcript_model.specs.declared.entry.Entry.TheVariants as entry
 abbrev pub PlacesAreExact : Type 0
 PlacesAreExact =
     (names more : List (List ℕ)) (objects : List ℕ) → AreDistinct names
-        → (places_of names more ≡ Some objects) ↔ (map (slice_get names) objects ≡ map Some more)
+    → (places_of names more ≡ Some objects) ↔ (map (slice_get names) objects ≡ map Some more)
 
 -- The call that shows an instance stands for that instance, where its objects are in the table of names.
 abbrev pub CallsNameInstances : Type 0
@@ -47,7 +47,7 @@ pub record Continues (task : Task) (entries more : List Entry) : Type 0 where
 abbrev pub LongerKeeps : Type 0
 LongerKeeps =
     (version : ℕ) (task : Task) (entries more : List Entry) → IsFit task → IsLegal version task entries
-        → Continues task entries more
+    → Continues task entries more
 
 -- The front of a legal transcript is legal, and so is a legal transcript with one entry more that may follow.
 pub record GrowsLegally (version : ℕ) (task : Task) (entries : List Entry) : Type 0 where
@@ -100,7 +100,7 @@ pub record AddsMark (task : Task) (before after : List Entry) : Type 0 where
 abbrev pub MarksAddNothing : Type 0
 MarksAddNothing =
     (version : ℕ) (task : Task) (before : List Entry) (e : Entry) → IsFit task → IsLegal version task before
-        → is_mark e ≡ true → AddsMark task before (before ++ e ∷ [])
+    → is_mark e ≡ true → AddsMark task before (before ++ e ∷ [])
 
 -- ---- legal transcripts
 
@@ -113,7 +113,7 @@ NumbersAreOwn =
 abbrev pub RequestsAskInstances : Type 0
 RequestsAskInstances =
     (version : ℕ) (task : Task) (entries : List Entry) (n : ℕ) → IsLegal version task entries → 0 < n
-        → n < asks_of entries + 1 → (a : Asked) × (asked task entries n ≡ Some a)
+    → n < asks_of entries + 1 → (a : Asked) × (asked task entries n ≡ Some a)
 
 -- No instance is asked twice after equally many tuples.
 abbrev pub NoRequestIsMadeTwice : Type 0
@@ -129,7 +129,7 @@ pub record IsAsked (task : Task) (names : List (List ℕ)) (a : Asked) : Type 0 
 abbrev pub RequestsHaveNames : Type 0
 RequestsHaveNames =
     (version : ℕ) (task : Task) (entries : List Entry) (n : ℕ) (a : Asked) → IsFit task → IsLegal version task entries
-        → asked task entries n ≡ Some a → IsAsked task (names_of task entries) a
+    → asked task entries n ≡ Some a → IsAsked task (names_of task entries) a
 
 -- What a stream's answers certify is of objects in the table of names.
 pub record CertifiesNamed (task : Task) (names : List (List ℕ)) (stream : Stream) (inputs outputs : List ℕ) : Type 0 where
@@ -145,4 +145,4 @@ CertifiedObjectsHaveNames =
 abbrev pub WhatIsKnownIsCoherent : Type 0
 WhatIsKnownIsCoherent =
     (version : ℕ) (task : Task) (entries : List Entry) → IsFit task → IsLegal version task entries
-        → IsCoherent (known_of task entries)
+    → IsCoherent (known_of task entries)

@@ -77,7 +77,7 @@ AreAnswers number (suc n) [] = ⊥
 abbrev pub IsRound : Task → List Entry → List Instance → List Entry → Type 0
 IsRound task before round entries =
     (answers : List Entry) × (entries ≡ requests task before round ++ answers)
-        × AreAnswers (asks_of before + 1) (length round) answers
+    × AreAnswers (asks_of before + 1) (length round) answers
 
 -- one round after another
 abbrev pub AreRoundsRun : Task → List Entry → List (List Instance) → List Entry → Type 0

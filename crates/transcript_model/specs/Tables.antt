@@ -76,7 +76,7 @@ answers_to answers (e ∷ entries) = answer e ++ answers_to answers entries
 abbrev pub AnswersAgree : Answers → List Entry → Type 0
 AnswersAgree answers entries =
     (n turn : ℕ) (call : Call) (e : Entry) → Contains entries (entry.Ask n turn call) → Contains entries e
-        → is_answer_to n e ≡ true → entry_of_reply n (answers call turn) ≡ e ∷ []
+    → is_answer_to n e ≡ true → entry_of_reply n (answers call turn) ≡ e ∷ []
 
 -- The transcript is legal, and its answers are those of the table.
 pub record AgreesWith (version : ℕ) (task : Task) (answers : Answers) (entries : List Entry) : Type 0 where
@@ -87,4 +87,4 @@ pub record AgreesWith (version : ℕ) (task : Task) (answers : Answers) (entries
 abbrev pub IsBounded : ℕ → Task → Answers → (calls states : ℕ) → Type 0
 IsBounded version task answers calls states =
     (entries : List Entry) → AgreesWith version task answers entries
-        → (asks_of entries ≤ calls) × ¬ (MoreThan states (IsReached task (known_of task entries)))
+    → (asks_of entries ≤ calls) × ¬ (MoreThan states (IsReached task (known_of task entries)))

@@ -17,7 +17,10 @@ loop-value-preserved c =
     let pushed : AreNamed new (c.loop-value.objects ++ c.in_ok-object.object ∷ []) (take c.loop-value.value-index c.args.values.now ++ value ∷ []) = named_push new c.loop-value.objects (take c.loop-value.value-index c.args.values.now) c.in_ok-object.object value kept here in
     let more : take (c.loop-value.value-index + 1) c.args.values.now ≡ take c.loop-value.value-index c.args.values.now ++ value ∷ [] = take_more c.args.values.now c.loop-value.value-index value c.loop-value-test.true ∙ ap (λ v. take c.loop-value.value-index c.args.values.now ++ v ∷ []) (sym c.value-item.is) in
     record {
-      names = ap (λ ns. with_names ns (map generated (drop (c.loop-value.value-index + 1) c.args.values.now))) grown ∙ names_more old c.args.values.now c.loop-value.value-index value c.loop-value-test.true c.value-item.is ∙ c.loop-value.invariant.names;
+      names =
+          ap (λ ns. with_names ns (map generated (drop (c.loop-value.value-index + 1) c.args.values.now))) grown
+          ∙ names_more old c.args.values.now c.loop-value.value-index value c.loop-value-test.true c.value-item.is
+          ∙ c.loop-value.invariant.names;
       objects = subst (λ os. AreNamed new os (take (c.loop-value.value-index + 1) c.args.values.now)) (sym c.in_ok-push.ensures.ok) (subst (λ vs. AreNamed new (c.loop-value.objects ++ c.in_ok-object.object ∷ []) vs) (sym more) pushed);
       room = let one : length new ≤ length old + 1 = subst (λ ns. length ns ≤ length old + 1) (sym grown) (length_with_name old (generated value)) in omega (arith, c.loop-value.invariant.room);
       facts = c.add_name.ensures.facts ∙ c.loop-value.invariant.facts;

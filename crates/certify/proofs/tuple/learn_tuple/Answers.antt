@@ -15,10 +15,13 @@ learn_types-requires-clause-named c = subst (All (IsIn c.name_outputs.new.facts.
 -- the arguments of the certified atoms
 module _ (c : goal.After-as_slice-5) where
   args_are : c.as_slice-5.result.now ≡ c.args.inputs.now ++ c.in_ok-outputs.outputs
-  args_are = c.as_slice-5.ensures.value ∙ c.in_ok-extend_from_slice.ensures.items ∙ (λ i. c.in_ok-args.ensures.items i ++ c.as_slice-3.ensures i)
+  args_are =
+      c.as_slice-5.ensures.value ∙ c.in_ok-extend_from_slice.ensures.items ∙ (λ i. c.in_ok-args.ensures.items i ++ c.as_slice-3.ensures i)
 
   many : length c.in_ok-outputs.outputs ≡ length c.args.stream.now.outputs
-  many = named_long c.name_outputs.new.facts.known.names c.in_ok-outputs.outputs c.args.values.now c.in_ok-outputs.ensures.objects ∙ c.requires.outputs
+  many =
+      named_long c.name_outputs.new.facts.known.names c.in_ok-outputs.outputs c.args.values.now c.in_ok-outputs.ensures.objects
+      ∙ c.requires.outputs
 
   names_are : c.learn_types.new.facts.known.names ≡ with_names c.args.facts.now.known.names (map generated c.args.values.now)
   names_are = c.in_ok-learn_types.ensures.names ∙ c.in_ok-outputs.ensures.names

@@ -11,4 +11,5 @@ decreases-are_shallow l = 2 * l.most + 1
 
 -- what is left to see decides
 abbrev pub invariant-are_shallow-loop-part : goal.invariant-are_shallow-loop-part
-invariant-are_shallow-loop-part l = nat_le (fit.depths_of (parts_of (drop l.part-index l.parts))) l.most ≡ nat_le (fit.depths_of (parts_of l.parts)) l.most
+invariant-are_shallow-loop-part l =
+    nat_le (fit.depths_of (parts_of (drop l.part-index l.parts))) l.most ≡ nat_le (fit.depths_of (parts_of l.parts)) l.most

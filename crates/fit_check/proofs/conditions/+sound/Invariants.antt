@@ -14,7 +14,9 @@ decreases-is_sound_in l = 3 * size_of l.body.now + 1
 
 -- what is left to see decides
 abbrev pub invariant-are_sound-loop-part : goal.invariant-are_sound-loop-part
-invariant-are_sound-loop-part l = fit.are_sound l.scope.domain.now l.scope.objects (parts_of (drop l.part-index l.parts)) l.slots ≡ fit.are_sound l.scope.domain.now l.scope.objects (parts_of l.parts) l.slots
+invariant-are_sound-loop-part l =
+    fit.are_sound l.scope.domain.now l.scope.objects (parts_of (drop l.part-index l.parts)) l.slots
+    ≡ fit.are_sound l.scope.domain.now l.scope.objects (parts_of l.parts) l.slots
 
 abbrev pub decreases-are_fit_parts : goal.decreases-are_fit_parts
 decreases-are_fit_parts l = 3 * sizes_of (parts_of l.parts.now) + 2

@@ -27,4 +27,6 @@ loop-other-preserved g c x here =
     ∙ c.loop-other.invariant x here
 
 pub returns : goal.returns
-returns g c x here = ap (list_any (λ y. same_numbers (g.T.Named.named x) (g.T.Named.named y))) (sym (drop_all c.loop-other.other c.args.items.now c.loop-other-test.false)) ∙ c.loop-other.invariant x here
+returns g c x here =
+    ap (list_any (λ y. same_numbers (g.T.Named.named x) (g.T.Named.named y))) (sym (drop_all c.loop-other.other c.args.items.now c.loop-other-test.false))
+    ∙ c.loop-other.invariant x here

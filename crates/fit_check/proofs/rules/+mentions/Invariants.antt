@@ -11,4 +11,5 @@ decreases-any_mentions l = 2 * sizes_of (parts_of l.parts.now) + 1
 
 -- what is left to see decides
 abbrev pub invariant-any_mentions-loop-part : goal.invariant-any_mentions-loop-part
-invariant-any_mentions-loop-part l = fit.any_mentions l.pred (parts_of (drop l.part-index l.parts)) ≡ fit.any_mentions l.pred (parts_of l.parts)
+invariant-any_mentions-loop-part l =
+    fit.any_mentions l.pred (parts_of (drop l.part-index l.parts)) ≡ fit.any_mentions l.pred (parts_of l.parts)

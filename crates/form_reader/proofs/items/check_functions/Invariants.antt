@@ -8,7 +8,8 @@ use Rattle.form_reader.proofs.items.check_functions.Given as goal
 
 -- what is left adds its faults to those found
 abbrev pub invariant-declarations : goal.invariant-declarations
-invariant-declarations l = first l.fn.so_far (functions_faults l.place Start (trees l.items)) ≡ first l.found (functions_faults l.place l.spot (trees l.left))
+invariant-declarations l =
+    first l.fn.so_far (functions_faults l.place Start (trees l.items)) ≡ first l.found (functions_faults l.place l.spot (trees l.left))
 
 abbrev pub decreases-declarations : goal.decreases-declarations
 decreases-declarations l = count (trees l.left)

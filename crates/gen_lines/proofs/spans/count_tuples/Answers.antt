@@ -34,7 +34,9 @@ fields-preserved-then-parts_here c =
       within = c.in-Some.ensures.within;
       begun = omega arith;
       few = (omega arith, omega arith);
-      count = c.fields.invariant.count ∙ step_bar c.args.width c.fields.tuples c.fields.values c.args.bars here text next step c.if-values-width.false;
+      count =
+          c.fields.invariant.count
+          ∙ step_bar c.args.width c.fields.tuples c.fields.values c.args.bars here text next step c.if-values-width.false;
     }
 
 pub fields-preserved : goal.fields-preserved

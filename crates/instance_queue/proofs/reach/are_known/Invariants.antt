@@ -6,4 +6,6 @@ use Rattle.instance_queue.proofs.reach.are_known.Given as goal
 
 -- what is left decides
 abbrev pub invariant-loop-pattern : goal.invariant-loop-pattern
-invariant-loop-pattern l = list_all (λ p. is_fact l.facts.known.facts (fact_of l.env p)) (drop l.pattern-index l.patterns) ≡ list_all (λ p. is_fact l.facts.known.facts (fact_of l.env p)) l.patterns
+invariant-loop-pattern l =
+    list_all (λ p. is_fact l.facts.known.facts (fact_of l.env p)) (drop l.pattern-index l.patterns)
+    ≡ list_all (λ p. is_fact l.facts.known.facts (fact_of l.env p)) l.patterns

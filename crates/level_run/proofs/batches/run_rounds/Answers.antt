@@ -122,7 +122,8 @@ rounds-preserved g c =
       told = subst (λ v. IsTold c.args.task.now v (workers_in c.args.head.now) new.entries (g.H.Host.running c.run_round.new.host) (held_of c.run_round.new.lines) (g.H.Host.spoken c.run_round.new.host)) (done.version ∙ i.head.version)
           (subst (λ ps. IsTold c.args.task.now new.version ps new.entries (g.H.Host.running c.run_round.new.host) (held_of c.run_round.new.lines) (g.H.Host.spoken c.run_round.new.host)) (done.pools ∙ i.head.pools) done.told);
       ready = subst (AreReady c.args.task.now new.entries) (sym back) (done.rest rest count front i.ready);
-      all_run = λ later k child p at in_p. done.running child ∙ i.all_run some k child p (ap (λ ps. slice_get ps k) (sym done.pools) ∙ at) in_p;
+      all_run =
+          λ later k child p at in_p. done.running child ∙ i.all_run some k child p (ap (λ ps. slice_get ps k) (sym done.pools) ∙ at) in_p;
       so_far = subst (λ ds. SoFar c.args.head.now c.args.task.now c.args.session.now.entries (instances_of c.args.dues.now) new.entries (instances_of ds)) (sym back)
           (so_far_step c.args.head.now c.args.task.now c.args.session.now.entries (instances_of c.args.dues.now) now rest count new.entries i.head i.session c.next_round-count.ensures.cut (omega (arith, c.if-count-eq0.false)) round counted i.so_far);
       counts = omega (arith, done.asked, long, ap length back, length-drop count rest, c.next_round-count.ensures.cut.within, i.counts);

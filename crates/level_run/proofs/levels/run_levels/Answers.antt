@@ -81,7 +81,8 @@ levels-preserved g c =
       working = e.working;
       learnt = e.learnt;
       standing = standing_next c.args.head.now c.args.task.now s.entries new.entries (length s.asked) c.in-Asks.dues.items i.session.counted turn (subst (RunsLevel c.args.head.now c.args.task.now s.entries new.entries) done e.level) i.standing;
-      counted = ap (λ n. n + 1) i.counted ∙ sym (level_counts c.args.head.now c.args.task.now s.entries new.entries c.in_ok-ended.ended e.level);
+      counted =
+          ap (λ n. n + 1) i.counted ∙ sym (level_counts c.args.head.now c.args.task.now s.entries new.entries c.in_ok-ended.ended e.level);
       fewer = omega (arith, i.fewer, all.0, turn.some, ap length c.as_slice-asks.ensures.value);
       within = all.1;
       told = e.told;

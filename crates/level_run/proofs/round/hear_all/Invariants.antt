@@ -14,9 +14,13 @@ invariant-loop-place g l = record {
   rolling : IsRolling l.session (g.H.Host.running l.host) (length l.session.slots) l.place;
   many : length l.session.slots ≡ length l.initial.session.slots;
   goes : Goes (l.initial.session.entries ++ l.initial.session.asks) (l.initial.session.entries ++ l.initial.session.asks ++ take l.place (finished l.session.slots)) (g.O.Sink.taken l.initial.out) (g.O.Sink.taken l.out);
-  talking : (task : Task) → IsSession task l.initial.session → IsTalking task l.initial.session l.count 0 (held_of l.initial.lines) (g.H.Host.spoken l.initial.host) → IsTalking task l.session (length l.session.slots) l.place (held_of l.lines) (g.H.Host.spoken l.host);
+  talking : (task : Task) → IsSession task l.initial.session
+      → IsTalking task l.initial.session l.count 0 (held_of l.initial.lines) (g.H.Host.spoken l.initial.host)
+      → IsTalking task l.session (length l.session.slots) l.place (held_of l.lines) (g.H.Host.spoken l.host);
   idle : (k : ℕ) → g.H.Host.running l.initial.host k ≡ false → held_of l.lines k ≡ held_of l.initial.lines k;
-  order : (task : Task) → IsSession task l.initial.session → IsTalking task l.initial.session l.count 0 (held_of l.initial.lines) (g.H.Host.spoken l.initial.host) → Calls task l.initial.session.pools (l.initial.session.entries ++ l.initial.session.asks) (l.initial.session.entries ++ l.initial.session.asks ++ take l.place (finished l.session.slots)) (g.H.Host.log l.initial.host) (g.H.Host.log l.host);
+  order : (task : Task) → IsSession task l.initial.session
+      → IsTalking task l.initial.session l.count 0 (held_of l.initial.lines) (g.H.Host.spoken l.initial.host)
+      → Calls task l.initial.session.pools (l.initial.session.entries ++ l.initial.session.asks) (l.initial.session.entries ++ l.initial.session.asks ++ take l.place (finished l.session.slots)) (g.H.Host.log l.initial.host) (g.H.Host.log l.host);
   kept : (task : Task) → IsSession task l.initial.session → IsSession task l.session;
   started : l.lines.started ≡ l.initial.lines.started;
   running : Same (g.H.Host.running l.initial.host) (g.H.Host.running l.host);

@@ -26,7 +26,9 @@ pub send_all-requires-clause-count : goal.send_all-requires-clause-count
 send_all-requires-clause-count g c = count_is c.args.task.now c.args.session.now c.begin_round.new.self c.args.dues.now c.in-Ok.count c.in-Ok.ensures.count c.in-Ok.ensures.begun
 
 pub hear_all-requires-clause-count : goal.hear_all-requires-clause-count
-hear_all-requires-clause-count g c = count_is c.args.task.now c.args.session.now c.begin_round.new.self c.args.dues.now c.in-Ok.count c.in-Ok.ensures.count c.in-Ok.ensures.begun ∙ sym c.in_ok-send_all.ensures.many
+hear_all-requires-clause-count g c =
+    count_is c.args.task.now c.args.session.now c.begin_round.new.self c.args.dues.now c.in-Ok.count c.in-Ok.ensures.count c.in-Ok.ensures.begun
+    ∙ sym c.in_ok-send_all.ensures.many
 
 pub returns-in_err-send_all-clause-stopped : goal.returns-in_err-send_all-clause-stopped
 returns-in_err-send_all-clause-stopped g c =

@@ -20,7 +20,8 @@ returns-in_err-head-clause-stopped g c line meant =
     (stopped_early line (g.F.Files.told c.args.files.now) _ _ (g.H.Host.log c.args.host.now) (g.H.Host.log c.args.host.now) (g.O.Sink.taken c.args.out.now) (stop.Run fault.Memory) refl (stops_none (g.H.Host.log c.args.host.now)))
 
 pub incremental-requires-clause-runnable : goal.incremental-requires-clause-runnable
-incremental-requires-clause-runnable g c = runnable_head c.in_ok-task.task c.args.words.now c.in_ok-head.head c.in_ok-head.ensures.head c.requires.within
+incremental-requires-clause-runnable g c =
+    runnable_head c.in_ok-task.task c.args.words.now c.in_ok-head.head c.in_ok-head.ensures.head c.requires.within
 
 pub returns-in-Ok-clause-completed : goal.returns-in-Ok-clause-completed
 returns-in-Ok-clause-completed g c line meant =

@@ -6,7 +6,8 @@ use Rattle.planning_tests.proofs.Names.{some_there}
 use Rattle.planning_tests.proofs.requests.asked.Goals as goal
 
 pub request-requires-clause-stream : goal.request-requires-clause-stream
-request-requires-clause-stream c = some_there c.args.task.now.streams (λ e. both_ways c.is_empty.result c.if-is_empty.false (c.is_empty.ensures.1 e))
+request-requires-clause-stream c =
+    some_there c.args.task.now.streams (λ e. both_ways c.is_empty.result c.if-is_empty.false (c.is_empty.ensures.1 e))
 
 pub request-requires-clause-object : goal.request-requires-clause-object
 request-requires-clause-object c =

@@ -48,9 +48,15 @@ loop-name-preserved c =
     let so_far = c.loop-name.streams.items in
     let new : list_any (λ x. x == s) was ≡ false = sym (was_before a) ∙ c.if-any.false in
     record {
-      streams = c.in_ok-push-2.ensures.items ∙ ap (λ xs. xs ++ s ∷ []) c.loop-name.invariant.streams ∙ sym (streams_more task names n s c.name-item.result c.loop-name-test.true c.name-item.is (named a));
-      served = c.in_ok-push.ensures.items ∙ ap (λ xs. xs ++ s ∷ []) c.loop-name.invariant.served ∙ append_assoc old so_far (s ∷ []) ∙ ap (λ xs. old ++ xs) (sym c.in_ok-push-2.ensures.items);
-      rest = c.loop-name.invariant.rest ∙ stream_more task was names n s c.name-item.result c.loop-name-test.true c.name-item.is (named a) new ∙ ap (λ xs. are_new task xs (drop (n + 1) names)) (sym c.in_ok-push.ensures.items);
+      streams =
+          c.in_ok-push-2.ensures.items ∙ ap (λ xs. xs ++ s ∷ []) c.loop-name.invariant.streams
+          ∙ sym (streams_more task names n s c.name-item.result c.loop-name-test.true c.name-item.is (named a));
+      served =
+          c.in_ok-push.ensures.items ∙ ap (λ xs. xs ++ s ∷ []) c.loop-name.invariant.served ∙ append_assoc old so_far (s ∷ [])
+          ∙ ap (λ xs. old ++ xs) (sym c.in_ok-push-2.ensures.items);
+      rest =
+          c.loop-name.invariant.rest ∙ stream_more task was names n s c.name-item.result c.loop-name-test.true c.name-item.is (named a) new
+          ∙ ap (λ xs. are_new task xs (drop (n + 1) names)) (sym c.in_ok-push.ensures.items);
     }
 
 pub returns-clause-some : goal.returns-clause-some

@@ -7,7 +7,8 @@ pub overflow_add-result : goal.overflow_add-result
 overflow_add-result c = let near : c.in-Stuck.place < 2 ^ 62 = subst IsNear c.in-Stuck.is c.requires.near in omega (arith, near)
 
 pub overflow_add-result-in-WrongOrigin-2 : goal.overflow_add-result-in-WrongOrigin-2
-overflow_add-result-in-WrongOrigin-2 c = let near : c.in-WrongOrigin.place < 2 ^ 62 = subst IsNear c.in-WrongOrigin.is c.requires.near in omega (arith, near)
+overflow_add-result-in-WrongOrigin-2 c =
+    let near : c.in-WrongOrigin.place < 2 ^ 62 = subst IsNear c.in-WrongOrigin.is c.requires.near in omega (arith, near)
 
 pub returns-in-Stuck : goal.returns-in-Stuck
 returns-in-Stuck c = λ limits limit task entries calls cost from many legal placed stops. stuck_found limits limit task entries calls cost from legal placed c.in-Stuck.place (subst (IsPlanned limits.version task entries calls cost from) c.in-Stuck.is stops)

@@ -29,5 +29,6 @@ returns-clause-said c =
       steps = c.args.steps.now;
       shown = c.requires.plan.shown;
       valid = c.requires.plan.valid;
-      origins = subst (AreOrigins c.args.bounds.now.version p.entries.now p.calls.now) (sym (c.in-None.ensures.none ∙ c.as_slice.ensures)) due;
+      origins =
+          subst (AreOrigins c.args.bounds.now.version p.entries.now p.calls.now) (sym (c.in-None.ensures.none ∙ c.as_slice.ensures)) due;
     }

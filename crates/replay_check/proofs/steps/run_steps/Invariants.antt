@@ -6,4 +6,6 @@ use Rattle.replay_check.proofs.steps.run_steps.Given as goal
 
 -- the steps so far were taken
 abbrev pub invariant-loop-place : goal.invariant-loop-place
-invariant-loop-place l = (entries : List Entry) → l.fn.facts.known ≡ known_of l.fn.bounds.task.now entries → IsRunOf l.fn.bounds.task.now entries (take l.place l.fn.calls) l.run
+invariant-loop-place l =
+    (entries : List Entry) → l.fn.facts.known ≡ known_of l.fn.bounds.task.now entries
+    → IsRunOf l.fn.bounds.task.now entries (take l.place l.fn.calls) l.run

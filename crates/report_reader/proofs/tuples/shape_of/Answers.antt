@@ -3,7 +3,8 @@ use Rattle.report_reader.proofs.TuplesLemmas.{too_many, no_parts, no_wide}
 use Rattle.report_reader.proofs.tuples.shape_of.Goals as goal
 
 pub returns-then-bars-ge-MOST_TUPLES : goal.returns-then-bars-ge-MOST_TUPLES
-returns-then-bars-ge-MOST_TUPLES c = too_many c.args.version c.bars_of-bars.result c.args.fields.now c.bars_of-bars.ensures.bars (omega arith)
+returns-then-bars-ge-MOST_TUPLES c =
+    too_many c.args.version c.bars_of-bars.result c.args.fields.now c.bars_of-bars.ensures.bars (omega arith)
 
 pub returns-then-many-bars-ne0 : goal.returns-then-many-bars-ne0
 returns-then-many-bars-ne0 c =

@@ -10,7 +10,8 @@ use Rattle.session_core.proofs.learn.learn_from.Goals as goal
 use Rattle.session_core.proofs.learn.learn_from.Goals.{in-Some+in_ok-learn_answer, in_default}
 use Rattle.lemmas.proofs.ListTests.{get_some}
 
-here : (c : goal.In-Some) → IsAnswerAt c.args.task.now c.args.asked.now c.args.entries.now c.requires.can c.loop-place.place c.in-Some.number c.index-entries-place.result
+here : (c : goal.In-Some)
+    → IsAnswerAt c.args.task.now c.args.asked.now c.args.entries.now c.requires.can c.loop-place.place c.in-Some.number c.index-entries-place.result
 here c =
     answer_at c.args.task.now c.args.asked.now c.args.entries.now c.requires.can c.loop-place.place c.in-Some.number c.index-entries-place.result
     (get_some c.args.entries.now c.loop-place.place c.index-entries-place.result c.loop-place-test.true c.index-entries-place.is) (sym c.answered.ensures ∙ c.in-Some.is)
@@ -56,8 +57,11 @@ loop-place-preserved c =
           let s = w.index-as_slice-instance.result in
           let a : record { stream = s; instance = i } ≡ h.request = request_read task asked entries c.requires.can place w.in-Some.number e h i s w.index-asked-number.is (w.index-as_slice-instance.is ∙ ap (λ ss. get_or ss i.stream s) w.as_slice.ensures) in
           record {
-            known = ap (λ (f : Store). f.known) w.facts-is ∙ w.in_ok-learn_answer.ensures.known ∙ (λ j. known_with task (c.loop-place.invariant.known j) (a j) e) ∙ sym h.known;
-            notes = w.queue-is ∙ w.in_ok-learn_answer.ensures.notes ∙ (λ j. notes_with (c.loop-place.invariant.notes j) (a j) e) ∙ sym h.notes;
+            known =
+                ap (λ (f : Store). f.known) w.facts-is ∙ w.in_ok-learn_answer.ensures.known
+                ∙ (λ j. known_with task (c.loop-place.invariant.known j) (a j) e) ∙ sym h.known;
+            notes =
+                w.queue-is ∙ w.in_ok-learn_answer.ensures.notes ∙ (λ j. notes_with (c.loop-place.invariant.notes j) (a j) e) ∙ sym h.notes;
           }
       | in_default w ↦
           let h = other_at task asked entries c.requires.can place e at (sym c.answered.ensures ∙ w.in_default.is) in
@@ -68,7 +72,11 @@ loop-place-preserved c =
     ]
 
 pub returns-clause-known : goal.returns-clause-known
-returns-clause-known c = c.loop-place.invariant.known ∙ ap (known_of c.args.task.now) (take_all c.loop-place.place c.args.entries.now (omega (arith, c.loop-place-test.false)))
+returns-clause-known c =
+    c.loop-place.invariant.known
+    ∙ ap (known_of c.args.task.now) (take_all c.loop-place.place c.args.entries.now (omega (arith, c.loop-place-test.false)))
 
 pub returns-clause-notes : goal.returns-clause-notes
-returns-clause-notes c = c.loop-place.invariant.notes ∙ ap (notes_of c.args.task.now) (take_all c.loop-place.place c.args.entries.now (omega (arith, c.loop-place-test.false)))
+returns-clause-notes c =
+    c.loop-place.invariant.notes
+    ∙ ap (notes_of c.args.task.now) (take_all c.loop-place.place c.args.entries.now (omega (arith, c.loop-place-test.false)))

@@ -13,7 +13,8 @@ use Rattle.session_core.proofs.LearningTupleLemmas.{one_less, tuple_learnt, leng
 use Rattle.session_core.proofs.learn.learn_tuples.Goals as goal
 
 pub learn_tuple-requires-clause-stream : goal.learn_tuple-requires-clause-stream
-learn_tuple-requires-clause-stream c = fit_stream_at c.args.task.now c.args.instance.now.stream c.args.stream.now c.requires.may.fit c.requires.may.streamed
+learn_tuple-requires-clause-stream c =
+    fit_stream_at c.args.task.now c.args.instance.now.stream c.args.stream.now c.requires.may.fit c.requires.may.streamed
 
 pub loop-preserved : goal.loop-preserved
 loop-preserved c =

@@ -14,7 +14,13 @@ loop-place-preserved c =
     let d = c.index-dues-place.result in
     let at : slice_get dues k ≡ Some d = slice_get-get_or dues k d c.loop-place-test.true ∙ ap Some (sym c.index-dues-place.is) in
     record {
-      asks = c.in_ok-push.ensures.items ∙ (λ i. c.loop-place.invariant.asks i ++ c.in_ok-ask_for.ensures i ∷ []) ∙ sym (asks_step task names c.args.first dues k d at);
-      instances = c.in_ok-push-2.ensures.items ∙ (λ i. c.loop-place.invariant.instances i ++ c.in_ok-copy.ensures i ∷ []) ∙ sym (instances_step dues k d at);
-      cells = c.in_ok-push-3.ensures.items ∙ (λ i. c.loop-place.invariant.cells i ++ c.in_ok-cell_for.ensures i ∷ []) ∙ sym (slots_step task names version pools c.args.first [] dues k d at);
+      asks =
+          c.in_ok-push.ensures.items ∙ (λ i. c.loop-place.invariant.asks i ++ c.in_ok-ask_for.ensures i ∷ [])
+          ∙ sym (asks_step task names c.args.first dues k d at);
+      instances =
+          c.in_ok-push-2.ensures.items ∙ (λ i. c.loop-place.invariant.instances i ++ c.in_ok-copy.ensures i ∷ [])
+          ∙ sym (instances_step dues k d at);
+      cells =
+          c.in_ok-push-3.ensures.items ∙ (λ i. c.loop-place.invariant.cells i ++ c.in_ok-cell_for.ensures i ∷ [])
+          ∙ sym (slots_step task names version pools c.args.first [] dues k d at);
     }

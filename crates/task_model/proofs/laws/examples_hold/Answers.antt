@@ -8,7 +8,8 @@ use Rattle.task_model.proofs.laws.examples_hold.Goals as goal
 pub returns : goal.returns
 unfolding role_of digits
 returns c = record {
-  kept = contains-changed empty (record { pred = 0; args = [] } ∷ []) (record { pred = 0; args = [] } ∷ []) (record { pred = 0; args = [] });
+  kept =
+      contains-changed empty (record { pred = 0; args = [] } ∷ []) (record { pred = 0; args = [] } ∷ []) (record { pred = 0; args = [] });
   no_cost = refl;
   least_cost = refl;
   generated = refl;

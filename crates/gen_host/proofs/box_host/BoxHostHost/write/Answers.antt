@@ -3,4 +3,5 @@ use Rattle.gen_host.proofs.MembersLemmas.{caused}
 use Rattle.gen_host.proofs.box_host.BoxHostHost.write.Goals as goal
 
 pub returns-clause-cause : goal.returns-clause-cause
-returns-clause-cause g c = caused 17 last_count _ _ _ _ _ _ _ c.args.self.now.count c.requires.number c.index_mut.ensures.value c.send.ensures.cause
+returns-clause-cause g c =
+    caused 17 last_count _ _ _ _ _ _ _ c.args.self.now.count c.requires.number c.index_mut.ensures.value c.send.ensures.cause

@@ -3,4 +3,5 @@ use Rattle.instance_queue.proofs.ReadableLemmas.{fit_readable_stream}
 use Rattle.instance_queue.proofs.queue.Queue.is_due.Goals as goal
 
 pub is_reachable-requires : goal.is_reachable-requires
-is_reachable-requires c = fit_readable_stream c.args.task.now c.requires c.args.instance.now.stream c.in-Some.stream.now (sym c.in-Some.ensures)
+is_reachable-requires c =
+    fit_readable_stream c.args.task.now c.requires c.args.instance.now.stream c.in-Some.stream.now (sym c.in-Some.ensures)

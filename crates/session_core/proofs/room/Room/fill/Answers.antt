@@ -17,7 +17,10 @@ loop-value-preserved c =
     let popped = ap length c.in-Some.ensures.items ∙ length-append c.pop.new.self.items (c.in-Some.blank ∷ []) in
     let longer = ap length names ∙ length-append c.loop-value.names.items _ in
     record {
-      same = names ∙ (λ k. c.loop-value.invariant.same k ++ (c.name.ensures ∙ sym (get_or_from_slice_get all i text text c.text.ensures)) k ∷ []) ∙ sym (take_more all i text (slice_get_within all i text c.text.ensures));
+      same =
+          names
+          ∙ (λ k. c.loop-value.invariant.same k ++ (c.name.ensures ∙ sym (get_or_from_slice_get all i text text c.text.ensures)) k ∷ [])
+          ∙ sym (take_more all i text (slice_get_within all i text c.text.ensures));
       blanks = omega (arith, popped, c.loop-value.invariant.blanks);
       room = omega (arith, popped, longer, c.push_reserved.ensures.capacity, c.loop-value.invariant.room);
     }

@@ -4,4 +4,5 @@ use Rattle.task_model.proofs.StateLemmas.{len-from_list}
 use Rattle.task_model.proofs.state.State.len.Goals as goal
 
 pub returns : goal.returns
-returns c = c.len.ensures ∙ c.self.inside.atoms.ok.0 ∙ sym (len-from_list c.self.inside.atoms.items c.self.invariant) ∙ ap len c.self.view_is
+returns c =
+    c.len.ensures ∙ c.self.inside.atoms.ok.0 ∙ sym (len-from_list c.self.inside.atoms.items c.self.invariant) ∙ ap len c.self.view_is

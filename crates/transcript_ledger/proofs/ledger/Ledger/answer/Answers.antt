@@ -27,10 +27,14 @@ pub learn_from-requires-clause-from : goal.learn_from-requires-clause-from
 learn_from-requires-clause-from c = omega (arith, length-take (c.args.place + 1) c.args.entries.now, slice_get_within c.args.entries.now c.args.place c.requires.there.0 c.requires.there.1)
 
 pub learn_from-requires-clause-known : goal.learn_from-requires-clause-known
-learn_from-requires-clause-known c = c.requires.ledger.known ∙ ap (known_of c.args.task.now) (sym (take-take c.args.place (c.args.place + 1) c.args.entries.now (omega arith)))
+learn_from-requires-clause-known c =
+    c.requires.ledger.known
+    ∙ ap (known_of c.args.task.now) (sym (take-take c.args.place (c.args.place + 1) c.args.entries.now (omega arith)))
 
 pub learn_from-requires-clause-notes : goal.learn_from-requires-clause-notes
-learn_from-requires-clause-notes c = c.requires.ledger.notes ∙ ap (notes_of c.args.task.now) (sym (take-take c.args.place (c.args.place + 1) c.args.entries.now (omega arith)))
+learn_from-requires-clause-notes c =
+    c.requires.ledger.notes
+    ∙ ap (notes_of c.args.task.now) (sym (take-take c.args.place (c.args.place + 1) c.args.entries.now (omega arith)))
 
 pub returns : goal.returns
 returns c =
