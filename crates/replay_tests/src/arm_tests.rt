@@ -1,7 +1,8 @@
 //! Facts hold from their answer on, and what is due goes by the streams' places.
 use crate::rows::{Row, check_rows};
-use crate::texts::{ARM, POSED};
+use crate::texts::POSED;
 use std::test::Fail;
+use worked_tasks::ARM;
 
 const ROWS: [Row<'static>; 8] = [
     (&[], "valid"),

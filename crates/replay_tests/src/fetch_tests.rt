@@ -1,7 +1,8 @@
 //! The plan for the cup, changed in its head and its transcript.
 use crate::rows::{Row, check_rows};
-use crate::texts::{FETCH, FETCHED};
+use crate::texts::FETCHED;
 use std::test::Fail;
+use worked_tasks::FETCH;
 
 /// Lines that aren't of a form at their place.
 const TEXT: [Row<'static>; 13] = [

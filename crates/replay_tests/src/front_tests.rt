@@ -1,10 +1,13 @@
 //! Fronts of a report.
-use crate::given::{changed, replayed, task_of};
-use crate::texts::{FETCH, FETCHED};
+ghost use Rattle.task_model.specs.Fit.{IsFit};
+
+use crate::given::{changed, replayed};
+use crate::texts::FETCHED;
 use std::alloc::{AllocError, Global};
 use std::process::Abort;
 use std::test::Fail;
 use task_model::Task;
+use worked_tasks::{FETCH, task};
 
 /// What is said of a front with so many line feeds: the line behind them is wrong.
 fn wrong_line(alloc: Global, front: &[u8]) -> Result<String, AllocError> {
@@ -12,7 +15,9 @@ fn wrong_line(alloc: Global, front: &[u8]) -> Result<String, AllocError> {
     format!(in alloc; "invalid {} 1", feeds as u64 + 1)
 }
 
-fn check_fronts(rt: &impl Abort, alloc: Global, task: &Task, report: &[u8]) -> Result<(), Fail> {
+fn check_fronts(rt: &impl Abort, alloc: Global, task: &Task, report: &[u8]) -> Result<(), Fail>
+    requires { IsFit task.now }
+{
     for count in 0..report.len() {
         let front = &report[..count];
         let want = wrong_line(alloc, front)?;
@@ -24,7 +29,7 @@ fn check_fronts(rt: &impl Abort, alloc: Global, task: &Task, report: &[u8]) -> R
 
 #[test]
 fn each_front_lacks_its_next_line(rt: HostRuntime) -> Result<(), Fail> {
-    let task = task_of(rt.alloc(), &FETCH)?;
+    let task = task(rt.alloc(), &FETCH)?;
     let report = changed(rt.alloc(), FETCHED, &[])?;
     check_fronts(&rt, rt.alloc(), &task, report.as_slice())
 }

@@ -1,52 +1,12 @@
-//! What a test gives: a task, a report with changes, and what a replay says of it.
-use fit_check::is_fit;
+//! What a test gives: a report with changes, and what a replay says of it.
+ghost use Rattle.task_model.specs.Fit.{IsFit};
+
 use replay_check::{Verdict, replay};
 use std::alloc::{AllocError, Global};
-use std::test::Fail;
-use task_model::{Domain, Problem, Seq, Stream, Task};
-use task_reader::{domain_in, problem_in, streams_in};
-
-/// The texts of a task.
-#[derive(Clone, Copy)]
-pub struct Texts<'a> {
-    pub domain: &'a str,
-    pub problem: &'a str,
-    pub streams: &'a str,
-}
+use task_model::Task;
 
 /// In place of the line of this number, from 1, stands this text: several lines, or none where it is empty.
 pub type Change<'a> = (usize, &'a str);
-
-/// The domain of this text, in a box.
-fn boxed_domain(alloc: Global, text: &str) -> Result<Box<Domain>, Fail> {
-    let domain = domain_in(alloc, text.as_bytes())?;
-    Ok(Box::new(alloc, domain)?)
-}
-
-/// The problem of this text, in a box.
-fn boxed_problem(alloc: Global, text: &str, domain: &Domain) -> Result<Box<Problem>, Fail> {
-    let problem = problem_in(alloc, text.as_bytes(), domain)?;
-    Ok(Box::new(alloc, problem)?)
-}
-
-/// The streams of this text, in a box.
-fn boxed_streams(alloc: Global, text: &str, domain: &Domain) -> Result<Box<Seq<Stream>>, Fail> {
-    let streams = streams_in(alloc, text.as_bytes(), domain)?;
-    Ok(Box::new(alloc, streams)?)
-}
-
-/// The task of the texts, in a box.
-pub fn task_of(alloc: Global, texts: &Texts<'_>) -> Result<Box<Task>, Fail> {
-    let domain = boxed_domain(alloc, texts.domain)?;
-    let problem = boxed_problem(alloc, texts.problem, &domain)?;
-    let streams = boxed_streams(alloc, texts.streams, &domain)?;
-    let task = Task {
-        domain: Box::into_inner(domain),
-        problem: Box::into_inner(problem),
-        streams: Box::into_inner(streams),
-    };
-    Ok(Box::new(alloc, task)?)
-}
 
 /// Adds the text and its line feed, or nothing where it is empty.
 fn add_line(bytes: &mut Vec<u8>, text: &str) -> Result<(), AllocError> {
@@ -91,15 +51,9 @@ fn said(alloc: Global, verdict: Verdict) -> Result<String, AllocError> {
 }
 
 /// What a replay says of a text over a fit task.
-pub fn replayed(
-    alloc: Global,
-    task: &Task,
-    bytes: &[u8],
-    limit: u32,
-) -> Result<String, AllocError> {
-    if !is_fit(alloc, task)? {
-        return String::from_str(alloc, "the task isn't fit");
-    }
+pub fn replayed(alloc: Global, task: &Task, bytes: &[u8], limit: u32) -> Result<String, AllocError>
+    requires { IsFit task.now }
+{
     if limit < 1 || limit > 200_000 || bytes.len() >= 2_147_483_648 {
         return String::from_str(alloc, "out of range");
     }
@@ -114,7 +68,9 @@ pub fn said_of(
     limit: u32,
     report: &str,
     changes: &[Change<'_>],
-) -> Result<String, AllocError> {
+) -> Result<String, AllocError>
+    requires { IsFit task.now }
+{
     let bytes = changed(alloc, report, changes)?;
     replayed(alloc, task, bytes.as_slice(), limit)
 }

@@ -1,7 +1,8 @@
 //! Claims that can't be decided within the limit of states.
 use crate::rows::{Row, check_rows};
-use crate::texts::{DARK, LAMPS, LIT, MANY};
+use crate::texts::{DARK, LIT, MANY};
 use std::test::Fail;
+use worked_tasks::LAMPS;
 
 /// No plan of the lamps, within four states and more.
 const ENOUGH: [Row<'static>; 6] = [

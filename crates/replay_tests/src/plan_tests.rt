@@ -1,7 +1,8 @@
 //! Outcomes that are changed: plans, costs, origins and claims.
 use crate::rows::{Row, check_rows};
-use crate::texts::{FETCH, FETCHED, KEEP, KEPT, PRICELESS, SAME, USED};
+use crate::texts::{FETCHED, KEPT, PRICELESS, USED};
 use std::test::Fail;
+use worked_tasks::{FETCH, KEEP, SAME};
 
 /// Steps that can't be taken, and plans that don't reach the goal.
 const STEPS: [Row<'static>; 12] = [

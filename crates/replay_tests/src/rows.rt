@@ -1,8 +1,9 @@
 //! Rows of a test: a report with changes, and what a replay is to say of it.
-use crate::given::{Change, Texts, said_of, task_of};
+use crate::given::{Change, said_of};
 use std::alloc::Global;
 use std::process::Abort;
 use std::test::Fail;
+use worked_tasks::{Texts, task};
 
 /// A report with these changes, and what a replay says of it.
 pub type Row<'a> = (&'a [Change<'a>], &'a str);
@@ -16,7 +17,7 @@ pub fn check_rows(
     report: &str,
     rows: &[Row<'_>],
 ) -> Result<(), Fail> {
-    let task = task_of(alloc, texts)?;
+    let task = task(alloc, texts)?;
     for (number, (changes, want)) in rows.iter().enumerate() {
         let said = said_of(alloc, &task, limit, report, changes)?;
         assert_eq!(rt; said.as_str(), *want, "row {number}");

@@ -1,81 +1,10 @@
-//! Tasks and reports.
-use crate::given::Texts;
-
-/// A cup that is fetched once a grip of it is known.
-pub const FETCH: Texts<'static> = Texts {
-    domain: "(define (domain fetch)
-  (:predicates (item ?x) (hold ?x ?g) (grip ?x ?g) (free) (done ?x))
-  (:action take :parameters (?x ?g)
-    :precondition (and (free) (grip ?x ?g))
-    :effect (and (hold ?x ?g) (not (free))))
-  (:action drop :parameters (?x ?g) :precondition (hold ?x ?g)
-    :effect (and (done ?x) (free) (not (hold ?x ?g)))))",
-    problem: "(define (problem one) (:domain fetch) (:objects cup)
-  (:init (item cup) (free)) (:goal (done cup)))",
-    streams: "(define (stream fetch) (:stream grip :inputs (?x) :domain (item ?x)
-  :outputs (?g) :certified (grip ?x ?g)))",
-};
-
-/// A cup of which two different grips and a test are wanted.
-pub const TWO: Texts<'static> = Texts {
-    domain: "(define (domain two) (:predicates (item ?x) (grip ?x ?g) (ok ?x)))",
-    problem: "(define (problem t) (:domain two) (:objects cup) (:init (item cup))
-  (:goal (exists (?g ?h) (and (grip cup ?g) (grip cup ?h)
-    (not (= ?g ?h)) (ok cup)))))",
-    streams: "(define (stream two)
-  (:stream grip :inputs (?x) :domain (item ?x) :outputs (?g)
-    :certified (grip ?x ?g))
-  (:stream ok :inputs (?x) :domain (item ?x) :certified (ok ?x)))",
-};
-
-/// A pose, and a configuration for it.
-pub const ARM: Texts<'static> = Texts {
-    domain: "(define (domain arm) (:predicates (start ?x) (pose ?p) (conf ?q)))",
-    problem: "(define (problem r) (:domain arm) (:objects a) (:init (start a))
-  (:goal (exists (?q) (conf ?q))))",
-    streams: "(define (stream arm)
-  (:stream kin :inputs (?p) :domain (pose ?p) :outputs (?q)
-    :certified (conf ?q))
-  (:stream pose :inputs (?x) :domain (start ?x) :outputs (?p)
-    :certified (pose ?p)))",
-};
-
-/// Two streams that give one object, which has the value of a declared one's name.
-pub const SAME: Texts<'static> = Texts {
-    domain: "(define (domain same) (:predicates (start ?x) (one ?x) (two ?x) (won))
-  (:action use :parameters (?x) :precondition (and (one ?x) (two ?x))
-    :effect (won)))",
-    problem: "(define (problem s) (:domain same) (:objects a cup)
-  (:init (start a) (one cup)) (:goal (won)))",
-    streams: "(define (stream same)
-  (:stream s1 :inputs (?x) :domain (start ?x) :outputs (?y) :certified (one ?y))
-  (:stream s2 :inputs (?x) :domain (start ?x) :outputs (?y) :certified (two ?y)))",
-};
-
-/// Two lamps, and a goal that is never true; four states are reached.
-pub const LAMPS: Texts<'static> = Texts {
-    domain: "(define (domain lamps) (:predicates (on ?x) (never))
-  (:action turn :parameters (?x) :precondition (not (on ?x)) :effect (on ?x)))",
-    problem: "(define (problem l) (:domain lamps) (:objects a b) (:init) (:goal (never)))",
-    streams: "(define (stream empty))",
-};
+//! Tasks beside the worked ones, and reports.
+use worked_tasks::{FETCH, KEEP, LAMPS, Texts};
 
 /// The same lamps, one of which is wanted.
 pub const LIT: Texts<'static> = Texts {
     problem: "(define (problem l) (:domain lamps) (:objects a b) (:init) (:goal (on a)))",
     ..LAMPS
-};
-
-/// One action that keeps its atom and costs seven.
-pub const KEEP: Texts<'static> = Texts {
-    domain: "(define (domain keep) (:predicates (p) (q))
-  (:functions (f) - number (total-cost) - number)
-  (:action a1 :parameters () :precondition (p)
-    :effect (and (p) (not (p)) (q) (increase (total-cost) (f)))))",
-    problem: "(define (problem k) (:domain keep)
-  (:init (p) (= (total-cost) 0) (= (f) 7))
-  (:goal (and (p) (q))) (:metric minimize (total-cost)))",
-    streams: "(define (stream empty))",
 };
 
 /// The same, where the cost has no value.

@@ -1,7 +1,8 @@
 //! Rounds, batches that are cut, and the order in which a level is asked.
 use crate::rows::{Row, check_rows};
-use crate::texts::{GRIPPED, TWO};
+use crate::texts::GRIPPED;
 use std::test::Fail;
+use worked_tasks::TWO;
 
 /// One worker, so that each request is a round.
 const ONE_WORKER: [Row<'static>; 11] = [

@@ -92,7 +92,8 @@ fn task(alloc: Global, names: [&str; 4]) -> Result<Box<Task>, AllocError>
 
 /// The head with one pool of the streams at these places.
 fn head(alloc: Global, started: Started, places: &[u32]) -> Result<Head, AllocError>
-    ensures { IfOk result (λ head. All (λ pool. pool.streams ≡ places.now) head.pools) }
+    requires { All (λ place. place < 4) places.now }
+    ensures { IfOk result (λ head. All (λ pool. All (λ place. place < 4) pool.streams) head.pools) }
 {
     let mut pools = Vec::new(alloc);
     pools.push(Pool {

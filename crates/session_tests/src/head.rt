@@ -5,7 +5,7 @@ ghost use Rattle.lemmas.specs.Lists.{numbers_from};
 
 use std::alloc::{AllocError, Global};
 use task_model::{Seq, Task};
-use transcript_model::{Head, Mode, Pool};
+use transcript_text::{Head, Mode, Pool};
 
 /// The streams of the task.
 fn streams(alloc: Global, task: &Task) -> Result<Seq<u32>, AllocError>
