@@ -8,7 +8,6 @@ pub mod VariablesCopyLemmas
 pub mod GraphsCycleLemmas
 pub mod GraphsLemmas
 pub mod ConditionsRowLemmas
-pub mod ScopeLemmas
 pub mod DeclarationsLemmas
 pub mod NoFaultLemmas
 pub mod NamesLemmas

@@ -1,5 +1,5 @@
 //! Conditions: their name faults, and what they are.
-#![tactic(auto, using(form_reader::proofs::FaultsFirstLemmas::first_append, crate::proofs::ScopeLemmas::left_again))]
+#![tactic(auto, using(form_reader::proofs::FaultsFirstLemmas::first_append, lemmas::proofs::Members::take_append))]
 
 ghost use Rattle.std.specs.Prelude.{◌≡◌, IfOk, OnOk};
 ghost use Rattle.sexpr_text.specs.Trees.{trees};

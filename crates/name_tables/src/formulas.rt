@@ -1,5 +1,5 @@
 //! What conditions are.
-#![tactic(auto, using(crate::proofs::ScopeLemmas::left_again, crate::proofs::ConditionsRowLemmas::push_part, crate::proofs::ConditionsRowLemmas::all_parts))]
+#![tactic(auto, using(lemmas::proofs::Members::take_append, crate::proofs::ConditionsRowLemmas::push_part, crate::proofs::ConditionsRowLemmas::all_parts))]
 
 ghost use Rattle.std.specs.Prelude.{◌≡◌, IfOk, OnOk};
 ghost use Rattle.sexpr_text.specs.Trees.{trees};

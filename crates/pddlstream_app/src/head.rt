@@ -13,7 +13,7 @@ use transcript_model::{Head, Mode, Pool};
 const DEPTH: u8 = 3;
 
 /// The numbers of all streams of a task.
-#[tactic(auto, using(crate::proofs::HeadsLemmas::numbers_more, crate::proofs::HeadsLemmas::few_streams))]
+#[tactic(auto, using(crate::proofs::HeadsLemmas::numbers_more, instance_queue::proofs::ReadableLemmas::few_streams))]
 fn all_streams(alloc: Global, task: &Task) -> Result<Seq<u32>, AllocError>
     requires fit { IsFit task.now }
     ensures all { IfOk result (λ streams. streams ≡ all_streams task.now) }

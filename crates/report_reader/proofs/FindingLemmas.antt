@@ -9,6 +9,10 @@ use Rattle.report_reader.specs.Splits.{fields_of}
 pub push_row : {A : Type 0} (xs : List A) (x : A) (left new all : List A) → xs ++ left ≡ all → left ≡ x ∷ new → (xs ++ x ∷ []) ++ new ≡ all
 push_row xs x left new all is next = append_assoc xs (x ∷ []) new ∙ ap (λ l. xs ++ l) (sym next) ∙ is
 
+-- the library's lemma, under a name that code can cite
+pub all_push : {A : Type 0} (P : A → Type 0) (xs : List A) (x : A) → All P xs → P x → All P (xs ++ x ∷ [])
+all_push P xs x all here = All-push P xs x all here
+
 pub all_middle : {A : Type 0} (P : A → Type 0) (xs : List A) (x : A) (ys : List A) → All P (xs ++ x ∷ ys) → P x
 all_middle P [] x ys all = all 0 x (omega arith)
 all_middle P (z ∷ xs) x ys all = all_middle P xs x ys (λ k d lt. all (suc k) d (omega arith))

@@ -23,7 +23,7 @@ pub(crate) fn push_number(alloc: Global, text: &mut Vec<u8>, number: u64) -> Res
 }
 
 /// Writes each name with a space before it.
-#[tactic(auto, using(crate::proofs::TextsLemmas::flat_map_next))]
+#[tactic(auto, using(lemmas::proofs::Members::flat_map_next))]
 pub(crate) fn push_names(text: &mut Vec<u8>, names: &[Name]) -> Result<(), AllocError>
     ensures { OnOk result (text.new.items ≡ text.old.items ++ fields_text names.now) }
 {
@@ -76,7 +76,7 @@ pub(crate) fn push_pair(
 }
 
 /// Writes a line for each call, with this word first.
-#[tactic(auto, using(crate::proofs::TextsLemmas::lines_next))]
+#[tactic(auto, using(lemmas::proofs::Members::flat_map_map_next))]
 pub(crate) fn push_calls(text: &mut Vec<u8>, word: &[u8], calls: &[Call]) -> Result<(), AllocError>
     ensures { OnOk result (text.new.items ≡ text.old.items
         ++ lines_text (map (λ call. line word.now (call_fields call)) calls.now)) }

@@ -93,7 +93,7 @@ fn push_got(
 }
 
 /// Writes the values of so many tuples, with a bar between each two.
-#[tactic(auto, using(crate::proofs::TextsLemmas::tuples_step, crate::proofs::TextsLemmas::enough_first, crate::proofs::TextsLemmas::enough_next, crate::proofs::TextsLemmas::assoc))]
+#[tactic(auto, using(crate::proofs::TextsLemmas::tuples_step, crate::proofs::TextsLemmas::enough_first, lemmas::proofs::Numbers::enough_next, crate::proofs::TextsLemmas::assoc))]
 fn push_tuples(text: &mut Vec<u8>, tuples: u8, values: &[Name]) -> Result<(), AllocError>
     ensures { OnOk result (text.new.items ≡ text.old.items
         ++ fields_text (tuple_fields tuples values.now)) }
@@ -132,7 +132,7 @@ fn push_dream(
 }
 
 /// Writes the entries that a dream uses.
-#[tactic(auto, using(crate::proofs::TextsLemmas::lines_next))]
+#[tactic(auto, using(lemmas::proofs::Members::flat_map_map_next))]
 fn push_uses(alloc: Global, text: &mut Vec<u8>, uses: &[DreamUse]) -> Result<(), AllocError>
     ensures { OnOk result (text.new.items ≡ text.old.items ++ lines_text (map use_line uses.now)) }
 {

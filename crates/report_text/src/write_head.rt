@@ -95,7 +95,7 @@ fn push_pool(alloc: Global, text: &mut Vec<u8>, task: &Task, pool: &Pool) -> Res
 }
 
 /// Writes the names of streams of a task, each with a space before it.
-#[tactic(auto, using(crate::proofs::TextsLemmas::lines_next))]
+#[tactic(auto, using(lemmas::proofs::Members::flat_map_map_next))]
 fn push_streams(text: &mut Vec<u8>, task: &Task, streams: &[u32]) -> Result<(), AllocError>
     requires { All (λ stream. stream < length task.now.streams) streams.now }
     ensures { OnOk result (text.new.items ≡ text.old.items

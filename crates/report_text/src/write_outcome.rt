@@ -49,7 +49,7 @@ fn push_plan(alloc: Global, text: &mut Vec<u8>, steps: &[Call], cost: u64) -> Re
 }
 
 /// Writes where the objects came from.
-#[tactic(auto, using(crate::proofs::TextsLemmas::lines_next))]
+#[tactic(auto, using(lemmas::proofs::Members::flat_map_map_next))]
 fn push_origins(
     alloc: Global,
     text: &mut Vec<u8>,

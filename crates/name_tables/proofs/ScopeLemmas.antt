@@ -1,1 +1,0 @@
--- Variables that come into scope and leave it.
