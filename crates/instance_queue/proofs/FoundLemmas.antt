@@ -8,7 +8,7 @@ use Rattle.task_model.proofs.KnownLemmas.{fact_member, object_itself}
 use Rattle.lemmas.proofs.Members.{member_at, place_of, distinct_nil}
 use Rattle.task_model.specs.Known.{Known, type_fact, object_with, objects_of}
 use Rattle.lemmas.specs.Lists.{AreDistinct}
-use Rattle.task_model.specs.Streams.{Note, IsDue, is_reachable, is_finished}
+use Rattle.task_model.specs.Streams.{Note, IsDue, is_reachable, is_finished, is_due_at}
 use Rattle.task_model.specs.Truth.{have_types, has_type}
 use Rattle.task_model.specs.declared.fact.Fact.{Fact}
 use Rattle.task_model.specs.declared.fact.Kind.{Kind}

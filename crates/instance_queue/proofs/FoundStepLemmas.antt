@@ -5,7 +5,7 @@ use Rattle.std.proofs.lemmas.List.Folds.{length-flat_map-take}
 use Rattle.std.proofs.lemmas.Option.{slice_get_within, get_or_from_slice_get}
 use Rattle.std.specs.List.{flat_map}
 use Rattle.task_model.specs.Known.{Known}
-use Rattle.task_model.specs.Streams.{Note}
+use Rattle.task_model.specs.Streams.{Note, is_due_at}
 use Rattle.task_model.specs.declared.stream.Instance.{Instance}
 use Rattle.task_model.specs.declared.stream.Stream.{Stream}
 use Rattle.instance_queue.specs.Found.{asks_of, due_of, instance_at, found_at, found_under, found_from, Overflows}

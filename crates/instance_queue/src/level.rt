@@ -1,6 +1,7 @@
 //! The instances that are due, found by going through all tuples of objects that have the inputs' types.
 ghost use Rattle.std.specs.Prelude.{◌≡◌, ◌≤◌, ◌+◌, ◌++◌, length, IfOk, IfErr, OnOk};
 ghost use Rattle.task_model.specs.Fit.{IsFit};
+ghost use Rattle.task_model.specs.Streams.{is_due_at};
 ghost use Rattle.instance_queue.specs.Found.{asks_of, found_at, found_under, found_from, Overflows};
 ghost use Rattle.instance_queue.specs.Level.{AreDueInTurn, ComesOf};
 ghost use Rattle.instance_queue.specs.Readable.{IsReadableStream};

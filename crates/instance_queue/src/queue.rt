@@ -31,7 +31,7 @@ pub struct Queue {
 }
 
 impl Model for Queue {
-    ghost use Rattle.std.specs.Prelude.{List};
+    ghost use Rattle.std.specs.Prelude.{List, false};
     ghost use Rattle.task_model.specs.Streams.{Note};
     ghost use Rattle.instance_queue.specs.Tallies.{coded_notes};
 

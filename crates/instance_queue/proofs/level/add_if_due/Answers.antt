@@ -1,5 +1,5 @@
 use Rattle.std.proofs.Common.{sym, ap, ◌∙◌}
-use Rattle.task_model.specs.Streams.{yields_of}
+use Rattle.task_model.specs.Streams.{yields_of, is_due_at}
 use Rattle.instance_queue.proofs.FoundStepLemmas.{found_here}
 use Rattle.instance_queue.specs.Found.{instance_at}
 use Rattle.instance_queue.proofs.level.add_if_due.Goals as goal
