@@ -67,7 +67,8 @@ pub(crate) fn matches_of_words<'a>(
     ensures taken { IfOk result (λ m.
         is_taken (app_of command.entry) (map string_bytes words.entry.now) ≡ true) }
     ensures rows { IfOk result (λ m.
-        rows_of (found_of m) ≡ matches_of (app_of command.entry) (map string_bytes words.entry.now)) }
+        rows_of (found_of m)
+        ≡ matches_of (app_of command.entry) (map string_bytes words.entry.now)) }
     ensures usage { IfErr result (λ why. why ≡ WordsFault.Usage
         → is_taken (app_of command.entry) (map string_bytes words.entry.now) ≡ false) }
 {

@@ -155,7 +155,8 @@ fn solve_held(alloc: Global, words: SolveWords<'_, '_>) -> Result<SolveConfig, A
 
 /// What words ask for of which the first is `solve`.
 pub(crate) fn solve(alloc: Global, words: &[String]) -> Result<SolveConfig, WordsFault>
-    ensures config { IfOk result (λ c. solve_of (map string_bytes words.now) ≡ Some (held_solve c)) }
+    ensures config { IfOk result (λ c.
+        solve_of (map string_bytes words.now) ≡ Some (held_solve c)) }
     ensures usage { IfErr result (λ why. why ≡ WordsFault.Usage
         → solve_of (map string_bytes words.now) ≡ None) }
 {
