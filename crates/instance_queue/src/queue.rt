@@ -31,7 +31,7 @@ pub struct Queue {
 }
 
 impl Model for Queue {
-    ghost use Rattle.std.specs.Prelude.{List, false};
+    ghost use Rattle.std.specs.Prelude.{List};
     ghost use Rattle.task_model.specs.Streams.{Note};
     ghost use Rattle.instance_queue.specs.Tallies.{coded_notes};
 
@@ -47,7 +47,7 @@ impl Model for Queue {
 }
 
 impl Queue {
-    ghost use Rattle.std.specs.Prelude.{◌≡◌, ◌<◌, ◌++◌, ◌∷◌, [], IfOk, IfErr, OnOk, OnErr};
+    ghost use Rattle.std.specs.Prelude.{◌≡◌, ◌<◌, ◌++◌, ◌∷◌, [], IfOk, IfErr, OnOk, OnErr, false};
     ghost use Rattle.task_model.specs.Fit.{IsFit};
     ghost use Rattle.task_model.specs.Streams.{Note, Yielded, Ended, yields_of, is_finished, at_stream, is_due as due, is_reachable as reaches};
     ghost use Rattle.instance_queue.specs.Notes.{tally_of, note_of};
