@@ -55,7 +55,7 @@ object_more domain xs i x facts new lt is grown =
 
 -- ---- names
 
-stays_left : {A : Type 0} (xs ys : List A) (k : ℕ) (x : A) → slice_get xs k ≡ Some x → slice_get (xs ++ ys) k ≡ Some x
+pub stays_left : {A : Type 0} (xs ys : List A) (k : ℕ) (x : A) → slice_get xs k ≡ Some x → slice_get (xs ++ ys) k ≡ Some x
 stays_left [] ys k x e = absurd (cc)
 stays_left (z ∷ zs) ys zero x e = e
 stays_left (z ∷ zs) ys (suc k) x e = stays_left zs ys k x e
