@@ -1,2 +1,4 @@
+pub mod Atoms
 pub mod Least
 pub mod Store
+pub mod Tables

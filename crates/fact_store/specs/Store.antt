@@ -44,13 +44,13 @@ pub kind_by-is_sort : (k : Kind) → kind_by (is_sort k) ≡ k
 kind_by-is_sort Predicate = refl
 kind_by-is_sort Sort = refl
 
-abbrev coded_kind : Coded Kind
+abbrev pub coded_kind : Coded Kind
 coded_kind = code_by Bool coded_bool is_sort kind_by kind_by-is_sort
 
-abbrev coded_fact : Coded Fact
+abbrev pub coded_fact : Coded Fact
 coded_fact = code_by (Kind × (ℕ × List ℕ)) (coded× coded_kind (coded× coded_ℕ (coded_list coded_ℕ))) (λ f. (f.kind, (f.name, f.args))) (λ p. record { kind = p.0; name = p.1.0; args = p.1.1 }) (λ _. refl)
 
-abbrev coded_valued : Coded Valued
+abbrev pub coded_valued : Coded Valued
 coded_valued = code_by (ℕ × (List ℕ × ℕ)) (coded× coded_ℕ (coded× (coded_list coded_ℕ) coded_ℕ)) (λ v. (v.func, (v.args, v.value))) (λ p. record { func = p.0; args = p.1.0; value = p.1.1 }) (λ _. refl)
 
 abbrev coded_known : Coded Known

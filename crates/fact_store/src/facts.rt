@@ -1,9 +1,9 @@
 //! The store, and the calls by which it grows.
 ghost use Rattle.task_model.specs.Known.{IsCoherent};
 ghost use Rattle.fact_store.specs.Store.{coherent_prop};
-
+use crate::fact_table::FactTable;
 use crate::initial::{add_names, add_objects, add_static, add_values};
-use crate::scan::{is_match, least_value, nth_match, nth_object, object_with, objects_with};
+use crate::value_table::ValueTable;
 use indexmap::IndexSet;
 use std::alloc::{AllocError, Global};
 use std::marker::Model;
@@ -15,10 +15,10 @@ use task_model::{Fact, Look, Name, Obj, Row, Task, Valued};
 pub struct Facts {
     names: Vec<Name>,
     places: IndexSet<Vec<u8>>,
-    facts: IndexSet<Fact>,
-    values: IndexSet<Valued>,
+    facts: FactTable,
+    values: ValueTable,
     alloc: Global,
-    ghost coherent: { IsCoherent (record { names = names.items; facts = facts.keys; values = values.keys }) } by { coherent_prop (record { names = names.items; facts = facts.keys; values = values.keys }) },
+    ghost coherent: { IsCoherent (record { names = names.items; facts = facts; values = values }) } by { coherent_prop (record { names = names.items; facts = facts; values = values }) },
 }
 
 impl Model for Facts {
@@ -29,7 +29,7 @@ impl Model for Facts {
 
     ghost coded = { coded_store };
 
-    ghost view = { λ f. record { known = record { names = f.names.items; facts = f.facts.keys; values = f.values.keys }; coherent = f.coherent } };
+    ghost view = { λ f. record { known = record { names = f.names.items; facts = f.facts; values = f.values }; coherent = f.coherent } };
 
     ghost invariant = { λ f. IsIndexed f.names.items (map (λ v. v.items) f.places.keys) };
 }
@@ -38,6 +38,7 @@ impl Facts {
     ghost use Rattle.std.specs.Prelude.{◌≡◌, ◌<◌, ◌≤◌, ◌++◌, ◌∷◌, [], not, length, slice_get, All, Contains, Some, IfSome, IfNone, IfOk, OnOk, OnErr};
     ghost use Rattle.std.specs.List.{list_any};
     ghost use Rattle.task_model.specs.Known.{IsIn, is_fact, with_fact, objects_of, same_value, with_value, with_name};
+    ghost use Rattle.fact_store.specs.Atoms.{atoms_of};
     ghost use Rattle.task_model.specs.Fit.{IsFit};
     ghost use Rattle.task_model.specs.Initial.{initial_known};
 
@@ -63,8 +64,8 @@ impl Facts {
         Facts {
             names: Vec::new(alloc),
             places: IndexSet::new(alloc),
-            facts: IndexSet::new(alloc),
-            values: IndexSet::new(alloc),
+            facts: FactTable::new(alloc),
+            values: ValueTable::new(alloc),
             alloc,
         }
     }
@@ -86,11 +87,29 @@ impl Facts {
     }
 
     /// The objects that have this type, each once, in the order in which that became known: those that `object` gives one by
-    /// one, found in one pass. Fails only where memory is wanting.
+    /// one. Fails only where memory is wanting.
     pub fn objects_with(&self, alloc: Global, sort: u32) -> Result<Vec<Obj>, AllocError>
         ensures { IfOk result (λ objects. objects.items ≡ objects_of self.now.known.facts sort) }
     {
-        objects_with(alloc, self.facts.as_slice(), sort)
+        self.facts.objects_with(alloc, sort)
+    }
+
+    /// How many atoms the predicate has.
+    pub fn atoms(&self, pred: u32) -> usize
+        ensures { result ≡ length (atoms_of self.now.known.facts pred) }
+    {
+        self.facts.atoms(pred)
+    }
+
+    /// One of the predicate's atoms, by its number from 0. Each stands there once, in the order in which they became known.
+    pub fn atom(&self, pred: u32, number: usize) -> &Fact
+        requires { number < length (atoms_of self.now.known.facts pred) }
+        ensures { slice_get (atoms_of self.now.known.facts pred) number ≡ Some result.now }
+    {
+        match self.facts.atom(pred, number) {
+            Some(fact) => fact,
+            None => unreachable!(),
+        }
     }
 
     /// The number of a name, which is put behind the others where it is new. Fails only where memory
@@ -124,7 +143,7 @@ impl Facts {
         ensures values { self.new.known.values ≡ self.old.known.values }
         ensures err { OnErr result (self.new ≡ self.old) }
     {
-        Ok(self.facts.insert(fact)?)
+        self.facts.insert(fact)
     }
 
     /// Puts the value of a function's term behind the others, and answers true, or answers false where
@@ -138,7 +157,7 @@ impl Facts {
         ensures facts { self.new.known.facts ≡ self.old.known.facts }
         ensures err { OnErr result (self.new ≡ self.old) }
     {
-        Ok(self.values.insert(Valued { func, args, value })?)
+        self.values.insert(Valued { func, args, value })
     }
 }
 
@@ -152,22 +171,18 @@ impl Look for Facts {
     }
 
     fn count(&self, sort: u32) -> usize {
-        self.facts
-            .as_slice()
-            .iter()
-            .filter_map(|fact| object_with(fact, sort))
-            .count()
+        self.facts.count(sort)
     }
 
     fn object(&self, sort: u32, place: usize) -> Obj {
-        match nth_object(self.facts.as_slice(), sort, place) {
+        match self.facts.object(sort, place) {
             Some(object) => object,
             None => unreachable!(),
         }
     }
 
     fn value(&self, func: u32, args: &[Obj]) -> Option<u32> {
-        least_value(self.values.as_slice(), func, args)
+        self.values.value(func, args)
     }
 
     fn name(&self, object: Obj) -> &Name {
@@ -175,15 +190,11 @@ impl Look for Facts {
     }
 
     fn matches(&self, pred: u32, place: usize, object: Obj) -> usize {
-        self.facts
-            .as_slice()
-            .iter()
-            .filter(|fact| is_match(*fact, pred, place, object))
-            .count()
+        self.facts.matches(pred, place, object)
     }
 
     fn matched(&self, pred: u32, place: usize, object: Obj, number: usize) -> &Fact {
-        match nth_match(self.facts.as_slice(), pred, place, object, number) {
+        match self.facts.matched(pred, place, object, number) {
             Some(fact) => fact,
             None => unreachable!(),
         }

@@ -1,9 +1,12 @@
 //! A store of what is known: the objects' names, the facts about them, and the values of functions.
 #![tactic(auto)]
 
+mod fact_table;
 mod facts;
 mod initial;
 mod scan;
+mod table;
+mod value_table;
 
 pub use facts::Facts;
 pub use initial::add_supertypes;

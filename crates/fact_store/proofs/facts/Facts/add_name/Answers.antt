@@ -18,7 +18,7 @@ returns-in_err-insert-clause-err c =
 
 pub invariant_of-self-inside-2 : goal.invariant_of-self-inside-2
 invariant_of-self-inside-2 c = (
-  name_kept (record { names = c.self.inside.names.items; facts = c.self.inside.facts.keys; values = c.self.inside.values.keys }) c.push.new.self.items c.args.name
+  name_kept (record { names = c.self.inside.names.items; facts = c.self.inside.facts; values = c.self.inside.values }) c.push.new.self.items c.args.name
       (λ m. c.in_default.ensures.none (subst (Contains c.args.self.now.known.names) (sym c.bytes.ensures) (subst (λ ns. Contains ns c.args.name) (ap (λ s. s.known.names) c.self.view_is) m)))
       (pushed_or_not c.push.result c.self.inside.names.items c.reserve.new.self.items c.push.new.self.items c.args.name c.reserve.ensures.items c.push.ensures.items) c.self.inside.coherent,
   tt,
