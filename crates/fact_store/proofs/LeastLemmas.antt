@@ -5,7 +5,7 @@ use Rattle.std.proofs.lemmas.Option.{slice_get-get_or, slice_get_within}
 use Rattle.std.specs.Cmp.{first_so, second_so}
 use Rattle.std.specs.List.{list_any}
 use Rattle.indexmap.specs.IndexMap.{IndexMap}
-use Rattle.task_model.proofs.FactLists.{numbers_decided}
+use Rattle.task_model.proofs.KnownLemmas.{numbers_decided}
 use Rattle.task_model.specs.Known.{least, least_from, value_of, is_value_of, same_numbers, same_value, with_value}
 use Rattle.task_model.specs.declared.task.Valued.{Valued}
 use Rattle.fact_store.specs.Least.{Term, HasLeast, lesser_of, least_in, same_term}

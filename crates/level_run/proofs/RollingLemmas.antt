@@ -1,7 +1,8 @@
 -- An open round: one request more is sent, one answer more is heard.
 use Rattle.std.proofs.Common.{◌≡◌, ℕ, zero, suc, ◌+◌, ◌<◌, ◌≤◌, arith, Bool, true, false, not, ◌&&◌, List, [], ◌∷◌, ◌++◌, map, length, take, Option, Some, None, refl, sym, subst, ap, ◌∙◌, append_assoc, ◌⊎◌, inl, inr, slice_get, option_map, is_none, nat_lt, unwrap_or, eqb-true, eq-eqb}
 use Rattle.std.proofs.lemmas.Bool.{lt-ltb, le-ltb, ltb-true, ltb-false}
-use Rattle.std.proofs.lemmas.List.{take-map, length-map, length-take, map-map}
+use Rattle.std.proofs.lemmas.List.{take-map, length-map, length-take}
+use Rattle.std.proofs.lemmas.Simd.{map-map}
 use Rattle.std.proofs.lemmas.Option.{slice_get-map, slice_get_within}
 use Rattle.std.specs.Option.{is_some}
 use Rattle.std.specs.List.{cons_option}

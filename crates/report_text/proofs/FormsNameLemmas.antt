@@ -1,5 +1,5 @@
 -- The names of a legal transcript are declared, or generated from values.
-use Rattle.std.proofs.Common.{◌≡◌, ℕ, suc, inl, inr, Bool, true, false, List, [], ◌∷◌, ◌++◌, All, refl, Some, slice_get}
+use Rattle.std.proofs.Common.{◌≡◌, ℕ, suc, inl, inr, Bool, true, false, cond, List, [], ◌∷◌, ◌++◌, All, refl, Some, slice_get}
 use Rattle.std.proofs.lemmas.List.Elements.{All-nil, All-contains, All-map, All-push}
 use Rattle.std.specs.List.{list_any, flat_map}
 use Rattle.gen_lines.specs.Reply.{is_value}
@@ -19,7 +19,7 @@ use Rattle.report_text.specs.Forms.{IsObject}
 with_name-all : (P : List ℕ → Type 0) (names : List (List ℕ)) (name : List ℕ) → All P names → P name → All P (with_name names name)
 with_name-all P names name all one = by (list_any (same_numbers name) names)
   where
-    by : (b : Bool) → All P (if b then names else names ++ name ∷ [])
+    by : (b : Bool) → All P (cond b names (names ++ name ∷ []))
     by true = all
     by false = All-push P names name all one
 

@@ -1,6 +1,7 @@
 -- What is known after tuples, one after another, is what it is after all at once.
 use Rattle.std.proofs.Common.{◌≡◌, ℕ, zero, suc, ◌+◌, ◌*◌, ◌-◌, ◌<◌, ◌≤◌, arith, List, [], ◌∷◌, ◌++◌, map, take, drop, length, replicate, refl, sym, subst, ap, ◌∙◌, suc-mul, Some, unwrap_or, All, slice_get, append_assoc}
-use Rattle.std.proofs.lemmas.List.{map-append, append-nil, length-append, length-map, map-map}
+use Rattle.std.proofs.lemmas.List.{map-append, append-nil, length-append, length-map}
+use Rattle.std.proofs.lemmas.Simd.{map-map}
 use Rattle.std.proofs.Math.ListN.{take-append-drop}
 use Rattle.std.specs.List.{flat_map}
 use Rattle.certify.proofs.OutputsLemmas.{length_with_name}

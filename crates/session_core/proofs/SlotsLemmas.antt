@@ -3,7 +3,7 @@ use Rattle.std.proofs.Common.{◌≡◌, ℕ, zero, suc, Bool, true, false, cond
 use Rattle.std.proofs.Math.ListN.{set}
 use Rattle.std.proofs.lemmas.Option.{slice_get-map}
 use Rattle.std.proofs.lemmas.Bool.{and_parts}
-use Rattle.std.proofs.lemmas.List.{map-map}
+use Rattle.std.proofs.lemmas.Simd.{map-map}
 use Rattle.lemmas.proofs.Distinct.{distinct_tail}
 use Rattle.lemmas.specs.Lists.{AreDistinct}
 use Rattle.session_core.specs.Slots.{Slot, at_child, is_slot_of, slot_of, all_answered}

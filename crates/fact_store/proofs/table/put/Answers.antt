@@ -1,7 +1,7 @@
 use Rattle.std.proofs.Common.{◌≡◌, ◌∷◌, ◌++◌, [], Some, cond, ap, sym, ◌∙◌}
 use Rattle.indexmap.specs.IndexMap.{get}
 use Rattle.fact_store.specs.Tables.{Key, places_found, places_in, same_key}
-use Rattle.fact_store.proofs.StoreLemmas.{on_err}
+use Rattle.lemmas.proofs.Results.{on_err}
 use Rattle.fact_store.proofs.TablesLemmas.{places_put, places_back}
 use Rattle.fact_store.proofs.table.put.Goals as goal
 
