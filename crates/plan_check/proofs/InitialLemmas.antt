@@ -1,14 +1,12 @@
 -- The atoms of `:init`, one after another.
-use Rattle.std.proofs.Common.{◌≡◌, ◌≢◌, ℕ, zero, suc, ◌<◌, ◌≤◌, true, ◌&&◌, List, [], ◌∷◌, ◌++◌, length, take, get_or, refl, sym, ap, ◌∙◌, arith, Some, None, nat_lt}
+use Rattle.std.proofs.Common.{append-nil, ◌≡◌, ◌≢◌, ℕ, zero, suc, ◌<◌, ◌≤◌, true, ◌&&◌, List, [], ◌∷◌, ◌++◌, length, take, get_or, refl, sym, ap, ◌∙◌, arith, Some, None, nat_lt}
 use Rattle.std.proofs.lemmas.Bool.{ltb-true}
 use Rattle.std.specs.Cmp.{first_so, second_so}
 use Rattle.std.proofs.lemmas.List.Elements.{filter_map-append}
 use Rattle.std.specs.List.{filter_map, list_all, cons_option}
-use Rattle.lemmas.proofs.ListTests.{all_at_or}
 use Rattle.task_model.specs.Fit.{IsFit, is_fit_fact, has_arity, is_short, is_predicate}
 use Rattle.task_model.specs.Initial.{fluent_atom, fluent_by}
 use Rattle.task_model.specs.Roles.{role_of}
-use Rattle.task_model.specs.State.{Atoms, empty, insert, with_atoms, from_list}
 use Rattle.task_model.specs.declared.domain.Domain.{Domain}
 use Rattle.task_model.specs.declared.domain.Role.{Role}
 use Rattle.task_model.specs.declared.domain.Role.TheVariants.{Static, Fluent, Derived}
@@ -17,12 +15,11 @@ use Rattle.task_model.specs.declared.fact.Fact.{Fact}
 use Rattle.task_model.specs.declared.fact.Kind.{Kind}
 use Rattle.task_model.specs.declared.fact.Kind.TheVariants.{Predicate, Sort}
 use Rattle.task_model.specs.declared.task.Task.{Task}
-use Rattle.task_model.proofs.StateLemmas.{with_atoms-empty}
-use Rattle.formula_eval.proofs.ReadableLemmas.{has_place}
+use Rattle.formula_eval.proofs.ReadableLemmas.{has_place, all_at}
 
--- the state of the first facts
-abbrev pub state_of : Domain → List Fact → ℕ → Atoms
-state_of domain facts n = with_atoms empty (filter_map (fluent_atom domain) (take n facts))
+-- the fluents' atoms among the first facts
+abbrev pub fluents_of : Domain → List Fact → ℕ → List Atom
+fluents_of domain facts n = filter_map (fluent_atom domain) (take n facts)
 
 take-push : {A : Type 0} (xs : List A) (i : ℕ) (x : A) → i < length xs → x ≡ get_or xs i x → take (suc i) xs ≡ take i xs ++ x ∷ []
 take-push [] i x h e = absurd (omega arith)
@@ -31,15 +28,8 @@ take-push (y ∷ ys) (suc i) x h e = ap (λ zs. y ∷ zs) (take-push ys i x (ome
 
 -- ---- the next fact
 
-with_atoms-append : (s : Atoms) (xs ys : List Atom) → with_atoms s (xs ++ ys) ≡ with_atoms (with_atoms s xs) ys
-with_atoms-append s [] ys = refl
-with_atoms-append s (x ∷ xs) ys = with_atoms-append (insert s x) xs ys
-
-state_next : (domain : Domain) (facts : List Fact) (i : ℕ) (x : Fact) → i < length facts → x ≡ get_or facts i x → state_of domain facts (suc i) ≡ with_atoms (state_of domain facts i) (cons_option (fluent_atom domain x) [])
-state_next domain facts i x h e =
-    ap (λ xs. with_atoms empty (filter_map (fluent_atom domain) xs)) (take-push facts i x h e)
-    ∙ ap (with_atoms empty) (filter_map-append (fluent_atom domain) (take i facts) (x ∷ []))
-    ∙ with_atoms-append empty (filter_map (fluent_atom domain) (take i facts)) (cons_option (fluent_atom domain x) [])
+fluents_next : (domain : Domain) (facts : List Fact) (i : ℕ) (x : Fact) → i < length facts → x ≡ get_or facts i x → fluents_of domain facts (suc i) ≡ fluents_of domain facts i ++ cons_option (fluent_atom domain x) []
+fluents_next domain facts i x h e = ap (filter_map (fluent_atom domain)) (take-push facts i x h e) ∙ filter_map-append (fluent_atom domain) (take i facts) (x ∷ [])
 
 fluent_is : (domain : Domain) (x : Fact) → x.kind ≡ Predicate → role_of domain x.name ≡ Fluent → fluent_atom domain x ≡ Some (record { pred = x.name; args = x.args })
 fluent_is domain x kind role = λ i. fluent_by x (kind i) (role i)
@@ -52,14 +42,15 @@ none_by x Derived other = refl
 not_fluent : (domain : Domain) (x : Fact) → x.kind ≡ Predicate → role_of domain x.name ≢ Fluent → fluent_atom domain x ≡ None
 not_fluent domain x kind other = (λ i. fluent_by x (kind i) (role_of domain x.name)) ∙ none_by x (role_of domain x.name) other
 
-pub state_fluent : (domain : Domain) (facts : List Fact) (i : ℕ) (x : Fact) → i < length facts → x ≡ get_or facts i x → x.kind ≡ Predicate → role_of domain x.name ≡ Fluent → state_of domain facts (suc i) ≡ insert (state_of domain facts i) (record { pred = x.name; args = x.args })
-state_fluent domain facts i x h e kind role = state_next domain facts i x h e ∙ ap (λ o. with_atoms (state_of domain facts i) (cons_option o [])) (fluent_is domain x kind role)
+pub fluents_more : (domain : Domain) (facts : List Fact) (i : ℕ) (x : Fact) → i < length facts → x ≡ get_or facts i x → x.kind ≡ Predicate → role_of domain x.name ≡ Fluent → fluents_of domain facts (suc i) ≡ fluents_of domain facts i ++ record { pred = x.name; args = x.args } ∷ []
+fluents_more domain facts i x h e kind role = fluents_next domain facts i x h e ∙ ap (λ o. fluents_of domain facts i ++ cons_option o []) (fluent_is domain x kind role)
 
-pub state_other : (domain : Domain) (facts : List Fact) (i : ℕ) (x : Fact) → i < length facts → x ≡ get_or facts i x → x.kind ≡ Predicate → role_of domain x.name ≢ Fluent → state_of domain facts (suc i) ≡ state_of domain facts i
-state_other domain facts i x h e kind other = state_next domain facts i x h e ∙ ap (λ o. with_atoms (state_of domain facts i) (cons_option o [])) (not_fluent domain x kind other)
+pub fluents_same : (domain : Domain) (facts : List Fact) (i : ℕ) (x : Fact) → i < length facts → x ≡ get_or facts i x → x.kind ≡ Predicate → role_of domain x.name ≢ Fluent → fluents_of domain facts (suc i) ≡ fluents_of domain facts i
+fluents_same domain facts i x h e kind other =
+    fluents_next domain facts i x h e ∙ ap (λ o. fluents_of domain facts i ++ cons_option o []) (not_fluent domain x kind other) ∙ append-nil (fluents_of domain facts i)
 
-pub state_whole : (domain : Domain) (facts : List Fact) (n : ℕ) → length facts ≤ n → state_of domain facts n ≡ from_list (filter_map (fluent_atom domain) facts)
-state_whole domain facts n h = ap (λ xs. with_atoms empty (filter_map (fluent_atom domain) xs)) (take-all facts n h) ∙ with_atoms-empty (filter_map (fluent_atom domain) facts)
+pub fluents_whole : (domain : Domain) (facts : List Fact) (n : ℕ) → length facts ≤ n → fluents_of domain facts n ≡ filter_map (fluent_atom domain) facts
+fluents_whole domain facts n h = ap (filter_map (fluent_atom domain)) (take-all facts n h)
   where
     take-all : {A : Type 0} (xs : List A) (n : ℕ) → length xs ≤ n → take n xs ≡ xs
     take-all [] zero h = refl
@@ -70,7 +61,7 @@ state_whole domain facts n h = ap (λ xs. with_atoms empty (filter_map (fluent_a
 -- ---- facts of a fit task
 
 pub fit_fact : (task : Task) → IsFit task → (i : ℕ) (x : Fact) → i < length task.problem.init → x ≡ get_or task.problem.init i x → is_fit_fact task.domain (length task.problem.objects) x ≡ true
-fit_fact task fit i x h e = all_at_or (is_fit_fact task.domain (length task.problem.objects)) task.problem.init i x (second_so (is_short task.problem.init) _ fit.problem.init) h e
+fit_fact task fit i x h e = all_at (is_fit_fact task.domain (length task.problem.objects)) task.problem.init i x (second_so (is_short task.problem.init) _ fit.problem.init) h e
 
 predicate_is : (k : Kind) → is_predicate k ≡ true → k ≡ Predicate
 predicate_is Predicate e = refl

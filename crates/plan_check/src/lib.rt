@@ -8,6 +8,7 @@ pub mod plan;
 pub mod start;
 pub mod step;
 
+pub use effect::after;
 pub use fault::{CheckFault, StepFault};
 pub use plan::check;
 pub use start::initial;

@@ -1,8 +1,7 @@
 //! The state from which plans start.
-ghost use Rattle.std.specs.Prelude.{◌≡◌, IfOk, OnOk};
+ghost use Rattle.std.specs.Prelude.{◌≡◌, IfOk};
 ghost use Rattle.task_model.specs.Fit.{IsFit};
 ghost use Rattle.task_model.specs.Initial.{initial_state};
-ghost use Rattle.task_model.specs.State.{insert};
 
 use std::alloc::{AllocError, Global};
 use task_model::{Atom, Fact, Role, State, Task};
@@ -14,22 +13,23 @@ pub fn initial(alloc: Global, task: &Task) -> Result<State, AllocError>
     ensures { IfOk result (λ state. state ≡ initial_state task.now) }
 {
     let roles = task.domain.roles.as_slice();
-    let mut state = State::new(alloc);
+    let mut atoms = Vec::new(alloc);
     for fact in task.problem.init.as_slice() {
         match roles[fact.name as usize] {
-            Role::Fluent => put(&mut state, fact)?,
+            Role::Fluent => atoms.push(atom_of(fact)?)?,
             Role::Static | Role::Derived => {}
         }
     }
-    Ok(state)
+    Ok(State::from_atoms(atoms))
 }
 
-/// Puts the atom of a fact into the state.
-fn put(state: &mut State, fact: &Fact) -> Result<(), AllocError>
-    ensures { OnOk result (state.new ≡ insert state.old (record { pred = fact.now.name; args = fact.now.args })) }
+/// The atom of a fact. Fails only where memory is wanting.
+fn atom_of(fact: &Fact) -> Result<Atom, AllocError>
+    ensures { IfOk result (λ atom. atom ≡ record { pred = fact.now.name; args = fact.now.args }) }
 {
     let args = fact.args.copy()?;
-    let pred = fact.name;
-    state.add(Atom { pred, args })?;
-    Ok(())
+    Ok(Atom {
+        pred: fact.name,
+        args,
+    })
 }

@@ -1,1 +1,1 @@
-pub mod KeptLemmas
+pub mod RowsLemmas

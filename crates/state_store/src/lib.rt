@@ -1,7 +1,7 @@
 //! States, each kept once and known by a number.
 #![tactic(auto)]
 
-mod same;
+mod rows;
 pub mod store;
 
 pub use store::StateStore;

@@ -1,32 +1,38 @@
 //! A list of distinct states.
-ghost use Rattle.std.specs.Prelude.{◌≡◌, ◌<◌, ◌↔◌, ◌++◌, ◌∷◌, [], length, Contains, IsTrue, IfOk, IfSome, IfNone, OnErr, Some, slice_get, if◌then◌else◌};
+ghost use Rattle.std.specs.Prelude.{◌≡◌, ◌<◌, ◌↔◌, ◌++◌, ◌∷◌, [], length, Contains, IsTrue, IfOk, OnErr, Some, slice_get, if◌then◌else◌};
 ghost use Rattle.lemmas.specs.Lists.{AreDistinct};
 
-use crate::same::same_state;
+use crate::rows::{atoms_of, numbers_of};
+use indexmap::IndexSet;
 use std::alloc::{AllocError, Global};
 use std::marker::Model;
-use task_model::State;
+use task_model::{Atom, State};
 
 /// A list of distinct states, at most 200,001. A state is known by its place in the list, from 0, which
 /// never changes.
+///
+/// Each atom is kept once and has a number, and a state is kept as the row of its atoms' numbers, in the
+/// order of the atoms. Rows are found by their hash.
 #[derive(Drop)]
 pub struct StateStore {
-    states: Vec<State>,
+    atoms: IndexSet<Atom>,
+    rows: IndexSet<Vec<u32>>,
+    alloc: Global,
 }
 
 impl Model for StateStore {
-    ghost use Rattle.std.specs.Prelude.{List};
+    ghost use Rattle.std.specs.Prelude.{List, map};
     ghost use Rattle.std.specs.Coded.{coded_list};
     ghost use Rattle.task_model.specs.State.{Atoms, atoms_code};
-    ghost use Rattle.state_store.specs.Kept.{AreKept};
+    ghost use Rattle.state_store.specs.Rows.{AreRows, states_of};
 
     ghost Value = { List Atoms };
 
     ghost coded = { coded_list atoms_code };
 
-    ghost view = { λ s. s.states.items };
+    ghost view = { λ s. states_of s.atoms.keys (map (λ row. row.items) s.rows.keys) };
 
-    ghost invariant = { λ s. AreKept s.states.items };
+    ghost invariant = { λ s. AreRows s.atoms.keys (map (λ row. row.items) s.rows.keys) };
 }
 
 impl StateStore {
@@ -35,12 +41,22 @@ impl StateStore {
         ensures { IfOk result (λ store. store ≡ []) }
     {
         Ok(StateStore {
-            states: Vec::new(alloc),
+            atoms: IndexSet::new(alloc),
+            rows: IndexSet::new(alloc),
+            alloc,
         })
     }
 
+    /// How many states there are.
+    pub fn len(&self) -> usize
+        ensures { result ≡ length self.now }
+    {
+        self.rows.len()
+    }
+
     /// The place of a state, and whether it is new. A new state is put behind the others, of which there
-    /// are at most 200,000. Fails only where memory is wanting, and leaves the store as it was then.
+    /// are at most 200,000. Fails only where memory is wanting (or where the states have 2^32 different
+    /// atoms, which take more than 200 GB), and leaves the states as they were then.
     pub fn intern(&mut self, state: State) -> Result<(u32, bool), AllocError>
         requires { length self.old < 200001 }
         ensures place { IfOk result (λ found. slice_get self.new found.0 ≡ Some state) }
@@ -49,12 +65,9 @@ impl StateStore {
         ensures distinct { AreDistinct self.new }
         ensures err { OnErr result (self.new ≡ self.old) }
     {
-        if let Some(id) = self.place_of(&state) {
-            return Ok((id, false));
-        }
-        let id = self.states.len() as u32;
-        self.states.push(state)?;
-        Ok((id, true))
+        let row = numbers_of(self.alloc, &mut self.atoms, state.as_slice())?;
+        let (place, fresh) = self.rows.insert_full(row)?;
+        Ok((place as u32, fresh))
     }
 
     /// A state equal to the one at this place. Fails only where memory is wanting.
@@ -62,19 +75,8 @@ impl StateStore {
         requires { id < length self.now }
         ensures { IfOk result (λ state. slice_get self.now id ≡ Some state) }
     {
-        self.states[id as usize].copy()
-    }
-
-    /// The place of a state, or None exactly where it isn't in the store.
-    fn place_of(&self, state: &State) -> Option<u32>
-        ensures found { IfSome result (λ id. slice_get self.now id ≡ Some state.now) }
-        ensures none { IfNone result (¬ (Contains self.now state.now)) }
-    {
-        for (place, kept) in self.states.iter().enumerate() {
-            if same_state(kept, state) {
-                return Some(place as u32);
-            }
-        }
-        None
+        let row = &self.rows.as_slice()[id as usize];
+        let atoms = atoms_of(self.alloc, self.atoms.as_slice(), row.as_slice())?;
+        Ok(State::from_atoms(atoms))
     }
 }

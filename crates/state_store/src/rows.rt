@@ -1,0 +1,59 @@
+//! Atoms and their numbers.
+ghost use Rattle.std.specs.Prelude.{◌≡◌, ◌<◌, length, All, IfOk, Some, slice_get};
+ghost use Rattle.lemmas.specs.Lists.{AreDistinct};
+ghost use Rattle.state_store.specs.Rows.{Grows, atoms_of as atoms_with};
+
+use indexmap::IndexSet;
+use std::alloc::{AllocError, Global};
+use task_model::Atom;
+
+/// The number of an atom, which is put behind the others where it is new. Fails only where memory is
+/// wanting, or where there are 2^32 other atoms.
+fn number_of(numbered: &mut IndexSet<Atom>, atom: &Atom) -> Result<u32, AllocError>
+    requires { AreDistinct numbered.old.keys }
+    ensures number { IfOk result (λ number. slice_get numbered.new.keys number ≡ Some atom.now) }
+    ensures grows { Grows numbered.old.keys numbered.new.keys }
+    ensures distinct { AreDistinct numbered.new.keys }
+{
+    let (place, _) = numbered.insert_full(atom.copy()?)?;
+    match u32::try_from(place) {
+        Ok(number) => Ok(number),
+        Err(_) => Err(AllocError),
+    }
+}
+
+/// The numbers of atoms, in their order; those that are new are put behind the others. Fails only where
+/// memory is wanting, or where there are 2^32 other atoms.
+pub(crate) fn numbers_of(
+    alloc: Global,
+    numbered: &mut IndexSet<Atom>,
+    atoms: &[Atom],
+) -> Result<Vec<u32>, AllocError>
+    requires { AreDistinct numbered.old.keys }
+    ensures row { IfOk result (λ row. atoms_with numbered.new.keys row.items ≡ atoms.now) }
+    ensures known { IfOk result (λ row. All (λ n. n < length numbered.new.keys) row.items) }
+    ensures grows { Grows numbered.old.keys numbered.new.keys }
+    ensures distinct { AreDistinct numbered.new.keys }
+{
+    let mut row = Vec::with_capacity(alloc, atoms.len())?;
+    for atom in atoms {
+        row.push(number_of(numbered, atom)?)?;
+    }
+    Ok(row)
+}
+
+/// The atoms that have these numbers. Fails only where memory is wanting.
+pub(crate) fn atoms_of(
+    alloc: Global,
+    numbered: &[Atom],
+    row: &[u32],
+) -> Result<Vec<Atom>, AllocError>
+    requires { All (λ n. n < length numbered.now) row.now }
+    ensures { IfOk result (λ atoms. atoms.items ≡ atoms_with numbered.now row.now) }
+{
+    let mut atoms = Vec::with_capacity(alloc, row.len())?;
+    for number in row {
+        atoms.push(numbered[*number as usize].copy()?)?;
+    }
+    Ok(atoms)
+}
