@@ -15,7 +15,8 @@ use Rattle.task_model.specs.declared.fact.Fact.{Fact}
 use Rattle.task_model.specs.declared.fact.Kind.{Kind}
 use Rattle.task_model.specs.declared.fact.Kind.TheVariants.{Predicate, Sort}
 use Rattle.task_model.specs.declared.task.Task.{Task}
-use Rattle.formula_eval.proofs.ReadableLemmas.{has_place, all_at}
+use Rattle.formula_eval.proofs.ReadableLemmas.{has_place}
+use Rattle.lemmas.proofs.ListTests.{all_at}
 
 -- the fluents' atoms among the first facts
 abbrev pub fluents_of : Domain → List Fact → ℕ → List Atom
