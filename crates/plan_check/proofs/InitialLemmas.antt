@@ -16,7 +16,7 @@ use Rattle.task_model.specs.declared.fact.Kind.{Kind}
 use Rattle.task_model.specs.declared.fact.Kind.TheVariants.{Predicate, Sort}
 use Rattle.task_model.specs.declared.task.Task.{Task}
 use Rattle.formula_eval.proofs.ReadableLemmas.{has_place}
-use Rattle.lemmas.proofs.ListTests.{all_at}
+use Rattle.lemmas.proofs.ListTests.{all_at_or}
 
 -- the fluents' atoms among the first facts
 abbrev pub fluents_of : Domain → List Fact → ℕ → List Atom
@@ -62,7 +62,7 @@ fluents_whole domain facts n h = ap (filter_map (fluent_atom domain)) (take-all 
 -- ---- facts of a fit task
 
 pub fit_fact : (task : Task) → IsFit task → (i : ℕ) (x : Fact) → i < length task.problem.init → x ≡ get_or task.problem.init i x → is_fit_fact task.domain (length task.problem.objects) x ≡ true
-fit_fact task fit i x h e = all_at (is_fit_fact task.domain (length task.problem.objects)) task.problem.init i x (second_so (is_short task.problem.init) _ fit.problem.init) h e
+fit_fact task fit i x h e = all_at_or (is_fit_fact task.domain (length task.problem.objects)) task.problem.init i x (second_so (is_short task.problem.init) _ fit.problem.init) h e
 
 predicate_is : (k : Kind) → is_predicate k ≡ true → k ≡ Predicate
 predicate_is Predicate e = refl
