@@ -7,6 +7,7 @@ mod ask_log;
 mod call_log;
 mod fault_count;
 mod files;
+mod held_line;
 mod host;
 mod lookup;
 mod mem_files;
