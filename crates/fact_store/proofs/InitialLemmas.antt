@@ -1,16 +1,16 @@
 -- What is known at first, part by part.
-use Rattle.std.proofs.Common.{◌≡◌, ℕ, zero, suc, ◌+◌, ◌<◌, arith, true, ◌&&◌, List, [], ◌∷◌, ◌++◌, map, filter, take, drop, length, get_or, sym, ap, ◌∙◌, add-one, Some, slice_get, All, Contains, ltb-true, not, nat_lt, nat_le, option_map}
+use Rattle.std.proofs.Common.{◌≡◌, ℕ, zero, suc, ◌+◌, ◌<◌, arith, true, ◌&&◌, List, [], ◌∷◌, ◌++◌, map, filter, take, drop, length, get_or, sym, ap, ◌∙◌, add-one, Some, slice_get, All, Contains, ltb-true, not, nat_lt, nat_le, option_map, false, cond, ◌||◌, ◌==◌, eqb-true, unwrap_or}
 use Rattle.std.proofs.Math.Seq.{drop-cons}
 use Rattle.std.proofs.lemmas.Grind.{flat_map-append}
-use Rattle.std.proofs.lemmas.List.{take-append-drop, take_more, map-append, append-nil, length-map, length-take, map_push}
+use Rattle.std.proofs.lemmas.List.{take-append-drop, take_more, map-append, append-nil, length-map, length-take, map_push, nil_from_length}
 use Rattle.std.proofs.lemmas.List.Sums.{AllPass-from_list_all}
 use Rattle.std.proofs.lemmas.Option.{slice_get-get_or, slice_get-map, slice_get_within}
 use Rattle.std.specs.Cmp.{first_so, second_so}
-use Rattle.std.specs.List.{list_all, flat_map}
+use Rattle.std.specs.List.{list_all, flat_map, list_any}
 use Rattle.lemmas.proofs.Members.{place_of, get_append}
 use Rattle.task_model.specs.Fit.{has_arity, is_predicate, is_fit_fact, is_fit_value, is_derived_role}
 use Rattle.task_model.specs.Initial.{type_facts, declared_types, declared_names, is_static, initial_known}
-use Rattle.task_model.specs.Known.{Known, IsIn, type_fact, with_fact, with_facts, with_values, with_name}
+use Rattle.task_model.specs.Known.{Known, IsIn, type_fact, with_fact, with_facts, with_values, with_name, is_fact, same_fact}
 use Rattle.lemmas.specs.Lists.{AreDistinct, numbers_from}
 use Rattle.task_model.specs.Roles.{role_of}
 use Rattle.task_model.specs.declared.domain.Declared.{Declared}
@@ -23,6 +23,8 @@ use Rattle.task_model.specs.declared.task.Valued.{Valued}
 use Rattle.fact_store.proofs.StoreLemmas.{with_name-new}
 use Rattle.lemmas.proofs.Numbers.{length-numbers_from, get-map-numbers}
 use Rattle.task_model.proofs.KnownLemmas.{in_names, facts_then}
+use Rattle.std.proofs.lemmas.List.Elements.{Contains-append_left, Contains-append_right}
+use Rattle.task_model.proofs.KnownLemmas.{fact_decided, fact_member, with_facts-is}
 
 -- ---- facts
 
@@ -30,6 +32,50 @@ pub supertypes_then : (facts : List Fact) (object sort : ℕ) (above : List ℕ)
 supertypes_then facts object sort above =
     sym (facts_then (with_fact facts (type_fact sort object)) (map (λ s. type_fact s object) above) (type_fact 0 object ∷ []))
     ∙ ap (with_facts (with_fact facts (type_fact sort object))) (sym (map-append (λ s. type_fact s object) above (0 ∷ [])))
+
+-- ---- what is there already
+
+left_true : (a b : Bool) → a ≡ true → (a || b) ≡ true
+left_true true b e = refl
+left_true false b e = absurd (cc)
+
+right_true : (a b : Bool) → b ≡ true → (a || b) ≡ true
+right_true true b e = refl
+right_true false b e = e
+
+pub known_already : (facts more : List Fact) (fact : Fact) → Contains more fact → with_fact (with_facts facts more) fact ≡ with_facts facts more
+known_already facts more fact m =
+    let there : is_fact (with_facts facts more) fact ≡ true = (fact_member (with_facts facts more) fact).1 (((with_facts-is facts more).members fact).1 (Contains-append_right facts more fact m)) in
+    ap (λ b. cond b (with_facts facts more) (with_facts facts more ++ fact ∷ [])) there
+
+any_type : (object : ℕ) (sorts : List ℕ) → list_any (λ s. s == 0) sorts ≡ true → is_fact (map (λ s. type_fact s object) sorts) (type_fact 0 object) ≡ true
+any_type object [] e = absurd (cc)
+any_type object (s ∷ ss) e =
+    elim (s == 0) as (λ b. (s == 0) ≡ b → (b || list_any (λ s. s == 0) ss) ≡ true → (same_fact (type_fact 0 object) (type_fact s object) || is_fact (map (λ s. type_fact s object) ss) (type_fact 0 object)) ≡ true) [
+      | true ↦ λ zero _. left_true _ _ ((fact_decided (type_fact 0 object) (type_fact s object)).1 (ap (λ s. type_fact s object) (sym (eqb-true s 0 zero))))
+      | false ↦ λ _ rest. right_true _ _ (any_type object ss rest)
+    ] refl e
+
+-- that it has `object` is said with the type
+pub object_known : (facts : List Fact) (object sort : ℕ) (above : List ℕ) → list_any (λ s. s == 0) (sort ∷ above) ≡ true → with_fact (with_facts (with_fact facts (type_fact sort object)) (map (λ s. type_fact s object) above)) (type_fact 0 object) ≡ with_facts (with_fact facts (type_fact sort object)) (map (λ s. type_fact s object) above)
+object_known facts object sort above e = known_already facts (map (λ s. type_fact s object) (sort ∷ above)) (type_fact 0 object) ((fact_member (map (λ s. type_fact s object) (sort ∷ above)) (type_fact 0 object)).0 (any_type object (sort ∷ above) e))
+
+any_last : (xs : List ℕ) → list_any (λ s. s == 0) (xs ++ 0 ∷ []) ≡ true
+any_last [] = refl
+any_last (x ∷ xs) = right_true _ _ (any_last xs)
+
+-- and with any type of a declared object
+pub types_known : (domain : Domain) (facts : List Fact) (object : ℕ) (sorts : List ℕ) → 0 < length sorts → length (unwrap_or (option_map (λ s. s.above) (slice_get domain.sorts 0)) []) ≡ 0
+    → with_facts (with_facts facts (flat_map (λ sort. type_facts domain sort object) sorts)) (type_facts domain 0 object) ≡ with_facts facts (flat_map (λ sort. type_facts domain sort object) sorts)
+types_known domain facts object [] some none = absurd (omega arith)
+types_known domain facts object (sort ∷ sorts) some none =
+    let above = unwrap_or (option_map (λ s. s.above) (slice_get domain.sorts sort)) [] in
+    let more = flat_map (λ s. type_facts domain s object) (sort ∷ sorts) in
+    let first : Contains (type_facts domain sort object) (type_fact 0 object) = (fact_member (type_facts domain sort object) (type_fact 0 object)).0 (any_type object (sort ∷ above ++ 0 ∷ []) (right_true _ _ (any_last above))) in
+    let there : Contains more (type_fact 0 object) = Contains-append_left (type_facts domain sort object) (flat_map (λ s. type_facts domain s object) sorts) (type_fact 0 object) first in
+    let again = known_already facts more (type_fact 0 object) there in
+    ap (λ xs. with_facts (with_facts facts more) (map (λ s. type_fact s object) (0 ∷ xs ++ 0 ∷ []))) (nil_from_length _ none)
+    ∙ ap (λ fs. with_fact fs (type_fact 0 object)) again ∙ again
 
 -- one block of facts more
 pub block_more : {A : Type 0} (f : A → List Fact) (xs : List A) (i : ℕ) (d : A) (facts new : List Fact) → i < length xs → new ≡ with_facts facts (f (get_or xs i d)) → with_facts new (flat_map f (drop (i + 1) xs)) ≡ with_facts facts (flat_map f (drop i xs))

@@ -50,6 +50,7 @@ impl Facts {
     {
         let mut facts = Facts::empty(alloc);
         let problem = &task.problem;
+        facts.reserve(problem.objects.len())?;
         add_names(&mut facts, alloc, problem.objects.as_slice())?;
         add_objects(&mut facts, alloc, &task.domain, problem.objects.as_slice())?;
         add_static(&mut facts, &task.domain, problem.init.as_slice())?;
@@ -68,6 +69,15 @@ impl Facts {
             values: ValueTable::new(alloc),
             alloc,
         }
+    }
+
+    /// Takes room for so many objects, each with two facts. Fails only where memory is wanting.
+    fn reserve(&mut self, objects: usize) -> Result<(), AllocError>
+        ensures { self.new ≡ self.old }
+    {
+        self.names.reserve(objects)?;
+        self.places.reserve(objects)?;
+        self.facts.reserve(objects.saturating_mul(2))
     }
 
     /// The names of the objects, each at its object's place.
@@ -122,15 +132,13 @@ impl Facts {
         ensures values { self.new.known.values ≡ self.old.known.values }
         ensures err { OnErr result (self.new ≡ self.old) }
     {
-        if let Some(object) = self.object_of(name.bytes()) {
-            return Ok(object);
-        }
-        let object = Obj::new(self.names.len() as u32);
         let bytes = Vec::from_slice(self.alloc, name.bytes())?;
         self.names.reserve(1)?;
-        self.places.insert(bytes)?;
-        self.names.push(name)?;
-        Ok(object)
+        let (place, fresh) = self.places.insert_full(bytes)?;
+        if fresh {
+            self.names.push(name)?;
+        }
+        Ok(Obj::new(place as u32))
     }
 
     /// Puts a fact behind the others, and answers true, or answers false where it is there. Fails only

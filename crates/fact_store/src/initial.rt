@@ -1,6 +1,6 @@
 //! What is known at first: the declared objects with their types, the static atoms and the values of functions.
-ghost use Rattle.std.specs.Prelude.{◌≡◌, ◌≤◌, ◌<◌, ◌++◌, ◌∷◌, [], map, filter, length, true, slice_get, option_map, unwrap_or, OnOk};
-ghost use Rattle.std.specs.List.{flat_map, list_all};
+ghost use Rattle.std.specs.Prelude.{◌≡◌, ◌==◌, ◌≤◌, ◌<◌, ◌++◌, ◌∷◌, [], map, filter, length, true, slice_get, option_map, unwrap_or, OnOk};
+ghost use Rattle.std.specs.List.{flat_map, list_all, list_any};
 ghost use Rattle.task_model.specs.Fit.{is_fit_fact, is_fit_value};
 ghost use Rattle.task_model.specs.Initial.{type_facts, declared_types, is_static};
 ghost use Rattle.task_model.specs.Known.{IsIn, type_fact, with_fact, with_facts, with_values};
@@ -70,6 +70,13 @@ fn supertypes(domain: &Domain, sort: u32) -> &[u32]
     }
 }
 
+/// Whether `object` is the type or one of its supertypes.
+fn has_object(sort: u32, above: &[u32]) -> bool
+    ensures { result ≡ list_any (λ s. s == 0) (sort ∷ above.now) }
+{
+    sort == 0 || above.contains(&0)
+}
+
 /// Puts behind the facts that the object has the type, with all supertypes and `object`. The object has a name.
 /// Fails only where memory is wanting; then some of it may be known.
 pub fn add_supertypes(
@@ -84,12 +91,24 @@ pub fn add_supertypes(
     ensures names { OnOk result (facts.new.known.names ≡ facts.old.known.names) }
     ensures values { OnOk result (facts.new.known.values ≡ facts.old.known.values) }
 {
+    let above = supertypes(domain, sort);
     add_type(facts, alloc, sort, object)?;
-    add_types(facts, alloc, supertypes(domain, sort), object)?;
+    add_types(facts, alloc, above, object)?;
+    if has_object(sort, above) {
+        return Ok(());
+    }
     add_type(facts, alloc, 0, object)
 }
 
-/// The types of a declared object.
+/// Whether there is a type among these, and nothing above `object`.
+fn is_typed(domain: &Domain, sorts: &[u32]) -> bool
+    ensures typed { result ≡ true → 0 < length sorts.now }
+    ensures top { result ≡ true → length (unwrap_or (option_map (λ s. s.above) (slice_get domain.now.sorts 0)) []) ≡ 0 }
+{
+    !sorts.is_empty() && supertypes(domain, 0).is_empty()
+}
+
+/// The types of a declared object. One with a type has got `object` with that.
 fn add_object(
     facts: &mut Facts,
     alloc: Global,
@@ -104,6 +123,9 @@ fn add_object(
 {
     for sort in declared.sorts.as_slice() {
         add_supertypes(facts, alloc, domain, *sort, object)?;
+    }
+    if is_typed(domain, declared.sorts.as_slice()) {
+        return Ok(());
     }
     add_supertypes(facts, alloc, domain, 0, object)
 }

@@ -10,3 +10,4 @@ pub mod Logs
 pub mod ScriptHostState
 pub mod Replies
 pub mod SureHostState
+pub mod HeldLines

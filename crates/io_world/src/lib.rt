@@ -8,6 +8,7 @@ mod call_log;
 mod conversation;
 mod fault_count;
 mod files;
+mod held_line;
 mod host;
 mod lookup;
 mod mem_files;

@@ -11,7 +11,7 @@ use std::alloc::Global;
 use std::io::Read;
 use std::{fs, rt};
 
-const PIECE: usize = 4096;
+const PIECE: usize = 65_536;
 
 /// The files of a runtime. It tells nothing of what they hold, nor which were asked for.
 #[derive(Drop)]

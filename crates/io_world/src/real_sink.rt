@@ -5,15 +5,17 @@ ghost use Rattle.io_world.specs.Faults.{last_count, HasCause, Counts};
 ghost use Rattle.io_world.specs.declared.sink.SinkFault.TheVariants.{Failed};
 
 use crate::fault_count::FaultCount;
-use crate::retry::write_some;
+use crate::held_line::HeldLine;
 use crate::sink::{Sink, SinkFault};
 use std::io;
 
-/// Standard output. It tells nothing of what it took. A write that fails, or takes nothing, is a
-/// fault; one that was interrupted is done again.
+/// Standard output. It tells nothing of what it took. It holds the beginning of a line until the line feed comes or 4,096 bytes
+/// are held, and a whole line is written at once. A write that fails, or takes nothing, is a fault, and what was held is lost;
+/// one that was interrupted is done again.
 #[derive(Drop)]
 pub struct RealSink<R> {
     rt: R,
+    line: HeldLine,
     faults: FaultCount,
 }
 
@@ -24,6 +26,7 @@ impl<R: Print + Drop> RealSink<R> {
     {
         RealSink {
             rt,
+            line: HeldLine::new(),
             faults: FaultCount::new(),
         }
     }
@@ -41,7 +44,7 @@ impl<R: Print + Drop> Sink for RealSink<R> {
         ensures cause { HasCause Failed last_count self.old.faults self.new.faults result }
         ensures counts { Counts Failed last_count self.old.faults self.new.faults result }
     {
-        if let Some(count) = write_some(&mut io::writer(&self.rt), bytes) {
+        if let Some(count) = self.line.write(&mut io::writer(&self.rt), bytes) {
             return Ok(count);
         }
         self.faults.raise();

@@ -29,9 +29,9 @@ add_values-requires c =
 pub returns : goal.returns
 returns c =
     let names = c.in_ok-add_values.ensures.names ∙ c.in_ok-add_static.ensures.names ∙ c.in_ok-add_objects.ensures.names ∙ c.in_ok-add_names.ensures.names ∙ ap (map (λ d. d.name)) c.as_slice.ensures in
-    let no_facts = c.in_ok-add_names.ensures.facts ∙ ap (λ k. k.facts) c.empty-facts.ensures in
+    let no_facts = c.in_ok-add_names.ensures.facts ∙ ap (λ s. s.known.facts) c.reserve.ensures ∙ ap (λ k. k.facts) c.empty-facts.ensures in
     let facts = c.in_ok-add_values.ensures.facts ∙ c.in_ok-add_static.ensures.facts
     ∙ (λ i. with_facts ((c.in_ok-add_objects.ensures.facts ∙ (λ j. with_facts (no_facts j) (declared_types c.args.task.now.domain 0 (c.as_slice-2.ensures j)))) i) (filter (is_static c.args.task.now.domain) (c.as_slice-3.ensures i))) in
-    let no_values = c.in_ok-add_static.ensures.values ∙ c.in_ok-add_objects.ensures.values ∙ c.in_ok-add_names.ensures.values ∙ ap (λ k. k.values) c.empty-facts.ensures in
+    let no_values = c.in_ok-add_static.ensures.values ∙ c.in_ok-add_objects.ensures.values ∙ c.in_ok-add_names.ensures.values ∙ ap (λ s. s.known.values) c.reserve.ensures ∙ ap (λ k. k.values) c.empty-facts.ensures in
     let values = c.in_ok-add_values.ensures.values ∙ (λ i. with_values (no_values i) (c.as_slice-4.ensures i)) in
     all_at_first c.args.task.now c.add_values.new.facts.known names facts values
