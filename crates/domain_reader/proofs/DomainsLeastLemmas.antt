@@ -10,7 +10,8 @@ use Rattle.form_reader.specs.declared.items.TextKind.TheVariants.{Domain as Doma
 use Rattle.form_reader.specs.Texts.{form_faults}
 use Rattle.task_model.specs.declared.domain.Domain.{Domain}
 use Rattle.domain_reader.specs.Domains.{AnswersDerived, AnswersNames, AnswersTypes, AreNameFaults, IsDomainAnswered, IsDomainBy, IsDomainRead, domain_names, of_names, plain_names}
-use Rattle.domain_reader.specs.Tables.{body_of, vocabulary_of}
+use Rattle.domain_reader.specs.Tables.{vocabulary_of}
+use Rattle.name_tables.specs.Texts.{body_of}
 
 pub all_names : (v : Vocabulary) (body : Trees) (plain types answered : Option Fault) → plain ≡ least_fault (plain_names v body) → AnswersTypes v body plain types → AnswersDerived v body types answered → AnswersNames v body answered
 all_names v body plain types answered e t d =

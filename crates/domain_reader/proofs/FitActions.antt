@@ -33,11 +33,13 @@ use Rattle.name_tables.proofs.FitGroups.{few_places, scope_bound, sorts_as_long}
 use Rattle.name_tables.proofs.FitTerms.{AreFilled, Knows, filled_first}
 use Rattle.name_tables.proofs.NoFaultLemmas.{chosen, met, some_fault}
 use Rattle.name_tables.proofs.NamesLemmas.{name_there, same_name, has_with}
-use Rattle.domain_reader.proofs.FitItems.{AreClean, IsClean, inner_shallow}
+use Rattle.domain_reader.proofs.FitItems.{AreClean, IsClean}
+use Rattle.name_tables.proofs.TextsLemmas.{inner_shallow}
 use Rattle.domain_reader.proofs.FitEffects.{ArePlain, IsDone, effect_done, is_free}
 use Rattle.domain_reader.proofs.FitNames.{known_with}
 use Rattle.domain_reader.specs.Domains.{action_of, actions_of, done_by, nothing_done}
-use Rattle.domain_reader.specs.Names.{action_names, is_action, keys_names, once, parameters_of, repeated_names, second_actions, seen_once, value_at, value_names}
+use Rattle.domain_reader.specs.Names.{action_names, is_action, keys_names, once, parameters_of, second_actions, seen_once, value_names}
+use Rattle.name_tables.specs.Texts.{value_at, repeated_names}
 
 -- ---- the value of a key
 

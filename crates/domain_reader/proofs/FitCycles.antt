@@ -34,10 +34,11 @@ use Rattle.name_tables.proofs.NamesLemmas.{place_within}
 use Rattle.domain_reader.proofs.FitItems.{AreClean, IsClean}
 use Rattle.domain_reader.proofs.FitEdges.{is_candidate, none_cyclic, put_gets, put_keeps}
 use Rattle.domain_reader.proofs.FitRules.{derived_rule, place_used, rule_body, rule_pred, rule_there}
-use Rattle.domain_reader.specs.Cycles.{CycleFaults, bodies_in, body_put, derived_edges, derived_in, derived_item, derived_place, mention_put, mentions_in, no_edges}
+use Rattle.domain_reader.specs.Cycles.{bodies_in, body_put, derived_edges, derived_in, derived_item, derived_place, mention_put, mentions_in, no_edges}
+use Rattle.name_tables.specs.Cycles.{CycleFaults}
 use Rattle.domain_reader.specs.Domains.{rule_of, rules_of}
 use Rattle.domain_reader.specs.Tables.{headed, is_derived}
-use Rattle.domain_reader.specs.declared.cycles.Candidate.{Candidate}
+use Rattle.name_tables.specs.declared.cycles.Candidate.{Candidate}
 
 -- ---- edges of the mentioned predicates
 

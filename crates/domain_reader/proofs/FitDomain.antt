@@ -1,10 +1,10 @@
 -- A domain that is read of a tree as texts give it is fit.
-use Rattle.std.proofs.Common.{◌≡◌, true, [], ◌++◌, map, length, sym, subst, arith, le-leb, Result, Ok, Err, IfOk}
+use Rattle.std.proofs.Common.{◌≡◌, ◌≤◌, true, [], ◌++◌, map, length, sym, subst, arith, le-leb, Result, Ok, Err, IfOk}
 use Rattle.std.specs.List.{list_all}
 use Rattle.std.proofs.lemmas.Bool.{and_from}
 use Rattle.lemmas.proofs.Members.{append_nil_first, append_nil_second}
 use Rattle.sexpr_text.specs.declared.tree.Tree.{Tree}
-use Rattle.sexpr_text.specs.Trees.{Trees, nothing, tree}
+use Rattle.sexpr_text.specs.Trees.{Trees, nothing, depth, size, tree}
 use Rattle.task_model.specs.Fit.{AreNames, IsFitDomain, is_fit_action, is_fit_item, is_name, is_short}
 use Rattle.task_model.specs.declared.domain.Action.{Action}
 use Rattle.task_model.specs.declared.domain.Domain.{Domain}
@@ -14,17 +14,20 @@ use Rattle.form_reader.specs.declared.items.TextKind.TheVariants as text
 use Rattle.name_tables.specs.Sizes.{IsBounded}
 use Rattle.name_tables.specs.declared.vocabulary.Vocabulary.{Vocabulary}
 use Rattle.name_tables.proofs.OneTreeLemmas.{tree_there}
-use Rattle.domain_reader.proofs.FitItems.{AreClean, body_shallow, body_small, items_clean, text_formed}
+use Rattle.domain_reader.proofs.FitItems.{AreClean, items_clean, text_formed}
+use Rattle.name_tables.proofs.TextsLemmas.{body_less, body_shallow}
 use Rattle.domain_reader.proofs.FitActions.{actions_fit, actions_long, actions_named}
 use Rattle.domain_reader.proofs.FitCycles.{rules_acyclic}
 use Rattle.domain_reader.proofs.FitLists.{constants_fit, functions_fit, knows, predicates_fit}
 use Rattle.domain_reader.proofs.FitRoles.{few_derived, not_derived}
 use Rattle.domain_reader.proofs.FitRules.{rules_fit, rules_long}
 use Rattle.domain_reader.proofs.FitSorts.{types_fit}
-use Rattle.domain_reader.specs.Cycles.{CycleFaults, derived_edges, derived_in, listed_in, type_edges}
+use Rattle.domain_reader.specs.Cycles.{derived_edges, derived_in, listed_in, type_edges}
+use Rattle.name_tables.specs.Cycles.{CycleFaults}
 use Rattle.domain_reader.specs.Domains.{AreNameFaults, IsDomainRead, DomainReads, actions_of, domain_names, plain_names, rules_of}
 use Rattle.domain_reader.specs.Names.{items_names, second_actions, second_items, second_signatures, too_many_derived}
-use Rattle.domain_reader.specs.Tables.{body_of, heads_in}
+use Rattle.domain_reader.specs.Tables.{heads_in}
+use Rattle.name_tables.specs.Texts.{body_of}
 use Rattle.domain_reader.specs.declared.once.Declared.TheVariants.{Predicates, Functions}
 
 -- what no name fault means
@@ -66,8 +69,8 @@ fit_domain t d there read bounded =
     let named = all_named v body read.named in
     let parts = read.domain.parts in
     let clean : AreClean v heads body = items_clean v heads body formed.items named.items in
-    let small = body_small t bounded in
-    let shallow = body_shallow t bounded in
+    let small : size body ≤ 4194304 = omega (arith, body_less t, bounded.small) in
+    let shallow : depth body ≤ 63 = omega (arith, body_shallow t, bounded.shallow) in
     let known = knows t d heads clean small parts in
     let rules : list_all (is_fit_item d) d.derived ≡ true = subst (λ rs. list_all (is_fit_item d) rs ≡ true) (sym parts.derived) (rules_fit v d known heads body clean (omega (arith, small)) (omega (arith, shallow))) in
     let actions : list_all (is_fit_action d) d.actions ≡ true =

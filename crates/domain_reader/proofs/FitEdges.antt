@@ -10,8 +10,8 @@ use Rattle.name_tables.specs.Graphs.{HasWay, leads}
 use Rattle.name_tables.proofs.GraphsOrderLemmas.{in_with, with_in}
 use Rattle.name_tables.proofs.FitDeclared.{put_behind}
 use Rattle.name_tables.proofs.NoFaultLemmas.{some_fault}
-use Rattle.domain_reader.specs.Cycles.{CycleFaults, no_more, cyclic, free}
-use Rattle.domain_reader.specs.declared.cycles.Candidate.{Candidate}
+use Rattle.name_tables.specs.Cycles.{CycleFaults, no_more, cyclic, free}
+use Rattle.name_tables.specs.declared.cycles.Candidate.{Candidate}
 
 -- ---- one more edge
 

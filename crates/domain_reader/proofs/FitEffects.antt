@@ -23,7 +23,7 @@ use Rattle.form_reader.specs.Faults.{number, shape, unsupported}
 use Rattle.form_reader.specs.Rows.{application_faults, end_faults, head_of, inner_of, row_faults, tail_of}
 use Rattle.form_reader.specs.Words.{effect_head_of, is_number, is_predicate_name, is_refused_effect}
 use Rattle.name_tables.specs.Names.{has_name, place_of}
-use Rattle.name_tables.specs.Terms.{application_names, declared_place, terms_names, terms_of, use_names, width}
+use Rattle.name_tables.specs.Terms.{application_names, declared_place, terms_names, terms_of, use_names, width, pattern_of}
 use Rattle.name_tables.specs.Variables.{unless}
 use Rattle.name_tables.specs.Vocabulary.{arity_of}
 use Rattle.name_tables.specs.declared.vocabulary.Vocabulary.{Vocabulary}
@@ -33,7 +33,7 @@ use Rattle.name_tables.proofs.NamesLemmas.{name_there, place_named, same_name}
 use Rattle.name_tables.proofs.VariablesWidthLemmas.{name_long}
 use Rattle.domain_reader.proofs.FitNames.{predicate_name}
 use Rattle.domain_reader.proofs.FitRules.{place_used}
-use Rattle.domain_reader.specs.Effects.{Done, added, after_effect, after_effects, changed_names, charged, cost_names, cost_of, effect_names, effects_names, is_derived_name, negated_names, pattern_of, taken}
+use Rattle.domain_reader.specs.Effects.{Done, added, after_effect, after_effects, changed_names, charged, cost_names, cost_of, effect_names, effects_names, is_derived_name, negated_names, taken}
 
 -- ---- words
 

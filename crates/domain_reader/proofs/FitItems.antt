@@ -17,21 +17,8 @@ use Rattle.name_tables.specs.declared.vocabulary.Vocabulary.{Vocabulary}
 use Rattle.name_tables.proofs.NoFaultLemmas.{chosen, some_fault}
 use Rattle.name_tables.proofs.TitleLemmas.{one_name}
 use Rattle.domain_reader.specs.Names.{body_names, items_names}
-use Rattle.domain_reader.specs.Tables.{body_of, name_of}
-
--- ---- sizes
-
-pub inner_shallow : (ts : Trees) → depth (inner_of ts) ≤ depth ts - 1
-inner_shallow nothing = omega arith
-inner_shallow (word text at rest) = omega arith
-inner_shallow (list items at rest) = omega arith
-
--- the items of a text: no larger than it, and one level less deep
-pub body_small : (t : Trees) → IsBounded t → size (body_of t) ≤ 4194304
-body_small t b = omega (arith, tail_small (tail_of (inner_of t)), tail_small (inner_of t), inner_small t, b.small)
-
-pub body_shallow : (t : Trees) → IsBounded t → depth (body_of t) ≤ 63
-body_shallow t b = omega (arith, tail_shallow (tail_of (inner_of t)), tail_shallow (inner_of t), inner_shallow t, b.shallow)
+use Rattle.domain_reader.specs.Tables.{name_of}
+use Rattle.name_tables.specs.Texts.{body_of}
 
 -- ---- whole texts
 

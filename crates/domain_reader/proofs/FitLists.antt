@@ -15,7 +15,7 @@ use Rattle.form_reader.specs.declared.items.Item.TheVariants as item
 use Rattle.form_reader.specs.declared.items.TextKind.TheVariants as text
 use Rattle.form_reader.specs.Items.{item_of}
 use Rattle.form_reader.specs.Rows.{head_of, tail_of}
-use Rattle.name_tables.specs.Declarations.{Typed, declare_each, signature_list}
+use Rattle.name_tables.specs.Declarations.{Typed, declare_each, signature_list, no_typed}
 use Rattle.name_tables.specs.Names.{Signed}
 use Rattle.name_tables.specs.Variables.{named_sorts, named_words}
 use Rattle.name_tables.specs.declared.vocabulary.Vocabulary.{Vocabulary}
@@ -25,8 +25,9 @@ use Rattle.domain_reader.proofs.FitItems.{AreClean, IsClean}
 use Rattle.domain_reader.proofs.FitNames.{AreTables, IsSigned, tables_fit}
 use Rattle.domain_reader.proofs.FitSorts.{sorts_many}
 use Rattle.domain_reader.specs.Cycles.{type_edges}
-use Rattle.domain_reader.specs.Domains.{ArePartsOf, constants_in, is_constants, no_typed}
-use Rattle.domain_reader.specs.Tables.{body_of, no_names, vocabulary_of, with_item, with_items}
+use Rattle.domain_reader.specs.Domains.{ArePartsOf, constants_in, is_constants}
+use Rattle.domain_reader.specs.Tables.{no_names, vocabulary_of, with_item, with_items}
+use Rattle.name_tables.specs.Texts.{body_of}
 
 -- ---- predicates and functions
 

@@ -33,9 +33,10 @@ use Rattle.name_tables.proofs.GraphsLemmas.{number_there}
 use Rattle.domain_reader.proofs.FitItems.{AreClean, IsClean}
 use Rattle.domain_reader.proofs.FitEdges.{is_candidate, none_cyclic, put_keeps, put_leads, way_joined, way_within}
 use Rattle.domain_reader.proofs.FitNames.{Known, known_with, rest_formed, tables_fit}
-use Rattle.domain_reader.specs.Cycles.{AreSorts, no_sorts, more_sorts, CycleFaults, IsAbove, edge_put, edges_each, edges_in, first_edges, is_types, listed_in, listed_row, type_edges, under_object}
+use Rattle.domain_reader.specs.Cycles.{AreSorts, no_sorts, more_sorts, IsAbove, edge_put, edges_each, edges_in, first_edges, is_types, listed_in, listed_row, type_edges, under_object}
+use Rattle.name_tables.specs.Cycles.{CycleFaults}
 use Rattle.domain_reader.specs.Tables.{no_names, types_in, with_item, with_items, vocabulary_of}
-use Rattle.domain_reader.specs.declared.cycles.Candidate.{Candidate}
+use Rattle.name_tables.specs.declared.cycles.Candidate.{Candidate}
 
 -- ---- each word of `:types` is a type
 

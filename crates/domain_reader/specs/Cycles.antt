@@ -2,45 +2,19 @@
 use Rattle.std.specs.Prelude.{◌≡◌, ℕ, zero, suc, ◌+◌, Bool, true, false, ◌&&◌, not, ◌==◌, if◌then◌else◌, List, [], ◌∷◌, ◌++◌, Option, Some, None}
 use Rattle.sexpr_text.specs.Trees.{Trees, nothing, word, list}
 use Rattle.task_model.specs.declared.domain.Sort as sort
-use Rattle.form_reader.specs.declared.fault.Fault.{Fault}
-use Rattle.form_reader.specs.declared.fault.InputKind.{InputKind}
 use Rattle.form_reader.specs.declared.groups.Spot.{Spot}
 use Rattle.form_reader.specs.declared.groups.Spot.TheVariants.{Start}
 use Rattle.form_reader.specs.declared.items.Item.{Item}
 use Rattle.form_reader.specs.declared.items.Item.TheVariants as item
 use Rattle.form_reader.specs.declared.items.TextKind.TheVariants.{Domain}
-use Rattle.form_reader.specs.Faults.{first, sooner}
 use Rattle.form_reader.specs.Items.{item_of}
 use Rattle.form_reader.specs.Rows.{after_word, head_of, tail_of}
 use Rattle.name_tables.specs.Declarations.{number_put}
-use Rattle.name_tables.specs.Graphs.{AreReached, HasWay, IsCyclic, ascending}
+use Rattle.name_tables.specs.Graphs.{AreReached, ascending}
 use Rattle.name_tables.specs.Names.{has_name, place_of}
 use Rattle.name_tables.specs.Variables.{is_named, named_sorts, named_words, seen_after, seen_with, sort_of}
 use Rattle.domain_reader.specs.Tables.{headed, is_derived}
-use Rattle.domain_reader.specs.declared.cycles.Candidate.{Candidate}
-
--- ---- faults of cycles
-
--- Of candidates, each a number with the place of its fault, those have the fault from which a way leads back.
-pub data CycleFaults (kind : InputKind) (edges : List (List ℕ)) : List Candidate → List Fault → Type 0 where
-  no_more : CycleFaults kind edges [] []
-  cyclic : {c : Candidate} {cs : List Candidate} {fs : List Fault} → HasWay edges c.node c.node → CycleFaults kind edges cs fs → CycleFaults kind edges (c ∷ cs) (record { place = c.place; kind = kind } ∷ fs)
-  free : {c : Candidate} {cs : List Candidate} {fs : List Fault} → ¬ (HasWay edges c.node c.node) → CycleFaults kind edges cs fs → CycleFaults kind edges (c ∷ cs) fs
-
-abbrev pub with_fault : Bool → Fault → Option Fault → Option Fault
-with_fault there f so_far = if there then sooner so_far f else so_far
-
--- the answered one of a fault so far and of that of one candidate
-pub record AnswersCycle (kind : InputKind) (edges : List (List ℕ)) (c : Candidate) (so_far answered : Option Fault) : Type 0 where
-  pub there : Bool
-  pub right : IsCyclic edges c.node there
-  pub least : answered ≡ with_fault there (record { place = c.place; kind = kind }) so_far
-
--- the answered one of a fault so far and of such faults
-pub record AnswersCycles (kind : InputKind) (edges : List (List ℕ)) (cs : List Candidate) (so_far answered : Option Fault) : Type 0 where
-  pub faults : List Fault
-  pub right : CycleFaults kind edges cs faults
-  pub least : answered ≡ first so_far faults
+use Rattle.name_tables.specs.declared.cycles.Candidate.{Candidate}
 
 -- ---- types
 

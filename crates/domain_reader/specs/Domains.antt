@@ -23,15 +23,17 @@ use Rattle.form_reader.specs.Items.{item_of}
 use Rattle.form_reader.specs.Rows.{head_of, inner_of, tail_of}
 use Rattle.form_reader.specs.Texts.{form_faults}
 use Rattle.name_tables.specs.Conditions.{condition_of, single_of}
-use Rattle.name_tables.specs.Declarations.{Typed, declare_each, declared_list, signature_list}
+use Rattle.name_tables.specs.Declarations.{Typed, declare_each, declared_list, signature_list, no_typed}
 use Rattle.name_tables.specs.Terms.{declared_place}
 use Rattle.name_tables.specs.Variables.{named_sorts, named_words}
 use Rattle.name_tables.specs.declared.vocabulary.Vocabulary.{Vocabulary}
 use Rattle.domain_reader.specs.declared.once.Declared.TheVariants.{Predicates, Functions}
-use Rattle.domain_reader.specs.Cycles.{AnswersCycles, AreSorts, CycleFaults, derived_edges, derived_in, listed_in, type_edges}
+use Rattle.domain_reader.specs.Cycles.{AreSorts, derived_edges, derived_in, listed_in, type_edges}
+use Rattle.name_tables.specs.Cycles.{CycleFaults, AnswersCycles}
 use Rattle.domain_reader.specs.Effects.{Done, after_effect}
-use Rattle.domain_reader.specs.Names.{is_action, items_names, parameters_of, second_actions, second_items, second_signatures, too_many_derived, value_at}
-use Rattle.domain_reader.specs.Tables.{body_of, heads_in, is_derived, name_of, vocabulary_of}
+use Rattle.domain_reader.specs.Names.{is_action, items_names, parameters_of, second_actions, second_items, second_signatures, too_many_derived}
+use Rattle.domain_reader.specs.Tables.{heads_in, is_derived, name_of, vocabulary_of}
+use Rattle.name_tables.specs.Texts.{body_of, value_at}
 
 -- ---- name faults
 
@@ -115,9 +117,6 @@ abbrev pub rules_of : Vocabulary → Trees → List rule.Derived
 rules_of v nothing = []
 rules_of v (word w at rest) = rules_of v rest
 rules_of v (list items at rest) = (if is_derived (item_of text.Domain (head_of items)) then rule_of v (tail_of items) ∷ [] else []) ++ rules_of v rest
-
-abbrev pub no_typed : Typed
-no_typed = record { names = []; sorts = [] }
 
 abbrev pub constants_of : List (List ℕ) → Trees → List declared.Declared
 constants_of sorts body = declared_list (constants_in sorts no_typed body).names (constants_in sorts no_typed body).sorts

@@ -11,7 +11,7 @@ use Rattle.form_reader.specs.Effects.{by_effect}
 use Rattle.form_reader.specs.Rows.{head_of, inner_of, tail_of}
 use Rattle.form_reader.specs.Words.{effect_head_of, is_number}
 use Rattle.name_tables.specs.Names.{has_name}
-use Rattle.name_tables.specs.Terms.{application_names, declared_place, terms_of}
+use Rattle.name_tables.specs.Terms.{application_names, declared_place, pattern_of, terms_of}
 use Rattle.name_tables.specs.Variables.{unless}
 use Rattle.name_tables.specs.declared.vocabulary.Vocabulary.{Vocabulary}
 
@@ -56,9 +56,6 @@ pub record Done : Type 0 where
   pub costs : List CostTerm
 
 module _ (v : Vocabulary) (scope : List (List ℕ)) where
-  abbrev pub pattern_of : Trees → Pattern
-  pattern_of items = record { pred = declared_place v.predicates (head_of items); args = terms_of v.objects scope (tail_of items) }
-
   -- a number, or a function term
   abbrev pub cost_of : Trees → CostTerm
   cost_of nothing = Number 0
@@ -66,10 +63,10 @@ module _ (v : Vocabulary) (scope : List (List ℕ)) where
   cost_of (list items at rest) = Value (declared_place v.functions (head_of items)) (terms_of v.objects scope (tail_of items))
 
   abbrev pub added : Done → Trees → Done
-  added c items = record c { adds = c.adds ++ pattern_of items ∷ [] }
+  added c items = record c { adds = c.adds ++ pattern_of v scope items ∷ [] }
 
   abbrev pub taken : Done → Trees → Done
-  taken c items = record c { deletes = c.deletes ++ pattern_of items ∷ [] }
+  taken c items = record c { deletes = c.deletes ++ pattern_of v scope items ∷ [] }
 
   abbrev pub charged : Done → Trees → Done
   charged c rest = record c { costs = c.costs ++ cost_of rest ∷ [] }

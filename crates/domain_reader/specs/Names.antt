@@ -19,6 +19,7 @@ use Rattle.form_reader.specs.Rows.{head_of, inner_of, tail_of}
 use Rattle.name_tables.specs.Conditions.{condition_names, conditions_names}
 use Rattle.name_tables.specs.Names.{has_name, with_name}
 use Rattle.name_tables.specs.Terms.{use_names}
+use Rattle.name_tables.specs.Texts.{repeated_names, value_at}
 use Rattle.name_tables.specs.Variables.{doubles_names, named_words, scope_names, types_names, unless, variables_names}
 use Rattle.name_tables.specs.Vocabulary.{arity_of}
 use Rattle.name_tables.specs.declared.vocabulary.Vocabulary.{Vocabulary}
@@ -63,12 +64,6 @@ derived_names v (list items at rest) = head_names v at items ++ conditions_names
 
 -- ---- actions
 
--- the value of the first key that is this word, nothing where there is none
-abbrev pub value_at : List ℕ → Trees → Trees
-value_at key nothing = nothing
-value_at key (word text at rest) = if bytes_eq text key then inner_of rest else value_at key rest
-value_at key (list items at rest) = value_at key rest
-
 -- the parameters of an action with these keys
 abbrev pub parameters_of : Trees → Trees
 parameters_of keys = value_at (codes ":parameters") keys
@@ -91,12 +86,6 @@ abbrev pub keys_names : Vocabulary → (heads scope : List (List ℕ)) → Key �
 keys_names v heads scope k nothing = []
 keys_names v heads scope k (word text at rest) = keys_names v heads scope (key_of Action text) rest
 keys_names v heads scope k (list items at rest) = value_names v heads scope k at items ++ keys_names v heads scope k rest
-
--- no word stands twice in a row, where these were seen before
-abbrev pub repeated_names : List (List ℕ) → Trees → List Fault
-repeated_names seen nothing = []
-repeated_names seen (word text at rest) = unless (not (has_name text seen)) Duplicate at ++ repeated_names (with_name seen text) rest
-repeated_names seen (list items at rest) = repeated_names seen rest
 
 -- akey*, behind the action's name
 abbrev pub action_names : Vocabulary → List (List ℕ) → Trees → List Fault

@@ -12,10 +12,6 @@ use Rattle.name_tables.specs.Names.{Signed, with_name, with_signature}
 use Rattle.name_tables.specs.Variables.{named_words, seen_after}
 use Rattle.name_tables.specs.declared.vocabulary.Vocabulary.{Vocabulary}
 
--- the items of a text that is this row of one tree
-abbrev pub body_of : Trees → Trees
-body_of t = tail_of (tail_of (inner_of t))
-
 -- the text's name
 abbrev pub name_of : Trees → List ℕ
 name_of t = head_of (tail_of (inner_of (tail_of (inner_of t))))

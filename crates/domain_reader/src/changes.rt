@@ -4,7 +4,7 @@ ghost use Rattle.sexpr_text.specs.Trees.{trees};
 ghost use Rattle.domain_reader.specs.Effects as specs;
 
 use form_reader::{EffectHead, effect_head_of, head_of, inner_of, number_of, tail_of};
-use name_tables::{Scope, Vocabulary, declared_place, terms_of};
+use name_tables::{Scope, Vocabulary, declared_place, pattern_of, terms_of};
 use sexpr_text::{Front, Tree, front_of};
 use std::alloc::{AllocError, Global};
 use std::marker::Model;
@@ -37,23 +37,6 @@ impl Changes {
             costs: Vec::new(alloc),
         }
     }
-}
-
-/// The atom that a list of these trees is.
-pub(crate) fn pattern_of(
-    alloc: Global,
-    names: &Vocabulary,
-    scope: &Scope,
-    items: &[Tree],
-) -> Result<Pattern, AllocError>
-    ensures { IfOk result (λ p. p ≡ specs.pattern_of names.now scope.now (trees items.now)) }
-{
-    let pred = declared_place(&names.predicates, head_of(items))?;
-    let args = terms_of(alloc, &names.objects, scope, tail_of(items))?;
-    Ok(Pattern {
-        pred,
-        args: Seq::from_vec(args),
-    })
 }
 
 /// The cost that stands first in a row.

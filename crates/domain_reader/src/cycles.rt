@@ -6,66 +6,14 @@ ghost use Rattle.name_tables.specs.Variables.{named_sorts as sorts_in, named_wor
 ghost use Rattle.domain_reader.specs.Cycles as specs;
 
 use crate::tables::{headed, is_derived};
-use form_reader::{Fault, InputKind, Item, Spot, TextKind, head_of, sooner, tail_of};
+use form_reader::{Item, Spot, TextKind, head_of, tail_of};
 use name_tables::{
-    NameTable, Signatures, ascending, is_cyclic, is_named, named_sorts, number, put_number,
+    Candidate, NameTable, Signatures, ascending, is_named, named_sorts, number, put_number,
     reached_from, sort_of,
 };
 use sexpr_text::{Front, Tree, front_of};
 use std::alloc::{AllocError, Global};
 use task_model::{Name, Seq, Sort};
-
-/// A number that may be on a cycle, and the place of the fault that it has then.
-#[derive(Clone, Copy, Debug, PartialEq, Eq)]
-pub(crate) struct Candidate {
-    pub(crate) node: u32,
-    pub(crate) place: usize,
-}
-
-/// Adds a fault of this kind if the candidate is on a cycle. Fails only where memory is wanting.
-fn check_cycle(
-    alloc: Global,
-    kind: InputKind,
-    edges: &[Seq<u32>],
-    candidate: Candidate,
-    so_far: Option<Fault>,
-) -> Result<Option<Fault>, AllocError>
-    ensures { IfOk result (λ f. specs.AnswersCycle kind edges.now candidate so_far f) }
-{
-    let cyclic = is_cyclic(alloc, edges, candidate.node)?;
-    Ok(with_fault(
-        cyclic,
-        Fault {
-            place: candidate.place,
-            kind,
-        },
-        so_far,
-    ))
-}
-
-/// Adds the fault if it is there.
-fn with_fault(there: bool, fault: Fault, so_far: Option<Fault>) -> Option<Fault>
-    ensures { result ≡ specs.with_fault there fault so_far }
-{
-    if there { sooner(so_far, fault) } else { so_far }
-}
-
-/// Adds a fault of this kind for each candidate that is on a cycle. Fails only where memory is wanting.
-pub(crate) fn check_cycles(
-    alloc: Global,
-    kind: InputKind,
-    edges: &[Seq<u32>],
-    candidates: &[Candidate],
-    so_far: Option<Fault>,
-) -> Result<Option<Fault>, AllocError>
-    ensures { IfOk result (λ f. specs.AnswersCycles kind edges.now candidates.now so_far f) }
-{
-    let mut found = so_far;
-    for candidate in candidates {
-        found = check_cycle(alloc, kind, edges, *candidate, found)?;
-    }
-    Ok(found)
-}
 
 /// Whether the item lists types.
 fn is_types(item: Item) -> bool

@@ -11,19 +11,17 @@ ghost use Rattle.domain_reader.specs.Effects.{after_effect};
 ghost use Rattle.domain_reader.specs.Domains as specs;
 
 use crate::changes::{Changes, note_effect};
-use crate::cycles::{
-    check_cycles, derived_edges, derived_items, listed_types, sorts_of, type_edges,
-};
-use crate::items::{check_items, parameters_of, value_at};
+use crate::cycles::{derived_edges, derived_items, listed_types, sorts_of, type_edges};
+use crate::items::{check_items, parameters_of};
 use crate::once::{
     Declared as Declares, check_derived_count, check_second_actions, check_second_items,
     check_second_signatures, is_action,
 };
-use crate::tables::{add_heads, body_of, is_derived, name_of, vocabulary_of};
+use crate::tables::{add_heads, is_derived, name_of, vocabulary_of};
 use form_reader::{Fault, InputKind, Item, TextKind, head_of, inner_of, tail_of};
 use name_tables::{
-    NameTable, Scope, TypedNames, Vocabulary, condition_of, declare_groups, declared_place, enter,
-    named_sorts, number, single_of,
+    NameTable, Scope, TypedNames, Vocabulary, body_of, check_cycles, condition_of, declare_groups,
+    declared_place, enter, named_sorts, number, single_of, value_at,
 };
 use sexpr_text::{Front, Tree, front_of};
 use std::alloc::{AllocError, Global};

@@ -9,14 +9,11 @@ ghost use Rattle.form_reader.specs.declared.keys.Key.TheVariants.{NoKey};
 ghost use Rattle.domain_reader.specs.Names as specs;
 
 use crate::effects::check_effect;
-use crate::once::check_repeated;
 use crate::tables::count_named;
-use form_reader::{
-    Fault, InputKind, Item, Key, Keyed, TextKind, head_of, inner_of, is_total_cost, tail_of,
-};
+use form_reader::{Fault, InputKind, Item, Key, Keyed, TextKind, head_of, is_total_cost, tail_of};
 use name_tables::{
-    NameTable, Scope, Vocabulary, check_condition, check_conditions, check_doubles, check_scope,
-    check_types, check_use, check_variables, enter, unless,
+    NameTable, Scope, Vocabulary, check_condition, check_conditions, check_doubles, check_repeated,
+    check_scope, check_types, check_use, check_variables, enter, unless, value_at,
 };
 use sexpr_text::{Front, Tree, front_of};
 use std::alloc::{AllocError, Global};
@@ -147,25 +144,6 @@ fn check_derived(
             let mut scope = Scope::new(alloc);
             enter(&mut scope, tail_of(items))?;
             check_conditions(alloc, names, &mut scope, rest, headed)
-        }
-    }
-}
-
-/// The value of the first key that is this word, or nothing.
-pub(crate) fn value_at<'a>(key: &[u8], keys: &'a [Tree]) -> &'a [Tree]
-    ensures { trees result.now ≡ specs.value_at key.now (trees keys.now) }
-{
-    let mut left = keys;
-    'keys: loop {
-        match front_of(left) {
-            Front::End => return &[],
-            Front::Word { text, rest, .. } => {
-                if text == key {
-                    return inner_of(rest);
-                }
-                left = rest;
-            }
-            Front::List { rest, .. } => left = rest,
         }
     }
 }

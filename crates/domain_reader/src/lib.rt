@@ -12,4 +12,4 @@ mod tables;
 
 pub use once::check_second_items;
 pub use reader::read_domain;
-pub use tables::{add_named, body_of, name_of};
+pub use tables::{add_named, name_of};

@@ -33,29 +33,6 @@ impl Declared {
     }
 }
 
-/// Adds to a fault so far a `Duplicate` for each word of a row that was seen before, in the row or before it. Fails only
-/// where memory is wanting.
-pub(crate) fn check_repeated(
-    seen: &mut NameTable,
-    items: &[Tree],
-    so_far: Option<Fault>,
-) -> Result<Option<Fault>, AllocError>
-    ensures { IfOk result (λ f. f ≡ first so_far (specs.repeated_names seen.old (trees items.now))) }
-{
-    let mut left = items;
-    let mut found = so_far;
-    'words: loop {
-        match front_of(left) {
-            Front::End => return Ok(found),
-            Front::Word { text, place, rest } => {
-                found = unless(seen.add(text)?, InputKind::Duplicate, place, found);
-                left = rest;
-            }
-            Front::List { rest, .. } => left = rest,
-        }
-    }
-}
-
 /// Whether an item of this kind may be there once.
 fn is_single(item: Item) -> bool
     ensures { result ≡ specs.is_single item }

@@ -6,9 +6,9 @@ ghost use Rattle.name_tables.specs.Sizes.{IsBounded};
 ghost use Rattle.domain_reader.specs.Domains as specs;
 
 use crate::domain::{check_derived, check_plain, check_types, domain_of};
-use crate::tables::{body_of, vocabulary_of};
+use crate::tables::vocabulary_of;
 use form_reader::{Fault, InputFault, TextKind, check_form};
-use name_tables::Vocabulary;
+use name_tables::{Vocabulary, body_of};
 use sexpr_text::Tree;
 use std::alloc::{AllocError, Global};
 use task_model::Domain;

@@ -3,30 +3,12 @@ ghost use Rattle.std.specs.Prelude.{◌≡◌, length, IfOk, OnOk};
 ghost use Rattle.sexpr_text.specs.Trees.{tree, trees};
 ghost use Rattle.form_reader.specs.declared.groups.Spot.TheVariants.{Start};
 ghost use Rattle.name_tables.specs.Variables.{named_words, seen_after};
-ghost use Rattle.form_reader.specs.Rows.{inner_of};
 ghost use Rattle.domain_reader.specs.Tables as specs;
 
 use form_reader::{Item, Spot, TextKind, head_of, inner_of, is_dash, is_total_cost, tail_of};
-use name_tables::{NameTable, Signatures, Vocabulary, is_named, next};
-use sexpr_text::{Front, Tree, alone, front_of};
+use name_tables::{NameTable, Signatures, Vocabulary, is_named, next, text_of};
+use sexpr_text::{Front, Tree, front_of};
 use std::alloc::{AllocError, Global};
-
-/// The trees of the list that a text is.
-fn text_of<'a>(text: &'a Tree) -> &'a [Tree]
-    ensures { trees result.now ≡ inner_of (tree text.now) }
-{
-    match alone(text) {
-        Front::End | Front::Word { .. } => &[],
-        Front::List { items, .. } => items,
-    }
-}
-
-/// The items of a text: what stands behind `define` and the title.
-pub fn body_of<'a>(text: &'a Tree) -> &'a [Tree]
-    ensures { trees result.now ≡ specs.body_of (tree text.now) }
-{
-    tail_of(tail_of(text_of(text)))
-}
 
 /// A text's name, the second word of its title, or no letters where there is none.
 pub fn name_of<'a>(text: &'a Tree) -> &'a [u8]

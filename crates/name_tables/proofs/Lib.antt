@@ -1,12 +1,14 @@
 pub mod NamesFreshLemmas
 pub mod Parted
 pub mod TitleLemmas
+pub mod TextsLemmas
 pub mod NamesUseLemmas
 pub mod VocabularyLemmas
 pub mod VariablesWidthLemmas
 pub mod VariablesCopyLemmas
 pub mod GraphsCycleLemmas
 pub mod GraphsLemmas
+pub mod CyclesLemmas
 pub mod ConditionsRowLemmas
 pub mod DeclarationsLemmas
 pub mod NoFaultLemmas

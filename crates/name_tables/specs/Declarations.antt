@@ -10,6 +10,9 @@ pub record Typed : Type 0 where
   pub names : List (List ℕ)
   pub sorts : List (List ℕ)
 
+abbrev pub no_typed : Typed
+no_typed = record { names = []; sorts = [] }
+
 abbrev pub put_number : List (List ℕ) → ℕ → ℕ → Option (List ℕ) → List (List ℕ)
 put_number lists place n None = lists
 put_number lists place n (Some old) = slice_set lists place (ascending_with old n)

@@ -2,7 +2,9 @@ pub mod Names
 pub mod Vocabulary
 pub mod Variables
 pub mod Terms
+pub mod Texts
 pub mod Conditions
 pub mod Graphs
+pub mod Cycles
 pub mod Declarations
 pub mod Sizes

@@ -3,11 +3,14 @@ use Rattle.std.specs.Prelude.{ℕ, ◌+◌, false, ◌||◌, ◌==◌, List, [],
 use Rattle.sexpr_text.specs.Trees.{Trees, nothing, word, list}
 use Rattle.task_model.specs.declared.condition.Term.{Term}
 use Rattle.task_model.specs.declared.condition.Term.TheVariants.{Slot, Object}
+use Rattle.task_model.specs.declared.domain.Pattern.{Pattern}
 use Rattle.form_reader.specs.declared.fault.Fault.{Fault}
 use Rattle.form_reader.specs.declared.fault.InputKind.TheVariants.{Unknown, Arity}
+use Rattle.form_reader.specs.Rows.{head_of, tail_of}
 use Rattle.name_tables.specs.Names.{Signed, has_name, last_place, place_of}
 use Rattle.name_tables.specs.Variables.{unless}
 use Rattle.name_tables.specs.Vocabulary.{arity_of}
+use Rattle.name_tables.specs.declared.vocabulary.Vocabulary.{Vocabulary}
 
 -- how many words and lists stand in a row
 abbrev pub width : Trees → ℕ
@@ -48,3 +51,8 @@ terms_of objects scope (list items at rest) = terms_of objects scope rest
 -- the place of a declared name
 abbrev pub declared_place : Signed → List ℕ → ℕ
 declared_place declared text = unwrap_or (place_of text declared.names) 0
+
+-- the atom that a list of these trees is
+abbrev pub pattern_of : Vocabulary → List (List ℕ) → Trees → Pattern
+pattern_of v scope items =
+    record { pred = declared_place v.predicates (head_of items); args = terms_of v.objects scope (tail_of items) }

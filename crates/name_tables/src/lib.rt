@@ -2,6 +2,7 @@
 #![tactic(auto)]
 
 mod conditions;
+mod cycles;
 mod declarations;
 mod formulas;
 mod graph;
@@ -9,10 +10,12 @@ mod names;
 mod scope;
 mod signatures;
 mod terms;
+mod texts;
 mod variables;
 mod vocabulary;
 
 pub use conditions::{check_condition, check_conditions};
+pub use cycles::{Candidate, check_cycles};
 pub use declarations::{TypedNames, declare_groups, put_number};
 pub use formulas::{condition_of, single_of};
 pub use graph::{add_ascending, ascending, is_cyclic, reached_from};
@@ -20,9 +23,10 @@ pub use names::NameTable;
 pub use scope::Scope;
 pub use signatures::Signatures;
 pub use terms::{
-    check_application, check_terms, check_use, declared_place, small_number, term_of, terms_of,
-    width,
+    check_application, check_terms, check_use, declared_place, pattern_of, small_number, term_of,
+    terms_of, width,
 };
+pub use texts::{body_of, check_repeated, text_of, value_at};
 pub use variables::{
     check_doubles, check_scope, check_types, check_variables, enter, is_named, is_type,
     named_sorts, next, number, sort_of, unless,

@@ -10,10 +10,11 @@ use crate::names::NameTable;
 use crate::scope::Scope;
 use crate::signatures::Signatures;
 use crate::variables::{next, number, unless};
-use form_reader::{Fault, InputKind};
+use crate::vocabulary::Vocabulary;
+use form_reader::{Fault, InputKind, head_of, tail_of};
 use sexpr_text::{Front, Tree, front_of};
 use std::alloc::{AllocError, Global};
-use task_model::{Obj, Term};
+use task_model::{Obj, Pattern, Seq, Term};
 
 /// How many words and lists stand in a row. Fails only where they can't be counted.
 pub fn width(items: &[Tree]) -> Result<usize, AllocError>
@@ -146,4 +147,21 @@ pub fn declared_place(declared: &Signatures, word: &[u8]) -> Result<u32, AllocEr
     ensures { IfOk result (λ place. place ≡ specs.declared_place declared.now word.now) }
 {
     number(declared.place_of(word).unwrap_or(0))
+}
+
+/// The atom that a list of these trees is. Fails only where memory is wanting.
+pub fn pattern_of(
+    alloc: Global,
+    names: &Vocabulary,
+    scope: &Scope,
+    items: &[Tree],
+) -> Result<Pattern, AllocError>
+    ensures { IfOk result (λ p. p ≡ specs.pattern_of names.now scope.now (trees items.now)) }
+{
+    let pred = declared_place(&names.predicates, head_of(items))?;
+    let args = terms_of(alloc, &names.objects, scope, tail_of(items))?;
+    Ok(Pattern {
+        pred,
+        args: Seq::from_vec(args),
+    })
 }

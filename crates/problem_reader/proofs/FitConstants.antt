@@ -3,25 +3,26 @@ use Rattle.std.proofs.Common.{◌≡◌, ℕ, zero, suc, ◌+◌, ◌<◌, ◌�
 use Rattle.std.proofs.lemmas.Bool.{cond_both}
 use Rattle.sexpr_text.specs.Trees.{Trees, nothing, word, list, size}
 use Rattle.task_model.specs.declared.domain.Domain as domain
-use Rattle.form_reader.proofs.RowsLemmas.{tail_small, inner_small}
+use Rattle.form_reader.proofs.RowsLemmas.{tail_small}
 use Rattle.form_reader.specs.declared.groups.Spot.TheVariants.{Start}
 use Rattle.form_reader.specs.declared.items.Item.{Item}
 use Rattle.form_reader.specs.declared.items.Item.TheVariants as item
 use Rattle.form_reader.specs.declared.items.TextKind.TheVariants as text
 use Rattle.form_reader.specs.declared.words.WordSort.TheVariants.{Name}
 use Rattle.form_reader.specs.Items.{body_faults, item_faults, item_of, items_faults}
-use Rattle.form_reader.specs.Rows.{groups_faults, head_of, inner_of, tail_of}
+use Rattle.form_reader.specs.Rows.{groups_faults, head_of, tail_of}
 use Rattle.form_reader.specs.Texts.{form_faults}
-use Rattle.name_tables.specs.Declarations.{Typed, declare, declare_each, declared_by, declared_list, put_number}
+use Rattle.name_tables.specs.Declarations.{Typed, declare, declare_each, declared_by, declared_list, put_number, no_typed}
 use Rattle.name_tables.specs.Graphs.{ascending_with}
 use Rattle.name_tables.specs.Names.{place_of}
 use Rattle.name_tables.specs.Variables.{named_sorts, named_words}
 use Rattle.name_tables.proofs.Parted.{none_both}
+use Rattle.name_tables.proofs.TextsLemmas.{body_less}
 use Rattle.name_tables.proofs.TitleLemmas.{titled}
 use Rattle.name_tables.proofs.FitDeclared.{list_long}
-use Rattle.domain_reader.specs.Domains.{IsDomainRead, constants_in, is_constants, no_typed}
+use Rattle.domain_reader.specs.Domains.{IsDomainRead, constants_in, is_constants}
 use Rattle.domain_reader.specs.Domains as domains
-use Rattle.domain_reader.specs.Tables.{body_of}
+use Rattle.name_tables.specs.Texts.{body_of}
 use Rattle.problem_reader.proofs.FitObjects.{AreConstants, HaveTypes}
 use Rattle.problem_reader.proofs.TablesObjectLemmas.{even_each}
 use Rattle.problem_reader.proofs.TablesAppendLemmas.{declared_length}
@@ -128,10 +129,6 @@ formed_items nothing e = refl
 formed_items (word w at rest) e = absurd (cc)
 formed_items (list items at rest) e = (titled text.Domain items at rest e).items
 
--- no larger than the text
-pub body_small : (t : Trees) → size (body_of t) ≤ size t
-body_small t = omega (arith, inner_small t, tail_small (inner_of t), tail_small (tail_of (inner_of t)))
-
 pub constants_read : (t : Trees) (d : domain.Domain) → IsDomainRead t d → size t ≤ 4194304 → AreConstants d.constants
 constants_read t d read small =
     let sorts : List (List ℕ) = (domains.domain_names t).sorts in
@@ -141,5 +138,5 @@ constants_read t d read small =
     let long : length d.constants ≡ length made.names = ap length read.domain.parts.constants ∙ list_long made.names made.sorts even in
     record {
       typed = subst HaveTypes (sym read.domain.parts.constants) (list_typed made.names made.sorts (some_in sorts no_typed (body_of t) tt));
-      few = omega (arith, long, few, small, body_small t);
+      few = omega (arith, long, few, small, body_less t);
     }

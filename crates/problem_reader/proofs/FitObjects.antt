@@ -18,7 +18,7 @@ use Rattle.form_reader.specs.declared.items.TextKind.TheVariants as text
 use Rattle.form_reader.specs.declared.words.WordSort.TheVariants.{Name}
 use Rattle.form_reader.specs.Items.{body_faults, item_faults, item_of, items_faults}
 use Rattle.form_reader.specs.Rows.{groups_faults, head_of, tail_of}
-use Rattle.name_tables.specs.Declarations.{Typed, declare, declare_each, declared_list}
+use Rattle.name_tables.specs.Declarations.{Typed, declare, declare_each, declared_list, no_typed}
 use Rattle.name_tables.specs.Names.{has_name, with_name}
 use Rattle.name_tables.specs.Variables.{named_sorts, named_words, seen_after, types_names}
 use Rattle.name_tables.specs.declared.vocabulary.Vocabulary.{Vocabulary}
@@ -28,7 +28,7 @@ use Rattle.name_tables.proofs.NamesFreshLemmas.{AreFresh, fresh_from, name_new}
 use Rattle.name_tables.proofs.Parted.{none_both}
 use Rattle.name_tables.proofs.NamesLemmas.{has_with}
 use Rattle.problem_reader.specs.Names.{body_names, items_names}
-use Rattle.problem_reader.specs.Problems.{all_typed, constants_typed, declare_all, no_typed, objects_typed}
+use Rattle.problem_reader.specs.Problems.{all_typed, constants_typed, declare_all, objects_typed}
 use Rattle.problem_reader.specs.Tables.{is_objects, objects_in, put_constants}
 use Rattle.problem_reader.proofs.TablesObjectLemmas.{names_declared, names_each, seen_put}
 use Rattle.problem_reader.proofs.TablesAppendLemmas.{BeginsWith, begins_each, begins_itself, begins_twice, declared_length, first_ones}

@@ -3,31 +3,31 @@ use Rattle.std.proofs.Common.{◌≡◌, ◌≤◌, true, ◌&&◌, List, [], �
 use Rattle.std.specs.List.{list_all}
 use Rattle.std.proofs.lemmas.Bool.{and_from, le-leb}
 use Rattle.sexpr_text.specs.declared.tree.Tree.{Tree}
-use Rattle.sexpr_text.specs.Trees.{Trees, nothing, word, list, depth, size, tree}
+use Rattle.sexpr_text.specs.Trees.{Trees, nothing, word, list, size, tree}
 use Rattle.task_model.specs.Fit.{IsFitProblem, is_fit_condition, is_fit_fact, is_fit_value, is_name, is_short}
 use Rattle.task_model.specs.declared.domain.Domain.{Domain}
 use Rattle.task_model.specs.declared.stream.Stream.{Stream}
 use Rattle.task_model.specs.declared.task.Problem.{Problem}
-use Rattle.form_reader.proofs.RowsLemmas.{tail_shallow}
 use Rattle.form_reader.specs.declared.fault.InputFault.{InputFault}
 use Rattle.form_reader.specs.declared.items.TextKind.TheVariants as text
 use Rattle.form_reader.specs.Items.{items_faults}
-use Rattle.form_reader.specs.Rows.{inner_of, tail_of}
 use Rattle.form_reader.specs.Texts.{form_faults}
 use Rattle.name_tables.specs.Sizes.{IsBounded}
+use Rattle.name_tables.proofs.TextsLemmas.{body_less, body_shallow}
 use Rattle.name_tables.specs.declared.vocabulary.Vocabulary.{Vocabulary}
 use Rattle.name_tables.proofs.OneTreeLemmas.{tree_there}
 use Rattle.name_tables.proofs.Parted.{none_both}
 use Rattle.name_tables.proofs.TitleLemmas.{titled}
 use Rattle.name_tables.proofs.VocabularyLemmas.{AreNamesOf}
 use Rattle.domain_reader.specs.Names.{second_items}
-use Rattle.domain_reader.specs.Tables.{body_of, name_of}
+use Rattle.domain_reader.specs.Tables.{name_of}
+use Rattle.name_tables.specs.Texts.{body_of}
 use Rattle.problem_reader.specs.Fitness.{IsFitOver, IsFitRead}
 use Rattle.problem_reader.specs.Names.{items_names}
 use Rattle.problem_reader.specs.Problems.{IsProblemRead, ProblemReads, facts_of, init_of, problem_of, valueds_of}
 use Rattle.problem_reader.specs.Tables.{problem_names}
 use Rattle.problem_reader.specs.Values.{nothing_given, values_names}
-use Rattle.problem_reader.proofs.FitConstants.{body_small, constants_read}
+use Rattle.problem_reader.proofs.FitConstants.{constants_read}
 use Rattle.problem_reader.proofs.FitItems.{IsInit, goal_fit, init_good, init_small}
 use Rattle.problem_reader.proofs.FitNames.{names_known, problem_knows}
 use Rattle.problem_reader.proofs.FitObjects.{AreConstants, constants_first, objects_fit, objects_long, objects_same}
@@ -44,14 +44,6 @@ formed : (t : Trees) → ¬ (t ≡ nothing) → form_faults text.Problem t ≡ [
 formed nothing some e = absurd (some refl)
 formed (word w at rest) some e = absurd (cc)
 formed (list items at rest) some e = let is = titled text.Problem items at rest e in record { named = is.named; items = is.items }
-
-inner_shallow : (ts : Trees) → depth (inner_of ts) ≤ depth ts
-inner_shallow nothing = omega arith
-inner_shallow (word w at rest) = omega arith
-inner_shallow (list items at rest) = omega arith
-
-body_shallow : (t : Trees) → depth (body_of t) ≤ depth t
-body_shallow t = omega (arith, inner_shallow t, tail_shallow (inner_of t), tail_shallow (tail_of (inner_of t)))
 
 -- ---- the problem
 
@@ -78,7 +70,7 @@ module _ (d : Domain) (t : Trees) (over : IsFitRead d) (bounded : IsBounded t) (
   constants = constants_read over.text d over.read over.bounded.small
 
   few : size body ≤ 4194304
-  few = omega (arith, body_small t, bounded.small)
+  few = omega (arith, body_less t, bounded.small)
 
   -- as many objects as there are names of objects
   long : length v.objects ≡ length (problem_of d t).objects

@@ -10,14 +10,15 @@ use Rattle.form_reader.specs.declared.items.TextKind.TheVariants as text
 use Rattle.form_reader.specs.Items.{item_of}
 use Rattle.form_reader.specs.Rows.{head_of, tail_of}
 use Rattle.name_tables.proofs.FitGroups.{sorts_long}
-use Rattle.name_tables.specs.Declarations.{Typed, declare_each}
+use Rattle.name_tables.specs.Declarations.{Typed, declare_each, no_typed}
 use Rattle.name_tables.specs.Names.{with_name}
 use Rattle.name_tables.specs.Variables.{named_sorts, named_words, seen_after}
 use Rattle.name_tables.specs.declared.vocabulary.Vocabulary.{Vocabulary}
 use Rattle.domain_reader.specs.Cycles.{AreSorts, no_sorts, more_sorts, type_edges}
 use Rattle.domain_reader.specs.Domains as domains
-use Rattle.domain_reader.specs.Domains.{IsDomainRead, constants_in, is_constants, no_typed}
-use Rattle.domain_reader.specs.Tables.{body_of, no_names, vocabulary_of, with_item, with_items}
+use Rattle.domain_reader.specs.Domains.{IsDomainRead, constants_in, is_constants}
+use Rattle.domain_reader.specs.Tables.{no_names, vocabulary_of, with_item, with_items}
+use Rattle.name_tables.specs.Texts.{body_of}
 use Rattle.problem_reader.specs.Laws.{NamesAreTheDomains, with_objects}
 use Rattle.problem_reader.specs.Tables.{problem_names, nothing_signed, objects_in, put_constants, put_signatures, put_sorts}
 use Rattle.problem_reader.proofs.TablesObjectLemmas.{constants_put, even_each, names_each, none_more, seen_put}

@@ -1,5 +1,5 @@
 -- What problems are, and all their name faults.
-use Rattle.std.specs.Prelude.{◌≡◌, ℕ, Bool, true, false, if◌then◌else◌, List, [], ◌∷◌, ◌++◌, Option, Some, None, Result, Ok, Err, unwrap_or}
+use Rattle.std.specs.Prelude.{◌≡◌, ℕ, Bool, true, false, if◌then◌else◌, List, [], ◌∷◌, ◌++◌, Some, None, Result, Ok, Err, unwrap_or}
 use Rattle.sexpr_text.specs.Trees.{Trees, nothing, word, list}
 use Rattle.task_model.specs.Condition.{Condition}
 use Rattle.task_model.specs.declared.domain.Declared as declared
@@ -20,13 +20,14 @@ use Rattle.form_reader.specs.Items.{item_of}
 use Rattle.form_reader.specs.Rows.{head_of, tail_of}
 use Rattle.form_reader.specs.Texts.{form_faults}
 use Rattle.name_tables.specs.Conditions.{single_of}
-use Rattle.name_tables.specs.Declarations.{Typed, declare, declare_each, declared_list}
+use Rattle.name_tables.specs.Declarations.{Typed, declare, declare_each, declared_list, no_typed}
 use Rattle.name_tables.specs.Names.{place_of}
 use Rattle.name_tables.specs.Terms.{declared_place}
 use Rattle.name_tables.specs.Variables.{named_sorts, named_words}
 use Rattle.name_tables.specs.declared.vocabulary.Vocabulary.{Vocabulary}
 use Rattle.domain_reader.specs.Names.{second_items}
-use Rattle.domain_reader.specs.Tables.{body_of, name_of}
+use Rattle.domain_reader.specs.Tables.{name_of}
+use Rattle.name_tables.specs.Texts.{body_of}
 use Rattle.problem_reader.specs.Names.{is_worth, items_names}
 use Rattle.problem_reader.specs.Tables.{is_objects, problem_names}
 use Rattle.problem_reader.specs.Values.{is_init, nothing_given, term_in, value_in, values_names}
@@ -59,9 +60,6 @@ objects_typed sorts t nothing = t
 objects_typed sorts t (word w at rest) = objects_typed sorts t rest
 objects_typed sorts t (list items at rest) =
     objects_typed sorts (if is_objects (item_of text.Problem (head_of items)) then declare_each t (named_words Start (tail_of items)) (named_sorts sorts Start 0 (tail_of items)) else t) rest
-
-abbrev pub no_typed : Typed
-no_typed = record { names = []; sorts = [] }
 
 abbrev pub all_typed : Domain → List (List ℕ) → Trees → Typed
 all_typed d sorts body = objects_typed sorts (constants_typed no_typed d.constants) body

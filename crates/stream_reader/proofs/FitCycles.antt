@@ -9,16 +9,18 @@ use Rattle.task_model.specs.declared.domain.Domain.{Domain}
 use Rattle.task_model.specs.declared.stream.Stream as stream
 use Rattle.task_model.specs.declared.task.Task.{Task}
 use Rattle.form_reader.specs.declared.fault.Fault.{Fault}
+use Rattle.form_reader.specs.declared.fault.InputKind.TheVariants.{StreamCycle}
 use Rattle.form_reader.specs.declared.keys.Keyed.{Keyed}
 use Rattle.form_reader.specs.Rows.{tail_of}
 use Rattle.name_tables.specs.Graphs.{HasWay}
 use Rattle.name_tables.specs.Graphs as graphs
 use Rattle.name_tables.specs.declared.vocabulary.Vocabulary.{Vocabulary}
 use Rattle.fit_check.specs.Edges.{streams_within}
-use Rattle.stream_reader.specs.Cycles.{CycleFaults, no_more, cyclic, free, candidates_of, edges_from, edges_of, is_there, next_of, next_one}
+use Rattle.stream_reader.specs.Cycles.{candidates_of, edges_from, edges_of, is_there, next_of, next_one}
+use Rattle.name_tables.specs.Cycles.{CycleFaults, no_more, cyclic, free}
 use Rattle.stream_reader.specs.Streams.{item_streams, streams_of}
 use Rattle.stream_reader.specs.Tables.{kind_of}
-use Rattle.stream_reader.specs.declared.cycles.Candidate.{Candidate}
+use Rattle.name_tables.specs.declared.cycles.Candidate.{Candidate}
 
 -- ---- no candidate is on a cycle
 
@@ -26,7 +28,7 @@ abbrev AllFree : List (List ℕ) → List Candidate → Type 0
 AllFree edges [] = Unit {0}
 AllFree edges (c ∷ cs) = (¬ (HasWay edges c.node c.node)) × AllFree edges cs
 
-all_free : {edges : List (List ℕ)} {cs : List Candidate} {fs : List Fault} → CycleFaults edges cs fs → fs ≡ [] → AllFree edges cs
+all_free : {edges : List (List ℕ)} {cs : List Candidate} {fs : List Fault} → CycleFaults StreamCycle edges cs fs → fs ≡ [] → AllFree edges cs
 all_free no_more e = tt
 all_free (cyclic way more) e = absurd (cc)
 all_free (free none more) e = (none, all_free more e)
@@ -106,7 +108,7 @@ module _ (task : Task) where
   first_within from (next ∷ more) to h = (streams_within task from next h.0).0
 
   -- where these are the streams of a text without faults of cycles
-  pub acyclic : (v : Vocabulary) (body : Trees) → task.streams ≡ streams_of v body → CycleFaults edges (candidates_of 0 body) [] → (s : ℕ) (between : List ℕ) → ¬ (LeadsAlong (leads task) s between s)
+  pub acyclic : (v : Vocabulary) (body : Trees) → task.streams ≡ streams_of v body → CycleFaults StreamCycle edges (candidates_of 0 body) [] → (s : ℕ) (between : List ℕ) → ¬ (LeadsAlong (leads task) s between s)
   acyclic v body is clean s between way =
       let low : s < length (streams_of v body) = omega (arith, first_within s between s way, ap length is) in
       let zeros : 0 + s ≡ s = omega arith in

@@ -16,7 +16,7 @@ use Rattle.name_tables.proofs.NoFaultLemmas.{some_fault}
 use Rattle.name_tables.proofs.Parted.{none_both}
 use Rattle.stream_reader.specs.declared.tables.Scopes.{Scopes}
 use Rattle.stream_reader.specs.Names.{keys_names, value_names}
-use Rattle.stream_reader.specs.Tables.{value_at}
+use Rattle.name_tables.specs.Texts.{value_at}
 
 -- a key that may stand somewhere
 abbrev pub IsKey : Key → Type 0

@@ -16,7 +16,7 @@ use Rattle.form_reader.specs.declared.words.WordSort.TheVariants.{Predicate, Ter
 use Rattle.form_reader.specs.Atoms.{atom_rows_faults, atoms_faults}
 use Rattle.form_reader.specs.Rows.{application_faults}
 use Rattle.name_tables.specs.Names.{place_of}
-use Rattle.name_tables.specs.Terms.{application_names, declared_place, terms_names, terms_of, use_names, width}
+use Rattle.name_tables.specs.Terms.{application_names, declared_place, terms_names, terms_of, use_names, width, pattern_of}
 use Rattle.name_tables.specs.Variables.{unless}
 use Rattle.name_tables.specs.Vocabulary.{arity_of}
 use Rattle.name_tables.specs.declared.vocabulary.Vocabulary.{Vocabulary}
@@ -26,7 +26,7 @@ use Rattle.name_tables.proofs.Parted.{none_both}
 use Rattle.name_tables.proofs.NamesUseLemmas.{IsUsable, place_some, usable}
 use Rattle.name_tables.proofs.VocabularyLemmas.{listed, role_at, used_inside}
 use Rattle.stream_reader.proofs.TablesDomainLemmas.{AreKnown}
-use Rattle.stream_reader.specs.Atoms.{atom_names, atom_rows_names, atoms_names, is_changing, pattern_of, patterns_of, role_at as role_found, row_patterns}
+use Rattle.stream_reader.specs.Atoms.{atom_names, atom_rows_names, atoms_names, is_changing, patterns_of, role_at as role_found, row_patterns}
 
 -- ---- how many
 

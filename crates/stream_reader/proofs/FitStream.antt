@@ -28,7 +28,8 @@ use Rattle.stream_reader.specs.declared.tables.Scopes.{Scopes}
 use Rattle.stream_reader.specs.Atoms.{atoms_names, patterns_of}
 use Rattle.stream_reader.specs.Names.{keys_names, ninth_names, variables_names}
 use Rattle.stream_reader.specs.Streams.{stream_of}
-use Rattle.stream_reader.specs.Tables.{scopes_of, value_at}
+use Rattle.stream_reader.specs.Tables.{scopes_of}
+use Rattle.name_tables.specs.Texts.{value_at}
 use Rattle.stream_reader.proofs.FitKeys.{IsThere, IsValue, cost_certified, cost_domain, cost_inputs, cost_outputs, cost_value, find, stream_certified, stream_domain, stream_inputs, stream_outputs}
 use Rattle.stream_reader.proofs.FitWorth.{worth_fit}
 use Rattle.stream_reader.proofs.TablesDomainLemmas.{AreKnown}

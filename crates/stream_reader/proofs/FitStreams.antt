@@ -10,7 +10,7 @@ use Rattle.task_model.specs.Fit.{AreFitStreams, IsFitDomain, is_fit_stream, is_n
 use Rattle.task_model.specs.declared.domain.Domain.{Domain}
 use Rattle.task_model.specs.declared.stream.Stream as stream
 use Rattle.task_model.specs.declared.task.Problem.{Problem}
-use Rattle.form_reader.proofs.RowsLemmas.{tail_small, inner_small}
+use Rattle.form_reader.proofs.RowsLemmas.{tail_small}
 use Rattle.form_reader.specs.declared.fault.InputFault.{InputFault}
 use Rattle.form_reader.specs.declared.items.Item.{Item}
 use Rattle.form_reader.specs.declared.items.Item.TheVariants as item
@@ -22,19 +22,21 @@ use Rattle.form_reader.specs.declared.words.WordSort.TheVariants.{Name}
 use Rattle.form_reader.specs.Faults.{shape}
 use Rattle.form_reader.specs.Items.{body_faults, item_faults, item_of, items_faults}
 use Rattle.form_reader.specs.Keys.{has_word, keyed_faults, keys_faults, missing_value_faults}
-use Rattle.form_reader.specs.Rows.{head_of, inner_of, tail_of}
+use Rattle.form_reader.specs.Rows.{head_of, tail_of}
 use Rattle.form_reader.specs.Texts.{form_faults}
 use Rattle.form_reader.specs.Words.{is_of}
 use Rattle.name_tables.specs.Sizes.{IsBounded}
 use Rattle.name_tables.specs.declared.vocabulary.Vocabulary.{Vocabulary}
 use Rattle.name_tables.proofs.NoFaultLemmas.{chosen, some_fault}
 use Rattle.name_tables.proofs.Parted.{none_both}
+use Rattle.name_tables.proofs.TextsLemmas.{body_less}
 use Rattle.name_tables.proofs.TitleLemmas.{titled}
 use Rattle.stream_reader.specs.Fitness.{AreFitOver}
-use Rattle.stream_reader.specs.Names.{item_names, items_names, keys_names, repeated_names, second_streams, second_variables, stream_names}
+use Rattle.stream_reader.specs.Names.{item_names, items_names, keys_names, second_streams, second_variables, stream_names}
 use Rattle.stream_reader.specs.Reading.{AreRead, StreamsRead, spelled}
 use Rattle.stream_reader.specs.Streams.{item_streams, stream_of, streams_of}
-use Rattle.stream_reader.specs.Tables.{body_of, kind_of, scopes_of, stream_kind, vocabulary_of}
+use Rattle.stream_reader.specs.Tables.{kind_of, scopes_of, stream_kind, vocabulary_of}
+use Rattle.name_tables.specs.Texts.{body_of, repeated_names}
 use Rattle.stream_reader.proofs.FitStream.{cost_fit, stream_fit}
 use Rattle.stream_reader.proofs.FitCycles.{acyclic}
 use Rattle.stream_reader.proofs.TablesDomainLemmas.{AreKnown, names_are}
@@ -134,9 +136,6 @@ formed_items : (t : Trees) → form_faults text.Streams t ≡ [] → items_fault
 formed_items nothing e = refl
 formed_items (word w at rest) e = absurd (some_fault (shape at) [] e)
 formed_items (list items at rest) e = (titled text.Streams items at rest e).items
-
-body_less : (t : Trees) → size (body_of t) ≤ size t
-body_less t = omega (arith, inner_small t, tail_small (inner_of t), tail_small (tail_of (inner_of t)))
 
 spelled_fit : (d : Domain) (t : Trees) (problem : Problem) → IsFitDomain d → IsBounded t → AreRead d t (spelled d t) → AreFitStreams (record { domain = d; problem = problem; streams = spelled d t })
 spelled_fit d t problem over bounded read =

@@ -1,4 +1,3 @@
-pub mod CyclesLemmas
 pub mod ReadingLeastLemmas
 pub mod CyclesNextLemmas
 pub mod FitKeys

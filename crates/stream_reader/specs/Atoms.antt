@@ -7,9 +7,9 @@ use Rattle.task_model.specs.declared.domain.Role.{Role}
 use Rattle.task_model.specs.declared.domain.Role.TheVariants.{Static, Fluent, Derived}
 use Rattle.form_reader.specs.declared.fault.Fault.{Fault}
 use Rattle.form_reader.specs.declared.fault.InputKind.TheVariants.{EffectOnStatic}
-use Rattle.form_reader.specs.Rows.{head_of, tail_of}
+use Rattle.form_reader.specs.Rows.{head_of}
 use Rattle.name_tables.specs.Names.{place_of}
-use Rattle.name_tables.specs.Terms.{application_names, declared_place, terms_of}
+use Rattle.name_tables.specs.Terms.{application_names, pattern_of}
 use Rattle.name_tables.specs.Variables.{unless}
 use Rattle.name_tables.specs.declared.vocabulary.Vocabulary.{Vocabulary}
 
@@ -44,9 +44,6 @@ module _ (v : Vocabulary) (roles : List Role) (scope : List (List ℕ)) where
     atoms_names place (list items at rest) = []
 
 module _ (v : Vocabulary) (scope : List (List ℕ)) where
-  abbrev pub pattern_of : Trees → Pattern
-  pattern_of items = record { pred = declared_place v.predicates (head_of items); args = terms_of v.objects scope (tail_of items) }
-
   -- the atoms in the order of the text
   abbrev mutual
     pub row_patterns : Trees → List Pattern
@@ -56,5 +53,5 @@ module _ (v : Vocabulary) (scope : List (List ℕ)) where
 
     pub patterns_of : Trees → List Pattern
     patterns_of nothing = []
-    patterns_of (word text at rest) = if bytes_eq text (codes "and") then row_patterns rest else pattern_of (word text at rest) ∷ []
+    patterns_of (word text at rest) = if bytes_eq text (codes "and") then row_patterns rest else pattern_of v scope (word text at rest) ∷ []
     patterns_of (list items at rest) = []

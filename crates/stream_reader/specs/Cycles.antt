@@ -1,16 +1,12 @@
 -- The streams that lead to themselves.
-use Rattle.std.specs.Prelude.{◌≡◌, ℕ, ◌+◌, Bool, true, false, if◌then◌else◌, List, [], ◌∷◌, ◌++◌, Option, Some, None}
+use Rattle.std.specs.Prelude.{ℕ, ◌+◌, Bool, true, false, if◌then◌else◌, List, [], ◌∷◌, ◌++◌, Option, Some, None}
 use Rattle.sexpr_text.specs.Trees.{Trees, nothing, word, list}
 use Rattle.task_model.specs.Fit.{stream_leads}
 use Rattle.task_model.specs.declared.domain.Domain.{Domain}
 use Rattle.task_model.specs.declared.stream.Stream as stream
-use Rattle.form_reader.specs.declared.fault.Fault.{Fault}
-use Rattle.form_reader.specs.declared.fault.InputKind.TheVariants.{StreamCycle}
 use Rattle.form_reader.specs.declared.keys.Keyed.{Keyed}
-use Rattle.form_reader.specs.Faults.{first, sooner}
-use Rattle.name_tables.specs.Graphs.{HasWay, IsCyclic}
 use Rattle.stream_reader.specs.Tables.{kind_of}
-use Rattle.stream_reader.specs.declared.cycles.Candidate.{Candidate}
+use Rattle.name_tables.specs.declared.cycles.Candidate.{Candidate}
 
 -- ---- what leads where
 
@@ -44,29 +40,3 @@ candidates_of number nothing = []
 candidates_of number (word text at rest) = candidates_of number rest
 candidates_of number (list items at rest) =
     if is_there (kind_of items) then record { node = number; place = at } ∷ candidates_of (number + 1) rest else candidates_of number rest
-
--- ---- the faults
-
-abbrev pub cycle_at : ℕ → Fault
-cycle_at place = record { place = place; kind = StreamCycle }
-
--- Those of the candidates have the fault from which a way leads back to themselves.
-pub data CycleFaults (edges : List (List ℕ)) : List Candidate → List Fault → Type 0 where
-  no_more : CycleFaults edges [] []
-  cyclic : {c : Candidate} {cs : List Candidate} {fs : List Fault} → HasWay edges c.node c.node → CycleFaults edges cs fs → CycleFaults edges (c ∷ cs) (cycle_at c.place ∷ fs)
-  free : {c : Candidate} {cs : List Candidate} {fs : List Fault} → ¬ (HasWay edges c.node c.node) → CycleFaults edges cs fs → CycleFaults edges (c ∷ cs) fs
-
-abbrev pub with_fault : Bool → Fault → Option Fault → Option Fault
-with_fault there f so_far = if there then sooner so_far f else so_far
-
--- the answered one of a fault so far and of that of one candidate
-pub record AnswersCycle (edges : List (List ℕ)) (c : Candidate) (so_far answered : Option Fault) : Type 0 where
-  pub there : Bool
-  pub right : IsCyclic edges c.node there
-  pub least : answered ≡ with_fault there (cycle_at c.place) so_far
-
--- the answered one of a fault so far and of those of candidates
-pub record AnswersCycles (edges : List (List ℕ)) (cs : List Candidate) (so_far answered : Option Fault) : Type 0 where
-  pub faults : List Fault
-  pub right : CycleFaults edges cs faults
-  pub least : answered ≡ first so_far faults

@@ -1,5 +1,5 @@
 -- The name faults of a stream file, but for streams that lead to themselves.
-use Rattle.std.specs.Prelude.{ℕ, ◌+◌, Bool, true, false, ◌==◌, not, if◌then◌else◌, List, [], ◌∷◌, ◌++◌, Option, Some, None}
+use Rattle.std.specs.Prelude.{ℕ, ◌+◌, Bool, true, false, ◌==◌, not, if◌then◌else◌, List, [], ◌++◌, Option, Some, None}
 use Rattle.sexpr_text.specs.Trees.{Trees, nothing, word, list}
 use Rattle.task_model.specs.declared.domain.Role.{Role}
 use Rattle.form_reader.specs.declared.fault.Fault.{Fault}
@@ -13,6 +13,7 @@ use Rattle.form_reader.specs.Keys.{key_of}
 use Rattle.form_reader.specs.Rows.{after_word, head_of, tail_of}
 use Rattle.name_tables.specs.Names.{has_name, with_name}
 use Rattle.name_tables.specs.Terms.{application_names}
+use Rattle.name_tables.specs.Texts.{repeated_names}
 use Rattle.name_tables.specs.Variables.{doubles_names, is_named, seen_after, types_names, unless}
 use Rattle.name_tables.specs.declared.vocabulary.Vocabulary.{Vocabulary}
 use Rattle.stream_reader.specs.declared.tables.Scopes.{Scopes}
@@ -20,12 +21,6 @@ use Rattle.stream_reader.specs.Atoms.{atoms_names}
 use Rattle.stream_reader.specs.Tables.{keys_of, kind_of, scopes_of}
 
 -- ---- keys and their values
-
--- no word stands twice in a row, where these were seen before
-abbrev pub repeated_names : List (List ℕ) → Trees → List Fault
-repeated_names seen nothing = []
-repeated_names seen (word text at rest) = unless (not (has_name text seen)) Duplicate at ++ repeated_names (with_name seen text) rest
-repeated_names seen (list items at rest) = repeated_names seen rest
 
 -- no input or output is the 9th of its list, where so many stand before it
 abbrev pub ninth_names : ℕ → Spot → Trees → List Fault

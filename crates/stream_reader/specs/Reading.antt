@@ -1,18 +1,21 @@
 -- What reading a stream file gives.
-use Rattle.std.specs.Prelude.{◌≡◌, ℕ, List, [], Option, Some, None, Result, Ok, Err}
+use Rattle.std.specs.Prelude.{◌≡◌, List, [], Option, Some, None, Result, Ok, Err}
 use Rattle.sexpr_text.specs.Trees.{Trees}
 use Rattle.task_model.specs.declared.domain.Domain.{Domain}
 use Rattle.task_model.specs.declared.stream.Stream as stream
 use Rattle.form_reader.specs.declared.fault.Fault.{Fault}
 use Rattle.form_reader.specs.declared.fault.InputFault.{InputFault}
 use Rattle.form_reader.specs.declared.fault.InputFault.TheVariants as input
+use Rattle.form_reader.specs.declared.fault.InputKind.TheVariants.{StreamCycle}
 use Rattle.form_reader.specs.declared.items.TextKind.TheVariants.{Streams}
 use Rattle.form_reader.specs.Faults.{least_fault}
 use Rattle.form_reader.specs.Texts.{form_faults}
-use Rattle.stream_reader.specs.Cycles.{AnswersCycles, CycleFaults, candidates_of, edges_of}
+use Rattle.stream_reader.specs.Cycles.{candidates_of, edges_of}
+use Rattle.name_tables.specs.Cycles.{CycleFaults, AnswersCycles}
 use Rattle.stream_reader.specs.Names.{plain_names}
 use Rattle.stream_reader.specs.Streams.{streams_of}
-use Rattle.stream_reader.specs.Tables.{body_of, vocabulary_of}
+use Rattle.stream_reader.specs.Tables.{vocabulary_of}
+use Rattle.name_tables.specs.Texts.{body_of}
 
 -- over a domain, of a text that is this row of one tree
 
@@ -26,7 +29,7 @@ spelled d t = streams_of (vocabulary_of d) (body_of t)
 
 -- these are all faults of streams that lead to themselves
 abbrev pub AreCycleFaults : Domain → Trees → List Fault → Type 0
-AreCycleFaults d t faults = CycleFaults (edges_of d (spelled d t)) (candidates_of 0 (body_of t)) faults
+AreCycleFaults d t faults = CycleFaults StreamCycle (edges_of d (spelled d t)) (candidates_of 0 (body_of t)) faults
 
 -- The name fault is answered: the least but for cycles, and where there is none of them, the least of cycles.
 pub data IsNameFault (d : Domain) (t : Trees) (f : Fault) : Type 0 where
@@ -62,4 +65,4 @@ StreamsRead d t (Err input.Memory) = Unit {0}
 
 -- the answered one of the faults of cycles, where these are the streams
 abbrev pub AnswersAcyclic : Domain → List stream.Stream → Trees → Option Fault → Type 0
-AnswersAcyclic d ss body answered = AnswersCycles (edges_of d ss) (candidates_of 0 body) None answered
+AnswersAcyclic d ss body answered = AnswersCycles StreamCycle (edges_of d ss) (candidates_of 0 body) None answered

@@ -11,7 +11,8 @@ use Rattle.name_tables.specs.Terms.{declared_place, terms_of}
 use Rattle.name_tables.specs.Variables.{named_sorts}
 use Rattle.name_tables.specs.declared.vocabulary.Vocabulary.{Vocabulary}
 use Rattle.stream_reader.specs.Atoms.{patterns_of}
-use Rattle.stream_reader.specs.Tables.{kind_of, scopes_of, value_at}
+use Rattle.stream_reader.specs.Tables.{kind_of, scopes_of}
+use Rattle.name_tables.specs.Texts.{value_at}
 
 -- the function term that a cost stream with these inputs gives values
 abbrev pub worth_of : Vocabulary → List (List ℕ) → Keyed → Trees → Option Worth

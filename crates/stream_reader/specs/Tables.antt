@@ -1,7 +1,6 @@
 -- The names that a domain has, and the parts of a stream file.
-use Rattle.std.specs.Prelude.{ℕ, Bool, true, false, if◌then◌else◌, List, [], ◌∷◌, ◌++◌, codes, Option, Some, None}
-use Rattle.std.specs.Str.{bytes_eq}
-use Rattle.sexpr_text.specs.Trees.{Trees, nothing, word, list}
+use Rattle.std.specs.Prelude.{ℕ, List, [], ◌∷◌, ◌++◌, codes, Option, Some, None}
+use Rattle.sexpr_text.specs.Trees.{Trees}
 use Rattle.task_model.specs.declared.domain.Declared as declared
 use Rattle.task_model.specs.declared.domain.Domain.{Domain}
 use Rattle.task_model.specs.declared.domain.Signature.{Signature}
@@ -13,8 +12,9 @@ use Rattle.form_reader.specs.declared.items.TextKind.TheVariants.{Streams}
 use Rattle.form_reader.specs.declared.keys.Keyed.{Keyed}
 use Rattle.form_reader.specs.declared.keys.Keyed.TheVariants as keyed
 use Rattle.form_reader.specs.Items.{item_of}
-use Rattle.form_reader.specs.Rows.{head_of, inner_of, tail_of}
+use Rattle.form_reader.specs.Rows.{head_of, tail_of}
 use Rattle.name_tables.specs.Names.{Signed, with_name, with_signature}
+use Rattle.name_tables.specs.Texts.{value_at}
 use Rattle.name_tables.specs.Variables.{named_words}
 use Rattle.name_tables.specs.declared.vocabulary.Vocabulary.{Vocabulary}
 use Rattle.stream_reader.specs.declared.tables.Scopes.{Scopes}
@@ -48,10 +48,6 @@ vocabulary_of d =
 
 -- ---- the parts of a stream file
 
--- the items of a text that is this row of one tree
-abbrev pub body_of : Trees → Trees
-body_of t = tail_of (tail_of (inner_of t))
-
 -- the kind of a stream with this item, if it is one
 abbrev pub stream_kind : Item → Option Keyed
 stream_kind item.Stream = Some keyed.Stream
@@ -65,12 +61,6 @@ kind_of items = stream_kind (item_of Streams (head_of items))
 -- the keys behind the name
 abbrev pub keys_of : Trees → Trees
 keys_of items = tail_of (tail_of items)
-
--- the value of the first key that is this word, nothing where there is none
-abbrev pub value_at : List ℕ → Trees → Trees
-value_at key nothing = nothing
-value_at key (word text at rest) = if bytes_eq text key then inner_of rest else value_at key rest
-value_at key (list items at rest) = value_at key rest
 
 -- The variables of a stream with these keys: its inputs, and its inputs and outputs.
 abbrev pub scopes_of : Trees → Scopes

@@ -6,11 +6,11 @@ ghost use Rattle.sexpr_text.specs.Trees.{trees};
 ghost use Rattle.form_reader.specs.Faults.{first};
 ghost use Rattle.stream_reader.specs.Atoms as specs;
 
-use form_reader::{Fault, InputKind, head_of, tail_of};
-use name_tables::{Scope, Vocabulary, check_application, declared_place, terms_of, unless};
+use form_reader::{Fault, InputKind, head_of};
+use name_tables::{Scope, Vocabulary, check_application, pattern_of, unless};
 use sexpr_text::{Front, Tree, front_of};
 use std::alloc::{AllocError, Global};
-use task_model::{Pattern, Role, Seq};
+use task_model::{Pattern, Role};
 
 /// Whether actions or rules change the atoms of a predicate with this role.
 fn is_changing(role: Option<Role>) -> bool
@@ -102,23 +102,6 @@ fn check_atom_rows(
             }
         }
     }
-}
-
-/// The atom that a list of these trees is. Fails only where memory is wanting.
-fn pattern_of(
-    alloc: Global,
-    names: &Vocabulary,
-    scope: &Scope,
-    items: &[Tree],
-) -> Result<Pattern, AllocError>
-    ensures { IfOk result (λ p. p ≡ specs.pattern_of names.now scope.now (trees items.now)) }
-{
-    let pred = declared_place(&names.predicates, head_of(items))?;
-    let args = terms_of(alloc, &names.objects, scope, tail_of(items))?;
-    Ok(Pattern {
-        pred,
-        args: Seq::from_vec(args),
-    })
 }
 
 /// Adds the atoms that a list of these trees is. Fails only where memory is wanting.

@@ -1,23 +1,16 @@
 //! The streams that lead to themselves.
-ghost use Rattle.std.specs.Prelude.{◌≡◌, ◌++◌, [], IfOk, OnOk};
+ghost use Rattle.std.specs.Prelude.{◌≡◌, ◌++◌, IfOk, OnOk};
 ghost use Rattle.sexpr_text.specs.Trees.{trees};
 ghost use Rattle.stream_reader.specs.Cycles as specs;
 ghost use Rattle.stream_reader.specs.Reading.{AnswersAcyclic};
 
 use crate::tables::kind_of;
 use fit_check::stream_leads;
-use form_reader::{Fault, InputKind, Keyed, sooner};
-use name_tables::{is_cyclic, next, number};
+use form_reader::{Fault, InputKind, Keyed};
+use name_tables::{Candidate, check_cycles, next, number};
 use sexpr_text::{Front, Tree, front_of};
 use std::alloc::{AllocError, Global};
 use task_model::{Domain, Seq, Stream};
-
-/// A stream by its number, and the place of its list.
-#[derive(Clone, Copy, Debug, PartialEq, Eq)]
-pub(crate) struct Candidate {
-    pub(crate) node: u32,
-    pub(crate) place: usize,
-}
 
 /// Adds the number of the second stream if the first leads to it in one step.
 fn add_next(
@@ -92,46 +85,6 @@ fn candidates_of(alloc: Global, items: &[Tree]) -> Result<Vec<Candidate>, AllocE
     }
 }
 
-/// Adds the fault if it is there.
-fn with_fault(there: bool, fault: Fault, so_far: Option<Fault>) -> Option<Fault>
-    ensures { result ≡ specs.with_fault there fault so_far }
-{
-    if there { sooner(so_far, fault) } else { so_far }
-}
-
-/// Adds a fault if the candidate leads to itself. Fails only where memory is wanting.
-fn check_cycle(
-    alloc: Global,
-    edges: &[Seq<u32>],
-    candidate: Candidate,
-    so_far: Option<Fault>,
-) -> Result<Option<Fault>, AllocError>
-    ensures { IfOk result (λ f. specs.AnswersCycle edges.now candidate so_far f) }
-{
-    let cyclic = is_cyclic(alloc, edges, candidate.node)?;
-    let fault = Fault {
-        place: candidate.place,
-        kind: InputKind::StreamCycle,
-    };
-    Ok(with_fault(cyclic, fault, so_far))
-}
-
-/// Adds a fault for each candidate that leads to itself. Fails only where memory is wanting.
-fn check_cycles(
-    alloc: Global,
-    edges: &[Seq<u32>],
-    candidates: &[Candidate],
-    so_far: Option<Fault>,
-) -> Result<Option<Fault>, AllocError>
-    ensures { IfOk result (λ f. specs.AnswersCycles edges.now candidates.now so_far f) }
-{
-    let mut found = so_far;
-    for candidate in candidates {
-        found = check_cycle(alloc, edges, *candidate, found)?;
-    }
-    Ok(found)
-}
-
 /// The answered one of the faults of streams that lead to themselves, of these streams in this text. Fails only where
 /// memory is wanting.
 pub(crate) fn check_acyclic(
@@ -144,5 +97,11 @@ pub(crate) fn check_acyclic(
 {
     let edges = edges_of(alloc, domain, streams)?;
     let candidates = candidates_of(alloc, body)?;
-    check_cycles(alloc, edges.as_slice(), candidates.as_slice(), None)
+    check_cycles(
+        alloc,
+        InputKind::StreamCycle,
+        edges.as_slice(),
+        candidates.as_slice(),
+        None,
+    )
 }

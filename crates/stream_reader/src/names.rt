@@ -1,7 +1,7 @@
 //! The name faults of a stream file, but for streams that lead to themselves.
 #![tactic(auto, using(form_reader::proofs::FaultsFirstLemmas::first_append))]
 
-ghost use Rattle.std.specs.Prelude.{◌≡◌, [], IfOk, OnOk};
+ghost use Rattle.std.specs.Prelude.{◌≡◌, [], IfOk};
 ghost use Rattle.sexpr_text.specs.Trees.{trees};
 ghost use Rattle.form_reader.specs.Faults.{first, least_fault};
 ghost use Rattle.form_reader.specs.declared.groups.Spot.TheVariants.{Start};
@@ -12,7 +12,8 @@ use crate::atoms::check_atoms;
 use crate::tables::{Scopes, keys_of, kind_of, scopes_of};
 use form_reader::{Fault, InputKind, Key, Keyed, Spot, head_of, tail_of};
 use name_tables::{
-    NameTable, Vocabulary, check_application, check_doubles, check_types, is_named, next, unless,
+    NameTable, Vocabulary, check_application, check_doubles, check_repeated, check_types, is_named,
+    next, unless,
 };
 use sexpr_text::{Front, Tree, front_of};
 use std::alloc::{AllocError, Global};
@@ -20,28 +21,6 @@ use task_model::Role;
 
 /// How many inputs, and how many outputs, a stream may have.
 const MAX_VARIABLES: usize = 8;
-
-/// No word stands twice in a row, and none of them was seen before.
-fn check_repeated(
-    seen: &mut NameTable,
-    items: &[Tree],
-    so_far: Option<Fault>,
-) -> Result<Option<Fault>, AllocError>
-    ensures { IfOk result (λ f. f ≡ first so_far (specs.repeated_names seen.old (trees items.now))) }
-{
-    let mut left = items;
-    let mut found = so_far;
-    'words: loop {
-        match front_of(left) {
-            Front::End => return Ok(found),
-            Front::Word { text, place, rest } => {
-                found = unless(seen.add(text)?, InputKind::Duplicate, place, found);
-                left = rest;
-            }
-            Front::List { rest, .. } => left = rest,
-        }
-    }
-}
 
 /// None of these is the 9th variable of its list.
 fn check_ninth(items: &[Tree], so_far: Option<Fault>) -> Result<Option<Fault>, AllocError>

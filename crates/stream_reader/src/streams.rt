@@ -4,9 +4,9 @@ ghost use Rattle.sexpr_text.specs.Trees.{trees};
 ghost use Rattle.stream_reader.specs.Streams as specs;
 
 use crate::atoms::patterns_of;
-use crate::tables::{kind_of, scopes_of, value_at};
+use crate::tables::{kind_of, scopes_of};
 use form_reader::{Keyed, head_of, tail_of};
-use name_tables::{Scope, Vocabulary, declared_place, named_sorts, terms_of};
+use name_tables::{Scope, Vocabulary, declared_place, named_sorts, terms_of, value_at};
 use sexpr_text::{Front, Tree, front_of};
 use std::alloc::{AllocError, Global};
 use task_model::{Name, Seq, Stream, Worth};

@@ -1,12 +1,11 @@
 //! The names that a domain has, and the parts of a stream file.
 ghost use Rattle.std.specs.Prelude.{◌≡◌, IfOk, OnOk};
-ghost use Rattle.sexpr_text.specs.Trees.{tree, trees};
-ghost use Rattle.form_reader.specs.Rows.{inner_of};
+ghost use Rattle.sexpr_text.specs.Trees.{trees};
 ghost use Rattle.stream_reader.specs.Tables as specs;
 
-use form_reader::{Item, Keyed, TextKind, head_of, inner_of, tail_of};
-use name_tables::{NameTable, Scope, Signatures, Vocabulary, enter};
-use sexpr_text::{Front, Tree, alone, front_of};
+use form_reader::{Item, Keyed, TextKind, head_of, tail_of};
+use name_tables::{NameTable, Scope, Signatures, Vocabulary, enter, value_at};
+use sexpr_text::Tree;
 use std::alloc::{AllocError, Global};
 use task_model::{Declared, Domain, Signature, Sort};
 
@@ -70,23 +69,6 @@ pub(crate) fn vocabulary_of(alloc: Global, domain: &Domain) -> Result<Vocabulary
     })
 }
 
-/// The trees of the list that a text is.
-fn text_of<'a>(text: &'a Tree) -> &'a [Tree]
-    ensures { trees result.now ≡ inner_of (tree text.now) }
-{
-    match alone(text) {
-        Front::End | Front::Word { .. } => &[],
-        Front::List { items, .. } => items,
-    }
-}
-
-/// The items of a text.
-pub(crate) fn body_of<'a>(text: &'a Tree) -> &'a [Tree]
-    ensures { trees result.now ≡ specs.body_of (tree text.now) }
-{
-    tail_of(tail_of(text_of(text)))
-}
-
 /// The kind of a stream with this item, if it is one.
 fn stream_kind(item: Item) -> Option<Keyed>
     ensures { result ≡ specs.stream_kind item }
@@ -110,25 +92,6 @@ pub(crate) fn keys_of<'a>(items: &'a [Tree]) -> &'a [Tree]
     ensures { trees result.now ≡ specs.keys_of (trees items.now) }
 {
     tail_of(tail_of(items))
-}
-
-/// The value of the first key that is this word, or nothing.
-pub(crate) fn value_at<'a>(key: &[u8], keys: &'a [Tree]) -> &'a [Tree]
-    ensures { trees result.now ≡ specs.value_at key.now (trees keys.now) }
-{
-    let mut left = keys;
-    'keys: loop {
-        match front_of(left) {
-            Front::End => return &[],
-            Front::Word { text, rest, .. } => {
-                if text == key {
-                    return inner_of(rest);
-                }
-                left = rest;
-            }
-            Front::List { rest, .. } => left = rest,
-        }
-    }
 }
 
 /// The variables of a stream with these keys. Fails only where memory is wanting.

@@ -21,12 +21,12 @@ use Rattle.form_reader.specs.declared.fault.InputKind.{InputKind}
 use Rattle.form_reader.specs.Faults.{least_fault}
 use Rattle.name_tables.specs.Graphs.{AreReached, HasWay}
 use Rattle.name_tables.specs.declared.vocabulary.Vocabulary.{Vocabulary}
-use Rattle.domain_reader.specs.Cycles.{AreSorts, CycleFaults, IsAbove, cyclic, free, more_sorts, no_more, no_sorts, type_edges}
+use Rattle.domain_reader.specs.Cycles.{AreSorts, IsAbove, more_sorts, no_sorts, type_edges}
+use Rattle.name_tables.specs.Cycles.{CycleFaults, no_more, cyclic, free}
 use Rattle.domain_reader.specs.Domains as domains
 use Rattle.domain_reader.specs.Domains.{AreNameFaults, plain_names, roles_of}
-use Rattle.domain_reader.specs.Tables.{body_of}
+use Rattle.name_tables.specs.Texts.{body_of}
 use Rattle.problem_reader.specs.Problems as problems
-use Rattle.stream_reader.specs.Cycles as stream_cycles
 use Rattle.stream_reader.specs.Reading as streams
 use Rattle.task_reader.specs.Refusals.{IsRefused, SpellsTree}
 use Rattle.task_reader.specs.Tasks.{Spells, RefusesSecond, RefusesThird}
@@ -73,15 +73,6 @@ one_cycles kind edges (c ∷ cs) fs gs (cyclic way a) (free none b) = absurd (no
 one_cycles kind edges (c ∷ cs) fs gs (free none a) (cyclic way b) = absurd (none way)
 one_cycles kind edges (c ∷ cs) fs gs (free none a) (free other b) = one_cycles kind edges cs fs gs a b
 
-one_stream_cycles : (edges : List (List ℕ)) (cs : _) (fs gs : List Fault) → stream_cycles.CycleFaults edges cs fs
-    → stream_cycles.CycleFaults edges cs gs → fs ≡ gs
-one_stream_cycles edges [] fs gs stream_cycles.no_more stream_cycles.no_more = refl
-one_stream_cycles edges (c ∷ cs) fs gs (stream_cycles.cyclic way a) (stream_cycles.cyclic other b) =
-    ap (λ rest. stream_cycles.cycle_at c.place ∷ rest) (one_stream_cycles edges cs _ _ a b)
-one_stream_cycles edges (c ∷ cs) fs gs (stream_cycles.cyclic way a) (stream_cycles.free none b) = absurd (none way)
-one_stream_cycles edges (c ∷ cs) fs gs (stream_cycles.free none a) (stream_cycles.cyclic way b) = absurd (none way)
-one_stream_cycles edges (c ∷ cs) fs gs (stream_cycles.free none a) (stream_cycles.free other b) = one_stream_cycles edges cs fs gs a b
-
 -- the name faults of a domain are one list
 one_names : (v : Vocabulary) (body : Trees) (fs gs : List Fault) → AreNameFaults v body fs → AreNameFaults v body gs → fs ≡ gs
 one_names v body fs gs a b =
@@ -100,7 +91,7 @@ read_problem d t p f r (problems.of_names formed e) = no_least _ f r.named e
 
 read_names : (d : Domain) (t : Trees) (ss : List Stream) (f : Fault) → streams.AreNamed d t ss → streams.IsNameFault d t f → ⊥
 read_names d t ss f n (streams.of_names e) = no_least _ f n.named e
-read_names d t ss f n (streams.of_cycles {faults} named are e) = no_least faults f (one_stream_cycles _ _ faults [] are n.acyclic) e
+read_names d t ss f n (streams.of_cycles {faults} named are e) = no_least faults f (one_cycles _ _ _ faults [] are n.acyclic) e
 
 read_streams : (d : Domain) (t : Trees) (ss : List Stream) (f : Fault) → streams.AreRead d t ss → streams.AreStreamsAnswered d t f → ⊥
 read_streams d t ss f r (streams.of_form e) = no_least _ f r.formed e

@@ -1,8 +1,8 @@
 use Rattle.std.proofs.Common.{◌≡◌}
 use Rattle.sexpr_text.specs.Trees.{trees}
 use Rattle.form_reader.specs.Rows.{count}
-use Rattle.domain_reader.specs.Names.{value_at}
-use Rattle.domain_reader.proofs.items.value_at.Given as goal
+use Rattle.name_tables.specs.Texts.{value_at}
+use Rattle.name_tables.proofs.texts.value_at.Given as goal
 
 abbrev pub invariant-keys : goal.invariant-keys
 invariant-keys l = value_at l.key (trees l.keys) ≡ value_at l.key (trees l.left)

@@ -1,5 +1,5 @@
-use Rattle.domain_reader.proofs.CyclesLemmas.{pass_all, pass_more}
-use Rattle.domain_reader.proofs.cycles.check_cycles.Goals as goal
+use Rattle.name_tables.proofs.CyclesLemmas.{pass_all, pass_more}
+use Rattle.name_tables.proofs.cycles.check_cycles.Goals as goal
 
 pub loop-candidate-preserved : goal.loop-candidate-preserved
 loop-candidate-preserved c =
