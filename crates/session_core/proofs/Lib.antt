@@ -10,3 +10,4 @@ pub mod SlotsLemmas
 pub mod StateLemmas
 pub mod RoomLemmas
 pub mod ReadyLemmas
+pub mod SessionNewLemmas
