@@ -1,5 +1,5 @@
 -- What is known at first, part by part.
-use Rattle.std.proofs.Common.{◌≡◌, ℕ, zero, suc, ◌+◌, ◌<◌, arith, true, ◌&&◌, List, [], ◌∷◌, ◌++◌, map, filter, take, drop, length, get_or, sym, ap, ◌∙◌, add-one, Some, slice_get, All, Contains, ltb-true, not, nat_lt, nat_le, option_map, false, cond, ◌||◌, ◌==◌, eqb-true, unwrap_or}
+use Rattle.std.proofs.Common.{◌≡◌, ℕ, zero, suc, ◌+◌, ◌<◌, arith, true, ◌&&◌, List, [], ◌∷◌, ◌++◌, map, filter, take, drop, length, get_or, sym, ap, ◌∙◌, add-one, Some, slice_get, All, Contains, ltb-true, not, nat_lt, nat_le, option_map, false, cond, ◌||◌, ◌==◌, eqb-true, unwrap_or, Bool, refl}
 use Rattle.std.proofs.Math.Seq.{drop-cons}
 use Rattle.std.proofs.lemmas.Grind.{flat_map-append}
 use Rattle.std.proofs.lemmas.List.{take-append-drop, take_more, map-append, append-nil, length-map, length-take, map_push, nil_from_length}
