@@ -35,7 +35,7 @@ new_session task head s fit of_task of entries asked learnt known notes closed =
   learnt = omega (arith, learnt);
   known = λ _. known ∙ (λ i. known_of task (take (sym learnt i) (sym entries i)));
   notes = λ _. notes ∙ (λ i. notes_of task (take (sym learnt i) (sym entries i)));
-  round = λ open. absurd (not_open (sym closed ∙ open));
+  round = λ opened. absurd (not_open (sym closed ∙ opened));
 }
   where
     not_open : false ≡ true → ⊥
