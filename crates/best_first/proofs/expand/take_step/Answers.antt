@@ -1,7 +1,7 @@
 use Rattle.std.proofs.Common.{◌≡◌, ℕ, ◌≤◌, List, true, length, get_or, Some, slice_get, ap, sym, ◌∙◌, subst, arith}
 use Rattle.std.proofs.lemmas.Option.{get_or_from_slice_get}
-use Rattle.formula_eval.proofs.Rows.{have_types-length}
-use Rattle.plan_check.proofs.Actions.{IsReadableAction, fit_action, readable_action}
+use Rattle.task_model.proofs.TruthLemmas.{have_types-length}
+use Rattle.plan_check.proofs.ReadableLemmas.{IsReadableAction, fit_action, readable_action}
 use Rattle.task_model.specs.Fit.{IsFitDomain, is_fit_action}
 use Rattle.task_model.specs.Known.{Known}
 use Rattle.task_model.specs.State.{Atoms}
