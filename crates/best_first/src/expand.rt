@@ -9,7 +9,7 @@ ghost use Rattle.best_first.specs.Explored.{ExploringEnds, IsExplored, IsGrown, 
 use crate::tree::{Link, Tree};
 use formula_eval::{Env, holds};
 use grounder::applicable;
-use plan_check::{Applied, StepFault, apply};
+use plan_check::{Applied, after, step_cost};
 use state_store::StateStore;
 use std::alloc::{AllocError, Global};
 use task_model::{GroundAction, Look, State, Task};
@@ -69,11 +69,13 @@ fn take_step<L: Look>(
     ensures step { IfOk result (λ applied. IsStep scene.now.task.now (L.known scene.now.look.now) state.now step.now applied.state applied.cost) }
     ensures small { IfOk result (λ applied. applied.cost ≤ 262144000000) }
 {
-    match apply(scene.task, scene.look, state, step) {
-        Ok(applied) => Ok(applied),
-        Err(StepFault::Memory) => Err(AllocError),
-        Err(_) => unreachable!(),
-    }
+    let action = &scene.task.domain.actions.as_slice()[step.action as usize];
+    let args = step.args.as_slice();
+    let Some(cost) = step_cost(scene.task, scene.look, state, action, args) else {
+        unreachable!()
+    };
+    let state = after(state, action, args)?;
+    Ok(Applied { state, cost })
 }
 
 /// How it goes on after the last state was added.
