@@ -3,7 +3,7 @@ use Rattle.std.specs.Prelude.{◌≡◌, ◌⊎◌, ℕ, ◌<◌, List, [], ◌+
 use Rattle.std.specs.Io.KnownBytes.{Appends}
 use Rattle.std.specs.List.{flat_map}
 use Rattle.task_model.specs.declared.task.Task.{Task}
-use Rattle.transcript_model.specs.Legal.{IsLegal, asks_of}
+use Rattle.transcript_model.specs.Legal.{IsLegal, asks_of, is_level}
 use Rattle.transcript_model.specs.Outcomes.{MayStand}
 use Rattle.transcript_model.specs.Rounds.{limits_of}
 use Rattle.report_text.specs.Texts.{done_line, line_text, text_of_entry, text_of_head, text_of_outcome}
