@@ -1,8 +1,8 @@
 //! The worked tasks: their texts, and the fit task that each of them spells.
 #![tactic(auto)]
 
-mod task;
+mod reading;
 mod texts;
 
-pub use task::{Texts, task};
+pub use reading::{Texts, task};
 pub use texts::{ARM, FETCH, GRID, KEEP, LAMPS, SAME, SOW, TWO};
