@@ -1,5 +1,5 @@
 //! The texts of the worked tasks.
-use crate::task::Texts;
+use crate::reading::Texts;
 
 /// A stream grips a cup.
 pub const FETCH: Texts<'static> = Texts {
