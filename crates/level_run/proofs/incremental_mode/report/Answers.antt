@@ -1,4 +1,4 @@
-use Rattle.std.proofs.Common.{refl, sym, ◌∙◌}
+use Rattle.std.proofs.Common.{arith, refl, sym, ◌∙◌}
 use Rattle.io_world.specs.Faults.{last_count}
 use Rattle.level_run.proofs.CallsRunLemmas.{ran_of}
 use Rattle.level_run.proofs.ReportsLemmas.{broken_behind, broken_end, broken_head, broken_levels, reported, told_so_far}
@@ -53,3 +53,17 @@ returns-in_err-print_end-clause-sink g c =
     let fault = c.in_err-print_end.field-0.0 in
     let r = c.from_residual-in_err-print_end.result in
     cause_handed Write last_count (g.O.Sink.faults c.args.out.now) (g.O.Sink.faults c.print_head.new.out) (g.O.Sink.faults c.run_levels.new.out) (g.O.Sink.faults c.print_end.new.out) fault r c.in_ok-print_head.ensures.cause.later c.in_ok-outcome.ensures.sink.later c.in_err-print_end.ensures.cause (handed_err r fault c.from_residual-in_err-print_end.ensures.1)
+
+pub returns-in_err-outcome-clause-host : goal.returns-in_err-outcome-clause-host
+returns-in_err-outcome-clause-host g c =
+    let fault = c.in_err-outcome.field-0.0 in
+    let r = c.from_residual-in_err-outcome.result in
+    let before = g.H.Host.faults c.args.host.now in
+    cause_handed Generator g.H.Host.last before before before (g.H.Host.faults c.run_levels.new.host) fault r (omega arith) (omega arith) c.in_err-outcome.ensures.host (handed_err r fault c.from_residual-in_err-outcome.ensures.1)
+
+pub returns-in_err-outcome-clause-sink : goal.returns-in_err-outcome-clause-sink
+returns-in_err-outcome-clause-sink g c =
+    let fault = c.in_err-outcome.field-0.0 in
+    let r = c.from_residual-in_err-outcome.result in
+    let begun = g.O.Sink.faults c.print_head.new.out in
+    cause_handed Write last_count (g.O.Sink.faults c.args.out.now) begun begun (g.O.Sink.faults c.run_levels.new.out) fault r c.in_ok-print_head.ensures.cause.later (omega arith) c.in_err-outcome.ensures.sink (handed_err r fault c.from_residual-in_err-outcome.ensures.1)
