@@ -1,0 +1,4 @@
+mod NumbersLemmas
+mod AppsLemmas
+mod WordsLemmas
+mod RangesLemmas

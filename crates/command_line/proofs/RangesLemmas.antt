@@ -1,0 +1,150 @@
+-- The numbers that the words of a command mean are in their ranges.
+use Rattle.std.proofs.Common.{◌≡◌, ℕ, arith, Bool, true, false, ◌&&◌, nat_le, List, [], ◌∷◌, codes, bytes_eq, subst, Some, None, Option, refl, if◌then◌else◌, option_map}
+use Rattle.std.proofs.lemmas.Bool.{leb-true}
+use Rattle.std.specs.Cmp.{first_so, second_so}
+use Rattle.std.specs.Str.Parse.{digits_value}
+use Rattle.transcript_text.proofs.Tables.{and_then_some, map_some}
+use Rattle.transcript_text.specs.declared.head.Mode.{Mode}
+use Rattle.transcript_text.specs.declared.head.Mode.TheVariants.{Incremental}
+use Rattle.clap.specs.Words.{App, Row, Text, first_of, matches_of}
+use Rattle.command_line.specs.Apps.{generate_app, is_taken, replay_app, solve_app}
+use Rattle.command_line.specs.Numbers.{are_few_digits, count_in, count_of, count_or, is_count}
+use Rattle.command_line.specs.Ranges.{AreInRange, IsBetween, IsInRange}
+use Rattle.command_line.specs.Words.{Command, Limits, ReplayWords, SolveWords, are_apart, command_of, files_in, generate, generate_in, generate_of, limits_in, mode_or, path_in, program_in, read_by, replay, replay_in, replay_of, solve, solve_in, solve_of}
+
+-- ---- what a test lets through
+
+kept : {A : Type 0} (b : Bool) (value : Option A) (a : A) → (if b then value else None) ≡ Some a → (b ≡ true) × (value ≡ Some a)
+kept true value a e = (refl, e)
+kept false value a e = absurd (cc)
+
+same : {A : Type 0} (a b : A) → Some a ≡ Some b → a ≡ b
+same a b e = cc
+
+-- ---- numbers
+
+digits_between : (most : ℕ) (word : Text) → is_count most word ≡ true → IsBetween most (digits_value 10 word)
+unfolding is_count
+digits_between most word e =
+    let some = nat_le 1 (digits_value 10 word) in
+    let few = nat_le (digits_value 10 word) most in (
+      leb-true 1 (digits_value 10 word) (second_so (are_few_digits word) some (first_so (are_few_digits word && some) few e)),
+      leb-true (digits_value 10 word) most (second_so (are_few_digits word && some) few e),
+    )
+
+count_between : (most : ℕ) (word : Text) (n : ℕ) → count_of most word ≡ Some n → IsBetween most n
+count_between most word n e =
+    let found = kept (is_count most word) (Some (digits_value 10 word)) n e in
+    subst (IsBetween most) (same (digits_value 10 word) n found.1) (digits_between most word found.0)
+
+or_between : (most default : ℕ) → IsBetween most default → (word : Option Text) (n : ℕ) → count_or most default word ≡ Some n
+    → IsBetween most n
+or_between most default some None n e = subst (IsBetween most) (same default n e) some
+or_between most default some (Some word) n e = count_between most word n e
+
+-- ---- what is read of rows
+
+limits_between : (rows : List Row) (l : Limits) → limits_in rows ≡ Some l
+    → IsBetween 100000 l.calls × IsBetween 200000 l.states × IsBetween 8 l.depth
+limits_between rows l e =
+    let calls = and_then_some _ (count_in (codes "calls") 100000 10000 rows) l e in
+    let states = and_then_some _ (count_in (codes "states") 200000 100000 rows) l calls.2 in
+    let depth = and_then_some _ (count_in (codes "depth") 8 3 rows) l states.2 in
+    subst (λ (x : Limits). IsBetween 100000 x.calls × IsBetween 200000 x.states × IsBetween 8 x.depth) (same _ l depth.2) (
+      or_between 100000 10000 (omega arith, omega arith) (first_of (codes "calls") rows) calls.0 calls.1,
+      or_between 200000 100000 (omega arith, omega arith) (first_of (codes "states") rows) states.0 states.1,
+      or_between 8 3 (omega arith, omega arith) (first_of (codes "depth") rows) depth.0 depth.1,
+    )
+
+mode_built : (name : Option Text) (mode : Mode) → mode_or name ≡ Some mode → mode ≡ Incremental
+mode_built None mode e = cc
+mode_built (Some name) mode e =
+    let found = kept (bytes_eq name (codes "incremental")) (Some Incremental) mode e in
+    rw (same Incremental mode found.1) refl
+
+-- where a map stands there is no program
+alone_from : (path workers : Option Text) (program : List Text) → are_apart path workers program ≡ true
+    → (p : Text) → path ≡ Some p → program ≡ []
+alone_from None workers program e p is = absurd (cc)
+alone_from (Some path) None [] e p is = refl
+alone_from (Some path) None (word ∷ words) e p is = absurd (cc)
+alone_from (Some path) (Some workers) program e p is = absurd (cc)
+
+solve_between : (rows : List Row) (w : SolveWords) → solve_in rows ≡ Some w → AreInRange w
+solve_between rows w e =
+    let files = and_then_some _ (files_in rows) w e in
+    let mode = and_then_some _ (mode_or (first_of (codes "algorithm") rows)) w files.2 in
+    let limits = and_then_some _ (limits_in rows) w mode.2 in
+    let workers = and_then_some _ (count_in (codes "workers") 16 1 rows) w limits.2 in
+    let made : SolveWords = record {
+      files = files.0;
+      path = path_in rows;
+      program = program_in rows;
+      workers = workers.0;
+      mode = mode.0;
+      limits = limits.0;
+    } in
+    let apart = are_apart (path_in rows) (first_of (codes "workers") rows) (program_in rows) in
+    let found = kept apart (Some made) w workers.2 in
+    let few = limits_between rows limits.0 limits.1 in
+    let ranges : AreInRange made = record {
+      calls = few.0;
+      states = few.1;
+      depth = few.2;
+      workers = or_between 16 1 (omega arith, omega arith) (first_of (codes "workers") rows) workers.0 workers.1;
+      built = mode_built (first_of (codes "algorithm") rows) mode.0 mode.1;
+      alone = alone_from (path_in rows) (first_of (codes "workers") rows) (program_in rows) found.0;
+    } in
+    subst AreInRange (same made w found.1) ranges
+
+replay_between : (rows : List Row) (w : ReplayWords) → replay_in rows ≡ Some w → IsBetween 200000 w.states
+replay_between rows w e =
+    let files = and_then_some _ (files_in rows) w e in
+    let report = and_then_some _ (first_of (codes "report") rows) w files.2 in
+    let states = and_then_some _ (count_in (codes "states") 200000 100000 rows) w report.2 in
+    subst (λ (x : ReplayWords). IsBetween 200000 x.states) (same _ w states.2)
+    (or_between 200000 100000 (omega arith, omega arith) (first_of (codes "states") rows) states.0 states.1)
+
+generate_between : (rows : List Row) (n : ℕ) → generate_in rows ≡ Some n → IsBetween 12 n
+generate_between rows n e =
+    let text = and_then_some _ (first_of (codes "number") rows) n e in
+    count_between 12 text.0 n text.2
+
+-- ---- commands
+
+read_some : {X : Type 0} (app : App) (read : List Row → Option X) (words : List Text) (x : X)
+    → read_by app read words ≡ Some x → read (matches_of app words) ≡ Some x
+unfolding read_by
+read_some {X} app read words x e = (kept (is_taken app words) (read (matches_of app words)) x e).1
+
+solve_found : (words : List Text) (c : Command) → option_map solve (solve_of words) ≡ Some c → IsInRange c
+solve_found words c e =
+    let found = map_some solve (solve_of words) c e in
+    let read = read_some solve_app solve_in words found.0 found.1 in
+    subst IsInRange found.2 (solve_between (matches_of solve_app words) found.0 read)
+
+replay_found : (words : List Text) (c : Command) → option_map replay (replay_of words) ≡ Some c → IsInRange c
+replay_found words c e =
+    let found = map_some replay (replay_of words) c e in
+    let read = read_some replay_app replay_in words found.0 found.1 in
+    subst IsInRange found.2 (replay_between (matches_of replay_app words) found.0 read)
+
+generate_found : (words : List Text) (c : Command) → option_map generate (generate_of words) ≡ Some c → IsInRange c
+generate_found words c e =
+    let found = map_some generate (generate_of words) c e in
+    let read = read_some generate_app generate_in words found.0 found.1 in
+    subst IsInRange found.2 (generate_between (matches_of generate_app words) found.0 read)
+
+pub in_range : (words : List Text) (c : Command) → command_of words ≡ Some c → IsInRange c
+unfolding command_of
+in_range [] c e = absurd (cc)
+in_range (name ∷ words) c e =
+    by (bytes_eq name (codes "solve")) (bytes_eq name (codes "replay")) (bytes_eq name (codes "generate")) e
+  where
+    by : (solves replays generates : Bool) → (if solves then option_map solve (solve_of (name ∷ words))
+        else if replays then option_map replay (replay_of (name ∷ words))
+        else if generates then option_map generate (generate_of (name ∷ words)) else None) ≡ Some c → IsInRange c
+    by true replays generates said = solve_found (name ∷ words) c said
+    by false true generates said = replay_found (name ∷ words) c said
+    by false false true said = generate_found (name ∷ words) c said
+    by false false false said = absurd (cc)

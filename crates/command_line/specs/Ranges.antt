@@ -1,0 +1,28 @@
+-- What holds of every command that words mean.
+use Rattle.std.specs.Prelude.{◌≡◌, ◌≤◌, ℕ, List, [], Some}
+use Rattle.clap.specs.Words.{Text}
+use Rattle.transcript_text.specs.declared.head.Mode.TheVariants.{Incremental}
+use Rattle.command_line.specs.Words.{Command, SolveWords, command_of, generate, replay, solve}
+
+-- from 1 to the most
+abbrev pub IsBetween : ℕ → ℕ → Type 0
+IsBetween most n = (1 ≤ n) × (n ≤ most)
+
+-- `solve`: its numbers are in their ranges, its mode is one that is built, and no program stands beside a map
+pub record AreInRange (w : SolveWords) : Type 0 where
+  pub calls : IsBetween 100000 w.limits.calls
+  pub states : IsBetween 200000 w.limits.states
+  pub depth : IsBetween 8 w.limits.depth
+  pub workers : IsBetween 16 w.workers
+  pub built : w.mode ≡ Incremental
+  pub alone : (path : Text) → w.path ≡ Some path → w.program ≡ []
+
+-- the numbers of the command are in their ranges
+abbrev pub IsInRange : Command → Type 0
+IsInRange (solve w) = AreInRange w
+IsInRange (replay w) = IsBetween 200000 w.states
+IsInRange (generate n) = IsBetween 12 n
+
+-- whatever the words are
+abbrev pub WordsAreInRange : Type 0
+WordsAreInRange = (words : List Text) (command : Command) → command_of words ≡ Some command → IsInRange command

@@ -1,0 +1,144 @@
+-- What words mean.
+use Rattle.std.specs.Prelude.{ℕ, Bool, true, false, List, [], ◌∷◌, codes, bytes_eq, Option, None, Some, if◌then◌else◌, option_map, option_and_then}
+use Rattle.clap.specs.Words.{App, Row, Text, all_of, first_of, matches_of}
+use Rattle.transcript_text.specs.declared.head.Mode.{Mode}
+use Rattle.transcript_text.specs.declared.head.Mode.TheVariants.{Incremental}
+use Rattle.command_line.specs.Apps.{generate_app, is_taken, replay_app, solve_app}
+use Rattle.command_line.specs.Numbers.{count_in, count_of}
+
+-- the paths of a task's three texts
+pub record TaskFiles : Type 0 where
+  pub domain : Text
+  pub problem : Text
+  pub streams : Text
+
+-- the limits of a run
+pub record Limits : Type 0 where
+  pub calls : ℕ
+  pub states : ℕ
+  pub depth : ℕ
+
+-- `solve` with a task, a map or a program, the program's number of workers, a mode, and limits
+pub record SolveWords : Type 0 where
+  pub files : TaskFiles
+  pub path : Option Text
+  pub program : List Text
+  pub workers : ℕ
+  pub mode : Mode
+  pub limits : Limits
+
+-- `replay` with a task, a report, and the most states
+pub record ReplayWords : Type 0 where
+  pub files : TaskFiles
+  pub report : Text
+  pub states : ℕ
+
+-- what may be asked for
+pub data Command : Type 0 where
+  solve : SolveWords → Command
+  replay : ReplayWords → Command
+  generate : ℕ → Command
+
+-- ---- what is read of the rows that clap makes of the words
+
+-- what is made of a value, and nothing where there is none
+abbrev pub given : {A B : Type 0} → Option A → (A → Option B) → Option B
+given value make = option_and_then make value
+
+-- the paths of the task
+abbrev pub files_in : List Row → Option TaskFiles
+files_in rows =
+    given (first_of (codes "domain") rows) (λ domain.
+    given (first_of (codes "problem") rows) (λ problem.
+    given (first_of (codes "streams") rows) (λ streams.
+    Some (record { domain = domain; problem = problem; streams = streams }))))
+
+-- the limits, and the default of each that the words lack
+abbrev pub limits_in : List Row → Option Limits
+limits_in rows =
+    given (count_in (codes "calls") 100000 10000 rows) (λ calls.
+    given (count_in (codes "states") 200000 100000 rows) (λ states.
+    given (count_in (codes "depth") 8 3 rows) (λ depth.
+    Some (record { calls = calls; states = states; depth = depth }))))
+
+-- the mode of this name, where it is built, and incremental mode where the words name none
+abbrev pub mode_or : Option Text → Option Mode
+mode_or None = Some Incremental
+mode_or (Some name) = if bytes_eq name (codes "incremental") then Some Incremental else None
+
+-- neither a number of workers nor a program stands beside a map
+abbrev pub are_apart : Option Text → Option Text → List Text → Bool
+are_apart None workers program = true
+are_apart (Some path) None [] = true
+are_apart (Some path) None (word ∷ words) = false
+are_apart (Some path) (Some workers) program = false
+
+-- the path of the map
+abbrev pub path_in : List Row → Option Text
+path_in = first_of (codes "map")
+
+-- the words of a row, and no words where there is none
+abbrev pub words_or : Option (List Text) → List Text
+words_or None = []
+words_or (Some words) = words
+
+-- the program and its words
+abbrev pub program_in : List Row → List Text
+program_in rows = words_or (all_of (codes "program") rows)
+
+-- the words of `solve`
+abbrev pub solve_in : List Row → Option SolveWords
+solve_in rows =
+    given (files_in rows) (λ files.
+    given (mode_or (first_of (codes "algorithm") rows)) (λ mode.
+    given (limits_in rows) (λ limits.
+    given (count_in (codes "workers") 16 1 rows) (λ workers.
+    if are_apart (path_in rows) (first_of (codes "workers") rows) (program_in rows)
+    then Some (record {
+      files = files;
+      path = path_in rows;
+      program = program_in rows;
+      workers = workers;
+      mode = mode;
+      limits = limits;
+    })
+    else None))))
+
+-- the words of `replay`
+abbrev pub replay_in : List Row → Option ReplayWords
+replay_in rows =
+    given (files_in rows) (λ files.
+    given (first_of (codes "report") rows) (λ report.
+    given (count_in (codes "states") 200000 100000 rows) (λ states.
+    Some (record { files = files; report = report; states = states }))))
+
+-- the words of `generate`
+abbrev pub generate_in : List Row → Option ℕ
+generate_in rows = given (first_of (codes "number") rows) (count_of 12)
+
+-- ---- the words, the command's name first
+
+-- what is read of the rows where clap takes the words
+unfoldable pub read_by : {X : Type 0} → App → (List Row → Option X) → List Text → Option X
+read_by app read words = if is_taken app words then read (matches_of app words) else None
+
+-- what words mean of which the first is `solve`
+abbrev pub solve_of : List Text → Option SolveWords
+solve_of = read_by solve_app solve_in
+
+-- what words mean of which the first is `replay`
+abbrev pub replay_of : List Text → Option ReplayWords
+replay_of = read_by replay_app replay_in
+
+-- what words mean of which the first is `generate`
+abbrev pub generate_of : List Text → Option ℕ
+generate_of = read_by generate_app generate_in
+
+-- the command that the words mean, and none where they are refused
+unfoldable pub command_of : List Text → Option Command
+command_of [] = None
+command_of (name ∷ words) =
+    if bytes_eq name (codes "solve") then option_map solve (solve_of (name ∷ words))
+    else if bytes_eq name (codes "replay") then option_map replay (replay_of (name ∷ words))
+    else if bytes_eq name (codes "generate") then option_map generate (generate_of (name ∷ words))
+    else None

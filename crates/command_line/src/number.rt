@@ -1,0 +1,49 @@
+//! The numbers that words write.
+ghost use Rattle.std.specs.Prelude.{◌≡◌, ◌≤◌, IfSome};
+ghost use Rattle.std.specs.Char.{is_ascii_digit};
+ghost use Rattle.std.specs.List.{list_all};
+ghost use Rattle.clap.specs.Words.{found_of, rows_of};
+ghost use Rattle.command_line.specs.Numbers.{count_in, count_of};
+
+use crate::line::text_in;
+use clap::ArgMatches;
+
+fn are_digits(word: &[u8]) -> bool
+    ensures { result ≡ list_all is_ascii_digit word.now }
+{
+    word.iter().all(|b| b.is_ascii_digit())
+}
+
+/// The number from 1 to the most that a word of one to seven digits writes, and nothing where the word writes none.
+#[tactic(auto, unfolding(crate::specs::Numbers::is_count))]
+pub(crate) fn count_of(word: &str, most: u32) -> Option<u32>
+    ensures value { result ≡ count_of most word.now }
+    ensures within { IfSome result (λ count. (1 ≤ count) × (count ≤ most)) }
+{
+    if word.is_empty() || word.len() > 7 {
+        return None;
+    }
+    if !are_digits(word.as_bytes()) {
+        return None;
+    }
+    let Ok(number) = word.parse::<u32>() else {
+        return None;
+    };
+    if 1 <= number && number <= most {
+        Some(number)
+    } else {
+        None
+    }
+}
+
+/// The number of the option of this name, and the default where the words lack the option.
+pub(crate) fn count_in(matches: &ArgMatches<'_>, name: &str, most: u32, default: u32) -> Option<u32>
+    requires { (1 ≤ default) × (default ≤ most) }
+    ensures value { result ≡ count_in name.now most default (rows_of (found_of matches.now)) }
+    ensures within { IfSome result (λ count. (1 ≤ count) × (count ≤ most)) }
+{
+    match text_in(matches, name) {
+        Some(text) => count_of(text, most),
+        None => Some(default),
+    }
+}

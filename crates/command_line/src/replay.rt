@@ -1,0 +1,70 @@
+//! The words of `replay DOMAIN PROBLEM STREAMS REPORT [--states N]`.
+ghost use Rattle.std.specs.Prelude.{◌≡◌, IfOk, IfErr, None, Some, map, string_bytes};
+ghost use Rattle.clap.specs.Words.{app_of, found_of, rows_of};
+ghost use Rattle.command_line.specs.Apps.{replay_app};
+ghost use Rattle.command_line.specs.Held.{held_replay};
+ghost use Rattle.command_line.specs.Shown.{lent_replay, shown_replay};
+ghost use Rattle.command_line.specs.Words.{replay_in, replay_of};
+
+use crate::line::{matches_of_words, option, positional, text_in};
+use crate::number::count_in;
+use crate::task::{TaskFiles, files_in, task_command};
+use crate::{ReplayConfig, WordsFault};
+use clap::{ArgMatches, Command};
+use std::alloc::{AllocError, Global};
+
+/// What the words of `replay` say, as they stand.
+#[derive(Clone, Copy)]
+struct ReplayWords<'a> {
+    files: TaskFiles<'a>,
+    report: &'a str,
+    states: u32,
+}
+
+fn replay_command<'a>(alloc: Global) -> Result<Command<'a>, AllocError>
+    ensures { IfOk result (λ c. app_of c ≡ replay_app) }
+{
+    task_command(alloc, "replay")?
+        .arg(positional(alloc, "report"))?
+        .arg(option(alloc, "states"))
+}
+
+fn replay_in<'a>(matches: &ArgMatches<'a>) -> Option<ReplayWords<'a>>
+    ensures { shown_replay result ≡ replay_in (rows_of (found_of matches.now)) }
+{
+    let files = files_in(matches)?;
+    let report = text_in(matches, "report")?;
+    let states = count_in(matches, "states", 200_000, 100_000)?;
+    Some(ReplayWords {
+        files,
+        report,
+        states,
+    })
+}
+
+fn replay_held(alloc: Global, words: ReplayWords<'_>) -> Result<ReplayConfig, AllocError>
+    ensures { IfOk result (λ c. held_replay c ≡ lent_replay words.entry) }
+{
+    Ok(ReplayConfig {
+        domain: String::from_str(alloc, words.files.domain)?,
+        problem: String::from_str(alloc, words.files.problem)?,
+        streams: String::from_str(alloc, words.files.streams)?,
+        report: String::from_str(alloc, words.report)?,
+        states: words.states,
+    })
+}
+
+/// What words ask for of which the first is `replay`.
+pub(crate) fn replay(alloc: Global, words: &[String]) -> Result<ReplayConfig, WordsFault>
+    ensures config { IfOk result (λ c.
+        replay_of (map string_bytes words.now) ≡ Some (held_replay c)) }
+    ensures usage { IfErr result (λ why. why ≡ WordsFault.Usage
+        → replay_of (map string_bytes words.now) ≡ None) }
+{
+    let command = replay_command(alloc)?;
+    let matches = matches_of_words(command, words)?;
+    let Some(read) = replay_in(&matches) else {
+        return Err(WordsFault::Usage);
+    };
+    Ok(replay_held(alloc, read)?)
+}
