@@ -4,14 +4,13 @@ use Rattle.std.proofs.lemmas.List.{take_all}
 use Rattle.std.proofs.lemmas.List.Elements.{filter_map-append}
 use Rattle.grid_text.specs.Entries.{Item}
 use Rattle.grid_text.specs.Files.{Blames, IsGridOf, fault_at}
-use Rattle.grid_text.specs.Grids.{GridFile, area, nothing_read, size_told, block_told, region_told, obstacle_told, told, told_in, item_in, last_or, grid_of, grown, with_item, with_line, fault_in, LineBlames}
+use Rattle.grid_text.specs.Grids.{GridFile, NamedRect, area, nothing_read, size_told, block_told, region_told, obstacle_told, told, told_in, item_in, last_or, grid_of, grown, with_item, with_line, fault_in, LineBlames}
 use Rattle.grid_text.specs.declared.entry.EntrySort.{EntrySort}
 use Rattle.grid_text.specs.declared.entry.EntrySort.TheVariants as sort
 use Rattle.grid_text.specs.Lines.{lines_in, is_bare}
 use Rattle.grid_text.specs.declared.fault.GridFault.{GridFault}
 use Rattle.grid_text.specs.declared.fault.GridFault.TheVariants.{At, Memory}
 use Rattle.grid_text.specs.declared.grid.Block.{Block}
-use Rattle.grid_text.specs.declared.grid.Region.{Region}
 use Rattle.grid_text.specs.declared.rect.Rect.{Rect}
 use Rattle.grid_text.proofs.LinesLemmas.{TakesLine}
 
@@ -33,7 +32,7 @@ told_more of before line =
     ∙ ap (λ xs. told_in of before ++ xs) (told_one (told of (item_in line)) (λ l. told of (item_in l)) line refl)
 
 -- what is told, with one item more
-abbrev grid_from : List Rect → List Block → List Region → List Rect → GridFile
+abbrev grid_from : List Rect → List Block → List NamedRect → List Rect → GridFile
 grid_from sizes blocks regions obstacles = record {
   width = (last_or (area nothing_read) sizes).w;
   height = (last_or (area nothing_read) sizes).h;
@@ -42,7 +41,7 @@ grid_from sizes blocks regions obstacles = record {
   obstacles = obstacles;
 }
 
-grows_by : (sizes : List Rect) (blocks : List Block) (regions : List Region) (obstacles : List Rect) (s : EntrySort) (name : List ℕ) (rect : Rect) →
+grows_by : (sizes : List Rect) (blocks : List Block) (regions : List NamedRect) (obstacles : List Rect) (s : EntrySort) (name : List ℕ) (rect : Rect) →
     grid_from (sizes ++ one (size_told s name rect)) (blocks ++ one (block_told s name rect)) (regions ++ one (region_told s name rect)) (obstacles ++ one (obstacle_told s name rect))
     ≡ grown (grid_from sizes blocks regions obstacles) s name rect
 grows_by sizes blocks regions obstacles sort.Size name rect = rw (last_push (area nothing_read) sizes rect, append-nil blocks, append-nil regions, append-nil obstacles) refl
@@ -50,7 +49,7 @@ grows_by sizes blocks regions obstacles sort.Block name rect = rw (append-nil si
 grows_by sizes blocks regions obstacles sort.Region name rect = rw (append-nil sizes, append-nil blocks, append-nil obstacles) refl
 grows_by sizes blocks regions obstacles sort.Obstacle name rect = rw (append-nil sizes, append-nil blocks, append-nil regions) refl
 
-grows_with : (sizes : List Rect) (blocks : List Block) (regions : List Region) (obstacles : List Rect) (item : Option Item) →
+grows_with : (sizes : List Rect) (blocks : List Block) (regions : List NamedRect) (obstacles : List Rect) (item : Option Item) →
     grid_from (sizes ++ one (told size_told item)) (blocks ++ one (told block_told item)) (regions ++ one (told region_told item)) (obstacles ++ one (told obstacle_told item))
     ≡ with_item (grid_from sizes blocks regions obstacles) item
 grows_with sizes blocks regions obstacles None = rw (append-nil sizes, append-nil blocks, append-nil regions, append-nil obstacles) refl

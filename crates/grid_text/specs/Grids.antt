@@ -13,15 +13,19 @@ use Rattle.grid_text.specs.declared.fault.GridFault.TheVariants.{At, Memory}
 use Rattle.grid_text.specs.declared.fault.GridKind.{GridKind}
 use Rattle.grid_text.specs.declared.fault.GridKind.TheVariants.{Form, Number, Outside, Duplicate, TooMany}
 use Rattle.grid_text.specs.declared.grid.Block.{Block}
-use Rattle.grid_text.specs.declared.grid.Region.{Region}
 use Rattle.grid_text.specs.declared.rect.Rect.{Rect}
+
+-- a region
+pub record NamedRect : Type 0 where
+  pub name : List ℕ
+  pub rect : Rect
 
 -- a grid: its size, and the rest in the order of the file; before the line of its size it is 0 by 0
 pub record GridFile : Type 0 where
   pub width : ℕ
   pub height : ℕ
   pub blocks : List Block
-  pub regions : List Region
+  pub regions : List NamedRect
   pub obstacles : List Rect
 
 abbrev pub nothing_read : GridFile
@@ -36,7 +40,7 @@ area grid = record { x = 0; y = 0; w = grid.width; h = grid.height }
 abbrev pub block_of : List ℕ → Rect → Block
 block_of name rect = record { name = name; w = rect.w; h = rect.h; x = rect.x; y = rect.y }
 
-abbrev pub region_of : List ℕ → Rect → Region
+abbrev pub region_of : List ℕ → Rect → NamedRect
 region_of name rect = record { name = name; rect = rect }
 
 -- what a line says, which is nothing where it is passed over
@@ -56,7 +60,7 @@ block_told sort.Block name rect = Some (block_of name rect)
 block_told sort.Region name rect = None
 block_told sort.Obstacle name rect = None
 
-abbrev pub region_told : EntrySort → List ℕ → Rect → Option Region
+abbrev pub region_told : EntrySort → List ℕ → Rect → Option NamedRect
 region_told sort.Size name rect = None
 region_told sort.Block name rect = None
 region_told sort.Region name rect = Some (region_of name rect)
@@ -125,7 +129,7 @@ is_inside grid sort.Obstacle rect = is_within rect (area grid)
 abbrev pub is_taken : GridFile → EntrySort → List ℕ → Bool
 is_taken grid sort.Size name = false
 is_taken grid sort.Block name = list_any (λ (b : Block). bytes_eq b.name name) grid.blocks
-is_taken grid sort.Region name = list_any (λ (r : Region). bytes_eq r.name name) grid.regions
+is_taken grid sort.Region name = list_any (λ (r : NamedRect). bytes_eq r.name name) grid.regions
 is_taken grid sort.Obstacle name = false
 
 -- there are as many of the sort as there may be

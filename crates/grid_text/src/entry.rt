@@ -190,10 +190,13 @@ pub(crate) struct Item<'a> {
 
 impl<'a> Model for Item<'a> {
     ghost use Rattle.grid_text.specs.Entries.{Item};
+    ghost use Rattle.grid_text.specs.Rects.{IsSmall};
 
     ghost Value = { Item };
 
     ghost view = { λ i. record { sort = i.sort; name = i.name.now; rect = i.rect } };
+
+    ghost invariant = { λ i. IsSmall i.rect };
 }
 
 /// The entry with its numbers, if they are right.

@@ -4,6 +4,7 @@ ghost use Rattle.std.specs.List.{list_any};
 ghost use Rattle.std.specs.Str.{bytes_eq};
 ghost use Rattle.grid_text.specs.Entries.{item_of};
 ghost use Rattle.grid_text.specs.Grids as specs;
+ghost use Rattle.grid_text.specs.Rects.{IsSmall};
 
 use crate::entry::{Entry, EntrySort, Item, entry_of, item_of};
 use crate::fault::{GridFault, GridKind};
@@ -37,10 +38,36 @@ pub struct Block {
 /// A region: a rectangle with a name.
 #[derive(Debug, Drop)]
 pub struct Region {
+    name: Name,
+    rect: Rect,
+}
+
+impl Model for Region {
+    ghost use Rattle.grid_text.specs.Grids.{NamedRect};
+    ghost use Rattle.grid_text.specs.Rects.{IsSmall};
+
+    ghost Value = { NamedRect };
+
+    ghost view = { λ r. record { name = r.name; rect = r.rect } };
+
+    ghost invariant = { λ r. IsSmall r.rect };
+}
+
+impl Region {
     /// What it is called.
-    pub name: Name,
+    pub fn name(&self) -> &Name
+        ensures { result.now ≡ self.now.name }
+    {
+        &self.name
+    }
+
     /// Its cells.
-    pub rect: Rect,
+    pub fn rect(&self) -> Rect
+        ensures rect { result ≡ self.now.rect }
+        ensures small { IsSmall result }
+    {
+        self.rect
+    }
 }
 
 /// A grid of cells with blocks, regions and obstacles, in the order of its file.
@@ -271,6 +298,7 @@ fn block_of(alloc: Global, name: &[u8], rect: Rect) -> Result<Block, AllocError>
 }
 
 fn region_of(alloc: Global, name: &[u8], rect: Rect) -> Result<Region, AllocError>
+    requires { IsSmall rect }
     ensures { IfOk result (λ region. region ≡ specs.region_of name.now rect) }
 {
     let name = Name::new(Vec::from_slice(alloc, name)?);
