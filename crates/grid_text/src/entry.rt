@@ -1,9 +1,9 @@
 //! What a line of a grid file says.
-ghost use Rattle.std.specs.Prelude.{◌≡◌, option_map, if◌then◌else◌};
+ghost use Rattle.std.specs.Prelude.{◌≡◌, if◌then◌else◌};
 ghost use Rattle.gen_lines.specs.Reply.{fields};
 ghost use Rattle.grid_text.specs.Entries as specs;
 
-use crate::fields::first_field;
+use crate::fields::{first_field, four_fields};
 use crate::names::is_name;
 use crate::numbers::{extent_of, short_number};
 use crate::rect::Rect;
@@ -153,20 +153,6 @@ fn obstacle_of(given: &[u8]) -> Option<Entry<'_>>
         w,
         h,
     })
-}
-
-/// Four fields and nothing more.
-fn four_fields(line: &[u8]) -> Option<(&[u8], &[u8], &[u8], &[u8])>
-    ensures { option_map (λ f. (f.0.now, f.1.now, f.2.now, f.3.now)) result ≡ specs.four_of (fields line.now) }
-{
-    let (first, rest) = first_field(line)?;
-    let (second, rest) = first_field(rest)?;
-    let (third, rest) = first_field(rest)?;
-    let (fourth, rest) = first_field(rest)?;
-    if let Some(_) = first_field(rest) {
-        return None;
-    }
-    Some((first, second, third, fourth))
 }
 
 /// The most cells that a line's rectangle may be wide or high. A grid has its own limit; for others it is what four digits

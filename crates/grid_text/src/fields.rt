@@ -1,7 +1,8 @@
 //! The fields of a line, from left to right.
-ghost use Rattle.std.specs.Prelude.{◌≡◌, ◌≤◌, ◌<◌, [], ◌∷◌, length, not, position, IfSome, MatchOption};
+ghost use Rattle.std.specs.Prelude.{◌≡◌, ◌≤◌, ◌<◌, [], ◌∷◌, length, not, position, IfSome, MatchOption, option_map};
 ghost use Rattle.std.specs.List.{position_or_len};
 ghost use Rattle.gen_lines.specs.Reply.{fields, is_space};
+ghost use Rattle.grid_text.specs.Entries.{four_of};
 
 /// A line's first field and what stands behind it, or None where it has none. Fields are the longest runs of bytes other
 /// than spaces.
@@ -12,6 +13,20 @@ pub fn first_field(line: &[u8]) -> Option<(&[u8], &[u8])>
     let rest = &line[start..];
     let end = run_of(rest);
     Some((&rest[..end], &rest[end..]))
+}
+
+/// Four fields and nothing more.
+pub fn four_fields(line: &[u8]) -> Option<(&[u8], &[u8], &[u8], &[u8])>
+    ensures { option_map (λ f. (f.0.now, f.1.now, f.2.now, f.3.now)) result ≡ four_of (fields line.now) }
+{
+    let (first, rest) = first_field(line)?;
+    let (second, rest) = first_field(rest)?;
+    let (third, rest) = first_field(rest)?;
+    let (fourth, rest) = first_field(rest)?;
+    if let Some(_) = first_field(rest) {
+        return None;
+    }
+    Some((first, second, third, fourth))
 }
 
 /// How many spaces stand before the first other byte.

@@ -17,7 +17,7 @@ mod rect;
 mod task;
 
 pub use fault::{GridFault, GridKind};
-pub use fields::first_field;
+pub use fields::{first_field, four_fields};
 pub use grid::{Block, Grid, Region};
 pub use numbers::{are_digits, number_of};
 pub use reader::read_grid;
