@@ -21,5 +21,5 @@ first_of line rest start run found same r =
     let there : fields line ≡ fields rest = fields_skip line ∙ ap (λ n. fields (drop n line)) at.place ∙ ap fields (sym same) in
     let long : 0 < position_or_len is_space rest = subst (λ bs. 0 < position_or_len is_space bs) (sym same) some in
     let first : fields rest ≡ take run rest ∷ fields (drop run rest) =
-        subst (λ n. fields rest ≡ take n rest ∷ fields (drop n rest)) (sym r) (fields_run rest long) in
+    subst (λ n. fields rest ≡ take n rest ∷ fields (drop n rest)) (sym r) (fields_run rest long) in
     there ∙ first ∙ ap (λ bs. take run rest ∷ fields bs) (sym (behind rest run))

@@ -19,7 +19,7 @@ rest_some : (bytes : List ℕ) (n : ℕ) → position is_feed bytes ≡ Some n �
 rest_some bytes n e =
     let at = found_at is_feed bytes n e in
     let cut : slice_split is_feed bytes ≡ take n bytes ∷ slice_split is_feed (drop (n + 1) bytes) =
-        rw (← at.place) (slice_split_first is_feed bytes 0 at.within) in
+    rw (← at.place) (slice_split_first is_feed bytes 0 at.within) in
     ap open_part cut ∙ open_cons (take n bytes) (slice_split is_feed (drop (n + 1) bytes)) (omega (arith, length-slice_split is_feed (drop (n + 1) bytes)))
 
 -- the first line, where a line feed stands

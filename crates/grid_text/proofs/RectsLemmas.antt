@@ -92,14 +92,16 @@ common a b = record { x = max a.x b.x; y = max a.y b.y }
 
 common_in : (a b : Rect) → HasCells a → HasCells b → Crossing a b → IsIn (common a b) a × IsIn (common a b) b
 unfolding common
-common_in a b ha hb c =
-    (record { column = (omega arith, omega (arith, ha.0, c.left, c.right)); row = (omega arith, omega (arith, ha.1, c.top, c.bottom)) },
-     record { column = (omega arith, omega (arith, hb.0, c.left, c.right)); row = (omega arith, omega (arith, hb.1, c.top, c.bottom)) })
+common_in a b ha hb c = (
+  record { column = (omega arith, omega (arith, ha.0, c.left, c.right)); row = (omega arith, omega (arith, ha.1, c.top, c.bottom)) },
+  record { column = (omega arith, omega (arith, hb.0, c.left, c.right)); row = (omega arith, omega (arith, hb.1, c.top, c.bottom)) },
+)
 
 crossing_of_cell : (a b : Rect) (cell : Cell) → IsIn cell a → IsIn cell b → Crossing a b
 crossing_of_cell a b cell i j = record { left = omega arith; right = omega arith; top = omega arith; bottom = omega arith }
 
 pub meeting_is_by_cells : MeetingIsByCells
-meeting_is_by_cells a b ha hb =
-    (λ e. let both = common_in a b ha hb (crossing_told a b e) in (common a b, both.0, both.1),
-     λ cell. crossing_test a b (crossing_of_cell a b cell.0 cell.1 cell.2))
+meeting_is_by_cells a b ha hb = (
+  λ e. let both = common_in a b ha hb (crossing_told a b e) in (common a b, both.0, both.1),
+  λ cell. crossing_test a b (crossing_of_cell a b cell.0 cell.1 cell.2),
+)

@@ -23,4 +23,3 @@ is_passed (b ∷ bs) = b == 59
 -- all lines are passed over
 unfoldable pub is_bare : List ℕ → Bool
 is_bare bytes = list_all is_passed (lines_in bytes)
-

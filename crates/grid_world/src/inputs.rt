@@ -40,4 +40,3 @@ pub(crate) fn three_fields(line: &[u8]) -> Option<(&[u8], &[u8], &[u8])>
     }
     Some((first, second, third))
 }
-

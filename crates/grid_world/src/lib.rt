@@ -10,9 +10,12 @@ mod answer_line;
 mod ask;
 mod clear;
 mod grasp;
+mod held;
 mod inputs;
 mod place;
 mod reach;
+mod service;
+mod status;
 mod words;
 
 pub use answer::{GridAnswer, Side};
@@ -20,3 +23,5 @@ pub use ask::grid_answer;
 pub use grid_text::{
     Block, Grid, GridFault, GridKind, GridTask, Rect, Region, grid_task, read_grid,
 };
+pub use service::serve;
+pub use status::GridStatus;

@@ -23,9 +23,9 @@ loop-column-preserved c =
     let rest = row_from grid block region c.args.y (column + 1) in
     elim c.if-may_lie.branch [
       | then-may_lie+else-left-eq0 w ↦
-        subst (λ left. Leaves all c.args.turn left rest) (sym w.left-is)
-        (counts grid block region c.args.y column c.args.turn c.loop-column.left all (record { x = region.x + column; y = c.args.y }) c.loop-column-test.true refl (sym c.may_lie.ensures ∙ w.if-may_lie.true) (omega (arith, w.if-left-eq0.false)) c.loop-column.invariant)
+          subst (λ left. Leaves all c.args.turn left rest) (sym w.left-is)
+          (counts grid block region c.args.y column c.args.turn c.loop-column.left all (record { x = region.x + column; y = c.args.y }) c.loop-column-test.true refl (sym c.may_lie.ensures ∙ w.if-may_lie.true) (omega (arith, w.if-left-eq0.false)) c.loop-column.invariant)
       | else-may_lie w ↦
-        subst (λ left. Leaves all c.args.turn left rest) (sym w.left-is)
-        (passes grid block region c.args.y column c.args.turn c.loop-column.left all (record { x = region.x + column; y = c.args.y }) c.loop-column-test.true refl (sym c.may_lie.ensures ∙ w.if-may_lie.false) c.loop-column.invariant)
+          subst (λ left. Leaves all c.args.turn left rest) (sym w.left-is)
+          (passes grid block region c.args.y column c.args.turn c.loop-column.left all (record { x = region.x + column; y = c.args.y }) c.loop-column-test.true refl (sym c.may_lie.ensures ∙ w.if-may_lie.false) c.loop-column.invariant)
     ]
