@@ -63,14 +63,18 @@ pub record HasFaults (source_old source_new sink_old sink_new : ℕ) (status : G
   pub read : status ≡ ReadFault → Rose last_count source_old source_new
   pub write : status ≡ WriteFault → Rose last_count sink_old sink_new
 
--- What is told of the outside: the files, the paths that were asked for, the files' count of faults, the bytes that the source
--- had left, and those that the sink took.
+-- What is told of the outside: the files, the paths that were asked for, the counts of faults of the files, the source and
+-- the sink, the bytes that the source had left, and those that the sink took.
 pub record Outside : Type 0 where
   pub told : Option FileMap
   pub asked_old : Option (List Asked)
   pub asked_new : Option (List Asked)
   pub files_old : ℕ
   pub files_new : ℕ
+  pub source_old : ℕ
+  pub source_new : ℕ
+  pub sink_old : ℕ
+  pub sink_new : ℕ
   pub before : Option (List ℕ)
   pub after : Option (List ℕ)
   pub old : Option (List ℕ)
@@ -86,6 +90,7 @@ pub record HasServed (outside : Outside) (bytes : List ℕ) (status : GridStatus
   pub grid : GridFile
   pub read : IsGridOf bytes grid
   pub answers : AnswersLines grid outside.before outside.after outside.old outside.new status
+  pub faults : HasFaults outside.source_old outside.source_new outside.sink_old outside.sink_new status
 
 -- the file is no grid file
 pub record IsRefused (outside : Outside) (bytes : List ℕ) (status : GridStatus) : Type 0 where
@@ -126,10 +131,3 @@ abbrev pub Serves : Outside → List (List ℕ) → GridStatus → Type 0
 Serves outside [] status = HasRefusedWords outside status
 Serves outside (path ∷ []) status = HasAsked outside path status
 Serves outside (path ∷ next ∷ more) status = HasRefusedWords outside status
-
--- No count of faults falls. With ReadFault that of the source rose, where a grid was read; with WriteFault that of the sink.
-pub record HasFaultsOf (files_old files_new source_old source_new sink_old sink_new : ℕ) (status : GridStatus) : Type 0 where
-  pub files : files_old ≤ files_new
-  pub source : source_old ≤ source_new
-  pub sink : sink_old ≤ sink_new
-  pub write : status ≡ WriteFault → Rose last_count sink_old sink_new

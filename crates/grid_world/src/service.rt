@@ -1,6 +1,6 @@
 //! All that the program does.
 ghost use Rattle.std.specs.Prelude.{map, string_bytes};
-ghost use Rattle.grid_world.specs.Serving.{AnswersLines, HasFaults, HasFaultsOf, Serves};
+ghost use Rattle.grid_world.specs.Serving.{AnswersLines, HasFaults, Serves};
 
 use crate::answer_line::answer_line;
 use crate::held::{Filled, Held};
@@ -24,8 +24,22 @@ pub fn serve<F: Files, S: Source, O: Sink>(
     source: &mut S,
     out: &mut O,
 ) -> GridStatus
-    ensures serves { Serves (record { told = F.told files.old; asked_old = F.asked files.old; asked_new = F.asked files.new; files_old = F.faults files.old; files_new = F.faults files.new; before = S.left source.old; after = S.left source.new; old = O.taken out.old; new = O.taken out.new }) (map string_bytes words.now) result }
-    ensures faults { HasFaultsOf (F.faults files.old) (F.faults files.new) (S.faults source.old) (S.faults source.new) (O.faults out.old) (O.faults out.new) result }
+    // By the words, what the read of the file answered, the file's bytes, and how the answers ended.
+    ensures { Serves (record {
+      told = F.told files.old;
+      asked_old = F.asked files.old;
+      asked_new = F.asked files.new;
+      files_old = F.faults files.old;
+      files_new = F.faults files.new;
+      source_old = S.faults source.old;
+      source_new = S.faults source.new;
+      sink_old = O.faults out.old;
+      sink_new = O.faults out.new;
+      before = S.left source.old;
+      after = S.left source.new;
+      old = O.taken out.old;
+      new = O.taken out.new;
+    }) (map string_bytes words.now) result }
 {
     let [path] = words else {
         return GridStatus::Usage;
@@ -50,8 +64,10 @@ fn serve_lines<S: Source, O: Sink>(
     source: &mut S,
     out: &mut O,
 ) -> GridStatus
-    ensures answers { AnswersLines grid.now (S.left source.old) (S.left source.new) (O.taken out.old) (O.taken out.new) result }
-    ensures faults { HasFaults (S.faults source.old) (S.faults source.new) (O.faults out.old) (O.faults out.new) result }
+    ensures answers { AnswersLines grid.now (S.left source.old) (S.left source.new)
+        (O.taken out.old) (O.taken out.new) result }
+    ensures faults { HasFaults (S.faults source.old) (S.faults source.new)
+        (O.faults out.old) (O.faults out.new) result }
 {
     let Ok(mut held) = Held::new(alloc) else {
         return GridStatus::Memory;
