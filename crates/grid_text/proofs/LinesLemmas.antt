@@ -1,11 +1,10 @@
 -- How a grid file falls into lines.
-use Rattle.std.proofs.Common.{◌≡◌, ℕ, ◌+◌, ◌-◌, ◌<◌, ◌≤◌, true, false, List, [], ◌∷◌, ◌++◌, length, drop, take, refl, sym, ap, ◌∙◌, arith, Option, Some, None, MatchOption, position, get_or, length-drop, drop-cons, add-one, suc}
+use Rattle.std.proofs.Common.{◌≡◌, ℕ, ◌+◌, ◌-◌, ◌<◌, true, false, List, [], ◌∷◌, ◌++◌, length, drop, take, refl, sym, ap, ◌∙◌, arith, Option, Some, None, MatchOption, position, get_or, length-drop, drop-cons, add-one, suc}
 use Rattle.std.proofs.Math.Seq.{take-suc}
-use Rattle.std.proofs.lemmas.List.{take_all, drop_all}
 use Rattle.std.specs.List.{slice_split}
 use Rattle.std.specs.Io.BufRead.{strip_last}
 use Rattle.std.proofs.lemmas.List.Splits.{slice_split_first, length-slice_split}
-use Rattle.gen_lines.specs.Lines.{is_feed, lines_of, open_part, unfinished}
+use Rattle.gen_lines.specs.Lines.{is_feed, open_part, unfinished}
 use Rattle.gen_lines.proofs.Cutting.{lines_none, lines_some}
 use Rattle.gen_lines.proofs.Positions.{found_at, not_found, split_whole}
 use Rattle.grid_text.specs.Lines.{lines_in, is_bare, is_passed}

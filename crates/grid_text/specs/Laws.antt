@@ -1,5 +1,5 @@
 -- Laws of the definitions. Each is the contract of a public function of `laws.rt`, and so is proved.
-use Rattle.std.specs.Prelude.{◌≡◌, ◌↔◌, ℕ, true}
+use Rattle.std.specs.Prelude.{◌≡◌, ◌↔◌, true}
 use Rattle.grid_text.specs.declared.rect.Rect.{Rect}
 use Rattle.grid_text.specs.Rects.{Cell, IsIn, HasCells, is_within, meets}
 

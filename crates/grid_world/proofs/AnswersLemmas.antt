@@ -1,5 +1,5 @@
 -- Answers at places.
-use Rattle.std.proofs.Common.{◌≡◌, ℕ, ◌<◌, ◌≤◌, arith, Option, Some, None, option_to_list, get_or, length}
+use Rattle.std.proofs.Common.{◌≡◌, ℕ, ◌<◌, arith, Option, Some, None, option_to_list}
 use Rattle.std.proofs.lemmas.List.{get_or_past}
 use Rattle.grid_world.specs.Answers.{all_sides, nth}
 use Rattle.grid_world.specs.declared.answer.GridAnswer.{GridAnswer}

@@ -9,7 +9,6 @@ use Rattle.grid_text.specs.declared.grid.Block.{Block}
 use Rattle.grid_text.specs.declared.rect.Rect.{Rect}
 use Rattle.grid_world.specs.Answers.{corners, may_lie, nth, pose_answer, poses_at, row_corners}
 use Rattle.grid_world.specs.declared.answer.GridAnswer.{GridAnswer}
-use Rattle.grid_world.specs.declared.answer.GridAnswer.TheVariants.{End}
 use Rattle.grid_world.specs.declared.words.Corner.{Corner}
 
 numbers_step : (first n : ℕ) → 0 < n → numbers_from first n ≡ first ∷ numbers_from (first + 1) (n - 1)

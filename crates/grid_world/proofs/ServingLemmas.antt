@@ -2,11 +2,11 @@
 use Rattle.std.proofs.Common.{◌≡◌, ℕ, ◌+◌, ◌<◌, ◌≤◌, List, [], ◌∷◌, ◌++◌, length, drop, take, refl, sym, ap, ◌∙◌, subst, arith, Option, Some, None, position, append-nil, append_assoc, length-append, get_or, map}
 use Rattle.std.specs.Io.BufRead.{strip_last}
 use Rattle.std.specs.Io.KnownBytes.{Appends, Consumes, IsAtEnd, Keeps}
-use Rattle.std.specs.List.{after_first, flat_map}
+use Rattle.std.specs.List.{after_first}
 use Rattle.std.proofs.KnownBytes.{Appends-nil, Appends-trans, Consumes-kept, Consumes-nil, Consumes-trans}
 use Rattle.std.proofs.lemmas.Grind.{flat_map-append}
 use Rattle.std.proofs.Math.Seq.{take-append-add}
-use Rattle.gen_lines.specs.Cutting.{Cut, IsWhole, fresh, pushed, took}
+use Rattle.gen_lines.specs.Cutting.{Cut, fresh, pushed, took}
 use Rattle.gen_lines.specs.Lines.{is_feed, lines_of, unfinished}
 use Rattle.gen_lines.proofs.Cutting.{after_some, lines_none, lines_some}
 use Rattle.gen_lines.proofs.Pieces.{whole}

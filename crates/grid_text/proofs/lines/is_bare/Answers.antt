@@ -1,5 +1,5 @@
 use Rattle.std.proofs.Common.{rules, ◌≡◌, ◌∷◌, [], ◌∙◌, sym, true, false}
-use Rattle.grid_text.specs.Lines.{is_bare, is_passed, lines_in}
+use Rattle.grid_text.specs.Lines.{is_passed, lines_in}
 use Rattle.grid_text.proofs.LinesLemmas.{bare_last, bare_more, bare_some}
 use Rattle.grid_text.proofs.lines.is_bare.Goals as goal
 

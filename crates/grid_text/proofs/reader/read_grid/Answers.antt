@@ -1,6 +1,5 @@
-use Rattle.std.proofs.Common.{rules, arith, ◌≡◌, ◌∷◌, ◌+◌, ◌<◌, [], ◌∙◌, sym, refl, true, false, drop, ℕ, Some, None}
+use Rattle.std.proofs.Common.{rules, arith, ◌≡◌, ◌∷◌, [], ◌∙◌, sym, refl, false}
 use Rattle.std.proofs.lemmas.Result.{err_from_is_err_and}
-use Rattle.grid_text.specs.Files.{fault_at}
 use Rattle.grid_text.specs.Lines.{is_bare, lines_in}
 use Rattle.grid_text.proofs.GridsLemmas.{blames, grid_next, nothing_of, reads, right_more}
 use Rattle.grid_text.proofs.LinesLemmas.{TakesLine, some_lines, takes_line}

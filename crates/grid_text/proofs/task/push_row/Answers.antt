@@ -1,4 +1,4 @@
-use Rattle.std.proofs.Common.{◌≡◌, ◌∙◌, ◌++◌, ◌+◌, ap, sym, append-nil, string_bytes}
+use Rattle.std.proofs.Common.{◌≡◌, ◌∙◌, ◌++◌, ◌+◌, ap, sym, append-nil}
 use Rattle.grid_text.specs.Tasks.{item_text, row_text}
 use Rattle.grid_text.proofs.TasksLemmas.{row_more, row_none}
 use Rattle.grid_text.proofs.task.push_row.Goals as goal

@@ -1,6 +1,6 @@
-use Rattle.std.proofs.Common.{◌≡◌, ◌+◌, ◌∙◌, ap, sym}
+use Rattle.std.proofs.Common.{◌+◌, ◌∙◌, ap, sym}
 use Rattle.grid_world.specs.Answers.{nth}
-use Rattle.grid_world.proofs.PlacesLemmas.{rows_from, rows_more, rows_none, whole_region}
+use Rattle.grid_world.proofs.PlacesLemmas.{rows_from, rows_more}
 use Rattle.grid_world.proofs.place.pose_in.Goals as goal
 
 pub returns-in-Here : goal.returns-in-Here

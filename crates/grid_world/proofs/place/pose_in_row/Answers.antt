@@ -1,4 +1,4 @@
-use Rattle.std.proofs.Common.{arith, ◌≡◌, ◌+◌, ◌∙◌, sym, subst, refl, true, false}
+use Rattle.std.proofs.Common.{arith, ◌≡◌, ◌+◌, ◌∙◌, sym, subst, refl, true}
 use Rattle.grid_world.specs.Answers.{may_lie, poses_at, row_corners}
 use Rattle.grid_world.proofs.PlacesLemmas.{Leaves, counts, finds, passes, row_from}
 use Rattle.grid_world.proofs.place.pose_in_row.Goals as goal

@@ -1,6 +1,5 @@
-use Rattle.std.proofs.Common.{◌≡◌, ◌∷◌, [], arith, inl, inr, Ok, map, refl, string_bytes, subst, sym, IfSome, Some}
+use Rattle.std.proofs.Common.{◌≡◌, ◌∷◌, [], arith, inl, inr, Ok, map, refl, string_bytes, subst}
 use Rattle.grid_text.specs.Files.{Blames, IsGridOf}
-use Rattle.grid_world.specs.Serving.{Serves}
 use Rattle.grid_world.proofs.ServingLemmas.{one_word}
 use Rattle.grid_world.proofs.service.serve.Goals as goal
 

@@ -1,4 +1,4 @@
-use Rattle.std.proofs.Common.{arith, ◌≡◌, ◌+◌, ◌++◌, ◌∷◌, [], ◌∙◌, ap, sym, subst, List, ℕ, length, take}
+use Rattle.std.proofs.Common.{arith, ◌≡◌, ◌+◌, ◌++◌, ◌∷◌, [], ◌∙◌, ap, sym, subst, length, take}
 use Rattle.std.specs.Io.KnownBytes.{Appends}
 use Rattle.grid_world.specs.AnswerLines.{line_of, reply_to}
 use Rattle.grid_world.proofs.ServingLemmas.{Stands, ends_done, ends_input, ends_limit, ends_read, ends_write, line_at, reply_is, stands_answered, stands_filled, stands_first}
