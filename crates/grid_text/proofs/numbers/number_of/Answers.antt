@@ -1,0 +1,19 @@
+use Rattle.std.proofs.Common.{rules, ◌≡◌, refl, true, false}
+use Rattle.std.specs.List.{list_all}
+use Rattle.std.specs.Char.{is_ascii_digit}
+use Rattle.gen_lines.proofs.Digits.{digits_are_text}
+use Rattle.grid_text.specs.Numbers.{is_decimal}
+use Rattle.grid_text.proofs.NumbersLemmas.{not_decimal}
+use Rattle.grid_text.proofs.numbers.number_of.Goals as goal
+
+pub returns-in_default : goal.returns-in_default
+returns-in_default c =
+    let digits : list_all is_ascii_digit c.args.field.now ≡ true = search rules in
+    absurd (c.in_default.ensures.cases.0 (digits_are_text c.args.field.now digits))
+
+pub returns-in_default-parse : goal.returns-in_default-parse
+returns-in_default-parse c =
+    let digits : list_all is_ascii_digit c.args.field.now ≡ true = search rules in
+    let none : is_decimal c.args.field.now ≡ false =
+    not_decimal c.args.field.now c.in-Ok.text.now c.parse.result c.in_default-parse.field-0 c.in-Ok.ensures.cases.0 digits c.parse.ensures.value.0 c.in_default-parse.is in
+    rw none refl

@@ -1,0 +1,61 @@
+//! Fields that write numbers.
+ghost use Rattle.std.specs.Prelude.{◌≡◌, ◌≤◌, IfSome, Some, None, if◌then◌else◌};
+ghost use Rattle.std.specs.List.{list_all};
+ghost use Rattle.std.specs.Char.{is_ascii_digit};
+ghost use Rattle.std.specs.Str.Parse.{digits_value};
+ghost use Rattle.grid_text.specs.Numbers.{is_decimal, is_number, is_extent};
+
+/// The number that a field writes by digits alone, if it is below 2^32. Leading zeros may stand.
+#[tactic(auto, unfolding(crate::specs::Numbers::is_decimal))]
+pub fn number_of(field: &[u8]) -> Option<u32>
+    ensures { result ≡ (if is_decimal field.now then Some (digits_value 10 field.now) else None) }
+{
+    if !are_digits(field) {
+        return None;
+    }
+    let Ok(text) = str::from_utf8(field) else {
+        return None;
+    };
+    let Ok(number) = text.parse::<u32>() else {
+        return None;
+    };
+    Some(number)
+}
+
+/// Whether all of these bytes are digits.
+pub fn are_digits(field: &[u8]) -> bool
+    ensures { result ≡ list_all is_ascii_digit field.now }
+{
+    field.iter().all(|b| b.is_ascii_digit())
+}
+
+/// The most digits of a number in a grid file.
+const DIGITS: usize = 4;
+
+/// The number of a field of a grid file: one to four digits.
+#[tactic(auto, unfolding(crate::specs::Numbers::is_number))]
+pub(crate) fn short_number(field: &[u8]) -> Option<u32>
+    ensures number { result ≡ (if is_number field.now then Some (digits_value 10 field.now) else None) }
+    ensures small { IfSome result (λ n. n ≤ 9999) }
+{
+    if field.len() > DIGITS {
+        return None;
+    }
+    number_of(field)
+}
+
+/// The same where it is at least 1 and at most `most`.
+#[tactic(auto, unfolding(crate::specs::Numbers::is_extent))]
+pub(crate) fn extent_of(field: &[u8], most: u32) -> Option<u32>
+    ensures number { result ≡ (if is_extent most field.now then Some (digits_value 10 field.now) else None) }
+    ensures small { IfSome result (λ n. n ≤ 9999) }
+{
+    let number = short_number(field)?;
+    if number < 1 {
+        return None;
+    }
+    if number > most {
+        return None;
+    }
+    Some(number)
+}

@@ -1,0 +1,3 @@
+pub mod AnswersLemmas
+pub mod PlacesLemmas
+pub mod ServingLemmas

@@ -1,0 +1,37 @@
+-- Answers as lines.
+use Rattle.std.specs.Prelude.{ℕ, List, [], ◌∷◌, ◌++◌, codes}
+use Rattle.std.specs.Fmt.{decimal}
+use Rattle.std.specs.List.{flat_map}
+use Rattle.gen_lines.specs.Lines.{lines_of}
+use Rattle.grid_text.specs.Grids.{GridFile}
+use Rattle.grid_world.specs.Answers.{answer_in}
+use Rattle.grid_world.specs.declared.answer.GridAnswer.{GridAnswer}
+use Rattle.grid_world.specs.declared.answer.GridAnswer.TheVariants as answer
+use Rattle.grid_world.specs.declared.answer.Side.{Side}
+use Rattle.grid_world.specs.declared.answer.Side.TheVariants.{N, E, S, W}
+
+abbrev pub side_line : Side → List ℕ
+side_line N = codes "yield n"
+side_line E = codes "yield e"
+side_line S = codes "yield s"
+side_line W = codes "yield w"
+
+-- `yield` and its value, or `end`
+abbrev pub line_of : GridAnswer → List ℕ
+line_of (answer.Pose x y) = codes "yield " ++ decimal x ++ codes "," ++ decimal y
+line_of (answer.Side side) = side_line side
+line_of (answer.Hand x y) = codes "yield h" ++ decimal x ++ codes "," ++ decimal y
+line_of answer.Yes = codes "yield"
+line_of answer.End = codes "end"
+
+-- the line of the answer to a request, with its line feed
+unfoldable pub reply_to : GridFile → List ℕ → List ℕ
+reply_to grid line = line_of (answer_in grid line) ++ 10 ∷ []
+
+-- The answers to these lines.
+abbrev pub replies_to : GridFile → List (List ℕ) → List ℕ
+replies_to grid lines = flat_map (reply_to grid) lines
+
+-- The answers to the lines of these bytes.
+abbrev pub answers_text : GridFile → List ℕ → List ℕ
+answers_text grid bytes = replies_to grid (lines_of bytes)

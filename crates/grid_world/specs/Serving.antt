@@ -1,0 +1,133 @@
+-- What the program does with its file, its input and its output.
+use Rattle.std.specs.Prelude.{◌≡◌, ℕ, ◌<◌, ◌≤◌, ◌⊎◌, List, [], ◌∷◌, ◌++◌, length, take, Result, Ok, Err, Option, Some, IfSome}
+use Rattle.std.specs.Io.KnownBytes.{Appends, Consumes, IsAtEnd}
+use Rattle.io_world.specs.Faults.{last_count, Extends, Rose}
+use Rattle.io_world.specs.FileMap.{Asked, FileMap, HasMore}
+use Rattle.io_world.specs.declared.files.FileFault.{FileFault}
+use Rattle.io_world.specs.declared.files.FileFault.TheVariants as fault
+use Rattle.gen_lines.specs.Lines.{lines_of, unfinished}
+use Rattle.grid_text.specs.Files.{Blames, IsGridOf}
+use Rattle.grid_text.specs.Grids.{GridFile}
+use Rattle.grid_text.specs.declared.fault.GridFault.TheVariants.{At}
+use Rattle.grid_text.specs.declared.fault.GridKind.{GridKind}
+use Rattle.grid_world.specs.AnswerLines.{replies_to}
+use Rattle.grid_world.specs.declared.status.GridStatus.{GridStatus}
+use Rattle.grid_world.specs.declared.status.GridStatus.TheVariants.{Done, Limit, Usage, Input, ReadFault, WriteFault, Memory}
+
+abbrev pub code_of : GridStatus → ℕ
+code_of Done = 0
+code_of Limit = 2
+code_of Usage = 3
+code_of Input = 4
+code_of ReadFault = 6
+code_of WriteFault = 8
+code_of Memory = 9
+
+-- all of the text was written, or a part of it where a write failed
+abbrev pub Wrote : GridStatus → List ℕ → Option (List ℕ) → Option (List ℕ) → Type 0
+Wrote Done text old new = Appends old new text
+Wrote Limit text old new = Appends old new text
+Wrote Usage text old new = Appends old new text
+Wrote Input text old new = Appends old new text
+Wrote ReadFault text old new = Appends old new text
+Wrote WriteFault text old new = (n : ℕ) × (n < length text) × Appends old new (take n text)
+Wrote Memory text old new = Appends old new text
+
+-- How the answers ended: by the lines that were answered, those that were read behind them, the bytes behind the last line
+-- feed, and what the source has left.
+abbrev pub EndsSo : GridStatus → List (List ℕ) → List (List ℕ) → List ℕ → Option (List ℕ) → Type 0
+EndsSo Done answered behind rest left = (behind ≡ []) × IsAtEnd left
+EndsSo Limit answered behind rest left = length answered ≡ 100000
+EndsSo Usage answered behind rest left = ⊥
+EndsSo Input answered behind rest left = (behind ≡ []) × (4097 ≤ length rest)
+EndsSo ReadFault answered behind rest left = behind ≡ []
+EndsSo WriteFault answered behind rest left = 0 < length answered
+EndsSo Memory answered behind rest left = answered ≡ []
+
+-- Of the bytes that were read, which the source had next, the first lines were answered, at most 100,000; their answers were
+-- written in order, and nothing else.
+pub record AnswersLines (grid : GridFile) (before after old new : Option (List ℕ)) (status : GridStatus) : Type 0 where
+  pub read : List ℕ
+  pub from : Consumes before after read
+  pub answered : List (List ℕ)
+  pub behind : List (List ℕ)
+  pub lines : lines_of read ≡ answered ++ behind
+  pub few : length answered ≤ 100000
+  pub wrote : Wrote status (replies_to grid answered) old new
+  pub ends : EndsSo status answered behind (unfinished read) after
+
+-- counts of faults never fall, and the one of the source or of the sink rose where its fault is told
+pub record HasFaults (source_old source_new sink_old sink_new : ℕ) (status : GridStatus) : Type 0 where
+  pub source : source_old ≤ source_new
+  pub sink : sink_old ≤ sink_new
+  pub read : status ≡ ReadFault → Rose last_count source_old source_new
+  pub write : status ≡ WriteFault → Rose last_count sink_old sink_new
+
+-- What is told of the outside: the files, the paths that were asked for, the counts of faults of the files, the source and
+-- the sink, the bytes that the source had left, and those that the sink took.
+pub record Outside : Type 0 where
+  pub told : Option FileMap
+  pub asked_old : Option (List Asked)
+  pub asked_new : Option (List Asked)
+  pub files_old : ℕ
+  pub files_new : ℕ
+  pub source_old : ℕ
+  pub source_new : ℕ
+  pub sink_old : ℕ
+  pub sink_new : ℕ
+  pub before : Option (List ℕ)
+  pub after : Option (List ℕ)
+  pub old : Option (List ℕ)
+  pub new : Option (List ℕ)
+
+-- nothing was read of the source, and nothing written
+pub record IsUntouched (outside : Outside) : Type 0 where
+  pub left : outside.after ≡ outside.before
+  pub taken : outside.new ≡ outside.old
+
+-- the grid was read, and lines were answered
+pub record HasServed (outside : Outside) (bytes : List ℕ) (status : GridStatus) : Type 0 where
+  pub grid : GridFile
+  pub read : IsGridOf bytes grid
+  pub answers : AnswersLines grid outside.before outside.after outside.old outside.new status
+  pub faults : HasFaults outside.source_old outside.source_new outside.sink_old outside.sink_new status
+
+-- the file is no grid file
+pub record IsRefused (outside : Outside) (bytes : List ℕ) (status : GridStatus) : Type 0 where
+  pub line : ℕ
+  pub kind : GridKind
+  pub blames : Blames bytes (At line kind)
+  pub is : status ≡ Input
+  pub untouched : IsUntouched outside
+
+-- nothing was done with this status
+pub record HasStopped (outside : Outside) (status told : GridStatus) : Type 0 where
+  pub is : status ≡ told
+  pub untouched : IsUntouched outside
+
+abbrev pub GridSo : Outside → List ℕ → GridStatus → Type 0
+GridSo outside bytes status = HasServed outside bytes status ⊎ IsRefused outside bytes status ⊎ HasStopped outside status Memory
+
+-- what was done by what the read of the file answered
+abbrev pub FileSo : Outside → List ℕ → GridStatus → Result (Unit {0}) FileFault → Type 0
+FileSo outside path status (Ok u) = (bytes : List ℕ) × IfSome outside.told (λ files. files path ≡ Some bytes) × GridSo outside bytes status
+FileSo outside path status (Err fault.Failed) = HasStopped outside status ReadFault × Rose last_count outside.files_old outside.files_new
+FileSo outside path status (Err fault.TooLong) = HasStopped outside status ReadFault × IfSome outside.told (λ files. HasMore (files path) 4194304)
+FileSo outside path status (Err fault.Memory) = HasStopped outside status Memory
+
+-- the one file was asked for
+pub record HasAsked (outside : Outside) (path : List ℕ) (status : GridStatus) : Type 0 where
+  pub answer : Result (Unit {0}) FileFault
+  pub asked : Extends outside.asked_old outside.asked_new (record { path = path; answer = answer } ∷ [])
+  pub so : FileSo outside path status answer
+
+-- no file was asked for
+pub record HasRefusedWords (outside : Outside) (status : GridStatus) : Type 0 where
+  pub stopped : HasStopped outside status Usage
+  pub asked : outside.asked_new ≡ outside.asked_old
+
+-- The words are one path, or they are refused.
+abbrev pub Serves : Outside → List (List ℕ) → GridStatus → Type 0
+Serves outside [] status = HasRefusedWords outside status
+Serves outside (path ∷ []) status = HasAsked outside path status
+Serves outside (path ∷ next ∷ more) status = HasRefusedWords outside status

@@ -1,0 +1,27 @@
+//! The generator of the grid of blocks: its answers, the generator in the process, and the program over any source and
+//! sink.
+//!
+//! [`grid_answer`] answers one request. [`GridGen`] is a child of a host, [`GridReplies`] answers for children in tests,
+//! and [`serve`] is all that the program does. The streams and their answers are this project's.
+#![tactic(auto)]
+
+mod answer;
+mod answer_line;
+mod ask;
+mod clear;
+mod grasp;
+mod held;
+mod inputs;
+mod place;
+mod reach;
+mod service;
+mod status;
+mod words;
+
+pub use answer::{GridAnswer, Side};
+pub use ask::grid_answer;
+pub use grid_text::{
+    Block, Grid, GridFault, GridKind, GridTask, Rect, Region, grid_task, read_grid,
+};
+pub use service::serve;
+pub use status::GridStatus;
