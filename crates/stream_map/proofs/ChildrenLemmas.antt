@@ -1,5 +1,5 @@
 -- Children of their own.
-use Rattle.std.proofs.Common.{◌≡◌, ◌⊎◌, inl, inr, ℕ, zero, suc, ◌+◌, ◌<◌, ◌≤◌, ◌==◌, arith, Bool, true, false, true≢false, cond, not, ◌&&◌, ◌||◌, nat_lt, nat_le, List, [], ◌∷◌, length, sum_by, count_by, refl, sym, ap, ◌∙◌, subst, Option, Some, None, slice_get, All}
+use Rattle.std.proofs.Common.{◌≡◌, ◌⊎◌, inl, inr, ℕ, zero, suc, ◌+◌, ◌<◌, ◌≤◌, ◌==◌, arith, Bool, true, false, true≢false, cond, not, ◌&&◌, ◌||◌, nat_lt, nat_le, List, [], ◌∷◌, ◌++◌, append_assoc, length, sum_by, count_by, refl, sym, ap, ◌∙◌, subst, Option, Some, None, slice_get, All}
 use Rattle.std.proofs.lemmas.List.Sums.{sum_by-cons}
 use Rattle.std.proofs.lemmas.Option.{same_Some}
 use Rattle.std.specs.List.{list_any}
@@ -106,3 +106,16 @@ module _ (names : List (List ℕ)) where
       absurd (later_apart next pool pools right (is_grid pool) refl j child p at_j (subst P (sym is) in_q) in_p)
   children_apart next (pool ∷ pools) right (suc j) (suc k) child p q at_j at_k in_p in_q =
       ap suc (children_apart (next + own_workers pool) pools (rest_right next pool pools right) j k child p q at_j at_k in_p in_q)
+
+-- ---- one pool more
+
+pub placed_more : (names : List (List ℕ)) (done all : List PlainPool) (next after : ℕ) (text : Spelled) (rest : List Spelled) (p : PlainPool) → done ++ numbered names next (text ∷ rest) ≡ all
+    → p ≡ record { first = cond (is_grid text) 16 next; workers = text.workers; streams = places_of names text; words = text.run } → after ≡ next + own_workers text → done ++ p ∷ [] ++ numbered names after rest ≡ all
+placed_more names done all next after text rest p so_far is then =
+    append_assoc done (p ∷ []) (numbered names after rest) ∙ (λ i. done ++ (is i ∷ numbered names (then i) rest)) ∙ so_far
+
+pub numbers_left : (text : Spelled) (rest : List Spelled) → list_any has_wrong_number (text ∷ rest) ≡ false → (has_wrong_number text ≡ false) × (list_any has_wrong_number rest ≡ false)
+numbers_left text rest e = (left_false (has_wrong_number text) _ e, right_false (has_wrong_number text) _ e)
+
+pub workers_left : (next after : ℕ) (text : Spelled) (rest : List Spelled) → next + sum_by own_workers (text ∷ rest) ≤ 16 → after ≡ next + own_workers text → after + sum_by own_workers rest ≤ 16
+workers_left next after text rest few is = omega (arith, few, is, sum_by-cons own_workers text rest)

@@ -1,9 +1,9 @@
 -- Looking names up, and sums of workers.
 use Rattle.std.proofs.Common.{◌≡◌, ℕ, zero, suc, ◌+◌, ◌<◌, ◌≤◌, arith, Bool, true, false, true≢false, cond, not, ◌||◌, nat_lt, List, [], ◌∷◌, ◌++◌, length, get_or, take, drop, map, sum_by, refl, sym, ap, ◌∙◌, Option, Some, None, slice_get, position, All}
-use Rattle.std.proofs.lemmas.List.{at_drop_more, length-map}
+use Rattle.std.proofs.lemmas.List.{at_drop_more, length-map, take_more}
 use Rattle.std.proofs.lemmas.List.Elements.{All-append}
 use Rattle.std.proofs.lemmas.List.Sums.{sum_by-cons}
-use Rattle.std.proofs.lemmas.Option.{same_Some, slice_get_within}
+use Rattle.std.proofs.lemmas.Option.{get_or_from_slice_get, same_Some, slice_get_within}
 use Rattle.std.proofs.lemmas.Slice.Eq.{bytes_eq-Decides}
 use Rattle.std.specs.Cmp.{first_so}
 use Rattle.std.specs.List.{cons_option, filter_map, flat_map, list_all, list_any, position_or_len}
@@ -15,7 +15,9 @@ use Rattle.task_model.specs.declared.task.Task.{Task}
 use Rattle.transcript_text.proofs.Tables.{position_at}
 use Rattle.transcript_text.specs.declared.head.Pool.{Pool}
 use Rattle.stream_map.specs.Children.{PlainPool, plain, numbered}
-use Rattle.stream_map.specs.Faults.{own_workers, place_of, places_in, places_of}
+use Rattle.stream_map.specs.Faults.{Refused, fault_of, have_wrong_workers, names_unknown, own_workers, place_of, places_in, places_of, served_fault}
+use Rattle.stream_map.specs.declared.fault.MapFault.{MapFault}
+use Rattle.stream_map.specs.declared.fault.MapFault.TheVariants.{Json, Shape, Workers, Unknown, Doubled, Unserved, Memory}
 use Rattle.stream_map.specs.Form.{each_of, stream_names}
 use Rattle.stream_map.specs.Served.{streams_in}
 use Rattle.stream_map.specs.Spelled.{Spelled, shown}
@@ -81,12 +83,17 @@ absent (n ∷ ns) (suc i) name apart =
     not_first true is gone = absurd (apart 0 (omega arith) (ap Some (sym ((bytes_eq-Decides name n).0 is))))
     not_first false is gone = ap (λ b. b || list_any (bytes_eq name) (take i ns)) is ∙ gone
 
+taken : (names : List (List ℕ)) (i : ℕ) (name : List ℕ) → slice_get names i ≡ Some name → take (i + 1) names ≡ take i names ++ name ∷ []
+taken names i name here =
+    let within = slice_get_within names i name here in
+    take_more names i name within ∙ ap (λ n. take i names ++ n ∷ []) (get_or_from_slice_get names i name name here)
+
 -- a key that isn't there is put behind the others
 pub key_pushed : {A : Type 0} (f : A → List ℕ) (old new : List A) (key : A) (names : List (List ℕ)) (i : ℕ) → map f old ≡ take i names → slice_get names i ≡ Some (f key)
-    → ((j : ℕ) → j < i → slice_get names j ≡ Some (f key) → ⊥) → new ≡ cond (list_any (λ k. bytes_eq (f key) (f k)) old) old (old ++ key ∷ []) → map f new ≡ take i names ++ f key ∷ []
+    → ((j : ℕ) → j < i → slice_get names j ≡ Some (f key) → ⊥) → new ≡ cond (list_any (λ k. bytes_eq (f key) (f k)) old) old (old ++ key ∷ []) → map f new ≡ take (i + 1) names
 key_pushed f old new key names i same here apart grown =
     let gone = any_mapped f (bytes_eq (f key)) old ∙ ap (list_any (bytes_eq (f key))) same ∙ absent names i (f key) apart in
-    ap (map f) (grown ∙ ap (λ b. cond b old (old ++ key ∷ [])) gone) ∙ mapped_push f old key ∙ ap (λ ns. ns ++ f key ∷ []) same
+    ap (map f) (grown ∙ ap (λ b. cond b old (old ++ key ∷ [])) gone) ∙ mapped_push f old key ∙ ap (λ ns. ns ++ f key ∷ []) same ∙ sym (taken names i (f key) here)
 
 -- ---- the streams of a fit task
 
@@ -145,3 +152,27 @@ own_sum pools = sum_by own_workers (map shown pools)
 pub own_left : (pools : List PoolText) (i : ℕ) (x : PoolText) → i < length pools → x ≡ get_or pools i x → sum_by own_workers (map shown (drop i pools)) ≡ own_workers (shown x) + sum_by own_workers (map shown (drop (i + 1) pools))
 own_left pools i x within is =
     at_drop_more own_sum pools i x within ∙ ap (λ v. own_sum (v ∷ drop (i + 1) pools)) (sym is) ∙ sum_by-cons own_workers (shown x) (map shown (drop (i + 1) pools))
+
+-- the name of the stream at a place
+pub name_at : (names : List (List ℕ)) (streams : List Stream) (i : ℕ) (stream : Stream) → map (λ (s : Stream). s.name) streams ≡ names → i < length streams → stream ≡ get_or streams i stream → slice_get names i ≡ Some stream.name
+name_at names streams i stream are within is = ap (λ ns. slice_get ns i) (sym are) ∙ mapped_at streams i within is
+  where
+    mapped_at : (ss : List Stream) (k : ℕ) → k < length ss → stream ≡ get_or ss k stream → slice_get (map (λ (s : Stream). s.name) ss) k ≡ Some stream.name
+    mapped_at [] k within is = absurd (omega (arith, within))
+    mapped_at (s ∷ ss) zero within is = ap (λ (x : Stream). Some x.name) (sym is)
+    mapped_at (s ∷ ss) (suc k) within is = mapped_at ss k (omega (arith, within)) is
+
+-- ---- the fault
+
+pub fault_is : (names : List (List ℕ)) (texts : List Spelled) (o : Option MapFault) → have_wrong_workers texts ≡ false → list_any (names_unknown names) texts ≡ false → o ≡ served_fault (length names) (places_in names texts) → fault_of names texts ≡ o
+fault_is names texts o right known is =
+    (λ i. cond (right i) (Some Workers) (cond (known i) (Some Unknown) (served_fault (length names) (places_in names texts)))) ∙ sym is
+
+pub refused_from : (names : List (List ℕ)) (texts : List Spelled) (why : MapFault) → fault_of names texts ≡ Some why → Refused names (Some texts) why
+refused_from names texts Json e = e
+refused_from names texts Shape e = e
+refused_from names texts Workers e = e
+refused_from names texts Unknown e = e
+refused_from names texts Doubled e = e
+refused_from names texts Unserved e = e
+refused_from names texts Memory e = tt

@@ -250,3 +250,17 @@ served_end count pools i marks past counted are so_far all is =
     ends : (a b c : Bool) → b ≡ false → c ≡ not a → cond a None (Some Unserved) ≡ cond b (Some Doubled) (cond c (Some Unserved) None)
     ends true b c e h = (λ j. cond (sym e j) (Some Doubled) (cond (sym h j) (Some Unserved) None))
     ends false b c e h = (λ j. cond (sym e j) (Some Doubled) (cond (sym h j) (Some Unserved) None))
+
+-- ---- a step of marking
+
+pub mark_next : (before ks : List ℕ) (marks : List Bool) (i : ℕ) → i < length ks → get_or ks i 0 < length marks → AreMarks (before ++ take i ks) marks → AreMarks (before ++ take (i + 1) ks) (set marks (get_or ks i 0) true)
+mark_next before ks marks i within low are =
+    let same : before ++ take i ks ++ get_or ks i 0 ∷ [] ≡ before ++ take (i + 1) ks =
+        append_assoc before (take i ks) (get_or ks i 0 ∷ []) ∙ ap (λ ns. before ++ ns) (sym (take_more ks i 0 within)) in
+    let P : List ℕ → Type 0 = λ ns. AreMarks ns (set marks (get_or ks i 0) true) in
+    subst P same (mark_more (before ++ take i ks) marks (get_or ks i 0) low are)
+
+pub marks_end : (before ks : List ℕ) (marks : List Bool) (i : ℕ) → length ks ≤ i → AreMarks (before ++ take i ks) marks → AreMarks (before ++ ks) marks
+marks_end before ks marks i past are =
+    let P : List ℕ → Type 0 = λ ns. AreMarks (before ++ ns) marks in
+    subst P (take_all i ks past) are

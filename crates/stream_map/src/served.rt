@@ -1,6 +1,7 @@
 //! Whether each stream stands once.
 ghost use Rattle.std.specs.Prelude.{◌≡◌, ◌<◌, ◌++◌, ℕ, List, length, All, IfOk};
 ghost use Rattle.std.specs.Bool.{OnFalse};
+ghost use Rattle.std.specs.List.{list_all};
 ghost use Rattle.stream_map.specs.Faults.{served_fault};
 ghost use Rattle.stream_map.specs.Served.{AreMarks, has_repeat, streams_in};
 
@@ -26,6 +27,13 @@ fn mark(marks: &mut Vec<bool>, streams: &[u32]) -> bool
     false
 }
 
+/// Whether each is marked.
+fn are_all_marked(marks: &[bool]) -> bool
+    ensures { result ≡ list_all (λ marked. marked) marks.now }
+{
+    marks.iter().all(|marked| *marked)
+}
+
 /// The fault of pools that don't serve each of so many streams once. Fails only where memory is wanting.
 pub(crate) fn served_fault(
     alloc: Global,
@@ -41,7 +49,7 @@ pub(crate) fn served_fault(
             return Ok(Some(MapFault::Doubled));
         }
     }
-    if marks.iter().all(|marked| *marked) {
+    if are_all_marked(marks.as_slice()) {
         Ok(None)
     } else {
         Ok(Some(MapFault::Unserved))

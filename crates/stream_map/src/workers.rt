@@ -51,7 +51,12 @@ fn has_two_grids(pools: &[PoolText]) -> bool
 fn has_wrong_numbers(pools: &[PoolText]) -> bool
     ensures { result ≡ list_any has_wrong_number (map shown pools.now) }
 {
-    pools.iter().any(|pool| has_wrong_number(pool))
+    for pool in pools {
+        if has_wrong_number(pool) {
+            return true;
+        }
+    }
+    false
 }
 
 /// Whether the pools have numbers of workers that may not stand.

@@ -8,8 +8,8 @@ use Rattle.stream_map.proofs.form.names_of.Goals as goal
 
 pub returns-in_err-name_of-clause-other : goal.returns-in_err-name_of-clause-other
 returns-in_err-name_of-clause-other c =
-    let missed : Only Shape (names_of (view c.args.value.now) ≡ None) c.in_err-name_of.field-0 =
-        only_weaker Shape _ _ c.in_err-name_of.field-0
+    let missed : Only Shape (names_of (view c.args.value.now) ≡ None) c.in_err-name_of.field-0.0 =
+        only_weaker Shape _ _ c.in_err-name_of.field-0.0
           (λ none. ap (option_and_then if_some) (listed-array name_of (view c.args.value.now) c.deref-item-items.result.now c.loop-item.invariant.list
             ∙ reads_stop (λ v. name_of (view v)) c.deref-item-items.result.now c.loop-item.item-index c.item-item.result _ (omega arith) c.item-item.is none c.loop-item.invariant.reads))
           c.in_err-name_of.ensures.other in
