@@ -85,8 +85,14 @@ const JSON: [Row; 12] = [
         "json",
     ),
     ("{'pools':1e999}", "json"),
-    ("{'pools':[{'run':['\\ud800'],'streams':['place']}]}", "json"),
-    ("{'pools':[{'run':['g'],'workers':02,'streams':['place']}]}", "json"),
+    (
+        "{'pools':[{'run':['\\ud800'],'streams':['place']}]}",
+        "json",
+    ),
+    (
+        "{'pools':[{'run':['g'],'workers':02,'streams':['place']}]}",
+        "json",
+    ),
     (
         "[[[[[[[[[[[[[[[[[[[[[[[[[[[[[[[[[[[[[[[[[[[[[[[[[[[[[[[[[[[[[[[[[[[[[[[[[[[[[[[[[[[[[[[[[[[[[[[[[[[[[[[[[[[[[[[[[[[[[[[[[[[[[[[[]]]]]]]]]]]]]]]]]]]]]]]]]]]]]]]]]]]]]]]]]]]]]]]]]]]]]]]]]]]]]]]]]]]]]]]]]]]]]]]]]]]]]]]]]]]]]]]]]]]]]]]]]]]]]]]]]]]]]]]]]]]]]]]]",
         "json",
@@ -111,13 +117,28 @@ const SHAPE: [Row; 35] = [
         "{'pools':[{'run':['g'],'streams':['place','grasp','reach'],'name':'x'}]}",
         "shape",
     ),
-    ("{'pools':[{'run':'g','streams':['place','grasp','reach']}]}", "shape"),
-    ("{'pools':[{'run':[],'streams':['place','grasp','reach']}]}", "shape"),
-    ("{'pools':[{'run':['g',1],'streams':['place','grasp','reach']}]}", "shape"),
-    ("{'pools':[{'run':['g',null],'streams':['place','grasp','reach']}]}", "shape"),
+    (
+        "{'pools':[{'run':'g','streams':['place','grasp','reach']}]}",
+        "shape",
+    ),
+    (
+        "{'pools':[{'run':[],'streams':['place','grasp','reach']}]}",
+        "shape",
+    ),
+    (
+        "{'pools':[{'run':['g',1],'streams':['place','grasp','reach']}]}",
+        "shape",
+    ),
+    (
+        "{'pools':[{'run':['g',null],'streams':['place','grasp','reach']}]}",
+        "shape",
+    ),
     ("{'pools':[{'run':['g'],'streams':[]}]}", "shape"),
     ("{'pools':[{'run':['g'],'streams':'place'}]}", "shape"),
-    ("{'pools':[{'run':['g'],'streams':['place',['grasp','reach']]}]}", "shape"),
+    (
+        "{'pools':[{'run':['g'],'streams':['place',['grasp','reach']]}]}",
+        "shape",
+    ),
     (
         "{'pools':[{'run':['g'],'streams':['place','grasp','reach']},{'run':['g'],'streams':[]}]}",
         "shape",
@@ -154,7 +175,10 @@ const SHAPE: [Row; 35] = [
         "{'pools':[{'run':['g'],'workers':-9223372036854775809,'streams':['place','grasp','reach']}]}",
         "shape",
     ),
-    ("{'pools':[{'run':['@grid'],'streams':['place','grasp','reach']}]}", "shape"),
+    (
+        "{'pools':[{'run':['@grid'],'streams':['place','grasp','reach']}]}",
+        "shape",
+    ),
     (
         "{'pools':[{'run':['@grid','f','g'],'streams':['place','grasp','reach']}]}",
         "shape",
@@ -256,8 +280,14 @@ const OTHERS: [Row; 24] = [
         "doubled",
     ),
     ("{'pools':[]}", "unserved"),
-    ("{'pools':[{'run':['g'],'streams':['place','grasp']}]}", "unserved"),
-    ("{'pools':[{'run':['g'],'streams':['grasp','reach']}]}", "unserved"),
+    (
+        "{'pools':[{'run':['g'],'streams':['place','grasp']}]}",
+        "unserved",
+    ),
+    (
+        "{'pools':[{'run':['g'],'streams':['grasp','reach']}]}",
+        "unserved",
+    ),
     (
         "{'pools':[{'run':['g'],'streams':['place']},{'run':['h'],'streams':['reach']}]}",
         "unserved",
@@ -271,9 +301,18 @@ const OTHERS: [Row; 24] = [
 /// Two faults each, the one that is told last in the text.
 const PAIRS: [Row; 15] = [
     ("{'pools':[{'run':[]}", "json"),
-    ("{'pools':[{'run':['g'],'workers':17,'streams':['place','grasp','reach']}]", "json"),
-    ("{'pools':[{'run':['g'],'streams':['x','place','grasp','reach']}]", "json"),
-    ("{'pools':[{'run':['g'],'streams':['place','place','grasp','reach']}]", "json"),
+    (
+        "{'pools':[{'run':['g'],'workers':17,'streams':['place','grasp','reach']}]",
+        "json",
+    ),
+    (
+        "{'pools':[{'run':['g'],'streams':['x','place','grasp','reach']}]",
+        "json",
+    ),
+    (
+        "{'pools':[{'run':['g'],'streams':['place','place','grasp','reach']}]",
+        "json",
+    ),
     ("{'pools':[{'run':['g'],'streams':['place']}]", "json"),
     (
         "{'pools':[{'run':['g'],'workers':17,'streams':['place','grasp']},{'run':[],'streams':['reach']}]}",
@@ -287,7 +326,10 @@ const PAIRS: [Row; 15] = [
         "{'pools':[{'run':['g'],'streams':['place','place','grasp']},{'run':['h'],'streams':['reach',1]}]}",
         "shape",
     ),
-    ("{'pools':[{'run':['g'],'streams':['place']},{'run':['h']}]}", "shape"),
+    (
+        "{'pools':[{'run':['g'],'streams':['place']},{'run':['h']}]}",
+        "shape",
+    ),
     (
         "{'pools':[{'run':['g'],'streams':['x','place','grasp']},{'run':['h'],'workers':0,'streams':['reach']}]}",
         "workers",
@@ -362,9 +404,12 @@ fn with_text(alloc: Global, map: &str) -> Result<String, Fail> {
 #[test]
 fn the_text_stands_in_the_place_of_the_grids_file(rt: HostRuntime) -> Result<(), Fail> {
     let alloc = rt.alloc();
-    let between = "{\"pools\":[{\"run\":[\"g\"],\"workers\":2,\"streams\":[\"place\"]},{\"run\":[\"@grid\",\"a/f\"],\"streams\":[\"grasp\"]},{\"run\":[\"h\"],\"streams\":[\"reach\"]}]}";
+    let between =
+        "{\"pools\":[{\"run\":[\"g\"],\"workers\":2,\"streams\":[\"place\"]},{\"run\":[\"@grid\",\"a/f\"],\"streams\":[\"grasp\"]},{\"run\":[\"h\"],\"streams\":[\"reach\"]}]}";
     let first = with_text(alloc, between)?;
-    assert!(rt; first.as_str() == "a/f | 0 2 place : g / 16 1 grasp : @grid grid 2 6 / 2 1 reach : h");
+    assert!(rt;
+        first.as_str() == "a/f | 0 2 place : g / 16 1 grasp : @grid grid 2 6 / 2 1 reach : h"
+    );
     let nowhere =
         "{\"pools\":[{\"run\":[\"g\",\"@grid\"],\"streams\":[\"place\",\"grasp\",\"reach\"]}]}";
     let second = with_text(alloc, nowhere)?;

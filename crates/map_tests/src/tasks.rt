@@ -62,12 +62,10 @@ pub(crate) fn task_of(alloc: Global, names: &str) -> Result<Box<Task>, AllocErro
     }
     let domain = domain(alloc)?;
     let problem = problem(alloc)?;
-    Box::new(
-        alloc,
-        Task {
-            domain,
-            problem,
-            streams: Seq::from_vec(streams),
-        },
-    )
+    let task = Task {
+        domain,
+        problem,
+        streams: Seq::from_vec(streams),
+    };
+    Ok(Box::new(alloc, task)?)
 }

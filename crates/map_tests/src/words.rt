@@ -37,12 +37,7 @@ const WORDS: [Row; 22] = [
 ];
 
 /// What the words give.
-fn told_of(
-    alloc: Global,
-    streams: &str,
-    words: &[String],
-    workers: u8,
-) -> Result<String, Fail> {
+fn told_of(alloc: Global, streams: &str, words: &[String], workers: u8) -> Result<String, Fail> {
     let task = task_of(alloc, streams)?;
     if !is_fit(alloc, &task)? {
         return Ok(String::from_str(alloc, "unfit")?);

@@ -1,9 +1,9 @@
 -- The grid's text in the place of its file.
-use Rattle.std.proofs.Common.{◌≡◌, ℕ, zero, suc, ◌+◌, ◌<◌, ◌≤◌, Bool, true, false, cond, List, [], ◌∷◌, ◌++◌, length, get_or, take, drop, map, string_bytes, refl, sym, ap, ◌∙◌, add-one, append_assoc}
-use Rattle.std.proofs.lemmas.List.{at_drop_more, at_drop_all, drop_more, take_more, map-append, append-nil, take_all, get_or_default}
+use Rattle.std.proofs.Common.{◌≡◌, ℕ, ◌+◌, ◌<◌, ◌≤◌, Bool, true, false, cond, List, [], ◌∷◌, ◌++◌, length, get_or, take, drop, map, string_bytes, refl, sym, ap, ◌∙◌, add-one, append_assoc}
+use Rattle.std.proofs.lemmas.List.{at_drop_all, drop_more, take_more, map-append, append-nil, take_all, get_or_default}
 use Rattle.transcript_text.specs.declared.head.Pool.{Pool}
 use Rattle.stream_map.specs.Spelled.{begins_grid}
-use Rattle.stream_map.specs.Children.{PlainPool, plain, with_second, with_text, grid_file, IsGridPlace}
+use Rattle.stream_map.specs.Children.{plain, with_second, with_text, IsGridPlace}
 
 abbrev pub begins : Pool → Bool
 begins pool = begins_grid (map string_bytes pool.argv)

@@ -1,6 +1,6 @@
 -- The pools of accepted maps.
-use Rattle.std.proofs.Common.{◌≡◌, ◌⊎◌, inl, inr, ℕ, zero, suc, ◌+◌, ◌<◌, ◌≤◌, ◌==◌, arith, Bool, true, false, true≢false, cond, not, ◌&&◌, ◌||◌, nat_lt, nat_le, List, [], ◌∷◌, length, get_or, map, sum_by, count_by, refl, sym, ap, subst, ◌∙◌, Option, Some, None, option_map, option_and_then, codes, slice_get, All, Contains}
-use Rattle.std.specs.List.{flat_map, list_any, list_all}
+use Rattle.std.proofs.Common.{◌≡◌, inl, inr, ℕ, zero, suc, ◌+◌, ◌<◌, ◌≤◌, ◌==◌, arith, Bool, true, false, true≢false, cond, ◌&&◌, ◌||◌, nat_lt, nat_le, List, [], ◌∷◌, length, get_or, map, sum_by, count_by, refl, sym, ap, subst, ◌∙◌, Option, Some, None, option_map, option_and_then, codes, slice_get, All, Contains}
+use Rattle.std.specs.List.{flat_map, list_any}
 use Rattle.std.proofs.lemmas.Bool.{eqb-true}
 use Rattle.std.proofs.lemmas.List.{length-map}
 use Rattle.std.proofs.lemmas.Option.{get_or_from_slice_get, same_Some, slice_get-get_or, slice_get_within}
@@ -198,6 +198,7 @@ words_start task words workers pools = first (length task.streams == 0) (length 
   where
     pool : Spelled
     pool = record { run = words; workers = workers; streams = stream_names task }
+
     first : (a b : Bool) → cond a (Some []) (cond b (Some []) (cond (is_program words) (Some (pool ∷ [])) None)) ≡ Some pools → AreStarted pools
     first true b e = subst AreStarted (same_Some [] pools e) none_start
     first false true e = subst AreStarted (same_Some [] pools e) none_start

@@ -1,5 +1,5 @@
 -- Lists of streams, in which each is to stand once.
-use Rattle.std.proofs.Common.{◌≡◌, ℕ, zero, suc, ◌+◌, ◌<◌, ◌≤◌, ◌==◌, Bool, true, false, true≢false, cond, not, ◌&&◌, ◌||◌, List, [], ◌∷◌, ◌++◌, length, get_or, set, refl, sym, ap, ◌∙◌, append_assoc, arith, take, drop, add-zero, zero-add, subst, Option, Some, None, slice_get, All, eq-eqb}
+use Rattle.std.proofs.Common.{◌≡◌, ℕ, zero, suc, ◌+◌, ◌<◌, ◌≤◌, ◌==◌, Bool, true, false, true≢false, cond, not, ◌&&◌, ◌||◌, List, [], ◌∷◌, ◌++◌, length, get_or, set, refl, sym, ap, ◌∙◌, append_assoc, arith, take, drop, add-zero, zero-add, subst, Some, None, slice_get, All, eq-eqb}
 use Rattle.std.proofs.Math.Bool.{or_assoc}
 use Rattle.std.proofs.lemmas.Bool.{eqb-false, eqb-true}
 use Rattle.std.proofs.lemmas.List.{append-nil, at_drop_all, at_drop_more, drop_more, get_or-append-add, get_or_append_left, get_or-set_same, get_or-set_other, length-append, length-set, take_all, take_more}
@@ -98,9 +98,11 @@ module _ {P : Type 0} (streams : P → List ℕ) where
   pub once_in_pools : (before : List ℕ) (ps : List P) → has_repeat before (flat_map streams ps) ≡ false → (j k a b s : ℕ) (p q : P) → slice_get ps j ≡ Some p → slice_get ps k ≡ Some q
       → slice_get (streams p) a ≡ Some s → slice_get (streams q) b ≡ Some s → (j ≡ k) × (a ≡ b)
   once_in_pools before [] once j k a b s p q at_j at_k at_a at_b = absurd (cc)
-  once_in_pools before (x ∷ ps) once zero zero a b s p q at_j at_k at_a at_b =
-      (refl, one_place before (streams x) (parts before x ps once).0 a b s
-        (ap (λ (r : P). slice_get (streams r) a) (same_Some x p at_j) ∙ at_a) (ap (λ (r : P). slice_get (streams r) b) (same_Some x q at_k) ∙ at_b))
+  once_in_pools before (x ∷ ps) once zero zero a b s p q at_j at_k at_a at_b = (
+    refl,
+    one_place before (streams x) (parts before x ps once).0 a b s
+        (ap (λ (r : P). slice_get (streams r) a) (same_Some x p at_j) ∙ at_a) (ap (λ (r : P). slice_get (streams r) b) (same_Some x q at_k) ∙ at_b),
+  )
   once_in_pools before (x ∷ ps) once zero (suc k) a b s p q at_j at_k at_a at_b = absurd (other_pool before x ps once k a b s q p at_j at_k at_a at_b)
   once_in_pools before (x ∷ ps) once (suc j) zero a b s p q at_j at_k at_a at_b = absurd (other_pool before x ps once j b a s p q at_k at_j at_b at_a)
   once_in_pools before (x ∷ ps) once (suc j) (suc k) a b s p q at_j at_k at_a at_b =
@@ -117,6 +119,7 @@ module _ {P : Type 0} (streams : P → List ℕ) where
     where
       whole : (is_among s (streams p) || is_among s (flat_map streams ps)) ≡ true
       whole = sym (list_any-append (λ k. k == s) (streams p) (flat_map streams ps)) ∙ among
+
       here : (b : Bool) → is_among s (streams p) ≡ b → (is_among s (flat_map streams ps) ≡ true → IsOf ps s) → IsOf (p ∷ ps) s
       here true is later = (0, p, refl, is)
       here false is later =
@@ -154,6 +157,7 @@ missing_from first ks (m ∷ ms) are =
   where
     shifted : (a b : ℕ) → a + suc b ≡ a + 1 + b
     shifted a b = omega arith
+
     de_morgan : (a b : Bool) → (a && not b) ≡ not (not a || b)
     de_morgan true b = refl
     de_morgan false b = refl
@@ -167,12 +171,15 @@ mark_more ks marks k within are stream d lt = split (k == stream) refl
   where
     with_it : (b : Bool) → (k == stream) ≡ b → is_among stream (ks ++ k ∷ []) ≡ (is_among stream ks || (b || false))
     with_it b e = list_any-append (λ s. s == stream) ks (k ∷ []) ∙ ap (λ c. is_among stream ks || (c || false)) e
+
     or_true : (a : Bool) → true ≡ (a || true)
     or_true true = refl
     or_true false = refl
+
     or_false : (a : Bool) → a ≡ (a || false)
     or_false true = refl
     or_false false = refl
+
     split : (b : Bool) → (k == stream) ≡ b → get_or (set marks k true) stream d ≡ is_among stream (ks ++ k ∷ [])
     split true e =
         ap (λ n. get_or (set marks k true) n d) (sym (eqb-true k stream e)) ∙ get_or-set_same marks k true d within ∙ or_true (is_among stream ks) ∙ sym (with_it true e)
@@ -244,7 +251,7 @@ pub served_end : (count : ℕ) (pools : List Pool) (i : ℕ) (marks : List Bool)
 served_end count pools i marks past counted are so_far all is =
     let fresh : has_repeat [] (streams_in pools) ≡ false = so_far ∙ at_drop_all (λ ps. has_repeat (streams_in (take i pools)) (streams_in ps)) pools i past in
     let told : has_missing count (streams_in pools) ≡ not all =
-        not_not all (has_missing count (streams_in pools)) (is ∙ no_missing (streams_in (take i pools)) marks are ∙ (λ j. not (has_missing (counted j) (streams_in (take_all i pools past j))))) in
+    not_not all (has_missing count (streams_in pools)) (is ∙ no_missing (streams_in (take i pools)) marks are ∙ (λ j. not (has_missing (counted j) (streams_in (take_all i pools past j))))) in
     ends all (has_repeat [] (streams_in pools)) (has_missing count (streams_in pools)) fresh told
   where
     ends : (a b c : Bool) → b ≡ false → c ≡ not a → cond a None (Some Unserved) ≡ cond b (Some Doubled) (cond c (Some Unserved) None)
@@ -256,7 +263,7 @@ served_end count pools i marks past counted are so_far all is =
 pub mark_next : (before ks : List ℕ) (marks : List Bool) (i : ℕ) → i < length ks → get_or ks i 0 < length marks → AreMarks (before ++ take i ks) marks → AreMarks (before ++ take (i + 1) ks) (set marks (get_or ks i 0) true)
 mark_next before ks marks i within low are =
     let same : before ++ take i ks ++ get_or ks i 0 ∷ [] ≡ before ++ take (i + 1) ks =
-        append_assoc before (take i ks) (get_or ks i 0 ∷ []) ∙ ap (λ ns. before ++ ns) (sym (take_more ks i 0 within)) in
+    append_assoc before (take i ks) (get_or ks i 0 ∷ []) ∙ ap (λ ns. before ++ ns) (sym (take_more ks i 0 within)) in
     let P : List ℕ → Type 0 = λ ns. AreMarks ns (set marks (get_or ks i 0) true) in
     subst P same (mark_more (before ++ take i ks) marks (get_or ks i 0) low are)
 

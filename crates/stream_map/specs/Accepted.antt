@@ -9,7 +9,7 @@ use Rattle.stream_map.specs.Form.{map_of, stream_names}
 use Rattle.stream_map.specs.Faults.{fault_of, Refused}
 use Rattle.stream_map.specs.Children.{plain, numbered}
 use Rattle.stream_map.specs.declared.fault.MapFault.{MapFault}
-use Rattle.stream_map.specs.declared.fault.MapFault.TheVariants.{Json, Shape, Workers, Unknown, Doubled, Unserved, Memory}
+use Rattle.stream_map.specs.declared.fault.MapFault.TheVariants.{Json, Memory}
 
 -- the pools are those that the form spells, in which there is no fault
 pub record Accepted (task : Task) (form : Option (List Spelled)) (pools : List Pool) : Type 0 where

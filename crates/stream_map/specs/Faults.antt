@@ -1,11 +1,11 @@
 -- What may be wrong with the pools that a map spells, and which fault is told.
-use Rattle.std.specs.Prelude.{ℕ, List, [], ◌≡◌, ◌⊎◌, length, Bool, true, false, not, ◌&&◌, ◌||◌, ◌==◌, nat_lt, nat_le, if◌then◌else◌, Option, Some, None, is_none, position, filter_map, flat_map, sum_by, count_by, ⊤}
+use Rattle.std.specs.Prelude.{ℕ, List, [], ◌≡◌, ◌⊎◌, length, Bool, not, ◌&&◌, ◌||◌, ◌==◌, nat_lt, nat_le, if◌then◌else◌, Option, Some, None, is_none, position, filter_map, flat_map, sum_by, count_by, ⊤}
 use Rattle.std.specs.List.{list_any}
 use Rattle.std.specs.Str.{bytes_eq}
 use Rattle.stream_map.specs.Spelled.{Spelled, begins_grid}
 use Rattle.stream_map.specs.Served.{has_repeat, has_missing}
 use Rattle.stream_map.specs.declared.fault.MapFault.{MapFault}
-use Rattle.stream_map.specs.declared.fault.MapFault.TheVariants.{Json, Shape, Workers, Unknown, Doubled, Unserved, Memory}
+use Rattle.stream_map.specs.declared.fault.MapFault.TheVariants.{Shape, Workers, Unknown, Doubled, Unserved, Memory}
 
 -- ---- workers
 

@@ -1,5 +1,5 @@
 -- Lists of streams, in which each is to stand once.
-use Rattle.std.specs.Prelude.{◌≡◌, ℕ, ◌<◌, List, [], ◌∷◌, ◌++◌, length, Bool, true, false, not, ◌||◌, ◌==◌, slice_index_or, flat_map}
+use Rattle.std.specs.Prelude.{◌≡◌, ℕ, ◌<◌, List, [], ◌∷◌, ◌++◌, length, Bool, false, not, ◌||◌, ◌==◌, slice_index_or, flat_map}
 use Rattle.std.specs.List.{list_any}
 use Rattle.task_model.specs.Lists.{numbers_from}
 use Rattle.transcript_text.specs.declared.head.Pool.{Pool}

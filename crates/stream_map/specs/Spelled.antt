@@ -1,5 +1,5 @@
 -- A pool as a map spells it, or a command.
-use Rattle.std.specs.Prelude.{ℕ, List, [], ◌∷◌, length, map, string_bytes, codes, Bool, true, false, not, ◌&&◌, ◌||◌, ◌==◌, nat_le}
+use Rattle.std.specs.Prelude.{ℕ, List, [], ◌∷◌, length, map, string_bytes, codes, Bool, false, not, ◌&&◌, ◌||◌, ◌==◌, nat_le}
 use Rattle.std.specs.Str.{bytes_eq}
 use Rattle.stream_map.specs.declared.pool_text.PoolText.{PoolText}
 

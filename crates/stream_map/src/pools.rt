@@ -21,11 +21,7 @@ use transcript_text::Pool;
 const GRID_CHILD: u8 = 16;
 
 /// The places of streams with these names.
-fn places_of(
-    alloc: Global,
-    names: &StreamNames,
-    wanted: &[Name],
-) -> Result<Seq<u32>, MapFault>
+fn places_of(alloc: Global, names: &StreamNames, wanted: &[Name]) -> Result<Seq<u32>, MapFault>
     requires { length names.now ≤ 8388608 }
     ensures places { IfOk result
         (λ places. each_of (place_of names.now) wanted.now ≡ Some places) }

@@ -15,7 +15,7 @@ loop-item-init c = record {
 pub loop-item-preserved : goal.loop-item-preserved
 loop-item-preserved c =
     let read = reads_more (λ v. pool_of (view v)) c.deref-item-items.result.now c.loop-item.item-index c.item-item.result (shown c.in_ok-pool_of.field-0) (map shown c.loop-item.pools.items)
-        (omega arith) c.item-item.is c.in_ok-pool_of.ensures.pool c.loop-item.invariant.reads in
+    (omega arith) c.item-item.is c.in_ok-pool_of.ensures.pool c.loop-item.invariant.reads in
     record {
       list = c.loop-item.invariant.list;
       reads = subst (λ ps. Reads (λ v. pool_of (view v)) c.deref-item-items.result.now (c.loop-item.item-index + 1) ps)

@@ -1,6 +1,5 @@
 use Rattle.std.proofs.Common.{◌≡◌, map, string_bytes, take}
 use Rattle.task_model.specs.declared.stream.Stream.{Stream}
-use Rattle.stream_map.specs.Form.{stream_names}
 use Rattle.stream_map.proofs.map.pool_of_all.Given as goal
 
 -- the words so far

@@ -6,7 +6,6 @@ use Rattle.stream_map.specs.Spelled.{shown}
 use Rattle.stream_map.proofs.FaultsLemmas.{all_below, fault_is, refused_from, streams_numbered}
 use Rattle.stream_map.proofs.pools.pools_of.Goals as goal
 
-
 pub served_fault-requires : goal.served_fault-requires
 served_fault-requires c =
     let n = c.in_ok-names.names in
@@ -24,7 +23,7 @@ returns-in-Some-clause-refused c =
     let count : c.len.result ≡ length n = search rules in
     let right : have_wrong_workers texts ≡ false = search rules in
     let told : Some c.in-Some.fault ≡ served_fault (length n) (places_in n texts) =
-        sym c.in-Some.is ∙ c.in_ok-fault.ensures ∙ (λ i. served_fault (count i) ((ap streams_in c.as_slice-2.ensures.value ∙ flat) i)) in
+    sym c.in-Some.is ∙ c.in_ok-fault.ensures ∙ (λ i. served_fault (count i) ((ap streams_in c.as_slice-2.ensures.value ∙ flat) i)) in
     let fault = fault_is n texts (Some c.in-Some.fault) right c.in_ok-pools.ensures.known told in
     refused_from (stream_names c.args.task.now) texts c.in-Some.fault (ap (λ ns. fault_of ns texts) (sym c.in_ok-names.ensures) ∙ fault)
 
@@ -36,5 +35,5 @@ returns-clause-right c =
     let count : c.len.result ≡ length n = search rules in
     let right : have_wrong_workers texts ≡ false = search rules in
     let told : None ≡ served_fault (length n) (places_in n texts) =
-        sym c.in-None.is ∙ c.in_ok-fault.ensures ∙ (λ i. served_fault (count i) ((ap streams_in c.as_slice-2.ensures.value ∙ flat) i)) in
+    sym c.in-None.is ∙ c.in_ok-fault.ensures ∙ (λ i. served_fault (count i) ((ap streams_in c.as_slice-2.ensures.value ∙ flat) i)) in
     ap (λ ns. fault_of ns texts) (sym c.in_ok-names.ensures) ∙ fault_is n texts None right c.in_ok-pools.ensures.known told

@@ -1,4 +1,4 @@
-use Rattle.std.proofs.Common.{◌≡◌, ◌+◌, ◌≤◌, drop, map, sum_by}
+use Rattle.std.proofs.Common.{◌≡◌, ◌+◌, drop, map, sum_by}
 use Rattle.stream_map.specs.Faults.{own_workers}
 use Rattle.stream_map.specs.Spelled.{shown}
 use Rattle.stream_map.proofs.workers.has_many_workers.Given as goal

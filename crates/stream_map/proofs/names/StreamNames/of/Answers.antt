@@ -1,7 +1,4 @@
-use Rattle.std.proofs.Common.{◌≡◌, ◌<◌, ◌++◌, ◌∷◌, [], ◌∙◌, sym, ap, length, get_or, map, take, Some, slice_get, ℕ, arith}
-use Rattle.std.proofs.lemmas.List.{length-map, take_more}
-use Rattle.std.proofs.lemmas.Option.{slice_get-get_or}
-use Rattle.task_model.specs.declared.stream.Stream.{Stream}
+use Rattle.std.proofs.Common.{◌≡◌, ◌∙◌, sym, ap, Some, slice_get, arith}
 use Rattle.stream_map.specs.Form.{stream_names}
 use Rattle.stream_map.proofs.FaultsLemmas.{key_pushed, name_at}
 use Rattle.stream_map.proofs.names.StreamNames.of.Goals as goal
@@ -12,7 +9,7 @@ loop-stream-preserved c =
     let i = c.loop-stream.stream-index in
     let key : c.in_ok-from_slice.field-0.items ≡ c.stream-item.result.name = c.in_ok-from_slice.ensures.items ∙ c.bytes.ensures in
     let here : slice_get names i ≡ Some c.in_ok-from_slice.field-0.items =
-        name_at names c.as_slice-stream-items.result.now i c.stream-item.result c.loop-stream.invariant.streams (omega arith) c.stream-item.is ∙ ap Some (sym key) in
+    name_at names c.as_slice-stream-items.result.now i c.stream-item.result c.loop-stream.invariant.streams (omega arith) c.stream-item.is ∙ ap Some (sym key) in
     record {
       streams = c.loop-stream.invariant.streams;
       names = key_pushed (λ v. v.items) c.loop-stream.names.keys c.insert.new.self.keys c.in_ok-from_slice.field-0 names i c.loop-stream.invariant.names here
