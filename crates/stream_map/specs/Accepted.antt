@@ -1,0 +1,41 @@
+-- Which maps are accepted, and which are refused for what.
+use Rattle.std.specs.Prelude.{◌≡◌, ℕ, List, map, Option, Some, None, IsUtf8, ⊤}
+use Rattle.serde_json.specs.Data.{Data}
+use Rattle.serde_json.specs.Read.{read}
+use Rattle.task_model.specs.declared.task.Task.{Task}
+use Rattle.transcript_text.specs.declared.head.Pool.{Pool}
+use Rattle.stream_map.specs.Spelled.{Spelled}
+use Rattle.stream_map.specs.Form.{map_of, stream_names}
+use Rattle.stream_map.specs.Faults.{fault_of, Refused}
+use Rattle.stream_map.specs.Children.{plain, numbered}
+use Rattle.stream_map.specs.declared.fault.MapFault.{MapFault}
+use Rattle.stream_map.specs.declared.fault.MapFault.TheVariants.{Json, Memory}
+
+-- the pools are those that the form spells, in which there is no fault
+pub record Accepted (task : Task) (form : Option (List Spelled)) (pools : List Pool) : Type 0 where
+  pub spelled : List Spelled
+  pub form_is : form ≡ Some spelled
+  pub right : fault_of (stream_names task) spelled ≡ None
+  pub pools_are : map plain pools ≡ numbered (stream_names task) 0 spelled
+
+-- the bytes are this JSON value
+pub record IsJson (bytes : List ℕ) (d : Data) : Type 0 where
+  pub utf8 : IsUtf8 bytes
+  pub value : read bytes ≡ Some d
+
+pub record AcceptedMap (task : Task) (bytes : List ℕ) (pools : List Pool) : Type 0 where
+  pub data_of : Data
+  pub json : IsJson bytes data_of
+  pub accepted : Accepted task (map_of data_of) pools
+
+-- The value of a map that is refused for this cause.
+pub record RefusedMap (task : Task) (bytes : List ℕ) (why : MapFault) : Type 0 where
+  pub data_of : Data
+  pub json : IsJson bytes data_of
+  pub refused : Refused (stream_names task) (map_of data_of) why
+
+-- Why a map is refused: no JSON, or a value that isn't accepted. Want of memory is free.
+abbrev pub Refuses : Task → List ℕ → MapFault → Type 0
+Refuses task bytes Json = IsUtf8 bytes → read bytes ≡ None
+Refuses task bytes Memory = ⊤
+Refuses task bytes why = RefusedMap task bytes why
