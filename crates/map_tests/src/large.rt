@@ -1,0 +1,31 @@
+//! A map as large as a map may be.
+use crate::rows::told;
+use crate::tasks::task_of;
+use fit_check::is_fit;
+use std::alloc::Global;
+use std::test::Fail;
+use stream_map::read_map;
+
+/// How many bytes a map may have.
+const MOST: usize = 4 * 1024 * 1024;
+
+/// What a map gives that names one stream again and again, in all the bytes that there may be.
+fn doubled_everywhere(alloc: Global) -> Result<String, Fail> {
+    let task = task_of(alloc, "a b")?;
+    if !is_fit(alloc, &task)? {
+        return Ok(String::from_str(alloc, "unfit")?);
+    }
+    let mut text = Vec::from_slice(alloc, b"{\"pools\":[{\"run\":[\"g\"],\"streams\":[")?;
+    while text.len() < MOST - 10 {
+        text.extend_from_slice(b"\"a\",")?;
+    }
+    text.extend_from_slice(b"\"b\"]}]}")?;
+    told(alloc, &task, &read_map(alloc, text.as_slice(), &task))
+}
+
+#[test]
+fn a_map_of_one_name_is_refused(rt: HostRuntime) -> Result<(), Fail> {
+    let got = doubled_everywhere(rt.alloc())?;
+    assert!(rt; got.as_str() == "doubled");
+    Ok(())
+}

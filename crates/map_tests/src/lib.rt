@@ -1,0 +1,13 @@
+//! Tests of maps of generators: texts and words, and the pools or the faults that they give.
+#![tactic(auto)]
+
+#[cfg(test)]
+mod large;
+#[cfg(test)]
+mod maps;
+#[cfg(test)]
+mod rows;
+#[cfg(test)]
+mod tasks;
+#[cfg(test)]
+mod words;
