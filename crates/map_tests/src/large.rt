@@ -16,7 +16,7 @@ fn doubled_everywhere(alloc: Global) -> Result<String, Fail> {
         return Ok(String::from_str(alloc, "unfit")?);
     }
     let mut text = Vec::from_slice(alloc, b"{\"pools\":[{\"run\":[\"g\"],\"streams\":[")?;
-    while text.len() < MOST - 10 {
+    for _ in 0..(MOST - 64) / 4 {
         text.extend_from_slice(b"\"a\",")?;
     }
     text.extend_from_slice(b"\"b\"]}]}")?;
