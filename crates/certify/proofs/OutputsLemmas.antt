@@ -1,7 +1,7 @@
 -- Names and facts, put behind others one after another.
-use Rattle.std.proofs.Common.{◌≡◌, ℕ, zero, suc, ◌+◌, ◌-◌, ◌<◌, ◌≤◌, arith, Bool, true, false, cond, List, [], ◌∷◌, ◌++◌, map, drop, take, length, get_or, refl, sym, subst, ap, ◌∙◌, Some, slice_get, All}
-use Rattle.std.proofs.lemmas.List.{map-append, append-nil, length-append, drop_more}
-use Rattle.std.specs.List.{list_any, flat_map}
+use Rattle.std.proofs.Common.{◌≡◌, ℕ, zero, suc, ◌+◌, ◌-◌, ◌<◌, ◌≤◌, arith, true, false, cond, List, [], ◌∷◌, ◌++◌, map, drop, length, get_or, refl, sym, ap, ◌∙◌, Some, slice_get, All}
+use Rattle.std.proofs.lemmas.List.{map-append, length-append, drop_more}
+use Rattle.std.specs.List.{list_any}
 use Rattle.fact_store.proofs.StoreLemmas.{in_more}
 use Rattle.task_model.specs.Initial.{type_facts}
 use Rattle.task_model.specs.Known.{IsIn, same_numbers, with_fact, with_facts, with_name}

@@ -1,5 +1,5 @@
 //! What one tuple of a yield certifies.
-ghost use Rattle.std.specs.Prelude.{◌≡◌, ◌≤◌, ◌<◌, ◌+◌, ◌++◌, map, length, true, All, IfOk, OnOk};
+ghost use Rattle.std.specs.Prelude.{◌≡◌, ◌≤◌, ◌<◌, ◌+◌, map, length, true, All, IfOk, OnOk};
 ghost use Rattle.std.specs.List.{list_all};
 ghost use Rattle.certify.specs.Outputs.{AreNamed};
 ghost use Rattle.transcript_model.specs.Names.{generated, with_names};

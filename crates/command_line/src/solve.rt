@@ -1,5 +1,5 @@
 //! The words of `solve DOMAIN PROBLEM STREAMS [OPTIONS] [-- PROGRAM WORDS]`.
-ghost use Rattle.std.specs.Prelude.{◌≡◌, ◌≤◌, IfOk, IfErr, IfSome, None, Some, map, option_map, string_bytes};
+ghost use Rattle.std.specs.Prelude.{◌≡◌, IfOk, IfErr, None, Some, map, option_map, string_bytes};
 ghost use Rattle.clap.specs.Words.{app_of, found_of, rows_of};
 ghost use Rattle.command_line.specs.Apps.{solve_app};
 ghost use Rattle.command_line.specs.Held.{held_solve};

@@ -1,18 +1,16 @@
 -- The items of a domain without faults, and how large they are.
-use Rattle.std.proofs.Common.{◌≡◌, ℕ, ◌-◌, ◌≤◌, true, List, [], codes, refl, arith}
+use Rattle.std.proofs.Common.{◌≡◌, ℕ, true, List, [], codes, refl}
 use Rattle.std.specs.Str.{bytes_eq}
 use Rattle.lemmas.proofs.Members.{append_nil_first, append_nil_second}
-use Rattle.sexpr_text.specs.Trees.{Trees, nothing, word, list, depth, size}
+use Rattle.sexpr_text.specs.Trees.{Trees, nothing, word, list}
 use Rattle.task_model.specs.Fit.{is_name}
-use Rattle.form_reader.proofs.RowsLemmas.{tail_small, inner_small, tail_shallow}
 use Rattle.form_reader.specs.declared.items.Item.{Item}
 use Rattle.form_reader.specs.declared.items.TextKind.TheVariants.{Domain}
 use Rattle.form_reader.specs.declared.words.WordSort.TheVariants.{Name}
 use Rattle.form_reader.specs.Faults.{shape}
 use Rattle.form_reader.specs.Items.{body_faults, item_faults, item_of, items_faults}
-use Rattle.form_reader.specs.Rows.{head_of, inner_of, one_faults, tail_of}
+use Rattle.form_reader.specs.Rows.{head_of, one_faults, tail_of}
 use Rattle.form_reader.specs.Texts.{define_faults, form_faults, title_faults, title_of, titled_faults}
-use Rattle.name_tables.specs.Sizes.{IsBounded}
 use Rattle.name_tables.specs.declared.vocabulary.Vocabulary.{Vocabulary}
 use Rattle.name_tables.proofs.NoFaultLemmas.{chosen, some_fault}
 use Rattle.name_tables.proofs.TitleLemmas.{one_name}

@@ -1,6 +1,5 @@
 -- The name faults of a domain's items, but for cycles.
 use Rattle.std.specs.Prelude.{ℕ, Bool, true, false, ◌&&◌, ◌||◌, ◌==◌, not, nat_le, if◌then◌else◌, List, [], ◌++◌, length, codes}
-use Rattle.std.specs.Str.{bytes_eq}
 use Rattle.sexpr_text.specs.Trees.{Trees, nothing, word, list, place_of}
 use Rattle.form_reader.specs.declared.fault.Fault.{Fault}
 use Rattle.form_reader.specs.declared.fault.InputKind.TheVariants.{Arity, Duplicate, TooMany}
@@ -15,7 +14,7 @@ use Rattle.form_reader.specs.declared.keys.Keyed.TheVariants.{Action}
 use Rattle.form_reader.specs.Effects.{is_total_cost}
 use Rattle.form_reader.specs.Items.{item_of}
 use Rattle.form_reader.specs.Keys.{key_of}
-use Rattle.form_reader.specs.Rows.{head_of, inner_of, tail_of}
+use Rattle.form_reader.specs.Rows.{head_of, tail_of}
 use Rattle.name_tables.specs.Conditions.{condition_names, conditions_names}
 use Rattle.name_tables.specs.Names.{has_name, with_name}
 use Rattle.name_tables.specs.Terms.{use_names}

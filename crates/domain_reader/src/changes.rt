@@ -1,5 +1,5 @@
 //! What effects do.
-ghost use Rattle.std.specs.Prelude.{◌≡◌, ◌++◌, ◌∷◌, [], IfOk, OnOk};
+ghost use Rattle.std.specs.Prelude.{◌≡◌, [], IfOk, OnOk};
 ghost use Rattle.sexpr_text.specs.Trees.{trees};
 ghost use Rattle.domain_reader.specs.Effects as specs;
 

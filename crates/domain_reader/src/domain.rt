@@ -1,7 +1,7 @@
 //! A domain, from its tree.
 #![tactic(auto, using(form_reader::proofs::FaultsFirstLemmas::first_append))]
 
-ghost use Rattle.std.specs.Prelude.{◌≡◌, [], IfOk, OnOk};
+ghost use Rattle.std.specs.Prelude.{◌≡◌, IfOk, OnOk};
 ghost use Rattle.sexpr_text.specs.Trees.{tree, trees};
 ghost use Rattle.task_model.specs.Roles as roles;
 ghost use Rattle.form_reader.specs.Faults.{least_fault};

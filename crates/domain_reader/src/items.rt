@@ -1,10 +1,9 @@
 //! The name faults of a domain's items, but for those of cycles and of what may be there once.
 #![tactic(auto, using(form_reader::proofs::FaultsFirstLemmas::first_append))]
 
-ghost use Rattle.std.specs.Prelude.{◌≡◌, codes, length, IfOk, OnOk};
+ghost use Rattle.std.specs.Prelude.{◌≡◌, IfOk, OnOk};
 ghost use Rattle.sexpr_text.specs.Trees.{trees, place_of};
 ghost use Rattle.form_reader.specs.Faults.{first};
-ghost use Rattle.form_reader.specs.declared.groups.Spot.TheVariants.{Start};
 ghost use Rattle.form_reader.specs.declared.keys.Key.TheVariants.{NoKey};
 ghost use Rattle.domain_reader.specs.Names as specs;
 

@@ -1,9 +1,9 @@
 -- The objects of a type by the facts that say so.
-use Rattle.std.proofs.Common.{◌≡◌, ℕ, Bool, true, false, cond, ◌&&◌, ◌==◌, List, [], ◌∷◌, map, length, slice_get, refl, sym, ap, ◌∙◌, Option, None, Some, option_map}
+use Rattle.std.proofs.Common.{◌≡◌, ℕ, true, false, cond, ◌&&◌, ◌==◌, List, [], ◌∷◌, map, length, slice_get, refl, sym, ap, ◌∙◌, Option, None, Some, option_map}
 use Rattle.std.proofs.lemmas.List.{length-map}
 use Rattle.std.proofs.lemmas.Option.{slice_get-map}
-use Rattle.std.specs.List.{filter_map, cons_option}
-use Rattle.task_model.specs.Known.{objects_of, object_with}
+use Rattle.std.specs.List.{cons_option}
+use Rattle.task_model.specs.Known.{objects_of}
 use Rattle.task_model.specs.declared.fact.Fact.{Fact}
 use Rattle.task_model.specs.declared.fact.Kind.{Kind}
 use Rattle.task_model.specs.declared.fact.Kind.TheVariants.{Predicate, Sort}

@@ -1,9 +1,8 @@
 -- Tables, as facts come and as a table goes on over them.
-use Rattle.std.proofs.Common.{◌≡◌, ℕ, zero, suc, ◌+◌, ◌-◌, ◌<◌, ◌≤◌, Bool, true, false, cond, ◌&&◌, ◌==◌, ◌⊎◌, inl, inr, List, [], ◌∷◌, ◌++◌, map, filter, length, take, drop, slice_get, refl, sym, ap, subst, ◌∙◌, Option, None, Some, option_map, arith, eqb-true, length-append}
+use Rattle.std.proofs.Common.{◌≡◌, ℕ, zero, suc, ◌+◌, ◌-◌, ◌≤◌, Bool, true, false, cond, ◌==◌, ◌⊎◌, inl, inr, List, [], ◌∷◌, ◌++◌, map, length, take, drop, slice_get, refl, sym, ap, subst, ◌∙◌, None, Some, arith, eqb-true, length-append}
 use Rattle.std.proofs.lemmas.List.{take-append-le, take-append-drop, length-map, map-append, append-nil}
 use Rattle.std.proofs.lemmas.List.Elements.{filter-append}
 use Rattle.std.proofs.lemmas.Map.Steps.{set_value_same}
-use Rattle.std.proofs.lemmas.Option.{slice_get-map}
 use Rattle.std.specs.Cmp.{first_so, second_so}
 use Rattle.std.specs.Map.{lookup, set_value}
 use Rattle.indexmap.specs.IndexMap.{IndexMap, get}

@@ -1,9 +1,8 @@
 -- What a store of facts shows: what is known, with the proof that it is coherent.
-use Rattle.std.specs.Prelude.{◌≡◌, ℕ, ◌≤◌, length, List, [], ◌∷◌, ◌++◌, Bool, true, false, refl, if◌then◌else◌}
-use Rattle.std.specs.List.{list_any}
+use Rattle.std.specs.Prelude.{◌≡◌, ℕ, ◌≤◌, length, List, Bool, true, false, refl}
 use Rattle.std.specs.Coded.{Coded, Coded-set, code_by, coded×, coded_ℕ, coded_bool, coded_list, le_prop}
 use Rattle.std.proofs.Common.{subst}
-use Rattle.task_model.specs.Known.{Known, IsCoherent, same_numbers}
+use Rattle.task_model.specs.Known.{Known, IsCoherent}
 use Rattle.task_model.specs.declared.fact.Fact.{Fact}
 use Rattle.task_model.specs.declared.fact.Kind.{Kind}
 use Rattle.task_model.specs.declared.fact.Kind.TheVariants.{Predicate, Sort}

@@ -23,6 +23,7 @@ key_of group fact = of group fact.kind fact.args
     with : Option ℕ → Option Key
     with (Some object) = Some (fact.name, object)
     with None = None
+
     of : Group → Kind → List ℕ → Option Key
     of Objects Sort (object ∷ []) = Some (fact.name, 0)
     of Atoms Predicate args = Some (fact.name, 0)

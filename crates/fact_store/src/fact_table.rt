@@ -118,14 +118,17 @@ impl FactTable {
     pub(crate) fn count(&self, sort: u32) -> usize
         ensures { result ≡ length (objects_of self.now sort) }
     {
-        self.objects.count(Group::Objects, (sort, 0), self.facts.as_slice())
+        self.objects
+            .count(Group::Objects, (sort, 0), self.facts.as_slice())
     }
 
     /// The object of that number among those that have the type.
     pub(crate) fn object(&self, sort: u32, number: usize) -> Option<Obj>
         ensures { result ≡ slice_get (objects_of self.now sort) number }
     {
-        let fact = self.objects.nth(Group::Objects, (sort, 0), self.facts.as_slice(), number)?;
+        let fact = self
+            .objects
+            .nth(Group::Objects, (sort, 0), self.facts.as_slice(), number)?;
         fact.args.as_slice().first().copied()
     }
 
@@ -148,21 +151,27 @@ impl FactTable {
     pub(crate) fn atoms(&self, pred: u32) -> usize
         ensures { result ≡ length (atoms_of self.now pred) }
     {
-        self.atoms.count(Group::Atoms, (pred, 0), self.facts.as_slice())
+        self.atoms
+            .count(Group::Atoms, (pred, 0), self.facts.as_slice())
     }
 
     /// The atom of that number among those of the predicate.
     pub(crate) fn atom(&self, pred: u32, number: usize) -> Option<&Fact>
         ensures { option_copied result ≡ slice_get (atoms_of self.now pred) number }
     {
-        self.atoms.nth(Group::Atoms, (pred, 0), self.facts.as_slice(), number)
+        self.atoms
+            .nth(Group::Atoms, (pred, 0), self.facts.as_slice(), number)
     }
 
     /// How many atoms of the predicate have the object at this place.
     pub(crate) fn matches(&self, pred: u32, place: usize, object: Obj) -> usize
         ensures { result ≡ length (matches_of self.now pred place object) }
     {
-        let (group, key, facts) = (Group::AtomsAt(place), (pred, object.place()), self.facts.as_slice());
+        let (group, key, facts) = (
+            Group::AtomsAt(place),
+            (pred, object.place()),
+            self.facts.as_slice(),
+        );
         match self.atoms_at.as_slice().get(place) {
             Some(table) => table.count(group, key, facts),
             None => count_with(group, key, facts),
@@ -170,10 +179,20 @@ impl FactTable {
     }
 
     /// The atom of that number among those of the predicate with the object at this place.
-    pub(crate) fn matched(&self, pred: u32, place: usize, object: Obj, number: usize) -> Option<&Fact>
+    pub(crate) fn matched(
+        &self,
+        pred: u32,
+        place: usize,
+        object: Obj,
+        number: usize,
+    ) -> Option<&Fact>
         ensures { option_copied result ≡ slice_get (matches_of self.now pred place object) number }
     {
-        let (group, key, facts) = (Group::AtomsAt(place), (pred, object.place()), self.facts.as_slice());
+        let (group, key, facts) = (
+            Group::AtomsAt(place),
+            (pred, object.place()),
+            self.facts.as_slice(),
+        );
         match self.atoms_at.as_slice().get(place) {
             Some(table) => table.nth(group, key, facts, number),
             None => nth_with(group, key, facts, number),

@@ -1,6 +1,7 @@
 //! The store, and the calls by which it grows.
 ghost use Rattle.task_model.specs.Known.{IsCoherent};
 ghost use Rattle.fact_store.specs.Store.{coherent_prop};
+
 use crate::fact_table::FactTable;
 use crate::initial::{add_names, add_objects, add_static, add_values};
 use crate::value_table::ValueTable;
@@ -35,7 +36,7 @@ impl Model for Facts {
 }
 
 impl Facts {
-    ghost use Rattle.std.specs.Prelude.{◌≡◌, ◌<◌, ◌≤◌, ◌++◌, ◌∷◌, [], not, length, slice_get, All, Contains, Some, IfSome, IfNone, IfOk, OnOk, OnErr};
+    ghost use Rattle.std.specs.Prelude.{◌≡◌, ◌<◌, ◌≤◌, [], not, length, slice_get, All, Contains, Some, IfSome, IfNone, IfOk, OnOk, OnErr};
     ghost use Rattle.std.specs.List.{list_any};
     ghost use Rattle.task_model.specs.Known.{IsIn, is_fact, with_fact, objects_of, same_value, with_value, with_name};
     ghost use Rattle.fact_store.specs.Atoms.{atoms_of};

@@ -9,16 +9,14 @@ use task_model::Fact;
 pub(crate) fn count_with(group: Group, key: Key, facts: &[Fact]) -> usize
     ensures { result ≡ length (facts_with group key facts.now) }
 {
-    facts.iter().filter(|fact| has_key(group, key, *fact)).count()
+    facts
+        .iter()
+        .filter(|fact| has_key(group, key, *fact))
+        .count()
 }
 
 /// The fact of that number among those with this key.
-pub(crate) fn nth_with(
-    group: Group,
-    key: Key,
-    facts: &[Fact],
-    number: usize,
-) -> Option<&Fact>
+pub(crate) fn nth_with(group: Group, key: Key, facts: &[Fact], number: usize) -> Option<&Fact>
     ensures { option_copied result ≡ slice_get (facts_with group key facts.now) number }
 {
     let mut left = number;

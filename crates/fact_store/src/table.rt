@@ -35,7 +35,9 @@ fn key_of(group: Group, fact: &Fact) -> Option<Key>
     ensures { result ≡ tables.key_of group fact.now }
 {
     match (group, fact.kind, fact.args.as_slice()) {
-        (Group::Objects, Kind::Sort, [_]) | (Group::Atoms, Kind::Predicate, _) => Some((fact.name, 0)),
+        (Group::Objects, Kind::Sort, [_]) | (Group::Atoms, Kind::Predicate, _) => Some((
+            fact.name, 0,
+        )),
         (Group::AtomsAt(place), Kind::Predicate, args) => {
             let object = args.get(place)?;
             Some((fact.name, object.place()))

@@ -5,8 +5,6 @@ use Rattle.task_model.specs.Fit as fit
 use Rattle.task_model.specs.Initial.{sorts_with}
 use Rattle.task_model.specs.Known.{same_numbers}
 use Rattle.task_model.specs.Roles.{role_of}
-use Rattle.task_model.specs.declared.condition.Term.{Term}
-use Rattle.task_model.specs.declared.condition.Term.TheVariants.{Slot, Object}
 use Rattle.task_model.specs.declared.domain.Action.{Action}
 use Rattle.task_model.specs.declared.domain.Declared.{Declared}
 use Rattle.task_model.specs.declared.domain.Derived as rule

@@ -1,5 +1,5 @@
 //! Conditions.
-ghost use Rattle.std.specs.Prelude.{◌≡◌, ◌≤◌, ◌&&◌, nat_le, length, true};
+ghost use Rattle.std.specs.Prelude.{◌≡◌, ◌&&◌, nat_le, true};
 ghost use Rattle.std.specs.List.{list_all};
 ghost use Rattle.task_model.specs.Condition.{parts_of, Exists};
 ghost use Rattle.task_model.specs.Fit as fit;

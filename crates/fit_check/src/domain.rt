@@ -1,8 +1,7 @@
 //! Domains.
-ghost use Rattle.std.specs.Prelude.{◌≡◌, ◌==◌, not, length, nat_le};
-ghost use Rattle.std.specs.List.{list_any, list_all};
+ghost use Rattle.std.specs.Prelude.{◌≡◌, not, length, nat_le};
+ghost use Rattle.std.specs.List.{list_all};
 ghost use Rattle.task_model.specs.Fit as fit;
-ghost use Rattle.lemmas.specs.Lists.{numbers_from};
 ghost use Rattle.task_model.specs.Roles as roles;
 ghost use Rattle.fit_check.specs.Tests as tests;
 

@@ -1,8 +1,7 @@
 //! Problems.
-ghost use Rattle.std.specs.Prelude.{◌≡◌, ◌<◌, ◌==◌, [], length, nat_lt, drop, Some, slice_get};
+ghost use Rattle.std.specs.Prelude.{◌≡◌, ◌<◌, ◌==◌, [], length, nat_lt};
 ghost use Rattle.std.specs.List.{list_any, list_all};
 ghost use Rattle.task_model.specs.Fit as fit;
-ghost use Rattle.task_model.specs.Known.{same_numbers};
 ghost use Rattle.fit_check.specs.Tests as tests;
 
 use crate::conditions::{Scope, has_arity, is_fit_condition};

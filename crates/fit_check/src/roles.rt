@@ -1,6 +1,6 @@
 //! What changes a predicate's atoms.
-ghost use Rattle.std.specs.Prelude.{◌≡◌, ◌==◌, ◌++◌, ◌||◌, not, count_by};
-ghost use Rattle.std.specs.List.{list_any, list_all};
+ghost use Rattle.std.specs.Prelude.{◌≡◌, ◌==◌, ◌++◌, ◌||◌, count_by};
+ghost use Rattle.std.specs.List.{list_any};
 ghost use Rattle.task_model.specs.Fit as fit;
 ghost use Rattle.task_model.specs.Roles as roles;
 ghost use Rattle.fit_check.specs.Tests as tests;

@@ -1,5 +1,5 @@
 //! Types.
-ghost use Rattle.std.specs.Prelude.{◌≡◌, ◌==◌, slice_get, length};
+ghost use Rattle.std.specs.Prelude.{◌≡◌, ◌==◌, slice_get};
 ghost use Rattle.std.specs.List.{list_any, list_all};
 ghost use Rattle.task_model.specs.Fit as fit;
 ghost use Rattle.fit_check.specs.Tests as tests;

@@ -1,8 +1,8 @@
 -- The answered fault is the least.
-use Rattle.std.proofs.Common.{◌≡◌, ℕ, refl, sym, ◌∙◌, ap, subst, cond, Bool, true, false, List, [], ◌∷◌, Option, Some, None, arith, rules}
+use Rattle.std.proofs.Common.{◌≡◌, refl, subst, cond, Bool, true, false, List, [], ◌∷◌, Option, Some, None, arith}
 use Rattle.std.proofs.lemmas.Bool.Decides.{nat_tests}
 use Rattle.form_reader.specs.declared.fault.Fault.{Fault}
-use Rattle.form_reader.specs.Faults.{Answers, IsAmong, here, behind, IsLeast, comes_first, first, least_fault, rank_of, sooner}
+use Rattle.form_reader.specs.Faults.{Answers, IsAmong, here, behind, comes_first, first, least_fault}
 
 reflexive : (f : Fault) → comes_first f f ≡ true
 reflexive f = grind (arith, nat_tests)

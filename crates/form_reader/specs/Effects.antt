@@ -1,5 +1,5 @@
 -- The forms of effects (PDDL 2.1, IPC 2008).
-use Rattle.std.specs.Prelude.{ℕ, Bool, true, false, ◌&&◌, not, if◌then◌else◌, List, [], ◌∷◌, ◌++◌, codes}
+use Rattle.std.specs.Prelude.{ℕ, Bool, false, ◌&&◌, not, if◌then◌else◌, List, [], ◌∷◌, ◌++◌, codes}
 use Rattle.std.specs.Str.{bytes_eq}
 use Rattle.task_model.specs.Fit.{is_name}
 use Rattle.sexpr_text.specs.Trees.{Trees, nothing, word, list}

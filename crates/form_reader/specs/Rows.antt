@@ -2,14 +2,14 @@
 --
 -- Each function here and in the files above gives all faults of a form. The place is that of the list whose trees
 -- these are. Behind a tree that can't stand where it stands nothing has a form to be judged by, so the list ends there.
-use Rattle.std.specs.Prelude.{ℕ, ◌+◌, Bool, true, false, if◌then◌else◌, List, [], ◌∷◌, codes}
+use Rattle.std.specs.Prelude.{ℕ, ◌+◌, Bool, true, if◌then◌else◌, List, [], ◌∷◌, codes}
 use Rattle.std.specs.Str.{bytes_eq}
 use Rattle.sexpr_text.specs.Trees.{Trees, nothing, word, list}
 use Rattle.form_reader.specs.declared.fault.Fault.{Fault}
 use Rattle.form_reader.specs.declared.groups.Spot.{Spot}
 use Rattle.form_reader.specs.declared.groups.Spot.TheVariants.{Start, Named, Typed}
 use Rattle.form_reader.specs.declared.words.WordSort.{WordSort}
-use Rattle.form_reader.specs.declared.words.WordSort.TheVariants.{Any, Name, Predicate, Variable, Term}
+use Rattle.form_reader.specs.declared.words.WordSort.TheVariants.{Name, Variable}
 use Rattle.form_reader.specs.Faults.{shape, unsupported}
 use Rattle.form_reader.specs.Words.{is_of}
 

@@ -1,7 +1,7 @@
 //! The keys of actions and streams, and their values.
 #![tactic(auto, using(crate::proofs::FaultsFirstLemmas::first_append))]
 
-ghost use Rattle.std.specs.Prelude.{◌≡◌, codes};
+ghost use Rattle.std.specs.Prelude.{◌≡◌};
 ghost use Rattle.sexpr_text.specs.Trees.{trees};
 ghost use Rattle.form_reader.specs.Faults.{first};
 ghost use Rattle.form_reader.specs.Keys as specs;

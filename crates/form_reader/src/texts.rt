@@ -1,7 +1,7 @@
 //! Whole domains, problems and stream files.
 #![tactic(auto, using(crate::proofs::FaultsFirstLemmas::first_append))]
 
-ghost use Rattle.std.specs.Prelude.{◌≡◌, codes};
+ghost use Rattle.std.specs.Prelude.{◌≡◌};
 ghost use Rattle.sexpr_text.specs.Trees.{tree, trees};
 ghost use Rattle.form_reader.specs.Faults.{first, least_fault};
 ghost use Rattle.form_reader.specs.Texts as specs;

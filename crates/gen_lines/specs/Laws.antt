@@ -1,5 +1,5 @@
 -- Laws of the definitions. Each is the contract of a public function of `laws.rt`, and so is proved.
-use Rattle.std.specs.Prelude.{◌≡◌, ℕ, ◌<◌, ◌≤◌, List, ◌∷◌, ◌++◌, length, Bool, true, false, not, ◌&&◌, nat_le, ◌^◌, map}
+use Rattle.std.specs.Prelude.{◌≡◌, ℕ, ◌<◌, ◌≤◌, List, ◌∷◌, ◌++◌, Bool, true, not, ◌&&◌, nat_le, ◌^◌, map}
 use Rattle.std.specs.List.{join_with_byte, list_all}
 use Rattle.gen_lines.specs.Cutting.{Cut, IsWhole}
 use Rattle.gen_lines.specs.Lines.{lines_of}

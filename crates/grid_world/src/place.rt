@@ -1,5 +1,5 @@
 //! Poses of blocks in regions.
-ghost use Rattle.std.specs.Prelude.{◌≡◌, ◌<◌, ◌≤◌, ◌+◌, List, ◌++◌};
+ghost use Rattle.std.specs.Prelude.{◌≡◌, ◌+◌};
 ghost use Rattle.std.specs.List.{list_any};
 ghost use Rattle.gen_lines.specs.Reply.{fields};
 ghost use Rattle.grid_text.specs.Rects.{IsSmall, meets};

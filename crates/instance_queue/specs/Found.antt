@@ -1,5 +1,5 @@
 -- What is found by going through all tuples of objects that have the inputs' types.
-use Rattle.std.specs.Prelude.{◌<◌, ◌+◌, ℕ, List, [], ◌∷◌, ◌++◌, map, Bool, ◌&&◌, not, if◌then◌else◌}
+use Rattle.std.specs.Prelude.{◌<◌, ◌+◌, ℕ, List, [], ◌∷◌, ◌++◌, map, if◌then◌else◌}
 use Rattle.std.specs.List.{flat_map}
 use Rattle.task_model.specs.Known.{Known, objects_of}
 use Rattle.task_model.specs.Streams.{Note, yields_of, is_due_at}

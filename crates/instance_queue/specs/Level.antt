@@ -1,5 +1,5 @@
 -- Which asks are due, with their turns, and when there are too many.
-use Rattle.std.specs.Prelude.{◌≡◌, ◌≤◌, ℕ, List, map, length, All}
+use Rattle.std.specs.Prelude.{◌≡◌, ◌≤◌, List, map, length, All}
 use Rattle.task_model.specs.Known.{Known}
 use Rattle.task_model.specs.Streams.{Note, AreDue, MoreAreDue, yields_of}
 use Rattle.task_model.specs.declared.stream.Instance.{Instance}

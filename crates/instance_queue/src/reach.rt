@@ -1,9 +1,8 @@
 //! Whether the domain facts of an instance are known.
-ghost use Rattle.std.specs.Prelude.{◌≡◌, ◌≤◌, length, true, option_copied, slice_get};
+ghost use Rattle.std.specs.Prelude.{◌≡◌, true, option_copied, slice_get};
 ghost use Rattle.std.specs.List.{list_all};
 ghost use Rattle.task_model.specs.Known.{is_fact};
 ghost use Rattle.task_model.specs.Streams.{fact_of as fact_at, is_reachable as reaches, is_test as tests};
-ghost use Rattle.task_model.specs.Truth.{slots_of};
 ghost use Rattle.instance_queue.specs.Readable.{is_readable_pattern, IsReadableStream};
 
 use fact_store::Facts;

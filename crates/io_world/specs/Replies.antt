@@ -1,7 +1,7 @@
 -- Requests that are lines, and their answers.
 use Rattle.lemmas.specs.Lists.{lines_with_feeds}
 use Rattle.std.specs.Prelude.{◌≡◌, ℕ, true, false, List, [], ◌∷◌, ◌++◌, ◌==◌, map, length, if◌then◌else◌}
-use Rattle.std.specs.List.{list_any, flat_map, All}
+use Rattle.std.specs.List.{list_any, All}
 
 -- no line feed is among these bytes
 abbrev pub IsLine : List ℕ → Type 0

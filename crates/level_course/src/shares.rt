@@ -1,6 +1,5 @@
 //! The pools by which asks are cut into rounds.
-ghost use Rattle.std.specs.Prelude.{◌≡◌, ◌≤◌, length, map, count_by};
-ghost use Rattle.std.specs.List.{list_any};
+ghost use Rattle.std.specs.Prelude.{◌≡◌, ◌≤◌, length, count_by};
 ghost use Rattle.instance_queue.specs.Level.{instances_of};
 ghost use Rattle.level_course.specs.Pools.{IsLongestFront, share_of, shares_of};
 ghost use Rattle.transcript_model.specs.Rounds.{fits as fits_all, serves as serves_instance};

@@ -1,7 +1,6 @@
 -- What is said with children: who is asked what, and which line each answer is.
 use Rattle.gen_lines.specs.Request.{request_line}
-use Rattle.std.specs.Prelude.{◌≡◌, ℕ, ◌<◌, ◌≤◌, ◌==◌, ◌⊎◌, List, [], ◌∷◌, ◌++◌, length, take, drop, filter, map, codes, count_by, Bool, Option, Some, slice_get, unwrap_or, if◌then◌else◌, IfSome}
-use Rattle.std.specs.Fmt.{decimal}
+use Rattle.std.specs.Prelude.{◌≡◌, ℕ, ◌<◌, ◌≤◌, ◌==◌, ◌⊎◌, List, [], ◌∷◌, ◌++◌, length, take, drop, filter, map, count_by, Bool, Option, Some, slice_get, unwrap_or, if◌then◌else◌, IfSome}
 use Rattle.std.specs.List.{flat_map, join_with_byte}
 use Rattle.gen_lines.specs.Lines.{lines_of, unfinished}
 use Rattle.gen_lines.specs.Reply.{bad, reply_of}

@@ -3,7 +3,6 @@ ghost use Rattle.std.specs.Prelude.{◌≡◌, ◌≤◌, false, length, IfOk, I
 ghost use Rattle.level_run.specs.Turns.{IsDecided, IsRunnable};
 ghost use Rattle.level_run.specs.declared.fault.RunFault.TheVariants.{Memory};
 ghost use Rattle.session_core.specs.Session.{IsLearnt, IsOf, IsSession};
-ghost use Rattle.task_model.specs.Fit.{IsFit};
 ghost use Rattle.task_model.specs.Plans.{IsReached, IsSolvable, MoreThan};
 ghost use Rattle.transcript_model.specs.Transcript.{known_of};
 ghost use Rattle.transcript_model.specs.declared.head.Mode.TheVariants.{Incremental};

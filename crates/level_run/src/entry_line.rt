@@ -1,5 +1,5 @@
 //! The lines of entries, written piece by piece: no memory is taken for them.
-ghost use Rattle.std.specs.Prelude.{◌≡◌, ◌<◌, ◌∷◌, [], ◌++◌, map, codes};
+ghost use Rattle.std.specs.Prelude.{◌<◌, ◌∷◌, [], ◌++◌, map, codes};
 ghost use Rattle.std.specs.Fmt.{decimal};
 ghost use Rattle.io_world.specs.Faults.{last_count, HasCause};
 ghost use Rattle.level_run.specs.Pieces.{Prints};

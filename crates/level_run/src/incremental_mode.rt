@@ -1,5 +1,5 @@
 //! Incremental mode.
-ghost use Rattle.std.specs.Prelude.{◌≡◌, [], ◌≤◌, ℕ, false, length, IfOk, IfErr, OnOk};
+ghost use Rattle.std.specs.Prelude.{◌≡◌, [], ℕ, false, IfOk, IfErr};
 ghost use Rattle.io_world.specs.Faults.{last_count, HasCause};
 ghost use Rattle.io_world.specs.Talks.{Same};
 ghost use Rattle.level_run.specs.Held.{is_running};

@@ -1,5 +1,5 @@
 //! One round: all its requests are written, and then its answers are heard, in the order of the requests.
-ghost use Rattle.std.specs.Prelude.{◌≡◌, ◌≢◌, ◌<◌, ◌≤◌, ◌+◌, ◌++◌, ℕ, List, true, false, drop, length, take, IfErr, OnOk};
+ghost use Rattle.std.specs.Prelude.{◌≡◌, ◌≢◌, ◌<◌, ◌+◌, ◌++◌, ℕ, List, true, false, drop, length, take, IfErr, OnOk};
 ghost use Rattle.instance_queue.specs.Level.{instances_of};
 ghost use Rattle.instance_queue.specs.declared.due.Due.{Due as AnyDue};
 ghost use Rattle.io_world.specs.Faults.{last_count, HasCause};

@@ -1,6 +1,5 @@
 -- Numbers that lead to numbers.
 use Rattle.std.specs.Prelude.{◌≡◌, ℕ, ◌==◌, Bool, true, false, nat_lt, if◌then◌else◌, List, [], ◌∷◌, ◌++◌, slice_get, unwrap_or}
-use Rattle.std.specs.List.{list_any}
 use Rattle.lemmas.specs.Lists.{LeadsAlong, has_number}
 
 -- the numbers, and this one last where it is new

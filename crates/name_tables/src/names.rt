@@ -1,5 +1,5 @@
 //! Tables of names.
-ghost use Rattle.std.specs.Prelude.{◌≡◌, ◌++◌, ◌∷◌, [], not, length, IfOk, OnOk};
+ghost use Rattle.std.specs.Prelude.{◌≡◌, [], not, length, IfOk, OnOk};
 ghost use Rattle.name_tables.specs.Names as specs;
 
 use indexmap::IndexSet;

@@ -1,7 +1,7 @@
 //! Groups of names or variables with types.
 #![tactic(auto, using(form_reader::proofs::FaultsFirstLemmas::first_append))]
 
-ghost use Rattle.std.specs.Prelude.{◌≡◌, ◌+◌, ◌++◌, [], length, IfOk, OnOk};
+ghost use Rattle.std.specs.Prelude.{◌≡◌, ◌+◌, ◌++◌, IfOk, OnOk};
 ghost use Rattle.sexpr_text.specs.Trees.{trees};
 ghost use Rattle.form_reader.specs.Faults.{first};
 ghost use Rattle.form_reader.specs.declared.groups.Spot.TheVariants.{Start};

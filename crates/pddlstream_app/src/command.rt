@@ -1,5 +1,5 @@
 //! The program's call.
-ghost use Rattle.std.specs.Prelude.{◌≡◌, ◌≤◌, ◌⊎◌, ◌≢◌, ℕ, false, map, string_bytes, IfOk, IfErr};
+ghost use Rattle.std.specs.Prelude.{◌≡◌, ◌≤◌, ◌⊎◌, ℕ, false, map, string_bytes, IfOk, IfErr};
 ghost use Rattle.io_world.specs.Faults.{last_count, HasCause, Rose};
 ghost use Rattle.pddlstream_app.specs.Asked.{AsksAll, AsksBefore, AsksFiles};
 ghost use Rattle.pddlstream_app.specs.Complete.{GoesWell, EndsWell};

@@ -2,7 +2,6 @@
 ghost use Rattle.std.specs.Prelude.{◌≡◌, ◌≤◌, IfOk, IfErr, IfSome, length, option_copied, slice_get, true};
 ghost use Rattle.task_model.specs.Fit.{IsFit, is_fit_action};
 ghost use Rattle.task_model.specs.Steps.{IsStep, cost_of as cost_of_action};
-ghost use Rattle.task_model.specs.Truth.{slots_of};
 ghost use Rattle.plan_check.specs.Faults.{StepFails};
 
 use crate::cost::terms_cost;

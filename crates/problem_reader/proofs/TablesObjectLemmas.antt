@@ -1,5 +1,5 @@
 -- Constants by their names alone, and with their types.
-use Rattle.std.proofs.Common.{◌≡◌, ℕ, ◌+◌, Bool, true, false, not, cond, List, [], ◌∷◌, ◌++◌, length, length-append, refl, sym, ap, ◌∙◌, Option, Some, None, arith, slice_get, slice_set}
+use Rattle.std.proofs.Common.{◌≡◌, ℕ, ◌+◌, Bool, true, false, not, cond, List, [], ◌∷◌, ◌++◌, length, length-append, refl, sym, ap, ◌∙◌, Option, Some, None, arith, slice_get}
 use Rattle.std.proofs.lemmas.List.{length-set}
 use Rattle.std.specs.List.{position_or_len}
 use Rattle.std.specs.Str.{bytes_eq}
@@ -9,12 +9,12 @@ use Rattle.task_model.specs.declared.domain.Declared as declared
 use Rattle.form_reader.specs.declared.groups.Spot.{Spot}
 use Rattle.form_reader.specs.declared.groups.Spot.TheVariants.{Named, Typed as Typed'}
 use Rattle.form_reader.specs.Rows.{after_word}
-use Rattle.name_tables.specs.Declarations.{Typed, declare, declare_each, declared_by, declared_list, number_put, put_number}
+use Rattle.name_tables.specs.Declarations.{Typed, declare, declare_each, declared_by, declared_list, put_number}
 use Rattle.name_tables.specs.Graphs.{ascending_with}
 use Rattle.name_tables.specs.Names.{has_name, place_of, with_name}
 use Rattle.name_tables.specs.Variables.{is_named, named_sorts, named_words, seen_after}
 use Rattle.problem_reader.specs.Tables.{put_constants}
-use Rattle.problem_reader.proofs.TablesLemmas.{put, put_append}
+use Rattle.problem_reader.proofs.TablesLemmas.{put}
 
 -- ---- a name has a place exactly where it is there
 

@@ -1,5 +1,5 @@
 -- The name faults of a problem's items, one function a row.
-use Rattle.std.specs.Prelude.{ℕ, Bool, true, false, not, if◌then◌else◌, List, [], ◌∷◌, ◌++◌, Option, Some, None, slice_get, codes}
+use Rattle.std.specs.Prelude.{ℕ, Bool, false, not, if◌then◌else◌, List, [], ◌++◌, Option, Some, None, slice_get, codes}
 use Rattle.std.specs.Str.{bytes_eq}
 use Rattle.sexpr_text.specs.Trees.{Trees, nothing, word, list}
 use Rattle.task_model.specs.Fit.{is_derived_role}

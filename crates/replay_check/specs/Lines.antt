@@ -1,7 +1,7 @@
 -- The lines of a report, from 1.
-use Rattle.std.specs.Prelude.{◌≡◌, ◌⊎◌, ℕ, ◌+◌, ◌<◌, List, [], ◌∷◌, ◌++◌, length, take}
+use Rattle.std.specs.Prelude.{◌≡◌, ◌⊎◌, ℕ, ◌+◌, ◌<◌, length, take}
 use Rattle.std.specs.List.{flat_map}
-use Rattle.report_text.specs.Texts.{Line, done_line, entry_lines, head_lines, outcome_lines}
+use Rattle.report_text.specs.Texts.{entry_lines}
 use Rattle.transcript_model.specs.declared.report.Report.{Report}
 use Rattle.replay_check.specs.Kinds.{breach_number}
 use Rattle.replay_check.specs.declared.verdict.BreachKind.{BreachKind}

@@ -1,5 +1,5 @@
 -- What a replay may say of a text.
-use Rattle.std.specs.Prelude.{◌≡◌, ◌⊎◌, ℕ, ◌<◌, List, []}
+use Rattle.std.specs.Prelude.{◌≡◌, ◌⊎◌, ℕ, ◌<◌, List}
 use Rattle.task_model.specs.Plans.{IsReached, MoreThan}
 use Rattle.task_model.specs.Streams.{NothingIsDue}
 use Rattle.task_model.specs.declared.task.Task.{Task}

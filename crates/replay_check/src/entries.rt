@@ -1,7 +1,7 @@
 //! The entries of a report, one after another.
-ghost use Rattle.std.specs.Prelude.{◌≡◌, ℕ, ◌<◌, ◌≤◌, ◌+◌, length, All, Some, slice_get, take, IfOk, IfSome, IfNone, [], IsTrue};
+ghost use Rattle.std.specs.Prelude.{◌≡◌, ◌<◌, ◌≤◌, ◌+◌, length, All, Some, slice_get, take, IfOk, IfSome, IsTrue};
 ghost use Rattle.replay_check.specs.Walks.{CanTake, IsTaken, IsWalked};
-ghost use Rattle.replay_check.specs.Standings.{AreBounds, IsNextRequest, IsStanding};
+ghost use Rattle.replay_check.specs.Standings.{AreBounds, IsNextRequest};
 ghost use Rattle.transcript_model.specs.Legal.{answered_number as number_in};
 ghost use Rattle.report_text.specs.Forms.{IsFormedEntry};
 ghost use Rattle.transcript_model.specs.declared.entry.Entry.TheVariants as entry;

@@ -1,5 +1,5 @@
 //! The head of a report.
-ghost use Rattle.std.specs.Prelude.{◌≡◌, ◌+◌, ◌<◌, ◌≤◌, ℕ, List, ◌++◌, ◌∷◌, [], length, map, take, slice_get, IfErr, IfOk, IfSome, IfNone, false, true};
+ghost use Rattle.std.specs.Prelude.{◌≡◌, ◌+◌, ◌<◌, ◌≤◌, List, ◌++◌, length, map, take, slice_get, IfErr, IfOk, IfSome, IfNone, false, true};
 ghost use Rattle.std.specs.List.{filter_map, list_any};
 ghost use Rattle.level_course.specs.Pools.{shares_of};
 ghost use Rattle.replay_check.specs.Headed.{IsAfter, IsHeaded};

@@ -1,5 +1,5 @@
 //! Whether the plan that a report shows is valid, costs what it says, and has its origins.
-ghost use Rattle.std.specs.Prelude.{◌≡◌, List, IfOk};
+ghost use Rattle.std.specs.Prelude.{IfOk};
 ghost use Rattle.transcript_ledger.specs.Ledgers.{IsLedger};
 ghost use Rattle.replay_check.specs.Runs.{IsNear, IsPlanOf, IsPlanned};
 ghost use Rattle.replay_check.specs.Standings.{AreBounds};

@@ -1,5 +1,5 @@
 //! The steps of a plan, taken one after another.
-ghost use Rattle.std.specs.Prelude.{◌≡◌, ◌+◌, ◌++◌, ◌∷◌, [], ℕ, List, IfOk, OnOk, IsTrue, ◌↔◌, Some, true, false, take};
+ghost use Rattle.std.specs.Prelude.{◌≡◌, ◌+◌, ℕ, List, IfOk, OnOk, IsTrue, ◌↔◌, Some, true, false, take};
 ghost use Rattle.replay_check.specs.Runs.{IsRan, IsRunOf, IsStepTaken, IsSum};
 ghost use Rattle.plan_check.specs.declared.fault.StepFault.TheVariants.{Memory};
 ghost use Rattle.replay_check.specs.Standings.{AreBounds};

@@ -11,7 +11,7 @@ use Rattle.session_core.proofs.SessionLemmas.{count_joined}
 use Rattle.task_model.proofs.KnownLemmas.{numbers_decided}
 use Rattle.lemmas.proofs.Members.{member_at}
 use Rattle.task_model.specs.Fit.{IsFit, is_name}
-use Rattle.task_model.specs.Known.{same_numbers, with_name}
+use Rattle.task_model.specs.Known.{same_numbers}
 use Rattle.task_model.specs.declared.stream.Instance.{Instance}
 use Rattle.task_model.specs.declared.stream.Stream.{Stream}
 use Rattle.task_model.specs.declared.task.Task.{Task}

@@ -4,12 +4,11 @@ use Rattle.std.specs.Fmt.{decimal}
 use Rattle.std.specs.List.{flat_map}
 use Rattle.report_text.specs.Forms.{IsNumber, IsSmall, IsFormedEntry, IsFormedOutcome}
 use Rattle.report_text.specs.Places.{Place, last, planning, is_dream, dream_line, plan_line, cost_line, no_plan_line, limit_line, first_line, limits_line}
-use Rattle.report_text.specs.Texts.{Line, use_line, step_line, do_line, from_line, entry_lines, outcome_lines, head_lines, done_line}
+use Rattle.report_text.specs.Texts.{Line, use_line, step_line, do_line, from_line, entry_lines, done_line}
 use Rattle.transcript_model.specs.declared.entry.Entry.{Entry}
 use Rattle.transcript_model.specs.declared.entry.Entry.TheVariants as entry
 use Rattle.transcript_model.specs.declared.outcome.Outcome.{Outcome}
 use Rattle.transcript_model.specs.declared.outcome.Outcome.TheVariants as outcome
-use Rattle.transcript_model.specs.declared.report.Report.{Report}
 use Rattle.report_reader.specs.Splits.{fields_of}
 use Rattle.report_reader.specs.declared.body_line.BodyLine.{BodyLine}
 use Rattle.report_reader.specs.declared.body_line.BodyLine.TheVariants.{Single, Dream, Ends}

@@ -1,8 +1,8 @@
 //! The entries of a report, and the line that ends them.
-ghost use Rattle.std.specs.Prelude.{◌≡◌, ℕ, ◌∷◌, ◌++◌, IfOk, map};
-ghost use Rattle.report_text.specs.Forms.{IsFormedEntry, IsFormedUse, IsFormedCall, IsTerm};
+ghost use Rattle.std.specs.Prelude.{ℕ, ◌∷◌, IfOk};
+ghost use Rattle.report_text.specs.Forms.{IsFormedUse, IsFormedCall, IsTerm};
 ghost use Rattle.report_text.specs.Places.{entries, dreaming};
-ghost use Rattle.report_text.specs.Texts.{use_line, step_line, use_line, entry_lines, call_fields, line};
+ghost use Rattle.report_text.specs.Texts.{use_line, use_line, call_fields, line};
 ghost use Rattle.report_reader.specs.Body.{IsBodyLine, body_line, IsBody, body_lines, IsReportPart, part_lines, IsDream, dream_lines};
 ghost use Rattle.report_reader.specs.Finding.{Finds, PartReads, TakesCounted, TakesLine};
 ghost use Rattle.report_reader.specs.Splits.{fields_of};

@@ -1,5 +1,5 @@
 //! Lists of names, and calls.
-ghost use Rattle.std.specs.Prelude.{◌≡◌, IfOk, All};
+ghost use Rattle.std.specs.Prelude.{IfOk, All};
 ghost use Rattle.report_text.specs.Forms.{IsFormedCall, IsName};
 ghost use Rattle.report_text.specs.Texts.{call_fields};
 ghost use Rattle.report_reader.specs.Finding.{Finds};

@@ -1,5 +1,5 @@
 //! The fields of a line, with a single space between each two.
-ghost use Rattle.std.specs.Prelude.{ℕ, ◌≡◌, ◌≤◌, ◌↔◌, [], ◌∷◌, List, IfSome, MatchBool, MatchOption, true, position, length};
+ghost use Rattle.std.specs.Prelude.{ℕ, ◌≡◌, ◌≤◌, [], ◌∷◌, List, MatchBool, MatchOption, true, position, length};
 ghost use Rattle.std.specs.List.{slice_split};
 ghost use Rattle.std.specs.Fmt.{decimal};
 ghost use Rattle.gen_lines.specs.Reply.{is_space};

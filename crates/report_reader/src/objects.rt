@@ -3,7 +3,7 @@ ghost use Rattle.std.specs.Prelude.{◌≡◌, ◌↔◌, true, IfOk, position};
 ghost use Rattle.std.specs.List.{list_all};
 ghost use Rattle.gen_lines.specs.Reply.{is_value, is_value_byte};
 ghost use Rattle.task_model.specs.Fit.{is_name, is_name_byte};
-ghost use Rattle.report_text.specs.Forms.{IsGenerated, IsNumber, IsObject, IsPlaceholder};
+ghost use Rattle.report_text.specs.Forms.{IsGenerated, IsObject, IsPlaceholder};
 ghost use Rattle.report_reader.specs.Objects.{AreTwoPlaces, IsArgument, IsPlaceNumber, is_dot};
 
 use crate::bytes::{before, behind};

@@ -1,5 +1,5 @@
 //! Lines that come in pieces.
-ghost use Rattle.std.specs.Prelude.{◌≡◌, ◌<◌, length};
+ghost use Rattle.std.specs.Prelude.{◌≡◌, ◌<◌};
 ghost use Rattle.std.specs.Bool.{OnFalse, OnTrue};
 ghost use Rattle.std.specs.List.{after_first};
 ghost use Rattle.gen_lines.specs.Lines.{is_feed};

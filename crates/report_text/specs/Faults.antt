@@ -1,7 +1,7 @@
 -- Where a text is no report: its first line that isn't of a form at its place.
 use Rattle.lemmas.specs.Lists.{lines_with_feeds}
-use Rattle.std.specs.Prelude.{◌≡◌, ℕ, ◌+◌, ◌-◌, ◌<◌, ◌≤◌, List, [], ◌∷◌, ◌++◌, length, take}
-use Rattle.std.specs.List.{flat_map, slice_split}
+use Rattle.std.specs.Prelude.{◌≡◌, ℕ, ◌+◌, ◌-◌, ◌<◌, ◌≤◌, List, ◌++◌, length, take}
+use Rattle.std.specs.List.{slice_split}
 use Rattle.gen_lines.specs.Lines.{is_feed, ended}
 use Rattle.report_text.specs.Forms.{IsFormed}
 use Rattle.report_text.specs.Texts.{text_of_report}

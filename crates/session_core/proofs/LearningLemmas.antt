@@ -1,17 +1,14 @@
 -- What the entries of a transcript add, one after another, and that it stays little.
-use Rattle.std.proofs.Common.{◌≡◌, ℕ, zero, suc, ◌+◌, ◌*◌, ◌-◌, ◌<◌, ◌≤◌, arith, Bool, true, false, cond, List, [], ◌∷◌, ◌++◌, map, take, drop, length, replicate, refl, sym, subst, ap, ◌∙◌, Option, Some, None, All, slice_get, get_or, count_by, eq-eqb, eqb-true, mul-add, mul-le-mul}
+use Rattle.std.proofs.Common.{◌≡◌, ℕ, zero, suc, ◌+◌, ◌*◌, ◌-◌, ◌<◌, ◌≤◌, arith, true, cond, List, [], ◌∷◌, ◌++◌, take, drop, length, replicate, refl, sym, ap, ◌∙◌, Option, Some, None, slice_get, get_or, count_by, eq-eqb, eqb-true, mul-add, mul-le-mul}
 use Rattle.std.proofs.Math.ListN.{take-append-drop}
 use Rattle.std.proofs.lemmas.Bool.{leb-true}
 use Rattle.std.proofs.lemmas.List.{length-append, length-map, length-replicate}
-use Rattle.std.proofs.lemmas.List.Sums.{count_by-le-length}
 use Rattle.std.proofs.lemmas.Option.{get_or_from_slice_get}
 use Rattle.std.specs.Cmp.{first_so}
 use Rattle.std.specs.List.{flat_map, list_any}
 use Rattle.std.specs.Option.{option_map_or}
 use Rattle.certify.proofs.FitStreamLemmas.{fit_parts}
-use Rattle.task_model.specs.Fit.{IsFit}
 use Rattle.task_model.specs.Initial.{declared_names}
-use Rattle.task_model.specs.Known.{IsIn}
 use Rattle.task_model.specs.Streams.{Yielded, Ended}
 use Rattle.task_model.specs.declared.domain.Declared.{Declared}
 use Rattle.task_model.specs.declared.stream.Instance.{Instance}
@@ -22,7 +19,7 @@ use Rattle.transcript_model.proofs.LegalPrefixLemmas.{names_of-front, asked-late
 use Rattle.transcript_model.proofs.NamedObjectLemmas.{constants_few, fit_stream_at}
 use Rattle.transcript_model.proofs.LegalNumberLemmas.{asks_more, number_below, waiting_of, next_is_fresh}
 use Rattle.transcript_model.proofs.LegalStepLemmas.{answer_adds, request_adds, mark_adds}
-use Rattle.transcript_model.specs.Legal.{IsLegal, MayFollow, IsRightAsk, IsRightGot, asks_of, is_ask_of, is_answer_to, is_open, is_answer, answered_number, is_mark}
+use Rattle.transcript_model.specs.Legal.{MayFollow, IsRightAsk, IsRightGot, asks_of, is_ask_of, is_answer_to, is_answer, answered_number, is_mark}
 use Rattle.transcript_model.specs.Names.{generated}
 use Rattle.transcript_model.specs.Transcript.{Asked, asked, objects_in, names_of, known_of, notes_of, note_of, known_with, notes_with}
 use Rattle.transcript_model.specs.declared.entry.Entry.{Entry}
@@ -30,7 +27,6 @@ use Rattle.transcript_model.specs.declared.entry.Entry.TheVariants as entry
 use Rattle.session_core.proofs.SessionLemmas.{count_joined, count_one}
 use Rattle.session_core.proofs.LearningTupleLemmas.{length_with_names}
 use Rattle.session_core.specs.Learning.{CanLearn, MayLearn, IsRoomAfter}
-use Rattle.session_core.specs.Session.{Asks}
 use Rattle.lemmas.proofs.Options.{same_some}
 use Rattle.lemmas.proofs.ListTests.{get_there}
 

@@ -1,14 +1,13 @@
 -- What is known after tuples, one after another, is what it is after all at once.
-use Rattle.std.proofs.Common.{◌≡◌, ℕ, zero, suc, ◌+◌, ◌*◌, ◌-◌, ◌<◌, ◌≤◌, arith, List, [], ◌∷◌, ◌++◌, map, take, drop, length, replicate, refl, sym, subst, ap, ◌∙◌, suc-mul, Some, unwrap_or, All, slice_get, append_assoc}
-use Rattle.std.proofs.lemmas.List.{map-append, append-nil, length-append, length-map}
+use Rattle.std.proofs.Common.{◌≡◌, ℕ, suc, ◌+◌, ◌-◌, ◌<◌, ◌≤◌, arith, List, [], ◌∷◌, ◌++◌, map, take, drop, length, replicate, refl, sym, ap, ◌∙◌, Some, unwrap_or, append_assoc}
+use Rattle.std.proofs.lemmas.List.{map-append}
 use Rattle.std.proofs.lemmas.Simd.{map-map}
 use Rattle.std.proofs.Math.ListN.{take-append-drop}
-use Rattle.std.specs.List.{flat_map}
 use Rattle.certify.proofs.OutputsLemmas.{length_with_name}
 use Rattle.certify.specs.Outputs.{AreNamed}
 use Rattle.task_model.specs.Known.{Known, with_facts, with_name}
 use Rattle.lemmas.specs.Lists.{AreDistinct}
-use Rattle.task_model.specs.Streams.{Note, certified_by}
+use Rattle.task_model.specs.Streams.{certified_by}
 use Rattle.task_model.specs.declared.task.Task.{Task}
 use Rattle.transcript_model.proofs.CallNameLemmas.{places_exact}
 use Rattle.transcript_model.proofs.NamesLemmas.{places_kept, with_names-front, with_names-then}

@@ -1,14 +1,14 @@
 -- Asks that wait for their round stay due while others are answered.
-use Rattle.std.proofs.Common.{◌≡◌, ℕ, zero, suc, ◌+◌, ◌≤◌, ◌<◌, ◌==◌, Bool, true, false, not, cond, ◌&&◌, ◌||◌, List, [], ◌∷◌, ◌++◌, map, length, take, drop, replicate, refl, sym, ap, subst, ◌∙◌, Option, Some, None, slice_get, arith, All, Contains, inl, inr, ◌⊎◌, append_assoc, option_map, nat_lt, length-append}
+use Rattle.std.proofs.Common.{◌≡◌, ℕ, zero, suc, ◌+◌, ◌≤◌, Bool, true, false, ◌&&◌, ◌||◌, List, [], ◌∷◌, ◌++◌, length, take, drop, refl, sym, ap, subst, ◌∙◌, Option, Some, None, slice_get, arith, All, Contains, append_assoc, option_map, nat_lt}
 use Rattle.std.proofs.Math.ListN.{take-append-drop}
 use Rattle.std.proofs.Math.Seq.{take-length}
 use Rattle.std.proofs.lemmas.Bool.{ltb-true, ltb-false, and_from}
 use Rattle.std.proofs.lemmas.List.{append-nil, map-append}
-use Rattle.std.proofs.lemmas.List.Elements.{All-head, All-tail, All-take, All-drop, All-replicate, All-contains, Contains-append_left, Contains-append_right, All-nil, All-cons}
+use Rattle.std.proofs.lemmas.List.Elements.{All-head, All-tail, All-take, All-drop, All-replicate, Contains-append_left, Contains-append_right, All-nil, All-cons}
 use Rattle.std.proofs.lemmas.Option.{slice_get_within, slice_get-map}
 use Rattle.std.specs.Cmp.{first_so, second_so, IsTotalOrder}
 use Rattle.std.specs.declared.cmp.Ordering.{Ordering}
-use Rattle.std.specs.declared.cmp.Ordering.TheVariants.{Less, Equal, Greater}
+use Rattle.std.specs.declared.cmp.Ordering.TheVariants.{Less, Greater}
 use Rattle.std.specs.Ordering.{ordering_reverse}
 use Rattle.std.specs.List.{flat_map, list_any, list_all, cons_option}
 use Rattle.std.proofs.lemmas.List.Concat.{flat_map-append}
@@ -42,7 +42,7 @@ use Rattle.session_core.proofs.RoundCloseLemmas.{close_kept}
 use Rattle.session_core.proofs.ReadyRoundLemmas.{fits_same, workers_fit}
 use Rattle.transcript_model.specs.Legal.{answered_number}
 use Rattle.session_core.specs.Ready.{AreReady, IsNextRound}
-use Rattle.session_core.specs.Session.{IsSession, IsLearnt, IsRoundOf, AreSlotsFor, Asks, MayBeginRound}
+use Rattle.session_core.specs.Session.{IsSession, IsLearnt, AreSlotsFor, Asks, MayBeginRound}
 use Rattle.session_core.specs.Slots.{Slot, streams_of, asks_from, entry_of, answers_of, all_answered}
 use Rattle.session_core.specs.State.{State, after_close}
 

@@ -1,22 +1,17 @@
 -- The next round of a list of asks.
-use Rattle.std.proofs.Common.{◌≡◌, ℕ, zero, suc, ◌+◌, ◌-◌, ◌≤◌, ◌<◌, true, false, List, [], ◌∷◌, ◌++◌, map, length, take, drop, min, refl, sym, ap, subst, ◌∙◌, Option, Some, slice_get, get_or, count_by, arith, nat_le, take_all, All, Contains, ◌&&◌}
-use Rattle.std.proofs.Math.ListN.{take-append-drop}
+use Rattle.std.proofs.Common.{◌≡◌, ℕ, zero, suc, ◌+◌, ◌-◌, ◌≤◌, ◌<◌, true, false, List, [], ◌∷◌, ◌++◌, map, length, take, drop, min, refl, sym, ap, subst, ◌∙◌, Some, slice_get, get_or, count_by, arith, nat_le, take_all, ◌&&◌}
 use Rattle.std.proofs.Math.Seq.{take-take}
 use Rattle.std.proofs.lemmas.Bool.{leb-true, le-leb, lt-leb, and_from, true≢false}
-use Rattle.std.proofs.lemmas.List.{append-nil, map-append, length-take, drop_more}
-use Rattle.std.proofs.lemmas.List.Elements.{Contains-append_left}
+use Rattle.std.proofs.lemmas.List.{map-append, length-take, drop_more}
 use Rattle.std.specs.Cmp.{first_so, second_so}
-use Rattle.std.specs.List.{list_all, list_any}
 use Rattle.lemmas.proofs.Bools.{cond_le_one}
 use Rattle.lemmas.proofs.ListTests.{get_there}
 use Rattle.instance_queue.specs.Level.{instances_of}
 use Rattle.instance_queue.specs.declared.due.Due.{Due}
-use Rattle.task_model.specs.declared.stream.Instance.{Instance}
-use Rattle.task_model.specs.declared.task.Task.{Task}
 use Rattle.transcript_model.specs.Rounds as rounds
 use Rattle.session_core.proofs.LearningLemmas.{take_next}
 use Rattle.session_core.proofs.SessionLemmas.{count_joined, count_one}
-use Rattle.session_core.specs.Pools.{serves, AreFitPools, FitWorkers, fits_workers}
+use Rattle.session_core.specs.Pools.{serves, FitWorkers, fits_workers}
 use Rattle.session_core.specs.Ready.{share_of, IsLongestFront, IsNextRound, calls_left}
 use Rattle.session_core.specs.Slots.{streams_of}
 use Rattle.session_core.specs.State.{State}

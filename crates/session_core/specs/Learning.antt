@@ -1,5 +1,5 @@
 -- What is learnt from the answers of a transcript, one after another.
-use Rattle.std.specs.Prelude.{◌≡◌, ℕ, ◌+◌, ◌*◌, ◌≤◌, ◌<◌, List, length, All, Option, None, Some, slice_get, count_by}
+use Rattle.std.specs.Prelude.{◌≡◌, ℕ, ◌+◌, ◌*◌, ◌≤◌, ◌<◌, List, length, All, Some, slice_get, count_by}
 use Rattle.task_model.specs.Fit.{IsFit}
 use Rattle.task_model.specs.Known.{Known, IsIn}
 use Rattle.task_model.specs.Streams.{Note}

@@ -1,5 +1,5 @@
 -- What holds of a session of a task, and what its calls ask for.
-use Rattle.std.specs.Prelude.{◌≡◌, ℕ, ◌+◌, ◌≤◌, List, [], ◌∷◌, map, length, take, All, Bool, true, false, Some, slice_get, count_by, Contains}
+use Rattle.std.specs.Prelude.{◌≡◌, ℕ, ◌+◌, ◌≤◌, List, [], ◌∷◌, map, length, take, All, true, false, Some, slice_get, count_by, Contains}
 use Rattle.gen_lines.specs.Reply.{reply_of}
 use Rattle.instance_queue.specs.Level.{instances_of}
 use Rattle.instance_queue.specs.declared.due.Due.{Due}

@@ -1,6 +1,5 @@
 //! The workers of pools, and which of them is asked.
 ghost use Rattle.std.specs.Prelude.{◌≡◌, ◌≤◌, IfOk, length, option_copied, count_by, map};
-ghost use Rattle.std.specs.List.{list_any};
 ghost use Rattle.session_core.specs.Pools.{workers_of, serves as serves_stream, server as server_of, child_for, fits_workers};
 ghost use Rattle.session_core.specs.Ready.{IsLongestFront};
 ghost use Rattle.session_core.specs.Slots.{streams_of};

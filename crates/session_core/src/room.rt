@@ -2,7 +2,7 @@
 ghost use Rattle.std.specs.Prelude.{◌≡◌, ◌≤◌, [], IfOk, length, true, vec_capacity};
 ghost use Rattle.std.specs.List.{list_all};
 ghost use Rattle.gen_lines.specs.Reply.{is_value};
-ghost use Rattle.gen_lines.specs.Told.{LieIn, texts, value_count, IsNarrow};
+ghost use Rattle.gen_lines.specs.Told.{LieIn, texts, value_count};
 
 use gen_lines::{Spans, Wanted};
 use std::alloc::{AllocError, Global};

@@ -1,5 +1,5 @@
 //! A round, before anything was sent.
-ghost use Rattle.std.specs.Prelude.{◌≡◌, ◌≤◌, ◌+◌, ◌^◌, ◌<◌, ◌++◌, [], ℕ, IfOk, IfSome, IfNone, None, length, map, take, All, Some, slice_get, vec_capacity, option_copied};
+ghost use Rattle.std.specs.Prelude.{◌≡◌, ◌≤◌, ◌+◌, ◌^◌, ◌<◌, ◌++◌, [], IfOk, IfSome, IfNone, None, length, map, All, Some, slice_get, vec_capacity, option_copied};
 ghost use Rattle.gen_lines.specs.Request.{IsNamed};
 ghost use Rattle.gen_lines.specs.Told.{IsNarrow};
 ghost use Rattle.instance_queue.specs.Level.{instances_of};

@@ -47,13 +47,13 @@ impl Model for Session {
 }
 
 impl Session {
-    ghost use Rattle.std.specs.Prelude.{◌≡◌, ◌+◌, ◌<◌, ◌≤◌, ◌==◌, ℕ, List, [], true, false, length, take, drop, slice_get, Some, option_copied, IfSome, IfOk, IfErr, OnOk, OnErr, if◌then◌else◌};
+    ghost use Rattle.std.specs.Prelude.{◌≡◌, ◌+◌, ◌<◌, ◌≤◌, ◌==◌, ℕ, List, true, false, length, take, drop, slice_get, Some, option_copied, IfSome, IfOk, IfErr, OnOk, OnErr, if◌then◌else◌};
     ghost use Rattle.instance_queue.specs.Level as level;
     ghost use Rattle.instance_queue.specs.Level.{instances_of};
     ghost use Rattle.instance_queue.specs.declared.due.Due.{Due as AnyDue};
     ghost use Rattle.task_model.specs.Fit.{IsFit};
     ghost use Rattle.task_model.specs.declared.task.Task.{Task as AnyTask};
-    ghost use Rattle.transcript_model.specs.Legal.{asks_of, is_mark};
+    ghost use Rattle.transcript_model.specs.Legal.{is_mark};
     ghost use Rattle.transcript_model.specs.Transcript.{known_of, notes_of};
     ghost use Rattle.session_core.specs.Events.{IsFresh};
     ghost use Rattle.session_core.specs.Heard.{heard_at, is_bad_at, number_at};

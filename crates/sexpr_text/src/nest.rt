@@ -1,8 +1,8 @@
 //! The lists that are open at a place of the text.
-ghost use Rattle.std.specs.Prelude.{◌≡◌, ℕ, ◌+◌, IfOk, []};
+ghost use Rattle.std.specs.Prelude.{◌≡◌, ◌+◌, IfOk};
 ghost use Rattle.sexpr_text.specs.Trees.{word};
 ghost use Rattle.sexpr_text.specs.Reading.{Levels, opened};
-ghost use Rattle.sexpr_text.specs.Nesting.{nested, open_count, framed, Closes};
+ghost use Rattle.sexpr_text.specs.Nesting.{nested, open_count, Closes};
 
 use crate::text::Text;
 use crate::tree::Tree;

@@ -1,8 +1,8 @@
 //! Pools with the places of their streams and the numbers of their children.
-ghost use Rattle.std.specs.Prelude.{◌≡◌, ◌≤◌, ◌+◌, Some, None, map, length, sum_by, IfOk, IfErr, OnOk, false, true, if◌then◌else◌};
+ghost use Rattle.std.specs.Prelude.{◌≡◌, ◌≤◌, ◌+◌, Some, None, map, length, IfOk, IfErr, OnOk, false, true};
 ghost use Rattle.std.specs.List.{list_any};
 ghost use Rattle.stream_map.specs.Children.{plain, numbered};
-ghost use Rattle.stream_map.specs.Faults.{Only, Refused, fault_of, have_wrong_workers, is_grid, names_unknown, own_workers, place_of};
+ghost use Rattle.stream_map.specs.Faults.{Only, Refused, fault_of, have_wrong_workers, is_grid, names_unknown, place_of};
 ghost use Rattle.stream_map.specs.Form.{each_of, stream_names};
 ghost use Rattle.stream_map.specs.Spelled.{shown};
 ghost use Rattle.stream_map.specs.declared.fault.MapFault.TheVariants.{Unknown};

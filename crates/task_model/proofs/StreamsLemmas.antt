@@ -1,5 +1,5 @@
 -- Instances: that a test tells them apart, their order, which are due, and that what is due is one list.
-use Rattle.std.proofs.Common.{◌≡◌, ℕ, Bool, true, false, not, ◌&&◌, List, [], refl, sym, ap, ◌∙◌, subst, Option, Some, None, slice_get, Contains, arith, ◌==◌, map, IsSome, unwrap_or, eqb-true, eq-eqb}
+use Rattle.std.proofs.Common.{◌≡◌, ℕ, Bool, true, false, not, List, [], refl, sym, ap, ◌∙◌, subst, Option, Some, None, slice_get, Contains, arith, ◌==◌, map, IsSome, unwrap_or, eqb-true, eq-eqb}
 use Rattle.std.proofs.lemmas.Bool.{and_from}
 use Rattle.std.specs.Cmp.{first_so, second_so, IsTotalOrder, then_total, on_total, nat_cmp_total}
 use Rattle.task_model.specs.Known.{Known, IsIn, same_numbers}

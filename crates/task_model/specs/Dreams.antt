@@ -1,6 +1,6 @@
 -- What is supposed of streams that haven't answered, and the plans that rest on it (PDDLStream 2020; how
 -- entries are found and what a dream leaves out are this project's).
-use Rattle.std.specs.Prelude.{◌≡◌, ℕ, zero, suc, ◌+◌, ◌<◌, ◌≤◌, ◌⊎◌, ◌↔◌, List, [], ◌∷◌, ◌++◌, map, length, take, drop, sum_by, Bool, true, false, Option, None, Some, slice_get, Contains, if◌then◌else◌}
+use Rattle.std.specs.Prelude.{◌≡◌, ℕ, zero, suc, ◌+◌, ◌<◌, ◌≤◌, ◌⊎◌, ◌↔◌, List, [], ◌∷◌, ◌++◌, map, length, take, drop, sum_by, Bool, true, false, Some, slice_get, Contains, if◌then◌else◌}
 use Rattle.std.specs.Fmt.{decimal}
 use Rattle.std.specs.List.{list_any, flat_map}
 use Rattle.std.specs.Ordering.{nat_cmp}
@@ -10,7 +10,6 @@ use Rattle.task_model.specs.Plans.{IsValid, IsSolvable, IsReached, MoreThan}
 use Rattle.task_model.specs.Streams.{Note, IsDue, at_stream, instance_cmp, same_instance, certified_by, worth_by, is_reachable}
 use Rattle.task_model.specs.declared.fact.Fact.{Fact}
 use Rattle.task_model.specs.declared.stream.Instance.{Instance}
-use Rattle.task_model.specs.declared.stream.Stream.{Stream}
 use Rattle.task_model.specs.declared.task.GroundAction.{GroundAction}
 use Rattle.task_model.specs.declared.task.Task.{Task}
 use Rattle.task_model.specs.declared.task.Valued.{Valued}

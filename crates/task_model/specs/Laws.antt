@@ -1,5 +1,5 @@
 -- Laws of the definitions. Each is the contract of a public function of `laws.rt`, and so is proved.
-use Rattle.std.specs.Prelude.{◌≡◌, ℕ, ◌+◌, ◌≤◌, ◌↔◌, List, ◌++◌, map, length, Bool, true, false, not, ◌&&◌, ◌||◌, ◌==◌, slice_index, Contains}
+use Rattle.std.specs.Prelude.{◌≡◌, ℕ, ◌+◌, ◌≤◌, ◌↔◌, List, ◌++◌, map, length, Bool, true, false, not, ◌&&◌, ◌||◌, slice_index, Contains}
 use Rattle.std.specs.List.{list_any}
 use Rattle.std.specs.Ordering.{eq_by_cmp}
 use Rattle.task_model.specs.AtomOrder.{atom_cmp}
@@ -11,8 +11,6 @@ use Rattle.task_model.specs.Plans.{Executes, IsReached, IsReachedWithin, MoreTha
 use Rattle.task_model.specs.State.{Atoms, contains}
 use Rattle.task_model.specs.Steps.{atom_of, effect_of}
 use Rattle.task_model.specs.Truth.{truth, slots_of, is_slot}
-use Rattle.task_model.specs.declared.condition.Term.{Term}
-use Rattle.task_model.specs.declared.condition.Term.TheVariants.{Slot, Object}
 use Rattle.task_model.specs.declared.domain.Action.{Action}
 use Rattle.task_model.specs.declared.fact.Atom as atoms
 use Rattle.task_model.specs.declared.fact.Fact.{Fact}

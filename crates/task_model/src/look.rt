@@ -1,5 +1,5 @@
 //! What planning looks up: the facts, the objects of a type, the values of functions, and names.
-ghost use Rattle.std.specs.Prelude.{◌≡◌, ℕ, ◌<◌, length, Some, slice_get};
+ghost use Rattle.std.specs.Prelude.{◌≡◌, ◌<◌, length, Some, slice_get};
 ghost use Rattle.task_model.specs.Known.{Known, IsCoherent, is_fact, objects_of, value_of, matches_of};
 
 use crate::fact::Fact;

@@ -1,5 +1,5 @@
 //! States.
-ghost use Rattle.std.specs.Prelude.{◌≡◌, ◌<◌, ◌+◌, not, length, slice_get, Some, IfOk, OnOk, OnErr};
+ghost use Rattle.std.specs.Prelude.{◌≡◌, ◌<◌, not, slice_get, Some, IfOk, OnOk, OnErr};
 ghost use Rattle.task_model.specs.State as set;
 
 use crate::fact::Atom;

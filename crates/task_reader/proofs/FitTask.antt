@@ -5,7 +5,7 @@ use Rattle.sexpr_text.proofs.TreesSizeLemmas.{small}
 use Rattle.sexpr_text.specs.Reading.{reading}
 use Rattle.sexpr_text.specs.Spelling as spelling
 use Rattle.sexpr_text.specs.Trees.{Trees, nothing}
-use Rattle.task_model.specs.Fit.{IsFit, IsFitDomain}
+use Rattle.task_model.specs.Fit.{IsFitDomain}
 use Rattle.task_model.specs.declared.domain.Domain.{Domain}
 use Rattle.task_model.specs.declared.stream.Stream.{Stream}
 use Rattle.task_model.specs.declared.task.Problem.{Problem}

@@ -1,5 +1,5 @@
 -- The fault of a tree or of what it spells is the cause of the refusal that it is told by.
-use Rattle.std.proofs.Common.{◌≡◌, ℕ, List, Result, Ok, Err}
+use Rattle.std.proofs.Common.{◌≡◌, ℕ, List, Ok, Err}
 use Rattle.sexpr_text.specs.Reading.{Fails, reading}
 use Rattle.sexpr_text.specs.Trees.{Trees}
 use Rattle.sexpr_text.specs.declared.fault.TextFault.{TextFault}

@@ -1,5 +1,5 @@
 -- Ascending numbers: a list of them is known by its members.
-use Rattle.std.proofs.Common.{◌≡◌, ℕ, ◌+◌, ◌<◌, ◌≤◌, ◌||◌, true, false, cond, ◌==◌, nat_lt, List, [], ◌∷◌, refl, subst, sym, arith, ◌⊎◌, inl, inr, ltb-true, ltb-false, eqb-true, eq-eqb}
+use Rattle.std.proofs.Common.{◌≡◌, ℕ, ◌+◌, ◌≤◌, true, false, cond, ◌==◌, nat_lt, List, [], ◌∷◌, refl, subst, sym, arith, inl, inr, ltb-true, ltb-false, eqb-true, eq-eqb}
 use Rattle.std.proofs.lemmas.Bool.{eqb-false, or_cases, or_left, or_right}
 use Rattle.name_tables.proofs.GraphsOrderLemmas.{ascending_in, in_ascending}
 use Rattle.name_tables.specs.Graphs.{ascending, ascending_with}

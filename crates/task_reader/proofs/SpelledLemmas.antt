@@ -1,16 +1,14 @@
 -- What texts spell is one thing, and what spells isn't refused.
-use Rattle.std.proofs.Common.{◌≡◌, ℕ, ◌+◌, ◌++◌, ◌==◌, cond, true, false, List, [], ◌∷◌, map, length, refl, sym, subst, ap, ◌∙◌, Some, None, Result, Ok, Err}
+use Rattle.std.proofs.Common.{◌≡◌, ℕ, ◌+◌, ◌++◌, ◌==◌, cond, true, List, [], ◌∷◌, map, length, refl, sym, subst, ap, ◌∙◌, Some, Result, Ok, Err}
 use Rattle.std.specs.List.{list_any}
 use Rattle.sexpr_text.specs.Reading.{reading}
 use Rattle.sexpr_text.specs.Trees.{Trees}
-use Rattle.sexpr_text.specs.declared.fault.TextFault.{TextFault}
 use Rattle.lemmas.specs.Lists.{numbers_from, has_number}
 use Rattle.task_model.specs.Roles.{role_of}
 use Rattle.task_model.specs.declared.domain.Domain.{Domain}
 use Rattle.task_model.specs.declared.domain.Action.{Action}
 use Rattle.task_model.specs.declared.domain.Derived as derived
 use Rattle.task_model.specs.declared.domain.Pattern.{Pattern}
-use Rattle.task_model.specs.declared.domain.Role.{Role}
 use Rattle.task_model.specs.declared.domain.Role.TheVariants.{Static, Fluent, Derived}
 use Rattle.task_model.specs.declared.domain.Sort as sort
 use Rattle.task_model.specs.declared.stream.Stream.{Stream}
@@ -19,17 +17,17 @@ use Rattle.task_model.specs.declared.task.Task.{Task}
 use Rattle.form_reader.specs.declared.fault.Fault.{Fault}
 use Rattle.form_reader.specs.declared.fault.InputKind.{InputKind}
 use Rattle.form_reader.specs.Faults.{least_fault}
-use Rattle.name_tables.specs.Graphs.{AreReached, HasWay}
+use Rattle.name_tables.specs.Graphs.{AreReached}
 use Rattle.name_tables.specs.declared.vocabulary.Vocabulary.{Vocabulary}
-use Rattle.domain_reader.specs.Cycles.{AreSorts, IsAbove, more_sorts, no_sorts, type_edges}
+use Rattle.domain_reader.specs.Cycles.{AreSorts, IsAbove, more_sorts, no_sorts}
 use Rattle.name_tables.specs.Cycles.{CycleFaults, no_more, cyclic, free}
 use Rattle.domain_reader.specs.Domains as domains
-use Rattle.domain_reader.specs.Domains.{AreNameFaults, plain_names, roles_of}
+use Rattle.domain_reader.specs.Domains.{AreNameFaults, plain_names}
 use Rattle.name_tables.specs.Texts.{body_of}
 use Rattle.problem_reader.specs.Problems as problems
 use Rattle.stream_reader.specs.Reading as streams
 use Rattle.task_reader.specs.Refusals.{IsRefused, SpellsTree}
-use Rattle.task_reader.specs.Tasks.{Spells, RefusesSecond, RefusesThird}
+use Rattle.task_reader.specs.Tasks.{Spells}
 use Rattle.task_reader.specs.Texts.{SpellsDomain, SpellsProblem, SpellsStreams, RefusesDomain, RefusesProblem, RefusesStreams}
 use Rattle.task_reader.specs.declared.refusal.FaultKind.{FaultKind}
 use Rattle.task_reader.specs.declared.refusal.FaultKind.TheVariants.{BadByte, Unclosed, Extra, TooDeep, Input}

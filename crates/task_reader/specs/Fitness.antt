@@ -1,6 +1,6 @@
 -- Accepted texts spell fit tasks.
 use Rattle.std.specs.Prelude.{ℕ, ◌≤◌, List, length}
-use Rattle.task_model.specs.Fit.{IsFit, IsFitDomain}
+use Rattle.task_model.specs.Fit.{IsFit}
 use Rattle.task_model.specs.declared.domain.Domain.{Domain}
 use Rattle.task_model.specs.declared.task.Task.{Task}
 use Rattle.task_reader.specs.Tasks.{Spells}

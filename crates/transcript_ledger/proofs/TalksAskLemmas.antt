@@ -6,10 +6,9 @@ use Rattle.std.specs.List.{list_any}
 use Rattle.session_core.proofs.LearningLemmas.{take_next}
 use Rattle.session_core.proofs.SessionLemmas.{count_joined}
 use Rattle.task_model.proofs.StreamsLemmas.{due_holds, due_passes, instances_same}
-use Rattle.task_model.specs.Known.{Known, same_numbers}
+use Rattle.task_model.specs.Known.{same_numbers}
 use Rattle.task_model.specs.Streams.{IsDue, is_due, same_instance, yields_of}
 use Rattle.task_model.specs.declared.stream.Instance.{Instance}
-use Rattle.task_model.specs.declared.stream.Stream.{Stream}
 use Rattle.task_model.specs.declared.task.Task.{Task}
 use Rattle.transcript_model.proofs.LegalPrefixLemmas.{first_request}
 use Rattle.transcript_model.specs.Legal.{IsLegal, HasNoRequestOpen, IsRightAsk, asks_of, is_answer_to, is_ask, is_ask_of, is_open}

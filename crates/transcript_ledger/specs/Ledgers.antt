@@ -1,6 +1,6 @@
 -- What is kept of the entries so far.
 use Rattle.lemmas.specs.Lists.{has_number}
-use Rattle.std.specs.Prelude.{◌≡◌, ℕ, ◌+◌, ◌-◌, ◌≤◌, List, length, Bool, false, ◌==◌, count_by, Option, Some, None, slice_get}
+use Rattle.std.specs.Prelude.{◌≡◌, ℕ, ◌+◌, ◌-◌, ◌≤◌, List, length, Bool, false, count_by, Option, Some, None, slice_get}
 use Rattle.std.specs.List.{list_any}
 use Rattle.task_model.specs.Fit.{IsFit}
 use Rattle.task_model.specs.Streams.{same_instance}

@@ -1,5 +1,5 @@
 //! Whether a request may be made.
-ghost use Rattle.std.specs.Prelude.{◌≡◌, ℕ, List, IfOk, IsTrue, ◌↔◌};
+ghost use Rattle.std.specs.Prelude.{◌≡◌, ℕ, List, IfOk};
 ghost use Rattle.transcript_ledger.specs.Ledgers.{IsLedger};
 ghost use Rattle.transcript_ledger.specs.Talks.{IsAskedBy};
 ghost use Rattle.transcript_ledger.specs.Talks.{may_ask as passes};

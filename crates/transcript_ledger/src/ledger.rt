@@ -38,7 +38,7 @@ fn left_out(alloc: Global, numbers: &[u32], number: u32) -> Result<Vec<u32>, All
 }
 
 impl Ledger {
-    ghost use Rattle.std.specs.Prelude.{ℕ, ◌+◌, ◌≤◌, ◌<◌, ◌∷◌, [], ◌++◌, length, take, true, Some, slice_get, OnOk, List};
+    ghost use Rattle.std.specs.Prelude.{ℕ, ◌+◌, ◌≤◌, ◌<◌, ◌∷◌, [], ◌++◌, length, take, Some, slice_get, OnOk, List};
     ghost use Rattle.transcript_ledger.specs.Ledgers.{IsLedger, is_waiting as waits, asked_it};
     ghost use Rattle.lemmas.specs.Lists.{has_number};
     ghost use Rattle.task_model.specs.Fit.{IsFit};

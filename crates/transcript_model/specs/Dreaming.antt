@@ -1,5 +1,5 @@
 -- The entries of a dream: what is supposed after a transcript, how it is shown, and which entries may be asked.
-use Rattle.std.specs.Prelude.{◌≡◌, ℕ, ◌+◌, ◌<◌, ◌⊎◌, ◌==◌, nat_lt, List, [], ◌∷◌, map, length, take, Bool, false, not, ◌&&◌, Option, None, Some, slice_get, Contains, if◌then◌else◌}
+use Rattle.std.specs.Prelude.{◌≡◌, ℕ, ◌+◌, ◌<◌, ◌⊎◌, ◌==◌, nat_lt, List, [], ◌∷◌, map, length, take, false, not, ◌&&◌, Option, None, Some, slice_get, Contains, if◌then◌else◌}
 use Rattle.std.specs.List.{list_any, filter_map}
 use Rattle.std.specs.Option.{option_map, option_and_then, option_or, option_map_or}
 use Rattle.task_model.specs.Dreams as dreams
@@ -8,7 +8,6 @@ use Rattle.task_model.specs.Known.{Known}
 use Rattle.lemmas.specs.Lists.{AreDistinct}
 use Rattle.task_model.specs.Streams.{Note, IsDue, is_due, same_instance}
 use Rattle.task_model.specs.declared.stream.Instance.{Instance}
-use Rattle.task_model.specs.declared.stream.Stream.{Stream}
 use Rattle.task_model.specs.declared.task.GroundAction.{GroundAction}
 use Rattle.task_model.specs.declared.task.Task.{Task}
 use Rattle.transcript_model.specs.Calls.{call_of_step}

@@ -1,8 +1,8 @@
 -- Laws of the definitions. Each is the contract of a public function of `laws.rt`, and so is proved.
-use Rattle.std.specs.Prelude.{◌≡◌, ℕ, ◌+◌, ◌<◌, ◌≤◌, ◌==◌, ◌↔◌, List, [], ◌∷◌, ◌++◌, map, length, take, replicate, Bool, true, false, not, ◌&&◌, ◌||◌, Some, slice_get, All, Contains}
+use Rattle.std.specs.Prelude.{◌≡◌, ℕ, ◌+◌, ◌<◌, ◌≤◌, ◌==◌, ◌↔◌, List, [], ◌∷◌, ◌++◌, map, length, take, true, not, ◌&&◌, ◌||◌, Some, slice_get, All, Contains}
 use Rattle.std.specs.List.{flat_map}
 use Rattle.task_model.specs.Fit.{IsFit}
-use Rattle.task_model.specs.Known.{Known, IsCoherent, IsIn, with_facts, with_values}
+use Rattle.task_model.specs.Known.{IsCoherent, IsIn, with_facts, with_values}
 use Rattle.lemmas.specs.Lists.{AreDistinct}
 use Rattle.task_model.specs.Streams.{certified_by, worth_by}
 use Rattle.task_model.specs.declared.fact.Fact.{Fact}
@@ -11,8 +11,8 @@ use Rattle.task_model.specs.declared.stream.Stream.{Stream}
 use Rattle.task_model.specs.declared.task.Task.{Task}
 use Rattle.task_model.specs.declared.task.Valued.{Valued}
 use Rattle.transcript_model.specs.Legal.{IsLegal, MayFollow, asks_of, is_open, is_answer_to, is_mark}
-use Rattle.transcript_model.specs.Names.{with_names, generated, places_of, instance_of, call_of_instance}
-use Rattle.transcript_model.specs.Transcript.{Asked, asked, known_with, notes_with, objects_in, names_of, known_of, notes_of, certified, told_value, note_of, yield_facts}
+use Rattle.transcript_model.specs.Names.{with_names, places_of, instance_of, call_of_instance}
+use Rattle.transcript_model.specs.Transcript.{Asked, asked, known_with, notes_with, objects_in, names_of, known_of, notes_of, certified, told_value, note_of}
 use Rattle.transcript_model.specs.declared.entry.Call.{Call}
 use Rattle.transcript_model.specs.declared.entry.Entry.{Entry}
 use Rattle.transcript_model.specs.declared.entry.Entry.TheVariants as entry

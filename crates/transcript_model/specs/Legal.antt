@@ -1,5 +1,5 @@
 -- Which transcripts are legal, and which are closed.
-use Rattle.std.specs.Prelude.{◌≡◌, ℕ, ◌+◌, ◌≤◌, ◌==◌, List, [], take, length, count_by, Bool, true, false, not, ◌&&◌, Option, None, Some, slice_get, is_none}
+use Rattle.std.specs.Prelude.{◌≡◌, ℕ, ◌+◌, ◌≤◌, ◌==◌, List, take, length, count_by, Bool, true, false, not, ◌&&◌, Option, None, Some, slice_get, is_none}
 use Rattle.std.specs.List.{list_any}
 use Rattle.gen_lines.specs.Reply.{IsRight}
 use Rattle.task_model.specs.Streams.{IsDue, NothingIsDue, yields_of}

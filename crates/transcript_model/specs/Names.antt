@@ -1,6 +1,6 @@
 -- The names of objects, an object being its place in a table of names.
-use Rattle.std.specs.Prelude.{ℕ, List, [], ◌∷◌, ◌++◌, map, Option, Some, if◌then◌else◌}
-use Rattle.std.specs.List.{list_any, position}
+use Rattle.std.specs.Prelude.{ℕ, List, [], ◌∷◌, map, Option, Some}
+use Rattle.std.specs.List.{position}
 use Rattle.std.specs.Option.{option_map, option_and_then}
 use Rattle.gen_lines.specs.Request.{stream_name}
 use Rattle.task_model.specs.Known.{same_numbers, with_name}

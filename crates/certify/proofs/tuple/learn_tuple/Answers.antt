@@ -1,8 +1,7 @@
-use Rattle.std.proofs.Common.{◌≡◌, ◌++◌, ap, sym, subst, ◌∙◌, All, map, length, ◌≤◌, arith}
+use Rattle.std.proofs.Common.{◌≡◌, ◌++◌, sym, subst, ◌∙◌, All, map, length, ◌≤◌, arith}
 use Rattle.certify.proofs.FitStreamLemmas.{ArePlain, fit_parts, few_args, plain_certified}
 use Rattle.certify.proofs.OutputsLemmas.{named_in, named_long, all_in_names_kept, names_grow}
 use Rattle.certify.proofs.tuple.learn_tuple.Goals as goal
-use Rattle.certify.specs.Outputs.{AreNamed}
 use Rattle.transcript_model.specs.Names.{generated, with_names}
 use Rattle.task_model.proofs.KnownLemmas.{facts_then}
 use Rattle.task_model.specs.Known.{IsIn, with_facts}

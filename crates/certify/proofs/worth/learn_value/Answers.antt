@@ -1,11 +1,11 @@
-use Rattle.std.proofs.Common.{◌≡◌, ap, sym, subst, ◌∙◌, All, length, ◌≤◌, true, Some}
-use Rattle.certify.proofs.FitStreamLemmas.{IsPlainWorth, fit_parts, plain_worth}
+use Rattle.std.proofs.Common.{◌≡◌, ap, sym, subst, ◌∙◌, All, length, ◌≤◌, true}
+use Rattle.certify.proofs.FitStreamLemmas.{fit_parts, plain_worth}
 use Rattle.certify.proofs.worth.learn_value.Goals as goal
 use Rattle.formula_eval.specs.Readable.{is_readable_term}
 use Rattle.std.specs.List.{list_all}
 use Rattle.task_model.specs.Known.{IsIn, with_value, with_values}
 use Rattle.task_model.specs.Streams.{worth_by}
-use Rattle.task_model.specs.Truth.{slots_of, objects_at}
+use Rattle.task_model.specs.Truth.{objects_at}
 
 pub objects_at-row-requires-clause-short : goal.objects_at-row-requires-clause-short
 objects_at-row-requires-clause-short c =

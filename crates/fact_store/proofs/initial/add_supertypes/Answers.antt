@@ -1,4 +1,4 @@
-use Rattle.std.proofs.Common.{ap, ◌∙◌, map, [], ◌∷◌, ◌++◌, ℕ, List, sym, ◌≡◌, ◌==◌, true, slice_get, option_map, unwrap_or}
+use Rattle.std.proofs.Common.{ap, ◌∙◌, map, [], ◌∷◌, ℕ, List, sym, ◌≡◌, ◌==◌, true, slice_get, option_map, unwrap_or}
 use Rattle.std.proofs.lemmas.Result.{on_ok_weaker}
 use Rattle.fact_store.proofs.InitialLemmas.{supertypes_then}
 use Rattle.fact_store.proofs.initial.add_supertypes.Goals as goal

@@ -1,4 +1,4 @@
-use Rattle.std.proofs.Common.{◌≡◌, ◌≤◌, ◌+◌, ◌-◌, List, take, arith, ap, ◌∙◌, sym, subst, refl, Some, slice_get, get_or, take_all}
+use Rattle.std.proofs.Common.{◌≡◌, ◌+◌, ◌-◌, List, take, arith, ap, ◌∙◌, sym, subst, Some, slice_get, get_or, take_all}
 use Rattle.std.proofs.lemmas.Option.{slice_get_within, get_or_from_slice_get}
 use Rattle.fact_store.specs.Store.{Store}
 use Rattle.task_model.specs.Known.{Known}

@@ -1,4 +1,4 @@
-use Rattle.std.proofs.Common.{◌≡◌, ◌≤◌, ◌+◌, ◌-◌, ◌*◌, ◌<◌, ◌++◌, List, suc, length, map, take, drop, arith, ap, ◌∙◌, sym, subst, refl, suc-mul, All, ℕ}
+use Rattle.std.proofs.Common.{◌≡◌, ◌≤◌, ◌+◌, ◌-◌, ◌*◌, suc, length, map, take, drop, arith, ap, ◌∙◌, sym, subst, suc-mul, All}
 use Rattle.std.proofs.Math.ListN.{length-drop}
 use Rattle.std.proofs.lemmas.List.{length-map, length-take-le}
 use Rattle.certify.proofs.OutputsLemmas.{all_in_names_kept, names_grow}

@@ -1,4 +1,4 @@
-use Rattle.std.proofs.Common.{◌≡◌, ◌≤◌, ◌+◌, ◌-◌, ◌<◌, ◌++◌, ◌∷◌, [], length, replicate, arith, ap, ◌∙◌, sym, refl}
+use Rattle.std.proofs.Common.{◌≡◌, ◌+◌, ◌-◌, ◌++◌, ◌∷◌, [], length, replicate, arith, ap, ◌∙◌, sym}
 use Rattle.std.proofs.lemmas.List.{length-append}
 use Rattle.task_model.specs.Streams.{Yielded}
 use Rattle.session_core.proofs.LearningTupleLemmas.{one_less, one_more}

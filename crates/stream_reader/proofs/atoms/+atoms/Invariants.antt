@@ -1,7 +1,5 @@
-use Rattle.std.proofs.Common.{◌≡◌, ◌+◌, ◌++◌, ◌≤◌, [], drop}
+use Rattle.std.proofs.Common.{◌≡◌, ◌≤◌}
 use Rattle.sexpr_text.specs.Trees.{trees}
-use Rattle.form_reader.specs.declared.groups.Spot.TheVariants.{Start}
-use Rattle.form_reader.specs.declared.keys.Key.TheVariants.{NoKey}
 use Rattle.form_reader.specs.Faults.{first}
 use Rattle.form_reader.specs.Rows.{count}
 use Rattle.stream_reader.specs.Atoms.{atom_rows_names}

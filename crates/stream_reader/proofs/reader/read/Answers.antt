@@ -1,4 +1,4 @@
-use Rattle.std.proofs.Common.{◌≡◌, ◌∙◌, sym, subst, Ok, Err, None}
+use Rattle.std.proofs.Common.{◌≡◌, ◌∙◌, sym, subst, None}
 use Rattle.sexpr_text.specs.Trees.{tree}
 use Rattle.form_reader.proofs.FaultsLeastLemmas.{none_is_none}
 use Rattle.form_reader.specs.declared.items.TextKind.TheVariants.{Streams}

@@ -1,6 +1,5 @@
-use Rattle.std.proofs.Common.{◌≡◌, ◌∙◌, sym, subst, Option, Some, None}
+use Rattle.std.proofs.Common.{◌≡◌, ◌∙◌, sym, subst, Some, None}
 use Rattle.sexpr_text.specs.Trees.{tree, trees}
-use Rattle.form_reader.specs.declared.fault.Fault.{Fault}
 use Rattle.form_reader.specs.Faults.{least_fault}
 use Rattle.stream_reader.specs.Names.{plain_names}
 use Rattle.stream_reader.specs.Reading.{AnswersAcyclic, AreNamed}

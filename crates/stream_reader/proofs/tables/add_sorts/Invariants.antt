@@ -1,9 +1,4 @@
-use Rattle.std.proofs.Common.{◌≡◌, ◌+◌, ◌++◌, ◌≤◌, [], drop}
-use Rattle.sexpr_text.specs.Trees.{trees}
-use Rattle.form_reader.specs.declared.groups.Spot.TheVariants.{Start}
-use Rattle.form_reader.specs.declared.keys.Key.TheVariants.{NoKey}
-use Rattle.form_reader.specs.Faults.{first}
-use Rattle.form_reader.specs.Rows.{count}
+use Rattle.std.proofs.Common.{◌≡◌, drop}
 use Rattle.stream_reader.specs.Tables.{sorts_from}
 use Rattle.stream_reader.proofs.tables.add_sorts.Given as goal
 

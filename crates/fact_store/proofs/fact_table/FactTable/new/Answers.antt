@@ -1,4 +1,4 @@
-use Rattle.std.proofs.Common.{◌≡◌, [], None, Some, sym, ap, subst, slice_get}
+use Rattle.std.proofs.Common.{◌≡◌, None, Some, sym, subst}
 use Rattle.fact_store.specs.Tables.{CoverPlaces}
 use Rattle.fact_store.specs.declared.table.Group.TheVariants.{Objects, Atoms}
 use Rattle.fact_store.proofs.fact_table.FactTable.new.Goals as goal

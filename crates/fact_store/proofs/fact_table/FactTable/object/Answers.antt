@@ -1,4 +1,4 @@
-use Rattle.std.proofs.Common.{◌≡◌, ◌∙◌, ap, sym, slice_get, option_copied}
+use Rattle.std.proofs.Common.{◌∙◌, ap, sym, slice_get}
 use Rattle.task_model.specs.Known.{objects_of}
 use Rattle.fact_store.proofs.LookupLemmas.{object_at, no_object_at}
 use Rattle.fact_store.proofs.fact_table.FactTable.object.Goals as goal

@@ -1,6 +1,4 @@
 use Rattle.std.proofs.Common.{ap, sym, subst, ◌∙◌, All, refl}
-use Rattle.lemmas.proofs.Results.{on_err}
-use Rattle.fact_store.proofs.EqualityLemmas.{fact_put}
 use Rattle.fact_store.proofs.StoreLemmas.{grown, fact_kept, stays}
 use Rattle.task_model.specs.Known.{IsIn, with_fact}
 use Rattle.fact_store.proofs.facts.Facts.add.Goals as goal

@@ -1,6 +1,4 @@
 use Rattle.std.proofs.Common.{ap, ◌∙◌, refl}
-use Rattle.lemmas.proofs.Results.{on_err}
-use Rattle.fact_store.proofs.EqualityLemmas.{value_put}
 use Rattle.fact_store.proofs.StoreLemmas.{grown, value_kept, stays}
 use Rattle.task_model.specs.Known.{with_value}
 use Rattle.fact_store.proofs.facts.Facts.add_value.Goals as goal

@@ -1,4 +1,4 @@
-use Rattle.std.proofs.Common.{◌∙◌, ◌≡◌, ◌≤◌, ◌-◌, rules, subst, ap, sym, length, slice_get, Some, option_copied, arith}
+use Rattle.std.proofs.Common.{◌∙◌, ◌≤◌, ◌-◌, subst, ap, sym, length, slice_get}
 use Rattle.std.proofs.lemmas.List.{take_rest}
 use Rattle.fact_store.specs.Tables.{facts_with, places_in}
 use Rattle.fact_store.proofs.ScanLemmas.{read_at, lent_at}

@@ -1,4 +1,4 @@
-use Rattle.std.proofs.Common.{◌∙◌, ◌++◌, refl, ap, sym, take, drop, length, ◌-◌, []}
+use Rattle.std.proofs.Common.{◌∙◌, ◌++◌, refl, ap, take, drop, length, ◌-◌, []}
 use Rattle.std.proofs.lemmas.List.{take-append-drop, take_rest}
 use Rattle.task_model.specs.Known.{value_of}
 use Rattle.fact_store.proofs.value_table.ValueTable.value.Goals as goal

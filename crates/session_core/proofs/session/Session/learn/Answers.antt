@@ -1,12 +1,10 @@
-use Rattle.std.proofs.Common.{◌≡◌, ℕ, ◌≤◌, ◌+◌, false, length, take, ap, sym, subst, ◌∙◌, arith}
-use Rattle.task_model.specs.declared.stream.Instance.{Instance}
+use Rattle.std.proofs.Common.{◌≡◌, ◌≤◌, false, length, take, ap, sym, subst, ◌∙◌, arith}
 use Rattle.transcript_model.specs.Transcript.{known_of, notes_of}
-use Rattle.transcript_model.specs.declared.entry.Entry.{Entry}
 use Rattle.session_core.proofs.SessionLearnLemmas.{all_learnt, not_learnt, can_learn}
 use Rattle.session_core.specs.Learning.{CanLearn}
 use Rattle.session_core.specs.Session.{IsSession, after_learn}
 use Rattle.session_core.specs.Shown.{shown}
-use Rattle.session_core.specs.State.{State, with_learnt}
+use Rattle.session_core.specs.State.{with_learnt}
 use Rattle.session_core.proofs.session.Session.learn.Goals as goal
 
 pub learn_from-learnt-requires-clause-can : goal.learn_from-learnt-requires-clause-can
