@@ -43,7 +43,9 @@ module _ (task : Task) (known : Known) where
     each = λ n link e. absurd (none_at n link e);
   }
 
-  pub explored_start : (seeks : Bool) (limit : ℕ) → 1 ≤ limit → ¬ (ExploringEnds task known seeks (initial_state task)) → IsExplored task known seeks limit (initial_state task ∷ []) [] 0
+  pub explored_start : (seeks : Bool) (limit : ℕ) → 1 ≤ limit
+      → ¬ (ExploringEnds task known seeks (initial_state task))
+      → IsExplored task known seeks limit (initial_state task ∷ []) [] 0
   explored_start seeks limit some open_end = record {
     level = 0;
     edge = 1;
@@ -58,7 +60,9 @@ module _ (task : Task) (known : Known) where
     outer = λ n s e. within_more task known 0 (0 + 1) s (omega arith) (subst (IsReachedWithin task known 0) (only_at (initial_state task) n s e).1 (initially task known));
   }
 
-  pub met_at_start : (seeks : Bool) (limit : ℕ) → ExploringEnds task known seeks (initial_state task) → IsMet task known seeks limit (initial_state task ∷ []) []
+  pub met_at_start : (seeks : Bool) (limit : ℕ)
+      → ExploringEnds task known seeks (initial_state task)
+      → IsMet task known seeks limit (initial_state task ∷ []) []
   met_at_start seeks limit ends = record {
     sought = ends.0;
     tree = start_tree;
@@ -71,10 +75,13 @@ module _ (task : Task) (known : Known) where
 
   module _ (seeks : Bool) (limit : ℕ) where
     abbrev Ahead : List Atoms → List Link → ℕ → Type 0
-    Ahead states links done = (e : IsExplored task known seeks limit states links done) × (done < e.edge)
+    Ahead states links done =
+        (e : IsExplored task known seeks limit states links done) × (done < e.edge)
 
     -- where a state is left to expand, the edge lies behind it
-    forward : (states : List Atoms) (links : List Link) (done : ℕ) → IsExplored task known seeks limit states links done → done < length states → Ahead states links done
+    forward : (states : List Atoms) (links : List Link) (done : ℕ)
+        → IsExplored task known seeks limit states links done → done < length states
+        → Ahead states links done
     forward states links done e left =
         elim (cases_lt done e.edge) [
           | inl ahead ↦ (e, ahead)
@@ -105,7 +112,8 @@ module _ (task : Task) (known : Known) where
 
     -- ---- one state more
 
-    link_on : (states more : List Atoms) (n : ℕ) (link : Link) → IsLink task known states n link → IsLink task known (states ++ more) n link
+    link_on : (states more : List Atoms) (n : ℕ) (link : Link) → IsLink task known states n link
+        → IsLink task known (states ++ more) n link
     link_on states more n link l = record {
       before = l.before;
       after = l.after;
@@ -114,7 +122,10 @@ module _ (task : Task) (known : Known) where
       step = l.step;
     }
 
-    grown_tree : (states : List Atoms) (links : List Link) (source after : Atoms) (link : Link) → IsTree task known states links → slice_get states link.parent ≡ Some source → IsStep task known source link.step after link.cost → link.cost ≤ 262144000000 → ¬ (Contains states after) → IsTree task known (states ++ after ∷ []) (links ++ link ∷ [])
+    grown_tree : (states : List Atoms) (links : List Link) (source after : Atoms) (link : Link)
+        → IsTree task known states links → slice_get states link.parent ≡ Some source
+        → IsStep task known source link.step after link.cost → link.cost ≤ 262144000000
+        → ¬ (Contains states after) → IsTree task known (states ++ after ∷ []) (links ++ link ∷ [])
     grown_tree states links source after link tree here is small fresh =
         let within = slice_get_within states link.parent source here in
         record {
@@ -157,7 +168,8 @@ module _ (task : Task) (known : Known) where
           grown_tree g.before g.earlier g.source g.after g.link g.explored.tree (subst (λ n. slice_get g.before n ≡ Some g.source) (sym g.parent) g.here) g.step g.small g.fresh
 
       -- each state is reached within one step more than the level
-      each_within : (n : ℕ) (s : Atoms) → slice_get (g.before ++ g.after ∷ []) n ≡ Some s → IsReachedWithin task known ((was).0.level + 1) s
+      each_within : (n : ℕ) (s : Atoms) → slice_get (g.before ++ g.after ∷ []) n ≡ Some s
+          → IsReachedWithin task known ((was).0.level + 1) s
       unfolding was
       each_within n s e =
           let ahead = was in
@@ -168,7 +180,8 @@ module _ (task : Task) (known : Known) where
                 subst (IsReachedWithin task known (ahead.0.level + 1)) (sym k.1) (within_step task known ahead.0.level g.source g.after g.link.step g.link.cost source g.step)
           ]
 
-      grown : ¬ (ExploringEnds task known seeks g.after) → length (g.before ++ g.after ∷ []) ≤ limit → IsExplored task known seeks limit (g.before ++ g.after ∷ []) (g.earlier ++ g.link ∷ []) from
+      grown : ¬ (ExploringEnds task known seeks g.after) → length (g.before ++ g.after ∷ []) ≤ limit
+          → IsExplored task known seeks limit (g.before ++ g.after ∷ []) (g.earlier ++ g.link ∷ []) from
       grown open_end few =
           let e = (was).0 in
           record {
@@ -203,12 +216,14 @@ module _ (task : Task) (known : Known) where
             | inr k ↦ omega (arith, k.0, many)
           ]
 
-      pub grown_explored : ¬ (ExploringEnds task known seeks g.after) → length states ≤ limit → IsExplored task known seeks limit states links from
+      pub grown_explored : ¬ (ExploringEnds task known seeks g.after) → length states ≤ limit
+          → IsExplored task known seeks limit states links from
       grown_explored open_end few =
           let now = grown open_end (subst (λ ss. length ss ≤ limit) g.states_are few) in
           subst (λ ss. IsExplored task known seeks limit ss links from) (sym g.states_are) (subst (λ ls. IsExplored task known seeks limit (g.before ++ g.after ∷ []) ls from) (sym g.links_are) now)
 
-      pub grown_met : ExploringEnds task known seeks g.after → IsMet task known seeks limit states links
+      pub grown_met : ExploringEnds task known seeks g.after
+          → IsMet task known seeks limit states links
       grown_met ends =
           let e = g.explored in
           let many : length (g.earlier ++ g.link ∷ []) ≡ length g.before = omega (arith, length-append g.earlier (g.link ∷ []), e.tree.linked) in
@@ -255,27 +270,41 @@ module _ (task : Task) (known : Known) where
     pub record IsExpanding (states : List Atoms) (links : List Link) (from : ℕ) (state : Atoms) (steps : List GroundAction) (count : ℕ) : Type 0 where
       pub explored : IsExplored task known seeks limit states links from
       pub here : slice_get states from ≡ Some state
-      pub kept : (n : ℕ) (step : GroundAction) (after : Atoms) (cost : ℕ) → n < count → slice_get steps n ≡ Some step → IsStep task known state step after cost → Contains states after
+      pub kept : (n : ℕ) (step : GroundAction) (after : Atoms) (cost : ℕ) → n < count
+          → slice_get steps n ≡ Some step → IsStep task known state step after cost
+          → Contains states after
 
-    pub expanding_start : (states : List Atoms) (links : List Link) (from : ℕ) (state : Atoms) (steps : List GroundAction) → IsExplored task known seeks limit states links from → slice_get states from ≡ Some state → IsExpanding states links from state steps 0
-    expanding_start states links from state steps e here = record { explored = e; here = here; kept = λ n step after cost h. absurd (omega arith) }
+    pub expanding_start : (states : List Atoms) (links : List Link) (from : ℕ) (state : Atoms) (steps : List GroundAction)
+        → IsExplored task known seeks limit states links from → slice_get states from ≡ Some state
+        → IsExpanding states links from state steps 0
+    expanding_start states links from state steps e here =
+        record { explored = e; here = here; kept = λ n step after cost h. absurd (omega arith) }
 
-    pub expanding_next : (states : List Atoms) (links : List Link) (from : ℕ) (state : Atoms) (steps : List GroundAction) (count : ℕ) (new : List Atoms) (new_links : List Link) (step : GroundAction) → IsExpanding states links from state steps count → slice_get steps count ≡ Some step → IsExplored task known seeks limit new new_links from → (more : List Atoms) × (new ≡ states ++ more) → (after : Atoms) × (cost : ℕ) × IsStep task known state step after cost × Contains new after → IsExpanding new new_links from state steps (count + 1)
-    expanding_next states links from state steps count new new_links step is at e grows leads = record {
-      explored = e;
-      here = subst (λ ss. slice_get ss from ≡ Some state) (sym grows.1) (get_append states grows.0 from state is.here);
-      kept = λ n other after cost h found taken.
-          elim (cases_lt n count) [
-            | inl earlier ↦ subst (λ ss. Contains ss after) (sym grows.1) (Contains-append_left states grows.0 after (is.kept n other after cost earlier found taken))
-            | inr now ↦
-                let place : n ≡ count = omega arith in
-                let same : other ≡ step = one_there steps count other step (subst (λ k. slice_get steps k ≡ Some other) place found) at in
-                let there = step_determined task known state leads.0 after step leads.1 cost leads.2 (subst (λ x. IsStep task known state x after cost) same taken) in
-                subst (Contains new) there.0 leads.3
-          ];
-    }
+    pub expanding_next : (states : List Atoms) (links : List Link) (from : ℕ) (state : Atoms) (steps : List GroundAction) (count : ℕ) (new : List Atoms) (new_links : List Link) (step : GroundAction)
+        → IsExpanding states links from state steps count → slice_get steps count ≡ Some step
+        → IsExplored task known seeks limit new new_links from
+        → (more : List Atoms) × (new ≡ states ++ more)
+        → (after : Atoms) × (cost : ℕ) × IsStep task known state step after cost × Contains new after
+        → IsExpanding new new_links from state steps (count + 1)
+    expanding_next states links from state steps count new new_links step is at e grows leads =
+        record {
+          explored = e;
+          here = subst (λ ss. slice_get ss from ≡ Some state) (sym grows.1) (get_append states grows.0 from state is.here);
+          kept = λ n other after cost h found taken.
+              elim (cases_lt n count) [
+                | inl earlier ↦ subst (λ ss. Contains ss after) (sym grows.1) (Contains-append_left states grows.0 after (is.kept n other after cost earlier found taken))
+                | inr now ↦
+                    let place : n ≡ count = omega arith in
+                    let same : other ≡ step = one_there steps count other step (subst (λ k. slice_get steps k ≡ Some other) place found) at in
+                    let there = step_determined task known state leads.0 after step leads.1 cost leads.2 (subst (λ x. IsStep task known state x after cost) same taken) in
+                    subst (Contains new) there.0 leads.3
+              ];
+        }
 
-    pub expanding_done : (states : List Atoms) (links : List Link) (from : ℕ) (state : Atoms) (steps : List GroundAction) (count : ℕ) → IsExpanding states links from state steps count → length steps ≤ count → AreApplicable task known state steps → IsExplored task known seeks limit states links (from + 1)
+    pub expanding_done : (states : List Atoms) (links : List Link) (from : ℕ) (state : Atoms) (steps : List GroundAction) (count : ℕ)
+        → IsExpanding states links from state steps count → length steps ≤ count
+        → AreApplicable task known state steps
+        → IsExplored task known seeks limit states links (from + 1)
     expanding_done states links from state steps count is end are =
         let ahead = forward states links from is.explored (slice_get_within states from state is.here) in
         let e = ahead.0 in
@@ -304,14 +333,19 @@ module _ (task : Task) (known : Known) where
 
     -- ---- all states
 
-    closed : (states : List Atoms) (links : List Link) (done : ℕ) → IsExplored task known seeks limit states links done → length states ≤ done → (steps : List GroundAction) (before after : Atoms) (cost : ℕ) → Contains states before → Executes task known before steps after cost → Contains states after
+    closed : (states : List Atoms) (links : List Link) (done : ℕ)
+        → IsExplored task known seeks limit states links done → length states ≤ done
+        → (steps : List GroundAction) (before after : Atoms) (cost : ℕ) → Contains states before
+        → Executes task known before steps after cost → Contains states after
     closed states links done e all [] before after cost c x = subst (Contains states) x.0 c
     closed states links done e all (step ∷ steps) before after cost c x =
         let at = place_of states before c in
         let next = e.expanded at.0 before x.0 step x.1 (omega (arith, slice_get_within states at.0 before at.1, all)) at.1 x.3 in
         closed states links done e all steps x.0 after x.2 next x.4
 
-    pub explored_all : (states : List Atoms) (links : List Link) (done : ℕ) → IsExplored task known seeks limit states links done → length states ≤ done → IsAll task known seeks limit
+    pub explored_all : (states : List Atoms) (links : List Link) (done : ℕ)
+        → IsExplored task known seeks limit states links done → length states ≤ done
+        → IsAll task known seeks limit
     explored_all states links done e all =
         let start : Contains states (initial_state task) = member_at states 0 (initial_state task) e.tree.first in
         record {

@@ -11,14 +11,18 @@ use Rattle.best_first.specs.declared.found.Found.TheVariants.{Plan, Nothing, Lim
 
 -- so many of the steps lead from the initial state to this one
 abbrev pub LeadsTo : Task → Known → List GroundAction → ℕ → Atoms → Type 0
-LeadsTo task known steps count state = (cost : ℕ) × (count ≤ length steps) × Executes task known (initial_state task) (take count steps) state cost
+LeadsTo task known steps count state =
+    (cost : ℕ) × (count ≤ length steps)
+    × Executes task known (initial_state task) (take count steps) state cost
 
 -- The steps are a valid plan of this cost, and at most so many; their states are distinct, and only the last meets the goal.
 pub record IsFoundPlan (task : Task) (known : Known) (limit : ℕ) (steps : List GroundAction) (cost : ℕ) : Type 0 where
   pub valid : IsValid task known steps cost
   pub few : length steps ≤ limit
-  pub distinct : (m n : ℕ) (state : Atoms) → LeadsTo task known steps m state → LeadsTo task known steps n state → m ≡ n
-  pub only_last : (n : ℕ) (state : Atoms) → n < length steps → LeadsTo task known steps n state → ¬ (IsGoal task known state)
+  pub distinct : (m n : ℕ) (state : Atoms) → LeadsTo task known steps m state
+      → LeadsTo task known steps n state → m ≡ n
+  pub only_last : (n : ℕ) (state : Atoms) → n < length steps → LeadsTo task known steps n state
+      → ¬ (IsGoal task known state)
 
 -- a plan that is answered is such
 abbrev pub HasPlan : Task → Known → ℕ → Found → Type 0

@@ -42,12 +42,16 @@ module _ (task : Task) (known : Known) where
     pub tree : IsTree states links
     pub few : length states ≤ limit
     pub none_ends : (n : ℕ) (s : Atoms) → slice_get states n ≡ Some s → ¬ (ExploringEnds seeks s)
-    pub expanded : (n : ℕ) (s after : Atoms) (step : GroundAction) (cost : ℕ) → n < done → slice_get states n ≡ Some s → IsStep task known s step after cost → Contains states after
+    pub expanded : (n : ℕ) (s after : Atoms) (step : GroundAction) (cost : ℕ) → n < done
+        → slice_get states n ≡ Some s → IsStep task known s step after cost → Contains states after
     pub done_within : done ≤ edge
     pub edge_within : edge ≤ length states
-    pub inner : (s : Atoms) → IsReachedWithin task known level s → (n : ℕ) × (n < edge) × (slice_get states n ≡ Some s)
-    pub near : (n : ℕ) (s : Atoms) → n < edge → slice_get states n ≡ Some s → IsReachedWithin task known level s
-    pub outer : (n : ℕ) (s : Atoms) → slice_get states n ≡ Some s → IsReachedWithin task known (level + 1) s
+    pub inner : (s : Atoms) → IsReachedWithin task known level s
+        → (n : ℕ) × (n < edge) × (slice_get states n ≡ Some s)
+    pub near : (n : ℕ) (s : Atoms) → n < edge → slice_get states n ≡ Some s
+        → IsReachedWithin task known level s
+    pub outer : (n : ℕ) (s : Atoms) → slice_get states n ≡ Some s
+        → IsReachedWithin task known (level + 1) s
 
   -- A state was added to explored ones, by a step from the one at `from`.
   pub record IsGrown (seeks : Bool) (limit : ℕ) (states : List Atoms) (links : List Link) (from id : ℕ) : Type 0 where
@@ -72,7 +76,8 @@ module _ (task : Task) (known : Known) where
     pub tree : IsTree states links
     pub few : length links ≤ limit
     pub goal : (s : Atoms) → slice_get states (length links) ≡ Some s → IsGoal task known s
-    pub others : (n : ℕ) (s : Atoms) → n < length links → slice_get states n ≡ Some s → ¬ (IsGoal task known s)
+    pub others : (n : ℕ) (s : Atoms) → n < length links → slice_get states n ≡ Some s
+        → ¬ (IsGoal task known s)
 
   -- More states are reached than the limit allows, and, where the goal is sought, so many also within the steps of any plan.
   pub record IsBeyond (seeks : Bool) (limit : ℕ) : Type 0 where

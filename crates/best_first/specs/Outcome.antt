@@ -13,6 +13,7 @@ pub record IsAll (task : Task) (known : Known) (seeks : Bool) (limit : ℕ) : Ty
   pub none : seeks ≡ true → ¬ (IsSolvable task known)
 
 abbrev pub ComesTo : Task → Known → Bool → ℕ → found.Explored → Type 0
-ComesTo task known seeks limit (Goal tree) = IsMet task known seeks limit tree.store tree.links.items
+ComesTo task known seeks limit (Goal tree) =
+    IsMet task known seeks limit tree.store tree.links.items
 ComesTo task known seeks limit All = IsAll task known seeks limit
 ComesTo task known seeks limit More = IsBeyond task known seeks limit

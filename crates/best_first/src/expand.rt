@@ -42,7 +42,8 @@ pub(crate) fn ends<L: Look>(
 ) -> Result<bool, AllocError>
     requires fit { IsFit scene.now.task.now }
     requires there { id < length store.now }
-    ensures { IfOk result (λ ends. (s : Atoms) → slice_get store.now id ≡ Some s → IsTrue ends ↔ ExploringEnds scene.now.task.now (L.known scene.now.look.now) scene.now.seeks_goal s) }
+    ensures { IfOk result (λ ends. (s : Atoms) → slice_get store.now id ≡ Some s → IsTrue ends
+        ↔ ExploringEnds scene.now.task.now (L.known scene.now.look.now) scene.now.seeks_goal s) }
 {
     if !scene.seeks_goal {
         return Ok(false);
@@ -66,7 +67,8 @@ fn take_step<L: Look>(
 ) -> Result<Applied, AllocError>
     requires fit { IsFit scene.now.task.now }
     requires can { IsApplicable scene.now.task.now (L.known scene.now.look.now) state.now step.now }
-    ensures step { IfOk result (λ applied. IsStep scene.now.task.now (L.known scene.now.look.now) state.now step.now applied.state applied.cost) }
+    ensures step { IfOk result (λ applied. IsStep scene.now.task.now (L.known scene.now.look.now)
+        state.now step.now applied.state applied.cost) }
     ensures small { IfOk result (λ applied. applied.cost ≤ 262144000000) }
 {
     let action = &scene.task.domain.actions.as_slice()[step.action as usize];
@@ -86,8 +88,10 @@ fn settle<L: Look>(
     id: u32,
 ) -> Result<Turn, AllocError>
     requires fit { IsFit scene.now.task.now }
-    requires grown { IsGrown scene.now.task.now (L.known scene.now.look.now) scene.now.seeks_goal scene.now.limit tree.now.store tree.now.links.items from id }
-    ensures { IfOk result (Comes scene.now.task.now (L.known scene.now.look.now) scene.now.seeks_goal scene.now.limit tree.now.store tree.now.links.items from) }
+    requires grown { IsGrown scene.now.task.now (L.known scene.now.look.now) scene.now.seeks_goal
+        scene.now.limit tree.now.store tree.now.links.items from id }
+    ensures { IfOk result (Comes scene.now.task.now (L.known scene.now.look.now)
+        scene.now.seeks_goal scene.now.limit tree.now.store tree.now.links.items from) }
 {
     if ends(scene, &tree.store, id)? {
         return Ok(Turn::Goal);
@@ -109,12 +113,16 @@ fn visit<L: Look>(
 ) -> Result<Turn, AllocError>
     requires fit { IsFit scene.now.task.now }
     requires limit { scene.now.limit ≤ 200000 }
-    requires explored { IsExplored scene.now.task.now (L.known scene.now.look.now) scene.now.seeks_goal scene.now.limit tree.old.store tree.old.links.items from }
+    requires explored { IsExplored scene.now.task.now (L.known scene.now.look.now)
+        scene.now.seeks_goal scene.now.limit tree.old.store tree.old.links.items from }
     requires here { slice_get tree.old.store from ≡ Some state.now }
     requires can { IsApplicable scene.now.task.now (L.known scene.now.look.now) state.now step.now }
-    ensures comes { IfOk result (Comes scene.now.task.now (L.known scene.now.look.now) scene.now.seeks_goal scene.now.limit tree.new.store tree.new.links.items from) }
+    ensures comes { IfOk result (Comes scene.now.task.now (L.known scene.now.look.now)
+        scene.now.seeks_goal scene.now.limit tree.new.store tree.new.links.items from) }
     ensures grows { OnOk result ((more : List Atoms) × (tree.new.store ≡ tree.old.store ++ more)) }
-    ensures kept { OnOk result ((after : Atoms) × (cost : ℕ) × IsStep scene.now.task.now (L.known scene.now.look.now) state.now step.now after cost × Contains tree.new.store after) }
+    ensures kept { OnOk result ((after : Atoms) × (cost : ℕ)
+        × IsStep scene.now.task.now (L.known scene.now.look.now) state.now step.now after cost
+        × Contains tree.new.store after) }
 {
     let applied = take_step(scene, state, step)?;
     let (id, fresh) = tree.store.intern(applied.state)?;
@@ -140,10 +148,13 @@ fn visit_all<L: Look>(
 ) -> Result<Turn, AllocError>
     requires fit { IsFit scene.now.task.now }
     requires limit { scene.now.limit ≤ 200000 }
-    requires explored { IsExplored scene.now.task.now (L.known scene.now.look.now) scene.now.seeks_goal scene.now.limit tree.old.store tree.old.links.items from }
+    requires explored { IsExplored scene.now.task.now (L.known scene.now.look.now)
+        scene.now.seeks_goal scene.now.limit tree.old.store tree.old.links.items from }
     requires here { slice_get tree.old.store from ≡ Some state.now }
-    requires steps { AreApplicable scene.now.task.now (L.known scene.now.look.now) state.now steps.now }
-    ensures { IfOk result (Comes scene.now.task.now (L.known scene.now.look.now) scene.now.seeks_goal scene.now.limit tree.new.store tree.new.links.items (from + 1)) }
+    requires steps { AreApplicable scene.now.task.now (L.known scene.now.look.now) state.now
+        steps.now }
+    ensures { IfOk result (Comes scene.now.task.now (L.known scene.now.look.now)
+        scene.now.seeks_goal scene.now.limit tree.new.store tree.new.links.items (from + 1)) }
 {
     for step in steps {
         match visit(scene, tree, from, state, step)? {
@@ -165,9 +176,11 @@ pub(crate) fn expand<L: Look>(
 ) -> Result<Turn, AllocError>
     requires fit { IsFit scene.now.task.now }
     requires limit { scene.now.limit ≤ 200000 }
-    requires explored { IsExplored scene.now.task.now (L.known scene.now.look.now) scene.now.seeks_goal scene.now.limit tree.old.store tree.old.links.items from }
+    requires explored { IsExplored scene.now.task.now (L.known scene.now.look.now)
+        scene.now.seeks_goal scene.now.limit tree.old.store tree.old.links.items from }
     requires there { from < length tree.old.store }
-    ensures { IfOk result (Comes scene.now.task.now (L.known scene.now.look.now) scene.now.seeks_goal scene.now.limit tree.new.store tree.new.links.items (from + 1)) }
+    ensures { IfOk result (Comes scene.now.task.now (L.known scene.now.look.now)
+        scene.now.seeks_goal scene.now.limit tree.new.store tree.new.links.items (from + 1)) }
 {
     let state = tree.store.get(from)?;
     let steps = applicable(alloc, scene.task, scene.look, &state)?;

@@ -25,7 +25,8 @@ pub(crate) fn explore<L: Look>(alloc: Global, scene: &Scene<'_, L>) -> Result<Ex
     requires fit { IsFit scene.now.task.now }
     requires some { 1 ≤ scene.now.limit }
     requires limit { scene.now.limit ≤ 200000 }
-    ensures { IfOk result (ComesTo scene.now.task.now (L.known scene.now.look.now) scene.now.seeks_goal scene.now.limit) }
+    ensures { IfOk result (ComesTo scene.now.task.now (L.known scene.now.look.now)
+        scene.now.seeks_goal scene.now.limit) }
 {
     let mut tree = Tree::new(alloc, scene.task)?;
     if ends(scene, &tree.store, 0)? {

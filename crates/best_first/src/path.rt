@@ -11,7 +11,8 @@ use task_model::{Plan, Seq};
 pub(crate) fn path(alloc: Global, links: &[Link]) -> Result<(Plan, u64), AllocError>
     requires links { AreLinks links.now }
     requires few { length links.now ≤ 200000 }
-    ensures { IfOk result (λ found. FollowsLink links.now 0 found.0.steps (length links.now) found.1) }
+    ensures { IfOk result (λ found. FollowsLink links.now 0 found.0.steps (length links.now)
+        found.1) }
 {
     let mut steps = Vec::new(alloc);
     let mut cost: u64 = 0;

@@ -30,7 +30,9 @@ pub fn search<L: Look, E: Estimate>(
     requires some { 1 ≤ limit }
     requires few { limit ≤ 200000 }
     ensures plan { IfOk result (HasPlan task.now (L.known look.now) limit) }
-    ensures nothing { IfOk result (λ found. IsNothing found ↔ ((¬ (IsSolvable task.now (L.known look.now))) × (¬ (MoreThan limit (IsReached task.now (L.known look.now)))))) }
+    ensures nothing { IfOk result (λ found. IsNothing found
+        ↔ ((¬ (IsSolvable task.now (L.known look.now)))
+        × (¬ (MoreThan limit (IsReached task.now (L.known look.now)))))) }
     ensures limit { IfOk result (λ found. IsLimit found → IsFar task.now (L.known look.now) limit) }
 {
     let scene = Scene {
@@ -60,7 +62,8 @@ pub fn exceeds<L: Look>(
     requires fit { IsFit task.now }
     requires some { 1 ≤ limit }
     requires few { limit ≤ 200000 }
-    ensures { IfOk result (λ more. IsTrue more ↔ MoreThan limit (IsReached task.now (L.known look.now))) }
+    ensures { IfOk result (λ more. IsTrue more
+        ↔ MoreThan limit (IsReached task.now (L.known look.now))) }
 {
     let scene = Scene {
         task,

@@ -22,7 +22,8 @@ use Rattle.transcript_model.proofs.NamedObjectLemmas.{terms_named}
 
 -- ---- slots and constants
 
-in_front : (args more : List ℕ) (k : ℕ) → k < length args → slice_index (args ++ more) k ≡ get_or args k 0
+in_front : (args more : List ℕ) (k : ℕ) → k < length args
+    → slice_index (args ++ more) k ≡ get_or args k 0
 in_front [] more k lt = absurd (omega arith)
 in_front (a ∷ rest) more zero lt = refl
 in_front (a ∷ rest) more (suc k) lt = in_front rest more k (omega arith)
@@ -72,7 +73,8 @@ pub record HasFitParts (domain : Domain) (s : Stream) : Type 0 where
   pub certified : list_all (is_fit_pattern domain (length domain.constants) (numbers_from 0 (length s.inputs + length s.outputs))) s.certified ≡ true
   pub worth : is_fit_worth domain s ≡ true
 
-pub fit_parts : (domain : Domain) (s : Stream) → is_fit_stream domain s ≡ true → HasFitParts domain s
+pub fit_parts : (domain : Domain) (s : Stream) → is_fit_stream domain s ≡ true
+    → HasFitParts domain s
 fit_parts domain s e =
     let a = nat_le (length s.inputs) 8 in
     let b = nat_le (length s.outputs) 8 in
@@ -93,7 +95,8 @@ fit_parts domain s e =
     record {
       inputs = leb-true (length s.inputs) 8 (first_so a b to_b);
       outputs = leb-true (length s.outputs) 8 (second_so a b to_b);
-      certified = second_so (is_short s.certified) _ (second_so (a && b && c && d && f && g) h to_h);
+      certified =
+          second_so (is_short s.certified) _ (second_so (a && b && c && d && f && g) h to_h);
       worth = second_so (a && b && c && d && f && g && h && i) j e;
     }
 
@@ -102,7 +105,8 @@ module _ (domain : Domain) (fit : IsFitDomain domain) (names : List (List ℕ)) 
   pub few_args : length (inputs ++ outputs) ≤ 16
   few_args = omega (arith, length-append inputs outputs, parts.inputs, parts.outputs)
 
-  pub plain_certified : All (IsIn names) inputs → All (IsIn names) outputs → ArePlain names (inputs ++ outputs) s.certified
+  pub plain_certified : All (IsIn names) inputs → All (IsIn names) outputs
+      → ArePlain names (inputs ++ outputs) s.certified
   plain_certified first second =
       let long : length (inputs ++ outputs) ≡ length s.inputs + length s.outputs = omega (arith, length-append inputs outputs) in
       plain_patterns domain fit names constants (inputs ++ outputs) few_args (All-append (IsIn names) inputs outputs first second) s.certified
@@ -114,7 +118,8 @@ pub record IsPlainWorth (names : List (List ℕ)) (inputs : List ℕ) (worth : W
   pub readable : list_all is_readable_term worth.args ≡ true
   pub named : All (IsIn names) (objects_at (slots_of inputs) worth.args)
 
-pub plain_worth : (domain : Domain) → IsFitDomain domain → (names : List (List ℕ)) → length domain.constants ≤ length names → (s : Stream)
+pub plain_worth : (domain : Domain) → IsFitDomain domain → (names : List (List ℕ))
+    → length domain.constants ≤ length names → (s : Stream)
     → HasFitParts domain s → (inputs : List ℕ) → length inputs ≡ length s.inputs → All (IsIn names) inputs → (worth : Worth)
     → s.worth ≡ Some worth → IsPlainWorth names inputs worth
 plain_worth domain fit names constants s parts inputs long all worth e =

@@ -18,7 +18,8 @@ use Rattle.task_model.proofs.KnownLemmas.{facts_then}
 -- ---- names
 
 -- a name keeps its place
-pub place_kept : (names : List (List ℕ)) (name : List ℕ) (k : ℕ) (x : List ℕ) → slice_get names k ≡ Some x
+pub place_kept : (names : List (List ℕ)) (name : List ℕ) (k : ℕ) (x : List ℕ)
+    → slice_get names k ≡ Some x
     → slice_get (with_name names name) k ≡ Some x
 place_kept names name k x e =
     elim (list_any (same_numbers name) names) as (λ b. slice_get (cond b names (names ++ name ∷ [])) k ≡ Some x) [
@@ -26,22 +27,26 @@ place_kept names name k x e =
       | false ↦ get_append names (name ∷ []) k x e
     ]
 
-in_kept : (names : List (List ℕ)) (name : List ℕ) (object : ℕ) → IsIn names object → IsIn (with_name names name) object
+in_kept : (names : List (List ℕ)) (name : List ℕ) (object : ℕ) → IsIn names object
+    → IsIn (with_name names name) object
 in_kept names name object h =
     elim (list_any (same_numbers name) names) as (λ b. IsIn (cond b names (names ++ name ∷ [])) object) [
       | true ↦ h
       | false ↦ in_more names (name ∷ []) object h
     ]
 
-pub in_names_kept : (names more : List (List ℕ)) (object : ℕ) → IsIn names object → IsIn (with_names names more) object
+pub in_names_kept : (names more : List (List ℕ)) (object : ℕ) → IsIn names object
+    → IsIn (with_names names more) object
 in_names_kept names [] object h = h
-in_names_kept names (name ∷ more) object h = in_names_kept (with_name names name) more object (in_kept names name object h)
+in_names_kept names (name ∷ more) object h =
+    in_names_kept (with_name names name) more object (in_kept names name object h)
 
 pub all_in_names_kept : (names more : List (List ℕ)) (objects : List ℕ) → All (IsIn names) objects
     → All (IsIn (with_names names more)) objects
 all_in_names_kept names more objects all k d lt = in_names_kept names more _ (all k d lt)
 
-pub length_with_name : (names : List (List ℕ)) (name : List ℕ) → length (with_name names name) ≤ length names + 1
+pub length_with_name : (names : List (List ℕ)) (name : List ℕ)
+    → length (with_name names name) ≤ length names + 1
 length_with_name names name =
     elim (list_any (same_numbers name) names) as (λ b. length (cond b names (names ++ name ∷ [])) ≤ length names + 1) [
       | true ↦ omega arith
@@ -57,9 +62,11 @@ at_least names name =
 
 pub names_grow : (names more : List (List ℕ)) → length names ≤ length (with_names names more)
 names_grow names [] = omega arith
-names_grow names (name ∷ more) = omega (arith, at_least names name, names_grow (with_name names name) more)
+names_grow names (name ∷ more) =
+    omega (arith, at_least names name, names_grow (with_name names name) more)
 
-pub names_more : (names : List (List ℕ)) (values : List (List ℕ)) (i : ℕ) (value : List ℕ) → i < length values
+pub names_more : (names : List (List ℕ)) (values : List (List ℕ)) (i : ℕ) (value : List ℕ)
+    → i < length values
     → value ≡ get_or values i value
     → with_names (with_name names (generated value)) (map generated (drop (i + 1) values)) ≡ with_names names (map generated (drop i values))
 names_more names values i value lt is =
@@ -67,7 +74,8 @@ names_more names values i value lt is =
 
 -- ---- objects with their values' names
 
-pub named_kept : (names : List (List ℕ)) (name : List ℕ) (objects : List ℕ) (values : List (List ℕ)) → AreNamed names objects values
+pub named_kept : (names : List (List ℕ)) (name : List ℕ) (objects : List ℕ) (values : List (List ℕ))
+    → AreNamed names objects values
     → AreNamed (with_name names name) objects values
 named_kept names name [] [] e = refl
 named_kept names name [] (v ∷ vs) e = absurd (cc)
@@ -83,7 +91,8 @@ pub named_push : (names : List (List ℕ)) (objects : List ℕ) (values : List (
 named_push names objects values object value all one =
     map-append (slice_get names) objects (object ∷ []) ∙ (λ j. all j ++ one j ∷ []) ∙ sym (map-append (λ v. Some (generated v)) values (value ∷ []))
 
-pub named_in : (names : List (List ℕ)) (objects : List ℕ) (values : List (List ℕ)) → AreNamed names objects values
+pub named_in : (names : List (List ℕ)) (objects : List ℕ) (values : List (List ℕ))
+    → AreNamed names objects values
     → All (IsIn names) objects
 named_in names [] values e k d lt = absurd (omega arith)
 named_in names (o ∷ os) [] e k d lt = absurd (cc)
@@ -94,7 +103,8 @@ named_in names (o ∷ os) (v ∷ vs) e (suc k) d lt =
     let rest : map (slice_get names) os ≡ map (λ value. Some (generated value)) vs = cc in
     named_in names os vs rest k d (omega arith)
 
-pub named_long : (names : List (List ℕ)) (objects : List ℕ) (values : List (List ℕ)) → AreNamed names objects values
+pub named_long : (names : List (List ℕ)) (objects : List ℕ) (values : List (List ℕ))
+    → AreNamed names objects values
     → length objects ≡ length values
 named_long names [] [] e = refl
 named_long names [] (v ∷ vs) e = absurd (cc)
@@ -105,7 +115,8 @@ named_long names (o ∷ os) (v ∷ vs) e =
 
 -- ---- facts
 
-pub types_more : (domain : Domain) (sorts objects : List ℕ) (i object : ℕ) (facts new : List Fact) → i < length sorts
+pub types_more : (domain : Domain) (sorts objects : List ℕ) (i object : ℕ) (facts new : List Fact)
+    → i < length sorts
     → length objects ≡ length sorts → object ≡ get_or objects i object
     → new ≡ with_facts facts (type_facts domain (get_or sorts i 0) object)
     → with_facts new (output_types domain (drop (i + 1) sorts) (drop (i + 1) objects)) ≡ with_facts facts (output_types domain (drop i sorts) (drop i objects))
@@ -117,7 +128,8 @@ types_more domain sorts objects i object facts new lt long o grown =
     ∙ sym (facts_then facts (type_facts domain (get_or sorts i 0) object) (output_types domain (drop (i + 1) sorts) (drop (i + 1) objects)))
     ∙ (λ j. with_facts facts (output_types domain (sym first j) (sym second j)))
 
-pub atoms_more : {A : Type 0} (f : A → Fact) (xs : List A) (i : ℕ) (x : A) (facts new : List Fact) → i < length xs → x ≡ get_or xs i x
+pub atoms_more : {A : Type 0} (f : A → Fact) (xs : List A) (i : ℕ) (x : A) (facts new : List Fact)
+    → i < length xs → x ≡ get_or xs i x
     → new ≡ with_fact facts (f x) → with_facts new (map f (drop (i + 1) xs)) ≡ with_facts facts (map f (drop i xs))
 atoms_more f xs i x facts new lt is grown =
     ap (λ fs. with_facts fs (map f (drop (i + 1) xs))) grown ∙ ap (λ ys. with_facts facts (map f ys)) (sym (drop_more xs i x lt ∙ ap (λ y. y ∷ drop (i + 1) xs) (sym is)))

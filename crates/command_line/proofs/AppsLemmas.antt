@@ -10,12 +10,14 @@ pub taken : (app : App) (words : List Text) → fault_of app words ≡ [] → is
 unfolding is_taken
 taken app words e = rw e refl
 
-some_fault : (kinds : Kinds) (e : Error) → HasKind kinds e → kind_of e ≢ OutOfMemory → are_none kinds ≡ false
+some_fault : (kinds : Kinds) (e : Error) → HasKind kinds e → kind_of e ≢ OutOfMemory
+    → are_none kinds ≡ false
 some_fault [] e (inl memory) other = absurd (other memory)
 some_fault [] e (inr none) other = absurd none
 some_fault (k ∷ ks) e has other = refl
 
-pub refused : (app : App) (words : List Text) (e : Error) → HasKind (fault_of app words) e → kind_of e ≢ OutOfMemory
+pub refused : (app : App) (words : List Text) (e : Error) → HasKind (fault_of app words) e
+    → kind_of e ≢ OutOfMemory
     → is_taken app words ≡ false
 unfolding is_taken
 refused app words e has other = some_fault (fault_of app words) e has other

@@ -8,7 +8,8 @@ use Rattle.std.proofs.lemmas.Bool.Decides.{nat_tests}
 use Rattle.lemmas.proofs.Digits.{own}
 use Rattle.command_line.specs.Numbers.{is_count}
 
-too_large : (b : Bool) (most v : ℕ) → most < 2 ^ 32 → (v < 2 ^ 32 → ⊥) → b ≡ nat_le v most → b ≡ false
+too_large : (b : Bool) (most v : ℕ) → most < 2 ^ 32 → (v < 2 ^ 32 → ⊥) → b ≡ nat_le v most
+    → b ≡ false
 too_large true most v few h e = absurd (h (grind (arith, nat_tests, e, few)))
 too_large false most v few h e = refl
 
@@ -16,7 +17,8 @@ never : (b : Bool) → (b && false) ≡ false
 never true = refl
 never false = refl
 
-refused : {E : Type 0} (most : ℕ) (word : List ℕ) (e : E) → most < 2 ^ 32 → list_all is_ascii_digit word ≡ true
+refused : {E : Type 0} (most : ℕ) (word : List ℕ) (e : E) → most < 2 ^ 32
+    → list_all is_ascii_digit word ≡ true
     → ParsesUnsigned 32 10 word (Err e) → is_count most word ≡ false
 unfolding is_count
 refused most [] e few digits h = refl
@@ -24,7 +26,8 @@ refused most (b ∷ bs) e few digits h =
     let no = parse_digits own 32 (b ∷ bs) (Err e) h digits in
     rw (too_large _ most (digits_value 10 (b ∷ bs)) few (λ lt. no (omega arith, lt)) refl) (never _)
 
-pub not_count : {E : Type 0} (most : ℕ) (word : List ℕ) (r : Result ℕ E) (e : E) → most < 2 ^ 32 → list_all is_ascii_digit word ≡ true
+pub not_count : {E : Type 0} (most : ℕ) (word : List ℕ) (r : Result ℕ E) (e : E) → most < 2 ^ 32
+    → list_all is_ascii_digit word ≡ true
     → ParsesUnsigned 32 10 word r → r ≡ Err e → is_count most word ≡ false
 not_count {E} most word r e few digits h err =
     refused most word e few digits (subst (λ x. ParsesUnsigned {E = E} 32 10 word x) err h)

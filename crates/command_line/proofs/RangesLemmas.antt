@@ -14,7 +14,8 @@ use Rattle.command_line.specs.Words.{Command, Limits, ReplayWords, SolveWords, a
 
 -- ---- what a test lets through
 
-kept : {A : Type 0} (b : Bool) (value : Option A) (a : A) → (if b then value else None) ≡ Some a → (b ≡ true) × (value ≡ Some a)
+kept : {A : Type 0} (b : Bool) (value : Option A) (a : A) → (if b then value else None) ≡ Some a
+    → (b ≡ true) × (value ≡ Some a)
 kept true value a e = (refl, e)
 kept false value a e = absurd (cc)
 
@@ -23,7 +24,8 @@ same a b e = cc
 
 -- ---- numbers
 
-digits_between : (most : ℕ) (word : Text) → is_count most word ≡ true → IsBetween most (digits_value 10 word)
+digits_between : (most : ℕ) (word : Text) → is_count most word ≡ true
+    → IsBetween most (digits_value 10 word)
 unfolding is_count
 digits_between most word e =
     let some = nat_le 1 (digits_value 10 word) in
@@ -37,7 +39,8 @@ count_between most word n e =
     let found = kept (is_count most word) (Some (digits_value 10 word)) n e in
     subst (IsBetween most) (same (digits_value 10 word) n found.1) (digits_between most word found.0)
 
-or_between : (most default : ℕ) → IsBetween most default → (word : Option Text) (n : ℕ) → count_or most default word ≡ Some n
+or_between : (most default : ℕ) → IsBetween most default → (word : Option Text) (n : ℕ)
+    → count_or most default word ≡ Some n
     → IsBetween most n
 or_between most default some None n e = subst (IsBetween most) (same default n e) some
 or_between most default some (Some word) n e = count_between most word n e
@@ -63,7 +66,8 @@ mode_built (Some name) mode e =
     rw (same Incremental mode found.1) refl
 
 -- where a map stands there is no program
-alone_from : (path workers : Option Text) (program : List Text) → are_apart path workers program ≡ true
+alone_from : (path workers : Option Text) (program : List Text)
+    → are_apart path workers program ≡ true
     → (p : Text) → path ≡ Some p → program ≡ []
 alone_from None workers program e p is = absurd (cc)
 alone_from (Some path) None [] e p is = refl
@@ -97,7 +101,8 @@ solve_between rows w e =
     } in
     subst AreInRange (same made w found.1) ranges
 
-replay_between : (rows : List Row) (w : ReplayWords) → replay_in rows ≡ Some w → IsBetween 200000 w.states
+replay_between : (rows : List Row) (w : ReplayWords) → replay_in rows ≡ Some w
+    → IsBetween 200000 w.states
 replay_between rows w e =
     let files = and_then_some _ (files_in rows) w e in
     let report = and_then_some _ (first_of (codes "report") rows) w files.2 in
@@ -117,19 +122,22 @@ read_some : {X : Type 0} (app : App) (read : List Row → Option X) (words : Lis
 unfolding read_by
 read_some {X} app read words x e = (kept (is_taken app words) (read (matches_of app words)) x e).1
 
-solve_found : (words : List Text) (c : Command) → option_map solve (solve_of words) ≡ Some c → IsInRange c
+solve_found : (words : List Text) (c : Command) → option_map solve (solve_of words) ≡ Some c
+    → IsInRange c
 solve_found words c e =
     let found = map_some solve (solve_of words) c e in
     let read = read_some solve_app solve_in words found.0 found.1 in
     subst IsInRange found.2 (solve_between (matches_of solve_app words) found.0 read)
 
-replay_found : (words : List Text) (c : Command) → option_map replay (replay_of words) ≡ Some c → IsInRange c
+replay_found : (words : List Text) (c : Command) → option_map replay (replay_of words) ≡ Some c
+    → IsInRange c
 replay_found words c e =
     let found = map_some replay (replay_of words) c e in
     let read = read_some replay_app replay_in words found.0 found.1 in
     subst IsInRange found.2 (replay_between (matches_of replay_app words) found.0 read)
 
-generate_found : (words : List Text) (c : Command) → option_map generate (generate_of words) ≡ Some c → IsInRange c
+generate_found : (words : List Text) (c : Command)
+    → option_map generate (generate_of words) ≡ Some c → IsInRange c
 generate_found words c e =
     let found = map_some generate (generate_of words) c e in
     let read = read_some generate_app generate_in words found.0 found.1 in
@@ -141,7 +149,8 @@ in_range [] c e = absurd (cc)
 in_range (name ∷ words) c e =
     by (bytes_eq name (codes "solve")) (bytes_eq name (codes "replay")) (bytes_eq name (codes "generate")) e
   where
-    by : (solves replays generates : Bool) → (if solves then option_map solve (solve_of (name ∷ words))
+    by : (solves replays generates : Bool)
+        → (if solves then option_map solve (solve_of (name ∷ words))
         else if replays then option_map replay (replay_of (name ∷ words))
         else if generates then option_map generate (generate_of (name ∷ words)) else None) ≡ Some c → IsInRange c
     by true replays generates said = solve_found (name ∷ words) c said

@@ -7,11 +7,13 @@ use Rattle.clap.specs.Words.{Row, Text, first_of}
 
 -- from one to seven digits and nothing else
 abbrev pub are_few_digits : Text → Bool
-are_few_digits word = list_all is_ascii_digit word && nat_le 1 (length word) && nat_le (length word) 7
+are_few_digits word =
+    list_all is_ascii_digit word && nat_le 1 (length word) && nat_le (length word) 7
 
 -- from one to seven digits and nothing else, which write a number from 1 to the most
 unfoldable pub is_count : ℕ → Text → Bool
-is_count most word = are_few_digits word && nat_le 1 (digits_value 10 word) && nat_le (digits_value 10 word) most
+is_count most word =
+    are_few_digits word && nat_le 1 (digits_value 10 word) && nat_le (digits_value 10 word) most
 
 -- the number that the word writes
 abbrev pub count_of : ℕ → Text → Option ℕ

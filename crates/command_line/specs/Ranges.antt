@@ -25,4 +25,5 @@ IsInRange (generate n) = IsBetween 12 n
 
 -- whatever the words are
 abbrev pub WordsAreInRange : Type 0
-WordsAreInRange = (words : List Text) (command : Command) → command_of words ≡ Some command → IsInRange command
+WordsAreInRange =
+    (words : List Text) (command : Command) → command_of words ≡ Some command → IsInRange command

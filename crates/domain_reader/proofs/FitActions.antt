@@ -43,7 +43,8 @@ use Rattle.name_tables.specs.Texts.{value_at, repeated_names}
 
 -- ---- the value of a key
 
-behind_key : (k : Key) (at : ℕ) (behind : Key → List Fault) → by_key k at behind ≡ [] → behind k ≡ []
+behind_key : (k : Key) (at : ℕ) (behind : Key → List Fault) → by_key k at behind ≡ []
+    → behind k ≡ []
 behind_key key.Unknown at behind e = absurd (some_fault (unsupported at) [] e)
 behind_key key.NoKey at behind e = absurd (some_fault (shape at) [] e)
 behind_key key.Parameters at behind e = e
@@ -62,7 +63,8 @@ record IsValue (v : Vocabulary) (heads scope : List (List ℕ)) (k : Key) (items
   named : value_names v heads scope k place items ≡ []
 
 module _ (v : Vocabulary) (heads scope : List (List ℕ)) (name : List ℕ) (k : Key) (missing : IsValue v heads scope k nothing) (known : key_of keyed.Action name ≡ k) where
-  key_value : (place : ℕ) (before : Key) (keys : Trees) → keys_faults keyed.Action place keys ≡ [] → keys_names v heads scope before keys ≡ [] → IsValue v heads scope k (value_at name keys)
+  key_value : (place : ℕ) (before : Key) (keys : Trees) → keys_faults keyed.Action place keys ≡ []
+      → keys_names v heads scope before keys ≡ [] → IsValue v heads scope k (value_at name keys)
   key_value place before nothing f n = missing
   key_value place before (list items at rest) f n = absurd (some_fault (shape at) [] f)
   key_value place before (word text at nothing) f n = absurd (some_fault (shape place) [] (behind_key (key_of keyed.Action text) at (λ j. valued_faults keyed.Action place j nothing) f))
@@ -109,14 +111,17 @@ record IsAction (v : Vocabulary) (heads : List (List ℕ)) (rest : Trees) : Type
   keys_formed : keys_faults keyed.Action place (tail_of rest) ≡ []
   keys_named : keys_names v heads (named_words Start (parameters_of (tail_of rest))) key.NoKey (tail_of rest) ≡ []
 
-action_by : (v : Vocabulary) (heads : List (List ℕ)) (place : ℕ) (rest : Trees) → keyed_faults keyed.Action place rest ≡ [] → action_names v heads (tail_of rest) ≡ [] → IsAction v heads rest
+action_by : (v : Vocabulary) (heads : List (List ℕ)) (place : ℕ) (rest : Trees)
+    → keyed_faults keyed.Action place rest ≡ [] → action_names v heads (tail_of rest) ≡ []
+    → IsAction v heads rest
 action_by v heads place nothing f n = absurd (some_fault (shape place) [] f)
 action_by v heads place (list items at rest) f n = absurd (some_fault (shape at) [] f)
 action_by v heads place (word text at rest) f n =
     let parts = chosen (is_name text) (keys_faults keyed.Action place rest) (shape at) [] f in
     record { named = parts.0; place = place; keys_formed = parts.1; keys_named = append_nil_second (repeated_names [] rest) (keys_names v heads (named_words Start (parameters_of rest)) key.NoKey rest) n }
 
-clean_action : (v : Vocabulary) (heads : List (List ℕ)) (it : Item) (rest : Trees) → is_action it ≡ true → IsClean v heads it rest → IsAction v heads rest
+clean_action : (v : Vocabulary) (heads : List (List ℕ)) (it : Item) (rest : Trees)
+    → is_action it ≡ true → IsClean v heads it rest → IsAction v heads rest
 clean_action v heads item.Action rest e c = action_by v heads c.place rest c.formed c.named
 clean_action v heads _ rest e c = absurd (cc)
 
@@ -132,12 +137,16 @@ effect_key : key_of keyed.Action (codes ":effect") ≡ key.Effect
 unfolding action_key_of
 effect_key = refl
 
-effects_fit : (d : domain.Domain) (filled : List ℕ) (patterns : List Pattern) → length patterns ≤ 8388608 → list_all (is_fit_pattern d (length d.constants) filled) patterns ≡ true → list_all (is_free d) patterns ≡ true → are_fit_effects d filled patterns ≡ true
+effects_fit : (d : domain.Domain) (filled : List ℕ) (patterns : List Pattern)
+    → length patterns ≤ 8388608
+    → list_all (is_fit_pattern d (length d.constants) filled) patterns ≡ true
+    → list_all (is_free d) patterns ≡ true → are_fit_effects d filled patterns ≡ true
 effects_fit d filled patterns few fit free =
     and_from (is_short patterns && list_all (is_fit_pattern d (length d.constants) filled) patterns) (list_all (is_free d) patterns) (and_from (is_short patterns) (list_all (is_fit_pattern d (length d.constants) filled) patterns) (le-leb (length patterns) 8388608 few) fit) free
 
 module _ (v : Vocabulary) (d : domain.Domain) (knows : Knows v d (length d.constants)) (heads : List (List ℕ)) (plain : ArePlain v d heads) where
-  action_fits : (rest : Trees) → IsAction v heads rest → size rest ≤ 4194304 → depth rest ≤ 64 → is_fit_action d (action_of v rest) ≡ true
+  action_fits : (rest : Trees) → IsAction v heads rest → size rest ≤ 4194304 → depth rest ≤ 64
+      → is_fit_action d (action_of v rest) ≡ true
   action_fits rest a small shallow =
       let keys = tail_of rest in
       let vars = parameters_of keys in
@@ -169,14 +178,17 @@ module _ (v : Vocabulary) (d : domain.Domain) (knows : Knows v d (length d.const
       let few_costs : nat_le (length (done_by v keys).costs) 262144 ≡ true = le-leb (length (done_by v keys).costs) 262144 (omega (arith, done.few_costs, bound)) in
       and_from _ _ (and_from _ _ (and_from _ _ (and_from _ _ (and_from _ _ fit_params fit_condition) fit_adds) fit_deletes) few_costs) done.costs
 
-  here_fits : (it : Item) (rest : Trees) → IsClean v heads it rest → size rest ≤ 4194304 → depth rest ≤ 64 → list_all (is_fit_action d) (if is_action it then action_of v rest ∷ [] else []) ≡ true
+  here_fits : (it : Item) (rest : Trees) → IsClean v heads it rest → size rest ≤ 4194304
+      → depth rest ≤ 64
+      → list_all (is_fit_action d) (if is_action it then action_of v rest ∷ [] else []) ≡ true
   here_fits it rest c small shallow =
       elim (is_action it) as (λ b. is_action it ≡ b → list_all (is_fit_action d) (if b then action_of v rest ∷ [] else []) ≡ true) [
         | true ↦ λ e. and_from (is_fit_action d (action_of v rest)) true (action_fits rest (clean_action v heads it rest e c) small shallow) refl
         | false ↦ λ _. refl
       ] refl
 
-  pub actions_fit : (body : Trees) → AreClean v heads body → size body ≤ 4194304 → depth body ≤ 64 → list_all (is_fit_action d) (actions_of v body) ≡ true
+  pub actions_fit : (body : Trees) → AreClean v heads body → size body ≤ 4194304 → depth body ≤ 64
+      → list_all (is_fit_action d) (actions_of v body) ≡ true
   actions_fit nothing c small shallow = refl
   actions_fit (word w at rest) c small shallow = actions_fit rest c (omega arith) shallow
   actions_fit (list items at rest) c small shallow =
@@ -204,13 +216,15 @@ pub record AreNew (seen new : List (List ℕ)) : Type 0 where
   pub absent : (n : List ℕ) → has_name n seen ≡ true → has_name n new ≡ true → ⊥
   pub distinct : AreDistinct new
 
-distinct_first : (n : List ℕ) (ns : List (List ℕ)) → (has_name n ns ≡ true → ⊥) → AreDistinct ns → AreDistinct (n ∷ ns)
+distinct_first : (n : List ℕ) (ns : List (List ℕ)) → (has_name n ns ≡ true → ⊥) → AreDistinct ns
+    → AreDistinct (n ∷ ns)
 distinct_first n ns absent d zero zero x e f = refl
 distinct_first n ns absent d zero (suc j) x e f = absurd (absent (name_there n ns j (f ∙ sym e)))
 distinct_first n ns absent d (suc i) zero x e f = absurd (absent (name_there n ns i (e ∙ sym f)))
 distinct_first n ns absent d (suc i) (suc j) x e f = ap suc (d i j x e f)
 
-new_first : (seen : List (List ℕ)) (n : List ℕ) (ns : List (List ℕ)) → is_name n ≡ true → has_name n seen ≡ false → AreNew (with_name seen n) ns → AreNew seen (n ∷ ns)
+new_first : (seen : List (List ℕ)) (n : List ℕ) (ns : List (List ℕ)) → is_name n ≡ true
+    → has_name n seen ≡ false → AreNew (with_name seen n) ns → AreNew seen (n ∷ ns)
 new_first seen n ns one fresh new = record {
   each = and_from (is_name n) (list_all is_name ns) one new.each;
   absent = λ m h k. elim (or_cases (bytes_eq m n) (has_name m ns) k) [
@@ -220,8 +234,10 @@ new_first seen n ns one fresh new = record {
   distinct = distinct_first n ns (λ h. new.absent n (has_with seen n) h) new.distinct;
 }
 
-new_names : (v : Vocabulary) (heads seen : List (List ℕ)) (body : Trees) → AreClean v heads body → second_actions seen body ≡ [] → AreNew seen (names (actions_of v body))
-new_names v heads seen nothing c n = record { each = refl; absent = λ m h k. absurd (cc); distinct = distinct_nil }
+new_names : (v : Vocabulary) (heads seen : List (List ℕ)) (body : Trees) → AreClean v heads body
+    → second_actions seen body ≡ [] → AreNew seen (names (actions_of v body))
+new_names v heads seen nothing c n =
+    record { each = refl; absent = λ m h k. absurd (cc); distinct = distinct_nil }
 new_names v heads seen (word w at rest) c n = new_names v heads seen rest c n
 new_names v heads seen (list items at rest) c n =
     let it = item_of text.Domain (head_of items) in
@@ -234,5 +250,7 @@ new_names v heads seen (list items at rest) c n =
       | false ↦ λ e m. new_names v heads seen rest c.1 m
     ] refl n
 
-pub actions_named : (v : Vocabulary) (heads : List (List ℕ)) (body : Trees) → AreClean v heads body → second_actions [] body ≡ [] → AreNames (map (λ (a : Action). a.name) (actions_of v body))
-actions_named v heads body c n = let new = new_names v heads [] body c n in record { each = new.each; distinct = new.distinct }
+pub actions_named : (v : Vocabulary) (heads : List (List ℕ)) (body : Trees) → AreClean v heads body
+    → second_actions [] body ≡ [] → AreNames (map (λ (a : Action). a.name) (actions_of v body))
+actions_named v heads body c n =
+    let new = new_names v heads [] body c n in record { each = new.each; distinct = new.distinct }

@@ -52,13 +52,17 @@ module _ (predicates : List (List ℕ)) where
   grows_none edges = record { keeps = λ a b h. h; long = refl }
 
   grows_then : (a b c : List (List ℕ)) → Grows a b → Grows b c → Grows a c
-  grows_then a b c g h = record { keeps = λ x y l. h.keeps x y (g.keeps x y l); long = h.long ∙ g.long }
+  grows_then a b c g h =
+      record { keeps = λ x y l. h.keeps x y (g.keeps x y l); long = h.long ∙ g.long }
 
-  put_grows : (edges : List (List ℕ)) (from : ℕ) (o : Option ℕ) → Grows edges (mention_put edges from o)
+  put_grows : (edges : List (List ℕ)) (from : ℕ) (o : Option ℕ)
+      → Grows edges (mention_put edges from o)
   put_grows edges from None = grows_none edges
-  put_grows edges from (Some pred) = record { keeps = λ a b h. put_keeps edges from pred a b h; long = put_long edges from pred }
+  put_grows edges from (Some pred) =
+      record { keeps = λ a b h. put_keeps edges from pred a b h; long = put_long edges from pred }
 
-  mentions_grow : (edges : List (List ℕ)) (from : ℕ) (ts : Trees) → Grows edges (mentions_in predicates edges from ts)
+  mentions_grow : (edges : List (List ℕ)) (from : ℕ) (ts : Trees)
+      → Grows edges (mentions_in predicates edges from ts)
   mentions_grow edges from nothing = grows_none edges
   mentions_grow edges from (word text at rest) = mentions_grow edges from rest
   mentions_grow edges from (list items at rest) =
@@ -69,21 +73,26 @@ module _ (predicates : List (List ℕ)) where
 
   -- the trees lead to a predicate
   abbrev Reaches : ℕ → ℕ → Trees → Type 0
-  Reaches from b ts = (edges : List (List ℕ)) → from < length edges → leads (mentions_in predicates edges from ts) from b ≡ true
+  Reaches from b ts =
+      (edges : List (List ℕ)) → from < length edges
+      → leads (mentions_in predicates edges from ts) from b ≡ true
 
-  reaches_first : (from b : ℕ) (items : Trees) (at : ℕ) (rest : Trees) → place_of (head_of items) predicates ≡ Some b → Reaches from b (list items at rest)
+  reaches_first : (from b : ℕ) (items : Trees) (at : ℕ) (rest : Trees)
+      → place_of (head_of items) predicates ≡ Some b → Reaches from b (list items at rest)
   reaches_first from b items at rest e edges lt =
       let put = mention_put edges from (place_of (head_of items) predicates) in
       let inside = mentions_in predicates put from items in
       let here : leads put from b ≡ true = subst (λ o. leads (mention_put edges from o) from b ≡ true) (sym e) (put_gets edges from b lt) in
       (mentions_grow inside from rest).keeps from b ((mentions_grow put from items).keeps from b here)
 
-  reaches_inside : (from b : ℕ) (items : Trees) (at : ℕ) (rest : Trees) → Reaches from b items → Reaches from b (list items at rest)
+  reaches_inside : (from b : ℕ) (items : Trees) (at : ℕ) (rest : Trees) → Reaches from b items
+      → Reaches from b (list items at rest)
   reaches_inside from b items at rest r edges lt =
       let put = mention_put edges from (place_of (head_of items) predicates) in
       (mentions_grow (mentions_in predicates put from items) from rest).keeps from b (r put (omega (arith, lt, (put_grows edges from (place_of (head_of items) predicates)).long)))
 
-  reaches_behind : (from b : ℕ) (items : Trees) (at : ℕ) (rest : Trees) → Reaches from b rest → Reaches from b (list items at rest)
+  reaches_behind : (from b : ℕ) (items : Trees) (at : ℕ) (rest : Trees) → Reaches from b rest
+      → Reaches from b (list items at rest)
   reaches_behind from b items at rest r edges lt =
       let put = mention_put edges from (place_of (head_of items) predicates) in
       r (mentions_in predicates put from items) (omega (arith, lt, (put_grows edges from (place_of (head_of items) predicates)).long, (mentions_grow put from items).long))
@@ -92,7 +101,8 @@ module _ (predicates : List (List ℕ)) where
   abbrev ReachesList : ℕ → ℕ → Trees → Type 0
   ReachesList from b ts = (place_of (head_of ts) predicates ≡ Some b) ⊎ Reaches from b ts
 
-  reaches_list : (from b : ℕ) (items : Trees) (at : ℕ) (rest : Trees) → ReachesList from b items → Reaches from b (list items at rest)
+  reaches_list : (from b : ℕ) (items : Trees) (at : ℕ) (rest : Trees) → ReachesList from b items
+      → Reaches from b (list items at rest)
   reaches_list from b items at rest (inl e) = reaches_first from b items at rest e
   reaches_list from b items at rest (inr r) = reaches_inside from b items at rest r
 
@@ -107,7 +117,9 @@ record Chosen (h : ConditionHead) (P : Condition → Type 0) (parts : Conditions
   refused : P truth
   atoms : na ≡ [] → P atom
 
-by_head : (h : ConditionHead) (P : Condition → Type 0) (parts : Conditions) (single quantified equal atom : Condition) (np ns nq ne nr na : List Fault) → Chosen h P parts single quantified equal atom np ns nq ne nr na → by_condition h np ns nq ne nr na ≡ [] → P (condition_by h parts single quantified equal atom)
+by_head : (h : ConditionHead) (P : Condition → Type 0) (parts : Conditions) (single quantified equal atom : Condition) (np ns nq ne nr na : List Fault)
+    → Chosen h P parts single quantified equal atom np ns nq ne nr na
+    → by_condition h np ns nq ne nr na ≡ [] → P (condition_by h parts single quantified equal atom)
 by_head head.And P parts single quantified equal atom np ns nq ne nr na c n = c.all n
 by_head head.Or P parts single quantified equal atom np ns nq ne nr na c n = c.any n
 by_head head.Not P parts single quantified equal atom np ns nq ne nr na c n = c.negated n
@@ -127,14 +139,17 @@ module _ (v : Vocabulary) (from b : ℕ) where
   abbrev predicates : List (List ℕ)
   predicates = v.predicates.names
 
-  atom_place : (scope : List (List ℕ)) (place : ℕ) (text : List ℕ) (at : ℕ) (rest : Trees) → application_names v.predicates v.objects scope place (word text at rest) ≡ [] → (declared_place v.predicates text == b) ≡ true → place_of text predicates ≡ Some b
+  atom_place : (scope : List (List ℕ)) (place : ℕ) (text : List ℕ) (at : ℕ) (rest : Trees)
+      → application_names v.predicates v.objects scope place (word text at rest) ≡ []
+      → (declared_place v.predicates text == b) ≡ true → place_of text predicates ≡ Some b
   atom_place scope place text at rest n same =
       let uses = use_names (arity_of v.predicates text) (width rest) at place in
       let found = place_used v.predicates (place_of text predicates) (width rest) at place (append_nil_first uses (terms_names v.objects scope rest) n) in
       found.1 ∙ ap Some (ap (λ o. unwrap_or o 0) (sym found.1) ∙ eqb-true (declared_place v.predicates text) b same)
 
   mutual
-    conditions_reach : (scope : List (List ℕ)) (ts : Trees) → conditions_names v scope ts ≡ [] → any_mentions b (conditions_of v scope ts) ≡ true → Reaches predicates from b ts
+    conditions_reach : (scope : List (List ℕ)) (ts : Trees) → conditions_names v scope ts ≡ []
+        → any_mentions b (conditions_of v scope ts) ≡ true → Reaches predicates from b ts
     conditions_reach scope nothing n h = absurd (cc)
     conditions_reach scope (word text at rest) n h = conditions_reach scope rest n h
     conditions_reach scope (list items at rest) n h =
@@ -143,7 +158,9 @@ module _ (v : Vocabulary) (from b : ℕ) where
           | inr e ↦ reaches_behind predicates from b items at rest (conditions_reach scope rest (append_nil_second (condition_names v scope at items) (conditions_names v scope rest) n) e)
         ]
 
-    condition_reaches : (scope : List (List ℕ)) (place : ℕ) (ts : Trees) → condition_names v scope place ts ≡ [] → mentions b (condition_of v scope ts) ≡ true → ReachesList predicates from b ts
+    condition_reaches : (scope : List (List ℕ)) (place : ℕ) (ts : Trees)
+        → condition_names v scope place ts ≡ [] → mentions b (condition_of v scope ts) ≡ true
+        → ReachesList predicates from b ts
     condition_reaches scope place nothing n h = absurd (cc)
     condition_reaches scope place (list items at rest) n h = absurd (cc)
     condition_reaches scope place (word text at rest) n h =
@@ -160,12 +177,14 @@ module _ (v : Vocabulary) (from b : ℕ) where
         })
         n h
 
-    single_reaches : (scope : List (List ℕ)) (ts : Trees) → conditions_names v scope ts ≡ [] → mentions b (single_of v scope ts) ≡ true → Reaches predicates from b ts
+    single_reaches : (scope : List (List ℕ)) (ts : Trees) → conditions_names v scope ts ≡ []
+        → mentions b (single_of v scope ts) ≡ true → Reaches predicates from b ts
     single_reaches scope nothing n h = absurd (cc)
     single_reaches scope (word text at rest) n h = absurd (cc)
     single_reaches scope (list items at rest) n h = reaches_list predicates from b items at rest (condition_reaches scope at items (append_nil_first (condition_names v scope at items) (conditions_names v scope rest) n) h)
 
-    exists_reaches : (scope : List (List ℕ)) (ts : Trees) → exists_names v scope ts ≡ [] → mentions b (exists_of v scope ts) ≡ true → Reaches predicates from b ts
+    exists_reaches : (scope : List (List ℕ)) (ts : Trees) → exists_names v scope ts ≡ []
+        → mentions b (exists_of v scope ts) ≡ true → Reaches predicates from b ts
     exists_reaches scope nothing n h = absurd (cc)
     exists_reaches scope (word text at rest) n h = absurd (cc)
     exists_reaches scope (list items at rest) n h =
@@ -177,11 +196,13 @@ no_edges_long : (ns : List (List ℕ)) → length (no_edges ns) ≡ length ns
 no_edges_long [] = refl
 no_edges_long (n ∷ ns) = ap suc (no_edges_long ns)
 
-body_grows : (predicates edges : List (List ℕ)) (o : Option ℕ) (body : Trees) → Grows predicates edges (body_put predicates edges o body)
+body_grows : (predicates edges : List (List ℕ)) (o : Option ℕ) (body : Trees)
+    → Grows predicates edges (body_put predicates edges o body)
 body_grows predicates edges None body = grows_none predicates edges
 body_grows predicates edges (Some pred) body = mentions_grow predicates edges pred body
 
-bodies_grow : (predicates edges : List (List ℕ)) (body : Trees) → Grows predicates edges (bodies_in predicates edges body)
+bodies_grow : (predicates edges : List (List ℕ)) (body : Trees)
+    → Grows predicates edges (bodies_in predicates edges body)
 bodies_grow predicates edges nothing = grows_none predicates edges
 bodies_grow predicates edges (word w at rest) = bodies_grow predicates edges rest
 bodies_grow predicates edges (list items at rest) =
@@ -196,7 +217,9 @@ module _ (v : Vocabulary) (heads : List (List ℕ)) where
   abbrev table : List (List ℕ)
   table = v.predicates.names
 
-  item_place : (items : Trees) (a : ℕ) → is_derived (item_of text.Domain (head_of items)) ≡ true → IsClean v heads (item_of text.Domain (head_of items)) (tail_of items) → ((rule_of v (tail_of items)).pred == a) ≡ true → derived_place table items ≡ Some a
+  item_place : (items : Trees) (a : ℕ) → is_derived (item_of text.Domain (head_of items)) ≡ true
+      → IsClean v heads (item_of text.Domain (head_of items)) (tail_of items)
+      → ((rule_of v (tail_of items)).pred == a) ≡ true → derived_place table items ≡ Some a
   item_place items a e c same =
       let found = rule_there v (tail_of items) (derived_rule v heads (item_of text.Domain (head_of items)) (tail_of items) e c) in
       ap (λ b. if b then place_of (headed items) table else None) e ∙ found.1 ∙ ap Some (sym (rule_pred v (tail_of items) found.0 found.1) ∙ eqb-true (rule_of v (tail_of items)).pred a same)
@@ -208,7 +231,11 @@ module _ (v : Vocabulary) (heads : List (List ℕ)) where
         | false ↦ λ f. absurd (cc)
       ] e
 
-  rule_leads : (edges : List (List ℕ)) (items : Trees) (a b : ℕ) → length edges ≡ length table → is_derived (item_of text.Domain (head_of items)) ≡ true → IsClean v heads (item_of text.Domain (head_of items)) (tail_of items) → rests a b (rule_of v (tail_of items)) ≡ true → leads (body_put table edges (derived_place table items) (tail_of (tail_of items))) a b ≡ true
+  rule_leads : (edges : List (List ℕ)) (items : Trees) (a b : ℕ) → length edges ≡ length table
+      → is_derived (item_of text.Domain (head_of items)) ≡ true
+      → IsClean v heads (item_of text.Domain (head_of items)) (tail_of items)
+      → rests a b (rule_of v (tail_of items)) ≡ true
+      → leads (body_put table edges (derived_place table items) (tail_of (tail_of items))) a b ≡ true
   rule_leads edges items a b long e c h =
       let r = rule_of v (tail_of items) in
       let at : derived_place table items ≡ Some a = item_place items a e c (first_so (r.pred == a) (mentions b r.body) h) in
@@ -217,7 +244,9 @@ module _ (v : Vocabulary) (heads : List (List ℕ)) where
       subst (λ o. leads (body_put table edges o (tail_of (tail_of items))) a b ≡ true) (sym at)
       (single_reaches v a b scope (tail_of (tail_of items)) named (second_so (r.pred == a) (mentions b r.body) h) edges (omega (arith, long, placed_within items a at)))
 
-  rules_lead : (edges : List (List ℕ)) (body : Trees) (a b : ℕ) → length edges ≡ length table → AreClean v heads body → list_any (rests a b) (rules_of v body) ≡ true → leads (bodies_in table edges body) a b ≡ true
+  rules_lead : (edges : List (List ℕ)) (body : Trees) (a b : ℕ) → length edges ≡ length table
+      → AreClean v heads body → list_any (rests a b) (rules_of v body) ≡ true
+      → leads (bodies_in table edges body) a b ≡ true
   rules_lead edges nothing a b long c h = absurd (cc)
   rules_lead edges (word w at rest) a b long c h = rules_lead edges rest a b long c h
   rules_lead edges (list items at rest) a b long c h =
@@ -233,7 +262,9 @@ module _ (v : Vocabulary) (heads : List (List ℕ)) where
       ] refl h
 
   -- the predicate of an item is looked at
-  rules_listed : (body : Trees) (a b : ℕ) → AreClean v heads body → list_any (rests a b) (rules_of v body) ≡ true → is_candidate (derived_in table body) a ≡ true
+  rules_listed : (body : Trees) (a b : ℕ) → AreClean v heads body
+      → list_any (rests a b) (rules_of v body) ≡ true
+      → is_candidate (derived_in table body) a ≡ true
   rules_listed nothing a b c h = absurd (cc)
   rules_listed (word w at rest) a b c h = rules_listed rest a b c h
   rules_listed (list items at rest) a b c h =
@@ -251,20 +282,26 @@ module _ (v : Vocabulary) (heads : List (List ℕ)) where
         | false ↦ λ e g. more g
       ] refl h
 
-pub rules_acyclic : (v : Vocabulary) (heads : List (List ℕ)) (d : domain.Domain) (body : Trees) → AreClean v heads body → d.derived ≡ rules_of v body → CycleFaults DerivedCycle (derived_edges v.predicates.names body) (derived_in v.predicates.names body) [] → (pred : ℕ) (between : List ℕ) → ¬ (LeadsAlong (depends d) pred between pred)
+pub rules_acyclic : (v : Vocabulary) (heads : List (List ℕ)) (d : domain.Domain) (body : Trees)
+    → AreClean v heads body → d.derived ≡ rules_of v body
+    → CycleFaults DerivedCycle (derived_edges v.predicates.names body) (derived_in v.predicates.names body) []
+    → (pred : ℕ) (between : List ℕ) → ¬ (LeadsAlong (depends d) pred between pred)
 rules_acyclic v heads d body clean rules acyclic pred between l =
     none_cyclic (derived_in v.predicates.names body) [] acyclic refl pred (listed between l) (record { between = between; steps = along pred between pred l })
   where
     rests_on : (a b : ℕ) → depends d a b ≡ true → list_any (rests a b) (rules_of v body) ≡ true
     rests_on a b h = subst (λ rs. list_any (rests a b) rs ≡ true) rules h
 
-    step : (a b : ℕ) → depends d a b ≡ true → leads (derived_edges v.predicates.names body) a b ≡ true
+    step : (a b : ℕ) → depends d a b ≡ true
+        → leads (derived_edges v.predicates.names body) a b ≡ true
     step a b h = rules_lead v heads (no_edges v.predicates.names) body a b (no_edges_long v.predicates.names) clean (rests_on a b h)
 
-    along : (a : ℕ) (ms : List ℕ) (b : ℕ) → LeadsAlong (depends d) a ms b → LeadsAlong (leads (derived_edges v.predicates.names body)) a ms b
+    along : (a : ℕ) (ms : List ℕ) (b : ℕ) → LeadsAlong (depends d) a ms b
+        → LeadsAlong (leads (derived_edges v.predicates.names body)) a ms b
     along a [] b h = step a b h
     along a (m ∷ ms) b h = (step a m h.0, along m ms b h.1)
 
-    listed : (ms : List ℕ) → LeadsAlong (depends d) pred ms pred → is_candidate (derived_in v.predicates.names body) pred ≡ true
+    listed : (ms : List ℕ) → LeadsAlong (depends d) pred ms pred
+        → is_candidate (derived_in v.predicates.names body) pred ≡ true
     listed [] h = rules_listed v heads body pred pred clean (rests_on pred pred h)
     listed (m ∷ ms) h = rules_listed v heads body pred m clean (rests_on pred m h.0)

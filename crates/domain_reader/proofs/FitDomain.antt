@@ -60,7 +60,8 @@ all_named v body n =
       derived = subst (CycleFaults DerivedCycle (derived_edges v.predicates.names body) (derived_in v.predicates.names body)) (append_nil_second (plain_names v body ++ n.types) n.derived whole) n.derived_right;
     }
 
-pub fit_domain : (t : Trees) (d : Domain) → (t ≡ nothing → ⊥) → IsDomainRead t d → IsBounded t → IsFitDomain d
+pub fit_domain : (t : Trees) (d : Domain) → (t ≡ nothing → ⊥) → IsDomainRead t d → IsBounded t
+    → IsFitDomain d
 fit_domain t d there read bounded =
     let v = domain_names t in
     let body = body_of t in
@@ -92,6 +93,7 @@ fit_domain t d there read bounded =
     }
 
 -- where it was read
-pub fit_if_read : (t : Tree) (result : Result Domain InputFault) → DomainReads (tree t) result → IfOk result (λ d. IsBounded (tree t) → IsFitDomain d)
+pub fit_if_read : (t : Tree) (result : Result Domain InputFault) → DomainReads (tree t) result
+    → IfOk result (λ d. IsBounded (tree t) → IsFitDomain d)
 fit_if_read t (Ok d) read = λ bounded. fit_domain (tree t) d (tree_there t) read bounded
 fit_if_read t (Err fault) read = tt

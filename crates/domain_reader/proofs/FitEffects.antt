@@ -40,7 +40,8 @@ use Rattle.domain_reader.specs.Effects.{Done, added, after_effect, after_effects
 digits_few : (text : List ℕ) → is_number text ≡ true → nat_le (digits_value 10 text) 1000000 ≡ true
 unfolding is_number
 digits_few [] e = absurd (cc)
-digits_few (b ∷ bs) e = second_so (list_all is_ascii_digit (b ∷ bs)) (nat_le (digits_value 10 (b ∷ bs)) 1000000) e
+digits_few (b ∷ bs) e =
+    second_so (list_all is_ascii_digit (b ∷ bs)) (nat_le (digits_value 10 (b ∷ bs)) 1000000) e
 
 increase_word : (text : List ℕ) → effect_head_of text ≡ head.Increase → text ≡ codes "increase"
 unfolding effect_head_of
@@ -60,7 +61,8 @@ increase_word text e =
     ] e
 
 increase_long : (text : List ℕ) → effect_head_of text ≡ head.Increase → 8 ≤ length text
-increase_long text e = let same = increase_word text e in subst (λ t. 8 ≤ length t) (sym same) (omega arith)
+increase_long text e =
+    let same = increase_word text e in subst (λ t. 8 ≤ length t) (sym same) (omega arith)
 
 total_cost_long : (place : ℕ) (items : Trees) → total_cost_faults place items ≡ [] → 10 ≤ size items
 total_cost_long place nothing e = absurd (some_fault (shape place) [] e)
@@ -79,14 +81,23 @@ record Chosen (h : EffectHead) (P : Done → Type 0) (parts negated increased re
   left_out : fr ≡ [] → ⊥
   is_added : fa ≡ [] → na ≡ [] → P atom
 
-by_head : (h : EffectHead) (P : Done → Type 0) (parts negated increased refused atom : Done) (fp fn fi fr fa np nn ni nr na : List Fault) → Chosen h P parts negated increased refused atom fp fn fi fr fa np nn ni nr na → by_effect h fp fn fi fr fa ≡ [] → by_effect h np nn ni nr na ≡ [] → P (by_effect h parts negated increased refused atom)
-by_head head.And P parts negated increased refused atom fp fn fi fr fa np nn ni nr na c f n = c.all f n
-by_head head.Not P parts negated increased refused atom fp fn fi fr fa np nn ni nr na c f n = c.taken_away f n
-by_head head.Increase P parts negated increased refused atom fp fn fi fr fa np nn ni nr na c f n = c.costs_more refl f n
-by_head head.Refused P parts negated increased refused atom fp fn fi fr fa np nn ni nr na c f n = absurd (c.left_out f)
-by_head head.Atom P parts negated increased refused atom fp fn fi fr fa np nn ni nr na c f n = c.is_added f n
+by_head : (h : EffectHead) (P : Done → Type 0) (parts negated increased refused atom : Done) (fp fn fi fr fa np nn ni nr na : List Fault)
+    → Chosen h P parts negated increased refused atom fp fn fi fr fa np nn ni nr na
+    → by_effect h fp fn fi fr fa ≡ [] → by_effect h np nn ni nr na ≡ []
+    → P (by_effect h parts negated increased refused atom)
+by_head head.And P parts negated increased refused atom fp fn fi fr fa np nn ni nr na c f n =
+    c.all f n
+by_head head.Not P parts negated increased refused atom fp fn fi fr fa np nn ni nr na c f n =
+    c.taken_away f n
+by_head head.Increase P parts negated increased refused atom fp fn fi fr fa np nn ni nr na c f n =
+    c.costs_more refl f n
+by_head head.Refused P parts negated increased refused atom fp fn fi fr fa np nn ni nr na c f n =
+    absurd (c.left_out f)
+by_head head.Atom P parts negated increased refused atom fp fn fi fr fa np nn ni nr na c f n =
+    c.is_added f n
 
-unless_other : (b : Bool) (x : Fault) (xs ys : List Fault) → (if b then x ∷ xs else ys) ≡ [] → ys ≡ []
+unless_other : (b : Bool) (x : Fault) (xs ys : List Fault) → (if b then x ∷ xs else ys) ≡ []
+    → ys ≡ []
 unless_other true x xs ys e = absurd (some_fault x xs e)
 unless_other false x xs ys e = e
 
@@ -94,7 +105,9 @@ unless_other false x xs ys e = e
 
 -- the predicates that are there and that no item heads aren't derived
 abbrev pub ArePlain : Vocabulary → domain.Domain → List (List ℕ) → Type 0
-ArePlain v d heads = (name : List ℕ) (pred : ℕ) → place_of name v.predicates.names ≡ Some pred → has_name name heads ≡ false → is_derived_role (role_of d pred) ≡ false
+ArePlain v d heads =
+    (name : List ℕ) (pred : ℕ) → place_of name v.predicates.names ≡ Some pred
+    → has_name name heads ≡ false → is_derived_role (role_of d pred) ≡ false
 
 abbrev pub is_free : domain.Domain → Pattern → Bool
 is_free d p = not (is_derived_role (role_of d p.pred))
@@ -110,7 +123,8 @@ pub record IsDone (d : domain.Domain) (filled : List ℕ) (most : ℕ) (c : Done
   pub costs : list_all (is_fit_cost d filled) c.costs ≡ true
   pub few_costs : length c.costs * 16 ≤ most
 
-done_more : (d : domain.Domain) (filled : List ℕ) (most more : ℕ) (c : Done) → most ≤ more → IsDone d filled most c → IsDone d filled more c
+done_more : (d : domain.Domain) (filled : List ℕ) (most more : ℕ) (c : Done) → most ≤ more
+    → IsDone d filled most c → IsDone d filled more c
 done_more d filled most more c le i = record {
   adds = i.adds;
   free_adds = i.free_adds;
@@ -129,12 +143,14 @@ module _ (v : Vocabulary) (d : domain.Domain) (knows : Knows v d (length d.const
   abbrev marked : List ℕ → Bool
   marked name = is_derived_name v heads name
 
-  pattern_fits : (place : ℕ) (items : Trees) → application_faults Predicate Term place items ≡ [] → changed_names v heads scope place items ≡ [] → fits (pattern_of v scope items) ≡ true
+  pattern_fits : (place : ℕ) (items : Trees) → application_faults Predicate Term place items ≡ []
+      → changed_names v heads scope place items ≡ [] → fits (pattern_of v scope items) ≡ true
   pattern_fits place items f n =
       (λ i. is_fit_application (knows.predicates i) (knows.objects_long i) filled (declared_place v.predicates (head_of items)) (terms_of v.objects scope (tail_of items)))
       ∙ application_fits v.predicates v.objects scope filled slots Predicate Term place items f (append_nil_first (application_names v.predicates v.objects scope place items) (unless (not (marked (head_of items))) EffectOnStatic place) n)
 
-  pattern_free : (place : ℕ) (items : Trees) → application_faults Predicate Term place items ≡ [] → changed_names v heads scope place items ≡ [] → is_free d (pattern_of v scope items) ≡ true
+  pattern_free : (place : ℕ) (items : Trees) → application_faults Predicate Term place items ≡ []
+      → changed_names v heads scope place items ≡ [] → is_free d (pattern_of v scope items) ≡ true
   pattern_free place nothing f n = absurd (some_fault (shape place) [] f)
   pattern_free place (list items at rest) f n = absurd (some_fault (shape at) [] f)
   pattern_free place (word text at rest) f n =
@@ -147,7 +163,8 @@ module _ (v : Vocabulary) (d : domain.Domain) (knows : Knows v d (length d.const
       let absent : has_name text heads ≡ false = false_from_ne_true (has_name text heads) (λ h. let m : marked text ≡ true = and_from (has_name text heads) (has_name text v.predicates.names) h there in cc) in
       not_from_false (is_derived_role (role_of d (declared_place v.predicates text))) (ap (λ o. is_derived_role (role_of d (unwrap_or o 0))) found.1 ∙ plain text found.0 found.1 absent)
 
-  cost_fits : (place : ℕ) (ts : Trees) → cost_faults place ts ≡ [] → cost_names v scope ts ≡ [] → is_fit_cost d filled (cost_of v scope ts) ≡ true
+  cost_fits : (place : ℕ) (ts : Trees) → cost_faults place ts ≡ [] → cost_names v scope ts ≡ []
+      → is_fit_cost d filled (cost_of v scope ts) ≡ true
   cost_fits place nothing f n = absurd (some_fault (shape place) [] f)
   cost_fits place (word text at rest) f n =
       let counts : is_number text ≡ true = (chosen (is_number text) (end_faults rest) (number at) [] f).0 in
@@ -159,7 +176,10 @@ module _ (v : Vocabulary) (d : domain.Domain) (knows : Knows v d (length d.const
   abbrev Fit : ℕ → Done → Type 0
   Fit = IsDone d filled
 
-  add_done : (most place : ℕ) (c : Done) (items : Trees) → application_faults Predicate Term place items ≡ [] → changed_names v heads scope place items ≡ [] → Fit most c → Fit (most + 1) (added v scope c items)
+  add_done : (most place : ℕ) (c : Done) (items : Trees)
+      → application_faults Predicate Term place items ≡ []
+      → changed_names v heads scope place items ≡ [] → Fit most c
+      → Fit (most + 1) (added v scope c items)
   add_done most place c items f n i = record {
     adds = all_push fits c.adds (pattern_of v scope items) i.adds (pattern_fits place items f n);
     free_adds = all_push (is_free d) c.adds (pattern_of v scope items) i.free_adds (pattern_free place items f n);
@@ -171,19 +191,25 @@ module _ (v : Vocabulary) (d : domain.Domain) (knows : Knows v d (length d.const
     few_costs = omega (arith, i.few_costs);
   }
 
-  take_done : (most place : ℕ) (c : Done) (items : Trees) → application_faults Predicate Term place items ≡ [] → changed_names v heads scope place items ≡ [] → Fit most c → Fit (most + 1) (taken v scope c items)
+  take_done : (most place : ℕ) (c : Done) (items : Trees)
+      → application_faults Predicate Term place items ≡ []
+      → changed_names v heads scope place items ≡ [] → Fit most c
+      → Fit (most + 1) (taken v scope c items)
   take_done most place c items f n i = record {
     adds = i.adds;
     free_adds = i.free_adds;
     few_adds = omega (arith, i.few_adds);
-    deletes = all_push fits c.deletes (pattern_of v scope items) i.deletes (pattern_fits place items f n);
+    deletes =
+        all_push fits c.deletes (pattern_of v scope items) i.deletes (pattern_fits place items f n);
     free_deletes = all_push (is_free d) c.deletes (pattern_of v scope items) i.free_deletes (pattern_free place items f n);
-    few_deletes = omega (arith, i.few_deletes, length-append c.deletes (pattern_of v scope items ∷ []));
+    few_deletes =
+        omega (arith, i.few_deletes, length-append c.deletes (pattern_of v scope items ∷ []));
     costs = i.costs;
     few_costs = omega (arith, i.few_costs);
   }
 
-  charge_done : (most place : ℕ) (c : Done) (ts : Trees) → cost_faults place ts ≡ [] → cost_names v scope ts ≡ [] → Fit most c → Fit (most + 16) (charged v scope c ts)
+  charge_done : (most place : ℕ) (c : Done) (ts : Trees) → cost_faults place ts ≡ []
+      → cost_names v scope ts ≡ [] → Fit most c → Fit (most + 16) (charged v scope c ts)
   charge_done most place c ts f n i = record {
     adds = i.adds;
     free_adds = i.free_adds;
@@ -195,13 +221,18 @@ module _ (v : Vocabulary) (d : domain.Domain) (knows : Knows v d (length d.const
     few_costs = omega (arith, i.few_costs, length-append c.costs (cost_of v scope ts ∷ []));
   }
 
-  negated_done : (most place : ℕ) (c : Done) (text : List ℕ) (ts : Trees) → negated_faults place ts ≡ [] → negated_names v heads scope ts ≡ [] → Fit most c → Fit (most + (length text + size ts)) (taken v scope c (inner_of ts))
+  negated_done : (most place : ℕ) (c : Done) (text : List ℕ) (ts : Trees)
+      → negated_faults place ts ≡ [] → negated_names v heads scope ts ≡ [] → Fit most c
+      → Fit (most + (length text + size ts)) (taken v scope c (inner_of ts))
   negated_done most place c text nothing f n i = absurd (some_fault (shape place) [] f)
   negated_done most place c text (word w at rest) f n i = absurd (some_fault (shape at) [] f)
   negated_done most place c text (list items at rest) f n i =
       done_more d filled (most + 1) (most + (length text + (size items + 2 + size rest))) (taken v scope c items) (omega arith) (take_done most at c items (append_nil_first (application_faults Predicate Term at items) (end_faults rest) f) n i)
 
-  increased_done : (most place : ℕ) (c : Done) (text : List ℕ) (ts : Trees) → effect_head_of text ≡ head.Increase → increase_faults place ts ≡ [] → cost_names v scope (tail_of ts) ≡ [] → Fit most c → Fit (most + (length text + size ts)) (charged v scope c (tail_of ts))
+  increased_done : (most place : ℕ) (c : Done) (text : List ℕ) (ts : Trees)
+      → effect_head_of text ≡ head.Increase → increase_faults place ts ≡ []
+      → cost_names v scope (tail_of ts) ≡ [] → Fit most c
+      → Fit (most + (length text + size ts)) (charged v scope c (tail_of ts))
   increased_done most place c text nothing h f n i = absurd (some_fault (shape place) [] f)
   increased_done most place c text (word w at rest) h f n i = absurd (some_fault (shape at) [] f)
   increased_done most place c text (list items at rest) h f n i =
@@ -209,13 +240,18 @@ module _ (v : Vocabulary) (d : domain.Domain) (knows : Knows v d (length d.const
       let long : 10 ≤ size items = total_cost_long at items (append_nil_first (total_cost_faults at items) (cost_faults place rest) parts) in
       done_more d filled (most + 16) (most + (length text + (size items + 2 + size rest))) (charged v scope c rest) (omega (arith, increase_long text h)) (charge_done most place c rest (append_nil_second (total_cost_faults at items) (cost_faults place rest) parts) n i)
 
-  atom_done : (most place at : ℕ) (c : Done) (text : List ℕ) (rest : Trees) → application_faults Predicate Term place (word text at rest) ≡ [] → changed_names v heads scope place (word text at rest) ≡ [] → Fit most c → Fit (most + (length text + size rest)) (added v scope c (word text at rest))
+  atom_done : (most place at : ℕ) (c : Done) (text : List ℕ) (rest : Trees)
+      → application_faults Predicate Term place (word text at rest) ≡ []
+      → changed_names v heads scope place (word text at rest) ≡ [] → Fit most c
+      → Fit (most + (length text + size rest)) (added v scope c (word text at rest))
   atom_done most place at c text rest f n i =
       let name : is_name text ≡ true = predicate_name text (chosen (is_predicate_name text) (row_faults Term rest) (shape at) [] f).0 in
       done_more d filled (most + 1) (most + (length text + size rest)) (added v scope c (word text at rest)) (omega (arith, name_long text name)) (add_done most place c (word text at rest) f n i)
 
   mutual
-    effects_done : (most : ℕ) (c : Done) (ts : Trees) → effects_faults ts ≡ [] → effects_names v heads scope ts ≡ [] → Fit most c → Fit (most + size ts) (after_effects v scope c ts)
+    effects_done : (most : ℕ) (c : Done) (ts : Trees) → effects_faults ts ≡ []
+        → effects_names v heads scope ts ≡ [] → Fit most c
+        → Fit (most + size ts) (after_effects v scope c ts)
     effects_done most c nothing f n i = done_more d filled most (most + 0) c (omega arith) i
     effects_done most c (word text at rest) f n i = absurd (some_fault (shape at) [] f)
     effects_done most c (list items at rest) f n i =
@@ -224,7 +260,9 @@ module _ (v : Vocabulary) (d : domain.Domain) (knows : Knows v d (length d.const
         done_more d filled (most + size items + size rest) (most + (size items + 2 + size rest)) (after_effects v scope c' rest) (omega arith)
         (effects_done (most + size items) c' rest (append_nil_second (effect_faults at items) (effects_faults rest) f) (append_nil_second (effect_names v heads scope at items) (effects_names v heads scope rest) n) one)
 
-    pub effect_done : (most place : ℕ) (c : Done) (ts : Trees) → effect_faults place ts ≡ [] → effect_names v heads scope place ts ≡ [] → Fit most c → Fit (most + size ts) (after_effect v scope c ts)
+    pub effect_done : (most place : ℕ) (c : Done) (ts : Trees) → effect_faults place ts ≡ []
+        → effect_names v heads scope place ts ≡ [] → Fit most c
+        → Fit (most + size ts) (after_effect v scope c ts)
     effect_done most place c nothing f n i = done_more d filled most (most + 0) c (omega arith) i
     effect_done most place c (list items at rest) f n i = absurd (some_fault (shape at) [] f)
     effect_done most place c (word text at rest) f n i =

@@ -25,12 +25,14 @@ pub record IsFormed (t : Trees) : Type 0 where
   pub named : is_name (name_of t) ≡ true
 
 -- the name alone behind the title
-title_named : (place : ℕ) (ts : Trees) → title_faults Domain place ts ≡ [] → is_name (head_of (tail_of ts)) ≡ true
+title_named : (place : ℕ) (ts : Trees) → title_faults Domain place ts ≡ []
+    → is_name (head_of (tail_of ts)) ≡ true
 title_named place nothing e = absurd (some_fault (shape place) [] e)
 title_named place (list items at rest) e = absurd (some_fault (shape at) [] e)
 title_named place (word w at rest) e = one_name place rest (chosen (bytes_eq w (title_of Domain)) (one_faults Name place rest) (shape at) [] e).1
 
-titled_formed : (place at : ℕ) (ts rest : Trees) (w : List ℕ) (here : ℕ) → titled_faults Domain place ts ≡ [] → IsFormed (list (word w here ts) at rest)
+titled_formed : (place at : ℕ) (ts rest : Trees) (w : List ℕ) (here : ℕ)
+    → titled_faults Domain place ts ≡ [] → IsFormed (list (word w here ts) at rest)
 titled_formed place at nothing rest w here e = absurd (some_fault (shape place) [] e)
 titled_formed place at (word v there more) rest w here e = absurd (some_fault (shape there) [] e)
 titled_formed place at (list items there more) rest w here e = record {
@@ -38,7 +40,8 @@ titled_formed place at (list items there more) rest w here e = record {
   named = title_named there items (append_nil_first (title_faults Domain there items) (items_faults Domain more) e);
 }
 
-define_formed : (at : ℕ) (ts rest : Trees) → define_faults Domain at ts ≡ [] → IsFormed (list ts at rest)
+define_formed : (at : ℕ) (ts rest : Trees) → define_faults Domain at ts ≡ []
+    → IsFormed (list ts at rest)
 define_formed at nothing rest e = absurd (some_fault (shape at) [] e)
 define_formed at (list items there more) rest e = absurd (some_fault (shape there) [] e)
 define_formed at (word w there more) rest e = titled_formed at at more rest w there (chosen (bytes_eq w (codes "define")) (titled_faults Domain at more) (shape there) [] e).1
@@ -59,16 +62,23 @@ pub record IsClean (v : Vocabulary) (heads : List (List ℕ)) (it : Item) (rest 
 abbrev pub AreClean : Vocabulary → List (List ℕ) → Trees → Type 0
 AreClean v heads nothing = Unit {0}
 AreClean v heads (word w at rest) = AreClean v heads rest
-AreClean v heads (list items at rest) = IsClean v heads (item_of Domain (head_of items)) (tail_of items) × AreClean v heads rest
+AreClean v heads (list items at rest) =
+    IsClean v heads (item_of Domain (head_of items)) (tail_of items) × AreClean v heads rest
 
-item_clean : (v : Vocabulary) (heads : List (List ℕ)) (place : ℕ) (items : Trees) → item_faults Domain place items ≡ [] → body_names v heads (item_of Domain (head_of items)) (tail_of items) ≡ [] → IsClean v heads (item_of Domain (head_of items)) (tail_of items)
+item_clean : (v : Vocabulary) (heads : List (List ℕ)) (place : ℕ) (items : Trees)
+    → item_faults Domain place items ≡ []
+    → body_names v heads (item_of Domain (head_of items)) (tail_of items) ≡ []
+    → IsClean v heads (item_of Domain (head_of items)) (tail_of items)
 item_clean v heads place nothing f n = absurd (some_fault (shape place) [] f)
 item_clean v heads place (list items at rest) f n = absurd (some_fault (shape at) [] f)
-item_clean v heads place (word w at rest) f n = record { place = place; word_place = at; formed = f; named = n }
+item_clean v heads place (word w at rest) f n =
+    record { place = place; word_place = at; formed = f; named = n }
 
-pub items_clean : (v : Vocabulary) (heads : List (List ℕ)) (ts : Trees) → items_faults Domain ts ≡ [] → items_names v heads ts ≡ [] → AreClean v heads ts
+pub items_clean : (v : Vocabulary) (heads : List (List ℕ)) (ts : Trees)
+    → items_faults Domain ts ≡ [] → items_names v heads ts ≡ [] → AreClean v heads ts
 items_clean v heads nothing f n = tt
-items_clean v heads (word w at rest) f n = items_clean v heads rest (absurd (some_fault (shape at) [] f)) n
+items_clean v heads (word w at rest) f n =
+    items_clean v heads rest (absurd (some_fault (shape at) [] f)) n
 items_clean v heads (list items at rest) f n =
     let own = body_names v heads (item_of Domain (head_of items)) (tail_of items) in (
       item_clean v heads at items (append_nil_first (item_faults Domain at items) (items_faults Domain rest) f) (append_nil_first own (items_names v heads rest) n),

@@ -31,7 +31,8 @@ use Rattle.name_tables.specs.Texts.{body_of}
 
 -- ---- predicates and functions
 
-list_named : (ns : List (List ℕ)) (as' : List ℕ) → length ns ≡ length as' → map (λ (s : Signature). s.name) (signature_list ns as') ≡ ns
+list_named : (ns : List (List ℕ)) (as' : List ℕ) → length ns ≡ length as'
+    → map (λ (s : Signature). s.name) (signature_list ns as') ≡ ns
 list_named [] as' e = refl
 list_named (n ∷ ns) [] e = absurd (omega arith)
 list_named (n ∷ ns) (a ∷ as') e = ap (λ ms. n ∷ ms) (list_named ns as' (omega arith))
@@ -41,12 +42,14 @@ signatures_long [] as' = omega arith
 signatures_long (n ∷ ns) [] = omega arith
 signatures_long (n ∷ ns) (a ∷ as') = omega (arith, signatures_long ns as')
 
-list_few : (ns : List (List ℕ)) (as' : List ℕ) → list_all (λ a. nat_le a 8) as' ≡ true → list_all (λ (s : Signature). nat_le s.arity 8) (signature_list ns as') ≡ true
+list_few : (ns : List (List ℕ)) (as' : List ℕ) → list_all (λ a. nat_le a 8) as' ≡ true
+    → list_all (λ (s : Signature). nat_le s.arity 8) (signature_list ns as') ≡ true
 list_few [] as' e = refl
 list_few (n ∷ ns) [] e = refl
 list_few (n ∷ ns) (a ∷ as') e = and_from (nat_le a 8) (list_all (λ (s : Signature). nat_le s.arity 8) (signature_list ns as')) (first_so (nat_le a 8) (list_all (λ b. nat_le b 8) as') e) (list_few ns as' (second_so (nat_le a 8) (list_all (λ b. nat_le b 8) as') e))
 
-pub signatures_fit : (most : ℕ) (s : Signed) (all : List Signature) → IsSigned most s → most ≤ 8388608 → all ≡ signature_list s.names s.arities → AreFitSignatures all
+pub signatures_fit : (most : ℕ) (s : Signed) (all : List Signature) → IsSigned most s
+    → most ≤ 8388608 → all ≡ signature_list s.names s.arities → AreFitSignatures all
 signatures_fit most s all i few e =
     subst AreFitSignatures (sym e) (
     record {
@@ -59,11 +62,16 @@ signatures_fit most s all i few e =
 -- ---- constants
 
 module _ (whole : Vocabulary) (heads : List (List ℕ)) (typed : 0 < length whole.sorts) where
-  constants_item : (t : Typed) (it : Item) (rest : Trees) → IsClean whole heads it rest → AreTyped (length whole.sorts) t → AreTyped (length whole.sorts) (if is_constants it then declare_each t (named_words Start rest) (named_sorts whole.sorts Start 0 rest) else t)
-  constants_item t item.Constants rest c a = typed_groups whole.sorts t c.place rest typed a c.formed c.named
+  constants_item : (t : Typed) (it : Item) (rest : Trees) → IsClean whole heads it rest
+      → AreTyped (length whole.sorts) t
+      → AreTyped (length whole.sorts) (if is_constants it then declare_each t (named_words Start rest) (named_sorts whole.sorts Start 0 rest) else t)
+  constants_item t item.Constants rest c a =
+      typed_groups whole.sorts t c.place rest typed a c.formed c.named
   constants_item t _ rest c a = a
 
-  constants_typed : (t : Typed) (body : Trees) → AreClean whole heads body → AreTyped (length whole.sorts) t → AreTyped (length whole.sorts) (constants_in whole.sorts t body)
+  constants_typed : (t : Typed) (body : Trees) → AreClean whole heads body
+      → AreTyped (length whole.sorts) t
+      → AreTyped (length whole.sorts) (constants_in whole.sorts t body)
   constants_typed t nothing c a = a
   constants_typed t (word w at rest) c a = constants_typed t rest c a
   constants_typed t (list items at rest) c a =
@@ -71,11 +79,16 @@ module _ (whole : Vocabulary) (heads : List (List ℕ)) (typed : 0 < length whol
       constants_typed (if is_constants it then declare_each t (named_words Start (tail_of items)) (named_sorts whole.sorts Start 0 (tail_of items)) else t) rest c.1 (constants_item t it (tail_of items) c.0 a)
 
 -- the constants are those of the table
-same_item : (sorts : List (List ℕ)) (v : Vocabulary) (t : Typed) (it : Item) (rest : Trees) → t.names ≡ v.objects → (if is_constants it then declare_each t (named_words Start rest) (named_sorts sorts Start 0 rest) else t).names ≡ (with_item v it rest).objects
-same_item sorts v t item.Constants rest e = groups_declared sorts t rest ∙ ap (λ names. with_names names (named_words Start rest)) e ∙ sym (seen_names v.objects Start rest)
+same_item : (sorts : List (List ℕ)) (v : Vocabulary) (t : Typed) (it : Item) (rest : Trees)
+    → t.names ≡ v.objects
+    → (if is_constants it then declare_each t (named_words Start rest) (named_sorts sorts Start 0 rest) else t).names ≡ (with_item v it rest).objects
+same_item sorts v t item.Constants rest e =
+    groups_declared sorts t rest ∙ ap (λ names. with_names names (named_words Start rest)) e
+    ∙ sym (seen_names v.objects Start rest)
 same_item sorts v t _ rest e = e
 
-same_constants : (sorts : List (List ℕ)) (v : Vocabulary) (t : Typed) (body : Trees) → t.names ≡ v.objects → (constants_in sorts t body).names ≡ (with_items v body).objects
+same_constants : (sorts : List (List ℕ)) (v : Vocabulary) (t : Typed) (body : Trees)
+    → t.names ≡ v.objects → (constants_in sorts t body).names ≡ (with_items v body).objects
 same_constants sorts v t nothing e = e
 same_constants sorts v t (word w at rest) e = same_constants sorts v t rest e
 same_constants sorts v t (list items at rest) e =
@@ -123,5 +136,7 @@ module _ (t : Trees) (d : domain.Domain) (heads : List (List ℕ)) (clean : AreC
     functions = parts.functions;
     sorts = many_sorts;
     typed = some_type;
-    objects_long = ap length parts.constants ∙ list_long typed.names typed.sorts are_typed.even ∙ ap length same;
+    objects_long =
+        ap length parts.constants ∙ list_long typed.names typed.sorts are_typed.even
+        ∙ ap length same;
   }

@@ -42,10 +42,13 @@ pub record IsTable (most : ℕ) (names : List (List ℕ)) : Type 0 where
   pub named : list_all is_name names ≡ true
   pub few : length names ≤ most
 
-pub table_more : (most more : ℕ) (names : List (List ℕ)) → most ≤ more → IsTable most names → IsTable more names
-table_more most more names le t = record { distinct = t.distinct; named = t.named; few = omega (arith, t.few) }
+pub table_more : (most more : ℕ) (names : List (List ℕ)) → most ≤ more → IsTable most names
+    → IsTable more names
+table_more most more names le t =
+    record { distinct = t.distinct; named = t.named; few = omega (arith, t.few) }
 
-pub table_with : (most : ℕ) (names : List (List ℕ)) (name : List ℕ) → IsTable most names → is_name name ≡ true → IsTable (most + 1) (with_name names name)
+pub table_with : (most : ℕ) (names : List (List ℕ)) (name : List ℕ) → IsTable most names
+    → is_name name ≡ true → IsTable (most + 1) (with_name names name)
 table_with most names name t one = record { distinct = distinct_with names name t.distinct; named = named_with names name t.named one; few = omega (arith, t.few, length_with names name) }
 
 -- all names of the list are names of the table
@@ -61,19 +64,28 @@ known_with names name n h =
 
 -- ---- types
 
-type_there : (spot : Spot) (text : List ℕ) (place at : ℕ) (rest : Trees) → is_dash text ≡ false → groups_faults Name place spot (word text at rest) ≡ [] → is_name text ≡ true
-type_there Start text place at rest other e = (chosen (is_name text) (groups_faults Name place Named rest) (shape at) [] e).0
+type_there : (spot : Spot) (text : List ℕ) (place at : ℕ) (rest : Trees) → is_dash text ≡ false
+    → groups_faults Name place spot (word text at rest) ≡ [] → is_name text ≡ true
+type_there Start text place at rest other e =
+    (chosen (is_name text) (groups_faults Name place Named rest) (shape at) [] e).0
 type_there Named text place at rest other e =
     let f : (if is_name text then groups_faults Name place Named rest else shape at ∷ []) ≡ [] = subst (λ b. (if (if b then true else is_name text) then groups_faults Name place (if b then Typed else Named) rest else shape at ∷ []) ≡ []) other e in
     (chosen (is_name text) (groups_faults Name place Named rest) (shape at) [] f).0
-type_there Typed text place at rest other e = (chosen (is_name text) (groups_faults Name place Start rest) (shape at) [] e).0
+type_there Typed text place at rest other e =
+    (chosen (is_name text) (groups_faults Name place Start rest) (shape at) [] e).0
 
-pub rest_formed : (spot : Spot) (text : List ℕ) (place at : ℕ) (rest : Trees) → groups_faults Name place spot (word text at rest) ≡ [] → groups_faults Name place (after_word spot text) rest ≡ []
-rest_formed Start text place at rest e = (chosen (is_name text) (groups_faults Name place Named rest) (shape at) [] e).1
+pub rest_formed : (spot : Spot) (text : List ℕ) (place at : ℕ) (rest : Trees)
+    → groups_faults Name place spot (word text at rest) ≡ []
+    → groups_faults Name place (after_word spot text) rest ≡ []
+rest_formed Start text place at rest e =
+    (chosen (is_name text) (groups_faults Name place Named rest) (shape at) [] e).1
 rest_formed Named text place at rest e = (chosen (if is_dash text then true else is_name text) (groups_faults Name place (after_word Named text) rest) (shape at) [] e).1
-rest_formed Typed text place at rest e = (chosen (is_name text) (groups_faults Name place Start rest) (shape at) [] e).1
+rest_formed Typed text place at rest e =
+    (chosen (is_name text) (groups_faults Name place Start rest) (shape at) [] e).1
 
-pub types_table : (most place : ℕ) (spot : Spot) (names : List (List ℕ)) (ts : Trees) → IsTable most names → groups_faults Name place spot ts ≡ [] → IsTable (most + size ts) (types_in names ts)
+pub types_table : (most place : ℕ) (spot : Spot) (names : List (List ℕ)) (ts : Trees)
+    → IsTable most names → groups_faults Name place spot ts ≡ []
+    → IsTable (most + size ts) (types_in names ts)
 types_table most place spot names nothing t e = table_more most (most + 0) names (omega arith) t
 types_table most place spot names (list items at rest) t e = absurd (list_stands spot e)
   where
@@ -90,7 +102,8 @@ types_table most place spot names (word text at rest) t e =
 -- ---- constants
 
 -- words of names have letters
-pub words_few : (place : ℕ) (spot : Spot) (ts : Trees) → list_all is_name (named_words spot ts) ≡ true → length (named_words spot ts) ≤ size ts
+pub words_few : (place : ℕ) (spot : Spot) (ts : Trees)
+    → list_all is_name (named_words spot ts) ≡ true → length (named_words spot ts) ≤ size ts
 words_few place spot nothing e = omega arith
 words_few place spot (list items at rest) e = omega arith
 words_few place spot (word text at rest) e =
@@ -99,7 +112,8 @@ words_few place spot (word text at rest) e =
       | false ↦ λ f. omega (arith, words_few place (after_word spot text) rest f)
     ] e
 
-pub seen_table : (most place : ℕ) (names : List (List ℕ)) (ts : Trees) → IsTable most names → groups_faults Name place Start ts ≡ [] → IsTable (most + size ts) (seen_after names Start ts)
+pub seen_table : (most place : ℕ) (names : List (List ℕ)) (ts : Trees) → IsTable most names
+    → groups_faults Name place Start ts ≡ [] → IsTable (most + size ts) (seen_after names Start ts)
 seen_table most place names ts t e =
     let own = words_are_names place Start ts e in
     subst (IsTable (most + size ts)) (sym (seen_names names Start ts)) (
@@ -118,15 +132,20 @@ pub record IsSigned (most : ℕ) (s : Signed) : Type 0 where
   pub arities : list_all (λ a. nat_le a 8) s.arities ≡ true
 
 pub signed_more : (most more : ℕ) (s : Signed) → most ≤ more → IsSigned most s → IsSigned more s
-signed_more most more s le i = record { table = table_more most more s.names le i.table; even = i.even; arities = i.arities }
+signed_more most more s le i =
+    record { table = table_more most more s.names le i.table; even = i.even; arities = i.arities }
 
-pub signed_with : (most : ℕ) (s : Signed) (name : List ℕ) (arity : ℕ) → IsSigned most s → is_name name ≡ true → nat_le arity 8 ≡ true → IsSigned (most + 1) (with_signature s name arity)
+pub signed_with : (most : ℕ) (s : Signed) (name : List ℕ) (arity : ℕ) → IsSigned most s
+    → is_name name ≡ true → nat_le arity 8 ≡ true
+    → IsSigned (most + 1) (with_signature s name arity)
 signed_with most s name arity i one few =
     elim (has_name name s.names) as (λ b. has_name name s.names ≡ b → IsSigned (most + 1) (cond b s (record { names = s.names ++ name ∷ []; arities = s.arities ++ arity ∷ [] }))) [
       | true ↦ λ _. signed_more most (most + 1) s (omega arith) i
       | false ↦ λ absent. record {
         table = subst (λ b. IsTable (most + 1) (cond b s.names (s.names ++ name ∷ []))) absent (table_with most s.names name i.table one);
-        even = length-append s.names (name ∷ []) ∙ ap (λ n. n + 1) i.even ∙ sym (length-append s.arities (arity ∷ []));
+        even =
+            length-append s.names (name ∷ []) ∙ ap (λ n. n + 1) i.even
+            ∙ sym (length-append s.arities (arity ∷ []));
         arities = all_push (λ a. nat_le a 8) s.arities arity i.arities few;
       }
     ] refl
@@ -134,16 +153,21 @@ signed_with most s name arity i one few =
 pub predicate_name : (text : List ℕ) → is_predicate_name text ≡ true → is_name text ≡ true
 predicate_name text e = first_so (is_name text) (not (is_connective text)) (first_so (is_name text && not (is_connective text)) (not (is_change text)) e)
 
-head_named : (head : WordSort) (place : ℕ) (items : Trees) → ((text : List ℕ) → is_of head text ≡ true → is_name text ≡ true) → declaration_faults head place items ≡ [] → is_name (head_of items) ≡ true
+head_named : (head : WordSort) (place : ℕ) (items : Trees)
+    → ((text : List ℕ) → is_of head text ≡ true → is_name text ≡ true)
+    → declaration_faults head place items ≡ [] → is_name (head_of items) ≡ true
 head_named head place nothing names e = absurd (some_fault (shape place) [] e)
 head_named head place (list items at rest) names e = absurd (some_fault (shape at) [] e)
 head_named head place (word text at rest) names e = names text (chosen (is_of head text) (groups_faults Variable place Start rest) (shape at) [] e).0
 
 -- a declaration has at most 8 variables
-pub few_declared : (sorts : List (List ℕ)) (place : ℕ) (vars : Trees) → declaration_names sorts place vars ≡ [] → nat_le (length (named_words Start vars)) 8 ≡ true
+pub few_declared : (sorts : List (List ℕ)) (place : ℕ) (vars : Trees)
+    → declaration_names sorts place vars ≡ [] → nat_le (length (named_words Start vars)) 8 ≡ true
 few_declared sorts place vars e = met (nat_le (length (named_words Start vars)) 8) TooMany place (append_nil_second (types_names sorts Start vars ++ doubles_names [] Start vars) (unless (nat_le (length (named_words Start vars)) 8) TooMany place) e)
 
-pub predicates_signed : (most : ℕ) (sorts : List (List ℕ)) (s : Signed) (ts : Trees) → IsSigned most s → predicates_faults ts ≡ [] → predicates_names sorts ts ≡ [] → IsSigned (most + size ts) (predicates_in s ts)
+pub predicates_signed : (most : ℕ) (sorts : List (List ℕ)) (s : Signed) (ts : Trees)
+    → IsSigned most s → predicates_faults ts ≡ [] → predicates_names sorts ts ≡ []
+    → IsSigned (most + size ts) (predicates_in s ts)
 predicates_signed most sorts s nothing i f n = signed_more most (most + 0) s (omega arith) i
 predicates_signed most sorts s (word text at rest) i f n = absurd (some_fault (shape at) [] f)
 predicates_signed most sorts s (list items at rest) i f n =
@@ -153,27 +177,34 @@ predicates_signed most sorts s (list items at rest) i f n =
     signed_more (most + 1 + size rest) (most + (size items + 2 + size rest)) (predicates_in s' rest) (omega arith)
     (predicates_signed (most + 1) sorts s' rest (signed_with most s (head_of items) (length (named_words Start (tail_of items))) i name few) (append_nil_second (declaration_faults Predicate at items) (predicates_faults rest) f) (append_nil_second (declaration_names sorts at (tail_of items)) (predicates_names sorts rest) n))
 
-few_arguments : (name : List ℕ) (vars : Trees) → nat_le (length (named_words Start vars)) 8 ≡ true → nat_le (declared_arity name vars) 8 ≡ true
+few_arguments : (name : List ℕ) (vars : Trees) → nat_le (length (named_words Start vars)) 8 ≡ true
+    → nat_le (declared_arity name vars) 8 ≡ true
 few_arguments name vars few =
     elim (is_total_cost name) as (λ b. nat_le (if b then 0 else length (named_words Start vars)) 8 ≡ true) [
       | true ↦ refl
       | false ↦ few
     ]
 
-word_behind : (spot : Spot) (text : List ℕ) (at : ℕ) (behind : List Fault) → or_behind (function_word_fault spot text at) behind ≡ [] → behind ≡ []
+word_behind : (spot : Spot) (text : List ℕ) (at : ℕ) (behind : List Fault)
+    → or_behind (function_word_fault spot text at) behind ≡ [] → behind ≡ []
 word_behind spot text at behind e = by (function_word_fault spot text at) e
   where
     by : (o : Option Fault) → or_behind o behind ≡ [] → behind ≡ []
     by None f = f
     by (Some x) f = absurd (some_fault x [] f)
 
-list_formed : (spot : Spot) (items : Trees) (at : ℕ) (behind : List Fault) → function_list_faults spot items at behind ≡ [] → (declaration_faults Name at items ≡ []) × (behind ≡ [])
+list_formed : (spot : Spot) (items : Trees) (at : ℕ) (behind : List Fault)
+    → function_list_faults spot items at behind ≡ []
+    → (declaration_faults Name at items ≡ []) × (behind ≡ [])
 list_formed Start items at behind e = (append_nil_first (declaration_faults Name at items) behind e, append_nil_second (declaration_faults Name at items) behind e)
 list_formed Named items at behind e = (append_nil_first (declaration_faults Name at items) behind e, append_nil_second (declaration_faults Name at items) behind e)
 list_formed Typed items at behind e = absurd (some_fault (list_fault Typed items at) [] e)
 
-pub functions_signed : (most place : ℕ) (spot : Spot) (sorts : List (List ℕ)) (s : Signed) (ts : Trees) → IsSigned most s → functions_faults place spot ts ≡ [] → functions_names sorts ts ≡ [] → IsSigned (most + size ts) (functions_in s ts)
-functions_signed most place spot sorts s nothing i f n = signed_more most (most + 0) s (omega arith) i
+pub functions_signed : (most place : ℕ) (spot : Spot) (sorts : List (List ℕ)) (s : Signed) (ts : Trees)
+    → IsSigned most s → functions_faults place spot ts ≡ [] → functions_names sorts ts ≡ []
+    → IsSigned (most + size ts) (functions_in s ts)
+functions_signed most place spot sorts s nothing i f n =
+    signed_more most (most + 0) s (omega arith) i
 functions_signed most place spot sorts s (word text at rest) i f n =
     signed_more (most + size rest) (most + (length text + size rest)) (functions_in s rest) (omega arith) (functions_signed most place (after_function_word spot) sorts s rest i (word_behind spot text at (functions_faults place (after_function_word spot) rest) f) n)
 functions_signed most place spot sorts s (list items at rest) i f n =
@@ -195,7 +226,8 @@ pub record AreTables (most : ℕ) (v : Vocabulary) : Type 0 where
   pub functions : IsSigned most v.functions
   pub objects : IsTable most v.objects
 
-pub tables_more : (most more : ℕ) (v : Vocabulary) → most ≤ more → AreTables most v → AreTables more v
+pub tables_more : (most more : ℕ) (v : Vocabulary) → most ≤ more → AreTables most v
+    → AreTables more v
 tables_more most more v le a = record {
   sorts = table_more most more v.sorts le a.sorts;
   object = a.object;
@@ -204,7 +236,8 @@ tables_more most more v le a = record {
   objects = table_more most more v.objects le a.objects;
 }
 
-first_with : (names : List (List ℕ)) (name first : List ℕ) → slice_get names 0 ≡ Some first → slice_get (with_name names name) 0 ≡ Some first
+first_with : (names : List (List ℕ)) (name first : List ℕ) → slice_get names 0 ≡ Some first
+    → slice_get (with_name names name) 0 ≡ Some first
 first_with [] name first e = absurd (cc)
 first_with (n ∷ ns) name first e =
     elim (has_name name (n ∷ ns)) as (λ b. slice_get (cond b (n ∷ ns) (n ∷ ns ++ name ∷ [])) 0 ≡ Some first) [
@@ -212,7 +245,8 @@ first_with (n ∷ ns) name first e =
       | false ↦ e
     ]
 
-types_first : (names : List (List ℕ)) (ts : Trees) (first : List ℕ) → slice_get names 0 ≡ Some first → slice_get (types_in names ts) 0 ≡ Some first
+types_first : (names : List (List ℕ)) (ts : Trees) (first : List ℕ) → slice_get names 0 ≡ Some first
+    → slice_get (types_in names ts) 0 ≡ Some first
 types_first names nothing first e = e
 types_first names (list items at rest) first e = types_first names rest first e
 types_first names (word text at rest) first e =
@@ -223,7 +257,8 @@ types_first names (word text at rest) first e =
     ])
 
 module _ (whole : Vocabulary) (heads : List (List ℕ)) where
-  tables_item : (most : ℕ) (v : Vocabulary) (it : Item) (rest : Trees) → IsClean whole heads it rest → AreTables most v → AreTables (most + size rest) (with_item v it rest)
+  tables_item : (most : ℕ) (v : Vocabulary) (it : Item) (rest : Trees) → IsClean whole heads it rest
+      → AreTables most v → AreTables (most + size rest) (with_item v it rest)
   tables_item most v item.Types rest c a =
       let more = tables_more most (most + size rest) v (omega arith) a in
       record { sorts = types_table most c.place Start v.sorts rest a.sorts c.formed; object = types_first v.sorts rest (codes "object") a.object; predicates = more.predicates; functions = more.functions; objects = more.objects }
@@ -238,7 +273,8 @@ module _ (whole : Vocabulary) (heads : List (List ℕ)) where
       record { sorts = more.sorts; object = a.object; predicates = more.predicates; functions = functions_signed most c.place Start whole.sorts v.functions rest a.functions c.formed c.named; objects = more.objects }
   tables_item most v _ rest c a = tables_more most (most + size rest) v (omega arith) a
 
-  tables_items : (most : ℕ) (v : Vocabulary) (body : Trees) → AreClean whole heads body → AreTables most v → AreTables (most + size body) (with_items v body)
+  tables_items : (most : ℕ) (v : Vocabulary) (body : Trees) → AreClean whole heads body
+      → AreTables most v → AreTables (most + size body) (with_items v body)
   tables_items most v nothing c a = tables_more most (most + 0) v (omega arith) a
   tables_items most v (word w at rest) c a = tables_more (most + size rest) (most + (length w + size rest)) (with_items v rest) (omega arith) (tables_items most v rest c a)
   tables_items most v (list items at rest) c a =
@@ -256,7 +292,8 @@ tables_first = record {
 }
 
 -- the tables of a domain with such items
-pub tables_fit : (heads : List (List ℕ)) (body : Trees) → AreClean (vocabulary_of body) heads body → AreTables (size body + 2) (vocabulary_of body)
+pub tables_fit : (heads : List (List ℕ)) (body : Trees) → AreClean (vocabulary_of body) heads body
+    → AreTables (size body + 2) (vocabulary_of body)
 tables_fit heads body c =
     let v = with_items no_names body in
     let a = tables_items (vocabulary_of body) heads 1 no_names body c tables_first in

@@ -30,7 +30,8 @@ use Rattle.domain_reader.specs.Names.{counts_as_derived, crowded, seen_once, too
 use Rattle.domain_reader.specs.Tables.{headed, heads_in, is_derived}
 
 -- a role is Derived where an item heads the predicate
-pub derived_by : (d : domain.Domain) (pred : ℕ) → is_derived_role (role_of d pred) ≡ roles.is_derived d pred
+pub derived_by : (d : domain.Domain) (pred : ℕ)
+    → is_derived_role (role_of d pred) ≡ roles.is_derived d pred
 unfolding role_of
 derived_by d pred =
     elim (roles.is_derived d pred) as (λ b. is_derived_role (if b then Derived else (if roles.is_changed d pred then Fluent else Static)) ≡ b) [
@@ -59,9 +60,11 @@ heads_kept names (list items at rest) n h =
 abbrev counted_in : (predicates names : List (List ℕ)) → Trees → List (List ℕ)
 counted_in predicates names nothing = names
 counted_in predicates names (word w at rest) = counted_in predicates names rest
-counted_in predicates names (list items at rest) = counted_in predicates (seen_once (counts_as_derived predicates items) (headed items) names) rest
+counted_in predicates names (list items at rest) =
+    counted_in predicates (seen_once (counts_as_derived predicates items) (headed items) names) rest
 
-counted_kept : (predicates names : List (List ℕ)) (body : Trees) → Known names (counted_in predicates names body)
+counted_kept : (predicates names : List (List ℕ)) (body : Trees)
+    → Known names (counted_in predicates names body)
 counted_kept predicates names nothing n h = h
 counted_kept predicates names (word w at rest) n h = counted_kept predicates names rest n h
 counted_kept predicates names (list items at rest) n h =
@@ -81,7 +84,10 @@ module _ (v : Vocabulary) (clean_heads : List (List ℕ)) where
   abbrev predicates : List (List ℕ)
   predicates = v.predicates.names
 
-  headed_name : (items rest : Trees) (names counted : List (List ℕ)) (pred : ℕ) → is_derived (item_of text.Domain (head_of items)) ≡ true → IsClean v clean_heads (item_of text.Domain (head_of items)) (tail_of items) → ((rule_of v (tail_of items)).pred == pred) ≡ true →
+  headed_name : (items rest : Trees) (names counted : List (List ℕ)) (pred : ℕ)
+      → is_derived (item_of text.Domain (head_of items)) ≡ true
+      → IsClean v clean_heads (item_of text.Domain (head_of items)) (tail_of items)
+      → ((rule_of v (tail_of items)).pred == pred) ≡ true →
       IsDerivedName v (heads_in (if is_derived (item_of text.Domain (head_of items)) then with_name names (headed items) else names) rest) (counted_in predicates (seen_once (counts_as_derived predicates items) (headed items) counted) rest) pred
   headed_name items rest names counted pred e c same =
       let it = item_of text.Domain (head_of items) in
@@ -96,7 +102,9 @@ module _ (v : Vocabulary) (clean_heads : List (List ℕ)) where
         counts = subst (λ b. has_name (headed items) (counted_in predicates (if b then with_name counted (headed items) else counted) rest) ≡ true) (sym counts) (counted_kept predicates (with_name counted (headed items)) rest (headed items) (has_with counted (headed items)));
       }
 
-  pub headed_names : (names counted : List (List ℕ)) (body : Trees) (pred : ℕ) → AreClean v clean_heads body → list_any (is_headed pred) (rules_of v body) ≡ true → IsDerivedName v (heads_in names body) (counted_in predicates counted body) pred
+  pub headed_names : (names counted : List (List ℕ)) (body : Trees) (pred : ℕ)
+      → AreClean v clean_heads body → list_any (is_headed pred) (rules_of v body) ≡ true
+      → IsDerivedName v (heads_in names body) (counted_in predicates counted body) pred
   headed_names names counted nothing pred c h = absurd (cc)
   headed_names names counted (word w at rest) pred c h = headed_names names counted rest pred c h
   headed_names names counted (list items at rest) pred c h =
@@ -112,10 +120,12 @@ module _ (v : Vocabulary) (clean_heads : List (List ℕ)) where
 -- ---- an effect's predicate isn't derived
 
 module _ (d : domain.Domain) (v : Vocabulary) (clean_heads : List (List ℕ)) (body : Trees) (clean : AreClean v clean_heads body) (rules : d.derived ≡ rules_of v body) where
-  derived_named : (pred : ℕ) → is_derived_role (role_of d pred) ≡ true → IsDerivedName v (heads_in [] body) (counted_in v.predicates.names [] body) pred
+  derived_named : (pred : ℕ) → is_derived_role (role_of d pred) ≡ true
+      → IsDerivedName v (heads_in [] body) (counted_in v.predicates.names [] body) pred
   derived_named pred h = headed_names v clean_heads [] [] body pred clean (subst (λ rs. list_any (is_headed pred) rs ≡ true) rules (sym (derived_by d pred) ∙ h))
 
-  pub not_derived : (name : List ℕ) (pred : ℕ) → place_of name v.predicates.names ≡ Some pred → has_name name (heads_in [] body) ≡ false → is_derived_role (role_of d pred) ≡ false
+  pub not_derived : (name : List ℕ) (pred : ℕ) → place_of name v.predicates.names ≡ Some pred
+      → has_name name (heads_in [] body) ≡ false → is_derived_role (role_of d pred) ≡ false
   not_derived name pred at absent =
       false_from_ne_true (is_derived_role (role_of d pred))
       (λ h.
@@ -126,7 +136,8 @@ module _ (d : domain.Domain) (v : Vocabulary) (clean_heads : List (List ℕ)) (b
 
 -- ---- few predicates are derived
 
-counted_few : (predicates names : List (List ℕ)) (body : Trees) → length names ≤ 64 → too_many_derived predicates names body ≡ [] → length (counted_in predicates names body) ≤ 64
+counted_few : (predicates names : List (List ℕ)) (body : Trees) → length names ≤ 64
+    → too_many_derived predicates names body ≡ [] → length (counted_in predicates names body) ≤ 64
 counted_few predicates names nothing few n = few
 counted_few predicates names (word w at rest) few n = counted_few predicates names rest few n
 counted_few predicates names (list items at rest) few n =
@@ -138,7 +149,9 @@ counted_few predicates names (list items at rest) few n =
       | false ↦ λ m. counted_few predicates names rest few m
     ] n
   where
-    grown : (names : List (List ℕ)) (name : List ℕ) → length names ≤ 64 → (has_name name names || not (length names == 64)) ≡ true → length (with_name names name) ≤ 64
+    grown : (names : List (List ℕ)) (name : List ℕ) → length names ≤ 64
+        → (has_name name names || not (length names == 64)) ≡ true
+        → length (with_name names name) ≤ 64
     grown names name few room =
         elim (has_name name names) as (λ b. (b || not (length names == 64)) ≡ true → length (if b then names else names ++ name ∷ []) ≤ 64) [
           | true ↦ λ _. few
@@ -152,7 +165,8 @@ how_many p (x ∷ xs) = cond (p x) 1 0 + how_many p xs
 
 how_many_is : {A : Type 0} (p : A → Bool) (xs : List A) → count_by p xs ≡ how_many p xs
 how_many_is p [] = refl
-how_many_is p (x ∷ xs) = sum_by-cons (λ y. cond (p y) 1 0) x xs ∙ ap (λ n. cond (p x) 1 0 + n) (how_many_is p xs)
+how_many_is p (x ∷ xs) =
+    sum_by-cons (λ y. cond (p y) 1 0) x xs ∙ ap (λ n. cond (p x) 1 0 + n) (how_many_is p xs)
 
 -- at most one number of a row is this one
 one_counted : (m first count : ℕ) → how_many (λ k. m == k) (numbers_from first count) ≤ 1
@@ -163,13 +177,15 @@ one_counted m first (suc count) =
       | false ↦ λ _. omega (arith, one_counted m (first + 1) count)
     ] refl
   where
-    none_counted : (m first count : ℕ) → m < first → how_many (λ k. m == k) (numbers_from first count) ≡ 0
+    none_counted : (m first count : ℕ) → m < first
+        → how_many (λ k. m == k) (numbers_from first count) ≡ 0
     none_counted m first zero lt = refl
     none_counted m first (suc count) lt =
         ap (λ b. cond b 1 0 + how_many (λ k. m == k) (numbers_from (first + 1) count)) (false_from_ne_true (m == first) (λ e. omega (arith, eqb-true m first e)))
         ∙ ap (λ n. 0 + n) (none_counted m (first + 1) count (omega arith))
 
-either_counted : (p q : ℕ → Bool) (ks : List ℕ) → how_many (λ k. p k || q k) ks ≤ how_many p ks + how_many q ks
+either_counted : (p q : ℕ → Bool) (ks : List ℕ)
+    → how_many (λ k. p k || q k) ks ≤ how_many p ks + how_many q ks
 either_counted p q [] = omega arith
 either_counted p q (k ∷ ks) =
     elim (p k) as (λ b. cond (b || q k) 1 0 + how_many (λ n. p n || q n) ks ≤ (cond b 1 0 + how_many p ks) + (cond (q k) 1 0 + how_many q ks)) [
@@ -177,13 +193,15 @@ either_counted p q (k ∷ ks) =
       | false ↦ omega (arith, either_counted p q ks)
     ]
 
-among_counted : (ms : List ℕ) (first count : ℕ) → how_many (λ k. list_any (λ m. m == k) ms) (numbers_from first count) ≤ length ms
+among_counted : (ms : List ℕ) (first count : ℕ)
+    → how_many (λ k. list_any (λ m. m == k) ms) (numbers_from first count) ≤ length ms
 among_counted [] first zero = omega arith
 among_counted [] first (suc count) = omega (arith, among_counted [] (first + 1) count)
 among_counted (m ∷ ms) first count =
     omega (arith, either_counted (λ k. m == k) (λ k. list_any (λ n. n == k) ms) (numbers_from first count), one_counted m first count, among_counted ms first count)
 
-fewer_counted : (p q : ℕ → Bool) → ((k : ℕ) → p k ≡ true → q k ≡ true) → (ks : List ℕ) → how_many p ks ≤ how_many q ks
+fewer_counted : (p q : ℕ → Bool) → ((k : ℕ) → p k ≡ true → q k ≡ true) → (ks : List ℕ)
+    → how_many p ks ≤ how_many q ks
 fewer_counted p q so [] = omega arith
 fewer_counted p q so (k ∷ ks) =
     elim (p k) as (λ b. p k ≡ b → cond b 1 0 + how_many p ks ≤ cond (q k) 1 0 + how_many q ks) [
@@ -191,7 +209,8 @@ fewer_counted p q so (k ∷ ks) =
       | false ↦ λ _. omega (arith, fewer_counted p q so ks)
     ] refl
 
-mapped_counted : {A B : Type 0} (f : A → B) (p : B → Bool) (xs : List A) → how_many p (map f xs) ≡ how_many (λ x. p (f x)) xs
+mapped_counted : {A B : Type 0} (f : A → B) (p : B → Bool) (xs : List A)
+    → how_many p (map f xs) ≡ how_many (λ x. p (f x)) xs
 mapped_counted f p [] = refl
 mapped_counted f p (x ∷ xs) = ap (λ n. cond (p (f x)) 1 0 + n) (mapped_counted f p xs)
 
@@ -199,14 +218,20 @@ mapped_counted f p (x ∷ xs) = ap (λ n. cond (p (f x)) 1 0 + n) (mapped_counte
 abbrev places_in : List (List ℕ) → List (List ℕ) → List ℕ
 places_in table names = map (λ name. unwrap_or (place_of name table) 0) names
 
-place_among : (table names : List (List ℕ)) (name : List ℕ) (i k : ℕ) → slice_get names i ≡ Some name → place_of name table ≡ Some k → list_any (λ m. m == k) (places_in table names) ≡ true
+place_among : (table names : List (List ℕ)) (name : List ℕ) (i k : ℕ)
+    → slice_get names i ≡ Some name → place_of name table ≡ Some k
+    → list_any (λ m. m == k) (places_in table names) ≡ true
 place_among table [] name i k e at = absurd (cc)
 place_among table (n ∷ ns) name zero k e at =
     let same : n ≡ name = same_Some n name e in
     or_left (unwrap_or (place_of n table) 0 == k) (list_any (λ m. m == k) (places_in table ns)) (eq-eqb (unwrap_or (place_of n table) 0) k (ap (λ m. unwrap_or (place_of m table) 0) same ∙ ap (λ o. unwrap_or o 0) at))
 place_among table (n ∷ ns) name (suc i) k e at = or_right (unwrap_or (place_of n table) 0 == k) (list_any (λ m. m == k) (places_in table ns)) (place_among table ns name i k e at)
 
-pub few_derived : (d : domain.Domain) (v : Vocabulary) (clean_heads : List (List ℕ)) (body : Trees) → AreClean v clean_heads body → d.derived ≡ rules_of v body → too_many_derived v.predicates.names [] body ≡ [] → d.roles ≡ map (role_of d) (numbers_from 0 (length d.predicates)) → count_by is_derived_role d.roles ≤ 64
+pub few_derived : (d : domain.Domain) (v : Vocabulary) (clean_heads : List (List ℕ)) (body : Trees)
+    → AreClean v clean_heads body → d.derived ≡ rules_of v body
+    → too_many_derived v.predicates.names [] body ≡ []
+    → d.roles ≡ map (role_of d) (numbers_from 0 (length d.predicates))
+    → count_by is_derived_role d.roles ≤ 64
 few_derived d v clean_heads body clean rules none roles =
     let table = v.predicates.names in
     let counted = counted_in table [] body in

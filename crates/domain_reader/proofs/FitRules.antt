@@ -37,7 +37,8 @@ use Rattle.domain_reader.specs.Names.{declaration_names, derived_names, head_nam
 use Rattle.domain_reader.specs.Tables.{is_derived}
 
 -- a name that is used without fault is there
-pub place_used : (s : Signed) (o : Option ℕ) (count at place : ℕ) → use_names (arity_at s o) count at place ≡ [] → (p : ℕ) × (o ≡ Some p)
+pub place_used : (s : Signed) (o : Option ℕ) (count at place : ℕ)
+    → use_names (arity_at s o) count at place ≡ [] → (p : ℕ) × (o ≡ Some p)
 place_used s None count at place e = absurd (cc)
 place_used s (Some p) count at place e = (p, refl)
 
@@ -49,8 +50,10 @@ pub record IsRule (v : Vocabulary) (rest : Trees) : Type 0 where
   pub formed : derived_faults place rest ≡ []
   pub named : derived_names v rest ≡ []
 
-pub derived_rule : (v : Vocabulary) (heads : List (List ℕ)) (it : Item) (rest : Trees) → is_derived it ≡ true → IsClean v heads it rest → IsRule v rest
-derived_rule v heads item.Derived rest e c = record { place = c.place; formed = c.formed; named = c.named }
+pub derived_rule : (v : Vocabulary) (heads : List (List ℕ)) (it : Item) (rest : Trees)
+    → is_derived it ≡ true → IsClean v heads it rest → IsRule v rest
+derived_rule v heads item.Derived rest e c =
+    record { place = c.place; formed = c.formed; named = c.named }
 derived_rule v heads _ rest e c = absurd (cc)
 
 -- its head and its body have no faults
@@ -108,20 +111,24 @@ module _ (v : Vocabulary) (rest : Trees) (h : IsHeaded v rest) where
 
 -- ---- the predicate of an item
 
-pub rule_there : (v : Vocabulary) (rest : Trees) → IsRule v rest → (p : ℕ) × (place_of (head_of (inner_of rest)) v.predicates.names ≡ Some p)
+pub rule_there : (v : Vocabulary) (rest : Trees) → IsRule v rest
+    → (p : ℕ) × (place_of (head_of (inner_of rest)) v.predicates.names ≡ Some p)
 rule_there v rest r = head_there v rest (rule_headed v rest r)
 
 -- no fault of its body
-pub rule_body : (v : Vocabulary) (rest : Trees) → IsRule v rest → conditions_names v (named_words Start (tail_of (inner_of rest))) (tail_of rest) ≡ []
+pub rule_body : (v : Vocabulary) (rest : Trees) → IsRule v rest
+    → conditions_names v (named_words Start (tail_of (inner_of rest))) (tail_of rest) ≡ []
 rule_body v rest r = (rule_headed v rest r).body_named
 
-pub rule_pred : (v : Vocabulary) (rest : Trees) (p : ℕ) → place_of (head_of (inner_of rest)) v.predicates.names ≡ Some p → (rule_of v rest).pred ≡ p
+pub rule_pred : (v : Vocabulary) (rest : Trees) (p : ℕ)
+    → place_of (head_of (inner_of rest)) v.predicates.names ≡ Some p → (rule_of v rest).pred ≡ p
 rule_pred v rest p e = ap (λ o. unwrap_or o 0) e
 
 -- ---- fitness
 
 module _ (v : Vocabulary) (d : domain.Domain) (knows : Knows v d (length d.constants)) where
-  rule_fits : (rest : Trees) → IsRule v rest → size rest ≤ 8388608 → depth rest ≤ 64 → is_fit_item d (rule_of v rest) ≡ true
+  rule_fits : (rest : Trees) → IsRule v rest → size rest ≤ 8388608 → depth rest ≤ 64
+      → is_fit_item d (rule_of v rest) ≡ true
   rule_fits rest r small shallow =
       let h = rule_headed v rest r in
       let vars = tail_of (inner_of rest) in
@@ -139,14 +146,17 @@ module _ (v : Vocabulary) (d : domain.Domain) (knows : Knows v d (length d.const
       and_from (are_fit_params d params && has_arity d.predicates (rule_of v rest).pred (length params)) (is_fit_condition d (length d.constants) (numbers_from 0 (length params)) (rule_of v rest).body)
       (and_from (are_fit_params d params) (has_arity d.predicates (rule_of v rest).pred (length params)) (and_from (nat_le (length params) 16) (are_places (length d.sorts) params) counted places) arity) body
 
-  here_fits : (heads : List (List ℕ)) (it : Item) (rest : Trees) → IsClean v heads it rest → size rest ≤ 8388608 → depth rest ≤ 64 → list_all (is_fit_item d) (if is_derived it then rule_of v rest ∷ [] else []) ≡ true
+  here_fits : (heads : List (List ℕ)) (it : Item) (rest : Trees) → IsClean v heads it rest
+      → size rest ≤ 8388608 → depth rest ≤ 64
+      → list_all (is_fit_item d) (if is_derived it then rule_of v rest ∷ [] else []) ≡ true
   here_fits heads it rest c small shallow =
       elim (is_derived it) as (λ b. is_derived it ≡ b → list_all (is_fit_item d) (if b then rule_of v rest ∷ [] else []) ≡ true) [
         | true ↦ λ e. and_from (is_fit_item d (rule_of v rest)) true (rule_fits rest (derived_rule v heads it rest e c) small shallow) refl
         | false ↦ λ _. refl
       ] refl
 
-  pub rules_fit : (heads : List (List ℕ)) (body : Trees) → AreClean v heads body → size body ≤ 8388608 → depth body ≤ 64 → list_all (is_fit_item d) (rules_of v body) ≡ true
+  pub rules_fit : (heads : List (List ℕ)) (body : Trees) → AreClean v heads body
+      → size body ≤ 8388608 → depth body ≤ 64 → list_all (is_fit_item d) (rules_of v body) ≡ true
   rules_fit heads nothing c small shallow = refl
   rules_fit heads (word w at rest) c small shallow = rules_fit heads rest c (omega arith) shallow
   rules_fit heads (list items at rest) c small shallow =

@@ -52,25 +52,31 @@ types_kept names (word text at rest) n h =
 -- all words of a row but dashes are types
 abbrev RowKnown : List (List ℕ) → Trees → Type 0
 RowKnown table nothing = Unit {0}
-RowKnown table (word text at rest) = (is_dash text ≡ false → has_name text table ≡ true) × RowKnown table rest
+RowKnown table (word text at rest) =
+    (is_dash text ≡ false → has_name text table ≡ true) × RowKnown table rest
 RowKnown table (list items at rest) = RowKnown table rest
 
-row_known : (names table : List (List ℕ)) (ts : Trees) → Known (types_in names ts) table → RowKnown table ts
+row_known : (names table : List (List ℕ)) (ts : Trees) → Known (types_in names ts) table
+    → RowKnown table ts
 row_known names table nothing k = tt
 row_known names table (list items at rest) k = row_known names table rest k
 row_known names table (word text at rest) k =
     (λ other. here other k, row_known (cond (is_dash text) names (with_name names text)) table rest k)
   where
-    here : is_dash text ≡ false → Known (types_in (cond (is_dash text) names (with_name names text)) rest) table → has_name text table ≡ true
+    here : is_dash text ≡ false
+        → Known (types_in (cond (is_dash text) names (with_name names text)) rest) table
+        → has_name text table ≡ true
     here other known = subst (λ b. Known (types_in (cond b names (with_name names text)) rest) table) other known text (types_kept (with_name names text) rest text (has_with names text))
 
 dash_no_name : (text : List ℕ) → is_name text ≡ true → is_dash text ≡ false
 dash_no_name text e = false_from_ne_true (is_dash text) (λ h. let f : is_name (codes "-") ≡ true = subst (λ t. is_name t ≡ true) (same_name text (codes "-") h) e in cc)
 
-types_known : (table : List (List ℕ)) (place : ℕ) (spot : Spot) (ts : Trees) → groups_faults Name place spot ts ≡ [] → RowKnown table ts → types_names table spot ts ≡ []
+types_known : (table : List (List ℕ)) (place : ℕ) (spot : Spot) (ts : Trees)
+    → groups_faults Name place spot ts ≡ [] → RowKnown table ts → types_names table spot ts ≡ []
 types_known table place spot nothing f k = refl
 types_known table place spot (list items at rest) f k = refl
-types_known table place Start (word text at rest) f k = types_known table place Named rest (rest_formed Start text place at rest f) k.1
+types_known table place Start (word text at rest) f k =
+    types_known table place Named rest (rest_formed Start text place at rest f) k.1
 types_known table place Named (word text at rest) f k = types_known table place (after_word Named text) rest (rest_formed Named text place at rest f) k.1
 types_known table place Typed (word text at rest) f k =
     let one : is_name text ≡ true = (chosen (is_name text) (groups_faults Name place Start rest) (shape at) [] f).0 in
@@ -100,14 +106,17 @@ module _ (sorts : List (List ℕ)) (L : ℕ → Type 0) where
   Lists cs = (k : ℕ) → is_candidate cs k ≡ true → L k
 
   -- the word is listed: it was seen, or it is a candidate here
-  word_listed : (seen : List (List ℕ)) (text : List ℕ) (at : ℕ) → SeenListed seen → Lists (if not (has_name text seen) then record { node = sort_of sorts text; place = at } ∷ [] else []) → L (sort_of sorts text)
+  word_listed : (seen : List (List ℕ)) (text : List ℕ) (at : ℕ) → SeenListed seen
+      → Lists (if not (has_name text seen) then record { node = sort_of sorts text; place = at } ∷ [] else [])
+      → L (sort_of sorts text)
   word_listed seen text at s l =
       elim (has_name text seen) as (λ b. has_name text seen ≡ b → Lists (if not b then record { node = sort_of sorts text; place = at } ∷ [] else []) → L (sort_of sorts text)) [
         | true ↦ λ t _. s text t
         | false ↦ λ _ here. here (sort_of sorts text) (or_left (sort_of sorts text == sort_of sorts text) false (eq-eqb (sort_of sorts text) (sort_of sorts text) refl))
       ] refl l
 
-  seen_more : (seen : List (List ℕ)) (text : List ℕ) → SeenListed seen → L (sort_of sorts text) → SeenListed (with_name seen text)
+  seen_more : (seen : List (List ℕ)) (text : List ℕ) → SeenListed seen → L (sort_of sorts text)
+      → SeenListed (with_name seen text)
   seen_more seen text s here n h =
       elim (has_name text seen) as (λ b. has_name n (cond b seen (seen ++ text ∷ [])) ≡ true → L (sort_of sorts n)) [
         | true ↦ λ g. s n g
@@ -127,7 +136,9 @@ module _ (sorts : List (List ℕ)) (L : ℕ → Type 0) where
   lists_back : (cs ds : List Candidate) → Lists (cs ++ ds) → Lists ds
   lists_back cs ds l k h = l k (any_append_right (λ (c : Candidate). c.node == k) cs ds h)
 
-  row_listed : (seen : List (List ℕ)) (spot : Spot) (ts : Trees) → SeenListed seen → Lists (listed_row sorts seen spot ts) → AllListed (named_words spot ts) × SeenListed (seen_after seen spot ts)
+  row_listed : (seen : List (List ℕ)) (spot : Spot) (ts : Trees) → SeenListed seen
+      → Lists (listed_row sorts seen spot ts)
+      → AllListed (named_words spot ts) × SeenListed (seen_after seen spot ts)
   row_listed seen spot nothing s l = (tt, s)
   row_listed seen spot (list items at rest) s l = (tt, s)
   row_listed seen spot (word text at rest) s l =
@@ -150,7 +161,8 @@ record IsUnder (size : ℕ) (L : ℕ → Type 0) (edges : List (List ℕ)) : Typ
 
 under_leads : (ns : List (List ℕ)) (a b : ℕ) → leads (under_object ns) a b ≡ true → b ≡ 0
 under_leads [] a b h = absurd (cc)
-under_leads (n ∷ ns) zero b h = elim (or_cases (b == 0) false h) [ inl e ↦ eqb-true b 0 e | inr e ↦ absurd (cc) ]
+under_leads (n ∷ ns) zero b h =
+    elim (or_cases (b == 0) false h) [ inl e ↦ eqb-true b 0 e | inr e ↦ absurd (cc) ]
 under_leads (n ∷ ns) (suc a) b h = under_leads ns a b h
 
 under_gets : (ns : List (List ℕ)) (a : ℕ) → a < length ns → leads (under_object ns) a 0 ≡ true
@@ -158,7 +170,8 @@ under_gets [] a lt = absurd (omega arith)
 under_gets (n ∷ ns) zero lt = refl
 under_gets (n ∷ ns) (suc a) lt = under_gets ns a (omega arith)
 
-first_under : (L : ℕ → Type 0) (names : List (List ℕ)) → IsUnder (length names) L (first_edges names)
+first_under : (L : ℕ → Type 0) (names : List (List ℕ))
+    → IsUnder (length names) L (first_edges names)
 first_under L [] = record { within = λ a b h. absurd (cc); object = λ a pos lt. absurd (omega arith); listed = λ a b h. absurd (cc) }
 first_under L (n ∷ ns) = record { within = within; object = object; listed = listed }
   where
@@ -174,21 +187,25 @@ first_under L (n ∷ ns) = record { within = within; object = object; listed = l
     listed zero b h = absurd (cc)
     listed (suc a) b h = inl (under_leads ns a b h, omega arith)
 
-under_put : (size : ℕ) (L : ℕ → Type 0) (edges : List (List ℕ)) (below above : ℕ) → above < size → L below → IsUnder size L edges → IsUnder size L (number_put edges below above)
+under_put : (size : ℕ) (L : ℕ → Type 0) (edges : List (List ℕ)) (below above : ℕ) → above < size
+    → L below → IsUnder size L edges → IsUnder size L (number_put edges below above)
 under_put size L edges below above lt l u = record {
   within = λ a b h. elim (put_leads edges below above a b h) [ inl e ↦ u.within a b e | inr e ↦ omega (arith, e.1) ];
   object = λ a pos less. put_keeps edges below above a 0 (u.object a pos less);
   listed = λ a b h. elim (put_leads edges below above a b h) [ inl e ↦ u.listed a b e | inr e ↦ inr (subst L (sym e.0) l) ];
 }
 
-under_edge : (size : ℕ) (L : ℕ → Type 0) (edges : List (List ℕ)) (below above : ℕ) → above < size → L below → IsUnder size L edges → IsUnder size L (edge_put edges below above)
+under_edge : (size : ℕ) (L : ℕ → Type 0) (edges : List (List ℕ)) (below above : ℕ) → above < size
+    → L below → IsUnder size L edges → IsUnder size L (edge_put edges below above)
 under_edge size L edges below above lt l u =
     elim ((below == 0) && (above == 0)) as (λ b. IsUnder size L (if b then edges else number_put edges below above)) [
       | true ↦ u
       | false ↦ under_put size L edges below above lt l u
     ]
 
-under_each : (size : ℕ) (L : ℕ → Type 0) (sorts edges : List (List ℕ)) (ns : List (List ℕ)) (above : List ℕ) → AllListed sorts L ns → list_all (λ n. nat_lt n size) above ≡ true → IsUnder size L edges → IsUnder size L (edges_each sorts edges ns above)
+under_each : (size : ℕ) (L : ℕ → Type 0) (sorts edges : List (List ℕ)) (ns : List (List ℕ)) (above : List ℕ)
+    → AllListed sorts L ns → list_all (λ n. nat_lt n size) above ≡ true → IsUnder size L edges
+    → IsUnder size L (edges_each sorts edges ns above)
 under_each size L sorts edges [] above l e u = u
 under_each size L sorts edges (n ∷ ns) [] l e u = u
 under_each size L sorts edges (n ∷ ns) (a ∷ as') l e u =
@@ -197,7 +214,11 @@ under_each size L sorts edges (n ∷ ns) (a ∷ as') l e u =
 
 module _ (whole : Vocabulary) (heads : List (List ℕ)) (L : ℕ → Type 0) (typed : 0 < length whole.sorts) where
   -- what a `:types` item lists
-  under_item : (edges seen : List (List ℕ)) (v : Vocabulary) (it : Item) (rest : Trees) → IsClean whole heads it rest → Known (with_item v it rest).sorts whole.sorts → SeenListed whole.sorts L seen → Lists whole.sorts L (if is_types it then listed_row whole.sorts seen Start rest else []) → IsUnder (length whole.sorts) L edges →
+  under_item : (edges seen : List (List ℕ)) (v : Vocabulary) (it : Item) (rest : Trees)
+      → IsClean whole heads it rest → Known (with_item v it rest).sorts whole.sorts
+      → SeenListed whole.sorts L seen
+      → Lists whole.sorts L (if is_types it then listed_row whole.sorts seen Start rest else [])
+      → IsUnder (length whole.sorts) L edges →
       SeenListed whole.sorts L (if is_types it then seen_after seen Start rest else seen) × IsUnder (length whole.sorts) L (if is_types it then edges_each whole.sorts edges (named_words Start rest) (named_sorts whole.sorts Start 0 rest) else edges)
   under_item edges seen v item.Types rest c k s l u =
       let row = row_listed whole.sorts L seen Start rest s l in
@@ -205,7 +226,11 @@ module _ (whole : Vocabulary) (heads : List (List ℕ)) (L : ℕ → Type 0) (ty
       (row.1, under_each (length whole.sorts) L whole.sorts edges (named_words Start rest) (named_sorts whole.sorts Start 0 rest) row.0 (sort_places whole.sorts typed Start 0 rest types) u)
   under_item edges seen v _ rest c k s l u = (s, u)
 
-  under_items : (edges seen : List (List ℕ)) (v : Vocabulary) (body : Trees) → AreClean whole heads body → Known (with_items v body).sorts whole.sorts → SeenListed whole.sorts L seen → Lists whole.sorts L (listed_in whole.sorts seen body) → IsUnder (length whole.sorts) L edges → IsUnder (length whole.sorts) L (edges_in whole.sorts edges body)
+  under_items : (edges seen : List (List ℕ)) (v : Vocabulary) (body : Trees)
+      → AreClean whole heads body → Known (with_items v body).sorts whole.sorts
+      → SeenListed whole.sorts L seen → Lists whole.sorts L (listed_in whole.sorts seen body)
+      → IsUnder (length whole.sorts) L edges
+      → IsUnder (length whole.sorts) L (edges_in whole.sorts edges body)
   under_items edges seen v nothing c k s l u = u
   under_items edges seen v (word w at rest) c k s l u = under_items edges seen v rest c k s l u
   under_items edges seen v (list items at rest) c k s l u =
@@ -257,7 +282,8 @@ module _ (size : ℕ) (edges : List (List ℕ)) (L : ℕ → Type 0) (u : IsUnde
 abbrev has_above : sort.Sort → ℕ → Bool
 has_above s b = list_any (λ n. n == b) s.above
 
-above_way : (edges : List (List ℕ)) (k : ℕ) (above : List ℕ) (b : ℕ) → IsAbove edges k above → list_any (λ n. n == b) above ≡ true → HasWay edges k b
+above_way : (edges : List (List ℕ)) (k : ℕ) (above : List ℕ) (b : ℕ) → IsAbove edges k above
+    → list_any (λ n. n == b) above ≡ true → HasWay edges k b
 above_way edges k above b i h =
     let there : has_number (ascending [] i.reached) b ≡ true = ap (λ ns. has_number ns b) (sym i.sorted) ∙ sym (number_any above b) ∙ h in
     elim (in_ascending [] i.reached b there) [
@@ -265,23 +291,29 @@ above_way edges k above b i h =
       | inr e ↦ i.right.only b e
     ]
 
-way_above : (edges : List (List ℕ)) (k : ℕ) (above : List ℕ) (b : ℕ) → IsAbove edges k above → HasWay edges k b → list_any (λ n. n == b) above ≡ true
+way_above : (edges : List (List ℕ)) (k : ℕ) (above : List ℕ) (b : ℕ) → IsAbove edges k above
+    → HasWay edges k b → list_any (λ n. n == b) above ≡ true
 way_above edges k above b i w =
     number_any above b ∙ ap (λ ns. has_number ns b) i.sorted ∙ ascending_in [] i.reached b (inr (i.right.all b w.between w.steps))
 
-sorts_named : (edges : List (List ℕ)) (k : ℕ) (ns : List (List ℕ)) (ss : List sort.Sort) → AreSorts edges k ns ss → map (λ (s : sort.Sort). s.name) ss ≡ ns
+sorts_named : (edges : List (List ℕ)) (k : ℕ) (ns : List (List ℕ)) (ss : List sort.Sort)
+    → AreSorts edges k ns ss → map (λ (s : sort.Sort). s.name) ss ≡ ns
 sorts_named edges k [] [] no_sorts = refl
 sorts_named edges k [] (s ∷ ss) x = elim x [ ]
 sorts_named edges k (n ∷ ns) [] x = elim x [ ]
-sorts_named edges k (n ∷ ns) (s ∷ ss) (more_sorts above more) = ap (λ ms. n ∷ ms) (sorts_named edges (k + 1) ns ss more)
+sorts_named edges k (n ∷ ns) (s ∷ ss) (more_sorts above more) =
+    ap (λ ms. n ∷ ms) (sorts_named edges (k + 1) ns ss more)
 
-pub sorts_many : (edges : List (List ℕ)) (k : ℕ) (ns : List (List ℕ)) (ss : List sort.Sort) → AreSorts edges k ns ss → length ss ≡ length ns
+pub sorts_many : (edges : List (List ℕ)) (k : ℕ) (ns : List (List ℕ)) (ss : List sort.Sort)
+    → AreSorts edges k ns ss → length ss ≡ length ns
 sorts_many edges k [] [] no_sorts = refl
 sorts_many edges k [] (s ∷ ss) x = elim x [ ]
 sorts_many edges k (n ∷ ns) [] x = elim x [ ]
-sorts_many edges k (n ∷ ns) (s ∷ ss) (more_sorts above more) = ap suc (sorts_many edges (k + 1) ns ss more)
+sorts_many edges k (n ∷ ns) (s ∷ ss) (more_sorts above more) =
+    ap suc (sorts_many edges (k + 1) ns ss more)
 
-sort_at : (edges : List (List ℕ)) (k : ℕ) (ns : List (List ℕ)) (ss : List sort.Sort) (i : ℕ) (s : sort.Sort) → AreSorts edges k ns ss → slice_get ss i ≡ Some s → IsAbove edges (k + i) s.above
+sort_at : (edges : List (List ℕ)) (k : ℕ) (ns : List (List ℕ)) (ss : List sort.Sort) (i : ℕ) (s : sort.Sort)
+    → AreSorts edges k ns ss → slice_get ss i ≡ Some s → IsAbove edges (k + i) s.above
 sort_at edges k [] [] i s x e = absurd (cc)
 sort_at edges k [] (t ∷ ts) i s x e = elim x [ ]
 sort_at edges k (n ∷ ns) [] i s x e = absurd (cc)
@@ -295,10 +327,15 @@ sort_at edges k (n ∷ ns) (t ∷ ts) (suc i) s (more_sorts above more) e =
 
 nothing_in : (ns : List ℕ) → ((b : ℕ) → list_any (λ n. n == b) ns ≡ true → ⊥) → ns ≡ []
 nothing_in [] none = refl
-nothing_in (n ∷ ns) none = absurd (none n (or_left (n == n) (list_any (λ m. m == n) ns) (eq-eqb n n refl)))
+nothing_in (n ∷ ns) none =
+    absurd (none n (or_left (n == n) (list_any (λ m. m == n) ns) (eq-eqb n n refl)))
 
-first_sort : (ns : List (List ℕ)) (ss : List sort.Sort) → map (λ (s : sort.Sort). s.name) ss ≡ ns → slice_get ns 0 ≡ Some (codes "object") → ((s : sort.Sort) → slice_get ss 0 ≡ Some s → s.above ≡ []) → slice_get ss 0 ≡ Some (record { name = codes "object"; above = [] })
-first_sort ns [] e f none = let g : None ≡ Some (codes "object") = ap (λ ms. slice_get ms 0) e ∙ f in absurd (cc)
+first_sort : (ns : List (List ℕ)) (ss : List sort.Sort) → map (λ (s : sort.Sort). s.name) ss ≡ ns
+    → slice_get ns 0 ≡ Some (codes "object")
+    → ((s : sort.Sort) → slice_get ss 0 ≡ Some s → s.above ≡ [])
+    → slice_get ss 0 ≡ Some (record { name = codes "object"; above = [] })
+first_sort ns [] e f none =
+    let g : None ≡ Some (codes "object") = ap (λ ms. slice_get ms 0) e ∙ f in absurd (cc)
 first_sort ns (s ∷ ss) e f none =
     let g : Some s.name ≡ Some (codes "object") = ap (λ ms. slice_get ms 0) e ∙ f in
     let same : s.name ≡ codes "object" = cc in
@@ -338,7 +375,11 @@ module _ (size : ℕ) (edges names : List (List ℕ)) (all : List sort.Sort) (L 
   }
 
 -- the types of a domain whose items have no faults and whose types are on no cycle
-pub types_fit : (heads : List (List ℕ)) (body : Trees) (all : List sort.Sort) → AreClean (vocabulary_of body) heads body → size body ≤ 4194304 → CycleFaults TypeCycle (type_edges (vocabulary_of body).sorts body) (listed_in (vocabulary_of body).sorts [] body) [] → AreSorts (type_edges (vocabulary_of body).sorts body) 0 (vocabulary_of body).sorts all → AreFitSorts all
+pub types_fit : (heads : List (List ℕ)) (body : Trees) (all : List sort.Sort)
+    → AreClean (vocabulary_of body) heads body → size body ≤ 4194304
+    → CycleFaults TypeCycle (type_edges (vocabulary_of body).sorts body) (listed_in (vocabulary_of body).sorts [] body) []
+    → AreSorts (type_edges (vocabulary_of body).sorts body) 0 (vocabulary_of body).sorts all
+    → AreFitSorts all
 types_fit heads body all clean small none are =
     let v = vocabulary_of body in
     let tables = tables_fit heads body clean in

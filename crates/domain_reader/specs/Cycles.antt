@@ -38,13 +38,15 @@ first_edges (n ∷ ns) = [] ∷ under_object ns
 
 -- To list `object` under `object` says nothing.
 abbrev pub edge_put : List (List ℕ) → ℕ → ℕ → List (List ℕ)
-edge_put edges below above = if (below == 0) && (above == 0) then edges else number_put edges below above
+edge_put edges below above =
+    if (below == 0) && (above == 0) then edges else number_put edges below above
 
 -- each listed type with the type beside it
 abbrev pub edges_each : (sorts edges : List (List ℕ)) → List (List ℕ) → List ℕ → List (List ℕ)
 edges_each sorts edges [] above = edges
 edges_each sorts edges (n ∷ ns) [] = edges
-edges_each sorts edges (n ∷ ns) (a ∷ above) = edges_each sorts (edge_put edges (sort_of sorts n) a) ns above
+edges_each sorts edges (n ∷ ns) (a ∷ above) =
+    edges_each sorts (edge_put edges (sort_of sorts n) a) ns above
 
 abbrev pub edges_in : (sorts edges : List (List ℕ)) → Trees → List (List ℕ)
 edges_in sorts edges nothing = edges
@@ -58,11 +60,15 @@ type_edges sorts body = edges_in sorts (first_edges sorts) body
 
 -- the first listing of each type
 abbrev pub listed_word : (sorts seen : List (List ℕ)) → Spot → List ℕ → ℕ → List Candidate
-listed_word sorts seen spot text at = if is_named spot text && not (has_name text seen) then record { node = sort_of sorts text; place = at } ∷ [] else []
+listed_word sorts seen spot text at =
+    if is_named spot text
+    && not (has_name text seen) then record { node = sort_of sorts text; place = at } ∷ [] else []
 
 abbrev pub listed_row : (sorts seen : List (List ℕ)) → Spot → Trees → List Candidate
 listed_row sorts seen spot nothing = []
-listed_row sorts seen spot (word text at rest) = listed_word sorts seen spot text at ++ listed_row sorts (seen_with seen spot text) (after_word spot text) rest
+listed_row sorts seen spot (word text at rest) =
+    listed_word sorts seen spot text at
+    ++ listed_row sorts (seen_with seen spot text) (after_word spot text) rest
 listed_row sorts seen spot (list items at rest) = []
 
 abbrev pub listed_in : (sorts seen : List (List ℕ)) → Trees → List Candidate
@@ -81,7 +87,9 @@ pub record IsAbove (edges : List (List ℕ)) (k : ℕ) (above : List ℕ) : Type
 -- the types from the one of this number on, as the task has them
 pub data AreSorts (edges : List (List ℕ)) : ℕ → List (List ℕ) → List sort.Sort → Type 0 where
   no_sorts : {k : ℕ} → AreSorts edges k [] []
-  more_sorts : {k : ℕ} {name : List ℕ} {names : List (List ℕ)} {above : List ℕ} {ss : List sort.Sort} → IsAbove edges k above → AreSorts edges (k + 1) names ss → AreSorts edges k (name ∷ names) (record { name = name; above = above } ∷ ss)
+  more_sorts : {k : ℕ} {name : List ℕ} {names : List (List ℕ)} {above : List ℕ} {ss : List sort.Sort}
+      → IsAbove edges k above → AreSorts edges (k + 1) names ss
+      → AreSorts edges k (name ∷ names) (record { name = name; above = above } ∷ ss)
 
 -- ---- derived predicates
 
@@ -103,7 +111,8 @@ no_edges (n ∷ ns) = [] ∷ no_edges ns
 
 -- the predicate of a `:derived` item, if it is there
 abbrev pub derived_place : List (List ℕ) → Trees → Option ℕ
-derived_place predicates items = if is_derived (item_of Domain (head_of items)) then place_of (headed items) predicates else None
+derived_place predicates items =
+    if is_derived (item_of Domain (head_of items)) then place_of (headed items) predicates else None
 
 abbrev pub body_put : (predicates edges : List (List ℕ)) → Option ℕ → Trees → List (List ℕ)
 body_put predicates edges None body = edges
@@ -126,4 +135,5 @@ derived_item (Some pred) at = record { node = pred; place = at } ∷ []
 abbrev pub derived_in : List (List ℕ) → Trees → List Candidate
 derived_in predicates nothing = []
 derived_in predicates (word text at rest) = derived_in predicates rest
-derived_in predicates (list items at rest) = derived_item (derived_place predicates items) at ++ derived_in predicates rest
+derived_in predicates (list items at rest) =
+    derived_item (derived_place predicates items) at ++ derived_in predicates rest

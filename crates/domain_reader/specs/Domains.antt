@@ -45,7 +45,8 @@ plain_names v body =
 
 -- the answered one of a fault so far and of those of types on cycles
 abbrev pub AnswersTypes : Vocabulary → Trees → (so_far answered : Option Fault) → Type 0
-AnswersTypes v body so_far answered = AnswersCycles TypeCycle (type_edges v.sorts body) (listed_in v.sorts [] body) so_far answered
+AnswersTypes v body so_far answered =
+    AnswersCycles TypeCycle (type_edges v.sorts body) (listed_in v.sorts [] body) so_far answered
 
 -- the answered one of a fault so far and of those of derived predicates on cycles
 abbrev pub AnswersDerived : Vocabulary → Trees → (so_far answered : Option Fault) → Type 0
@@ -85,7 +86,8 @@ value_of_effect keys = value_at (codes ":effect") keys
 
 -- what an action does whose keys are these
 abbrev pub done_by : Vocabulary → Trees → Done
-done_by v keys = after_effect v (named_words Start (parameters_of keys)) nothing_done (value_of_effect keys)
+done_by v keys =
+    after_effect v (named_words Start (parameters_of keys)) nothing_done (value_of_effect keys)
 
 -- NAME akey*
 abbrev pub action_of : Vocabulary → Trees → Action
@@ -102,7 +104,9 @@ action_of v items =
 abbrev pub actions_of : Vocabulary → Trees → List Action
 actions_of v nothing = []
 actions_of v (word w at rest) = actions_of v rest
-actions_of v (list items at rest) = (if is_action (item_of text.Domain (head_of items)) then action_of v (tail_of items) ∷ [] else []) ++ actions_of v rest
+actions_of v (list items at rest) =
+    (if is_action (item_of text.Domain (head_of items)) then action_of v (tail_of items) ∷ [] else [])
+    ++ actions_of v rest
 
 -- (NAME vars) cond
 abbrev pub rule_of : Vocabulary → Trees → rule.Derived
@@ -116,10 +120,13 @@ rule_of v items =
 abbrev pub rules_of : Vocabulary → Trees → List rule.Derived
 rules_of v nothing = []
 rules_of v (word w at rest) = rules_of v rest
-rules_of v (list items at rest) = (if is_derived (item_of text.Domain (head_of items)) then rule_of v (tail_of items) ∷ [] else []) ++ rules_of v rest
+rules_of v (list items at rest) =
+    (if is_derived (item_of text.Domain (head_of items)) then rule_of v (tail_of items) ∷ [] else [])
+    ++ rules_of v rest
 
 abbrev pub constants_of : List (List ℕ) → Trees → List declared.Declared
-constants_of sorts body = declared_list (constants_in sorts no_typed body).names (constants_in sorts no_typed body).sorts
+constants_of sorts body =
+    declared_list (constants_in sorts no_typed body).names (constants_in sorts no_typed body).sorts
 
 -- ---- roles
 
@@ -162,13 +169,16 @@ domain_names t = vocabulary_of (body_of t)
 
 -- the domain that the names give, or the name fault that is answered
 abbrev pub ReadsNamed : Trees → Result Domain Fault → Type 0
-ReadsNamed t (Ok d) = AnswersNames (domain_names t) (body_of t) None × IsDomainBy (domain_names t) t d
+ReadsNamed t (Ok d) =
+    AnswersNames (domain_names t) (body_of t) None × IsDomainBy (domain_names t) t d
 ReadsNamed t (Err f) = AnswersNames (domain_names t) (body_of t) (Some f)
 
 -- The fault is answered: of form faults the least, and where there is none, of name faults the least.
 pub data IsDomainAnswered (t : Trees) (f : Fault) : Type 0 where
   of_form : least_fault (form_faults text.Domain t) ≡ Some f → IsDomainAnswered t f
-  of_names : {faults : List Fault} → form_faults text.Domain t ≡ [] → AreNameFaults (domain_names t) (body_of t) faults → least_fault faults ≡ Some f → IsDomainAnswered t f
+  of_names : {faults : List Fault} → form_faults text.Domain t ≡ []
+      → AreNameFaults (domain_names t) (body_of t) faults → least_fault faults ≡ Some f
+      → IsDomainAnswered t f
 
 -- there is no fault, and this is the domain
 pub record IsDomainRead (t : Trees) (d : Domain) : Type 0 where
@@ -179,5 +189,6 @@ pub record IsDomainRead (t : Trees) (d : Domain) : Type 0 where
 -- A domain is read where there is no fault, and a fault is the answered one. Memory is free.
 abbrev pub DomainReads : Trees → Result Domain InputFault → Type 0
 DomainReads t (Ok d) = IsDomainRead t d
-DomainReads t (Err (input.At place kind)) = IsDomainAnswered t (record { place = place; kind = kind })
+DomainReads t (Err (input.At place kind)) =
+    IsDomainAnswered t (record { place = place; kind = kind })
 DomainReads t (Err input.Memory) = Unit {0}

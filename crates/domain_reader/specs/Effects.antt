@@ -28,7 +28,9 @@ cost_names v scope (list items at rest) = application_names v.functions v.object
 module _ (v : Vocabulary) (heads scope : List (List ℕ)) where
   -- an atom that an effect adds or takes away, as the list at this place
   abbrev pub changed_names : ℕ → Trees → List Fault
-  changed_names place items = application_names v.predicates v.objects scope place items ++ unless (not (is_derived_name v heads (head_of items))) EffectOnStatic place
+  changed_names place items =
+      application_names v.predicates v.objects scope place items
+      ++ unless (not (is_derived_name v heads (head_of items))) EffectOnStatic place
 
   -- the atom in a row
   abbrev pub negated_names : Trees → List Fault
@@ -60,7 +62,8 @@ module _ (v : Vocabulary) (scope : List (List ℕ)) where
   abbrev pub cost_of : Trees → CostTerm
   cost_of nothing = Number 0
   cost_of (word text at rest) = Number (if is_number text then digits_value 10 text else 0)
-  cost_of (list items at rest) = Value (declared_place v.functions (head_of items)) (terms_of v.objects scope (tail_of items))
+  cost_of (list items at rest) =
+      Value (declared_place v.functions (head_of items)) (terms_of v.objects scope (tail_of items))
 
   abbrev pub added : Done → Trees → Done
   added c items = record c { adds = c.adds ++ pattern_of v scope items ∷ [] }

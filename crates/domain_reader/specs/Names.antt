@@ -31,12 +31,15 @@ use Rattle.domain_reader.specs.Tables.{headed, is_derived}
 
 -- the variables of a declaration, which is the list at this place: at most 8, each once, of types that are there
 abbrev pub declaration_names : List (List ℕ) → ℕ → Trees → List Fault
-declaration_names sorts place vars = types_names sorts Start vars ++ doubles_names [] Start vars ++ unless (nat_le (length (named_words Start vars)) 8) TooMany place
+declaration_names sorts place vars =
+    types_names sorts Start vars ++ doubles_names [] Start vars
+    ++ unless (nat_le (length (named_words Start vars)) 8) TooMany place
 
 abbrev pub predicates_names : List (List ℕ) → Trees → List Fault
 predicates_names sorts nothing = []
 predicates_names sorts (word text at rest) = predicates_names sorts rest
-predicates_names sorts (list items at rest) = declaration_names sorts at (tail_of items) ++ predicates_names sorts rest
+predicates_names sorts (list items at rest) =
+    declaration_names sorts at (tail_of items) ++ predicates_names sorts rest
 
 -- the total cost is declared without arguments
 abbrev pub total_cost_names : ℕ → Trees → List Fault
@@ -45,7 +48,9 @@ total_cost_names place items = unless (if is_total_cost (head_of items) then len
 abbrev pub functions_names : List (List ℕ) → Trees → List Fault
 functions_names sorts nothing = []
 functions_names sorts (word text at rest) = functions_names sorts rest
-functions_names sorts (list items at rest) = total_cost_names at items ++ declaration_names sorts at (tail_of items) ++ functions_names sorts rest
+functions_names sorts (list items at rest) =
+    total_cost_names at items ++ declaration_names sorts at (tail_of items)
+    ++ functions_names sorts rest
 
 -- ---- derived predicates
 
@@ -59,7 +64,8 @@ head_names v place items =
 abbrev pub derived_names : Vocabulary → Trees → List Fault
 derived_names v nothing = []
 derived_names v (word text at rest) = []
-derived_names v (list items at rest) = head_names v at items ++ conditions_names v (named_words Start (tail_of items)) rest
+derived_names v (list items at rest) =
+    head_names v at items ++ conditions_names v (named_words Start (tail_of items)) rest
 
 -- ---- actions
 
@@ -84,11 +90,14 @@ value_names v heads scope key.NoKey place items = []
 abbrev pub keys_names : Vocabulary → (heads scope : List (List ℕ)) → Key → Trees → List Fault
 keys_names v heads scope k nothing = []
 keys_names v heads scope k (word text at rest) = keys_names v heads scope (key_of Action text) rest
-keys_names v heads scope k (list items at rest) = value_names v heads scope k at items ++ keys_names v heads scope k rest
+keys_names v heads scope k (list items at rest) =
+    value_names v heads scope k at items ++ keys_names v heads scope k rest
 
 -- akey*, behind the action's name
 abbrev pub action_names : Vocabulary → List (List ℕ) → Trees → List Fault
-action_names v heads keys = repeated_names [] keys ++ keys_names v heads (named_words Start (parameters_of keys)) key.NoKey keys
+action_names v heads keys =
+    repeated_names [] keys
+    ++ keys_names v heads (named_words Start (parameters_of keys)) key.NoKey keys
 
 -- ---- items
 
@@ -114,7 +123,8 @@ body_names v heads item.NoItem rest = []
 abbrev pub items_names : Vocabulary → List (List ℕ) → Trees → List Fault
 items_names v heads nothing = []
 items_names v heads (word text at rest) = items_names v heads rest
-items_names v heads (list items at rest) = body_names v heads (item_of Domain (head_of items)) (tail_of items) ++ items_names v heads rest
+items_names v heads (list items at rest) =
+    body_names v heads (item_of Domain (head_of items)) (tail_of items) ++ items_names v heads rest
 
 -- ---- what may be there once
 
@@ -139,7 +149,8 @@ is_single item.Metric = true
 
 -- of a list that has this name, if it is of the kind of which each name may be there once
 abbrev pub once : Bool → List ℕ → ℕ → List (List ℕ) → List Fault
-once counts name place seen = if counts then unless (not (has_name name seen)) Duplicate place else []
+once counts name place seen =
+    if counts then unless (not (has_name name seen)) Duplicate place else []
 
 abbrev pub seen_once : Bool → List ℕ → List (List ℕ) → List (List ℕ)
 seen_once counts name seen = if counts then with_name seen name else seen
@@ -166,7 +177,8 @@ second_actions seen (list items at rest) =
 abbrev pub second_declared : List (List ℕ) → Trees → List Fault
 second_declared seen nothing = []
 second_declared seen (word w at rest) = second_declared seen rest
-second_declared seen (list items at rest) = once true (head_of items) at seen ++ second_declared (with_name seen (head_of items)) rest
+second_declared seen (list items at rest) =
+    once true (head_of items) at seen ++ second_declared (with_name seen (head_of items)) rest
 
 abbrev pub declared_after : List (List ℕ) → Trees → List (List ℕ)
 declared_after seen nothing = seen
@@ -190,11 +202,13 @@ second_signatures d seen (list items at rest) =
 
 -- a `:derived` item of a predicate that is there
 abbrev pub counts_as_derived : List (List ℕ) → Trees → Bool
-counts_as_derived predicates items = is_derived (item_of Domain (head_of items)) && has_name (headed items) predicates
+counts_as_derived predicates items =
+    is_derived (item_of Domain (head_of items)) && has_name (headed items) predicates
 
 -- of an item that counts, the 65th predicate is one too many
 abbrev pub crowded : Bool → List ℕ → ℕ → List (List ℕ) → List Fault
-crowded counts name place heads = if counts then unless (has_name name heads || not (length heads == 64)) TooMany place else []
+crowded counts name place heads =
+    if counts then unless (has_name name heads || not (length heads == 64)) TooMany place else []
 
 -- the item with the 65th derived predicate, where these were seen before
 abbrev pub too_many_derived : (predicates heads : List (List ℕ)) → Trees → List Fault

@@ -19,7 +19,8 @@ name_of t = head_of (tail_of (inner_of (tail_of (inner_of t))))
 -- The types as `:types` mentions them, each once.
 abbrev pub types_in : List (List ℕ) → Trees → List (List ℕ)
 types_in names nothing = names
-types_in names (word text at rest) = types_in (if is_dash text then names else with_name names text) rest
+types_in names (word text at rest) =
+    types_in (if is_dash text then names else with_name names text) rest
 types_in names (list items at rest) = types_in names rest
 
 -- how many arguments a declaration gives; the total cost has none
@@ -59,7 +60,8 @@ with_item v item.NoItem rest = v
 abbrev pub with_items : Vocabulary → Trees → Vocabulary
 with_items v nothing = v
 with_items v (word text at rest) = with_items v rest
-with_items v (list items at rest) = with_items (with_item v (item_of Domain (head_of items)) (tail_of items)) rest
+with_items v (list items at rest) =
+    with_items (with_item v (item_of Domain (head_of items)) (tail_of items)) rest
 
 -- before all items: the type `object`
 abbrev pub no_names : Vocabulary

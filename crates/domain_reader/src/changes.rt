@@ -71,7 +71,8 @@ pub(crate) fn note_effect(
     changes: &mut Changes,
     items: &[Tree],
 ) -> Result<(), AllocError>
-    ensures { OnOk result (changes.new ≡ specs.after_effect names.now scope.now changes.old (trees items.now)) }
+    ensures { OnOk result (changes.new
+        ≡ specs.after_effect names.now scope.now changes.old (trees items.now)) }
 {
     match front_of(items) {
         Front::End | Front::List { .. } => Ok(()),
@@ -106,7 +107,8 @@ fn note_effects(
     changes: &mut Changes,
     items: &[Tree],
 ) -> Result<(), AllocError>
-    ensures { OnOk result (changes.new ≡ specs.after_effects names.now scope.now changes.old (trees items.now)) }
+    ensures { OnOk result (changes.new
+        ≡ specs.after_effects names.now scope.now changes.old (trees items.now)) }
 {
     let mut left = items;
     'parts: loop {

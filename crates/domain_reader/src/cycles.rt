@@ -67,7 +67,9 @@ fn add_row(
     sorts: &NameTable,
     items: &[Tree],
 ) -> Result<(), AllocError>
-    ensures { OnOk result (edges.new.items ≡ specs.edges_each sorts.now edges.old.items (named_words Start (trees items.now)) (sorts_in sorts.now Start 0 (trees items.now))) }
+    ensures { OnOk result (edges.new.items
+        ≡ specs.edges_each sorts.now edges.old.items (named_words Start (trees items.now))
+        (sorts_in sorts.now Start 0 (trees items.now))) }
 {
     let types = named_sorts(alloc, sorts, items)?;
     let mut waiting = types.as_slice();
@@ -96,7 +98,8 @@ fn add_types(
     sorts: &NameTable,
     items: &[Tree],
 ) -> Result<(), AllocError>
-    ensures { OnOk result (edges.new.items ≡ specs.edges_in sorts.now edges.old.items (trees items.now)) }
+    ensures { OnOk result (edges.new.items
+        ≡ specs.edges_in sorts.now edges.old.items (trees items.now)) }
 {
     let mut left = items;
     'items: loop {
@@ -133,7 +136,8 @@ fn list_row(
     listed: &mut Vec<Candidate>,
     items: &[Tree],
 ) -> Result<(), AllocError>
-    ensures listed { OnOk result (listed.new.items ≡ listed.old.items ++ specs.listed_row sorts.now seen.old Start (trees items.now)) }
+    ensures listed { OnOk result (listed.new.items ≡ listed.old.items
+        ++ specs.listed_row sorts.now seen.old Start (trees items.now)) }
     ensures seen { OnOk result (seen.new ≡ seen_after seen.old Start (trees items.now)) }
 {
     let mut left = items;
@@ -224,7 +228,8 @@ fn add_mentions(
     from: usize,
     items: &[Tree],
 ) -> Result<(), AllocError>
-    ensures { OnOk result (edges.new.items ≡ specs.mentions_in predicates.now.names edges.old.items from (trees items.now)) }
+    ensures { OnOk result (edges.new.items
+        ≡ specs.mentions_in predicates.now.names edges.old.items from (trees items.now)) }
 {
     let mut left = items;
     'trees: loop {
@@ -277,7 +282,8 @@ fn put_body(
     place: Option<usize>,
     body: &[Tree],
 ) -> Result<(), AllocError>
-    ensures { OnOk result (edges.new.items ≡ specs.body_put predicates.now.names edges.old.items place (trees body.now)) }
+    ensures { OnOk result (edges.new.items
+        ≡ specs.body_put predicates.now.names edges.old.items place (trees body.now)) }
 {
     match place {
         None => Ok(()),
@@ -291,7 +297,8 @@ pub(crate) fn derived_edges(
     predicates: &Signatures,
     body: &[Tree],
 ) -> Result<Vec<Seq<u32>>, AllocError>
-    ensures { IfOk result (λ edges. edges.items ≡ specs.derived_edges predicates.now.names (trees body.now)) }
+    ensures { IfOk result (λ edges. edges.items
+        ≡ specs.derived_edges predicates.now.names (trees body.now)) }
 {
     let mut edges = no_edges(alloc, predicates)?;
     let mut left = body;
@@ -320,7 +327,8 @@ pub(crate) fn derived_items(
     predicates: &Signatures,
     body: &[Tree],
 ) -> Result<Vec<Candidate>, AllocError>
-    ensures { IfOk result (λ list. list.items ≡ specs.derived_in predicates.now.names (trees body.now)) }
+    ensures { IfOk result (λ list. list.items
+        ≡ specs.derived_in predicates.now.names (trees body.now)) }
 {
     let mut list = Vec::new(alloc);
     let mut left = body;

@@ -74,7 +74,9 @@ fn done_by(
     scope: &Scope,
     keys: &[Tree],
 ) -> Result<Changes, AllocError>
-    ensures { IfOk result (λ done. done ≡ after_effect names.now scope.now specs.nothing_done (specs.value_of_effect (trees keys.now))) }
+    ensures { IfOk result (λ done. done
+        ≡ after_effect names.now scope.now specs.nothing_done
+        (specs.value_of_effect (trees keys.now))) }
 {
     let mut changes = Changes::new(alloc);
     note_effect(

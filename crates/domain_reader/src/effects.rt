@@ -27,7 +27,8 @@ fn check_changed(
     items: &[Tree],
     so_far: Option<Fault>,
 ) -> Result<Option<Fault>, AllocError>
-    ensures { IfOk result (λ f. f ≡ first so_far (specs.changed_names names.now heads.now scope.now place (trees items.now))) }
+    ensures { IfOk result (λ f. f ≡ first so_far
+        (specs.changed_names names.now heads.now scope.now place (trees items.now))) }
 {
     let found = check_application(
         &names.predicates,
@@ -49,7 +50,8 @@ fn check_negated(
     items: &[Tree],
     so_far: Option<Fault>,
 ) -> Result<Option<Fault>, AllocError>
-    ensures { IfOk result (λ f. f ≡ first so_far (specs.negated_names names.now heads.now scope.now (trees items.now))) }
+    ensures { IfOk result (λ f. f ≡ first so_far
+        (specs.negated_names names.now heads.now scope.now (trees items.now))) }
 {
     match front_of(items) {
         Front::End | Front::Word { .. } => Ok(so_far),
@@ -66,7 +68,8 @@ fn check_cost(
     items: &[Tree],
     so_far: Option<Fault>,
 ) -> Result<Option<Fault>, AllocError>
-    ensures { IfOk result (λ f. f ≡ first so_far (specs.cost_names names.now scope.now (trees items.now))) }
+    ensures { IfOk result (λ f. f ≡ first so_far
+        (specs.cost_names names.now scope.now (trees items.now))) }
 {
     match front_of(items) {
         Front::End | Front::Word { .. } => Ok(so_far),
@@ -93,7 +96,8 @@ pub(crate) fn check_effect(
     items: &[Tree],
     so_far: Option<Fault>,
 ) -> Result<Option<Fault>, AllocError>
-    ensures { IfOk result (λ f. f ≡ first so_far (specs.effect_names names.now heads.now scope.now place (trees items.now))) }
+    ensures { IfOk result (λ f. f ≡ first so_far
+        (specs.effect_names names.now heads.now scope.now place (trees items.now))) }
 {
     match front_of(items) {
         Front::End | Front::List { .. } => Ok(so_far),
@@ -116,7 +120,8 @@ fn check_effects(
     items: &[Tree],
     so_far: Option<Fault>,
 ) -> Result<Option<Fault>, AllocError>
-    ensures { IfOk result (λ f. f ≡ first so_far (specs.effects_names names.now heads.now scope.now (trees items.now))) }
+    ensures { IfOk result (λ f. f ≡ first so_far
+        (specs.effects_names names.now heads.now scope.now (trees items.now))) }
 {
     let mut left = items;
     let mut found = so_far;

@@ -28,7 +28,8 @@ fn check_declaration(
     vars: &[Tree],
     so_far: Option<Fault>,
 ) -> Result<Option<Fault>, AllocError>
-    ensures { IfOk result (λ f. f ≡ first so_far (specs.declaration_names sorts.now place (trees vars.now))) }
+    ensures { IfOk result (λ f. f ≡ first so_far
+        (specs.declaration_names sorts.now place (trees vars.now))) }
 {
     let typed = check_types(sorts, vars, so_far);
     let mut seen = NameTable::new(alloc);
@@ -44,7 +45,8 @@ fn check_predicates(
     items: &[Tree],
     so_far: Option<Fault>,
 ) -> Result<Option<Fault>, AllocError>
-    ensures { IfOk result (λ f. f ≡ first so_far (specs.predicates_names sorts.now (trees items.now))) }
+    ensures { IfOk result (λ f. f ≡ first so_far
+        (specs.predicates_names sorts.now (trees items.now))) }
 {
     let mut left = items;
     let mut found = so_far;
@@ -83,7 +85,8 @@ fn check_functions(
     items: &[Tree],
     so_far: Option<Fault>,
 ) -> Result<Option<Fault>, AllocError>
-    ensures { IfOk result (λ f. f ≡ first so_far (specs.functions_names sorts.now (trees items.now))) }
+    ensures { IfOk result (λ f. f ≡ first so_far
+        (specs.functions_names sorts.now (trees items.now))) }
 {
     let mut left = items;
     let mut found = so_far;
@@ -118,7 +121,8 @@ fn check_head(
     items: &[Tree],
     so_far: Option<Fault>,
 ) -> Result<Option<Fault>, AllocError>
-    ensures { IfOk result (λ f. f ≡ first so_far (specs.head_names names.now place (trees items.now))) }
+    ensures { IfOk result (λ f. f ≡ first so_far
+        (specs.head_names names.now place (trees items.now))) }
 {
     let vars = tail_of(items);
     let arity = names.predicates.arity_of(head_of(items));
@@ -134,7 +138,8 @@ fn check_derived(
     items: &[Tree],
     so_far: Option<Fault>,
 ) -> Result<Option<Fault>, AllocError>
-    ensures { IfOk result (λ f. f ≡ first so_far (specs.derived_names names.now (trees items.now))) }
+    ensures { IfOk result (λ f. f ≡ first so_far
+        (specs.derived_names names.now (trees items.now))) }
 {
     match front_of(items) {
         Front::End | Front::Word { .. } => Ok(so_far),
@@ -166,7 +171,9 @@ fn check_value(
     items: &[Tree],
     so_far: Option<Fault>,
 ) -> Result<Option<Fault>, AllocError>
-    ensures faults { IfOk result (λ f. f ≡ first so_far (specs.value_names names.now heads.now scope.old key place (trees items.now))) }
+    ensures faults { IfOk result (λ f. f
+        ≡ first so_far (specs.value_names names.now heads.now scope.old key place
+        (trees items.now))) }
     ensures scope { OnOk result (scope.new ≡ scope.old) }
 {
     match key {
@@ -192,7 +199,8 @@ fn check_keys(
     items: &[Tree],
     so_far: Option<Fault>,
 ) -> Result<Option<Fault>, AllocError>
-    ensures { IfOk result (λ f. f ≡ first so_far (specs.keys_names names.now heads.now scope.old NoKey (trees items.now))) }
+    ensures { IfOk result (λ f. f ≡ first so_far
+        (specs.keys_names names.now heads.now scope.old NoKey (trees items.now))) }
 {
     let mut left = items;
     let mut found = so_far;
@@ -220,7 +228,8 @@ fn check_action(
     keys: &[Tree],
     so_far: Option<Fault>,
 ) -> Result<Option<Fault>, AllocError>
-    ensures { IfOk result (λ f. f ≡ first so_far (specs.action_names names.now heads.now (trees keys.now))) }
+    ensures { IfOk result (λ f. f ≡ first so_far
+        (specs.action_names names.now heads.now (trees keys.now))) }
 {
     let mut seen = NameTable::new(alloc);
     let once = check_repeated(&mut seen, keys, so_far)?;
@@ -238,7 +247,8 @@ fn check_body(
     items: &[Tree],
     so_far: Option<Fault>,
 ) -> Result<Option<Fault>, AllocError>
-    ensures { IfOk result (λ f. f ≡ first so_far (specs.body_names names.now heads.now item (trees items.now))) }
+    ensures { IfOk result (λ f. f ≡ first so_far
+        (specs.body_names names.now heads.now item (trees items.now))) }
 {
     match item {
         Item::Constants => Ok(check_types(&names.sorts, items, so_far)),
@@ -268,7 +278,8 @@ pub(crate) fn check_items(
     items: &[Tree],
     so_far: Option<Fault>,
 ) -> Result<Option<Fault>, AllocError>
-    ensures { IfOk result (λ f. f ≡ first so_far (specs.items_names names.now heads.now (trees items.now))) }
+    ensures { IfOk result (λ f. f ≡ first so_far
+        (specs.items_names names.now heads.now (trees items.now))) }
 {
     let mut left = items;
     let mut found = so_far;

@@ -66,7 +66,8 @@ fn check_once(
     seen: &mut NameTable,
     so_far: Option<Fault>,
 ) -> Result<Option<Fault>, AllocError>
-    ensures faults { IfOk result (λ f. f ≡ first so_far (specs.once counts name.now place seen.old)) }
+    ensures faults { IfOk result (λ f. f
+        ≡ first so_far (specs.once counts name.now place seen.old)) }
     ensures seen { OnOk result (seen.new ≡ specs.seen_once counts name.now seen.old) }
 {
     if counts {
@@ -140,7 +141,8 @@ fn check_second_declared(
     items: &[Tree],
     so_far: Option<Fault>,
 ) -> Result<Option<Fault>, AllocError>
-    ensures faults { IfOk result (λ f. f ≡ first so_far (specs.second_declared seen.old (trees items.now))) }
+    ensures faults { IfOk result (λ f. f
+        ≡ first so_far (specs.second_declared seen.old (trees items.now))) }
     ensures seen { OnOk result (seen.new ≡ specs.declared_after seen.old (trees items.now)) }
 {
     let mut left = items;
@@ -164,7 +166,8 @@ pub(crate) fn check_second_signatures(
     items: &[Tree],
     so_far: Option<Fault>,
 ) -> Result<Option<Fault>, AllocError>
-    ensures { IfOk result (λ f. f ≡ first so_far (specs.second_signatures declared [] (trees items.now))) }
+    ensures { IfOk result (λ f. f ≡ first so_far
+        (specs.second_signatures declared [] (trees items.now))) }
 {
     let mut seen = NameTable::new(alloc);
     let mut left = items;
@@ -201,7 +204,8 @@ fn check_crowded(
     heads: &mut NameTable,
     so_far: Option<Fault>,
 ) -> Result<Option<Fault>, AllocError>
-    ensures faults { IfOk result (λ f. f ≡ first so_far (specs.crowded counts name.now place heads.old)) }
+    ensures faults { IfOk result (λ f. f
+        ≡ first so_far (specs.crowded counts name.now place heads.old)) }
     ensures heads { OnOk result (heads.new ≡ specs.seen_once counts name.now heads.old) }
 {
     if !counts {
@@ -219,7 +223,8 @@ pub(crate) fn check_derived_count(
     items: &[Tree],
     so_far: Option<Fault>,
 ) -> Result<Option<Fault>, AllocError>
-    ensures { IfOk result (λ f. f ≡ first so_far (specs.too_many_derived predicates.now.names [] (trees items.now))) }
+    ensures { IfOk result (λ f. f ≡ first so_far
+        (specs.too_many_derived predicates.now.names [] (trees items.now))) }
 {
     let mut heads = NameTable::new(alloc);
     let mut left = items;

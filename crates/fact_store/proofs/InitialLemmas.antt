@@ -28,7 +28,8 @@ use Rattle.task_model.proofs.KnownLemmas.{fact_decided, fact_member, with_facts-
 
 -- ---- facts
 
-pub supertypes_then : (facts : List Fact) (object sort : ℕ) (above : List ℕ) → with_fact (with_facts (with_fact facts (type_fact sort object)) (map (λ s. type_fact s object) above)) (type_fact 0 object) ≡ with_facts facts (map (λ s. type_fact s object) (sort ∷ above ++ 0 ∷ []))
+pub supertypes_then : (facts : List Fact) (object sort : ℕ) (above : List ℕ)
+    → with_fact (with_facts (with_fact facts (type_fact sort object)) (map (λ s. type_fact s object) above)) (type_fact 0 object) ≡ with_facts facts (map (λ s. type_fact s object) (sort ∷ above ++ 0 ∷ []))
 supertypes_then facts object sort above =
     sym (facts_then (with_fact facts (type_fact sort object)) (map (λ s. type_fact s object) above) (type_fact 0 object ∷ []))
     ∙ ap (with_facts (with_fact facts (type_fact sort object))) (sym (map-append (λ s. type_fact s object) above (0 ∷ [])))
@@ -43,12 +44,14 @@ right_true : (a b : Bool) → b ≡ true → (a || b) ≡ true
 right_true true b e = refl
 right_true false b e = e
 
-pub known_already : (facts more : List Fact) (fact : Fact) → Contains more fact → with_fact (with_facts facts more) fact ≡ with_facts facts more
+pub known_already : (facts more : List Fact) (fact : Fact) → Contains more fact
+    → with_fact (with_facts facts more) fact ≡ with_facts facts more
 known_already facts more fact m =
     let there : is_fact (with_facts facts more) fact ≡ true = (fact_member (with_facts facts more) fact).1 (((with_facts-is facts more).members fact).1 (Contains-append_right facts more fact m)) in
     ap (λ b. cond b (with_facts facts more) (with_facts facts more ++ fact ∷ [])) there
 
-any_type : (object : ℕ) (sorts : List ℕ) → list_any (λ s. s == 0) sorts ≡ true → is_fact (map (λ s. type_fact s object) sorts) (type_fact 0 object) ≡ true
+any_type : (object : ℕ) (sorts : List ℕ) → list_any (λ s. s == 0) sorts ≡ true
+    → is_fact (map (λ s. type_fact s object) sorts) (type_fact 0 object) ≡ true
 any_type object [] e = absurd (cc)
 any_type object (s ∷ ss) e =
     elim (s == 0) as (λ b. (s == 0) ≡ b → (b || list_any (λ s. s == 0) ss) ≡ true → (same_fact (type_fact 0 object) (type_fact s object) || is_fact (map (λ s. type_fact s object) ss) (type_fact 0 object)) ≡ true) [
@@ -57,7 +60,9 @@ any_type object (s ∷ ss) e =
     ] refl e
 
 -- that it has `object` is said with the type
-pub object_known : (facts : List Fact) (object sort : ℕ) (above : List ℕ) → list_any (λ s. s == 0) (sort ∷ above) ≡ true → with_fact (with_facts (with_fact facts (type_fact sort object)) (map (λ s. type_fact s object) above)) (type_fact 0 object) ≡ with_facts (with_fact facts (type_fact sort object)) (map (λ s. type_fact s object) above)
+pub object_known : (facts : List Fact) (object sort : ℕ) (above : List ℕ)
+    → list_any (λ s. s == 0) (sort ∷ above) ≡ true
+    → with_fact (with_facts (with_fact facts (type_fact sort object)) (map (λ s. type_fact s object) above)) (type_fact 0 object) ≡ with_facts (with_fact facts (type_fact sort object)) (map (λ s. type_fact s object) above)
 object_known facts object sort above e = known_already facts (map (λ s. type_fact s object) (sort ∷ above)) (type_fact 0 object) ((fact_member (map (λ s. type_fact s object) (sort ∷ above)) (type_fact 0 object)).0 (any_type object (sort ∷ above) e))
 
 any_last : (xs : List ℕ) → list_any (λ s. s == 0) (xs ++ 0 ∷ []) ≡ true
@@ -65,7 +70,9 @@ any_last [] = refl
 any_last (x ∷ xs) = right_true _ _ (any_last xs)
 
 -- and with any type of a declared object
-pub types_known : (domain : Domain) (facts : List Fact) (object : ℕ) (sorts : List ℕ) → 0 < length sorts → length (unwrap_or (option_map (λ s. s.above) (slice_get domain.sorts 0)) []) ≡ 0
+pub types_known : (domain : Domain) (facts : List Fact) (object : ℕ) (sorts : List ℕ)
+    → 0 < length sorts
+    → length (unwrap_or (option_map (λ s. s.above) (slice_get domain.sorts 0)) []) ≡ 0
     → with_facts (with_facts facts (flat_map (λ sort. type_facts domain sort object) sorts)) (type_facts domain 0 object) ≡ with_facts facts (flat_map (λ sort. type_facts domain sort object) sorts)
 types_known domain facts object [] some none = absurd (omega arith)
 types_known domain facts object (sort ∷ sorts) some none =
@@ -78,17 +85,23 @@ types_known domain facts object (sort ∷ sorts) some none =
     ∙ ap (λ fs. with_fact fs (type_fact 0 object)) again ∙ again
 
 -- one block of facts more
-pub block_more : {A : Type 0} (f : A → List Fact) (xs : List A) (i : ℕ) (d : A) (facts new : List Fact) → i < length xs → new ≡ with_facts facts (f (get_or xs i d)) → with_facts new (flat_map f (drop (i + 1) xs)) ≡ with_facts facts (flat_map f (drop i xs))
+pub block_more : {A : Type 0} (f : A → List Fact) (xs : List A) (i : ℕ) (d : A) (facts new : List Fact)
+    → i < length xs → new ≡ with_facts facts (f (get_or xs i d))
+    → with_facts new (flat_map f (drop (i + 1) xs)) ≡ with_facts facts (flat_map f (drop i xs))
 block_more f xs i d facts new lt grown =
     let left : drop i xs ≡ get_or xs i d ∷ drop (i + 1) xs = drop-cons xs i d lt ∙ (λ j. get_or xs i d ∷ drop (sym (add-one i) j) xs) in
     ap (λ fs. with_facts fs (flat_map f (drop (i + 1) xs))) grown ∙ sym (facts_then facts (f (get_or xs i d)) (flat_map f (drop (i + 1) xs))) ∙ ap (λ ys. with_facts facts (flat_map f ys)) (sym left)
 
 -- all blocks, and then one at the end
-pub block_end : {A : Type 0} (f : A → List Fact) (xs : List A) (last : A) (facts : List Fact) → with_facts (with_facts facts (flat_map f xs)) (f last) ≡ with_facts facts (flat_map f (xs ++ last ∷ []))
+pub block_end : {A : Type 0} (f : A → List Fact) (xs : List A) (last : A) (facts : List Fact)
+    → with_facts (with_facts facts (flat_map f xs)) (f last) ≡ with_facts facts (flat_map f (xs ++ last ∷ []))
 block_end f xs last facts =
     sym (facts_then facts (flat_map f xs) (f last)) ∙ ap (with_facts facts) (ap (λ ys. flat_map f xs ++ ys) (sym (append-nil (f last))) ∙ sym (flat_map-append f xs (last ∷ [])))
 
-pub object_more : (domain : Domain) (xs : List Declared) (i : ℕ) (x : Declared) (facts new : List Fact) → i < length xs → x ≡ get_or xs i x → new ≡ with_facts facts (flat_map (λ sort. type_facts domain sort i) (x.sorts ++ 0 ∷ [])) → with_facts new (declared_types domain (i + 1) (drop (i + 1) xs)) ≡ with_facts facts (declared_types domain i (drop i xs))
+pub object_more : (domain : Domain) (xs : List Declared) (i : ℕ) (x : Declared) (facts new : List Fact)
+    → i < length xs → x ≡ get_or xs i x
+    → new ≡ with_facts facts (flat_map (λ sort. type_facts domain sort i) (x.sorts ++ 0 ∷ []))
+    → with_facts new (declared_types domain (i + 1) (drop (i + 1) xs)) ≡ with_facts facts (declared_types domain i (drop i xs))
 object_more domain xs i x facts new lt is grown =
     let left : drop i xs ≡ x ∷ drop (i + 1) xs = drop-cons xs i x lt ∙ (λ j. sym is j ∷ drop (sym (add-one i) j) xs) in
     ap (λ fs. with_facts fs (declared_types domain (i + 1) (drop (i + 1) xs))) grown
@@ -98,7 +111,9 @@ object_more domain xs i x facts new lt is grown =
 -- ---- names
 
 -- the next name is a new one
-pub name_next : {A : Type 0} (f : A → List ℕ) (xs : List A) (i : ℕ) (x : A) → AreDistinct (map f xs) → i < length xs → x ≡ get_or xs i x → with_name (map f (take i xs)) (f x) ≡ map f (take (i + 1) xs)
+pub name_next : {A : Type 0} (f : A → List ℕ) (xs : List A) (i : ℕ) (x : A) → AreDistinct (map f xs)
+    → i < length xs → x ≡ get_or xs i x
+    → with_name (map f (take i xs)) (f x) ≡ map f (take (i + 1) xs)
 name_next f xs i x distinct lt is =
     sym (with_name-new (map f (take i xs)) (f x) absent) ∙ sym (map_push f (take i xs) x) ∙ ap (map f) (ap (λ y. take i xs ++ y ∷ []) is ∙ sym (take_more xs i x lt))
   where
@@ -114,23 +129,32 @@ name_next f xs i x distinct lt is =
 
 -- ---- roles
 
-pub roles_length : (domain : Domain) → domain.roles ≡ map (role_of domain) (numbers_from 0 (length domain.predicates)) → length domain.roles ≡ length domain.predicates
-roles_length domain is = ap length is ∙ length-map (numbers_from 0 (length domain.predicates)) (role_of domain) ∙ length-numbers_from 0 (length domain.predicates)
+pub roles_length : (domain : Domain)
+    → domain.roles ≡ map (role_of domain) (numbers_from 0 (length domain.predicates))
+    → length domain.roles ≡ length domain.predicates
+roles_length domain is =
+    ap length is ∙ length-map (numbers_from 0 (length domain.predicates)) (role_of domain)
+    ∙ length-numbers_from 0 (length domain.predicates)
 
-pub role_is : (domain : Domain) (pred : ℕ) (d : Role) → domain.roles ≡ map (role_of domain) (numbers_from 0 (length domain.predicates)) → pred < length domain.predicates → get_or domain.roles pred d ≡ role_of domain pred
+pub role_is : (domain : Domain) (pred : ℕ) (d : Role)
+    → domain.roles ≡ map (role_of domain) (numbers_from 0 (length domain.predicates))
+    → pred < length domain.predicates → get_or domain.roles pred d ≡ role_of domain pred
 role_is domain pred d is lt = let e : 0 + pred ≡ pred = omega arith in ap (λ rs. get_or rs pred d) is ∙ get-map-numbers (role_of domain) 0 (length domain.predicates) pred d lt ∙ ap (role_of domain) e
 
 -- ---- fit facts and values
 
-arity_place : (signatures : List Signature) (place n : ℕ) → has_arity signatures place n ≡ true → place < length signatures
+arity_place : (signatures : List Signature) (place n : ℕ) → has_arity signatures place n ≡ true
+    → place < length signatures
 arity_place [] place n e = absurd (cc)
 arity_place (s ∷ ss) zero n e = omega arith
 arity_place (s ∷ ss) (suc place) n e = omega (arith, arity_place ss place n e)
 
-pub objects_in : (names : List (List ℕ)) (objects : List ℕ) → list_all (λ o. nat_lt o (length names)) objects ≡ true → All (IsIn names) objects
+pub objects_in : (names : List (List ℕ)) (objects : List ℕ)
+    → list_all (λ o. nat_lt o (length names)) objects ≡ true → All (IsIn names) objects
 objects_in names objects all k d lt = in_names names _ (ltb-true _ _ (AllPass-from_list_all (λ o. nat_lt o (length names)) objects all k d lt))
 
-pub fact_place : (domain : Domain) (objects : ℕ) (fact : Fact) → is_fit_fact domain objects fact ≡ true → fact.name < length domain.predicates
+pub fact_place : (domain : Domain) (objects : ℕ) (fact : Fact)
+    → is_fit_fact domain objects fact ≡ true → fact.name < length domain.predicates
 fact_place domain objects fact e =
     let a = is_predicate fact.kind in
     let b = has_arity domain.predicates fact.name (length fact.args) in
@@ -138,7 +162,8 @@ fact_place domain objects fact e =
     let d = not (is_derived_role (role_of domain fact.name)) in
     arity_place domain.predicates fact.name (length fact.args) (second_so a b (first_so (a && b) c (first_so (a && b && c) d e)))
 
-pub fact_objects : (domain : Domain) (names : List (List ℕ)) (fact : Fact) → is_fit_fact domain (length names) fact ≡ true → All (IsIn names) fact.args
+pub fact_objects : (domain : Domain) (names : List (List ℕ)) (fact : Fact)
+    → is_fit_fact domain (length names) fact ≡ true → All (IsIn names) fact.args
 fact_objects domain names fact e =
     let a = is_predicate fact.kind in
     let b = has_arity domain.predicates fact.name (length fact.args) in
@@ -146,7 +171,8 @@ fact_objects domain names fact e =
     let d = not (is_derived_role (role_of domain fact.name)) in
     objects_in names fact.args (second_so (a && b) c (first_so (a && b && c) d e))
 
-pub value_objects : (domain : Domain) (names : List (List ℕ)) (v : Valued) → is_fit_value domain (length names) v ≡ true → All (IsIn names) v.args
+pub value_objects : (domain : Domain) (names : List (List ℕ)) (v : Valued)
+    → is_fit_value domain (length names) v ≡ true → All (IsIn names) v.args
 value_objects domain names v e =
     let a = has_arity domain.functions v.func (length v.args) in
     let b = list_all (λ o. nat_lt o (length names)) v.args in
@@ -154,7 +180,9 @@ value_objects domain names v e =
     objects_in names v.args (second_so a b (first_so (a && b) c e))
 
 -- names, facts and values together
-pub all_at_first : (task : Task) (known : Known) → known.names ≡ declared_names task → known.facts ≡ with_facts (with_facts [] (declared_types task.domain 0 task.problem.objects)) (filter (is_static task.domain) task.problem.init) → known.values ≡ with_values [] task.problem.values → known ≡ initial_known task
+pub all_at_first : (task : Task) (known : Known) → known.names ≡ declared_names task
+    → known.facts ≡ with_facts (with_facts [] (declared_types task.domain 0 task.problem.objects)) (filter (is_static task.domain) task.problem.init)
+    → known.values ≡ with_values [] task.problem.values → known ≡ initial_known task
 all_at_first task known names facts values =
     let together = facts ∙ sym (facts_then [] (declared_types task.domain 0 task.problem.objects) (filter (is_static task.domain) task.problem.init)) in
     λ i. record { names = names i; facts = together i; values = values i }

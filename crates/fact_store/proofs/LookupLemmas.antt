@@ -15,11 +15,13 @@ first_of fact = slice_get fact.args 0
 
 module _ (sort : ℕ) where
   -- each of these facts says of its one argument that it has the type
-  objects_are : (facts : List Fact) → map first_of (facts_with Objects (sort, 0) facts) ≡ map Some (objects_of facts sort)
+  objects_are : (facts : List Fact)
+      → map first_of (facts_with Objects (sort, 0) facts) ≡ map Some (objects_of facts sort)
   objects_are [] = refl
   objects_are (f ∷ fs) = step f.kind f.name f.args (objects_are fs)
     where
-      step : (k : Kind) (n : ℕ) (args : List ℕ) → map first_of (facts_with Objects (sort, 0) fs) ≡ map Some (objects_of fs sort)
+      step : (k : Kind) (n : ℕ) (args : List ℕ)
+          → map first_of (facts_with Objects (sort, 0) fs) ≡ map Some (objects_of fs sort)
           → map first_of (facts_with Objects (sort, 0) (record { kind = k; name = n; args = args } ∷ fs)) ≡ map Some (objects_of (record { kind = k; name = n; args = args } ∷ fs) sort)
       step Predicate n args rest = rest
       step Sort n [] rest = rest
@@ -30,21 +32,34 @@ module _ (sort : ℕ) where
           ]
       step Sort n (o ∷ p ∷ more) rest = rest
 
-  pub objects_counted : (facts : List Fact) → length (facts_with Objects (sort, 0) facts) ≡ length (objects_of facts sort)
-  objects_counted facts = sym (length-map (facts_with Objects (sort, 0) facts) first_of) ∙ ap length (objects_are facts) ∙ length-map (objects_of facts sort) Some
+  pub objects_counted : (facts : List Fact)
+      → length (facts_with Objects (sort, 0) facts) ≡ length (objects_of facts sort)
+  objects_counted facts =
+      sym (length-map (facts_with Objects (sort, 0) facts) first_of) ∙ ap length (objects_are facts)
+      ∙ length-map (objects_of facts sort) Some
 
-  taken : (facts : List Fact) (i : ℕ) → option_map first_of (slice_get (facts_with Objects (sort, 0) facts) i) ≡ option_map Some (slice_get (objects_of facts sort) i)
-  taken facts i = sym (slice_get-map first_of (facts_with Objects (sort, 0) facts) i) ∙ ap (λ xs. slice_get xs i) (objects_are facts) ∙ slice_get-map Some (objects_of facts sort) i
+  taken : (facts : List Fact) (i : ℕ)
+      → option_map first_of (slice_get (facts_with Objects (sort, 0) facts) i) ≡ option_map Some (slice_get (objects_of facts sort) i)
+  taken facts i =
+      sym (slice_get-map first_of (facts_with Objects (sort, 0) facts) i)
+      ∙ ap (λ xs. slice_get xs i) (objects_are facts)
+      ∙ slice_get-map Some (objects_of facts sort) i
 
-  pub object_at : (facts : List Fact) (i : ℕ) (fact : Fact) → slice_get (facts_with Objects (sort, 0) facts) i ≡ Some fact → slice_get fact.args 0 ≡ slice_get (objects_of facts sort) i
-  object_at facts i fact at = same (slice_get (objects_of facts sort) i) (sym (ap (option_map first_of) at) ∙ taken facts i)
+  pub object_at : (facts : List Fact) (i : ℕ) (fact : Fact)
+      → slice_get (facts_with Objects (sort, 0) facts) i ≡ Some fact
+      → slice_get fact.args 0 ≡ slice_get (objects_of facts sort) i
+  object_at facts i fact at =
+      same (slice_get (objects_of facts sort) i) (sym (ap (option_map first_of) at) ∙ taken facts i)
     where
       same : (o : Option ℕ) → Some (first_of fact) ≡ option_map Some o → first_of fact ≡ o
       same None e = absurd (cc)
       same (Some x) e = cc
 
-  pub no_object_at : (facts : List Fact) (i : ℕ) → slice_get (facts_with Objects (sort, 0) facts) i ≡ None → None ≡ slice_get (objects_of facts sort) i
-  no_object_at facts i at = same (slice_get (objects_of facts sort) i) (sym (ap (option_map first_of) at) ∙ taken facts i)
+  pub no_object_at : (facts : List Fact) (i : ℕ)
+      → slice_get (facts_with Objects (sort, 0) facts) i ≡ None
+      → None ≡ slice_get (objects_of facts sort) i
+  no_object_at facts i at =
+      same (slice_get (objects_of facts sort) i) (sym (ap (option_map first_of) at) ∙ taken facts i)
     where
       same : (o : Option ℕ) → None ≡ option_map (λ (n : ℕ). Some n) o → None ≡ o
       same None e = refl

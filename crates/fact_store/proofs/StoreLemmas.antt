@@ -14,13 +14,15 @@ use Rattle.lemmas.proofs.Bools.{not_both}
 use Rattle.lemmas.proofs.ListTests.{all_one}
 
 -- what a call leaves: the list with one more, or as it was
-pub grown : {T E A : Type 0} (r : Result T E) (old put more new : List A) → put ≡ more → OnOk r (new ≡ put) → OnErr r (new ≡ old) → (new ≡ more) ⊎ (new ≡ old)
+pub grown : {T E A : Type 0} (r : Result T E) (old put more new : List A) → put ≡ more
+    → OnOk r (new ≡ put) → OnErr r (new ≡ old) → (new ≡ more) ⊎ (new ≡ old)
 grown (Ok x) old put more new same ok err = inl (ok ∙ same)
 grown (Err e) old put more new same ok err = inr err
 
 -- ---- names
 
-pub in_more : (names more : List (List ℕ)) (object : ℕ) → IsIn names object → IsIn (names ++ more) object
+pub in_more : (names more : List (List ℕ)) (object : ℕ) → IsIn names object
+    → IsIn (names ++ more) object
 in_more [] more object h = absurd (not_both false h refl)
 in_more (n ∷ ns) more zero h = refl
 in_more (n ∷ ns) more (suc object) h = in_more ns more object h
@@ -28,23 +30,30 @@ in_more (n ∷ ns) more (suc object) h = in_more ns more object h
 numbers_equivalence : IsEquivalence same_numbers
 numbers_equivalence = decided same_numbers numbers_decided
 
-pub name_found : (names : List (List ℕ)) (name : List ℕ) → Contains names name → list_any (same_numbers name) names ≡ true
+pub name_found : (names : List (List ℕ)) (name : List ℕ) → Contains names name
+    → list_any (same_numbers name) names ≡ true
 name_found names name m = list_any-from_Contains numbers_equivalence name names m
 
-pub name_absent : (names : List (List ℕ)) (name : List ℕ) → ¬ (Contains names name) → list_any (same_numbers name) names ≡ false
+pub name_absent : (names : List (List ℕ)) (name : List ℕ) → ¬ (Contains names name)
+    → list_any (same_numbers name) names ≡ false
 name_absent names name absent =
     elim (list_any (same_numbers name) names) as (λ b. list_any (same_numbers name) names ≡ b → b ≡ false) [
       | true ↦ λ there. absurd (absent (Contains-from_any (λ x y. (numbers_decided x y).0) name names there))
       | false ↦ λ _. refl
     ] refl
 
-pub with_name-old : (names : List (List ℕ)) (name : List ℕ) → Contains names name → names ≡ with_name names name
-with_name-old names name m = sym (ap (λ b. cond b names (names ++ name ∷ [])) (name_found names name m))
+pub with_name-old : (names : List (List ℕ)) (name : List ℕ) → Contains names name
+    → names ≡ with_name names name
+with_name-old names name m =
+    sym (ap (λ b. cond b names (names ++ name ∷ [])) (name_found names name m))
 
-pub with_name-new : (names : List (List ℕ)) (name : List ℕ) → ¬ (Contains names name) → names ++ name ∷ [] ≡ with_name names name
-with_name-new names name absent = sym (ap (λ b. cond b names (names ++ name ∷ [])) (name_absent names name absent))
+pub with_name-new : (names : List (List ℕ)) (name : List ℕ) → ¬ (Contains names name)
+    → names ++ name ∷ [] ≡ with_name names name
+with_name-new names name absent =
+    sym (ap (λ b. cond b names (names ++ name ∷ [])) (name_absent names name absent))
 
-pub name_pushed : (known : Known) (name : List ℕ) → ¬ (Contains known.names name) → IsCoherent known → IsCoherent (record known { names = known.names ++ name ∷ [] })
+pub name_pushed : (known : Known) (name : List ℕ) → ¬ (Contains known.names name) → IsCoherent known
+    → IsCoherent (record known { names = known.names ++ name ∷ [] })
 name_pushed known name absent c = record {
   names = distinct_push known.names name c.names absent;
   facts = c.facts;
@@ -53,7 +62,9 @@ name_pushed known name absent c = record {
   costs = c.costs;
 }
 
-pub name_kept : (known : Known) (names : List (List ℕ)) (name : List ℕ) → ¬ (Contains known.names name) → (names ≡ known.names ++ name ∷ []) ⊎ (names ≡ known.names) → IsCoherent known → IsCoherent (record known { names = names })
+pub name_kept : (known : Known) (names : List (List ℕ)) (name : List ℕ)
+    → ¬ (Contains known.names name) → (names ≡ known.names ++ name ∷ []) ⊎ (names ≡ known.names)
+    → IsCoherent known → IsCoherent (record known { names = names })
 name_kept known names name absent cases c =
     elim cases [
       | inl e ↦ subst (λ ns. IsCoherent (record known { names = ns })) (sym e) (name_pushed known name absent c)
@@ -62,14 +73,17 @@ name_kept known names name absent cases c =
 
 -- ---- facts
 
-objects_kept : (names : List (List ℕ)) (facts : List Fact) (fact : Fact) → All (IsIn names) fact.args → All (λ (f : Fact). All (IsIn names) f.args) facts → All (λ (f : Fact). All (IsIn names) f.args) (with_fact facts fact)
+objects_kept : (names : List (List ℕ)) (facts : List Fact) (fact : Fact)
+    → All (IsIn names) fact.args → All (λ (f : Fact). All (IsIn names) f.args) facts
+    → All (λ (f : Fact). All (IsIn names) f.args) (with_fact facts fact)
 objects_kept names facts fact one all =
     elim (is_fact facts fact) as (λ b. All (λ (f : Fact). All (IsIn names) f.args) (cond b facts (facts ++ fact ∷ []))) [
       | true ↦ all
       | false ↦ All-append (λ (f : Fact). All (IsIn names) f.args) facts (fact ∷ []) all (all_one (λ (f : Fact). All (IsIn names) f.args) fact one)
     ]
 
-fact_pushed : (known : Known) (fact : Fact) → All (IsIn known.names) fact.args → IsCoherent known → IsCoherent (record known { facts = with_fact known.facts fact })
+fact_pushed : (known : Known) (fact : Fact) → All (IsIn known.names) fact.args → IsCoherent known
+    → IsCoherent (record known { facts = with_fact known.facts fact })
 fact_pushed known fact one c = record {
   names = c.names;
   facts = (with_fact-is known.facts fact).distinct c.facts;
@@ -78,7 +92,9 @@ fact_pushed known fact one c = record {
   costs = c.costs;
 }
 
-pub fact_kept : (known : Known) (facts : List Fact) (fact : Fact) → All (IsIn known.names) fact.args → (facts ≡ with_fact known.facts fact) ⊎ (facts ≡ known.facts) → IsCoherent known → IsCoherent (record known { facts = facts })
+pub fact_kept : (known : Known) (facts : List Fact) (fact : Fact) → All (IsIn known.names) fact.args
+    → (facts ≡ with_fact known.facts fact) ⊎ (facts ≡ known.facts) → IsCoherent known
+    → IsCoherent (record known { facts = facts })
 fact_kept known facts fact one cases c =
     elim cases [
       | inl e ↦ subst (λ fs. IsCoherent (record known { facts = fs })) (sym e) (fact_pushed known fact one c)
@@ -87,7 +103,8 @@ fact_kept known facts fact one cases c =
 
 -- ---- values
 
-value_pushed : (known : Known) (value : Valued) → value.value ≤ 1000000 → IsCoherent known → IsCoherent (record known { values = with_value known.values value })
+value_pushed : (known : Known) (value : Valued) → value.value ≤ 1000000 → IsCoherent known
+    → IsCoherent (record known { values = with_value known.values value })
 value_pushed known value cost c =
     elim (list_any (same_value value) known.values) as (λ b. list_any (same_value value) known.values ≡ b → IsCoherent (record known { values = cond b known.values (known.values ++ value ∷ []) })) [
       | true ↦ λ _. c
@@ -100,7 +117,9 @@ value_pushed known value cost c =
       }
     ] refl
 
-pub value_kept : (known : Known) (values : List Valued) (value : Valued) → value.value ≤ 1000000 → (values ≡ with_value known.values value) ⊎ (values ≡ known.values) → IsCoherent known → IsCoherent (record known { values = values })
+pub value_kept : (known : Known) (values : List Valued) (value : Valued) → value.value ≤ 1000000
+    → (values ≡ with_value known.values value) ⊎ (values ≡ known.values) → IsCoherent known
+    → IsCoherent (record known { values = values })
 value_kept known values value cost cases c =
     elim cases [
       | inl e ↦ subst (λ vs. IsCoherent (record known { values = vs })) (sym e) (value_pushed known value cost c)
@@ -110,5 +129,8 @@ value_kept known values value cost cases c =
 -- ---- stores
 
 -- a store is another where names, facts and values are the same
-pub stays : (store before : Store) → store.known.names ≡ before.known.names → store.known.facts ≡ before.known.facts → store.known.values ≡ before.known.values → store ≡ before
-stays store before names facts values = same_store store before (λ i. record { names = names i; facts = facts i; values = values i })
+pub stays : (store before : Store) → store.known.names ≡ before.known.names
+    → store.known.facts ≡ before.known.facts → store.known.values ≡ before.known.values
+    → store ≡ before
+stays store before names facts values =
+    same_store store before (λ i. record { names = names i; facts = facts i; values = values i })

@@ -20,7 +20,8 @@ coherent_prop known x y i = record {
   names = λ a b n p q. Coded-set coded_ℕ a b (x.names a b n p q) (y.names a b n p q) i;
   facts = λ a b n p q. Coded-set coded_ℕ a b (x.facts a b n p q) (y.facts a b n p q) i;
   values = λ a b n p q. Coded-set coded_ℕ a b (x.values a b n p q) (y.values a b n p q) i;
-  objects = λ k f h j d l. Coded-set coded_bool _ _ (x.objects k f h j d l) (y.objects k f h j d l) i;
+  objects =
+      λ k f h j d l. Coded-set coded_bool _ _ (x.objects k f h j d l) (y.objects k f h j d l) i;
   costs = λ k v h. le_prop (x.costs k v h) (y.costs k v h) i;
 }
 

@@ -52,11 +52,14 @@ places_in lists q = places_found (get same_key lists q)
 -- The table is right about the first `done` facts: under each key stand the places of those that have it, in turn.
 pub record Covers (group : Group) (facts : List Fact) (table : Table) : Type 0 where
   pub within : table.done ≤ length facts
-  pub places : (q : Key) → map (slice_get facts) (places_in table.lists q) ≡ map Some (facts_with group q (take table.done facts))
+  pub places : (q : Key)
+      → map (slice_get facts) (places_in table.lists q) ≡ map Some (facts_with group q (take table.done facts))
 
 -- The tables of the places of arguments cover a front each.
 abbrev pub CoverPlaces : List Fact → List Table → Type 0
-CoverPlaces facts tables = (place : ℕ) (table : Table) → slice_get tables place ≡ Some table → Covers (AtomsAt place) facts table
+CoverPlaces facts tables =
+    (place : ℕ) (table : Table) → slice_get tables place ≡ Some table
+    → Covers (AtomsAt place) facts table
 
 -- Each table of a store covers a front of its facts.
 pub record AreCovered (facts : List Fact) (by_type by_predicate : Table) (by_place : List Table) : Type 0 where

@@ -43,7 +43,8 @@ impl Model for FactTable {
 
 /// Puts tables behind the others, up to this count or as far as memory reaches.
 fn add_tables(tables: &mut Vec<Table>, alloc: Global, count: usize)
-    ensures { (facts : List Fact) → CoverPlaces facts tables.old.items → CoverPlaces facts tables.new.items }
+    ensures { (facts : List Fact) → CoverPlaces facts tables.old.items
+        → CoverPlaces facts tables.new.items }
 {
     for _ in tables.len()..count {
         if tables.push(Table::new(alloc)).is_err() {

@@ -90,7 +90,8 @@ impl Facts {
 
     /// The object with this name, or None exactly where no object has it. It takes no memory.
     pub fn object_of(&self, name: &[u8]) -> Option<Obj>
-        ensures found { IfSome result (λ object. slice_get self.now.known.names object ≡ Some name.now) }
+        ensures found { IfSome result
+            (λ object. slice_get self.now.known.names object ≡ Some name.now) }
         ensures none { IfNone result (¬ (Contains self.now.known.names name.now)) }
     {
         let (place, _) = self.places.get_full(name)?;
@@ -160,8 +161,13 @@ impl Facts {
     pub fn add_value(&mut self, func: u32, args: Row, value: u32) -> Result<bool, AllocError>
         requires objects { All (IsIn self.old.known.names) args }
         requires cost { value ≤ 1000000 }
-        ensures fresh { IfOk result (λ fresh. fresh ≡ not (list_any (same_value (record { func = func; args = args; value = value })) self.old.known.values)) }
-        ensures values { OnOk result (self.new.known.values ≡ with_value self.old.known.values (record { func = func; args = args; value = value })) }
+        ensures fresh { IfOk result
+            (λ fresh. fresh ≡ not (list_any
+            (same_value (record { func = func; args = args; value = value }))
+            self.old.known.values)) }
+        ensures values { OnOk result
+            (self.new.known.values ≡ with_value self.old.known.values
+            (record { func = func; args = args; value = value })) }
         ensures names { self.new.known.names ≡ self.old.known.names }
         ensures facts { self.new.known.facts ≡ self.old.known.facts }
         ensures err { OnErr result (self.new ≡ self.old) }

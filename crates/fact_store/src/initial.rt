@@ -34,7 +34,8 @@ pub(crate) fn add_names(
 /// That the object has the type.
 fn add_type(facts: &mut Facts, alloc: Global, sort: u32, object: Obj) -> Result<(), AllocError>
     requires { IsIn facts.old.known.names object }
-    ensures facts { OnOk result (facts.new.known.facts ≡ with_fact facts.old.known.facts (type_fact sort object)) }
+    ensures facts { OnOk result (facts.new.known.facts
+        ≡ with_fact facts.old.known.facts (type_fact sort object)) }
     ensures names { OnOk result (facts.new.known.names ≡ facts.old.known.names) }
     ensures values { OnOk result (facts.new.known.values ≡ facts.old.known.values) }
 {
@@ -50,7 +51,8 @@ fn add_type(facts: &mut Facts, alloc: Global, sort: u32, object: Obj) -> Result<
 /// That the object has each of these types.
 fn add_types(facts: &mut Facts, alloc: Global, sorts: &[u32], object: Obj) -> Result<(), AllocError>
     requires { IsIn facts.old.known.names object }
-    ensures facts { OnOk result (facts.new.known.facts ≡ with_facts facts.old.known.facts (map (λ s. type_fact s object) sorts.now)) }
+    ensures facts { OnOk result (facts.new.known.facts
+        ≡ with_facts facts.old.known.facts (map (λ s. type_fact s object) sorts.now)) }
     ensures names { OnOk result (facts.new.known.names ≡ facts.old.known.names) }
     ensures values { OnOk result (facts.new.known.values ≡ facts.old.known.values) }
 {
@@ -62,7 +64,8 @@ fn add_types(facts: &mut Facts, alloc: Global, sorts: &[u32], object: Obj) -> Re
 
 /// The proper supertypes of the type, and none where there is no such type.
 fn supertypes(domain: &Domain, sort: u32) -> &[u32]
-    ensures { result.now ≡ unwrap_or (option_map (λ s. s.above) (slice_get domain.now.sorts sort)) [] }
+    ensures { result.now ≡ unwrap_or (option_map (λ s. s.above) (slice_get domain.now.sorts sort))
+        [] }
 {
     match domain.sorts.as_slice().get(sort as usize) {
         Some(declared) => declared.above.as_slice(),
@@ -87,7 +90,8 @@ pub fn add_supertypes(
     object: Obj,
 ) -> Result<(), AllocError>
     requires { IsIn facts.old.known.names object }
-    ensures facts { OnOk result (facts.new.known.facts ≡ with_facts facts.old.known.facts (type_facts domain.now sort object)) }
+    ensures facts { OnOk result (facts.new.known.facts
+        ≡ with_facts facts.old.known.facts (type_facts domain.now sort object)) }
     ensures names { OnOk result (facts.new.known.names ≡ facts.old.known.names) }
     ensures values { OnOk result (facts.new.known.values ≡ facts.old.known.values) }
 {
@@ -103,7 +107,8 @@ pub fn add_supertypes(
 /// Whether there is a type among these, and nothing above `object`.
 fn is_typed(domain: &Domain, sorts: &[u32]) -> bool
     ensures typed { result ≡ true → 0 < length sorts.now }
-    ensures top { result ≡ true → length (unwrap_or (option_map (λ s. s.above) (slice_get domain.now.sorts 0)) []) ≡ 0 }
+    ensures top { result ≡ true → length
+        (unwrap_or (option_map (λ s. s.above) (slice_get domain.now.sorts 0)) []) ≡ 0 }
 {
     !sorts.is_empty() && supertypes(domain, 0).is_empty()
 }
@@ -117,7 +122,9 @@ fn add_object(
     object: Obj,
 ) -> Result<(), AllocError>
     requires { IsIn facts.old.known.names object }
-    ensures facts { OnOk result (facts.new.known.facts ≡ with_facts facts.old.known.facts (flat_map (λ sort. type_facts domain.now sort object) (declared.now.sorts ++ 0 ∷ []))) }
+    ensures facts { OnOk result (facts.new.known.facts
+        ≡ with_facts facts.old.known.facts
+        (flat_map (λ sort. type_facts domain.now sort object) (declared.now.sorts ++ 0 ∷ []))) }
     ensures names { OnOk result (facts.new.known.names ≡ facts.old.known.names) }
     ensures values { OnOk result (facts.new.known.values ≡ facts.old.known.values) }
 {
@@ -139,7 +146,8 @@ pub(crate) fn add_objects(
 ) -> Result<(), AllocError>
     requires named { length objects.now ≤ length facts.old.known.names }
     requires few { length objects.now ≤ 8388608 }
-    ensures facts { OnOk result (facts.new.known.facts ≡ with_facts facts.old.known.facts (declared_types domain.now 0 objects.now)) }
+    ensures facts { OnOk result (facts.new.known.facts
+        ≡ with_facts facts.old.known.facts (declared_types domain.now 0 objects.now)) }
     ensures names { OnOk result (facts.new.known.names ≡ facts.old.known.names) }
     ensures values { OnOk result (facts.new.known.values ≡ facts.old.known.values) }
 {
@@ -151,7 +159,8 @@ pub(crate) fn add_objects(
 
 /// What changes the predicate's atoms.
 fn role_at(domain: &Domain, pred: u32) -> Role
-    requires roles { domain.now.roles ≡ map (role_of domain.now) (numbers_from 0 (length domain.now.predicates)) }
+    requires roles { domain.now.roles
+        ≡ map (role_of domain.now) (numbers_from 0 (length domain.now.predicates)) }
     requires place { pred < length domain.now.predicates }
     ensures { result ≡ role_of domain.now pred }
 {
@@ -160,7 +169,8 @@ fn role_at(domain: &Domain, pred: u32) -> Role
 
 /// Whether the fact is an atom of a static predicate.
 fn is_static_fact(domain: &Domain, fact: &Fact) -> bool
-    requires roles { domain.now.roles ≡ map (role_of domain.now) (numbers_from 0 (length domain.now.predicates)) }
+    requires roles { domain.now.roles
+        ≡ map (role_of domain.now) (numbers_from 0 (length domain.now.predicates)) }
     requires place { fact.now.name < length domain.now.predicates }
     ensures { result ≡ is_static domain.now fact.now }
 {
@@ -179,9 +189,12 @@ pub(crate) fn add_static(
     domain: &Domain,
     init: &[Fact],
 ) -> Result<(), AllocError>
-    requires roles { domain.now.roles ≡ map (role_of domain.now) (numbers_from 0 (length domain.now.predicates)) }
-    requires fit { list_all (is_fit_fact domain.now (length facts.old.known.names)) init.now ≡ true }
-    ensures facts { OnOk result (facts.new.known.facts ≡ with_facts facts.old.known.facts (filter (is_static domain.now) init.now)) }
+    requires roles { domain.now.roles
+        ≡ map (role_of domain.now) (numbers_from 0 (length domain.now.predicates)) }
+    requires fit { list_all (is_fit_fact domain.now (length facts.old.known.names)) init.now
+        ≡ true }
+    ensures facts { OnOk result (facts.new.known.facts
+        ≡ with_facts facts.old.known.facts (filter (is_static domain.now) init.now)) }
     ensures names { OnOk result (facts.new.known.names ≡ facts.old.known.names) }
     ensures values { OnOk result (facts.new.known.values ≡ facts.old.known.values) }
 {
@@ -200,7 +213,8 @@ pub(crate) fn add_values(
     values: &[Valued],
 ) -> Result<(), AllocError>
     requires { list_all (is_fit_value domain.now (length facts.old.known.names)) values.now ≡ true }
-    ensures values { OnOk result (facts.new.known.values ≡ with_values facts.old.known.values values.now) }
+    ensures values { OnOk result (facts.new.known.values
+        ≡ with_values facts.old.known.values values.now) }
     ensures names { OnOk result (facts.new.known.names ≡ facts.old.known.names) }
     ensures facts { OnOk result (facts.new.known.facts ≡ facts.old.known.facts) }
 {

@@ -63,7 +63,8 @@ fn put(
     key: Key,
     place: u32,
 ) -> Result<(), AllocError>
-    ensures ok { OnOk result ((q : Key) → places_in lists.new q ≡ (if same_key key q then places_in lists.old q ++ place ∷ [] else places_in lists.old q)) }
+    ensures ok { OnOk result ((q : Key) → places_in lists.new q
+        ≡ (if same_key key q then places_in lists.old q ++ place ∷ [] else places_in lists.old q)) }
     ensures err { OnErr result ((q : Key) → places_in lists.new q ≡ places_in lists.old q) }
 {
     if let Some(list) = lists.get_mut(&key) {

@@ -59,7 +59,8 @@ fn lesser(least: Option<u32>, value: u32) -> u32
 
 /// The least of the term's values, where `least` is the least of those that came before these.
 fn least_value(least: Option<u32>, values: &[Valued], func: u32, args: &[Obj]) -> Option<u32>
-    ensures { (before : List Valued) → least ≡ value_of before func args.now → result ≡ value_of (before ++ values.now) func args.now }
+    ensures { (before : List Valued) → least ≡ value_of before func args.now → result
+        ≡ value_of (before ++ values.now) func args.now }
 {
     let mut least = least;
     for v in values {
@@ -72,7 +73,9 @@ fn least_value(least: Option<u32>, values: &[Valued], func: u32, args: &[Obj]) -
 
 /// Takes a value among those that the table covers. Fails only where memory is wanting, and then each term has its value still.
 fn put(least: &mut IndexMap<Term, u32>, v: &Valued) -> Result<(), AllocError>
-    ensures ok { OnOk result ((q : Term) → least_in least.new q ≡ (if same_term (v.now.func, v.now.args) q then Some (lesser_of (least_in least.old q) v.now.value) else least_in least.old q)) }
+    ensures ok { OnOk result ((q : Term) → least_in least.new q
+        ≡ (if same_term (v.now.func, v.now.args) q then Some
+        (lesser_of (least_in least.old q) v.now.value) else least_in least.old q)) }
     ensures err { OnErr result ((q : Term) → least_in least.new q ≡ least_in least.old q) }
 {
     let term = (v.func, v.args.copy()?);

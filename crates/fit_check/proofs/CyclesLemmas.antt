@@ -14,7 +14,8 @@ IsWithin edge size = (from to : ℕ) → edge from to ≡ true → (from < size)
 
 module _ (edge : ℕ → ℕ → Bool) (size : ℕ) where
   -- from a node that is done only such are reached
-  stays_done : (next : List ℕ) → IsWithin edge size → IsSettled edge size next → (between : List ℕ) (i e : ℕ) → i < size
+  stays_done : (next : List ℕ) → IsWithin edge size → IsSettled edge size next
+      → (between : List ℕ) (i e : ℕ) → i < size
       → size ≤ slice_index next i → LeadsAlong edge i between e → size ≤ slice_index next e
   stays_done next within settled [] i e low done h =
       let to = (within i e h).1 in
@@ -24,7 +25,8 @@ module _ (edge : ℕ → ℕ → Bool) (size : ℕ) where
       stays_done next within settled xs x e to (settled.passed i x low (omega arith) h.0) h.1
 
   -- a node all of whose edges lead to such is on no cycle, unless it was done before
-  fresh_clear : (next : List ℕ) → IsWithin edge size → IsSettled edge size next → (i : ℕ) → i < size → slice_index next i < size
+  fresh_clear : (next : List ℕ) → IsWithin edge size → IsSettled edge size next → (i : ℕ) → i < size
+      → slice_index next i < size
       → ((k : ℕ) → k < size → edge i k ≡ true → size ≤ slice_index next k) → (between : List ℕ) → ¬ (LeadsAlong edge i between i)
   fresh_clear next within settled i low undone all [] h =
       let done = all i low h in
@@ -43,7 +45,8 @@ module _ (edge : ℕ → ℕ → Bool) (size : ℕ) where
         | inr ne ↦ let is = get_or-set_other next i k to 0 ne in omega (arith, is)
       ]
 
-  pub settled_moved : (next : List ℕ) (i to : ℕ) → IsWithin edge size → IsSettled edge size next → i < size → slice_index next i ≤ to
+  pub settled_moved : (next : List ℕ) (i to : ℕ) → IsWithin edge size → IsSettled edge size next
+      → i < size → slice_index next i ≤ to
       → to ≤ size → ((k : ℕ) → slice_index next i ≤ k → k < to → edge i k ≡ true → size ≤ slice_index next k)
       → IsSettled edge size (slice_set next i to)
   settled_moved next i to within settled low up top new =
@@ -72,7 +75,8 @@ module _ (edge : ℕ → ℕ → Bool) (size : ℕ) where
       }
 
   -- at first no node has moved
-  pub settled_first : (next : List ℕ) → length next ≡ size → ((i : ℕ) → slice_index next i ≡ 0) → IsSettled edge size next
+  pub settled_first : (next : List ℕ) → length next ≡ size → ((i : ℕ) → slice_index next i ≡ 0)
+      → IsSettled edge size next
   settled_first next long none = record {
     long = long;
     within = λ i. omega (arith, none i);
@@ -81,23 +85,28 @@ module _ (edge : ℕ → ℕ → Bool) (size : ℕ) where
   }
 
   -- all nodes are done
-  pub acyclic_if : (next : List ℕ) → IsWithin edge size → IsSettled edge size next → list_all (λ n. nat_le size n) next ≡ true
+  pub acyclic_if : (next : List ℕ) → IsWithin edge size → IsSettled edge size next
+      → list_all (λ n. nat_le size n) next ≡ true
       → IsAcyclic edge
   acyclic_if next within settled all node [] h =
       let low = (within node node h).0 in
       settled.clear node low (each_done next all node (omega (arith, settled.long))) [] h
     where
-      each_done : (ns : List ℕ) → list_all (λ n. nat_le size n) ns ≡ true → (i : ℕ) → i < length ns → size ≤ slice_index ns i
+      each_done : (ns : List ℕ) → list_all (λ n. nat_le size n) ns ≡ true → (i : ℕ) → i < length ns
+          → size ≤ slice_index ns i
       each_done [] all i h = absurd (omega arith)
-      each_done (n ∷ ns) all zero h = leb-true size n (first_so (nat_le size n) (list_all (λ n. nat_le size n) ns) all)
+      each_done (n ∷ ns) all zero h =
+          leb-true size n (first_so (nat_le size n) (list_all (λ n. nat_le size n) ns) all)
       each_done (n ∷ ns) all (suc i) h = each_done ns (second_so (nat_le size n) (list_all (λ n. nat_le size n) ns) all) i (omega arith)
   acyclic_if next within settled all node (x ∷ xs) h =
       let low = (within node x h.0).0 in
       settled.clear node low (each_done next all node (omega (arith, settled.long))) (x ∷ xs) h
     where
-      each_done : (ns : List ℕ) → list_all (λ n. nat_le size n) ns ≡ true → (i : ℕ) → i < length ns → size ≤ slice_index ns i
+      each_done : (ns : List ℕ) → list_all (λ n. nat_le size n) ns ≡ true → (i : ℕ) → i < length ns
+          → size ≤ slice_index ns i
       each_done [] all i h = absurd (omega arith)
-      each_done (n ∷ ns) all zero h = leb-true size n (first_so (nat_le size n) (list_all (λ n. nat_le size n) ns) all)
+      each_done (n ∷ ns) all zero h =
+          leb-true size n (first_so (nat_le size n) (list_all (λ n. nat_le size n) ns) all)
       each_done (n ∷ ns) all (suc i) h = each_done ns (second_so (nat_le size n) (list_all (λ n. nat_le size n) ns) all) i (omega arith)
 
   abbrev open_at : List ℕ → ℕ → Bool
@@ -111,7 +120,8 @@ module _ (edge : ℕ → ℕ → Bool) (size : ℕ) where
       cycle_in edge size (slice_index next) (open_at next) low (λ k h. and_from (nat_lt (slice_index next k) size) (nat_lt (slice_index next (slice_index next k)) size) (lt-ltb (slice_index next k) size (undone k h)) (lt-ltb (slice_index next (slice_index next k)) size (still k (low k h) (undone k h)).1))
       (λ k h. ([], (still k (low k h) (undone k h)).0)) i here
 
-  some_open : (ns : List ℕ) → list_all (λ n. nat_le size n) ns ≡ false → (i : ℕ) × (i < length ns) × (slice_index ns i < size)
+  some_open : (ns : List ℕ) → list_all (λ n. nat_le size n) ns ≡ false
+      → (i : ℕ) × (i < length ns) × (slice_index ns i < size)
   some_open [] e = absurd (cc)
   some_open (n ∷ ns) e =
       elim (cases_lt n size) [
@@ -134,14 +144,17 @@ module _ (edge : ℕ → ℕ → Bool) (size : ℕ) where
       ] refl
 
 -- a node that moves on leaves less work
-pub work_falls : (size : ℕ) (next : List ℕ) (i to : ℕ) → i < length next → slice_index next i < to → to ≤ size
+pub work_falls : (size : ℕ) (next : List ℕ) (i to : ℕ) → i < length next → slice_index next i < to
+    → to ≤ size
     → work_left size (slice_set next i to) < work_left size next
 work_falls size [] i to h up top = absurd (omega arith)
 work_falls size (n ∷ ns) zero to h up top = omega arith
-work_falls size (n ∷ ns) (suc i) to h up top = let less = work_falls size ns i to (omega arith) up top in omega arith
+work_falls size (n ∷ ns) (suc i) to h up top =
+    let less = work_falls size ns i to (omega arith) up top in omega arith
 
 -- all nodes before this one lead on, and so does this one, which didn't move
-pub still_more : (edge : ℕ → ℕ → Bool) (size : ℕ) (next : List ℕ) (from to : ℕ) → to ≤ slice_index next from → slice_index next from ≤ to
+pub still_more : (edge : ℕ → ℕ → Bool) (size : ℕ) (next : List ℕ) (from to : ℕ)
+    → to ≤ slice_index next from → slice_index next from ≤ to
     → (to < size → (edge from to ≡ true) × (slice_index next to < size))
     → ((i : ℕ) → i < from → slice_index next i < size → (edge i (slice_index next i) ≡ true) × (slice_index next (slice_index next i) < size))
     → (i : ℕ) → i < from + 1 → slice_index next i < size

@@ -9,14 +9,16 @@ use Rattle.lemmas.proofs.Numbers.{in_numbers}
 
 -- ---- which numbers are there
 
-below_none : (n k : ℕ) (flags : List Bool) → k < n → list_any (λ slot. slot == k) (places_of n flags) ≡ false
+below_none : (n k : ℕ) (flags : List Bool) → k < n
+    → list_any (λ slot. slot == k) (places_of n flags) ≡ false
 below_none n k [] h = refl
 below_none n k (true ∷ flags) h =
     ap (λ b. b || list_any (λ slot. slot == k) (places_of (n + 1) flags)) (ne_eqb n k (λ e. omega arith))
     ∙ below_none (n + 1) k flags (omega arith)
 below_none n k (false ∷ flags) h = below_none (n + 1) k flags (omega arith)
 
-there : (n k : ℕ) (flags : List Bool) → list_any (λ slot. slot == n + k) (places_of n flags) ≡ get_or flags k false
+there : (n k : ℕ) (flags : List Bool)
+    → list_any (λ slot. slot == n + k) (places_of n flags) ≡ get_or flags k false
 there n k [] = refl
 there n zero (true ∷ flags) = ap (λ b. b || list_any (λ slot. slot == n + 0) (places_of (n + 1) flags)) (eq-eqb n (n + 0) (omega arith))
 there n zero (false ∷ flags) = below_none (n + 1) (n + 0) flags (omega arith)
@@ -28,8 +30,10 @@ there n (suc k) (false ∷ flags) =
     ap (λ m. list_any (λ slot. slot == m) (places_of (n + 1) flags)) next ∙ there (n + 1) k flags
 
 -- a slot has a value where its flag is up
-pub flag_at : (flags : List Bool) (k : ℕ) → list_any (λ slot. slot == k) (places_of 0 flags) ≡ get_or flags k false
-flag_at flags k = ap (λ m. list_any (λ slot. slot == m) (places_of 0 flags)) (omega arith) ∙ there 0 k flags
+pub flag_at : (flags : List Bool) (k : ℕ)
+    → list_any (λ slot. slot == k) (places_of 0 flags) ≡ get_or flags k false
+flag_at flags k =
+    ap (λ m. list_any (λ slot. slot == m) (places_of 0 flags)) (omega arith) ∙ there 0 k flags
 
 -- ---- the first slots
 
@@ -37,7 +41,8 @@ pub nothing_up : (n m : ℕ) → places_of n (replicate m false) ≡ []
 nothing_up n zero = refl
 nothing_up n (suc m) = nothing_up (n + 1) m
 
-pub first_up : (n count rest : ℕ) → places_of n (replicate count true ++ replicate rest false) ≡ numbers_from n count
+pub first_up : (n count rest : ℕ)
+    → places_of n (replicate count true ++ replicate rest false) ≡ numbers_from n count
 first_up n zero rest = nothing_up n rest
 first_up n (suc count) rest = ap (λ ns. n ∷ ns) (first_up (n + 1) count rest)
 
@@ -48,14 +53,16 @@ next_up (suc count) rest = ap (λ bs. true ∷ bs) (next_up count rest)
 
 -- ---- slots that are added
 
-pub not_in_numbers : (first count n : ℕ) → (first ≤ n → first + count ≤ n) → list_any (λ slot. slot == n) (numbers_from first count) ≡ false
+pub not_in_numbers : (first count n : ℕ) → (first ≤ n → first + count ≤ n)
+    → list_any (λ slot. slot == n) (numbers_from first count) ≡ false
 not_in_numbers first zero n out = refl
 not_in_numbers first (suc count) n out =
     ap (λ b. b || list_any (λ slot. slot == n) (numbers_from (first + 1) count)) (ne_eqb first n (λ e. absurd (omega (arith, out (omega arith))))) ∙ not_in_numbers (first + 1) count n (λ h. omega (arith, out (omega arith)))
 
 -- ---- flags that are put up one after another
 
-pub flag_set : (flags : List Bool) (k n : ℕ) → (n < k → get_or flags n false ≡ true) → n < k + 1 → k < length flags
+pub flag_set : (flags : List Bool) (k n : ℕ) → (n < k → get_or flags n false ≡ true) → n < k + 1
+    → k < length flags
     → get_or (set flags k true) n false ≡ true
 flag_set flags k n before high inside =
     elim (cases_eq n k) [
@@ -63,11 +70,13 @@ flag_set flags k n before high inside =
       | inr ne ↦ get_or-set_other flags k n true false ne ∙ before (omega (arith, ne))
     ]
 
-pub flag_kept : (flags : List Bool) (k n : ℕ) → n ≢ k → get_or (set flags k true) n false ≡ get_or flags n false
+pub flag_kept : (flags : List Bool) (k n : ℕ) → n ≢ k
+    → get_or (set flags k true) n false ≡ get_or flags n false
 flag_kept flags k n ne = get_or-set_other flags k n true false ne
 
 -- the flags from the first on, so many, and those that were up
-pub flags_with : (new old : List Bool) (first count n : ℕ) → (first ≤ n → n < first + count → get_or new n false ≡ true)
+pub flags_with : (new old : List Bool) (first count n : ℕ)
+    → (first ≤ n → n < first + count → get_or new n false ≡ true)
     → ((first ≤ n → first + count ≤ n) → get_or new n false ≡ get_or old n false)
     → get_or new n false ≡ list_any (λ slot. slot == n) (numbers_from first count ++ places_of 0 old)
 flags_with new old first count n up kept =
@@ -80,7 +89,8 @@ flags_with new old first count n up kept =
           ]
     ]
   where
-    out : (first ≤ n → first + count ≤ n) → get_or new n false ≡ list_any (λ slot. slot == n) (numbers_from first count ++ places_of 0 old)
+    out : (first ≤ n → first + count ≤ n)
+        → get_or new n false ≡ list_any (λ slot. slot == n) (numbers_from first count ++ places_of 0 old)
     out o =
         kept o ∙ sym (flag_at old n)
         ∙ sym (list_any-append (λ slot. slot == n) (numbers_from first count) (places_of 0 old) ∙ ap (λ b. b || list_any (λ slot. slot == n) (places_of 0 old)) (not_in_numbers first count n o))

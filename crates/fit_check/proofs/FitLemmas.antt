@@ -28,23 +28,27 @@ and3_from a b c p q r = and_from (a && b) c (and_from a b p q) r
 abbrev signature_names : List Signature → List (List ℕ)
 signature_names = map (λ (s : Signature). s.name)
 
-signatures_if : (all : List Signature) → tests.are_fit_signatures all ≡ true → fit.AreFitSignatures all
+signatures_if : (all : List Signature) → tests.are_fit_signatures all ≡ true
+    → fit.AreFitSignatures all
 signatures_if all e =
     let parts = and3 (fit.is_short all) (list_all (λ (s : Signature). nat_le s.arity 8) all) (tests.are_fit_names (signature_names all)) e in
     record { names = names_if (signature_names all) parts.2; arities = parts.1; short = parts.0 }
 
-signatures_from : (all : List Signature) → fit.AreFitSignatures all → tests.are_fit_signatures all ≡ true
+signatures_from : (all : List Signature) → fit.AreFitSignatures all
+    → tests.are_fit_signatures all ≡ true
 signatures_from all are = and3_from (fit.is_short all) (list_all (λ (s : Signature). nat_le s.arity 8) all) (tests.are_fit_names (signature_names all)) are.short are.arities (names_from (signature_names all) are.names)
 
 abbrev object_names : List Declared → List (List ℕ)
 object_names = map (λ (d : Declared). d.name)
 
-objects_if : (domain : Domain) (all : List Declared) → tests.are_fit_objects domain all ≡ true → fit.AreFitObjects domain all
+objects_if : (domain : Domain) (all : List Declared) → tests.are_fit_objects domain all ≡ true
+    → fit.AreFitObjects domain all
 objects_if domain all e =
     let parts = and3 (fit.is_short all) (list_all (λ (d : Declared). fit.are_places (length domain.sorts) d.sorts) all) (tests.are_fit_names (object_names all)) e in
     record { names = names_if (object_names all) parts.2; types = parts.1; short = parts.0 }
 
-objects_from : (domain : Domain) (all : List Declared) → fit.AreFitObjects domain all → tests.are_fit_objects domain all ≡ true
+objects_from : (domain : Domain) (all : List Declared) → fit.AreFitObjects domain all
+    → tests.are_fit_objects domain all ≡ true
 objects_from domain all are =
     and3_from (fit.is_short all) (list_all (λ (d : Declared). fit.are_places (length domain.sorts) d.sorts) all) (tests.are_fit_names (object_names all)) are.short are.types (names_from (object_names all) are.names)
 
@@ -52,7 +56,8 @@ abbrev action_names : Domain → List (List ℕ)
 action_names domain = map (λ (a : Action). a.name) domain.actions
 
 abbrev short_actions : Domain → Bool
-short_actions domain = fit.is_short domain.actions && list_all (fit.is_fit_action domain) domain.actions
+short_actions domain =
+    fit.is_short domain.actions && list_all (fit.is_fit_action domain) domain.actions
 
 abbrev long_roles : Domain → Bool
 long_roles domain = length domain.roles == length domain.predicates
@@ -60,7 +65,8 @@ long_roles domain = length domain.roles == length domain.predicates
 abbrev few_derived : Domain → Bool
 few_derived domain = nat_le (count_by fit.is_derived_role domain.roles) 64
 
-domain_if : (domain : Domain) → tests.is_fit_domain domain ≡ true → IsAcyclic (tests.item_leads domain) → fit.IsFitDomain domain
+domain_if : (domain : Domain) → tests.is_fit_domain domain ≡ true
+    → IsAcyclic (tests.item_leads domain) → fit.IsFitDomain domain
 domain_if domain e acyclic =
     let actions = second_so (tests.have_fit_lists domain && tests.are_fit_items domain && tests.are_fit_roles domain) (tests.are_fit_actions domain) e in
     let front = and3 (tests.have_fit_lists domain) (tests.are_fit_items domain) (tests.are_fit_roles domain) (first_so (tests.have_fit_lists domain && tests.are_fit_items domain && tests.are_fit_roles domain) (tests.are_fit_actions domain) e) in
@@ -96,7 +102,9 @@ abbrev goal_fit : Task → Bool
 goal_fit task = fit.is_fit_condition task.domain (length task.problem.objects) [] task.problem.goal
 
 abbrev init_fit : Task → Bool
-init_fit task = fit.is_short task.problem.init && list_all (fit.is_fit_fact task.domain (length task.problem.objects)) task.problem.init
+init_fit task =
+    fit.is_short task.problem.init
+    && list_all (fit.is_fit_fact task.domain (length task.problem.objects)) task.problem.init
 
 abbrev values_fit : Task → Bool
 values_fit task =
@@ -134,9 +142,11 @@ abbrev stream_names : Task → List (List ℕ)
 stream_names task = map (λ (s : Stream). s.name) task.streams
 
 abbrev streams_each : Task → Bool
-streams_each task = fit.is_short task.streams && list_all (fit.is_fit_stream task.domain) task.streams
+streams_each task =
+    fit.is_short task.streams && list_all (fit.is_fit_stream task.domain) task.streams
 
-streams_if : (task : Task) → tests.are_fit_streams task ≡ true → IsAcyclic (fit.leads task) → fit.AreFitStreams task
+streams_if : (task : Task) → tests.are_fit_streams task ≡ true → IsAcyclic (fit.leads task)
+    → fit.AreFitStreams task
 streams_if task e acyclic = record {
   names = names_if (stream_names task) (second_so (streams_each task) (tests.are_fit_names (stream_names task)) e);
   each = first_so (streams_each task) (tests.are_fit_names (stream_names task)) e;
@@ -150,9 +160,11 @@ streams_from task are =
 -- ---- tasks
 
 abbrev pub nearly : Task → Bool
-nearly task = tests.is_fit_domain task.domain && tests.is_fit_problem task && tests.are_fit_streams task
+nearly task =
+    tests.is_fit_domain task.domain && tests.is_fit_problem task && tests.are_fit_streams task
 
-pub fit_if : (task : Task) → nearly task ≡ true → IsAcyclic (tests.item_leads task.domain) → IsAcyclic (fit.leads task) → fit.IsFit task
+pub fit_if : (task : Task) → nearly task ≡ true → IsAcyclic (tests.item_leads task.domain)
+    → IsAcyclic (fit.leads task) → fit.IsFit task
 fit_if task e items streams =
     let parts = and3 (tests.is_fit_domain task.domain) (tests.is_fit_problem task) (tests.are_fit_streams task) e in
     record { domain = domain_if task.domain parts.0 items; problem = problem_if task parts.1; streams = streams_if task parts.2 streams }

@@ -39,7 +39,8 @@ rule_found domain head pred h =
     (found.0, d, found.2, eqb-true d.pred head (first_so (d.pred == head) (mentions pred d.body) found.3), second_so (d.pred == head) (mentions pred d.body) found.3)
 
 -- an item that heads the first, from which each that heads the last is reached
-to_items : (domain : Domain) (between : List ℕ) (from to : ℕ) → LeadsAlong (depends domain) from between to
+to_items : (domain : Domain) (between : List ℕ) (from to : ℕ)
+    → LeadsAlong (depends domain) from between to
     → (i : ℕ) × (d : Derived) × HasItem domain i d × (d.pred ≡ from) × ((j : ℕ) (e : Derived) → HasItem domain j e → e.pred ≡ to → Way (item_leads domain) i j)
 to_items domain [] from to h =
     let found = rule_found domain from to h in
@@ -56,11 +57,13 @@ to_items domain (x ∷ xs) from to h =
           (rest.0 ∷ way.0, (item_edge domain found.0 rest.0 found.1 rest.1 found.2 rest.2 ∙ ap (λ p. mentions p found.1.body) rest.3 ∙ found.4, way.1)),
     )
 
-depends_by : (domain : Domain) (i : ℕ) (d : Derived) (pred : ℕ) → HasItem domain i d → mentions pred d.body ≡ true
+depends_by : (domain : Domain) (i : ℕ) (d : Derived) (pred : ℕ) → HasItem domain i d
+    → mentions pred d.body ≡ true
     → depends domain d.pred pred ≡ true
 depends_by domain i d pred f h = any_passes_from_place (λ (x : Derived). (x.pred == d.pred) && mentions pred x.body) domain.derived i d f (and_from (d.pred == d.pred) (mentions pred d.body) (eq-eqb d.pred d.pred refl) h)
 
-to_predicates : (domain : Domain) (between : List ℕ) (i j : ℕ) → LeadsAlong (item_leads domain) i between j
+to_predicates : (domain : Domain) (between : List ℕ) (i j : ℕ)
+    → LeadsAlong (item_leads domain) i between j
     → (d : Derived) × (e : Derived) × HasItem domain i d × HasItem domain j e × Way (depends domain) d.pred e.pred
 to_predicates domain [] i j h =
     let found = edge_found domain i j h in

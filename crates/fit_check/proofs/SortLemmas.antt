@@ -27,16 +27,19 @@ nothing_in : (ns : List ℕ) → is_empty ns ≡ true → ns ≡ []
 nothing_in [] e = refl
 nothing_in (n ∷ ns) e = absurd (cc)
 
-object_if : (o : Option Sort) → tests.is_object o ≡ true → o ≡ Some (record { name = codes "object"; above = [] })
+object_if : (o : Option Sort) → tests.is_object o ≡ true
+    → o ≡ Some (record { name = codes "object"; above = [] })
 object_if None e = absurd (cc)
 object_if (Some s) e = λ i. Some (record { name = (numbers_decided s.name (codes "object")).0 (first_so (same_numbers s.name (codes "object")) (is_empty s.above) e) i; above = nothing_in s.above (second_so (same_numbers s.name (codes "object")) (is_empty s.above) e) i })
 
-object_from : (o : Option Sort) → o ≡ Some (record { name = codes "object"; above = [] }) → tests.is_object o ≡ true
+object_from : (o : Option Sort) → o ≡ Some (record { name = codes "object"; above = [] })
+    → tests.is_object o ≡ true
 object_from o e = ap tests.is_object e
 
 -- ---- supertypes
 
-proper_if : (place : ℕ) (all : List Sort) → tests.are_proper place all ≡ true → (k : ℕ) (s : Sort) → slice_get all k ≡ Some s
+proper_if : (place : ℕ) (all : List Sort) → tests.are_proper place all ≡ true → (k : ℕ) (s : Sort)
+    → slice_get all k ≡ Some s
     → list_any (λ a. a == place + k) s.above ≡ false
 proper_if place [] e k s g = absurd (cc)
 proper_if place (x ∷ xs) e zero s g =
@@ -56,10 +59,12 @@ proper_from place (x ∷ xs) none =
     (proper_from (place + 1) xs (λ k s g. ap (λ n. list_any (λ a. a == n) s.above) (omega arith) ∙ none (suc k) s g))
 
 -- some number is this one
-here_found : (xs : List ℕ) (a : ℕ) → list_any (λ n. n == a) xs ≡ true → (i : ℕ) × (slice_get xs i ≡ Some a)
+here_found : (xs : List ℕ) (a : ℕ) → list_any (λ n. n == a) xs ≡ true
+    → (i : ℕ) × (slice_get xs i ≡ Some a)
 here_found xs a e = let found = any_found (λ n. n == a) xs e in (found.0, found.2 ∙ ap Some (eqb-true found.1 a found.3))
 
-closed_if : (all : List Sort) → list_all (tests.is_closed all) all ≡ true → (k a b : ℕ) (s t : Sort) → slice_get all k ≡ Some s
+closed_if : (all : List Sort) → list_all (tests.is_closed all) all ≡ true → (k a b : ℕ) (s t : Sort)
+    → slice_get all k ≡ Some s
     → list_any (λ n. n == a) s.above ≡ true → slice_get all a ≡ Some t → list_any (λ n. n == b) t.above ≡ true
     → list_any (λ n. n == b) s.above ≡ true
 closed_if all e k a b s t gs ma gt mb =

@@ -10,7 +10,8 @@ use Rattle.lemmas.specs.Lists.{AreDistinct}
 use Rattle.lemmas.proofs.ListTests.{any_found, any_mapped}
 use Rattle.fit_check.specs.Tests.{are_different}
 
-absent : (name : List ℕ) (names : List (List ℕ)) (j : ℕ) (x : List ℕ) → not (list_any (same_numbers name) names) ≡ true → Some name ≡ Some x
+absent : (name : List ℕ) (names : List (List ℕ)) (j : ℕ) (x : List ℕ)
+    → not (list_any (same_numbers name) names) ≡ true → Some name ≡ Some x
     → slice_get names j ≡ Some x → ⊥
 absent name names j x none here e =
     let same : name ≡ x = cc in
@@ -43,7 +44,8 @@ different_if (n ∷ ns) d =
     (different_if ns (λ i j x e f. let clash : suc i ≡ suc j = d (suc i) (suc j) x e f in omega arith))
 
 -- a name, and those behind it
-pub different_from : {A : Type 0} (f : A → List ℕ) (xs : List A) (i : ℕ) (x : A) → slice_get xs i ≡ Some x
+pub different_from : {A : Type 0} (f : A → List ℕ) (xs : List A) (i : ℕ) (x : A)
+    → slice_get xs i ≡ Some x
     → are_different (map f (drop i xs)) ≡ (not (list_any (λ y. same_numbers (f x) (f y)) (drop (i + 1) xs)) && are_different (map f (drop (i + 1) xs)))
 different_from f xs i x e =
     from xs i e

@@ -33,7 +33,8 @@ same_itself Static = refl
 same_itself Fluent = refl
 same_itself Derived = refl
 
-pub roles_if : (domain : Domain) (place n : ℕ) (rs : List Role) → length rs ≡ n → tests.are_right domain place rs ≡ true
+pub roles_if : (domain : Domain) (place n : ℕ) (rs : List Role) → length rs ≡ n
+    → tests.are_right domain place rs ≡ true
     → rs ≡ map (role_of domain) (numbers_from place n)
 roles_if domain place zero [] long e = refl
 roles_if domain place (suc n) [] long e = absurd (omega arith)
@@ -41,17 +42,20 @@ roles_if domain place zero (r ∷ rs) long e = absurd (omega arith)
 roles_if domain place (suc n) (r ∷ rs) long e =
     λ i. same_if r (role_of domain place) (first_so (tests.same_role r (role_of domain place)) (tests.are_right domain (place + 1) rs) e) i ∷ roles_if domain (place + 1) n rs (omega arith) (second_so (tests.same_role r (role_of domain place)) (tests.are_right domain (place + 1) rs) e) i
 
-pub roles_right : (domain : Domain) (place n : ℕ) → tests.are_right domain place (map (role_of domain) (numbers_from place n)) ≡ true
+pub roles_right : (domain : Domain) (place n : ℕ)
+    → tests.are_right domain place (map (role_of domain) (numbers_from place n)) ≡ true
 roles_right domain place zero = refl
 roles_right domain place (suc n) = and_from (tests.same_role (role_of domain place) (role_of domain place)) (tests.are_right domain (place + 1) (map (role_of domain) (numbers_from (place + 1) n))) (same_itself (role_of domain place)) (roles_right domain (place + 1) n)
 
-pub roles_long : (domain : Domain) (place n : ℕ) → length (map (role_of domain) (numbers_from place n)) ≡ n
+pub roles_long : (domain : Domain) (place n : ℕ)
+    → length (map (role_of domain) (numbers_from place n)) ≡ n
 roles_long domain place zero = refl
 roles_long domain place (suc n) = ap suc (roles_long domain (place + 1) n)
 
 -- ---- values
 
-equal_if : (v w : Valued) → tests.differ v w ≡ false → v.func ≡ w.func → v.args ≡ w.args → v.value ≡ w.value
+equal_if : (v w : Valued) → tests.differ v w ≡ false → v.func ≡ w.func → v.args ≡ w.args
+    → v.value ≡ w.value
 equal_if v w e func args =
     elim (v.value == w.value) as (λ b. (v.value == w.value) ≡ b → v.value ≡ w.value) [
       | true ↦ λ same. eqb-true v.value w.value same
@@ -59,7 +63,8 @@ equal_if v w e func args =
     ] refl
 
 -- no value of the list is another of this term
-none_differs : (v : Valued) (vs : List Valued) → not (list_any (tests.differ v) vs) ≡ true → (j : ℕ) (w : Valued) → slice_get vs j ≡ Some w
+none_differs : (v : Valued) (vs : List Valued) → not (list_any (tests.differ v) vs) ≡ true
+    → (j : ℕ) (w : Valued) → slice_get vs j ≡ Some w
     → tests.differ v w ≡ false
 none_differs v vs none j w g =
     elim (tests.differ v w) as (λ b. tests.differ v w ≡ b → tests.differ v w ≡ false) [
@@ -67,10 +72,12 @@ none_differs v vs none j w g =
       | false ↦ λ f. f
     ] refl
 
-pub one_value_if : (vs : List Valued) → tests.have_one_value vs ≡ true → (i j : ℕ) (v w : Valued) → slice_get vs i ≡ Some v
+pub one_value_if : (vs : List Valued) → tests.have_one_value vs ≡ true → (i j : ℕ) (v w : Valued)
+    → slice_get vs i ≡ Some v
     → slice_get vs j ≡ Some w → v.func ≡ w.func → v.args ≡ w.args → v.value ≡ w.value
 one_value_if [] e i j v w gi gj func args = absurd (cc)
-one_value_if (x ∷ xs) e zero zero v w gi gj func args = let same : v ≡ w = cc in ap (λ (u : Valued). u.value) same
+one_value_if (x ∷ xs) e zero zero v w gi gj func args =
+    let same : v ≡ w = cc in ap (λ (u : Valued). u.value) same
 one_value_if (x ∷ xs) e zero (suc j) v w gi gj func args =
     let same : x ≡ v = cc in
     equal_if v w (ap (λ u. tests.differ u w) (sym same) ∙ none_differs x xs (first_so (not (list_any (tests.differ x) xs)) (tests.have_one_value xs) e) j w gj) func args
@@ -80,7 +87,8 @@ one_value_if (x ∷ xs) e (suc i) zero v w gi gj func args =
 one_value_if (x ∷ xs) e (suc i) (suc j) v w gi gj func args =
     one_value_if xs (second_so (not (list_any (tests.differ x) xs)) (tests.have_one_value xs) e) i j v w gi gj func args
 
-differ_parts : (v w : Valued) → tests.differ v w ≡ true → (v.func ≡ w.func) × (v.args ≡ w.args) × (v.value ≡ w.value → ⊥)
+differ_parts : (v w : Valued) → tests.differ v w ≡ true
+    → (v.func ≡ w.func) × (v.args ≡ w.args) × (v.value ≡ w.value → ⊥)
 differ_parts v w e =
     let front = first_so ((v.func == w.func) && same_numbers v.args w.args) (not (v.value == w.value)) e in
     let other = not-true (v.value == w.value) (second_so ((v.func == w.func) && same_numbers v.args w.args) (not (v.value == w.value)) e) in (

@@ -11,8 +11,10 @@ IsAcyclic edge = (node : ℕ) (between : List ℕ) → ¬ (LeadsAlong edge node 
 pub record IsSettled (edge : ℕ → ℕ → Bool) (size : ℕ) (next : List ℕ) : Type 0 where
   pub long : length next ≡ size
   pub within : (i : ℕ) → slice_index next i ≤ size
-  pub passed : (i k : ℕ) → i < size → k < slice_index next i → edge i k ≡ true → size ≤ slice_index next k
-  pub clear : (i : ℕ) → i < size → size ≤ slice_index next i → (between : List ℕ) → ¬ (LeadsAlong edge i between i)
+  pub passed : (i k : ℕ) → i < size → k < slice_index next i → edge i k ≡ true
+      → size ≤ slice_index next k
+  pub clear : (i : ℕ) → i < size → size ≤ slice_index next i → (between : List ℕ)
+      → ¬ (LeadsAlong edge i between i)
 
 -- each node that isn't done has an edge to one that isn't
 abbrev pub IsStill : (ℕ → ℕ → Bool) → ℕ → List ℕ → Type 0

@@ -79,7 +79,8 @@ same_role Derived Fluent = false
 -- the roles from this place on are right
 abbrev pub are_right : Domain → ℕ → List Role → Bool
 are_right domain place [] = true
-are_right domain place (r ∷ rs) = same_role r (role_of domain place) && are_right domain (place + 1) rs
+are_right domain place (r ∷ rs) =
+    same_role r (role_of domain place) && are_right domain (place + 1) rs
 
 -- each predicate has its role, and few are derived
 abbrev pub are_fit_roles : Domain → Bool
@@ -88,7 +89,8 @@ are_fit_roles domain =
     && nat_le (count_by fit.is_derived_role domain.roles) 64
 
 abbrev pub are_fit_items : Domain → Bool
-are_fit_items domain = fit.is_short domain.derived && list_all (fit.is_fit_item domain) domain.derived
+are_fit_items domain =
+    fit.is_short domain.derived && list_all (fit.is_fit_item domain) domain.derived
 
 abbrev pub are_fit_actions : Domain → Bool
 are_fit_actions domain =
@@ -102,7 +104,8 @@ have_fit_lists domain =
 
 -- all but that no derived predicate rests on itself
 abbrev pub is_fit_domain : Domain → Bool
-is_fit_domain domain = have_fit_lists domain && are_fit_items domain && are_fit_roles domain && are_fit_actions domain
+is_fit_domain domain =
+    have_fit_lists domain && are_fit_items domain && are_fit_roles domain && are_fit_actions domain
 
 -- ---- problems
 
@@ -154,7 +157,8 @@ mentions_head None second = false
 mentions_head (Some first) None = false
 
 abbrev pub item_leads : Domain → ℕ → ℕ → Bool
-item_leads domain from to = mentions_head (slice_get domain.derived from) (slice_get domain.derived to)
+item_leads domain from to =
+    mentions_head (slice_get domain.derived from) (slice_get domain.derived to)
 
 -- ---- slots
 

@@ -7,7 +7,8 @@ use Rattle.form_reader.specs.Faults.{Answers, IsAmong, here, behind, comes_first
 reflexive : (f : Fault) → comes_first f f ≡ true
 reflexive f = grind (arith, nat_tests)
 
-transitive : (f g h : Fault) → comes_first f g ≡ true → comes_first g h ≡ true → comes_first f h ≡ true
+transitive : (f g h : Fault) → comes_first f g ≡ true → comes_first g h ≡ true
+    → comes_first f h ≡ true
 transitive f g h a b = grind (arith, nat_tests)
 
 total : (f g : Fault) → comes_first f g ≡ false → comes_first g f ≡ true
@@ -27,7 +28,8 @@ among_lift here = here
 among_lift (behind r) = behind (behind r)
 
 -- the earlier one stays
-stays : (f g : Fault) (fs : List Fault) (o : Option Fault) → comes_first f g ≡ true → Led f fs o → Led f (g ∷ fs) o
+stays : (f g : Fault) (fs : List Fault) (o : Option Fault) → comes_first f g ≡ true → Led f fs o
+    → Led f (g ∷ fs) o
 stays f g fs None e l = l
 stays f g fs (Some k) e l = record { among = among_lift l.among; first = leads }
   where
@@ -37,7 +39,8 @@ stays f g fs (Some k) e l = record { among = among_lift l.among; first = leads }
     leads h (behind (behind r)) = l.first h (behind r)
 
 -- the new one is taken
-taken : (f g : Fault) (fs : List Fault) (o : Option Fault) → comes_first f g ≡ false → Led g fs o → Led f (g ∷ fs) o
+taken : (f g : Fault) (fs : List Fault) (o : Option Fault) → comes_first f g ≡ false → Led g fs o
+    → Led f (g ∷ fs) o
 taken f g fs None e l = l
 taken f g fs (Some k) e l = record { among = behind l.among; first = leads }
   where
@@ -45,7 +48,8 @@ taken f g fs (Some k) e l = record { among = behind l.among; first = leads }
     leads h here = transitive k g f (l.first g here) (total f g e)
     leads h (behind r) = l.first h r
 
-chosen : (f g : Fault) (fs : List Fault) (b : Bool) → comes_first f g ≡ b → Led f fs (first (Some f) fs) → Led g fs (first (Some g) fs)
+chosen : (f g : Fault) (fs : List Fault) (b : Bool) → comes_first f g ≡ b
+    → Led f fs (first (Some f) fs) → Led g fs (first (Some g) fs)
     → Led f (g ∷ fs) (first (cond b (Some f) (Some g)) fs)
 chosen f g fs true e one other = stays f g fs (first (Some f) fs) e one
 chosen f g fs false e one other = taken f g fs (first (Some g) fs) e other

@@ -7,7 +7,8 @@ use Rattle.std.proofs.lemmas.Str.Parse.{parse_digits}
 use Rattle.lemmas.proofs.Digits.{too_large, own}
 use Rattle.form_reader.specs.Words.{is_number}
 
-refused : {E : Type 0} (word : List ℕ) (e : E) → list_all is_ascii_digit word ≡ true → ParsesUnsigned 32 10 word (Err e)
+refused : {E : Type 0} (word : List ℕ) (e : E) → list_all is_ascii_digit word ≡ true
+    → ParsesUnsigned 32 10 word (Err e)
     → is_number word ≡ false
 unfolding is_number
 refused [] e digits h = refl
@@ -15,7 +16,8 @@ refused (b ∷ bs) e digits h =
     let no = parse_digits own 32 (b ∷ bs) (Err e) h digits in
     rw (digits, too_large _ (digits_value 10 (b ∷ bs)) (λ lt. no (omega arith, lt)) refl) refl
 
-pub not_number : {E : Type 0} (word text : List ℕ) (r : Result ℕ E) (e : E) → text ≡ word → list_all is_ascii_digit word ≡ true
+pub not_number : {E : Type 0} (word text : List ℕ) (r : Result ℕ E) (e : E) → text ≡ word
+    → list_all is_ascii_digit word ≡ true
     → ParsesUnsigned 32 10 text r → r ≡ Err e → is_number word ≡ false
 not_number {E} word text r e same digits h err =
     refused word e digits (subst (λ t. ParsesUnsigned {E = E} 32 10 t (Err e)) same (subst (λ x. ParsesUnsigned {E = E} 32 10 text x) err h))

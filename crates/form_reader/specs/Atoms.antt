@@ -20,7 +20,8 @@ number_faults place (list items at rest) = shape at ∷ []
 abbrev pub valued_faults : ℕ → Trees → List Fault
 valued_faults place nothing = shape place ∷ []
 valued_faults place (word text at rest) = shape at ∷ []
-valued_faults place (list items at rest) = application_faults Name Name at items ++ number_faults place rest
+valued_faults place (list items at rest) =
+    application_faults Name Name at items ++ number_faults place rest
 
 -- (NAME NAME*) | (= (NAME NAME*) NUMBER)
 abbrev pub fact_faults : ℕ → Trees → List Fault

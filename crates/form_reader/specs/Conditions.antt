@@ -11,7 +11,8 @@ use Rattle.form_reader.specs.Rows.{application_faults, end_faults, groups_faults
 use Rattle.form_reader.specs.Words.{condition_head_of}
 
 -- what the head of a condition chooses
-abbrev pub by_condition : {A : Type 0} → ConditionHead → (parts single quantified equal refused atom : A) → A
+abbrev pub by_condition : {A : Type 0} → ConditionHead
+    → (parts single quantified equal refused atom : A) → A
 by_condition And parts single quantified equal refused atom = parts
 by_condition Or parts single quantified equal refused atom = parts
 by_condition Not parts single quantified equal refused atom = single
@@ -45,4 +46,5 @@ abbrev mutual
   pub exists_faults : ℕ → Trees → List Fault
   exists_faults place nothing = shape place ∷ []
   exists_faults place (word text at rest) = shape at ∷ []
-  exists_faults place (list items at rest) = groups_faults Variable at Start items ++ single_faults place rest
+  exists_faults place (list items at rest) =
+      groups_faults Variable at Start items ++ single_faults place rest

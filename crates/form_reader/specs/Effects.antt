@@ -15,7 +15,8 @@ use Rattle.form_reader.specs.Words.{effect_head_of, is_number}
 abbrev pub negated_faults : ℕ → Trees → List Fault
 negated_faults place nothing = shape place ∷ []
 negated_faults place (word text at rest) = shape at ∷ []
-negated_faults place (list items at rest) = application_faults Predicate Term at items ++ end_faults rest
+negated_faults place (list items at rest) =
+    application_faults Predicate Term at items ++ end_faults rest
 
 abbrev pub is_total_cost : List ℕ → Bool
 is_total_cost text = bytes_eq text (codes "total-cost")
@@ -29,7 +30,8 @@ is_other_function (list items at rest) = false
 -- the word `total-cost`, and nothing more
 abbrev pub total_cost_faults : ℕ → Trees → List Fault
 total_cost_faults place nothing = shape place ∷ []
-total_cost_faults place (word text at rest) = if is_total_cost text then end_faults rest else shape at ∷ []
+total_cost_faults place (word text at rest) =
+    if is_total_cost text then end_faults rest else shape at ∷ []
 total_cost_faults place (list items at rest) = shape at ∷ []
 
 -- a number or a function term, and nothing more

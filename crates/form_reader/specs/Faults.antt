@@ -34,7 +34,8 @@ rank_of kinds.StreamCycle = 11
 
 -- the lesser place, and at one place the lesser rank; each fault comes before itself
 abbrev pub comes_first : Fault → Fault → Bool
-comes_first f g = nat_lt f.place g.place || ((f.place == g.place) && nat_le (rank_of f.kind) (rank_of g.kind))
+comes_first f g =
+    nat_lt f.place g.place || ((f.place == g.place) && nat_le (rank_of f.kind) (rank_of g.kind))
 
 -- of a fault so far and one more the one that is answered
 abbrev pub sooner : Option Fault → Fault → Option Fault

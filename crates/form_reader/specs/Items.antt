@@ -61,13 +61,15 @@ item_of Streams w = stream_item_of w
 abbrev pub predicates_faults : Trees → List Fault
 predicates_faults nothing = []
 predicates_faults (word text at rest) = shape at ∷ []
-predicates_faults (list items at rest) = declaration_faults Predicate at items ++ predicates_faults rest
+predicates_faults (list items at rest) =
+    declaration_faults Predicate at items ++ predicates_faults rest
 
 -- The word among declarations of functions can't stand there: a `-` comes behind a declaration, and then `number`.
 abbrev pub function_word_fault : Spot → List ℕ → ℕ → Option Fault
 function_word_fault Start text at = Some (shape at)
 function_word_fault Named text at = if is_dash text then None else Some (shape at)
-function_word_fault Typed text at = if bytes_eq text (codes "number") then None else Some (unsupported at)
+function_word_fault Typed text at =
+    if bytes_eq text (codes "number") then None else Some (unsupported at)
 
 abbrev pub after_function_word : Spot → Spot
 after_function_word Start = Start
@@ -97,7 +99,8 @@ functions_faults place spot (list items at rest) =
 abbrev pub derived_faults : ℕ → Trees → List Fault
 derived_faults place nothing = shape place ∷ []
 derived_faults place (word text at rest) = shape at ∷ []
-derived_faults place (list items at rest) = declaration_faults Predicate at items ++ single_faults place rest
+derived_faults place (list items at rest) =
+    declaration_faults Predicate at items ++ single_faults place rest
 
 -- `total-cost` or `(total-cost)`, and nothing more
 abbrev pub is_measure : Trees → Bool
@@ -120,7 +123,8 @@ init_faults rest = refused_faults Init rest ++ facts_faults rest
 
 -- NAME ckey*, with a value
 abbrev pub cost_stream_faults : ℕ → Trees → List Fault
-cost_stream_faults place rest = missing_value_faults place rest ++ keyed_faults CostStream place rest
+cost_stream_faults place rest =
+    missing_value_faults place rest ++ keyed_faults CostStream place rest
 
 -- of what stands behind the first word of an item: the item's list is at the one place, that word at the other
 abbrev pub body_faults : Item → (place at : ℕ) → Trees → List Fault

@@ -80,19 +80,22 @@ abbrev mutual
   -- akey* or skey* or ckey*, each a word and a list
   pub keys_faults : Keyed → ℕ → Trees → List Fault
   keys_faults keyed place nothing = []
-  keys_faults keyed place (word text at rest) = by_key (key_of keyed text) at (λ k. valued_faults keyed place k rest)
+  keys_faults keyed place (word text at rest) =
+      by_key (key_of keyed text) at (λ k. valued_faults keyed place k rest)
   keys_faults keyed place (list items at rest) = shape at ∷ []
 
   -- the value of a key, and then keys
   pub valued_faults : Keyed → ℕ → Key → Trees → List Fault
   valued_faults keyed place k nothing = shape place ∷ []
   valued_faults keyed place k (word text at rest) = shape at ∷ []
-  valued_faults keyed place k (list items at rest) = value_faults k at items ++ keys_faults keyed place rest
+  valued_faults keyed place k (list items at rest) =
+      value_faults k at items ++ keys_faults keyed place rest
 
 -- NAME akey*, or NAME skey*, or NAME ckey*
 abbrev pub keyed_faults : Keyed → ℕ → Trees → List Fault
 keyed_faults keyed place nothing = shape place ∷ []
-keyed_faults keyed place (word text at rest) = if is_of Name text then keys_faults keyed place rest else shape at ∷ []
+keyed_faults keyed place (word text at rest) =
+    if is_of Name text then keys_faults keyed place rest else shape at ∷ []
 keyed_faults keyed place (list items at rest) = shape at ∷ []
 
 -- this word is among them

@@ -46,25 +46,29 @@ end_faults (list items at rest) = shape at ∷ []
 -- words of one sort, as many as there are
 abbrev pub row_faults : WordSort → Trees → List Fault
 row_faults sort nothing = []
-row_faults sort (word text at rest) = if is_of sort text then row_faults sort rest else shape at ∷ []
+row_faults sort (word text at rest) =
+    if is_of sort text then row_faults sort rest else shape at ∷ []
 row_faults sort (list items at rest) = shape at ∷ []
 
 -- one word of a sort, and nothing more
 abbrev pub one_faults : WordSort → ℕ → Trees → List Fault
 one_faults sort place nothing = shape place ∷ []
-one_faults sort place (word text at rest) = if is_of sort text then end_faults rest else shape at ∷ []
+one_faults sort place (word text at rest) =
+    if is_of sort text then end_faults rest else shape at ∷ []
 one_faults sort place (list items at rest) = shape at ∷ []
 
 -- two words of a sort, and nothing more
 abbrev pub two_faults : WordSort → ℕ → Trees → List Fault
 two_faults sort place nothing = shape place ∷ []
-two_faults sort place (word text at rest) = if is_of sort text then one_faults sort place rest else shape at ∷ []
+two_faults sort place (word text at rest) =
+    if is_of sort text then one_faults sort place rest else shape at ∷ []
 two_faults sort place (list items at rest) = shape at ∷ []
 
 -- `(NAME word*)`: an atom or a function term, whose head is of one sort and whose arguments are of another
 abbrev pub application_faults : WordSort → WordSort → ℕ → Trees → List Fault
 application_faults head args place nothing = shape place ∷ []
-application_faults head args place (word text at rest) = if is_of head text then row_faults args rest else shape at ∷ []
+application_faults head args place (word text at rest) =
+    if is_of head text then row_faults args rest else shape at ∷ []
 application_faults head args place (list items at rest) = shape at ∷ []
 
 -- Groups of names or of variables, each group with a type or without: `a b - t c`.
@@ -87,7 +91,8 @@ after_word Typed text = Start
 abbrev pub list_fault : Spot → Trees → ℕ → Fault
 list_fault Start items at = shape at
 list_fault Named items at = shape at
-list_fault Typed items at = if bytes_eq (head_of items) (codes "either") then unsupported at else shape at
+list_fault Typed items at =
+    if bytes_eq (head_of items) (codes "either") then unsupported at else shape at
 
 -- behind `-` a type is missing
 abbrev pub cut_faults : ℕ → Spot → List Fault

@@ -21,12 +21,14 @@ abbrev pub items_weight : List Derived → ℕ
 items_weight [] = 1
 items_weight (d ∷ ds) = weight d.body + items_weight ds
 
-pub part_lighter : (cs : List Condition) (i : ℕ) (c : Condition) → i < length cs → c ≡ get_or cs i c → weight c ≤ weights (parts_of cs)
+pub part_lighter : (cs : List Condition) (i : ℕ) (c : Condition) → i < length cs → c ≡ get_or cs i c
+    → weight c ≤ weights (parts_of cs)
 part_lighter [] i c h e = absurd (omega arith)
 part_lighter (x ∷ xs) zero c h e = omega (arith, ap weight e)
 part_lighter (x ∷ xs) (suc i) c h e = omega (arith, part_lighter xs i c (omega arith) e)
 
-pub body_lighter : (ds : List Derived) (i : ℕ) (d : Derived) → i < length ds → d ≡ get_or ds i d → weight d.body < items_weight ds
+pub body_lighter : (ds : List Derived) (i : ℕ) (d : Derived) → i < length ds → d ≡ get_or ds i d
+    → weight d.body < items_weight ds
 body_lighter [] i d h e = absurd (omega arith)
 body_lighter (x ∷ xs) zero d h e = omega (arith, ap (λ (y : Derived). weight y.body) e, positive xs)
   where

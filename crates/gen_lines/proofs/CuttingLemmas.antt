@@ -13,7 +13,8 @@ use Rattle.gen_lines.specs.Lines.{is_feed, lines_of, open_part, unfinished}
 use Rattle.lemmas.proofs.Positions.{split_whole}
 use Rattle.gen_lines.proofs.LinesLemmas.{ended_cons}
 
-same_place : (p : ℕ → Bool) (xs ys : List ℕ) → prefix_len p xs < length xs → prefix_len p (xs ++ ys) ≡ prefix_len p xs
+same_place : (p : ℕ → Bool) (xs ys : List ℕ) → prefix_len p xs < length xs
+    → prefix_len p (xs ++ ys) ≡ prefix_len p xs
 same_place p xs ys lt =
     let before : eqb (prefix_len p xs) (length xs) ≡ false = grind (arith, nat_tests) in
     prefix_len-append p xs ys ∙ rw before refl
@@ -32,12 +33,14 @@ split_later held later lt =
 pub parts_left : (bytes : List ℕ) → 0 < length (slice_split is_feed bytes)
 parts_left bytes = omega (arith, length-slice_split is_feed bytes)
 
-open_cons : (part : List ℕ) (parts : List (List ℕ)) → 0 < length parts → open_part (part ∷ parts) ≡ open_part parts
+open_cons : (part : List ℕ) (parts : List (List ℕ)) → 0 < length parts
+    → open_part (part ∷ parts) ≡ open_part parts
 open_cons part [] h = absurd (omega arith)
 open_cons part (next ∷ parts) h = refl
 
 -- a line feed stands where a first line is
-fed : (held line : List ℕ) (more : List (List ℕ)) → lines_of held ≡ line ∷ more → position_or_len is_feed held < length held
+fed : (held line : List ℕ) (more : List (List ℕ)) → lines_of held ≡ line ∷ more
+    → position_or_len is_feed held < length held
 fed held line more e =
     elim (cases_lt (position_or_len is_feed held) (length held)) [
       | inl lt ↦ lt
@@ -54,7 +57,8 @@ rest_later : (held later : List ℕ) → position_or_len is_feed held < length h
 rest_later held later lt =
     ap open_part (split_later held later lt) ∙ open_cons (before_first is_feed held) (slice_split is_feed (after_first is_feed held ++ later)) (parts_left (after_first is_feed held ++ later))
 
-same_line : (held line : List ℕ) → lines_of held ≡ line ∷ lines_of (after_first is_feed held) → position_or_len is_feed held < length held
+same_line : (held line : List ℕ) → lines_of held ≡ line ∷ lines_of (after_first is_feed held)
+    → position_or_len is_feed held < length held
     → strip_last 13 (before_first is_feed held) ≡ line
 same_line held line e lt =
     let nothing_later = line_later held [] lt in
@@ -73,7 +77,8 @@ record GoesOn (all : List ℕ) (taken : List (List ℕ)) (held : List ℕ) : Typ
   lines : (later : List ℕ) → lines_of (all ++ later) ≡ taken ++ lines_of (held ++ later)
   rest : (later : List ℕ) → unfinished (all ++ later) ≡ unfinished (held ++ later)
 
-goes_on : (all : List ℕ) (taken : List (List ℕ)) (held : List ℕ) → Cut all taken held → GoesOn all taken held
+goes_on : (all : List ℕ) (taken : List (List ℕ)) (held : List ℕ) → Cut all taken held
+    → GoesOn all taken held
 goes_on _ _ _ fresh = record { lines = λ later. refl; rest = λ later. refl }
 goes_on _ _ _ (pushed {all} {taken} {held} cut bytes) =
     let so_far = goes_on all taken held cut in
@@ -89,7 +94,8 @@ goes_on _ _ _ (took {all} {taken} {held} {line} cut first) =
       rest = λ later. so_far.rest later ∙ rest_later held later lt;
     }
 
-pub whole : (all : List ℕ) (taken : List (List ℕ)) (held : List ℕ) → Cut all taken held → IsWhole all taken held
+pub whole : (all : List ℕ) (taken : List (List ℕ)) (held : List ℕ) → Cut all taken held
+    → IsWhole all taken held
 whole all taken held cut =
     let on = goes_on all taken held cut in
     let at_end = on.rest [] in

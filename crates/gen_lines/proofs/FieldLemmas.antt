@@ -16,7 +16,8 @@ other b = not (is_space b)
 fields_space : (b : ℕ) (bs : List ℕ) → is_space b ≡ true → fields (b ∷ bs) ≡ fields bs
 fields_space b bs e = rw e refl
 
-skip_by : (b : ℕ) (bs : List ℕ) → fields bs ≡ fields (drop (position_or_len other bs) bs) → (s : Bool) → is_space b ≡ s
+skip_by : (b : ℕ) (bs : List ℕ) → fields bs ≡ fields (drop (position_or_len other bs) bs)
+    → (s : Bool) → is_space b ≡ s
     → fields (b ∷ bs) ≡ fields (drop (position_or_len other (b ∷ bs)) (b ∷ bs))
 skip_by b bs ih true e = fields_space b bs e ∙ ih ∙ rw (e, one-add) refl
 skip_by b bs ih false e =
@@ -32,21 +33,26 @@ filled : (bs : List ℕ) → 0 < length bs → is_filled bs ≡ true
 filled [] h = absurd (omega arith)
 filled (b ∷ bs) h = refl
 
-filter_filled : (part : List ℕ) (parts : List (List ℕ)) → 0 < length part → filter is_filled (part ∷ parts) ≡ part ∷ filter is_filled parts
+filter_filled : (part : List ℕ) (parts : List (List ℕ)) → 0 < length part
+    → filter is_filled (part ∷ parts) ≡ part ∷ filter is_filled parts
 filter_filled part parts h = rw (filled part h) refl
 
 -- a space at a place doesn't matter to the fields from there on
-fields_next : (bs : List ℕ) (n : ℕ) → n < length bs → is_space (get_or bs n 0) ≡ true → fields (drop n bs) ≡ fields (drop (n + 1) bs)
-fields_next bs n lt e = rw (drop-cons bs n 0 lt, add-one) (fields_space (get_or bs n 0) (drop (suc n) bs) e)
+fields_next : (bs : List ℕ) (n : ℕ) → n < length bs → is_space (get_or bs n 0) ≡ true
+    → fields (drop n bs) ≡ fields (drop (n + 1) bs)
+fields_next bs n lt e =
+    rw (drop-cons bs n 0 lt, add-one) (fields_space (get_or bs n 0) (drop (suc n) bs) e)
 
-run_within : (bs : List ℕ) → 0 < position_or_len is_space bs → position_or_len is_space bs < length bs
+run_within : (bs : List ℕ) → 0 < position_or_len is_space bs
+    → position_or_len is_space bs < length bs
     → fields bs ≡ take (position_or_len is_space bs) bs ∷ fields (drop (position_or_len is_space bs) bs)
 run_within bs some lt =
     let n = position_or_len is_space bs in
     let long : 0 < length (take n bs) = omega (arith, length-take-le n bs (omega arith)) in
     rw (slice_split_first is_space bs 0 lt, fields_next bs n lt (passes_at_first is_space bs 0 lt)) (filter_filled (take n bs) (slice_split is_space (drop (n + 1) bs)) long)
 
-run_whole : (bs : List ℕ) → 0 < position_or_len is_space bs → length bs ≤ position_or_len is_space bs
+run_whole : (bs : List ℕ) → 0 < position_or_len is_space bs
+    → length bs ≤ position_or_len is_space bs
     → fields bs ≡ take (position_or_len is_space bs) bs ∷ fields (drop (position_or_len is_space bs) bs)
 run_whole bs some le =
     let n = position_or_len is_space bs in
@@ -61,10 +67,12 @@ fields_run bs some =
     elim (cases_lt (position_or_len is_space bs) (length bs)) [ inl lt ↦ run_within bs some lt | inr le ↦ run_whole bs some le ]
 
 pub fields_none : (bs : List ℕ) → position other bs ≡ None → fields bs ≡ []
-fields_none bs e = fields_skip bs ∙ ap fields (drop_all (position_or_len other bs) bs (not_found other bs e))
+fields_none bs e =
+    fields_skip bs ∙ ap fields (drop_all (position_or_len other bs) bs (not_found other bs e))
 
 -- a first field, found from a place on
-pub first_field : (line : List ℕ) (from skipped run : ℕ) → position other (drop from line) ≡ Some skipped
+pub first_field : (line : List ℕ) (from skipped run : ℕ)
+    → position other (drop from line) ≡ Some skipped
     → run ≡ position_or_len is_space (drop skipped (drop from line))
     → IsFieldFrom line from (record { start = from + skipped; end = from + skipped + run })
 first_field line from skipped run e r =

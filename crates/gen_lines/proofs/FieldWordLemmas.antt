@@ -8,13 +8,16 @@ use Rattle.gen_lines.specs.Laws.{is_word}
 use Rattle.gen_lines.specs.Reply.{fields, is_filled, is_space}
 
 -- no byte of a word is a space
-no_space : (word : List ℕ) → list_all (λ b. not (is_space b)) word ≡ true → All (λ b. is_space b ≡ false) word
+no_space : (word : List ℕ) → list_all (λ b. not (is_space b)) word ≡ true
+    → All (λ b. is_space b ≡ false) word
 no_space word e = λ k d lt. not-true _ (AllPass-from_list_all (λ b. not (is_space b)) word e k d lt)
 
-kept : (word : List ℕ) (parts : List (List ℕ)) → is_filled word ≡ true → filter is_filled (word ∷ parts) ≡ word ∷ filter is_filled parts
+kept : (word : List ℕ) (parts : List (List ℕ)) → is_filled word ≡ true
+    → filter is_filled (word ∷ parts) ≡ word ∷ filter is_filled parts
 kept word parts e = rw e refl
 
-pub words_are_fields : (words : List (List ℕ)) → list_all is_word words ≡ true → fields (join_with_byte 32 words) ≡ words
+pub words_are_fields : (words : List (List ℕ)) → list_all is_word words ≡ true
+    → fields (join_with_byte 32 words) ≡ words
 words_are_fields [] e = refl
 words_are_fields (word ∷ []) e =
     let here = and_parts (is_word word) true e in

@@ -7,11 +7,13 @@ use Rattle.std.proofs.lemmas.List.Splits.{slice_split_first, length-slice_split}
 use Rattle.lemmas.proofs.Positions.{found_at, not_found, split_whole}
 use Rattle.gen_lines.specs.Lines.{is_feed, ended, lines_of}
 
-pub ended_cons : (part : List ℕ) (parts : List (List ℕ)) → 0 < length parts → ended (part ∷ parts) ≡ part ∷ ended parts
+pub ended_cons : (part : List ℕ) (parts : List (List ℕ)) → 0 < length parts
+    → ended (part ∷ parts) ≡ part ∷ ended parts
 ended_cons part [] h = absurd (omega arith)
 ended_cons part (next ∷ parts) h = refl
 
-pub ended_length : (parts : List (List ℕ)) → 0 < length parts → length (ended parts) + 1 ≡ length parts
+pub ended_length : (parts : List (List ℕ)) → 0 < length parts
+    → length (ended parts) + 1 ≡ length parts
 ended_length [] some = absurd (omega (arith, some))
 ended_length (part ∷ []) some = refl
 ended_length (part ∷ next ∷ parts) some = omega (arith, ended_length (next ∷ parts) (omega arith))
@@ -27,10 +29,12 @@ lines_some held n e =
     rw (← at.place) (slice_split_first is_feed held 0 at.within) in
     rw (cut, ended_cons (take n held) (slice_split is_feed (drop (n + 1) held)) (omega (arith, length-slice_split is_feed (drop (n + 1) held)))) refl
 
-pub after_some : (held : List ℕ) (n : ℕ) → position is_feed held ≡ Some n → after_first is_feed held ≡ drop (n + 1) held
+pub after_some : (held : List ℕ) (n : ℕ) → position is_feed held ≡ Some n
+    → after_first is_feed held ≡ drop (n + 1) held
 after_some held n e = rw (found_at is_feed held n e).place refl
 
-stripped_by : (b : Bool) (bytes : List ℕ) → length (cond b (take (length bytes - 1) bytes) bytes) ≤ length bytes
+stripped_by : (b : Bool) (bytes : List ℕ)
+    → length (cond b (take (length bytes - 1) bytes) bytes) ≤ length bytes
 stripped_by true bytes = omega (arith, length-take (length bytes - 1) bytes)
 stripped_by false bytes = omega arith
 
@@ -38,11 +42,14 @@ stripped : (bytes : List ℕ) → length (strip_last 13 bytes) ≤ length bytes
 stripped bytes = stripped_by (ends_with_byte 13 bytes) bytes
 
 -- the same two facts where the bytes stand in a longer list, from a place on
-pub after_from : (items held : List ℕ) (start n : ℕ) → drop start items ≡ held → position is_feed held ≡ Some n
+pub after_from : (items held : List ℕ) (start n : ℕ) → drop start items ≡ held
+    → position is_feed held ≡ Some n
     → drop (start + n + 1) items ≡ after_first is_feed held
-after_from items held start n view e = rw (after_some held n e, ← view, drop-drop) (ap (λ k. drop k items) (omega arith))
+after_from items held start n view e =
+    rw (after_some held n e, ← view, drop-drop) (ap (λ k. drop k items) (omega arith))
 
-pub line_from : (items held line : List ℕ) (start n : ℕ) → drop start items ≡ held → position is_feed held ≡ Some n
+pub line_from : (items held line : List ℕ) (start n : ℕ) → drop start items ≡ held
+    → position is_feed held ≡ Some n
     → line ≡ strip_last 13 (take (start + n - start) (drop start items)) → lines_of held ≡ line ∷ lines_of (after_first is_feed held)
 line_from items held line start n view e same =
     let short : start + n - start ≡ n = omega arith in

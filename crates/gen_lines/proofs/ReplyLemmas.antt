@@ -17,7 +17,8 @@ pub data OneOf (x y z r : Reply) : Type 0 where
   is_second : y ≡ r → OneOf x y z r
   is_third : z ≡ r → OneOf x y z r
 
-by_words : (a b : Bool) (x y z r : Reply) → (if a then x else if b then y else z) ≡ r → OneOf x y z r
+by_words : (a b : Bool) (x y z r : Reply) → (if a then x else if b then y else z) ≡ r
+    → OneOf x y z r
 by_words true b x y z r e = is_first e
 by_words false true x y z r e = is_second e
 by_words false false x y z r e = is_third e
@@ -28,19 +29,22 @@ record Found (width : ℕ) (tuples : List (List (List ℕ))) (n : ℕ) (values :
   count : length tuples ≡ n
   same : joined tuples ≡ values
 
-by_tests : (a b : Bool) (m n : ℕ) (us vs : List (List ℕ)) → (if a then (if b then yields m us else bad Value) else bad Count) ≡ yields n vs
+by_tests : (a b : Bool) (m n : ℕ) (us vs : List (List ℕ))
+    → (if a then (if b then yields m us else bad Value) else bad Count) ≡ yields n vs
     → (a ≡ true) × (b ≡ true) × (m ≡ n) × (us ≡ vs)
 by_tests true true m n us vs e = (refl, refl, cc, cc)
 by_tests true false m n us vs e = absurd cc
 by_tests false b m n us vs e = absurd cc
 
-found : (width : ℕ) (tuples : List (List (List ℕ))) (n : ℕ) (values : List (List ℕ)) → yield_reply width tuples ≡ yields n values
+found : (width : ℕ) (tuples : List (List (List ℕ))) (n : ℕ) (values : List (List ℕ))
+    → yield_reply width tuples ≡ yields n values
     → Found width tuples n values
 found width tuples n values e =
     let tests = by_tests (are_of_width width tuples) (list_all is_value (joined tuples)) (length tuples) n (joined tuples) values e in
     record { right = tests.0; valid = tests.1; count = tests.2; same = tests.3 }
 
-one_tuple : (outputs : ℕ) (several : Bool) (given : List (List ℕ)) → has_bars outputs several ≡ false
+one_tuple : (outputs : ℕ) (several : Bool) (given : List (List ℕ))
+    → has_bars outputs several ≡ false
     → length (parted (has_bars outputs several) given) ≡ 1
 one_tuple outputs several given e = rw e refl
 
@@ -59,11 +63,13 @@ right_of outputs several given tuples values f =
       few = grind (arith, nat_tests, both.1, f.count);
       one = λ single. sym f.count ∙ one_tuple outputs several given (ap (has_bars outputs) single);
       test = λ none. sym f.count ∙ one_tuple outputs several given (ap (λ n. has_bars n several) none ∙ no_outputs several);
-      count = sym (ap length f.same) ∙ joined_length outputs all both.0 ∙ ap (λ n. n * outputs) f.count;
+      count =
+          sym (ap length f.same) ∙ joined_length outputs all both.0 ∙ ap (λ n. n * outputs) f.count;
       valid = sym (ap (list_all is_value) f.same) ∙ f.valid;
     }
 
-end_is_no_yield : (given : List (List ℕ)) (n : ℕ) (values : List (List ℕ)) → end_reply given ≡ yields n values → ⊥
+end_is_no_yield : (given : List (List ℕ)) (n : ℕ) (values : List (List ℕ))
+    → end_reply given ≡ yields n values → ⊥
 end_is_no_yield [] n values e = cc
 end_is_no_yield (field ∷ given) n values e = cc
 
@@ -79,13 +85,15 @@ right_fields (word ∷ given) outputs several tuples values e =
 
 pub yields_are_right : (line : List ℕ) (outputs : ℕ) (several : Bool) (tuples : ℕ) (values : List (List ℕ))
     → reply_of line (Outputs outputs several) ≡ yields tuples values → IsRight outputs several tuples values
-yields_are_right line outputs several tuples values e = right_fields (fields line) outputs several tuples values e
+yields_are_right line outputs several tuples values e =
+    right_fields (fields line) outputs several tuples values e
 
 end_is_no_number : (given : List (List ℕ)) (n : ℕ) → end_reply given ≡ number n → ⊥
 end_is_no_number [] n e = cc
 end_is_no_number (field ∷ given) n e = cc
 
-by_number : (b : Bool) (m n : ℕ) → (if b then number m else bad Value) ≡ number n → (b ≡ true) × (m ≡ n)
+by_number : (b : Bool) (m n : ℕ) → (if b then number m else bad Value) ≡ number n
+    → (b ≡ true) × (m ≡ n)
 by_number true m n e = (refl, cc)
 by_number false m n e = absurd cc
 
@@ -108,13 +116,15 @@ yield_is_no_number true true m n us e = cc
 yield_is_no_number true false m n us e = cc
 yield_is_no_number false b m n us e = cc
 
-given_small : (wanted : Wanted) (given : List (List ℕ)) (n : ℕ) → given_reply wanted given ≡ number n → n ≤ 1000000
+given_small : (wanted : Wanted) (given : List (List ℕ)) (n : ℕ)
+    → given_reply wanted given ≡ number n → n ≤ 1000000
 given_small (Outputs width several) given n e =
     let tuples = parted (has_bars width several) given in
     absurd (yield_is_no_number (are_of_width width tuples) (list_all is_value (joined tuples)) (length tuples) n (joined tuples) e)
 given_small Number given n e = number_small given n e
 
-small_fields : (given : List (List ℕ)) (wanted : Wanted) (n : ℕ) → reply_of_fields wanted given ≡ number n → n ≤ 1000000
+small_fields : (given : List (List ℕ)) (wanted : Wanted) (n : ℕ)
+    → reply_of_fields wanted given ≡ number n → n ≤ 1000000
 small_fields [] wanted n e = absurd cc
 small_fields (word ∷ given) wanted n e =
     elim (by_words (bytes_eq word (codes "end")) (bytes_eq word (word_of wanted)) (end_reply given) (given_reply wanted given) (bad Word) (number n) e) [
@@ -123,5 +133,6 @@ small_fields (word ∷ given) wanted n e =
       | is_third wrong ↦ absurd cc
     ]
 
-pub numbers_are_small : (line : List ℕ) (wanted : Wanted) (n : ℕ) → reply_of line wanted ≡ number n → n ≤ 1000000
+pub numbers_are_small : (line : List ℕ) (wanted : Wanted) (n : ℕ) → reply_of line wanted ≡ number n
+    → n ≤ 1000000
 numbers_are_small line wanted n e = small_fields (fields line) wanted n e

@@ -17,7 +17,8 @@ onto_parts : (field : List ℕ) (tuples : List (List (List ℕ))) → Parts (ont
 onto_parts field [] = record { first = field ∷ []; rest = []; same = refl }
 onto_parts field (tuple ∷ tuples) = record { first = field ∷ tuple; rest = tuples; same = refl }
 
-by_bar : (bar : Bool) (field : List ℕ) (tuples : List (List (List ℕ))) → Parts (cond bar ([] ∷ tuples) (onto_first field tuples))
+by_bar : (bar : Bool) (field : List ℕ) (tuples : List (List (List ℕ)))
+    → Parts (cond bar ([] ∷ tuples) (onto_first field tuples))
 by_bar true field tuples = record { first = []; rest = tuples; same = refl }
 by_bar false field tuples = onto_parts field tuples
 
@@ -27,12 +28,14 @@ parts_of true [] = record { first = []; rest = []; same = refl }
 parts_of true (field ∷ given) = by_bar (is_bar field) field (slice_split is_bar given)
 
 -- a field that parts two tuples, and one that doesn't
-pub parted_bar : (bars : Bool) (field : List ℕ) (given : List (List ℕ)) → parts_here bars field ≡ true
+pub parted_bar : (bars : Bool) (field : List ℕ) (given : List (List ℕ))
+    → parts_here bars field ≡ true
     → parted bars (field ∷ given) ≡ [] ∷ parted bars given
 parted_bar true field given e = rw e refl
 parted_bar false field given e = absurd cc
 
-pub parted_other : (bars : Bool) (field : List ℕ) (given : List (List ℕ)) → parts_here bars field ≡ false
+pub parted_other : (bars : Bool) (field : List ℕ) (given : List (List ℕ))
+    → parts_here bars field ≡ false
     → parted bars (field ∷ given) ≡ onto_first field (parted bars given)
 parted_other true field given e = rw e refl
 parted_other false field given e = refl
@@ -43,7 +46,8 @@ count_on width tuples begun [] = None
 count_on width tuples begun (tuple ∷ more) =
     if (begun + length tuple == width) && list_all (λ t. length t == width) more && nat_le (tuples + length more) 16 then Some (tuples + length more) else None
 
-count_parts : (width : ℕ) (tuples : List (List (List ℕ))) → Parts tuples → count_of width tuples ≡ count_on width 1 0 tuples
+count_parts : (width : ℕ) (tuples : List (List (List ℕ))) → Parts tuples
+    → count_of width tuples ≡ count_on width 1 0 tuples
 count_parts width [] p = absurd (let e = p.same in cc)
 count_parts width (tuple ∷ tuples) p =
     let whole : 0 + length tuple ≡ length tuple = omega arith in
@@ -71,7 +75,8 @@ count_bar width tuples begun (tuple ∷ more) p full =
     let next : tuples + 1 + length more ≡ tuples + suc (length more) = omega arith in
     rw (ends, first, next) refl
 
-count_short : (width tuples begun : ℕ) (more : List (List (List ℕ))) → (begun ≡ width → ⊥) → count_on width tuples begun ([] ∷ more) ≡ None
+count_short : (width tuples begun : ℕ) (more : List (List (List ℕ))) → (begun ≡ width → ⊥)
+    → count_on width tuples begun ([] ∷ more) ≡ None
 count_short width tuples begun more short =
     let no : (begun + 0 == width) ≡ false = grind (arith, nat_tests) in
     rw no refl
@@ -147,7 +152,8 @@ pub joined_other : (field : List ℕ) (tuples : List (List (List ℕ))) → Part
 joined_other field [] p = absurd (let e = p.same in cc)
 joined_other field (tuple ∷ tuples) p = refl
 
-pub joined_length : (width : ℕ) (tuples : List (List (List ℕ))) → list_all (λ t. length t == width) tuples ≡ true
+pub joined_length : (width : ℕ) (tuples : List (List (List ℕ)))
+    → list_all (λ t. length t == width) tuples ≡ true
     → length (joined tuples) ≡ length tuples * width
 joined_length width [] e = omega arith
 joined_length width (tuple ∷ tuples) e =
@@ -166,7 +172,8 @@ pub record Counted (width : ℕ) (tuples : List (List (List ℕ))) (n : ℕ) : T
   pub few : n ≤ 16
   pub values : length (joined tuples) ≡ n * width
 
-pub counted : (width : ℕ) (tuples : List (List (List ℕ))) (n : ℕ) → count_of width tuples ≡ Some n → Counted width tuples n
+pub counted : (width : ℕ) (tuples : List (List (List ℕ))) (n : ℕ) → count_of width tuples ≡ Some n
+    → Counted width tuples n
 counted width tuples n e =
     let found = counted_by (are_of_width width tuples) (length tuples) n e in
     let both = and_parts _ (nat_le (length tuples) 16) found.0 in

@@ -31,7 +31,8 @@ abbrev stays : ℕ → Bool
 stays b = nat_le 32 b
 
 stays_if_visible : (b : ℕ) → visible b ≡ true → stays b ≡ true
-stays_if_visible b e = let both = and_parts (nat_le 33 b) (nat_le b 126) e in grind (arith, nat_tests, both.0)
+stays_if_visible b e =
+    let both = and_parts (nat_le 33 b) (nat_le b 126) e in grind (arith, nat_tests, both.0)
 
 no_space_if_visible : (b : ℕ) → visible b ≡ true → not (is_space b) ≡ true
 no_space_if_visible b e =
@@ -54,7 +55,8 @@ word_if_printed text e =
     let both = and_parts (is_filled text) (list_all visible text) e in
     rw (both.0, all_weaker visible (λ b. not (is_space b)) no_space_if_visible text both.1) refl
 
-words_if_printed : (words : List (List ℕ)) → list_all is_printed words ≡ true → list_all is_word words ≡ true
+words_if_printed : (words : List (List ℕ)) → list_all is_printed words ≡ true
+    → list_all is_word words ≡ true
 words_if_printed [] e = refl
 words_if_printed (word ∷ words) e =
     let both = and_parts (is_printed word) (list_all is_printed words) e in
@@ -63,7 +65,8 @@ words_if_printed (word ∷ words) e =
 word_stays : (word : List ℕ) → is_printed word ≡ true → list_all stays word ≡ true
 word_stays word e = all_weaker visible stays stays_if_visible word (and_parts (is_filled word) (list_all visible word) e).1
 
-joined_stays : (words : List (List ℕ)) → list_all is_printed words ≡ true → list_all stays (join_with_byte 32 words) ≡ true
+joined_stays : (words : List (List ℕ)) → list_all is_printed words ≡ true
+    → list_all stays (join_with_byte 32 words) ≡ true
 joined_stays [] e = refl
 joined_stays (word ∷ []) e = word_stays word (and_parts (is_printed word) true e).0
 joined_stays (word ∷ next ∷ words) e =
@@ -78,7 +81,8 @@ no_return (b ∷ bs) e =
     let no : (get_or (b ∷ bs) last 0 == 13) ≡ false = grind (arith, nat_tests, high) in
     rw (no, and_false (nat_lt 0 (length (b ∷ bs)))) refl
 
-line_of_text : (text later : List ℕ) → list_all stays text ≡ true → lines_of ((text ++ 10 ∷ []) ++ later) ≡ text ∷ lines_of later
+line_of_text : (text later : List ℕ) → list_all stays text ≡ true
+    → lines_of ((text ++ 10 ∷ []) ++ later) ≡ text ∷ lines_of later
 line_of_text text later e =
     let all : All (λ b. is_feed b ≡ false) text = λ k d lt. no_feed _ (AllPass-from_list_all stays text e k d lt) in
     let parts : slice_split is_feed ((text ++ 10 ∷ []) ++ later) ≡ text ∷ slice_split is_feed later =
@@ -95,7 +99,8 @@ number_printed n lt =
     is_filled_if_long [] h = absurd (omega arith)
     is_filled_if_long (b ∷ bs) h = refl
 
-pub requests_read_back : (task : Task) (names : List (List ℕ)) (number : ℕ) (instance : Instance) → number < 2 ^ 32
+pub requests_read_back : (task : Task) (names : List (List ℕ)) (number : ℕ) (instance : Instance)
+    → number < 2 ^ 32
     → is_printed (stream_name task instance.stream) ≡ true → list_all is_printed (map (name_at names) instance.inputs) ≡ true
     → ReadsBack task names number instance
 requests_read_back task names number instance small stream inputs =

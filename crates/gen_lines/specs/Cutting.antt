@@ -6,7 +6,8 @@ use Rattle.gen_lines.specs.Lines.{is_feed, lines_of, unfinished}
 -- Of all bytes that were pushed these lines were taken and these bytes are held, after any pushes and takes in any order.
 pub data Cut : List ℕ → List (List ℕ) → List ℕ → Type 0 where
   fresh : Cut [] [] []
-  pushed : {all : List ℕ} {taken : List (List ℕ)} {held : List ℕ} → Cut all taken held → (bytes : List ℕ)
+  pushed : {all : List ℕ} {taken : List (List ℕ)} {held : List ℕ} → Cut all taken held
+      → (bytes : List ℕ)
       → Cut (all ++ bytes) taken (held ++ bytes)
   took : {all : List ℕ} {taken : List (List ℕ)} {held : List ℕ} {line : List ℕ} → Cut all taken held
       → lines_of held ≡ line ∷ lines_of (after_first is_feed held)

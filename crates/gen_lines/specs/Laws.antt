@@ -20,7 +20,9 @@ abbrev pub is_word : List ℕ → Bool
 is_word text = is_filled text && list_all (λ b. not (is_space b)) text
 
 abbrev pub WordsAreFields : Type 0
-WordsAreFields = (words : List (List ℕ)) → list_all is_word words ≡ true → fields (join_with_byte 32 words) ≡ words
+WordsAreFields =
+    (words : List (List ℕ)) → list_all is_word words ≡ true
+    → fields (join_with_byte 32 words) ≡ words
 
 abbrev pub YieldsAreRight : Type 0
 YieldsAreRight =
@@ -44,4 +46,5 @@ RequestsReadBack =
     → list_all is_printed (map (name_at names) instance.inputs) ≡ true → ReadsBack task names number instance
 
 abbrev pub NumbersAreSmall : Type 0
-NumbersAreSmall = (line : List ℕ) (wanted : Wanted) (n : ℕ) → reply_of line wanted ≡ number n → n ≤ 1000000
+NumbersAreSmall =
+    (line : List ℕ) (wanted : Wanted) (n : ℕ) → reply_of line wanted ≡ number n → n ≤ 1000000

@@ -36,6 +36,7 @@ left_after held TooLong = held
 
 -- What the held bytes show.
 abbrev pub Shows : List ℕ → Seen → Type 0
-Shows held (Line line) = (lines_of held ≡ line.now ∷ lines_of (after_first is_feed held)) × (length line.now < 1025)
+Shows held (Line line) =
+    (lines_of held ≡ line.now ∷ lines_of (after_first is_feed held)) × (length line.now < 1025)
 Shows held Part = (lines_of held ≡ []) × (length held < 1025)
 Shows held TooLong = (lines_of held ≡ []) × (length held ≡ 1025)

@@ -36,7 +36,8 @@ is_value field = nat_le 1 (length field) && nat_le (length field) 64 && list_all
 
 -- decimal digits that write a number of at most a million; leading zeros may stand
 unfoldable pub is_number : List ℕ → Bool
-is_number field = is_filled field && list_all is_ascii_digit field && nat_le (digits_value 10 field) 1000000
+is_number field =
+    is_filled field && list_all is_ascii_digit field && nat_le (digits_value 10 field) 1000000
 
 -- Tuples
 
@@ -62,7 +63,8 @@ joined (tuple ∷ tuples) = tuple ++ joined tuples
 
 -- each tuple has this many fields, and there are at most 16
 abbrev pub are_of_width : ℕ → List (List (List ℕ)) → Bool
-are_of_width width tuples = list_all (λ tuple. length tuple == width) tuples && nat_le (length tuples) 16
+are_of_width width tuples =
+    list_all (λ tuple. length tuple == width) tuples && nat_le (length tuples) 16
 
 -- Replies
 
@@ -88,7 +90,8 @@ yield_reply width tuples =
     else bad Count
 
 abbrev pub given_reply : Wanted → List (List ℕ) → Reply
-given_reply (Outputs width several) given = yield_reply width (parted (has_bars width several) given)
+given_reply (Outputs width several) given =
+    yield_reply width (parted (has_bars width several) given)
 given_reply Number given = number_reply given
 
 -- the word that begins an answer other than `end`

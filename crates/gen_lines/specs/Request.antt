@@ -26,7 +26,8 @@ request_words task names number instance =
 
 -- The request for an instance: these words with a space between each two, and a line feed.
 abbrev pub request_of : Task → List (List ℕ) → ℕ → Instance → List ℕ
-request_of task names number instance = join_with_byte 32 (request_words task names number instance) ++ 10 ∷ []
+request_of task names number instance =
+    join_with_byte 32 (request_words task names number instance) ++ 10 ∷ []
 
 -- the stream is one of the task's, and the inputs are in the table of names
 pub record IsNamed (task : Task) (names : List (List ℕ)) (instance : Instance) : Type 0 where

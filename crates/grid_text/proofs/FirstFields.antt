@@ -11,7 +11,8 @@ use Rattle.lemmas.proofs.Positions.{found_at}
 pub behind : (line : List ℕ) (n : ℕ) → take (length line - n) (drop n line) ≡ drop n line
 behind line n = take_all (length line - n) (drop n line) (omega (arith, length-drop n line))
 
-pub first_of : (line rest : List ℕ) (start run : ℕ) → position other line ≡ Some start → rest ≡ drop start line → run ≡ position_or_len is_space rest →
+pub first_of : (line rest : List ℕ) (start run : ℕ) → position other line ≡ Some start
+    → rest ≡ drop start line → run ≡ position_or_len is_space rest →
     fields line ≡ take run rest ∷ fields (take (length rest - run) (drop run rest))
 first_of line rest start run found same r =
     let at = found_at other line start found in

@@ -22,11 +22,13 @@ last_push : {A : Type 0} (none : A) (xs : List A) (x : A) → last_or none (xs +
 last_push none [] x = refl
 last_push none (y ∷ xs) x = last_push y xs x
 
-told_one : {A : Type 0} (o : Option A) (f : List ℕ → Option A) (line : List ℕ) → f line ≡ o → filter_map f (line ∷ []) ≡ one o
+told_one : {A : Type 0} (o : Option A) (f : List ℕ → Option A) (line : List ℕ) → f line ≡ o
+    → filter_map f (line ∷ []) ≡ one o
 told_one None f line e = rw e refl
 told_one (Some x) f line e = rw e refl
 
-told_more : {A : Type 0} (of : EntrySort → List ℕ → Rect → Option A) (before : List (List ℕ)) (line : List ℕ) → told_in of (before ++ line ∷ []) ≡ told_in of before ++ one (told of (item_in line))
+told_more : {A : Type 0} (of : EntrySort → List ℕ → Rect → Option A) (before : List (List ℕ)) (line : List ℕ)
+    → told_in of (before ++ line ∷ []) ≡ told_in of before ++ one (told of (item_in line))
 told_more of before line =
     filter_map-append (λ l. told of (item_in l)) before (line ∷ [])
     ∙ ap (λ xs. told_in of before ++ xs) (told_one (told of (item_in line)) (λ l. told of (item_in l)) line refl)
@@ -45,18 +47,24 @@ grows_by : (sizes : List Rect) (blocks : List Block) (regions : List NamedRect) 
     grid_from (sizes ++ one (size_told s name rect)) (blocks ++ one (block_told s name rect)) (regions ++ one (region_told s name rect)) (obstacles ++ one (obstacle_told s name rect))
     ≡ grown (grid_from sizes blocks regions obstacles) s name rect
 grows_by sizes blocks regions obstacles sort.Size name rect = rw (last_push (area nothing_read) sizes rect, append-nil blocks, append-nil regions, append-nil obstacles) refl
-grows_by sizes blocks regions obstacles sort.Block name rect = rw (append-nil sizes, append-nil regions, append-nil obstacles) refl
-grows_by sizes blocks regions obstacles sort.Region name rect = rw (append-nil sizes, append-nil blocks, append-nil obstacles) refl
-grows_by sizes blocks regions obstacles sort.Obstacle name rect = rw (append-nil sizes, append-nil blocks, append-nil regions) refl
+grows_by sizes blocks regions obstacles sort.Block name rect =
+    rw (append-nil sizes, append-nil regions, append-nil obstacles) refl
+grows_by sizes blocks regions obstacles sort.Region name rect =
+    rw (append-nil sizes, append-nil blocks, append-nil obstacles) refl
+grows_by sizes blocks regions obstacles sort.Obstacle name rect =
+    rw (append-nil sizes, append-nil blocks, append-nil regions) refl
 
 grows_with : (sizes : List Rect) (blocks : List Block) (regions : List NamedRect) (obstacles : List Rect) (item : Option Item) →
     grid_from (sizes ++ one (told size_told item)) (blocks ++ one (told block_told item)) (regions ++ one (told region_told item)) (obstacles ++ one (told obstacle_told item))
     ≡ with_item (grid_from sizes blocks regions obstacles) item
-grows_with sizes blocks regions obstacles None = rw (append-nil sizes, append-nil blocks, append-nil regions, append-nil obstacles) refl
-grows_with sizes blocks regions obstacles (Some item) = grows_by sizes blocks regions obstacles item.sort item.name item.rect
+grows_with sizes blocks regions obstacles None =
+    rw (append-nil sizes, append-nil blocks, append-nil regions, append-nil obstacles) refl
+grows_with sizes blocks regions obstacles (Some item) =
+    grows_by sizes blocks regions obstacles item.sort item.name item.rect
 
 -- the grid of lines with one line more
-pub grid_more : (before : List (List ℕ)) (line : List ℕ) → grid_of (before ++ line ∷ []) ≡ with_line (grid_of before) line
+pub grid_more : (before : List (List ℕ)) (line : List ℕ)
+    → grid_of (before ++ line ∷ []) ≡ with_line (grid_of before) line
 unfolding grid_of
 grid_more before line =
     rw (told_more size_told before line, told_more block_told before line, told_more region_told before line, told_more obstacle_told before line)
@@ -67,14 +75,20 @@ unfolding grid_of
 nothing_of = refl
 
 -- the line that is taken has the fault of its place
-pub fault_here : (lines : List (List ℕ)) (k : ℕ) (line : List ℕ) (more : List (List ℕ)) (grid : GridFile) → TakesLine lines k line more → grid ≡ grid_of (take k lines) → fault_at lines k ≡ fault_in grid line
+pub fault_here : (lines : List (List ℕ)) (k : ℕ) (line : List ℕ) (more : List (List ℕ)) (grid : GridFile)
+    → TakesLine lines k line more → grid ≡ grid_of (take k lines)
+    → fault_at lines k ≡ fault_in grid line
 unfolding fault_at
 fault_here lines k line more grid t g = rw (t.here, g) refl
 
-pub grid_next : (lines : List (List ℕ)) (k : ℕ) (line : List ℕ) (more : List (List ℕ)) (old new : GridFile) → TakesLine lines k line more → old ≡ grid_of (take k lines) → new ≡ with_line old line → new ≡ grid_of (take (k + 1) lines)
-grid_next lines k line more old new t o n = n ∙ ap (λ g. with_line g line) o ∙ sym (ap grid_of t.front ∙ grid_more (take k lines) line)
+pub grid_next : (lines : List (List ℕ)) (k : ℕ) (line : List ℕ) (more : List (List ℕ)) (old new : GridFile)
+    → TakesLine lines k line more → old ≡ grid_of (take k lines) → new ≡ with_line old line
+    → new ≡ grid_of (take (k + 1) lines)
+grid_next lines k line more old new t o n =
+    n ∙ ap (λ g. with_line g line) o ∙ sym (ap grid_of t.front ∙ grid_more (take k lines) line)
 
-pub blames : (bytes line : List ℕ) (k : ℕ) (more : List (List ℕ)) (grid : GridFile) → is_bare bytes ≡ false → ((j : ℕ) → j < k → fault_at (lines_in bytes) j ≡ None) →
+pub blames : (bytes line : List ℕ) (k : ℕ) (more : List (List ℕ)) (grid : GridFile)
+    → is_bare bytes ≡ false → ((j : ℕ) → j < k → fault_at (lines_in bytes) j ≡ None) →
     TakesLine (lines_in bytes) k line more → grid ≡ grid_of (take k (lines_in bytes)) → (why : GridFault) → LineBlames grid line (k + 1) why → Blames bytes why
 blames bytes line k more grid some before t g (At at kind) b =
     inr (record {
@@ -87,12 +101,14 @@ blames bytes line k more grid some before t g (At at kind) b =
     })
 blames bytes line k more grid some before t g Memory b = tt
 
-pub right_more : (bytes line : List ℕ) (k : ℕ) (more : List (List ℕ)) (grid : GridFile) → ((j : ℕ) → j < k → fault_at (lines_in bytes) j ≡ None) →
+pub right_more : (bytes line : List ℕ) (k : ℕ) (more : List (List ℕ)) (grid : GridFile)
+    → ((j : ℕ) → j < k → fault_at (lines_in bytes) j ≡ None) →
     TakesLine (lines_in bytes) k line more → grid ≡ grid_of (take k (lines_in bytes)) → fault_in grid line ≡ None → (j : ℕ) → j < k + 1 → fault_at (lines_in bytes) j ≡ None
 right_more bytes line k more grid before t g e = below_more (λ j. fault_at (lines_in bytes) j ≡ None) k before (fault_here (lines_in bytes) k line more grid t g ∙ e)
 
 -- behind the last line the grid is read
-pub reads : (bytes line : List ℕ) (k : ℕ) (old new : GridFile) → is_bare bytes ≡ false → ((j : ℕ) → j < k → fault_at (lines_in bytes) j ≡ None) →
+pub reads : (bytes line : List ℕ) (k : ℕ) (old new : GridFile) → is_bare bytes ≡ false
+    → ((j : ℕ) → j < k → fault_at (lines_in bytes) j ≡ None) →
     TakesLine (lines_in bytes) k line [] → old ≡ grid_of (take k (lines_in bytes)) → fault_in old line ≡ None → new ≡ with_line old line → IsGridOf bytes new
 reads bytes line k old new some before t o e n =
     let long : length (lines_in bytes) ≤ k + 1 = omega (arith, ap length t.back, length-drop (k + 1) (lines_in bytes)) in

@@ -42,15 +42,18 @@ unfolding is_within
 corners_test a b c = rw (le_test b.x a.x c.left, le_test b.y a.y c.top, le_test (a.x + a.w) (b.x + b.w) c.right, le_test (a.y + a.h) (b.y + b.h) c.bottom) refl
 
 cells_within : (a b : Rect) → Corners a b → (cell : Cell) → IsIn cell a → IsIn cell b
-cells_within a b c cell i = record { column = (omega arith, omega arith); row = (omega arith, omega arith) }
+cells_within a b c cell i =
+    record { column = (omega arith, omega arith); row = (omega arith, omega arith) }
 
 first_cell : (a : Rect) → HasCells a → IsIn (record { x = a.x; y = a.y }) a
-first_cell a h = record { column = (omega arith, omega (arith, h.0)); row = (omega arith, omega (arith, h.1)) }
+first_cell a h =
+    record { column = (omega arith, omega (arith, h.0)); row = (omega arith, omega (arith, h.1)) }
 
 last_cell : (a : Rect) → HasCells a → IsIn (record { x = a.x + a.w - 1; y = a.y + a.h - 1 }) a
 last_cell a h = record { column = (omega (arith, h.0), omega (arith, h.0)); row = (omega (arith, h.1), omega (arith, h.1)) }
 
-corners_of_cells : (a b : Rect) → HasCells a → ((cell : Cell) → IsIn cell a → IsIn cell b) → Corners a b
+corners_of_cells : (a b : Rect) → HasCells a → ((cell : Cell) → IsIn cell a → IsIn cell b)
+    → Corners a b
 corners_of_cells a b h each =
     let low = each (record { x = a.x; y = a.y }) (first_cell a h) in
     let high = each (record { x = a.x + a.w - 1; y = a.y + a.h - 1 }) (last_cell a h) in
@@ -90,7 +93,8 @@ crossing_test a b c = rw (lt_test a.x (b.x + b.w) c.left, lt_test b.x (a.x + a.w
 common : Rect → Rect → Cell
 common a b = record { x = max a.x b.x; y = max a.y b.y }
 
-common_in : (a b : Rect) → HasCells a → HasCells b → Crossing a b → IsIn (common a b) a × IsIn (common a b) b
+common_in : (a b : Rect) → HasCells a → HasCells b → Crossing a b
+    → IsIn (common a b) a × IsIn (common a b) b
 unfolding common
 common_in a b ha hb c = (
   record { column = (omega arith, omega (arith, ha.0, c.left, c.right)); row = (omega arith, omega (arith, ha.1, c.top, c.bottom)) },
@@ -98,7 +102,8 @@ common_in a b ha hb c = (
 )
 
 crossing_of_cell : (a b : Rect) (cell : Cell) → IsIn cell a → IsIn cell b → Crossing a b
-crossing_of_cell a b cell i j = record { left = omega arith; right = omega arith; top = omega arith; bottom = omega arith }
+crossing_of_cell a b cell i j =
+    record { left = omega arith; right = omega arith; top = omega arith; bottom = omega arith }
 
 pub meeting_is_by_cells : MeetingIsByCells
 meeting_is_by_cells a b ha hb = (

@@ -16,7 +16,8 @@ pub row_none : (row : Row) → row_text row 0 ≡ []
 unfolding row_text
 row_none row = refl
 
-pub row_more : (row : Row) (before : List ℕ) (n : ℕ) → (before ++ row_text row n) ++ item_text row (n + 1) ≡ before ++ row_text row (n + 1)
+pub row_more : (row : Row) (before : List ℕ) (n : ℕ)
+    → (before ++ row_text row n) ++ item_text row (n + 1) ≡ before ++ row_text row (n + 1)
 unfolding row_text
 row_more row before n =
     let one : 1 + n ≡ n + 1 = omega arith in

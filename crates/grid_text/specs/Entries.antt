@@ -38,7 +38,8 @@ four_of (a ∷ b ∷ c ∷ d ∷ e ∷ more) = None
 abbrev pub size_of : List (List ℕ) → Option Entry
 size_of [] = None
 size_of (w ∷ []) = None
-size_of (w ∷ h ∷ []) = Some (record { sort = Size; name = []; x = codes "0"; y = codes "0"; w = w; h = h })
+size_of (w ∷ h ∷ []) =
+    Some (record { sort = Size; name = []; x = codes "0"; y = codes "0"; w = w; h = h })
 size_of (w ∷ h ∷ next ∷ more) = None
 
 -- `NAME w h x y`

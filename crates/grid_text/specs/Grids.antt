@@ -99,7 +99,8 @@ grid_of lines = record {
 abbrev pub grown : GridFile → EntrySort → List ℕ → Rect → GridFile
 grown grid sort.Size name rect = record grid { width = rect.w; height = rect.h }
 grown grid sort.Block name rect = record grid { blocks = grid.blocks ++ block_of name rect ∷ [] }
-grown grid sort.Region name rect = record grid { regions = grid.regions ++ region_of name rect ∷ [] }
+grown grid sort.Region name rect =
+    record grid { regions = grid.regions ++ region_of name rect ∷ [] }
 grown grid sort.Obstacle name rect = record grid { obstacles = grid.obstacles ++ rect ∷ [] }
 
 abbrev pub with_item : GridFile → Option Item → GridFile

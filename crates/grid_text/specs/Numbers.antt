@@ -7,7 +7,8 @@ use Rattle.gen_lines.specs.Reply.{is_filled}
 
 -- digits alone, whose value is below 2^32; leading zeros may stand
 unfoldable pub is_decimal : List ℕ → Bool
-is_decimal field = is_filled field && list_all is_ascii_digit field && nat_lt (digits_value 10 field) (2 ^ 32)
+is_decimal field =
+    is_filled field && list_all is_ascii_digit field && nat_lt (digits_value 10 field) (2 ^ 32)
 
 -- one to four digits
 unfoldable pub is_number : List ℕ → Bool
@@ -15,4 +16,5 @@ is_number field = is_decimal field && nat_le (length field) 4
 
 -- one to four digits, whose value is from 1 to `most`
 unfoldable pub is_extent : ℕ → List ℕ → Bool
-is_extent most field = is_number field && nat_le 1 (digits_value 10 field) && nat_le (digits_value 10 field) most
+is_extent most field =
+    is_number field && nat_le 1 (digits_value 10 field) && nat_le (digits_value 10 field) most

@@ -21,10 +21,14 @@ item_text row.Blocks i = codes " b" ++ decimal i
 item_text row.Regions i = codes " r" ++ decimal i
 item_text row.Homes i = codes " home-b" ++ decimal i
 item_text row.Facts i = facts_text i
-item_text row.Goals i = concat (codes " (placed b" ∷ decimal i ∷ codes " r" ∷ decimal i ∷ codes ")" ∷ [])
-item_text row.BlockLines i = concat (codes "block b" ∷ decimal i ∷ codes " 1 1 " ∷ decimal (2 * i - 2) ∷ codes " 1\n" ∷ [])
-item_text row.RegionLines i = concat (codes "region r" ∷ decimal i ∷ codes " " ∷ decimal (2 * i - 2) ∷ codes " 4 2 1\n" ∷ [])
-item_text row.ObstacleLines i = concat (codes "obstacle " ∷ decimal (2 * i - 2) ∷ codes " 4 1 1\n" ∷ [])
+item_text row.Goals i =
+    concat (codes " (placed b" ∷ decimal i ∷ codes " r" ∷ decimal i ∷ codes ")" ∷ [])
+item_text row.BlockLines i =
+    concat (codes "block b" ∷ decimal i ∷ codes " 1 1 " ∷ decimal (2 * i - 2) ∷ codes " 1\n" ∷ [])
+item_text row.RegionLines i =
+    concat (codes "region r" ∷ decimal i ∷ codes " " ∷ decimal (2 * i - 2) ∷ codes " 4 2 1\n" ∷ [])
+item_text row.ObstacleLines i =
+    concat (codes "obstacle " ∷ decimal (2 * i - 2) ∷ codes " 4 1 1\n" ∷ [])
 
 -- the same for the numbers from 1 up to this one
 unfoldable pub row_text : Row → ℕ → List ℕ

@@ -188,7 +188,8 @@ impl<'a> Model for Item<'a> {
 /// The entry with its numbers, if they are right.
 #[tactic(auto, unfolding(crate::specs::Entries::has_numbers))]
 pub(crate) fn item_of<'a>(entry: &Entry<'a>) -> Option<Item<'a>>
-    ensures { result ≡ (if specs.has_numbers entry.now then Some (specs.item_of entry.now) else None) }
+    ensures { result ≡ (if specs.has_numbers entry.now then Some (specs.item_of entry.now) else
+        None) }
 {
     let most = most_extent(entry.sort);
     let x = short_number(entry.x)?;

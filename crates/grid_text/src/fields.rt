@@ -7,7 +7,8 @@ ghost use Rattle.grid_text.specs.Entries.{four_of};
 /// A line's first field and what stands behind it, or None where it has none. Fields are the longest runs of bytes other
 /// than spaces.
 pub fn first_field(line: &[u8]) -> Option<(&[u8], &[u8])>
-    ensures { MatchOption result (fields line.now ≡ []) (λ f. fields line.now ≡ f.0.now ∷ fields f.1.now) }
+    ensures { MatchOption result (fields line.now ≡ [])
+        (λ f. fields line.now ≡ f.0.now ∷ fields f.1.now) }
 {
     let start = spaces_before(line)?;
     let rest = &line[start..];
@@ -17,7 +18,8 @@ pub fn first_field(line: &[u8]) -> Option<(&[u8], &[u8])>
 
 /// Four fields and nothing more.
 pub fn four_fields(line: &[u8]) -> Option<(&[u8], &[u8], &[u8], &[u8])>
-    ensures { option_map (λ f. (f.0.now, f.1.now, f.2.now, f.3.now)) result ≡ four_of (fields line.now) }
+    ensures { option_map (λ f. (f.0.now, f.1.now, f.2.now, f.3.now)) result
+        ≡ four_of (fields line.now) }
 {
     let (first, rest) = first_field(line)?;
     let (second, rest) = first_field(rest)?;

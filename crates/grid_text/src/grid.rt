@@ -178,7 +178,9 @@ impl Grid {
     /// # Errors
     /// The line's first fault.
     fn item_in<'a>(&self, line: &'a [u8]) -> Result<Option<Item<'a>>, GridKind>
-        ensures { MatchResult result (λ item. (specs.fault_in self.now line.now ≡ None) × (item ≡ specs.item_in line.now)) (λ kind. specs.fault_in self.now line.now ≡ Some kind) }
+        ensures { MatchResult result
+            (λ item. (specs.fault_in self.now line.now ≡ None) × (item ≡ specs.item_in line.now))
+            (λ kind. specs.fault_in self.now line.now ≡ Some kind) }
     {
         if !may_stand_in_line(line) {
             return Err(GridKind::Form);
@@ -201,7 +203,9 @@ impl Grid {
     /// The first of the faults of its place among the lines, its numbers, its cells, its name and its number.
     #[tactic(auto, unfolding(crate::specs::Grids::entry_fault))]
     fn checked<'a>(&self, entry: &Entry<'a>) -> Result<Item<'a>, GridKind>
-        ensures { MatchResult result (λ item. (specs.entry_fault self.now entry.now ≡ None) × (item ≡ item_of entry.now)) (λ kind. specs.entry_fault self.now entry.now ≡ Some kind) }
+        ensures { MatchResult result
+            (λ item. (specs.entry_fault self.now entry.now ≡ None) × (item ≡ item_of entry.now))
+            (λ kind. specs.entry_fault self.now entry.now ≡ Some kind) }
     {
         if !self.is_due(entry.sort()) {
             return Err(GridKind::Form);
@@ -268,7 +272,8 @@ impl Grid {
 
     /// Adds what a line says. Fails only where memory is wanting.
     fn add(&mut self, alloc: Global, item: &Item<'_>) -> Result<(), AllocError>
-        ensures { OnOk result (self.new ≡ specs.grown self.old item.now.sort item.now.name item.now.rect) }
+        ensures { OnOk result (self.new
+            ≡ specs.grown self.old item.now.sort item.now.name item.now.rect) }
     {
         let rect = item.rect;
         match item.sort {

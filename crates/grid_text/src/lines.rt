@@ -6,7 +6,8 @@ ghost use Rattle.grid_text.specs.Lines.{lines_in, is_bare, is_passed, may_stand,
 
 /// The first line of these bytes, and what stands behind its line feed if it has one.
 pub(crate) fn first_line(bytes: &[u8]) -> (&[u8], Option<&[u8]>)
-    ensures line { MatchOption result.1 (lines_in bytes.now ≡ result.0.now ∷ []) (λ rest. lines_in bytes.now ≡ result.0.now ∷ lines_in rest.now) }
+    ensures line { MatchOption result.1 (lines_in bytes.now ≡ result.0.now ∷ [])
+        (λ rest. lines_in bytes.now ≡ result.0.now ∷ lines_in rest.now) }
     ensures shorter { IfSome result.1 (λ rest. length rest.now < length bytes.now) }
 {
     match first_feed(bytes) {

@@ -35,7 +35,8 @@ const DIGITS: usize = 4;
 /// The number of a field of a grid file: one to four digits.
 #[tactic(auto, unfolding(crate::specs::Numbers::is_number))]
 pub(crate) fn short_number(field: &[u8]) -> Option<u32>
-    ensures number { result ≡ (if is_number field.now then Some (digits_value 10 field.now) else None) }
+    ensures number { result ≡ (if is_number field.now then Some (digits_value 10 field.now) else
+        None) }
     ensures small { IfSome result (λ n. n ≤ 9999) }
 {
     if field.len() > DIGITS {
@@ -47,7 +48,8 @@ pub(crate) fn short_number(field: &[u8]) -> Option<u32>
 /// The same where it is at least 1 and at most `most`.
 #[tactic(auto, unfolding(crate::specs::Numbers::is_extent))]
 pub(crate) fn extent_of(field: &[u8], most: u32) -> Option<u32>
-    ensures number { result ≡ (if is_extent most field.now then Some (digits_value 10 field.now) else None) }
+    ensures number { result ≡ (if is_extent most field.now then Some (digits_value 10 field.now)
+        else None) }
     ensures small { IfSome result (λ n. n ≤ 9999) }
 {
     let number = short_number(field)?;

@@ -21,15 +21,18 @@ use Rattle.grid_world.specs.declared.status.GridStatus.TheVariants.{Done, Limit,
 pub came_none : (a : Option (List ℕ)) (held : List ℕ) → Came a a held held
 came_none a held = record { more = []; held = sym (append-nil held); from = Consumes-nil a }
 
-pub came_more : (a b c : Option (List ℕ)) (old mid new : List ℕ) (n : ℕ) → Came a b old mid → Comes n b c mid new → Came a c old new
+pub came_more : (a b c : Option (List ℕ)) (old mid new : List ℕ) (n : ℕ) → Came a b old mid
+    → Comes n b c mid new → Came a c old new
 came_more a b c old mid new n p q = record {
   more = p.more ++ q.more;
   held = q.held ∙ ap (λ h. h ++ q.more) p.held ∙ append_assoc old p.more q.more;
   from = Consumes-trans a b c p.more q.more p.from q.from;
 }
 
-pub came_kept : (a b c : Option (List ℕ)) (old mid new : List ℕ) → Came a b old mid → new ≡ mid → Keeps b c → Came a c old new
-came_kept a b c old mid new p e k = record { more = p.more; held = e ∙ p.held; from = Consumes-kept a b c p.more p.from k }
+pub came_kept : (a b c : Option (List ℕ)) (old mid new : List ℕ) → Came a b old mid → new ≡ mid
+    → Keeps b c → Came a c old new
+came_kept a b c old mid new p e k =
+    record { more = p.more; held = e ∙ p.held; from = Consumes-kept a b c p.more p.from k }
 
 -- so many lines were answered, and these bytes are held
 pub record Stands (grid : GridFile) (before after old new : Option (List ℕ)) (held : List ℕ) (n : ℕ) : Type 0 where
@@ -40,10 +43,13 @@ pub record Stands (grid : GridFile) (before after old new : Option (List ℕ)) (
   pub wrote : Appends old new (replies_to grid answered)
   pub count : length answered ≡ n
 
-pub stands_first : (grid : GridFile) (left taken : Option (List ℕ)) → Stands grid left left taken taken [] 0
+pub stands_first : (grid : GridFile) (left taken : Option (List ℕ))
+    → Stands grid left left taken taken [] 0
 stands_first grid left taken = record { all = []; answered = []; cut = fresh; from = Consumes-nil left; wrote = Appends-nil taken; count = refl }
 
-pub stands_filled : (grid : GridFile) (before mid after old new : Option (List ℕ)) (held more : List ℕ) (n : ℕ) → Stands grid before mid old new held n → Came mid after held more → Stands grid before after old new more n
+pub stands_filled : (grid : GridFile) (before mid after old new : Option (List ℕ)) (held more : List ℕ) (n : ℕ)
+    → Stands grid before mid old new held n → Came mid after held more
+    → Stands grid before after old new more n
 stands_filled grid before mid after old new held more n s c = record {
   all = s.all ++ c.more;
   answered = s.answered;
@@ -57,15 +63,23 @@ stands_filled grid before mid after old new held more n s c = record {
 abbrev pub line_at : ℕ → List ℕ → List ℕ
 line_at end held = strip_last 13 (take end held)
 
-cut_more : (all held : List ℕ) (answered : List (List ℕ)) (end : ℕ) → Cut all answered held → position is_feed held ≡ Some end → Cut all (answered ++ line_at end held ∷ []) (drop (end + 1) held)
+cut_more : (all held : List ℕ) (answered : List (List ℕ)) (end : ℕ) → Cut all answered held
+    → position is_feed held ≡ Some end
+    → Cut all (answered ++ line_at end held ∷ []) (drop (end + 1) held)
 cut_more all held answered end cut feed =
     let first : lines_of held ≡ line_at end held ∷ lines_of (after_first is_feed held) = rw (after_some held end feed) (lines_some held end feed) in
     subst (Cut all (answered ++ line_at end held ∷ [])) (after_some held end feed) (took cut first)
 
-replies_more : (grid : GridFile) (answered : List (List ℕ)) (line : List ℕ) → replies_to grid (answered ++ line ∷ []) ≡ replies_to grid answered ++ reply_to grid line
-replies_more grid answered line = flat_map-append (reply_to grid) answered (line ∷ []) ∙ ap (λ t. replies_to grid answered ++ t) (append-nil (reply_to grid line))
+replies_more : (grid : GridFile) (answered : List (List ℕ)) (line : List ℕ)
+    → replies_to grid (answered ++ line ∷ []) ≡ replies_to grid answered ++ reply_to grid line
+replies_more grid answered line =
+    flat_map-append (reply_to grid) answered (line ∷ [])
+    ∙ ap (λ t. replies_to grid answered ++ t) (append-nil (reply_to grid line))
 
-pub stands_answered : (grid : GridFile) (before after old mid new : Option (List ℕ)) (held : List ℕ) (n end : ℕ) → Stands grid before after old mid held n → position is_feed held ≡ Some end → Appends mid new (reply_to grid (line_at end held)) → Stands grid before after old new (drop (end + 1) held) (n + 1)
+pub stands_answered : (grid : GridFile) (before after old mid new : Option (List ℕ)) (held : List ℕ) (n end : ℕ)
+    → Stands grid before after old mid held n → position is_feed held ≡ Some end
+    → Appends mid new (reply_to grid (line_at end held))
+    → Stands grid before after old new (drop (end + 1) held) (n + 1)
 stands_answered grid before after old mid new held n end s feed w = record {
   all = s.all;
   answered = s.answered ++ line_at end held ∷ [];
@@ -75,13 +89,15 @@ stands_answered grid before after old mid new held n end s feed w = record {
   count = omega (arith, s.count, length-append s.answered (line_at end held ∷ []));
 }
 
-lines_whole : (all held : List ℕ) (answered : List (List ℕ)) → Cut all answered held → lines_of all ≡ answered ++ lines_of held
+lines_whole : (all held : List ℕ) (answered : List (List ℕ)) → Cut all answered held
+    → lines_of all ≡ answered ++ lines_of held
 lines_whole all held answered cut =
     let later = (whole all answered held cut).lines [] in
     rw (append-nil all, append-nil held) at later
 
 -- no line is left
-pub ends_with : (grid : GridFile) (before after old new : Option (List ℕ)) (held : List ℕ) (n : ℕ) (status : GridStatus) → Stands grid before after old new held n → n ≤ 100000 →
+pub ends_with : (grid : GridFile) (before after old new : Option (List ℕ)) (held : List ℕ) (n : ℕ) (status : GridStatus)
+    → Stands grid before after old new held n → n ≤ 100000 →
     ((answered : List (List ℕ)) → Appends old new (replies_to grid answered) → Wrote status (replies_to grid answered) old new) →
     ((answered : List (List ℕ)) (rest : List ℕ) → length answered ≡ n → (lines_of held ≡ [] → rest ≡ held) → EndsSo status answered (lines_of held) rest after) →
     AnswersLines grid before after old new status
@@ -96,19 +112,28 @@ ends_with grid before after old new held n status s few wrote so = record {
   ends = so s.answered (unfinished s.all) s.count (whole s.all s.answered held s.cut).remains;
 }
 
-pub ends_done : (grid : GridFile) (before after old new : Option (List ℕ)) (held : List ℕ) (n : ℕ) → Stands grid before after old new held n → n ≤ 100000 → position is_feed held ≡ None → IsAtEnd after → AnswersLines grid before after old new Done
+pub ends_done : (grid : GridFile) (before after old new : Option (List ℕ)) (held : List ℕ) (n : ℕ)
+    → Stands grid before after old new held n → n ≤ 100000 → position is_feed held ≡ None
+    → IsAtEnd after → AnswersLines grid before after old new Done
 ends_done grid before after old new held n s few none ended = ends_with grid before after old new held n Done s few (λ a w. w) (λ a r c h. (lines_none held none, ended))
 
-pub ends_input : (grid : GridFile) (before after old new : Option (List ℕ)) (held : List ℕ) (n : ℕ) → Stands grid before after old new held n → n ≤ 100000 → position is_feed held ≡ None → length held ≡ 4097 → AnswersLines grid before after old new Input
+pub ends_input : (grid : GridFile) (before after old new : Option (List ℕ)) (held : List ℕ) (n : ℕ)
+    → Stands grid before after old new held n → n ≤ 100000 → position is_feed held ≡ None
+    → length held ≡ 4097 → AnswersLines grid before after old new Input
 ends_input grid before after old new held n s few none long = ends_with grid before after old new held n Input s few (λ a w. w) (λ a r c h. (lines_none held none, omega (arith, ap length (h (lines_none held none)), long)))
 
-pub ends_limit : (grid : GridFile) (before after old new : Option (List ℕ)) (held : List ℕ) (n : ℕ) → Stands grid before after old new held n → n ≡ 100000 → AnswersLines grid before after old new Limit
+pub ends_limit : (grid : GridFile) (before after old new : Option (List ℕ)) (held : List ℕ) (n : ℕ)
+    → Stands grid before after old new held n → n ≡ 100000
+    → AnswersLines grid before after old new Limit
 ends_limit grid before after old new held n s full = ends_with grid before after old new held n Limit s (omega (arith, full)) (λ a w. w) (λ a r c h. c ∙ full)
 
-pub ends_read : (grid : GridFile) (before after old new : Option (List ℕ)) (held : List ℕ) (n : ℕ) → Stands grid before after old new held n → n ≤ 100000 → position is_feed held ≡ None → AnswersLines grid before after old new ReadFault
+pub ends_read : (grid : GridFile) (before after old new : Option (List ℕ)) (held : List ℕ) (n : ℕ)
+    → Stands grid before after old new held n → n ≤ 100000 → position is_feed held ≡ None
+    → AnswersLines grid before after old new ReadFault
 ends_read grid before after old new held n s few none = ends_with grid before after old new held n ReadFault s few (λ a w. w) (λ a r c h. lines_none held none)
 
-pub ends_memory : (grid : GridFile) (left taken : Option (List ℕ)) → AnswersLines grid left left taken taken Memory
+pub ends_memory : (grid : GridFile) (left taken : Option (List ℕ))
+    → AnswersLines grid left left taken taken Memory
 ends_memory grid left taken = record {
   read = [];
   from = Consumes-nil left;
@@ -120,10 +145,12 @@ ends_memory grid left taken = record {
   ends = refl;
 }
 
-part_more : (text reply : List ℕ) (n : ℕ) → take (length text + n) (text ++ reply) ≡ text ++ take n reply
+part_more : (text reply : List ℕ) (n : ℕ)
+    → take (length text + n) (text ++ reply) ≡ text ++ take n reply
 part_more text reply n = take-append-add text reply n
 
-pub ends_write : (grid : GridFile) (before after old mid new : Option (List ℕ)) (held : List ℕ) (n end k : ℕ) → Stands grid before after old mid held n → n < 100000 → position is_feed held ≡ Some end →
+pub ends_write : (grid : GridFile) (before after old mid new : Option (List ℕ)) (held : List ℕ) (n end k : ℕ)
+    → Stands grid before after old mid held n → n < 100000 → position is_feed held ≡ Some end →
     k < length (reply_to grid (line_at end held)) → Appends mid new (take k (reply_to grid (line_at end held))) → AnswersLines grid before after old new WriteFault
 ends_write grid before after old mid new held n end k s few feed short w =
     let line = line_at end held in
@@ -142,11 +169,14 @@ ends_write grid before after old mid new held n end k s few feed short w =
       ends = omega (arith, length-append s.answered (line ∷ []));
     }
 
-pub reply_is : (grid : GridFile) (line : List ℕ) → line_of (answer_in grid line) ++ 10 ∷ [] ≡ reply_to grid line
+pub reply_is : (grid : GridFile) (line : List ℕ)
+    → line_of (answer_in grid line) ++ 10 ∷ [] ≡ reply_to grid line
 unfolding reply_to
 reply_is grid line = refl
 
-pub one_word : {A : Type 0} (f : A → List ℕ) (words : List A) (word : A) (path : List ℕ) → 1 ≤ length words → length words < 2 → word ≡ get_or words 0 word → path ≡ f word → map f words ≡ path ∷ []
+pub one_word : {A : Type 0} (f : A → List ℕ) (words : List A) (word : A) (path : List ℕ)
+    → 1 ≤ length words → length words < 2 → word ≡ get_or words 0 word → path ≡ f word
+    → map f words ≡ path ∷ []
 one_word f [] word path some few is e = absurd (omega arith)
 one_word f (w ∷ []) word path some few is e = ap (λ t. t ∷ []) (sym (e ∙ ap f is))
 one_word f (w ∷ v ∷ ws) word path some few is e = absurd (omega arith)

@@ -36,7 +36,8 @@ corners rect = flat_map (row_corners rect.x rect.w) (numbers_from rect.y rect.h)
 
 -- with this corner the block lies wholly in the region, and no obstacle covers a cell of it
 abbrev pub may_lie : GridFile → Block → Rect → Corner → Bool
-may_lie grid block region corner = is_within (rect_at block corner) region && not (is_blocked grid (rect_at block corner))
+may_lie grid block region corner =
+    is_within (rect_at block corner) region && not (is_blocked grid (rect_at block corner))
 
 abbrev pub pose_answer : Corner → GridAnswer
 pose_answer corner = answer.Pose corner.x corner.y
@@ -88,11 +89,15 @@ cell_beside rect W = west_of rect.x rect.y
 
 -- the cell is one of the rectangle's
 unfoldable pub covers : Rect → Cell → Bool
-covers rect cell = nat_le rect.x cell.x && nat_lt cell.x (rect.x + rect.w) && nat_le rect.y cell.y && nat_lt cell.y (rect.y + rect.h)
+covers rect cell =
+    nat_le rect.x cell.x && nat_lt cell.x (rect.x + rect.w) && nat_le rect.y cell.y
+    && nat_lt cell.y (rect.y + rect.h)
 
 -- the cell is in the grid, and in no obstacle
 unfoldable pub is_open : GridFile → Cell → Bool
-is_open grid cell = nat_lt cell.x grid.width && nat_lt cell.y grid.height && not (list_any (λ obstacle. covers obstacle cell) grid.obstacles)
+is_open grid cell =
+    nat_lt cell.x grid.width && nat_lt cell.y grid.height
+    && not (list_any (λ obstacle. covers obstacle cell) grid.obstacles)
 
 abbrev pub hand_in : GridFile → Cell → Option GridAnswer
 hand_in grid cell = if is_open grid cell then Some (answer.Hand cell.x cell.y) else None
@@ -104,7 +109,8 @@ hand_at grid (Some cell) = hand_in grid cell
 abbrev pub reached : GridFile → Option Rect → Option Side → Option GridAnswer
 reached grid None side = None
 reached grid (Some rect) None = None
-reached grid (Some rect) (Some side) = if is_within rect (area grid) then hand_at grid (cell_beside rect side) else None
+reached grid (Some rect) (Some side) =
+    if is_within rect (area grid) then hand_at grid (cell_beside rect side) else None
 
 abbrev pub hand_of : GridFile → Option (List ℕ × List ℕ × List ℕ) → Option GridAnswer
 hand_of grid None = None

@@ -106,13 +106,20 @@ pub record HasStopped (outside : Outside) (status told : GridStatus) : Type 0 wh
   pub untouched : IsUntouched outside
 
 abbrev pub GridSo : Outside → List ℕ → GridStatus → Type 0
-GridSo outside bytes status = HasServed outside bytes status ⊎ IsRefused outside bytes status ⊎ HasStopped outside status Memory
+GridSo outside bytes status =
+    HasServed outside bytes status ⊎ IsRefused outside bytes status
+    ⊎ HasStopped outside status Memory
 
 -- what was done by what the read of the file answered
 abbrev pub FileSo : Outside → List ℕ → GridStatus → Result (Unit {0}) FileFault → Type 0
-FileSo outside path status (Ok u) = (bytes : List ℕ) × IfSome outside.told (λ files. files path ≡ Some bytes) × GridSo outside bytes status
-FileSo outside path status (Err fault.Failed) = HasStopped outside status ReadFault × Rose last_count outside.files_old outside.files_new
-FileSo outside path status (Err fault.TooLong) = HasStopped outside status ReadFault × IfSome outside.told (λ files. HasMore (files path) 4194304)
+FileSo outside path status (Ok u) =
+    (bytes : List ℕ) × IfSome outside.told (λ files. files path ≡ Some bytes)
+    × GridSo outside bytes status
+FileSo outside path status (Err fault.Failed) =
+    HasStopped outside status ReadFault × Rose last_count outside.files_old outside.files_new
+FileSo outside path status (Err fault.TooLong) =
+    HasStopped outside status ReadFault
+    × IfSome outside.told (λ files. HasMore (files path) 4194304)
 FileSo outside path status (Err fault.Memory) = HasStopped outside status Memory
 
 -- the one file was asked for

@@ -11,7 +11,8 @@ use grid_text::{Grid, four_fields};
 
 /// The answer for `BLOCK POSE BLOCK POSE`: whether both blocks lie in the grid and share no cell.
 pub(crate) fn clear_answer(grid: &Grid, turn: u32, inputs: &[u8]) -> GridAnswer
-    ensures { result ≡ specs.nth turn (option_to_list (specs.clear_of grid.now (four_of (fields inputs.now)))) }
+    ensures { result ≡ specs.nth turn
+        (option_to_list (specs.clear_of grid.now (four_of (fields inputs.now)))) }
 {
     at_turn(turn, clear_of(grid, inputs))
 }

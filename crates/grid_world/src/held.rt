@@ -59,10 +59,12 @@ impl Held {
     /// Reads once, as much as there is room for: there has to be some.
     fn read_more<S: Source>(&mut self, source: &mut S) -> Result<usize, SourceFault>
         requires { length self.old < HELD_BYTES }
-        ensures came { IfOk result (λ n. Comes n (S.left source.old) (S.left source.new) self.old self.new) }
+        ensures came { IfOk result (λ n. Comes n (S.left source.old) (S.left source.new) self.old
+            self.new) }
         ensures same { OnErr result (self.new ≡ self.old) }
         ensures kept { OnErr result (Keeps (S.left source.old) (S.left source.new)) }
-        ensures cause { HasCause Failed last_count (S.faults source.old) (S.faults source.new) result }
+        ensures cause { HasCause Failed last_count (S.faults source.old) (S.faults source.new)
+            result }
     {
         let mut piece = [0; HELD_BYTES];
         let room = HELD_BYTES - self.bytes.len();

@@ -30,7 +30,8 @@ pub(crate) fn two_fields(line: &[u8]) -> Option<(&[u8], &[u8])>
 
 /// Three fields and nothing more.
 pub(crate) fn three_fields(line: &[u8]) -> Option<(&[u8], &[u8], &[u8])>
-    ensures { option_map (λ f. (f.0.now, f.1.now, f.2.now)) result ≡ specs.three_of (fields line.now) }
+    ensures { option_map (λ f. (f.0.now, f.1.now, f.2.now)) result
+        ≡ specs.three_of (fields line.now) }
 {
     let (first, rest) = first_field(line)?;
     let (second, rest) = first_field(rest)?;

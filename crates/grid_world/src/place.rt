@@ -32,7 +32,8 @@ pub(crate) fn place_answer(grid: &Grid, turn: u32, inputs: &[u8]) -> GridAnswer
 /// The pose with this number, from 0, among those in a region.
 fn pose_in(grid: &Grid, block: &Block, region: &Rect, turn: u32) -> GridAnswer
     requires { IsSmall region.now }
-    ensures { result ≡ specs.nth turn (specs.poses_at grid.now block.now region.now (specs.corners region.now)) }
+    ensures { result ≡ specs.nth turn
+        (specs.poses_at grid.now block.now region.now (specs.corners region.now)) }
 {
     let mut left = turn;
     for row in 0..region.h {
@@ -56,7 +57,8 @@ pub(crate) enum InRow {
 /// The pose with this number, from 0, among those with their corners in a row of the region.
 fn pose_in_row(grid: &Grid, block: &Block, region: &Rect, y: u32, turn: u32) -> InRow
     requires { IsSmall region.now }
-    ensures { IsRow (specs.poses_at grid.now block.now region.now (specs.row_corners region.now.x region.now.w y)) turn result }
+    ensures { IsRow (specs.poses_at grid.now block.now region.now
+        (specs.row_corners region.now.x region.now.w y)) turn result }
 {
     let mut left = turn;
     for column in 0..region.w {

@@ -20,7 +20,8 @@ pub(crate) struct WideCell {
 /// The answer for `BLOCK POSE SIDE`: the cell beside the block from which it is reached, if it lies in the grid and in no
 /// obstacle.
 pub(crate) fn reach_answer(grid: &Grid, turn: u32, inputs: &[u8]) -> GridAnswer
-    ensures { result ≡ specs.nth turn (option_to_list (specs.hand_of grid.now (three_of (fields inputs.now)))) }
+    ensures { result ≡ specs.nth turn
+        (option_to_list (specs.hand_of grid.now (three_of (fields inputs.now)))) }
 {
     at_turn(turn, hand_of(grid, inputs))
 }
@@ -105,7 +106,8 @@ fn hand_at(grid: &Grid, cell: WideCell) -> Option<GridAnswer>
 }
 
 fn is_covered(obstacles: &[Rect], cell: WideCell) -> bool
-    ensures { result ≡ list_any (λ obstacle. specs.covers obstacle (specs.cell_at cell)) obstacles.now }
+    ensures { result ≡ list_any (λ obstacle. specs.covers obstacle (specs.cell_at cell))
+        obstacles.now }
 {
     obstacles.iter().any(|obstacle| covers(obstacle, cell))
 }

@@ -91,7 +91,9 @@ pub(crate) fn pose_of(grid: &Grid, word: &[u8]) -> Option<Corner>
 
 /// What stands behind the front of a word, if it begins so.
 fn behind<'a>(word: &'a [u8], front: &[u8]) -> Option<&'a [u8]>
-    ensures { option_map (λ rest. rest.now) result ≡ (if bytes_eq (take (length front.now) word.now) front.now then Some (drop (length front.now) word.now) else None) }
+    ensures { option_map (λ rest. rest.now) result
+        ≡ (if bytes_eq (take (length front.now) word.now) front.now then Some
+        (drop (length front.now) word.now) else None) }
 {
     if word.len() < front.len() {
         return None;

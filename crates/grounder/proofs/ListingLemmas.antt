@@ -29,7 +29,8 @@ TakenFrom [] (o ∷ t) = ⊥
 TakenFrom (objects ∷ choices) [] = ⊥
 TakenFrom (objects ∷ choices) (o ∷ t) = Contains objects o × TakenFrom choices t
 
-taken_typed : (known : Known) (sorts : List ℕ) (choices : List (List ℕ)) (t : List ℕ) → AreChoices known sorts choices → TakenFrom choices t
+taken_typed : (known : Known) (sorts : List ℕ) (choices : List (List ℕ)) (t : List ℕ)
+    → AreChoices known sorts choices → TakenFrom choices t
     → have_types known t sorts ≡ true
 taken_typed known [] [] [] are taken = refl
 taken_typed known [] [] (o ∷ t) are taken = absurd taken
@@ -39,7 +40,8 @@ taken_typed known (sort ∷ sorts) (os ∷ choices) [] are taken = absurd taken
 taken_typed known (sort ∷ sorts) (os ∷ choices) (o ∷ t) are taken =
     and_from (has_type known o sort) (have_types known t sorts) ((are.0.members o).0 taken.0) (taken_typed known sorts choices t are.1 taken.1)
 
-typed_taken : (known : Known) (sorts : List ℕ) (choices : List (List ℕ)) (t : List ℕ) → AreChoices known sorts choices
+typed_taken : (known : Known) (sorts : List ℕ) (choices : List (List ℕ)) (t : List ℕ)
+    → AreChoices known sorts choices
     → have_types known t sorts ≡ true → TakenFrom choices t
 typed_taken known [] [] [] are typed = tt
 typed_taken known [] [] (o ∷ t) are typed = absurd (cc)
@@ -49,12 +51,14 @@ typed_taken known (sort ∷ sorts) (os ∷ choices) [] are typed = absurd (cc)
 typed_taken known (sort ∷ sorts) (os ∷ choices) (o ∷ t) are typed =
     ((are.0.members o).1 (first_so (has_type known o sort) (have_types known t sorts) typed), typed_taken known sorts choices t are.1 (second_so (has_type known o sort) (have_types known t sorts) typed))
 
-choices_rise : (known : Known) (sorts : List ℕ) (choices : List (List ℕ)) → AreChoices known sorts choices
+choices_rise : (known : Known) (sorts : List ℕ) (choices : List (List ℕ))
+    → AreChoices known sorts choices
     → AllByRecursion (IsStrictlySortedBy nat_cmp) choices
 choices_rise known [] [] are = tt
 choices_rise known [] (os ∷ choices) are = absurd are
 choices_rise known (sort ∷ sorts) [] are = absurd are
-choices_rise known (sort ∷ sorts) (os ∷ choices) are = (are.0.ascending, choices_rise known sorts choices are.1)
+choices_rise known (sort ∷ sorts) (os ∷ choices) are =
+    (are.0.ascending, choices_rise known sorts choices are.1)
 
 -- ---- the order of steps
 
@@ -62,7 +66,8 @@ nat_cmp-same : (n : ℕ) → nat_cmp n n ≡ Equal
 nat_cmp-same n = sym (nat_cmp_is n n Equal refl)
 
 -- lists that begin alike go by what follows
-begin_alike : (xs : List ℕ) (a b : ℕ) (ys zs : List ℕ) → nat_cmp a b ≡ Less → slice_cmp nat_cmp (xs ++ a ∷ ys) (xs ++ b ∷ zs) ≡ Less
+begin_alike : (xs : List ℕ) (a b : ℕ) (ys zs : List ℕ) → nat_cmp a b ≡ Less
+    → slice_cmp nat_cmp (xs ++ a ∷ ys) (xs ++ b ∷ zs) ≡ Less
 begin_alike [] a b ys zs less = ap (λ r. ordering_then r (slice_cmp nat_cmp ys zs)) less
 begin_alike (x ∷ xs) a b ys zs less =
     ap (λ r. ordering_then r (slice_cmp nat_cmp (xs ++ a ∷ ys) (xs ++ b ∷ zs))) (nat_cmp-same x) ∙ begin_alike xs a b ys zs less
@@ -86,7 +91,8 @@ module _ (task : Task) (known : Known) (state : Atoms) (number : ℕ) (action : 
   abbrev listed : List ℕ → List (List ℕ) → List GroundAction
   listed args choices = steps_with task known state number action args choices
 
-  found : (args : List ℕ) (choices : List (List ℕ)) (step : GroundAction) → Contains (listed args choices) step
+  found : (args : List ℕ) (choices : List (List ℕ)) (step : GroundAction)
+      → Contains (listed args choices) step
       → (t : List ℕ) × TakenFrom choices t × (step ≡ step_of (args ++ t)) × (takes (args ++ t) ≡ true)
   found args [] step c = by (takes args) refl c
     where
@@ -104,11 +110,13 @@ module _ (task : Task) (known : Known) (state : Atoms) (number : ℕ) (action : 
       let joined : (args ++ from.0 ∷ []) ++ rest.0 ≡ args ++ from.0 ∷ rest.0 = append_assoc args (from.0 ∷ []) rest.0 in
       (from.0 ∷ rest.0, (from.1, rest.1), rest.2 ∙ ap step_of joined, ap takes (sym joined) ∙ rest.3)
 
-  lists : (args : List ℕ) (choices : List (List ℕ)) (t : List ℕ) → TakenFrom choices t → takes (args ++ t) ≡ true
+  lists : (args : List ℕ) (choices : List (List ℕ)) (t : List ℕ) → TakenFrom choices t
+      → takes (args ++ t) ≡ true
       → Contains (listed args choices) (step_of (args ++ t))
   lists args [] [] taken can = by (takes args) refl
     where
-      by : (b : Bool) → takes args ≡ b → Contains (if b then step_of args ∷ [] else []) (step_of (args ++ []))
+      by : (b : Bool) → takes args ≡ b
+          → Contains (if b then step_of args ∷ [] else []) (step_of (args ++ []))
       by true e = subst (λ xs. Contains (step_of args ∷ []) (step_of xs)) (sym (append-nil args)) (contains_here (step_of args) [])
       by false e = absurd (false≢true (sym e ∙ ap takes (sym (append-nil args)) ∙ can))
   lists args [] (o ∷ t) taken can = absurd taken
@@ -118,7 +126,8 @@ module _ (task : Task) (known : Known) (state : Atoms) (number : ℕ) (action : 
       let rest = lists (args ++ o ∷ []) choices t taken.1 (ap takes joined ∙ can) in
       in_flat_map (λ p. listed (args ++ p ∷ []) choices) objects o (step_of (args ++ o ∷ t)) taken.0 (subst (λ xs. Contains (listed (args ++ o ∷ []) choices) (step_of xs)) joined rest)
 
-  rises : (args : List ℕ) (choices : List (List ℕ)) → AllByRecursion (IsStrictlySortedBy nat_cmp) choices
+  rises : (args : List ℕ) (choices : List (List ℕ))
+      → AllByRecursion (IsStrictlySortedBy nat_cmp) choices
       → IsStrictlySortedBy step_cmp (listed args choices)
   unfolding IsStrictlySortedBy
   rises args [] rise = by (takes args)
@@ -135,7 +144,8 @@ module _ (task : Task) (known : Known) (state : Atoms) (number : ℕ) (action : 
       (λ i. step_cmp (one i) (two i)) ∙ ap (λ r. ordering_then r (slice_cmp nat_cmp (args ++ o ∷ first.0) (args ++ p ∷ second.0))) (nat_cmp-same number) ∙ begin_alike args o p first.0 second.0 less)
 
   -- the listed steps of an action of the task are those that can be taken
-  pub steps_of_action : slice_get task.domain.actions number ≡ Some action → (choices : List (List ℕ))
+  pub steps_of_action : slice_get task.domain.actions number ≡ Some action
+      → (choices : List (List ℕ))
       → AreChoices known action.params choices → AreStepsOf task known state number (listed [] choices)
   steps_of_action named choices are = record {
     ascending = rises [] choices (choices_rise known action.params choices are);
@@ -147,7 +157,8 @@ module _ (task : Task) (known : Known) (state : Atoms) (number : ℕ) (action : 
           action = action;
           named = named;
           typed = taken_typed known action.params choices at.0 are at.1;
-          condition = first_so (is_true task.domain known state action.condition (slots_of at.0)) _ can;
+          condition =
+              first_so (is_true task.domain known state action.condition (slots_of at.0)) _ can;
           costs = value.1;
           leads = refl;
         } in
@@ -169,14 +180,17 @@ module _ (task : Task) (known : Known) (state : Atoms) where
   -- These are the steps of the first actions that can be taken, each once, in order.
   pub record AreListed (below : ℕ) (steps : List GroundAction) : Type 0 where
     pub ascending : IsStrictlySortedBy step_cmp steps
-    pub each : (step : GroundAction) → Contains steps step → (step.action < below) × IsApplicable task known state step
-    pub every : (step : GroundAction) → step.action < below → IsApplicable task known state step → Contains steps step
+    pub each : (step : GroundAction) → Contains steps step
+        → (step.action < below) × IsApplicable task known state step
+    pub every : (step : GroundAction) → step.action < below → IsApplicable task known state step
+        → Contains steps step
 
   pub listed_none : AreListed 0 []
   unfolding IsStrictlySortedBy
   listed_none = record { ascending = tt; each = λ step c. absurd (contains_none step c); every = λ step below can. absurd (omega arith) }
 
-  pub listed_next : (number : ℕ) (old new : List GroundAction) → AreListed number old → AddsSteps task known state number old new
+  pub listed_next : (number : ℕ) (old new : List GroundAction) → AreListed number old
+      → AddsSteps task known state number old new
       → AreListed (number + 1) new
   listed_next number old new are adds = record {
     ascending = subst (IsStrictlySortedBy step_cmp) (sym adds.1) (rising_append step_cmp old adds.0 are.ascending adds.2.ascending (λ a b c d. by_action a b (omega (arith, (are.each a c).0, (adds.2.each b d).0))));
@@ -199,7 +213,8 @@ module _ (task : Task) (known : Known) (state : Atoms) where
       by_action : (a b : GroundAction) → a.action < b.action → step_cmp a b ≡ Less
       by_action a b h = ap (λ r. ordering_then r (slice_cmp nat_cmp a.args b.args)) (sym (nat_cmp_is a.action b.action Less h))
 
-  pub all_listed : (number : ℕ) (steps : List GroundAction) → length task.domain.actions ≤ number → AreListed number steps
+  pub all_listed : (number : ℕ) (steps : List GroundAction) → length task.domain.actions ≤ number
+      → AreListed number steps
       → AreApplicable task known state steps
   all_listed number steps end are = record {
     ascending = ascending step_cmp steps are.ascending;

@@ -16,7 +16,8 @@ use Rattle.grounder.specs.Listing.{AreObjectsOf, AreChoices}
 use Rattle.lemmas.proofs.Ascending.{contains_none, contains_here, contains_later, contains_cases}
 
 -- a fact gives an object where it says that the object has the type
-given : (sort o : ℕ) (kind : Kind) (name : ℕ) (args : List ℕ) → object_with sort (record { kind = kind; name = name; args = args }) ≡ Some o
+given : (sort o : ℕ) (kind : Kind) (name : ℕ) (args : List ℕ)
+    → object_with sort (record { kind = kind; name = name; args = args }) ≡ Some o
     → record { kind = kind; name = name; args = args } ≡ type_fact sort o
 given sort o Predicate name args e = absurd (cc)
 given sort o Sort name [] e = absurd (cc)
@@ -31,17 +32,22 @@ given sort o Sort name (x ∷ []) e = by (name == sort) refl e
         λ i. record { kind = Sort; name = named i; args = same i ∷ [] }
     by false t e = absurd (cc)
 
-from_cons : {A : Type 0} (o : Option A) (ys : List A) (y : A) → Contains (cons_option o ys) y → (o ≡ Some y) ⊎ Contains ys y
+from_cons : {A : Type 0} (o : Option A) (ys : List A) (y : A) → Contains (cons_option o ys) y
+    → (o ≡ Some y) ⊎ Contains ys y
 from_cons None ys y c = inr c
-from_cons (Some x) ys y c = elim (contains_cases x ys y c) [ inl same ↦ inl (ap Some same) | inr k ↦ inr k ]
+from_cons (Some x) ys y c =
+    elim (contains_cases x ys y c) [ inl same ↦ inl (ap Some same) | inr k ↦ inr k ]
 
-in_cons : {A : Type 0} (o : Option A) (ys : List A) (y : A) → (o ≡ Some y) ⊎ Contains ys y → Contains (cons_option o ys) y
+in_cons : {A : Type 0} (o : Option A) (ys : List A) (y : A) → (o ≡ Some y) ⊎ Contains ys y
+    → Contains (cons_option o ys) y
 in_cons None ys y (inl e) = absurd (none-some y e)
 in_cons None ys y (inr k) = k
-in_cons (Some x) ys y (inl e) = subst (λ z. Contains (z ∷ ys) y) (sym (same_Some x y e)) (contains_here y ys)
+in_cons (Some x) ys y (inl e) =
+    subst (λ z. Contains (z ∷ ys) y) (sym (same_Some x y e)) (contains_here y ys)
 in_cons (Some x) ys y (inr k) = contains_later x ys y k
 
-from_filter_map : {A B : Type 0} (h : A → Option B) (xs : List A) (y : B) → Contains (filter_map h xs) y
+from_filter_map : {A B : Type 0} (h : A → Option B) (xs : List A) (y : B)
+    → Contains (filter_map h xs) y
     → (x : A) × Contains xs x × (h x ≡ Some y)
 from_filter_map h [] y c = absurd (contains_none y c)
 from_filter_map h (x ∷ xs) y c =
@@ -50,13 +56,15 @@ from_filter_map h (x ∷ xs) y c =
       | inr k ↦ let rest = from_filter_map h xs y k in (rest.0, contains_later x xs rest.0 rest.1, rest.2)
     ]
 
-in_filter_map : {A B : Type 0} (h : A → Option B) (xs : List A) (x : A) (y : B) → Contains xs x → h x ≡ Some y
+in_filter_map : {A B : Type 0} (h : A → Option B) (xs : List A) (x : A) (y : B) → Contains xs x
+    → h x ≡ Some y
     → Contains (filter_map h xs) y
 in_filter_map h [] x y c e = absurd (contains_none x c)
 in_filter_map h (z ∷ zs) x y c e =
     in_cons (h z) (filter_map h zs) y (elim (contains_cases z zs x c) [ inl same ↦ inl (ap h same ∙ e) | inr k ↦ inr (in_filter_map h zs x y k e) ])
 
-pub typed_member : (known : Known) (sort o : ℕ) → Contains (objects_of known.facts sort) o ↔ (has_type known o sort ≡ true)
+pub typed_member : (known : Known) (sort o : ℕ)
+    → Contains (objects_of known.facts sort) o ↔ (has_type known o sort ≡ true)
 typed_member known sort o = (
   λ c.
       let from = from_filter_map (object_with sort) known.facts o c in
@@ -66,7 +74,8 @@ typed_member known sort o = (
 )
 
 -- the objects, sorted and each kept once
-pub sorted_objects : (known : Known) (sort : ℕ) (xs sorted ys : List ℕ) → xs ≡ objects_of known.facts sort → IsPermutation xs sorted
+pub sorted_objects : (known : Known) (sort : ℕ) (xs sorted ys : List ℕ)
+    → xs ≡ objects_of known.facts sort → IsPermutation xs sorted
     → IsSorted nat_cmp sorted → ys ≡ dedup nat_eq sorted → AreObjectsOf known sort ys
 sorted_objects known sort xs sorted ys all moved rise once = record {
   ascending = subst (IsStrictlySortedBy nat_cmp) (sym once) (IsStrictlySortedBy-dedup nat_cmp_total unsigned_ties sorted rise);
@@ -78,16 +87,20 @@ sorted_objects known sort xs sorted ys all moved rise once = record {
 
 -- ---- going on by one
 
-pub choices_push : (known : Known) (sorts : List ℕ) (choices : List (List ℕ)) (sort : ℕ) (objects : List ℕ) → AreChoices known sorts choices
+pub choices_push : (known : Known) (sorts : List ℕ) (choices : List (List ℕ)) (sort : ℕ) (objects : List ℕ)
+    → AreChoices known sorts choices
     → AreObjectsOf known sort objects → AreChoices known (sorts ++ sort ∷ []) (choices ++ objects ∷ [])
 choices_push known [] [] sort objects are more = (more, tt)
 choices_push known [] (os ∷ choices) sort objects are more = absurd are
 choices_push known (s ∷ sorts) [] sort objects are more = absurd are
-choices_push known (s ∷ sorts) (os ∷ choices) sort objects are more = (are.0, choices_push known sorts choices sort objects are.1 more)
+choices_push known (s ∷ sorts) (os ∷ choices) sort objects are more =
+    (are.0, choices_push known sorts choices sort objects are.1 more)
 
-pub choices_length : (known : Known) (sorts : List ℕ) (choices : List (List ℕ)) → AreChoices known sorts choices
+pub choices_length : (known : Known) (sorts : List ℕ) (choices : List (List ℕ))
+    → AreChoices known sorts choices
     → length choices ≡ length sorts
 choices_length known [] [] are = refl
 choices_length known [] (os ∷ choices) are = absurd are
 choices_length known (s ∷ sorts) [] are = absurd are
-choices_length known (s ∷ sorts) (os ∷ choices) are = ap suc (choices_length known sorts choices are.1)
+choices_length known (s ∷ sorts) (os ∷ choices) are =
+    ap suc (choices_length known sorts choices are.1)

@@ -12,7 +12,8 @@ use Rattle.task_model.specs.declared.task.Task.{Task}
 
 -- the step can be taken in the state: it leads somewhere, at some cost
 abbrev pub IsApplicable : Task → Known → Atoms → GroundAction → Type 0
-IsApplicable task known state step = (after : Atoms) × (cost : ℕ) × IsStep task known state step after cost
+IsApplicable task known state step =
+    (after : Atoms) × (cost : ℕ) × IsStep task known state step after cost
 
 -- by action, and then by the objects, one after another
 abbrev pub step_cmp : GroundAction → GroundAction → Ordering

@@ -24,7 +24,8 @@ abbrev pub AreChoices : Known → List ℕ → List (List ℕ) → Type 0
 AreChoices known [] [] = Unit {0}
 AreChoices known [] (objects ∷ choices) = ⊥
 AreChoices known (sort ∷ sorts) [] = ⊥
-AreChoices known (sort ∷ sorts) (objects ∷ choices) = AreObjectsOf known sort objects × AreChoices known sorts choices
+AreChoices known (sort ∷ sorts) (objects ∷ choices) =
+    AreObjectsOf known sort objects × AreChoices known sorts choices
 
 -- ---- steps
 
@@ -42,8 +43,10 @@ module _ (task : Task) (known : Known) (state : Atoms) (number : ℕ) (action : 
 -- These are the steps of one action that can be taken, each once, in their order.
 pub record AreStepsOf (task : Task) (known : Known) (state : Atoms) (number : ℕ) (steps : List GroundAction) : Type 0 where
   pub ascending : IsStrictlySortedBy step_cmp steps
-  pub each : (step : GroundAction) → Contains steps step → (step.action ≡ number) × IsApplicable task known state step
-  pub every : (step : GroundAction) → step.action ≡ number → IsApplicable task known state step → Contains steps step
+  pub each : (step : GroundAction) → Contains steps step
+      → (step.action ≡ number) × IsApplicable task known state step
+  pub every : (step : GroundAction) → step.action ≡ number → IsApplicable task known state step
+      → Contains steps step
 
 -- behind the old steps stand those of the action
 abbrev pub AddsSteps : Task → Known → Atoms → ℕ → List GroundAction → List GroundAction → Type 0

@@ -33,7 +33,8 @@ only_one x y m = by (place_of (x ∷ []) y m)
 pub head_is_new : {A : Type 0} (x : A) (xs : List A) → AreDistinct (x ∷ xs) → Contains xs x → ⊥
 head_is_new x xs d m = let p = place_of xs x m in let e : 0 ≡ suc p.0 = d 0 (suc p.0) x refl p.1 in absurd (omega arith)
 
-pub distinct_cons : {A : Type 0} (x : A) (xs : List A) → AreDistinct xs → ¬ (Contains xs x) → AreDistinct (x ∷ xs)
+pub distinct_cons : {A : Type 0} (x : A) (xs : List A) → AreDistinct xs → ¬ (Contains xs x)
+    → AreDistinct (x ∷ xs)
 distinct_cons x xs d absent zero zero y at_i at_j = refl
 distinct_cons x xs d absent zero (suc j) y at_i at_j =
     let e : x ≡ y = cc in absurd (absent (subst (Contains xs) (sym e) (member_at xs j y at_j)))
@@ -41,7 +42,8 @@ distinct_cons x xs d absent (suc i) zero y at_i at_j =
     let e : x ≡ y = cc in absurd (absent (subst (Contains xs) (sym e) (member_at xs i y at_i)))
 distinct_cons x xs d absent (suc i) (suc j) y at_i at_j = ap suc (d i j y at_i at_j)
 
-pub distinct_append : {A : Type 0} (xs ys : List A) → AreDistinct xs → AreDistinct ys → ((z : A) → Contains xs z → Contains ys z → ⊥)
+pub distinct_append : {A : Type 0} (xs ys : List A) → AreDistinct xs → AreDistinct ys
+    → ((z : A) → Contains xs z → Contains ys z → ⊥)
     → AreDistinct (xs ++ ys)
 distinct_append [] ys d e apart = e
 distinct_append (x ∷ xs) ys d e apart =
@@ -49,7 +51,8 @@ distinct_append (x ∷ xs) ys d e apart =
     (λ m. elim (Contains-append_cases xs ys x m) [ inl h ↦ head_is_new x xs d h | inr t ↦ apart x (contains_here x xs) t ])
 
 -- parts without common members, each of distinct members, put together
-pub distinct_flat : {A B : Type 0} (f : A → List B) (xs : List A) → AreDistinct xs → ((x : A) → AreDistinct (f x))
+pub distinct_flat : {A B : Type 0} (f : A → List B) (xs : List A) → AreDistinct xs
+    → ((x : A) → AreDistinct (f x))
     → ((x y : A) (z : B) → Contains (f x) z → Contains (f y) z → x ≡ y) → AreDistinct (flat_map f xs)
 distinct_flat f [] d each apart = distinct_nil
 distinct_flat f (x ∷ xs) d each apart =
@@ -57,7 +60,8 @@ distinct_flat f (x ∷ xs) d each apart =
     (λ z m n. let r = from_flat_map f xs z n in head_is_new x xs d (subst (Contains xs) (sym (apart x r.0 z m r.2)) r.1))
 
 module _ {A B : Type 0} (h : A → Option B) where
-  pub from_mapped : (xs : List A) (y : B) → Contains (filter_map h xs) y → (x : A) × Contains xs x × (h x ≡ Some y)
+  pub from_mapped : (xs : List A) (y : B) → Contains (filter_map h xs) y
+      → (x : A) × Contains xs x × (h x ≡ Some y)
   from_mapped [] y m = absurd (contains_none y m)
   from_mapped (x ∷ xs) y m =
       elim (h x) as (λ o. h x ≡ o → Contains (cons_option o (filter_map h xs)) y → (z : A) × Contains (x ∷ xs) z × (h z ≡ Some y)) [
@@ -69,7 +73,8 @@ module _ {A B : Type 0} (h : A → Option B) where
             ]
       ] refl m
 
-  pub into_mapped : (xs : List A) (x : A) (y : B) → Contains xs x → h x ≡ Some y → Contains (filter_map h xs) y
+  pub into_mapped : (xs : List A) (x : A) (y : B) → Contains xs x → h x ≡ Some y
+      → Contains (filter_map h xs) y
   into_mapped [] x y m e = absurd (contains_none x m)
   into_mapped (z ∷ zs) x y m e =
       elim (contains_cases z zs x m) [
@@ -77,16 +82,19 @@ module _ {A B : Type 0} (h : A → Option B) where
         | inr t ↦ later (h z) (into_mapped zs x y t e)
       ]
     where
-      later : (o : Option B) → Contains (filter_map h zs) y → Contains (cons_option o (filter_map h zs)) y
+      later : (o : Option B) → Contains (filter_map h zs) y
+          → Contains (cons_option o (filter_map h zs)) y
       later None n = n
       later (Some w) n = contains_later w (filter_map h zs) y n
 
-  pub distinct_mapped : (xs : List A) → ((x z : A) (y : B) → h x ≡ Some y → h z ≡ Some y → x ≡ z) → AreDistinct xs
+  pub distinct_mapped : (xs : List A) → ((x z : A) (y : B) → h x ≡ Some y → h z ≡ Some y → x ≡ z)
+      → AreDistinct xs
       → AreDistinct (filter_map h xs)
   distinct_mapped [] one d = distinct_nil
   distinct_mapped (x ∷ xs) one d = by (h x) refl (distinct_mapped xs one (distinct_tail x xs d))
     where
-      by : (o : Option B) → h x ≡ o → AreDistinct (filter_map h xs) → AreDistinct (cons_option (h x) (filter_map h xs))
+      by : (o : Option B) → h x ≡ o → AreDistinct (filter_map h xs)
+          → AreDistinct (cons_option (h x) (filter_map h xs))
       by None e rest = subst (λ o. AreDistinct (cons_option o (filter_map h xs))) (sym e) rest
       by (Some w) e rest =
           subst (λ o. AreDistinct (cons_option o (filter_map h xs))) (sym e)
@@ -94,7 +102,8 @@ module _ {A B : Type 0} (h : A → Option B) where
 
 -- ---- the objects of a type
 
-same_name : (sort object name o : ℕ) → cond (name == sort) (Some o) None ≡ Some object → (name ≡ sort) × (o ≡ object)
+same_name : (sort object name o : ℕ) → cond (name == sort) (Some o) None ≡ Some object
+    → (name ≡ sort) × (o ≡ object)
 same_name sort object name o e =
     elim (name == sort) as (λ b. (name == sort) ≡ b → cond b (Some o) None ≡ Some object → (name ≡ sort) × (o ≡ object)) [
       | true ↦ λ t g. (eqb-true name sort t, let s : o ≡ object = cc in s)
@@ -110,32 +119,39 @@ object_by sort object Sort name (o ∷ []) e =
     let s = same_name sort object name o e in λ i. record { kind = Sort; name = s.0 i; args = s.1 i ∷ [] }
 object_by sort object Sort name (o ∷ (p ∷ ps)) e = absurd (cc)
 
-object_is : (sort object : ℕ) (f : Fact) → object_with sort f ≡ Some object → f ≡ type_fact sort object
+object_is : (sort object : ℕ) (f : Fact) → object_with sort f ≡ Some object
+    → f ≡ type_fact sort object
 object_is sort object f e = object_by sort object f.kind f.name f.args e
 
-pub objects_distinct : (facts : List Fact) (sort : ℕ) → AreDistinct facts → AreDistinct (objects_of facts sort)
+pub objects_distinct : (facts : List Fact) (sort : ℕ) → AreDistinct facts
+    → AreDistinct (objects_of facts sort)
 objects_distinct facts sort d =
     distinct_mapped (object_with sort) facts (λ f g o e1 e2. object_is sort o f e1 ∙ sym (object_is sort o g e2)) d
 
-pub has_object : (known : Known) (sort object : ℕ) → has_type known object sort ≡ true → Contains (objects_of known.facts sort) object
+pub has_object : (known : Known) (sort object : ℕ) → has_type known object sort ≡ true
+    → Contains (objects_of known.facts sort) object
 has_object known sort object e = into_mapped (object_with sort) known.facts (type_fact sort object) object ((fact_member known.facts (type_fact sort object)).0 e) (object_itself sort object)
 
 -- ---- what is found of a stream
 
 module _ (known : Known) (notes : List Note) where
   module _ (stream : Stream) (place : ℕ) where
-    at_inputs : (inputs : List ℕ) (i : Instance) → Contains (found_at known notes stream place inputs) i
+    at_inputs : (inputs : List ℕ) (i : Instance)
+        → Contains (found_at known notes stream place inputs) i
         → (i ≡ instance_at known notes stream place inputs) × (is_due_at known notes stream i ≡ true)
-    at_inputs inputs i m = by (is_due_at known notes stream (instance_at known notes stream place inputs)) refl m
+    at_inputs inputs i m =
+        by (is_due_at known notes stream (instance_at known notes stream place inputs)) refl m
       where
-        by : (b : Bool) → is_due_at known notes stream (instance_at known notes stream place inputs) ≡ b
+        by : (b : Bool)
+            → is_due_at known notes stream (instance_at known notes stream place inputs) ≡ b
             → Contains (cond b (instance_at known notes stream place inputs ∷ []) []) i
             → (i ≡ instance_at known notes stream place inputs) × (is_due_at known notes stream i ≡ true)
         by true e n = let same = only_one (instance_at known notes stream place inputs) i n in (sym same, ap (is_due_at known notes stream) (sym same) ∙ e)
         by false e n = absurd (contains_none i n)
 
     -- it is an instance of the stream, is due, and its inputs begin so
-    pub found_is : (inputs sorts : List ℕ) (i : Instance) → Contains (found_under known notes stream place inputs sorts) i
+    pub found_is : (inputs sorts : List ℕ) (i : Instance)
+        → Contains (found_under known notes stream place inputs sorts) i
         → (more : List ℕ) × (i ≡ instance_at known notes stream place (inputs ++ more)) × (is_due_at known notes stream i ≡ true)
     found_is inputs [] i m =
         let r = at_inputs inputs i m in ([], r.0 ∙ ap (instance_at known notes stream place) (sym (append-nil inputs)), r.1)
@@ -161,12 +177,15 @@ module _ (known : Known) (notes : List Note) where
         (subst (λ xs. Contains (found_under known notes stream place (inputs ++ o ∷ []) sorts) (instance_at known notes stream place xs)) joined
         (is_found (inputs ++ o ∷ []) sorts os rest (ap (λ xs. is_due_at known notes stream (instance_at known notes stream place xs)) joined ∙ due)))
 
-    same_next : (xs : List ℕ) (a b : ℕ) (more other : List ℕ) → (xs ++ a ∷ []) ++ more ≡ (xs ++ b ∷ []) ++ other → a ≡ b
+    same_next : (xs : List ℕ) (a b : ℕ) (more other : List ℕ)
+        → (xs ++ a ∷ []) ++ more ≡ (xs ++ b ∷ []) ++ other → a ≡ b
     same_next [] a b more other e = cc
     same_next (x ∷ xs) a b more other e = same_next xs a b more other (let f : (xs ++ a ∷ []) ++ more ≡ (xs ++ b ∷ []) ++ other = cc in f)
 
-    pub found_distinct : AreDistinct known.facts → (inputs sorts : List ℕ) → AreDistinct (found_under known notes stream place inputs sorts)
-    found_distinct d inputs [] = by (is_due_at known notes stream (instance_at known notes stream place inputs))
+    pub found_distinct : AreDistinct known.facts → (inputs sorts : List ℕ)
+        → AreDistinct (found_under known notes stream place inputs sorts)
+    found_distinct d inputs [] =
+        by (is_due_at known notes stream (instance_at known notes stream place inputs))
       where
         by : (b : Bool) → AreDistinct (cond b (instance_at known notes stream place inputs ∷ []) [])
         by true = distinct_cons (instance_at known notes stream place inputs) [] distinct_nil (contains_none (instance_at known notes stream place inputs))
@@ -180,7 +199,8 @@ module _ (known : Known) (notes : List Note) where
 
   -- ---- what is found of all streams
 
-  pub found_stream : (place : ℕ) (ss : List Stream) (i : Instance) → Contains (found_from known notes place ss) i
+  pub found_stream : (place : ℕ) (ss : List Stream) (i : Instance)
+      → Contains (found_from known notes place ss) i
       → (k : ℕ) × (s : Stream) × (i.stream ≡ place + k) × (slice_get ss k ≡ Some s) × (is_due_at known notes s i ≡ true)
   found_stream place [] i m = absurd (contains_none i m)
   found_stream place (s ∷ ss) i m =
@@ -189,7 +209,8 @@ module _ (known : Known) (notes : List Note) where
         | inr t ↦ let r = found_stream (place + 1) ss i t in (suc r.0, r.1, r.2 ∙ (let e : (place + 1) + r.0 ≡ place + suc r.0 = omega arith in e), r.3, r.4)
       ]
 
-  pub in_found : (place : ℕ) (ss : List Stream) (k : ℕ) (s : Stream) (i : Instance) → slice_get ss k ≡ Some s → i.stream ≡ place + k
+  pub in_found : (place : ℕ) (ss : List Stream) (k : ℕ) (s : Stream) (i : Instance)
+      → slice_get ss k ≡ Some s → i.stream ≡ place + k
       → have_types known i.inputs s.inputs ≡ true → is_due_at known notes s i ≡ true → Contains (found_from known notes place ss) i
   in_found place [] k s i at is types due = absurd (cc)
   in_found place (t ∷ ts) zero s i at is types due =
@@ -203,7 +224,8 @@ module _ (known : Known) (notes : List Note) where
       Contains-append_right (found_under known notes t place [] t.inputs) (found_from known notes (place + 1) ts) i
       (in_found (place + 1) ts k s i at (is ∙ (let e : place + suc k ≡ (place + 1) + k = omega arith in e)) types due)
 
-  pub all_distinct : AreDistinct known.facts → (place : ℕ) (ss : List Stream) → AreDistinct (found_from known notes place ss)
+  pub all_distinct : AreDistinct known.facts → (place : ℕ) (ss : List Stream)
+      → AreDistinct (found_from known notes place ss)
   all_distinct d place [] = distinct_nil
   all_distinct d place (s ∷ ss) =
       distinct_append (found_under known notes s place [] s.inputs) (found_from known notes (place + 1) ss) (found_distinct s place d [] s.inputs) (all_distinct d (place + 1) ss)

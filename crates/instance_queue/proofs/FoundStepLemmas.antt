@@ -35,10 +35,12 @@ flat_take f (y ∷ ys) (suc i) x at =
     ap (λ n. flat_map f (take n (y ∷ ys))) (let e : suc i + 1 ≡ suc (i + 1) = omega arith in e)
     ∙ ap (λ zs. f y ++ zs) (flat_take f ys i x at) ∙ sym (append_assoc (f y) (flat_map f (take i ys)) (f x))
 
-asks_joined : (notes : List Note) (xs ys : List Instance) → asks_of notes (xs ++ ys) ≡ asks_of notes xs ++ asks_of notes ys
+asks_joined : (notes : List Note) (xs ys : List Instance)
+    → asks_of notes (xs ++ ys) ≡ asks_of notes xs ++ asks_of notes ys
 asks_joined notes xs ys = map-append (due_of notes) xs ys
 
-pub asks_more : (notes : List Note) (first now new : List Due) (xs ys all : List Instance) → now ≡ first ++ asks_of notes xs
+pub asks_more : (notes : List Note) (first now new : List Due) (xs ys all : List Instance)
+    → now ≡ first ++ asks_of notes xs
     → new ≡ now ++ asks_of notes ys → all ≡ xs ++ ys → new ≡ first ++ asks_of notes all
 asks_more notes first now new xs ys all was is joined =
     is ∙ ap (λ ds. ds ++ asks_of notes ys) was ∙ append_assoc first (asks_of notes xs) (asks_of notes ys) ∙ ap (λ ds. first ++ ds) (sym (asks_joined notes xs ys) ∙ ap (asks_of notes) (sym joined))
@@ -47,7 +49,8 @@ length_asks : (notes : List Note) (xs : List Instance) → length (asks_of notes
 length_asks notes xs = length-map xs (due_of notes)
 
 -- so many stand before, and so many come, among all that are found
-pub within_all : (f : ℕ → List Instance) (xs : List ℕ) (i x : ℕ) (notes : List Note) (first now : List Due) → slice_get xs i ≡ Some x
+pub within_all : (f : ℕ → List Instance) (xs : List ℕ) (i x : ℕ) (notes : List Note) (first now : List Due)
+    → slice_get xs i ≡ Some x
     → now ≡ first ++ asks_of notes (flat_map f (take i xs)) → length now + length (f x) ≤ length first + length (flat_map f xs)
 within_all f xs i x notes first now at is =
     let long : length now ≡ length first + length (flat_map f (take i xs)) = ap length is ∙ length-append first (asks_of notes (flat_map f (take i xs))) ∙ ap (λ n. length first + n) (length_asks notes (flat_map f (take i xs))) in
@@ -87,7 +90,8 @@ module _ (known : Known) (notes : List Note) where
       let all = found_from known notes (place + 1) ts in
       omega (arith, length-append u front, length-append u all, found_front (place + 1) i ts)
 
-  pub stream_within : (i : ℕ) (ss : List Stream) (s : Stream) (now : List Due) → slice_get ss i ≡ Some s
+  pub stream_within : (i : ℕ) (ss : List Stream) (s : Stream) (now : List Due)
+      → slice_get ss i ≡ Some s
       → now ≡ asks_of notes (found_from known notes 0 (take i ss))
       → length now + length (found_under known notes s i [] s.inputs) ≤ length (found_from known notes 0 ss)
   stream_within i ss s now at is =

@@ -47,7 +47,8 @@ texts_tie xs ys e =
 
 -- ---- names tell objects apart
 
-same_objects : (names : List (List ℕ)) → AreDistinct names → (xs ys : List ℕ) → All (IsIn names) xs → All (IsIn names) ys
+same_objects : (names : List (List ℕ)) → AreDistinct names → (xs ys : List ℕ) → All (IsIn names) xs
+    → All (IsIn names) ys
     → map (name_at names) xs ≡ map (name_at names) ys → xs ≡ ys
 same_objects names d [] [] h g e = refl
 same_objects names d [] (y ∷ ys) h g e = absurd (cc)
@@ -58,24 +59,28 @@ same_objects names d (x ∷ xs) (y ∷ ys) h g e =
     let same : x ≡ y = d x y (name_at names y) (named_at names x (All-head (IsIn names) x xs h) ∙ ap Some first) (named_at names y (All-head (IsIn names) y ys g)) in
     λ i. same i ∷ same_objects names d xs ys (All-tail (IsIn names) x xs h) (All-tail (IsIn names) y ys g) rest i
 
-one_in : (known : Known) → IsCoherent known → (object sort : ℕ) → has_type known object sort ≡ true → IsIn known.names object
+one_in : (known : Known) → IsCoherent known → (object sort : ℕ) → has_type known object sort ≡ true
+    → IsIn known.names object
 one_in known c object sort e =
     All-head (IsIn known.names) object [] (All-contains (λ (f : Fact). All (IsIn known.names) f.args) known.facts (type_fact sort object) c.objects ((fact_member known.facts (type_fact sort object)).0 e))
 
 -- objects with types have names
-pub typed_in : (known : Known) → IsCoherent known → (objects sorts : List ℕ) → have_types known objects sorts ≡ true
+pub typed_in : (known : Known) → IsCoherent known → (objects sorts : List ℕ)
+    → have_types known objects sorts ≡ true
     → All (IsIn known.names) objects
 typed_in known c [] [] e = All-nil (IsIn known.names)
 typed_in known c [] (s ∷ ss) e = absurd (cc)
 typed_in known c (o ∷ os) [] e = absurd (cc)
 typed_in known c (o ∷ os) (s ∷ ss) e = All-cons (IsIn known.names) o os (one_in known c o s (first_so (has_type known o s) (have_types known os ss) e)) (typed_in known c os ss (second_so (has_type known o s) (have_types known os ss) e))
 
-pub due_in : (task : Task) (known : Known) (notes : List Note) → IsCoherent known → (i : Instance) → IsDue task known notes i
+pub due_in : (task : Task) (known : Known) (notes : List Note) → IsCoherent known → (i : Instance)
+    → IsDue task known notes i
     → All (IsIn known.names) i.inputs
 due_in task known notes c i d =
     typed_in known c i.inputs d.stream.inputs (first_so (have_types known i.inputs d.stream.inputs) _ d.reachable)
 
-pub same_dues : (task : Task) (known : Known) (notes : List Note) → IsCoherent known → (a b : Instance) → IsDue task known notes a
+pub same_dues : (task : Task) (known : Known) (notes : List Note) → IsCoherent known
+    → (a b : Instance) → IsDue task known notes a
     → IsDue task known notes b → instance_cmp known.names a b ≡ Equal → a ≡ b
 same_dues task known notes c a b da db e =
     let both = then_equal (nat_cmp a.stream b.stream) (slice_cmp (slice_cmp nat_cmp) (map (name_at known.names) a.inputs) (map (name_at known.names) b.inputs)) e in
@@ -106,16 +111,19 @@ by_test xs d i j x at_i at_j =
         let f = apart_from_distinct same_instance xs i j x d below (slice_get_within xs j x at_j) in
         not_both (same_instance x x) (instance_itself x) ((λ k. same_instance (sym (get_or_from_slice_get xs i x x at_i) k) (sym (get_or_from_slice_get xs j x x at_j) k)) ∙ f)
 
-pub distinct_permuted : (xs ys : List Instance) → IsPermutation xs ys → AreDistinct xs → AreDistinct ys
+pub distinct_permuted : (xs ys : List Instance) → IsPermutation xs ys → AreDistinct xs
+    → AreDistinct ys
 distinct_permuted xs ys p d = by_test ys (IsDistinct-IsPermutation same_instance instances_equivalence.symm xs ys p (tested xs d))
 
 -- ---- sorted dues ascend
 
 due_at : (ys : List Due) (i : ℕ) (a : Instance) → slice_get (instances_of ys) i ≡ Some a
     → (d : Due) × (slice_get ys i ≡ Some d) × (d.instance ≡ a)
-due_at ys i a at = by (slice_get ys i) refl (sym (slice_get-map (λ (d : Due). d.instance) ys i) ∙ at)
+due_at ys i a at =
+    by (slice_get ys i) refl (sym (slice_get-map (λ (d : Due). d.instance) ys i) ∙ at)
   where
-    by : (o : Option Due) → slice_get ys i ≡ o → option_map (λ (d : Due). d.instance) (slice_get ys i) ≡ Some a
+    by : (o : Option Due) → slice_get ys i ≡ o
+        → option_map (λ (d : Due). d.instance) (slice_get ys i) ≡ Some a
         → (d : Due) × (slice_get ys i ≡ Some d) × (d.instance ≡ a)
     by None e m = absurd (nothing (slice_get ys i) e m)
       where
@@ -127,7 +135,8 @@ due_at ys i a at = by (slice_get ys i) refl (sym (slice_get-map (λ (d : Due). d
         some_is : Some d.instance ≡ Some a → d.instance ≡ a
         some_is f = cc
 
-pub ascending : (task : Task) (known : Known) (notes : List Note) → IsCoherent known → (ys : List Due)
+pub ascending : (task : Task) (known : Known) (notes : List Note) → IsCoherent known
+    → (ys : List Due)
     → ((i : Instance) → Contains (instances_of ys) i → IsDue task known notes i) → AreDistinct (instances_of ys)
     → IsSortedBy (comes_before known.names) ys → AreAscending (instance_cmp known.names) (instances_of ys)
 ascending task known notes c ys due d up i j a b below at_i at_j =
@@ -138,7 +147,8 @@ ascending task known notes c ys due d up i j a b below at_i at_j =
     (λ k. is_lt (instance_cmp known.names (sym y.2 k) (sym x.2 k))) ∙ (λ k. comes_before known.names (sym (get_or_from_slice_get ys j y.0 x.0 y.1) k) (sym (get_or_from_slice_get ys i x.0 x.0 x.1) k)) ∙ far in
     by (instance_cmp known.names a b) refl not_back
   where
-    by : (o : Ordering) → instance_cmp known.names a b ≡ o → is_lt (instance_cmp known.names b a) ≡ false
+    by : (o : Ordering) → instance_cmp known.names a b ≡ o
+        → is_lt (instance_cmp known.names b a) ≡ false
         → instance_cmp known.names a b ≡ Less
     by Less e not_back = e
     by Equal e not_back =

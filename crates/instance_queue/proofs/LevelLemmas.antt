@@ -19,17 +19,20 @@ asked : (notes : List Note) (xs : List Instance) → instances_of (asks_of notes
 asked notes [] = refl
 asked notes (x ∷ xs) = ap (λ ys. x ∷ ys) (asked notes xs)
 
-turned : (notes : List Note) (xs : List Instance) → All (λ (d : Due). d.turn ≡ yields_of notes d.instance) (asks_of notes xs)
+turned : (notes : List Note) (xs : List Instance)
+    → All (λ (d : Due). d.turn ≡ yields_of notes d.instance) (asks_of notes xs)
 turned notes [] = All-nil (λ (d : Due). d.turn ≡ yields_of notes d.instance)
 turned notes (x ∷ xs) =
     All-cons (λ (d : Due). d.turn ≡ yields_of notes d.instance) (due_of notes x) (asks_of notes xs) refl (turned notes xs)
 
 module _ (task : Task) (known : Known) (notes : List Note) (coherent : IsCoherent known) where
-  pub fault_is : (e : QueueFault) → Overflows (length (found_from known notes 0 task.streams)) e → ComesOf task known notes e
+  pub fault_is : (e : QueueFault) → Overflows (length (found_from known notes 0 task.streams)) e
+      → ComesOf task known notes e
   fault_is TooManyInstances more = (found_from known notes 0 task.streams, more, all_distinct known notes coherent.facts 0 task.streams, λ i. (found_is_due task known notes i).0)
   fault_is Memory more = tt
 
-  pub level_is : (xs ys : List Due) → xs ≡ asks_of notes (found_from known notes 0 task.streams) → length xs ≤ 1000000 → IsPermutation xs ys
+  pub level_is : (xs ys : List Due) → xs ≡ asks_of notes (found_from known notes 0 task.streams)
+      → length xs ≤ 1000000 → IsPermutation xs ys
       → IsSortedBy (comes_before known.names) ys → AreDueInTurn task known notes ys
   level_is xs ys is few moved up =
       let all = found_from known notes 0 task.streams in

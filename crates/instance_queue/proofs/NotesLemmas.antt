@@ -18,7 +18,8 @@ use Rattle.instance_queue.specs.declared.queue.Tally.{Tally}
 -- ---- instances
 
 instance_decided : (a b : Instance) → Decides (same_instance a b) (a ≡ b)
-instance_decided a b = (instances_same a b, λ e. subst (λ x. same_instance a x ≡ true) e (instance_itself a))
+instance_decided a b =
+    (instances_same a b, λ e. subst (λ x. same_instance a x ≡ true) e (instance_itself a))
 
 pub instances_equivalence : IsEquivalence same_instance
 instances_equivalence = decided same_instance instance_decided
@@ -30,8 +31,11 @@ abbrev pub about : Note → Instance
 about (Yielded i) = i
 about (Ended i) = i
 
-count_one : {A : Type 0} (p : A → Bool) (xs : List A) (x : A) → count_by p (xs ++ x ∷ []) ≡ count_by p xs + cond (p x) 1 0
-count_one p xs x = sum_by-append (λ y. cond (p y) 1 0) xs (x ∷ []) ∙ ap (λ n. count_by p xs + n) (zero-add (cond (p x) 1 0))
+count_one : {A : Type 0} (p : A → Bool) (xs : List A) (x : A)
+    → count_by p (xs ++ x ∷ []) ≡ count_by p xs + cond (p x) 1 0
+count_one p xs x =
+    sum_by-append (λ y. cond (p y) 1 0) xs (x ∷ [])
+    ∙ ap (λ n. count_by p xs + n) (zero-add (cond (p x) 1 0))
 
 no_more : (n : ℕ) (b : Bool) → b ≡ false → n + cond b 1 0 ≡ n
 no_more n b e = ap (λ c. n + cond c 1 0) e ∙ (let f : n + 0 ≡ n = omega arith in f)
@@ -41,16 +45,19 @@ stays true b e = refl
 stays false true e = absurd (cc)
 stays false false e = refl
 
-yields_other : (note : Note) (q : Instance) → same_instance q (about note) ≡ false → is_yield_of q note ≡ false
+yields_other : (note : Note) (q : Instance) → same_instance q (about note) ≡ false
+    → is_yield_of q note ≡ false
 yields_other (Yielded i) q e = e
 yields_other (Ended i) q e = refl
 
-ends_other : (note : Note) (q : Instance) → same_instance q (about note) ≡ false → is_end_of q note ≡ false
+ends_other : (note : Note) (q : Instance) → same_instance q (about note) ≡ false
+    → is_end_of q note ≡ false
 ends_other (Yielded i) q e = refl
 ends_other (Ended i) q e = e
 
 -- other instances keep their tallies
-pub tally_stays : (notes : List Note) (note : Note) (q : Instance) → same_instance (about note) q ≡ false
+pub tally_stays : (notes : List Note) (note : Note) (q : Instance)
+    → same_instance (about note) q ≡ false
     → tally_of (notes ++ note ∷ []) q ≡ tally_of notes q
 tally_stays notes note q apart =
     let other : same_instance q (about note) ≡ false = instances_equivalence.symm q (about note) ∙ apart in
@@ -72,21 +79,30 @@ tallied_more old new notes note tally was now is q =
 
 -- ---- the noted instance
 
-pub yields_yielded : (notes : List Note) (i : Instance) → yields_of (notes ++ Yielded i ∷ []) i ≡ yields_of notes i + 1
-yields_yielded notes i = count_one (is_yield_of i) notes (Yielded i) ∙ ap (λ b. yields_of notes i + cond b 1 0) (instance_itself i)
+pub yields_yielded : (notes : List Note) (i : Instance)
+    → yields_of (notes ++ Yielded i ∷ []) i ≡ yields_of notes i + 1
+yields_yielded notes i =
+    count_one (is_yield_of i) notes (Yielded i)
+    ∙ ap (λ b. yields_of notes i + cond b 1 0) (instance_itself i)
 
-pub ended_yielded : (notes : List Note) (i : Instance) → list_any (is_end_of i) (notes ++ Yielded i ∷ []) ≡ list_any (is_end_of i) notes
-ended_yielded notes i = list_any-append (is_end_of i) notes (Yielded i ∷ []) ∙ stays (list_any (is_end_of i) notes) false refl
+pub ended_yielded : (notes : List Note) (i : Instance)
+    → list_any (is_end_of i) (notes ++ Yielded i ∷ []) ≡ list_any (is_end_of i) notes
+ended_yielded notes i =
+    list_any-append (is_end_of i) notes (Yielded i ∷ [])
+    ∙ stays (list_any (is_end_of i) notes) false refl
 
-pub yields_ended : (notes : List Note) (i : Instance) → yields_of (notes ++ Ended i ∷ []) i ≡ yields_of notes i
-yields_ended notes i = count_one (is_yield_of i) notes (Ended i) ∙ no_more (yields_of notes i) false refl
+pub yields_ended : (notes : List Note) (i : Instance)
+    → yields_of (notes ++ Ended i ∷ []) i ≡ yields_of notes i
+yields_ended notes i =
+    count_one (is_yield_of i) notes (Ended i) ∙ no_more (yields_of notes i) false refl
 
 or_true : (a b : Bool) → b ≡ true → (a || (b || false)) ≡ true
 or_true true b e = refl
 or_true false true e = refl
 or_true false false e = absurd (cc)
 
-pub ended_ended : (notes : List Note) (i : Instance) → list_any (is_end_of i) (notes ++ Ended i ∷ []) ≡ true
+pub ended_ended : (notes : List Note) (i : Instance)
+    → list_any (is_end_of i) (notes ++ Ended i ∷ []) ≡ true
 ended_ended notes i =
     list_any-append (is_end_of i) notes (Ended i ∷ []) ∙ or_true (list_any (is_end_of i) notes) (same_instance i i) (instance_itself i)
 
@@ -110,7 +126,8 @@ some_counted p (x ∷ xs) =
       | false ↦ ap (nat_lt 0) (zero-add (count_by p xs)) ∙ some_counted p xs
     ]
 
-pub yielded_some : (notes : List Note) (i : Instance) → nat_lt 0 (yields_of notes i) ≡ list_any (is_yield_of i) notes
+pub yielded_some : (notes : List Note) (i : Instance)
+    → nat_lt 0 (yields_of notes i) ≡ list_any (is_yield_of i) notes
 yielded_some notes i = some_counted (is_yield_of i) notes
 
 -- ---- the notes that are kept

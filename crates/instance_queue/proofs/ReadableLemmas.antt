@@ -16,7 +16,8 @@ use Rattle.task_model.specs.declared.task.Task.{Task}
 use Rattle.instance_queue.specs.Readable.{is_readable_pattern, IsReadableStream}
 use borrow.Author.Tests.{leb-true}
 
-readable_patterns : (domain : Domain) → IsFitDomain domain → (objects n : ℕ) → n ≤ 16 → (ps : List Pattern)
+readable_patterns : (domain : Domain) → IsFitDomain domain → (objects n : ℕ) → n ≤ 16
+    → (ps : List Pattern)
     → list_all (is_fit_pattern domain objects (numbers_from 0 n)) ps ≡ true → list_all is_readable_pattern ps ≡ true
 readable_patterns domain fit objects n few [] all = refl
 readable_patterns domain fit objects n few (p ∷ ps) all =
@@ -29,7 +30,8 @@ readable_patterns domain fit objects n few (p ∷ ps) all =
     (readable_patterns domain fit objects n few ps rest)
 
 -- a stream of a fit task is fit
-pub fit_stream_at : (task : Task) → IsFit task → (place : ℕ) (s : Stream) → slice_get task.streams place ≡ Some s
+pub fit_stream_at : (task : Task) → IsFit task → (place : ℕ) (s : Stream)
+    → slice_get task.streams place ≡ Some s
     → is_fit_stream task.domain s ≡ true
 fit_stream_at task fit place s at =
     all_at_or (is_fit_stream task.domain) task.streams place s (second_so (is_short task.streams) (list_all (is_fit_stream task.domain) task.streams) fit.streams.each) (slice_get_within task.streams place s at) (sym (get_or_from_slice_get task.streams place s s at))
@@ -62,7 +64,8 @@ module _ (domain : Domain) (s : Stream) (fit : is_fit_stream domain s ≡ true) 
       readable_patterns domain fit_domain (length domain.constants) (length s.inputs) (omega (arith, narrow_inputs)) s.domain
       (second_so (is_short s.domain) (list_all (is_fit_pattern domain (length domain.constants) (numbers_from 0 (length s.inputs))) s.domain) (second_so d e up_to_domain))
 
-pub fit_readable_stream : (task : Task) → IsFit task → (place : ℕ) (s : Stream) → slice_get task.streams place ≡ Some s → IsReadableStream s
+pub fit_readable_stream : (task : Task) → IsFit task → (place : ℕ) (s : Stream)
+    → slice_get task.streams place ≡ Some s → IsReadableStream s
 fit_readable_stream task fit place s at =
     let one = fit_stream_at task fit place s at in
     record { narrow = narrow_inputs task.domain s one; patterns = readable_domain task.domain s one fit.domain }

@@ -22,7 +22,8 @@ module _ (known : Known) (notes : List Note) where
     instance_at inputs = record { stream = place; inputs = inputs }
 
     abbrev pub found_at : List ℕ → List Instance
-    found_at inputs = if is_due_at known notes stream (instance_at inputs) then instance_at inputs ∷ [] else []
+    found_at inputs =
+        if is_due_at known notes stream (instance_at inputs) then instance_at inputs ∷ [] else []
 
     -- those whose inputs begin with these and go on with objects of these types
     abbrev pub found_under : List ℕ → List ℕ → List Instance
@@ -33,7 +34,8 @@ module _ (known : Known) (notes : List Note) where
   -- those of these streams, the first of which has this place
   abbrev pub found_from : ℕ → List Stream → List Instance
   found_from place [] = []
-  found_from place (stream ∷ streams) = found_under stream place [] stream.inputs ++ found_from (place + 1) streams
+  found_from place (stream ∷ streams) =
+      found_under stream place [] stream.inputs ++ found_from (place + 1) streams
 
 -- what a fault says where so many would be found
 abbrev pub Overflows : ℕ → QueueFault → Type 0

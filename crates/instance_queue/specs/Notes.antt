@@ -19,7 +19,8 @@ notes_in = map note_of
 
 -- how many tuples the instance gave, and whether it ended
 abbrev pub tally_of : List Note → Instance → Tally
-tally_of notes instance = record { yields = yields_of notes instance; ended = list_any (is_end_of instance) notes }
+tally_of notes instance =
+    record { yields = yields_of notes instance; ended = list_any (is_end_of instance) notes }
 
 -- the tally that was found; what was never noted gave nothing
 abbrev pub tally_in : Option Tally → Tally
@@ -28,4 +29,5 @@ tally_in None = record { yields = 0; ended = false }
 
 -- the table has each instance's tally
 abbrev pub AreTallied : {S : Type 0} → IndexMap Instance Tally S → List Note → Type 0
-AreTallied tallies notes = (i : Instance) → tally_in (get same_instance tallies i) ≡ tally_of notes i
+AreTallied tallies notes =
+    (i : Instance) → tally_in (get same_instance tallies i) ≡ tally_of notes i

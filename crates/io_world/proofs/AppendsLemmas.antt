@@ -10,7 +10,8 @@ pub piece_more : (done n : ℕ) (bytes : List ℕ)
 piece_more done n bytes = rw (behind done bytes) (take-add done n bytes)
 
 -- grown by one part and then by another
-pub grown : (old mid new : Option (List ℕ)) (xs ys zs : List ℕ) → zs ≡ xs ++ ys → Appends old mid xs → Appends mid new ys
+pub grown : (old mid new : Option (List ℕ)) (xs ys zs : List ℕ) → zs ≡ xs ++ ys → Appends old mid xs
+    → Appends mid new ys
     → Appends old new zs
 grown None mid new xs ys zs all first second = tt
 grown (Some a) None new xs ys zs all first second = absurd first
@@ -19,7 +20,8 @@ grown (Some a) (Some b) (Some c) xs ys zs all first second =
     second ∙ ap (λ front. front ++ ys) first ∙ append_assoc a xs ys ∙ ap (λ tail. a ++ tail) (sym all)
 
 -- a piece stays within its bytes
-pub piece_within : (done n : ℕ) (bytes : List ℕ) → done ≤ length bytes → n ≤ length (take (length bytes - done) (drop done bytes))
+pub piece_within : (done n : ℕ) (bytes : List ℕ) → done ≤ length bytes
+    → n ≤ length (take (length bytes - done) (drop done bytes))
     → done + n ≤ length bytes
 piece_within done n bytes within here =
     let e = ap length (behind done bytes) in

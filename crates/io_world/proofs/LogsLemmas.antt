@@ -7,15 +7,18 @@ use Rattle.io_world.specs.Logs.{Calls, Notes}
 pub spelled-more : (child : ℕ) (talk : Talk) (events : List Event) (event : Event)
     → spelled child talk (events ++ event ∷ []) ≡ said_after child (spelled child talk events) event
 spelled-more child talk [] event = refl
-spelled-more child talk (first ∷ events) event = spelled-more child (said_after child talk first) events event
+spelled-more child talk (first ∷ events) event =
+    spelled-more child (said_after child talk first) events event
 
 -- a call that was added counts in what was said
-pub noted : (inside old new : Calls) (event : Event) → inside ≡ old → new.events ≡ inside.events ++ event ∷ [] → new.whole ≡ inside.whole
+pub noted : (inside old new : Calls) (event : Event) → inside ≡ old
+    → new.events ≡ inside.events ++ event ∷ [] → new.whole ≡ inside.whole
     → Notes old new event
 noted inside old new event same events whole =
     let P : Calls → Type 0 = λ calls. Notes calls new event in
     subst P same (record {
       events = events;
       whole = whole;
-      said = λ k. ap Some (ap (spelled k silence) events ∙ spelled-more k silence inside.events event);
+      said =
+          λ k. ap Some (ap (spelled k silence) events ∙ spelled-more k silence inside.events event);
     })

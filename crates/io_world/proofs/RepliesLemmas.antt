@@ -10,7 +10,8 @@ use Rattle.io_world.specs.Replies.{IsLine, ReplyState, HearsByte, Replies}
 use Rattle.lemmas.specs.Lists.{lines_with_feeds}
 
 -- nothing was asked yet
-pub none_asked : (answers : List ℕ → List ℕ) (old new : ReplyState) → new ≡ old → IsLine new.request → Replies answers [] old new
+pub none_asked : (answers : List ℕ → List ℕ) (old new : ReplyState) → new ≡ old → IsLine new.request
+    → Replies answers [] old new
 none_asked answers old new same line =
     let P : ReplyState → Type 0 = λ start. Replies answers [] start new in
     subst P same (record {
@@ -32,7 +33,8 @@ single line here zero d below = here
 single line here (suc k) d below = absurd (omega arith)
 
 -- a request that became whole
-ended : (answers : List ℕ → List ℕ) (bytes : List ℕ) (old now : ReplyState) → Replies answers bytes old now
+ended : (answers : List ℕ → List ℕ) (bytes : List ℕ) (old now : ReplyState)
+    → Replies answers bytes old now
     → Replies answers (bytes ++ 10 ∷ []) old (record { request = []; pending = now.pending ++ (answers now.request ++ 10 ∷ []) })
 ended answers bytes old now so_far = record {
   requests = so_far.requests ++ now.request ∷ [];
@@ -49,7 +51,8 @@ ended answers bytes old now so_far = record {
 }
 
 -- a byte of a request
-continued : (answers : List ℕ → List ℕ) (bytes : List ℕ) (byte : ℕ) (old now : ReplyState) → (byte == 10) ≡ false
+continued : (answers : List ℕ → List ℕ) (bytes : List ℕ) (byte : ℕ) (old now : ReplyState)
+    → (byte == 10) ≡ false
     → Replies answers bytes old now
     → Replies answers (bytes ++ byte ∷ []) old (record { request = now.request ++ byte ∷ []; pending = now.pending })
 continued answers bytes byte old now other so_far = record {
@@ -58,11 +61,13 @@ continued answers bytes byte old now other so_far = record {
       sym (append_assoc old.request bytes (byte ∷ [])) ∙ ap (λ front. front ++ byte ∷ []) so_far.split
       ∙ append_assoc (lines_with_feeds so_far.requests) now.request (byte ∷ []);
   lines = so_far.lines;
-  rest = rw (list_any-append (λ x. x == 10) now.request (byte ∷ [])) (rw so_far.rest (rw other refl));
+  rest =
+      rw (list_any-append (λ x. x == 10) now.request (byte ∷ [])) (rw so_far.rest (rw other refl));
   answered = so_far.answered;
 }
 
-by_case : (b : Bool) (answers : List ℕ → List ℕ) (bytes : List ℕ) (byte : ℕ) (old now new : ReplyState) → (byte == 10) ≡ b
+by_case : (b : Bool) (answers : List ℕ → List ℕ) (bytes : List ℕ) (byte : ℕ) (old now new : ReplyState)
+    → (byte == 10) ≡ b
     → Replies answers bytes old now
     → new ≡ (if b then record { request = []; pending = now.pending ++ (answers now.request ++ 10 ∷ []) } else record { request = now.request ++ byte ∷ []; pending = now.pending })
     → Replies answers (bytes ++ byte ∷ []) old new
@@ -74,6 +79,8 @@ by_case false answers bytes byte old now new test so_far same =
     subst P (sym same) (continued answers bytes byte old now test so_far)
 
 -- one byte more was heard
-pub heard_byte : (answers : List ℕ → List ℕ) (bytes : List ℕ) (byte : ℕ) (old now new : ReplyState) → Replies answers bytes old now
+pub heard_byte : (answers : List ℕ → List ℕ) (bytes : List ℕ) (byte : ℕ) (old now new : ReplyState)
+    → Replies answers bytes old now
     → HearsByte answers byte now new → Replies answers (bytes ++ byte ∷ []) old new
-heard_byte answers bytes byte old now new so_far here = by_case (byte == 10) answers bytes byte old now new refl so_far here
+heard_byte answers bytes byte old now new so_far here =
+    by_case (byte == 10) answers bytes byte old now new refl so_far here

@@ -23,7 +23,8 @@ heard_twice None xs ys = refl
 heard_twice (Some talk) xs ys = ap (λ bytes. Some (record { written = talk.written; heard = bytes })) (append_assoc talk.heard xs ys)
 
 -- heard twice
-pub hears_more : (child : ℕ) (old mid new : ℕ → Option Talk) (xs ys zs : List ℕ) → zs ≡ xs ++ ys → Hears child xs old mid
+pub hears_more : (child : ℕ) (old mid new : ℕ → Option Talk) (xs ys zs : List ℕ) → zs ≡ xs ++ ys
+    → Hears child xs old mid
     → Hears child ys mid new → Hears child zs old new
 hears_more child old mid new xs ys zs all first second = record {
   here =
@@ -37,7 +38,8 @@ abbrev AtMost : ℕ → List ℕ → List Event → Type 0
 AtMost child held events = IsLine (held ++ (spelled child silence events).heard)
 
 -- one read more
-pub gives_more : (child room : ℕ) (held xs piece zs : List ℕ) (events : List Event) → zs ≡ xs ++ piece → IsLine (held ++ xs)
+pub gives_more : (child room : ℕ) (held xs piece zs : List ℕ) (events : List Event)
+    → zs ≡ xs ++ piece → IsLine (held ++ xs)
     → Gives child held xs events → Gives child held zs (events ++ heard child room (Ok piece) ∷ [])
 gives_more child room held xs piece zs events all line so_far = record {
   each = All-append (IsGiven child) events (heard child room (Ok piece) ∷ []) so_far.each (all_one (IsGiven child) (heard child room (Ok piece)) refl);
@@ -62,7 +64,8 @@ room_more filled n room rest within some =
     ∙ ap (λ piece. take filled room ++ piece) (take-append-le n rest (post_of filled (length room - filled) room) some)
 
 -- those behind the first ones
-pub heard_behind : (held filled n : ℕ) (room rest : List ℕ) → held ≤ filled → filled ≤ length room → n ≤ length rest
+pub heard_behind : (held filled n : ℕ) (room rest : List ℕ) → held ≤ filled → filled ≤ length room
+    → n ≤ length rest
     → drop held (take (filled + n) (put_mid filled (length room - filled) room rest)) ≡ drop held (take filled room) ++ take n rest
 heard_behind held filled n room rest above within some =
     let front : held ≤ length (take filled room) = omega (arith, length-take-le filled room within) in
@@ -74,7 +77,8 @@ pub room_within : (filled n : ℕ) (room rest : List ℕ) → filled ≤ length 
 room_within filled n room rest within some = omega (arith, length-take-le filled room within, length-append (take filled room) (rest ++ post_of filled (length room - filled) room), length-append rest (post_of filled (length room - filled) room))
 
 -- the bytes held before and the bytes heard
-pub held_and_heard : (held filled : ℕ) (room : List ℕ) → held ≤ filled → take held room ++ drop held (take filled room) ≡ take filled room
+pub held_and_heard : (held filled : ℕ) (room : List ℕ) → held ≤ filled
+    → take held room ++ drop held (take filled room) ≡ take filled room
 held_and_heard zero filled room above = refl
 held_and_heard (suc held) zero room above = absurd (omega arith)
 held_and_heard (suc held) (suc filled) [] above = refl
@@ -83,26 +87,30 @@ held_and_heard (suc held) (suc filled) (byte ∷ room) above =
     ap (λ bytes. byte ∷ bytes) (held_and_heard held filled room lower)
 
 -- no line feed was held or heard
-pub quiet : (held filled : ℕ) (room start : List ℕ) → held ≤ filled → take held room ≡ take held start → IsLine (take filled room)
+pub quiet : (held filled : ℕ) (room start : List ℕ) → held ≤ filled
+    → take held room ≡ take held start → IsLine (take filled room)
     → IsLine (take held start ++ drop held (take filled room))
 quiet held filled room start above kept line =
     subst (λ (front : List ℕ). IsLine (front ++ drop held (take filled room))) kept (subst IsLine (sym (held_and_heard held filled room above)) line)
 
 -- the log with one read more
-pub given_more : (child room : ℕ) (held xs piece zs : List ℕ) (old mid new : Option (List Event)) → zs ≡ xs ++ piece → IsLine (held ++ xs)
+pub given_more : (child room : ℕ) (held xs piece zs : List ℕ) (old mid new : Option (List Event))
+    → zs ≡ xs ++ piece → IsLine (held ++ xs)
     → LogsGiven child held xs old mid → Logs mid new (heard child room (Ok piece)) → LogsGiven child held zs old new
 given_more child room held xs piece zs old mid new all line so_far more =
     (so_far.0 ++ heard child room (Ok piece) ∷ [], gives_more child room held xs piece zs so_far.0 all line so_far.1, extends_more old mid new so_far.0 (heard child room (Ok piece) ∷ []) so_far.2 more)
 
 -- heard, and then nothing more
-pub hears_kept : (child : ℕ) (old mid new : ℕ → Option Talk) (xs : List ℕ) → Hears child xs old mid → Same mid new → Hears child xs old new
+pub hears_kept : (child : ℕ) (old mid new : ℕ → Option Talk) (xs : List ℕ) → Hears child xs old mid
+    → Same mid new → Hears child xs old new
 hears_kept child old mid new xs first same = record {
   here = same child ∙ first.here;
   others = λ k other. same k ∙ first.others k other;
 }
 
 -- the log with a read that failed
-pub given_fault : (child room : ℕ) (held xs : List ℕ) (fault : HostFault) (old mid new : Option (List Event)) → IsLine (held ++ xs)
+pub given_fault : (child room : ℕ) (held xs : List ℕ) (fault : HostFault) (old mid new : Option (List Event))
+    → IsLine (held ++ xs)
     → LogsGiven child held xs old mid → Logs mid new (heard child room (Err fault)) → LogsGivenPart child held fault old new
 given_fault child room held xs fault old mid new line so_far more =
     (so_far.0, xs, room, so_far.1, line, extends_more old mid new so_far.0 (heard child room (Err fault) ∷ []) so_far.2 more)

@@ -14,7 +14,8 @@ extends_none None = tt
 extends_none (Some list) = (list, refl, sym (append-nil list))
 
 -- a told list that grew twice
-pub extends_more : {A : Type 0} (old mid new : Option (List A)) (xs ys : List A) → Extends old mid xs → Extends mid new ys
+pub extends_more : {A : Type 0} (old mid new : Option (List A)) (xs ys : List A)
+    → Extends old mid xs → Extends mid new ys
     → Extends old new (xs ++ ys)
 extends_more old mid None xs ys first second = tt
 extends_more old None (Some after) xs ys first second = cc
@@ -36,7 +37,8 @@ pub writes_none : (child : ℕ) (spoken : ℕ → Option Talk) → Writes child 
 writes_none child spoken = record { here = written_none (spoken child); others = λ k other. refl }
 
 -- written to twice
-pub writes_more : (child : ℕ) (old mid new : ℕ → Option Talk) (xs ys zs : List ℕ) → zs ≡ xs ++ ys → Writes child xs old mid
+pub writes_more : (child : ℕ) (old mid new : ℕ → Option Talk) (xs ys zs : List ℕ) → zs ≡ xs ++ ys
+    → Writes child xs old mid
     → Writes child ys mid new → Writes child zs old new
 writes_more child old mid new xs ys zs all first second = record {
   here =
@@ -46,7 +48,8 @@ writes_more child old mid new xs ys zs all first second = record {
 }
 
 -- one write more that was taken
-pub takes_more : (child n : ℕ) (xs piece zs : List ℕ) (events : List Event) → zs ≡ xs ++ take n piece → 0 < n → n ≤ length piece
+pub takes_more : (child n : ℕ) (xs piece zs : List ℕ) (events : List Event)
+    → zs ≡ xs ++ take n piece → 0 < n → n ≤ length piece
     → Takes child xs events → Takes child zs (events ++ wrote child piece (Ok n) ∷ [])
 takes_more child n xs piece zs events all some within so_far = record {
   each = All-append (IsTaken child) events (wrote child piece (Ok n) ∷ []) so_far.each (all_one (IsTaken child) (wrote child piece (Ok n)) (refl, some, within));
@@ -56,7 +59,8 @@ takes_more child n xs piece zs events all some within so_far = record {
 }
 
 -- the log with one write more that was taken
-pub taken_more : (child n : ℕ) (xs piece zs : List ℕ) (old mid new : Option (List Event)) → zs ≡ xs ++ take n piece → 0 < n
+pub taken_more : (child n : ℕ) (xs piece zs : List ℕ) (old mid new : Option (List Event))
+    → zs ≡ xs ++ take n piece → 0 < n
     → n ≤ length piece → LogsTaken child xs old mid → Logs mid new (wrote child piece (Ok n)) → LogsTaken child zs old new
 taken_more child n xs piece zs old mid new all some within so_far more =
     (so_far.0 ++ wrote child piece (Ok n) ∷ [], takes_more child n xs piece zs so_far.0 all some within so_far.1, extends_more old mid new so_far.0 (wrote child piece (Ok n) ∷ []) so_far.2 more)

@@ -26,4 +26,5 @@ pub record Counts {T E : Type 0} (failed : E) (last before now : ℕ) (result : 
 -- a list that is told after was told before, and has these members more
 abbrev pub Extends : {A : Type 0} → Option (List A) → Option (List A) → List A → Type 0
 Extends old None more = ⊤
-Extends {A} old (Some after) more = (before : List A) × (old ≡ Some before) × (after ≡ before ++ more)
+Extends {A} old (Some after) more =
+    (before : List A) × (old ≡ Some before) × (after ≡ before ++ more)

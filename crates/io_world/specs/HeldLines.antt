@@ -14,4 +14,5 @@ pub record IsHeld (bytes : List ℕ) : Type 0 where
 
 -- All that there was to pass on was written, and nothing is held, or it is held, ends no line, and nothing was written.
 abbrev pub IsPassedOn : Option (List ℕ) → Option (List ℕ) → List ℕ → List ℕ → Type 0
-IsPassedOn old new all held = ((held ≡ []) × Appends old new all) ⊎ ((held ≡ all) × (ends_line all ≡ false) × (new ≡ old))
+IsPassedOn old new all held =
+    ((held ≡ []) × Appends old new all) ⊎ ((held ≡ all) × (ends_line all ≡ false) × (new ≡ old))

@@ -22,8 +22,10 @@ planned fails = record { fails = fails; next = 0 }
 
 -- the most that a read gives: its cut, where it is stated and at least 1, and else no less than `most`
 abbrev pub cut_or : List ℕ → ℕ → ℕ → ℕ
-cut_or cuts number most = let cut = unwrap_or (slice_get cuts number) 0 in if cut == 0 then most else cut
+cut_or cuts number most =
+    let cut = unwrap_or (slice_get cuts number) 0 in if cut == 0 then most else cut
 
 -- Ok comes only where the call doesn't fail, and `failed` only where it does
 abbrev pub FailsWhere : {T E : Type 0} → E → Bool → Result T E → Type 0
-FailsWhere failed fails result = MatchResult result (λ _. fails ≡ false) (λ fault. fault ≡ failed → fails ≡ true)
+FailsWhere failed fails result =
+    MatchResult result (λ _. fails ≡ false) (λ fault. fault ≡ failed → fails ≡ true)

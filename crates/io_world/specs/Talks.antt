@@ -36,7 +36,8 @@ given (Err e) room = Err e
 abbrev pub said_after : ℕ → Talk → Event → Talk
 said_after child talk (started k argv (Ok u)) = if k == child then silence else talk
 said_after child talk (started k argv (Err e)) = talk
-said_after child talk (wrote k bytes (Ok n)) = if k == child then wrote_more (take n bytes) talk else talk
+said_after child talk (wrote k bytes (Ok n)) =
+    if k == child then wrote_more (take n bytes) talk else talk
 said_after child talk (wrote k bytes (Err e)) = talk
 said_after child talk (heard k room (Ok bytes)) = if k == child then heard_more bytes talk else talk
 said_after child talk (heard k room (Err e)) = talk
@@ -104,10 +105,12 @@ pub record Takes (child : ℕ) (bytes : List ℕ) (events : List Event) : Type 0
 
 -- the log grew by writes to a child that took these bytes
 abbrev pub LogsTaken : ℕ → List ℕ → Option (List Event) → Option (List Event) → Type 0
-LogsTaken child bytes old new = (events : List Event) × Takes child bytes events × Grows old new events
+LogsTaken child bytes old new =
+    (events : List Event) × Takes child bytes events × Grows old new events
 
 -- the log grew by writes to a child that took the first of these bytes, and by one that answered this fault
-abbrev pub LogsTakenPart : ℕ → List ℕ → HostFault → Option (List Event) → Option (List Event) → Type 0
+abbrev pub LogsTakenPart : ℕ → List ℕ → HostFault → Option (List Event) → Option (List Event)
+    → Type 0
 LogsTakenPart child bytes fault old new =
     (events : List Event) × (n : ℕ) × Takes child (take n bytes) events
     × Grows old new (events ++ wrote child (drop n bytes) (Err fault) ∷ [])
@@ -116,14 +119,17 @@ LogsTakenPart child bytes fault old new =
 pub record Gives (child : ℕ) (held bytes : List ℕ) (events : List Event) : Type 0 where
   pub each : All (IsGiven child) events
   pub spells : spelled child silence events ≡ heard_more bytes silence
-  pub early : (k : ℕ) → k < length events → IsLine (held ++ (spelled child silence (take k events)).heard)
+  pub early : (k : ℕ) → k < length events
+      → IsLine (held ++ (spelled child silence (take k events)).heard)
 
 -- the log grew by reads of a child that gave these bytes
 abbrev pub LogsGiven : ℕ → List ℕ → List ℕ → Option (List Event) → Option (List Event) → Type 0
-LogsGiven child held bytes old new = (events : List Event) × Gives child held bytes events × Grows old new events
+LogsGiven child held bytes old new =
+    (events : List Event) × Gives child held bytes events × Grows old new events
 
 -- the log grew by reads of a child, none of which gave a line feed, and by one that answered this fault
-abbrev pub LogsGivenPart : ℕ → List ℕ → HostFault → Option (List Event) → Option (List Event) → Type 0
+abbrev pub LogsGivenPart : ℕ → List ℕ → HostFault → Option (List Event) → Option (List Event)
+    → Type 0
 LogsGivenPart child held fault old new =
     (events : List Event) × (bytes : List ℕ) × (room : ℕ) × Gives child held bytes events × IsLine (held ++ bytes)
     × Grows old new (events ++ heard child room (Err fault) ∷ [])

@@ -58,7 +58,9 @@ impl HeldLine {
         requires { 0 < length bytes.now }
         ensures count { IfSome result (λ n. (0 < n) × (n ≤ length bytes.now)) }
         ensures lost { IfNone result (self.new ≡ []) }
-        ensures passed { IfSome result (λ n. IsPassedOn (W.contents out.old) (W.contents out.new) (self.old ++ take n bytes.now) self.new) }
+        ensures passed { IfSome result
+            (λ n. IsPassedOn (W.contents out.old) (W.contents out.new)
+            (self.old ++ take n bytes.now) self.new) }
     {
         let count = bytes.len().min(ROOM - self.bytes.len());
         let taken = &bytes[..count];

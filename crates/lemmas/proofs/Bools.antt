@@ -17,7 +17,8 @@ pub and_false : (a : Bool) → (a && false) ≡ false
 and_false true = refl
 and_false false = refl
 
-pub and_four : (a b c d : Bool) → a ≡ true → b ≡ true → c ≡ true → d ≡ true → (a && b && c && d) ≡ true
+pub and_four : (a b c d : Bool) → a ≡ true → b ≡ true → c ≡ true → d ≡ true
+    → (a && b && c && d) ≡ true
 and_four a b c d e f g h = rw (e, f, g, h) refl
 
 pub from_or_false : (b : Bool) → (b || false) ≡ true → b ≡ true

@@ -17,36 +17,45 @@ any_found p (x ∷ xs) e =
     ] refl e
 
 -- each member passes
-pub all_at : {A : Type 0} (p : A → Bool) (xs : List A) (i : ℕ) (x : A) → list_all p xs ≡ true → slice_get xs i ≡ Some x → p x ≡ true
+pub all_at : {A : Type 0} (p : A → Bool) (xs : List A) (i : ℕ) (x : A) → list_all p xs ≡ true
+    → slice_get xs i ≡ Some x → p x ≡ true
 all_at p [] i x all e = absurd (cc)
-all_at p (y ∷ ys) zero x all e = subst (λ z. p z ≡ true) (same_Some y x e) (first_so (p y) (list_all p ys) all)
+all_at p (y ∷ ys) zero x all e =
+    subst (λ z. p z ≡ true) (same_Some y x e) (first_so (p y) (list_all p ys) all)
 all_at p (y ∷ ys) (suc i) x all e = all_at p ys i x (second_so (p y) (list_all p ys) all) e
 
-pub all_from : {A : Type 0} (p : A → Bool) (xs : List A) → ((i : ℕ) (x : A) → slice_get xs i ≡ Some x → p x ≡ true) → list_all p xs ≡ true
+pub all_from : {A : Type 0} (p : A → Bool) (xs : List A)
+    → ((i : ℕ) (x : A) → slice_get xs i ≡ Some x → p x ≡ true) → list_all p xs ≡ true
 all_from p [] each = refl
-all_from p (x ∷ xs) each = and_from (p x) (list_all p xs) (each 0 x refl) (all_from p xs (λ i y e. each (suc i) y e))
+all_from p (x ∷ xs) each =
+    and_from (p x) (list_all p xs) (each 0 x refl) (all_from p xs (λ i y e. each (suc i) y e))
 
-pub any_mapped : {A B : Type 0} (f : A → B) (p : B → Bool) (xs : List A) → list_any p (map f xs) ≡ list_any (λ x. p (f x)) xs
+pub any_mapped : {A B : Type 0} (f : A → B) (p : B → Bool) (xs : List A)
+    → list_any p (map f xs) ≡ list_any (λ x. p (f x)) xs
 any_mapped f p [] = refl
 any_mapped f p (x ∷ xs) = ap (λ b. p (f x) || b) (any_mapped f p xs)
 
-pub all_mapped : {A B : Type 0} (f : A → B) (p : B → Bool) (xs : List A) → list_all p (map f xs) ≡ list_all (λ x. p (f x)) xs
+pub all_mapped : {A B : Type 0} (f : A → B) (p : B → Bool) (xs : List A)
+    → list_all p (map f xs) ≡ list_all (λ x. p (f x)) xs
 all_mapped f p [] = refl
 all_mapped f p (x ∷ xs) = ap (λ b. p (f x) && b) (all_mapped f p xs)
 
 -- ---- members by their places
 
-pub get_some : {A : Type 0} (xs : List A) (i : ℕ) (x : A) → i < length xs → x ≡ get_or xs i x → slice_get xs i ≡ Some x
+pub get_some : {A : Type 0} (xs : List A) (i : ℕ) (x : A) → i < length xs → x ≡ get_or xs i x
+    → slice_get xs i ≡ Some x
 get_some [] i x h e = absurd (omega arith)
 get_some (y ∷ ys) zero x h e = ap Some (sym e)
 get_some (y ∷ ys) (suc i) x h e = get_some ys i x (omega arith) e
 
-pub get_there : {A : Type 0} (xs : List A) (i : ℕ) → i < length xs → (x : A) × (slice_get xs i ≡ Some x)
+pub get_there : {A : Type 0} (xs : List A) (i : ℕ) → i < length xs
+    → (x : A) × (slice_get xs i ≡ Some x)
 get_there [] i h = absurd (omega arith)
 get_there (y ∷ ys) zero h = (y, refl)
 get_there (y ∷ ys) (suc i) h = get_there ys i (omega arith)
 
-pub one_there : {A : Type 0} (xs : List A) (i : ℕ) (x y : A) → slice_get xs i ≡ Some x → slice_get xs i ≡ Some y → x ≡ y
+pub one_there : {A : Type 0} (xs : List A) (i : ℕ) (x y : A) → slice_get xs i ≡ Some x
+    → slice_get xs i ≡ Some y → x ≡ y
 one_there xs i x y e f = same_Some x y (sym e ∙ f)
 
 -- what is left to see from a place on
@@ -54,7 +63,8 @@ pub any_from : {A : Type 0} (p : A → Bool) (xs : List A) (i : ℕ) (x : A) →
     → list_any p (drop i xs) ≡ (p x || list_any p (drop (i + 1) xs))
 any_from p xs i x e = from xs i e ∙ ap (λ n. p x || list_any p (drop n xs)) (sym (add-one i))
   where
-    from : (xs : List _) (i : ℕ) → slice_get xs i ≡ Some x → list_any p (drop i xs) ≡ (p x || list_any p (drop (suc i) xs))
+    from : (xs : List _) (i : ℕ) → slice_get xs i ≡ Some x
+        → list_any p (drop i xs) ≡ (p x || list_any p (drop (suc i) xs))
     from [] i e = absurd (cc)
     from (y ∷ ys) zero e = ap (λ z. p z || list_any p ys) (same_Some y x e)
     from (y ∷ ys) (suc i) e = from ys i e
@@ -65,32 +75,41 @@ pub all_one : {A : Type 0} (P : A → Type 0) (x : A) → P x → All P (x ∷ [
 all_one P x p zero d lt = p
 all_one P x p (suc k) d lt = absurd (omega arith)
 
-pub all_by_place : {A : Type 0} (P : A → Type 0) (xs : List A) → ((n : ℕ) (x : A) → slice_get xs n ≡ Some x → P x) → All P xs
+pub all_by_place : {A : Type 0} (P : A → Type 0) (xs : List A)
+    → ((n : ℕ) (x : A) → slice_get xs n ≡ Some x → P x) → All P xs
 all_by_place P xs each k d h = each k _ (slice_get-get_or xs k d h)
 
 -- ---- lists put together
 
-pub any_append_left : {A : Type 0} (p : A → Bool) (xs ys : List A) → list_any p xs ≡ true → list_any p (xs ++ ys) ≡ true
+pub any_append_left : {A : Type 0} (p : A → Bool) (xs ys : List A) → list_any p xs ≡ true
+    → list_any p (xs ++ ys) ≡ true
 any_append_left p [] ys e = absurd (cc)
 any_append_left p (x ∷ xs) ys e = elim (or_cases (p x) (list_any p xs) e) [ inl t ↦ or_left (p x) (list_any p (xs ++ ys)) t | inr t ↦ or_right (p x) (list_any p (xs ++ ys)) (any_append_left p xs ys t) ]
 
-pub any_append_right : {A : Type 0} (p : A → Bool) (xs ys : List A) → list_any p ys ≡ true → list_any p (xs ++ ys) ≡ true
+pub any_append_right : {A : Type 0} (p : A → Bool) (xs ys : List A) → list_any p ys ≡ true
+    → list_any p (xs ++ ys) ≡ true
 any_append_right p [] ys e = e
-any_append_right p (x ∷ xs) ys e = or_right (p x) (list_any p (xs ++ ys)) (any_append_right p xs ys e)
+any_append_right p (x ∷ xs) ys e =
+    or_right (p x) (list_any p (xs ++ ys)) (any_append_right p xs ys e)
 
-pub all_append : {A : Type 0} (p : A → Bool) (xs ys : List A) → list_all p xs ≡ true → list_all p ys ≡ true → list_all p (xs ++ ys) ≡ true
+pub all_append : {A : Type 0} (p : A → Bool) (xs ys : List A) → list_all p xs ≡ true
+    → list_all p ys ≡ true → list_all p (xs ++ ys) ≡ true
 all_append p [] ys e f = f
 all_append p (x ∷ xs) ys e f =
     and_from (p x) (list_all p (xs ++ ys)) (first_so (p x) (list_all p xs) e) (all_append p xs ys (second_so (p x) (list_all p xs) e) f)
 
-pub all_push : {A : Type 0} (p : A → Bool) (xs : List A) (x : A) → list_all p xs ≡ true → p x ≡ true → list_all p (xs ++ x ∷ []) ≡ true
+pub all_push : {A : Type 0} (p : A → Bool) (xs : List A) (x : A) → list_all p xs ≡ true → p x ≡ true
+    → list_all p (xs ++ x ∷ []) ≡ true
 all_push p xs x e t = all_append p xs (x ∷ []) e (and_from (p x) true t refl)
 
-pub all_weaker : (p q : ℕ → Bool) → ((b : ℕ) → p b ≡ true → q b ≡ true) → (text : List ℕ) → list_all p text ≡ true → list_all q text ≡ true
+pub all_weaker : (p q : ℕ → Bool) → ((b : ℕ) → p b ≡ true → q b ≡ true) → (text : List ℕ)
+    → list_all p text ≡ true → list_all q text ≡ true
 all_weaker p q so [] e = refl
 all_weaker p q so (b ∷ bs) e =
     and_from (q b) (list_all q bs) (so b (first_so (p b) (list_all p bs) e)) (all_weaker p q so bs (second_so (p b) (list_all p bs) e))
 
-pub all_at_or : {A : Type 0} (p : A → Bool) (xs : List A) (i : ℕ) (x : A) → list_all p xs ≡ true → i < length xs → x ≡ get_or xs i x
+pub all_at_or : {A : Type 0} (p : A → Bool) (xs : List A) (i : ℕ) (x : A) → list_all p xs ≡ true
+    → i < length xs → x ≡ get_or xs i x
     → p x ≡ true
-all_at_or p xs i x all lt is = subst (λ y. p y ≡ true) (sym is) (AllPass-from_list_all p xs all i x lt)
+all_at_or p xs i x all lt is =
+    subst (λ y. p y ≡ true) (sym is) (AllPass-from_list_all p xs all i x lt)

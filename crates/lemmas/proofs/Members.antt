@@ -11,18 +11,22 @@ use Rattle.lemmas.specs.Lists.{AreDistinct}
 pub member_at : {A : Type 0} (xs : List A) (k : ℕ) (x : A) → slice_get xs k ≡ Some x → Contains xs x
 member_at xs k x e = (k, slice_get_within xs k x e, get_or_from_slice_get xs k x x e)
 
-pub place_of : {A : Type 0} (xs : List A) (x : A) → Contains xs x → (k : ℕ) × (slice_get xs k ≡ Some x)
+pub place_of : {A : Type 0} (xs : List A) (x : A) → Contains xs x
+    → (k : ℕ) × (slice_get xs k ≡ Some x)
 place_of xs x c = (c.0, slice_get-get_or xs c.0 x c.1 ∙ ap Some c.2)
 
 -- what stands in a list with one more member stood there, or is that member
-pub push_cases : {A : Type 0} (xs : List A) (y : A) (i : ℕ) (x : A) → slice_get (xs ++ y ∷ []) i ≡ Some x
+pub push_cases : {A : Type 0} (xs : List A) (y : A) (i : ℕ) (x : A)
+    → slice_get (xs ++ y ∷ []) i ≡ Some x
     → (slice_get xs i ≡ Some x) ⊎ ((i ≡ length xs) × (x ≡ y))
 push_cases [] y zero x e = inr (refl, cc)
 push_cases [] y (suc i) x e = absurd (cc)
 push_cases (z ∷ zs) y zero x e = inl e
-push_cases (z ∷ zs) y (suc i) x e = elim (push_cases zs y i x e) [ inl h ↦ inl h | inr h ↦ inr (ap suc h.0, h.1) ]
+push_cases (z ∷ zs) y (suc i) x e =
+    elim (push_cases zs y i x e) [ inl h ↦ inl h | inr h ↦ inr (ap suc h.0, h.1) ]
 
-pub distinct_push : {A : Type 0} (xs : List A) (y : A) → AreDistinct xs → ¬ (Contains xs y) → AreDistinct (xs ++ y ∷ [])
+pub distinct_push : {A : Type 0} (xs : List A) (y : A) → AreDistinct xs → ¬ (Contains xs y)
+    → AreDistinct (xs ++ y ∷ [])
 distinct_push xs y distinct absent i j x at_i at_j =
     elim (push_cases xs y i x at_i) [
       | inl h ↦ elim (push_cases xs y j x at_j) [ inl k ↦ distinct i j x h k | inr k ↦ absurd (absent (member_at xs i y (h ∙ ap Some k.1))) ]
@@ -34,21 +38,25 @@ distinct_nil i j x e f = absurd (cc)
 
 -- ---- what stands where, in lists put together and cut
 
-pub get_append : {A : Type 0} (xs ys : List A) (n : ℕ) (x : A) → slice_get xs n ≡ Some x → slice_get (xs ++ ys) n ≡ Some x
+pub get_append : {A : Type 0} (xs ys : List A) (n : ℕ) (x : A) → slice_get xs n ≡ Some x
+    → slice_get (xs ++ ys) n ≡ Some x
 get_append [] ys n x e = absurd (cc)
 get_append (z ∷ zs) ys zero x e = e
 get_append (z ∷ zs) ys (suc n) x e = get_append zs ys n x e
 
-pub get_pushed : {A : Type 0} (xs : List A) (x : A) (n : ℕ) → n ≡ length xs → slice_get (xs ++ x ∷ []) n ≡ Some x
+pub get_pushed : {A : Type 0} (xs : List A) (x : A) (n : ℕ) → n ≡ length xs
+    → slice_get (xs ++ x ∷ []) n ≡ Some x
 get_pushed [] x n e = ap (slice_get (x ∷ [])) e
 get_pushed (y ∷ ys) x zero e = absurd (omega arith)
 get_pushed (y ∷ ys) x (suc n) e = get_pushed ys x n (omega arith)
 
-pub get_at_length : {A : Type 0} (xs : List A) (x : A) → slice_get (xs ++ x ∷ []) (length xs) ≡ Some x
+pub get_at_length : {A : Type 0} (xs : List A) (x : A)
+    → slice_get (xs ++ x ∷ []) (length xs) ≡ Some x
 get_at_length [] x = refl
 get_at_length (y ∷ ys) x = get_at_length ys x
 
-pub get_behind : {A : Type 0} (xs ys : List A) (k : ℕ) (x : A) → slice_get ys k ≡ Some x → slice_get (xs ++ ys) (length xs + k) ≡ Some x
+pub get_behind : {A : Type 0} (xs ys : List A) (k : ℕ) (x : A) → slice_get ys k ≡ Some x
+    → slice_get (xs ++ ys) (length xs + k) ≡ Some x
 get_behind [] ys k x at = ap (slice_get ys) (let e : 0 + k ≡ k = omega arith in e) ∙ at
 get_behind (z ∷ zs) ys k x at =
     ap (slice_get (z ∷ zs ++ ys)) (let e : suc (length zs) + k ≡ suc (length zs + k) = omega arith in e) ∙ get_behind zs ys k x at
@@ -57,11 +65,13 @@ pub get_single : {A : Type 0} (x y : A) (k : ℕ) → slice_get (x ∷ []) k ≡
 get_single x y zero e = (refl, cc)
 get_single x y (suc k) e = absurd (cc)
 
-pub get_take : {A : Type 0} (xs : List A) (j k : ℕ) (x : A) → slice_get xs j ≡ Some x → j < k → slice_get (take k xs) j ≡ Some x
+pub get_take : {A : Type 0} (xs : List A) (j k : ℕ) (x : A) → slice_get xs j ≡ Some x → j < k
+    → slice_get (take k xs) j ≡ Some x
 get_take [] j k x at lt = absurd (cc)
 get_take (y ∷ ys) j zero x at lt = absurd (omega arith)
 get_take (y ∷ ys) zero (suc k) x at lt = at
-get_take (y ∷ ys) (suc j) (suc k) x at lt = let below : j < k = omega arith in get_take ys j k x at below
+get_take (y ∷ ys) (suc j) (suc k) x at lt =
+    let below : j < k = omega arith in get_take ys j k x at below
 
 pub get_and_take : {A : Type 0} (xs : List A) (j k : ℕ) (x : A) → j < k → slice_get xs j ≡ Some x
     → (slice_get (take k xs) j ≡ Some x) × (take j (take k xs) ≡ take j xs)
@@ -73,7 +83,8 @@ get_and_take (y ∷ ys) (suc j) (suc k) x lt at =
     let r = get_and_take ys j k x below at in
     (r.0, ap (λ zs. y ∷ zs) r.1)
 
-pub take_next : {A : Type 0} (xs : List A) (i : ℕ) (x : A) → slice_get xs i ≡ Some x → take (suc i) xs ≡ take i xs ++ x ∷ []
+pub take_next : {A : Type 0} (xs : List A) (i : ℕ) (x : A) → slice_get xs i ≡ Some x
+    → take (suc i) xs ≡ take i xs ++ x ∷ []
 take_next [] i x e = absurd (cc)
 take_next (y ∷ ys) zero x e = ap (λ z. z ∷ []) (same_Some y x e)
 take_next (y ∷ ys) (suc i) x e = ap (λ zs. y ∷ zs) (take_next ys i x e)
@@ -92,13 +103,15 @@ append_nil_second [] ys e = e
 append_nil_second (x ∷ xs) ys e = absurd (cc)
 
 -- one member more
-pub flat_map_next : {X A : Type 0} (f : X → List A) (xs : List X) (i : ℕ) (x : X) → i < length xs → x ≡ get_or xs i x
+pub flat_map_next : {X A : Type 0} (f : X → List A) (xs : List X) (i : ℕ) (x : X) → i < length xs
+    → x ≡ get_or xs i x
     → flat_map f (take (i + 1) xs) ≡ flat_map f (take i xs) ++ f x
 flat_map_next f xs i x lt is =
     let one : take (i + 1) xs ≡ take i xs ++ x ∷ [] = rw add-one (take-suc xs i x lt ∙ ap (λ y. take i xs ++ y ∷ []) (sym is)) in
     rw (one, flat_map-append) (ap (λ t. flat_map f (take i xs) ++ t) (append-nil (f x)))
 
-pub flat_map_map_next : {X B A : Type 0} (f : B → List A) (g : X → B) (xs : List X) (i : ℕ) (x : X) → i < length xs → x ≡ get_or xs i x
+pub flat_map_map_next : {X B A : Type 0} (f : B → List A) (g : X → B) (xs : List X) (i : ℕ) (x : X)
+    → i < length xs → x ≡ get_or xs i x
     → flat_map f (map g (take (i + 1) xs)) ≡ flat_map f (map g (take i xs)) ++ f (g x)
 flat_map_map_next f g xs i x lt is =
     flat_map-map f g (take (i + 1) xs) ∙ flat_map_next (λ y. f (g y)) xs i x lt is ∙ ap (λ t. t ++ f (g x)) (sym (flat_map-map f g (take i xs)))

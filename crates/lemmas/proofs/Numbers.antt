@@ -17,7 +17,8 @@ suc_minus_one n = omega arith
 pub plus_zero : (base : ℕ) → base + 0 ≡ base
 plus_zero base = omega arith
 
-pub enough_next : (width bars size : ℕ) → 0 < bars → width + bars * width ≤ size → width + (bars - 1) * width ≤ size - width
+pub enough_next : (width bars size : ℕ) → 0 < bars → width + bars * width ≤ size
+    → width + (bars - 1) * width ≤ size - width
 enough_next width zero size lt enough = absurd (omega arith)
 enough_next width (suc bars) size lt enough = rw (suc_minus_one bars) (next (bars * width) (subst (λ t. width + t ≤ size) (suc-mul bars width ∙ add_comm (bars * width) width) enough))
   where
@@ -32,12 +33,15 @@ pub length-numbers_from : (first n : ℕ) → length (numbers_from first n) ≡ 
 length-numbers_from first zero = refl
 length-numbers_from first (suc n) = ap suc (length-numbers_from (first + 1) n)
 
-pub get-map-numbers : {B : Type 0} (f : ℕ → B) (first n k : ℕ) (d : B) → k < n → get_or (map f (numbers_from first n)) k d ≡ f (first + k)
+pub get-map-numbers : {B : Type 0} (f : ℕ → B) (first n k : ℕ) (d : B) → k < n
+    → get_or (map f (numbers_from first n)) k d ≡ f (first + k)
 get-map-numbers f first zero k d h = absurd (omega arith)
 get-map-numbers f first (suc n) zero d h = ap f (omega arith)
-get-map-numbers f first (suc n) (suc k) d h = get-map-numbers f (first + 1) n k d (omega arith) ∙ ap f (omega arith)
+get-map-numbers f first (suc n) (suc k) d h =
+    get-map-numbers f (first + 1) n k d (omega arith) ∙ ap f (omega arith)
 
-pub in_numbers : (first count n : ℕ) → first ≤ n → n < first + count → list_any (λ slot. slot == n) (numbers_from first count) ≡ true
+pub in_numbers : (first count n : ℕ) → first ≤ n → n < first + count
+    → list_any (λ slot. slot == n) (numbers_from first count) ≡ true
 in_numbers first zero n low high = absurd (omega arith)
 in_numbers first (suc count) n low high =
     elim (first == n) as (λ b. (first == n) ≡ b → (b || list_any (λ slot. slot == n) (numbers_from (first + 1) count)) ≡ true) [
@@ -45,12 +49,14 @@ in_numbers first (suc count) n low high =
       | false ↦ λ f. in_numbers (first + 1) count n (omega (arith, eqb-false first n f)) (omega arith)
     ] refl
 
-pub all_numbers : (p : ℕ → Bool) (first count : ℕ) → ((n : ℕ) → first ≤ n → n < first + count → p n ≡ true)
+pub all_numbers : (p : ℕ → Bool) (first count : ℕ)
+    → ((n : ℕ) → first ≤ n → n < first + count → p n ≡ true)
     → list_all p (numbers_from first count) ≡ true
 all_numbers p first zero each = refl
 all_numbers p first (suc count) each = and_from (p first) (list_all p (numbers_from (first + 1) count)) (each first (omega arith) (omega arith)) (all_numbers p (first + 1) count (λ n low high. each n (omega arith) (omega arith)))
 
-pub below_in_numbers : (first n k : ℕ) → list_any (λ slot. slot == k) (numbers_from first n) ≡ true → k < first + n
+pub below_in_numbers : (first n k : ℕ) → list_any (λ slot. slot == k) (numbers_from first n) ≡ true
+    → k < first + n
 below_in_numbers first zero k e = absurd (cc)
 below_in_numbers first (suc n) k e =
     elim (first == k) as (λ b. (first == k) ≡ b → (b || list_any (λ slot. slot == k) (numbers_from (first + 1) n)) ≡ true → k < first + suc n) [

@@ -14,19 +14,23 @@ without n [] = []
 without zero (y ∷ ys) = ys
 without (suc n) (y ∷ ys) = y ∷ without n ys
 
-length-without : {A : Type 0} (n : ℕ) (ys : List A) → n < length ys → length ys ≡ length (without n ys) + 1
+length-without : {A : Type 0} (n : ℕ) (ys : List A) → n < length ys
+    → length ys ≡ length (without n ys) + 1
 length-without n [] h = absurd (omega arith)
 length-without zero (y ∷ ys) h = omega arith
 length-without (suc n) (y ∷ ys) h = omega (arith, length-without n ys (omega arith))
 
-stays : {A : Type 0} (n j : ℕ) (ys : List A) (y : A) → j ≢ n → slice_get ys j ≡ Some y → Contains (without n ys) y
+stays : {A : Type 0} (n j : ℕ) (ys : List A) (y : A) → j ≢ n → slice_get ys j ≡ Some y
+    → Contains (without n ys) y
 stays n j [] y other e = absurd (cc)
 stays zero zero (z ∷ zs) y other e = absurd (other refl)
 stays zero (suc j) (z ∷ zs) y other e = member_at zs j y e
 stays (suc n) zero (z ∷ zs) y other e = subst (λ w. Contains (w ∷ without n zs) y) (sym (same_Some z y e)) (contains_here y (without n zs))
-stays (suc n) (suc j) (z ∷ zs) y other e = contains_later z (without n zs) y (stays n j zs y (λ same. other (ap suc same)) e)
+stays (suc n) (suc j) (z ∷ zs) y other e =
+    contains_later z (without n zs) y (stays n j zs y (λ same. other (ap suc same)) e)
 
-pub pigeons : {A : Type 0} (xs ys : List A) → AreDistinct xs → ((x : A) → Contains xs x → Contains ys x) → length xs ≤ length ys
+pub pigeons : {A : Type 0} (xs ys : List A) → AreDistinct xs
+    → ((x : A) → Contains xs x → Contains ys x) → length xs ≤ length ys
 pigeons [] ys distinct inside = omega arith
 pigeons {A} (x ∷ xs) ys distinct inside =
     let at = place_of ys x (inside x (contains_here x xs)) in

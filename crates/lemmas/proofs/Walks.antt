@@ -11,7 +11,8 @@ Way edge from to = (between : List ℕ) × LeadsAlong edge from between to
 abbrev pub Cycle : (ℕ → ℕ → Bool) → Type 0
 Cycle edge = (node : ℕ) × Way edge node node
 
-along : (edge : ℕ → ℕ → Bool) (xs ys : List ℕ) (a b c : ℕ) → LeadsAlong edge a xs b → LeadsAlong edge b ys c
+along : (edge : ℕ → ℕ → Bool) (xs ys : List ℕ) (a b c : ℕ) → LeadsAlong edge a xs b
+    → LeadsAlong edge b ys c
     → LeadsAlong edge a (xs ++ b ∷ ys) c
 along edge [] ys a b c h k = (h, k)
 along edge (x ∷ xs) ys a b c h k = (h.0, along edge xs ys x b c h.1 k)
@@ -26,7 +27,8 @@ skip f m i = cond (f i == m) (f m) (f i)
 abbrev without : (ℕ → Bool) → ℕ → ℕ → Bool
 without inside m i = inside i && not (i == m)
 
-skip_stays : (f : ℕ → ℕ) (inside : ℕ → Bool) (m i : ℕ) → inside (f i) ≡ true → without inside m (f m) ≡ true
+skip_stays : (f : ℕ → ℕ) (inside : ℕ → Bool) (m i : ℕ) → inside (f i) ≡ true
+    → without inside m (f m) ≡ true
     → without inside m (skip f m i) ≡ true
 skip_stays f inside m i stays there =
     elim (f i == m) as (λ b. (f i == m) ≡ b → without inside m (cond b (f m) (f i)) ≡ true) [
@@ -34,7 +36,8 @@ skip_stays f inside m i stays there =
       | false ↦ λ e. and_from (inside (f i)) (not (f i == m)) stays (not_from_false (f i == m) e)
     ] refl
 
-skip_way : (edge : ℕ → ℕ → Bool) (f : ℕ → ℕ) (m i : ℕ) → Way edge i (f i) → Way edge m (f m) → Way edge i (skip f m i)
+skip_way : (edge : ℕ → ℕ → Bool) (f : ℕ → ℕ) (m i : ℕ) → Way edge i (f i) → Way edge m (f m)
+    → Way edge i (skip f m i)
 skip_way edge f m i here there =
     elim (f i == m) as (λ b. (f i == m) ≡ b → Way edge i (cond b (f m) (f i))) [
       | true ↦ λ e. join edge i m (f m) (subst (λ k. Way edge i k) (eqb-true (f i) m e) here) there
@@ -45,10 +48,12 @@ unlike : (inside : ℕ → Bool) (m i : ℕ) → inside i ≡ true → inside m 
 unlike inside m i h out e = both_ways (inside m) out (ap inside (sym e) ∙ h)
 
 other : (inside : ℕ → Bool) (m i : ℕ) → without inside m i ≡ true → i ≡ m → ⊥
-other inside m i h e = both_ways (i == m) (not-true (i == m) (second_so (inside i) (not (i == m)) h)) (eq-eqb i m e)
+other inside m i h e =
+    both_ways (i == m) (not-true (i == m) (second_so (inside i) (not (i == m)) h)) (eq-eqb i m e)
 
 -- where each node inside leads on inside, and all are below n
-pub cycle_in : (edge : ℕ → ℕ → Bool) (n : ℕ) (f : ℕ → ℕ) (inside : ℕ → Bool) → ((i : ℕ) → inside i ≡ true → i < n)
+pub cycle_in : (edge : ℕ → ℕ → Bool) (n : ℕ) (f : ℕ → ℕ) (inside : ℕ → Bool)
+    → ((i : ℕ) → inside i ≡ true → i < n)
     → ((i : ℕ) → inside i ≡ true → inside (f i) ≡ true) → ((i : ℕ) → inside i ≡ true → Way edge i (f i)) → (s : ℕ) → inside s ≡ true
     → Cycle edge
 cycle_in edge zero f inside below stays way s here = absurd (omega (arith, below s here))

@@ -17,7 +17,8 @@ use Rattle.level_course.specs.declared.shares.Share.{Share}
 
 -- ---- lists
 
-pub left : {A : Type 0} (xs : List A) (k : ℕ) (x : A) → k < length xs → x ≡ get_or xs k x → drop k xs ≡ x ∷ drop (k + 1) xs
+pub left : {A : Type 0} (xs : List A) (k : ℕ) (x : A) → k < length xs → x ≡ get_or xs k x
+    → drop k xs ≡ x ∷ drop (k + 1) xs
 left xs k x lt is = drop-cons xs k x lt ∙ (λ i. sym is i ∷ drop (sym (add-one k) i) xs)
 
 drop_one : {A : Type 0} (n : ℕ) (xs : List A) → drop (suc n) xs ≡ drop 1 (drop n xs)
@@ -26,13 +27,15 @@ drop_one (suc n) [] = refl
 drop_one (suc n) (x ∷ xs) = drop_one n xs
 
 -- behind one member more
-pub behind_next : (n : ℕ) (dues : List Due) → instances_of (drop (n + 1) dues) ≡ drop 1 (instances_of (drop n dues))
+pub behind_next : (n : ℕ) (dues : List Due)
+    → instances_of (drop (n + 1) dues) ≡ drop 1 (instances_of (drop n dues))
 behind_next n dues =
     ap (λ m. instances_of (drop m dues)) (add-one n) ∙ ap instances_of (drop_one n dues)
     ∙ sym (drop-map (λ (d : Due). d.instance) 1 (drop n dues))
 
 -- so many are between two places
-pub between_places : (from to : ℕ) (dues : List Due) → to ≤ length dues → length (instances_of (drop from (take to dues))) ≡ to - from
+pub between_places : (from to : ℕ) (dues : List Due) → to ≤ length dues
+    → length (instances_of (drop from (take to dues))) ≡ to - from
 between_places from to dues within =
     length-map (drop from (take to dues)) (λ (d : Due). d.instance) ∙ length-drop from (take to dues)
     ∙ ap (λ n. n - from) (length-take-le to dues within)
@@ -40,23 +43,27 @@ between_places from to dues within =
 none_left : {A : Type 0} (xs : List A) → xs ≡ [] → length xs ≡ 0
 none_left xs e = ap length e
 
-pub all_asked : (from to : ℕ) (dues : List Due) → from ≤ to → to ≤ length dues → instances_of (drop from (take to dues)) ≡ [] → from ≡ to
+pub all_asked : (from to : ℕ) (dues : List Due) → from ≤ to → to ≤ length dues
+    → instances_of (drop from (take to dues)) ≡ [] → from ≡ to
 all_asked from to dues le within none =
     omega (arith, le, between_places from to dues within, none_left (instances_of (drop from (take to dues))) none)
 
 -- ---- pools one after another
 
-one_left : (shares : List Share) (k : ℕ) (p : Share) (list : List Instance) → k < length shares → p ≡ get_or shares k p
+one_left : (shares : List Share) (k : ℕ) (p : Share) (list : List Instance) → k < length shares
+    → p ≡ get_or shares k p
     → fits (shares_of (drop k shares)) list ≡ (nat_le (count_by (serves (share_of p)) list) p.workers && fits (shares_of (drop (k + 1) shares)) list)
 one_left shares k p list lt is = ap (λ ps. fits (shares_of ps) list) (left shares k p lt is)
 
-pub too_many : (shares : List Share) (k : ℕ) (p : Share) (list : List Instance) → k < length shares → p ≡ get_or shares k p
+pub too_many : (shares : List Share) (k : ℕ) (p : Share) (list : List Instance) → k < length shares
+    → p ≡ get_or shares k p
     → p.workers < count_by (serves (share_of p)) list → fits (shares_of (drop k shares)) list ≡ false
 too_many shares k p list lt is more =
     one_left shares k p list lt is
     ∙ (λ i. lt-leb (count_by (serves (share_of p)) list) p.workers more i && fits (shares_of (drop (k + 1) shares)) list)
 
-pub few_enough : (shares : List Share) (k : ℕ) (p : Share) (list : List Instance) → k < length shares → p ≡ get_or shares k p
+pub few_enough : (shares : List Share) (k : ℕ) (p : Share) (list : List Instance)
+    → k < length shares → p ≡ get_or shares k p
     → count_by (serves (share_of p)) list ≤ p.workers → fits (shares_of (drop k shares)) list ≡ fits (shares_of (drop (k + 1) shares)) list
 few_enough shares k p list lt is few =
     one_left shares k p list lt is
@@ -68,15 +75,18 @@ full_from : (pools : List rounds.Share) (taken list : List Instance) (k : ℕ)
     → (k < length list → fits pools (taken ++ take (suc k) list) ≡ false) → IsFull pools (taken ++ take k list) (drop k list)
 full_from pools taken [] zero stuck = tt
 full_from pools taken [] (suc k) stuck = tt
-full_from pools taken (i ∷ is) zero stuck = ap (λ xs. fits pools (xs ++ i ∷ [])) (append-nil taken) ∙ stuck (omega arith)
+full_from pools taken (i ∷ is) zero stuck =
+    ap (λ xs. fits pools (xs ++ i ∷ [])) (append-nil taken) ∙ stuck (omega arith)
 full_from pools taken (i ∷ is) (suc k) stuck =
     subst (λ xs. IsFull pools xs (drop k is)) (append_assoc taken (i ∷ []) (take k is))
     (full_from pools (taken ++ i ∷ []) is k (λ lt. ap (fits pools) (append_assoc taken (i ∷ []) (take (suc k) is)) ∙ stuck (omega (arith, lt))))
 
-some_front : (pools : List rounds.Share) (list : List Instance) (k : ℕ) → fits pools (take (suc k) list) ≡ false → AllWork pools
+some_front : (pools : List rounds.Share) (list : List Instance) (k : ℕ)
+    → fits pools (take (suc k) list) ≡ false → AllWork pools
     → 0 < length list → 0 < k
 some_front pools [] k stuck workers lt = absurd (omega (arith, lt))
-some_front pools (i ∷ is) zero stuck workers lt = absurd (true≢false (sym (one_fits pools i workers) ∙ stuck))
+some_front pools (i ∷ is) zero stuck workers lt =
+    absurd (true≢false (sym (one_fits pools i workers) ∙ stuck))
 some_front pools (i ∷ is) (suc k) stuck workers lt = omega arith
 
 -- a front that fits, where with the next one it doesn't
@@ -102,14 +112,16 @@ pub asked_on : (s : Inside) → shown (asked_more s) ≡ with_asked (shown s)
 asked_on s = λ i. record { to_ask = behind_next s.asked (take s.round s.dues.items) i; next = s.before + s.answered + 1; answers = s.round - s.answered; later = instances_of (drop s.round s.dues.items); is_cut = s.is_cut }
 
 -- all requests are made where none is left
-pub none_to_ask : (s : Inside) (a : Agenda) → IsSoundAgenda s → shown s ≡ a → a.to_ask ≡ [] → s.asked ≡ s.round
+pub none_to_ask : (s : Inside) (a : Agenda) → IsSoundAgenda s → shown s ≡ a → a.to_ask ≡ []
+    → s.asked ≡ s.round
 none_to_ask s a sound is none = all_asked s.asked s.round s.dues.items sound.asked sound.round (ap (λ (x : Agenda). x.to_ask) is ∙ none)
 
 pub some_to_answer : (s : Inside) (a : Agenda) → shown s ≡ a → 0 < a.answers → s.answered < s.round
 some_to_answer s a is some = let e = ap (λ (x : Agenda). x.answers) is in omega (arith, e, some)
 
 -- where the last round ends, the next begins
-pub next_round : (pools : List rounds.Share) (s : Inside) (count : ℕ) → IsSoundAgenda s → s.answered + 1 ≡ s.round → s.asked ≡ s.round
+pub next_round : (pools : List rounds.Share) (s : Inside) (count : ℕ) → IsSoundAgenda s
+    → s.answered + 1 ≡ s.round → s.asked ≡ s.round
     → IsLongestFront pools (instances_of (drop s.round s.dues.items)) count
     → Starts pools (instances_of (drop s.round s.dues.items)) (s.before + s.answered + 1 + 1) s.is_cut (shown (record { dues = s.dues; asked = s.asked; answered = s.answered + 1; round = s.round + count; before = s.before; is_cut = s.is_cut }))
 next_round pools s count sound last asked front =
@@ -135,10 +147,13 @@ next_round pools s count sound last asked front =
     drop_more : {A : Type 0} (n m : ℕ) (xs : List A) → drop m (drop n xs) ≡ drop (n + m) xs
     drop_more zero m xs = ap (λ k. drop k xs) (let e : m ≡ 0 + m = omega arith in e)
     drop_more (suc n) m [] = drop-nil m ∙ sym (drop-nil (suc n + m))
-    drop_more (suc n) m (x ∷ xs) = drop_more n m xs ∙ ap (λ k. drop k (x ∷ xs)) (let e : suc (n + m) ≡ suc n + m = omega arith in e)
+    drop_more (suc n) m (x ∷ xs) =
+        drop_more n m xs
+        ∙ ap (λ k. drop k (x ∷ xs)) (let e : suc (n + m) ≡ suc n + m = omega arith in e)
 
 -- the first round of a level
-pub first_round : (pools : List rounds.Share) (s : Inside) (list : List Instance) → list ≡ instances_of s.dues.items → s.asked ≡ 0
+pub first_round : (pools : List rounds.Share) (s : Inside) (list : List Instance)
+    → list ≡ instances_of s.dues.items → s.asked ≡ 0
     → s.answered ≡ 0 → IsLongestFront pools (instances_of s.dues.items) s.round → Starts pools list (s.before + 1) s.is_cut (shown s)
 first_round pools s list is none first front =
     let dues = s.dues.items in

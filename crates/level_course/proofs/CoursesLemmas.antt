@@ -18,7 +18,8 @@ use Rattle.level_course.specs.Courses.{Course, Opens, IsBehind, IsCourseStep, Le
 -- ---- one place
 
 module _ (limits : Limits) (task : Task) (before : List Entry) where
-  opens_once : (list again : List Instance) (cut also : Bool) (c d : Course) → list ≡ again → cut ≡ also
+  opens_once : (list again : List Instance) (cut also : Bool) (c d : Course) → list ≡ again
+      → cut ≡ also
       → Opens limits task before list cut c → Opens limits task before again also d → c ≡ d
   opens_once list again cut also c d lists cuts first second =
       let one = one_front limits.pools first.round first.rest second.round second.rest (sym first.parts ∙ lists ∙ second.parts) first.fit second.fit first.full second.full in
@@ -56,7 +57,8 @@ module _ (limits : Limits) (task : Task) (before : List Entry) (c : Course) (e :
   step_once (inr (inr a)) (inr (inr b)) =
       behind_once a.left b.left (let both : suc a.left ≡ suc b.left = sym a.answers ∙ b.answers in omega (arith, both)) a.behind b.behind
 
-pub leads_once : (limits : Limits) (task : Task) (c : Course) (before es : List Entry) (d f : Course) → Leads limits task c before es d
+pub leads_once : (limits : Limits) (task : Task) (c : Course) (before es : List Entry) (d f : Course)
+    → Leads limits task c before es d
     → Leads limits task c before es f → d ≡ f
 leads_once limits task c before [] d f first second = sym first ∙ second
 leads_once limits task c before (e ∷ es) d f (m, step, rest) (n, also, more) =
@@ -74,7 +76,8 @@ leads_then limits task c before (e ∷ es) rest d f (m, step, more) there = (m, 
 pub leads_apart : (limits : Limits) (task : Task) (c : Course) (before first rest : List Entry) (f : Course)
     → Leads limits task c before (first ++ rest) f
     → (d : Course) × Leads limits task c before first d × Leads limits task d (before ++ first) rest f
-leads_apart limits task c before [] rest f all = (c, refl, subst (λ es. Leads limits task c es rest f) (sym (append-nil before)) all)
+leads_apart limits task c before [] rest f all =
+    (c, refl, subst (λ es. Leads limits task c es rest f) (sym (append-nil before)) all)
 leads_apart limits task c before (e ∷ es) rest f (m, step, more) =
     let r = leads_apart limits task m (before ++ e ∷ []) es rest f more in
     (r.0, (m, step, r.1), subst (λ xs. Leads limits task r.0 xs rest f) (append_assoc before (e ∷ []) es) r.2)

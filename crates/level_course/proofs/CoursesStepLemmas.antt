@@ -18,7 +18,8 @@ use Rattle.level_course.specs.Laws.{IsAt}
 -- ---- a round
 
 -- the requests of the round, one after another
-asks_lead : (limits : Limits) (task : Task) (c : Course) (before asks : List Entry) → c.asks ≡ asks → 0 < c.answers
+asks_lead : (limits : Limits) (task : Task) (c : Course) (before asks : List Entry) → c.asks ≡ asks
+    → 0 < c.answers
     → Leads limits task c before asks (with_asks c [])
 asks_lead limits task c before [] e more = λ i. with_asks c (e i)
 asks_lead limits task c before (a ∷ asks) e more = (with_asks c asks, inr (inl (record { more = more; rest = asks; asks = e; is = refl })), asks_lead limits task (with_asks c asks) (before ++ a ∷ []) asks refl more)
@@ -31,7 +32,8 @@ none_for : (number n : ℕ) → AreAnswers number (suc n) [] → ⊥
 none_for number n all = all
 
 -- its answers, one after another, behind which the next round begins
-answers_lead : (limits : Limits) (task : Task) (c d : Course) (before answers : List Entry) (n : ℕ) → c.asks ≡ [] → c.answers ≡ suc n
+answers_lead : (limits : Limits) (task : Task) (c d : Course) (before answers : List Entry) (n : ℕ)
+    → c.asks ≡ [] → c.answers ≡ suc n
     → AreAnswers c.next (suc n) answers → Opens limits task (before ++ answers) c.later c.is_cut d → Leads limits task c before answers d
 answers_lead limits task c d before [] n asked count all opens = absurd (none_for c.next n all)
 answers_lead limits task c d before (a ∷ answers) zero asked count all opens =
@@ -106,7 +108,8 @@ same_asks before =
     sum_by-append (λ e. if is_ask e then 1 else 0) before (entry.Level ∷ [])
     ∙ (let e : asks_of before + 0 ≡ asks_of before = omega arith in e)
 
-level_leads : (limits : Limits) (task : Task) (c : Course) (before es : List Entry) (cut : Bool) → c.answers ≡ 0 → c.is_cut ≡ false
+level_leads : (limits : Limits) (task : Task) (c : Course) (before es : List Entry) (cut : Bool)
+    → c.answers ≡ 0 → c.is_cut ≡ false
     → MayBegin limits task before → IsLevel limits task before es cut → LeadsLevel limits task c before es cut
 level_leads limits task c before es cut resting uncut may level =
     let lists : level.list ≡ may.list = due_once task (known_of task before) (notes_of task before) level.list may.list level.due may.due in
@@ -139,7 +142,8 @@ pub record LeadsTo (limits : Limits) (task : Task) (c : Course) (before es : Lis
 pub turns_lead : (limits : Limits) (task : Task) (kept : Unit {0}) (before es : List Entry) (stage : Stage) (c : Course)
     → AreTurns limits task (IncrementalTurn limits task) kept before es stage → c.answers ≡ 0 → c.is_cut ≡ false
     → LeadsTo limits task c before es stage
-turns_lead limits task kept before es stage c none_left resting uncut = record { last = c; leads = refl; at = λ other. (resting, uncut) }
+turns_lead limits task kept before es stage c none_left resting uncut =
+    record { last = c; leads = refl; at = λ other. (resting, uncut) }
 turns_lead limits task kept before es stage c (whole next {now = now} {rest = rest} may turn more) resting uncut =
     let level = level_leads limits task c before now false resting uncut may turn in
     let later = turns_lead limits task next (before ++ now) rest stage level.last more level.resting level.cut_is in

@@ -81,7 +81,8 @@ opened_tidy limits task before list cut c o none =
     let later : c.later ≡ o.rest = λ i. (o.is i).later in
     (asks ∙ ap (requests task before) (nil_from_length o.round short), later ∙ nil_from_length o.rest nothing)
   where
-    by : (is : List Instance) → is ≡ o.round ++ o.rest → (0 < length is → 0 < length o.round) → length o.round ≡ 0 → length o.rest ≡ 0
+    by : (is : List Instance) → is ≡ o.round ++ o.rest → (0 < length is → 0 < length o.round)
+        → length o.round ≡ 0 → length o.rest ≡ 0
     by [] e some short = omega (arith, ap length e, length-append o.round o.rest)
     by (i ∷ is) e some short = absurd (omega (arith, some (omega arith), short))
 
@@ -95,7 +96,8 @@ ends_answer : (number n : ℕ) → AreAnswers number n (ends number n)
 ends_answer number zero = tt
 ends_answer number (suc n) = (eq-eqb number number refl, ends_answer (number + 1) n)
 
-runs : (task : Task) (rounds : List (List Instance)) (before : List Entry) → (es : List Entry) × AreRoundsRun task before rounds es
+runs : (task : Task) (rounds : List (List Instance)) (before : List Entry)
+    → (es : List Entry) × AreRoundsRun task before rounds es
 runs task [] before = ([], refl)
 runs task (round ∷ rounds) before =
     let answers = ends (asks_of before + 1) (length round) in
@@ -103,7 +105,8 @@ runs task (round ∷ rounds) before =
     let later = runs task rounds (before ++ now) in
     (now ++ later.0, (now, later.0, refl, (answers, refl, ends_answer (asks_of before + 1) (length round)), later.1))
 
-finishing : (limits : Limits) (task : Task) (c : Course) (before : List Entry) → All (λ (p : Share). 1 ≤ p.workers) limits.pools
+finishing : (limits : Limits) (task : Task) (c : Course) (before : List Entry)
+    → All (λ (p : Share). 1 ≤ p.workers) limits.pools
     → (es : List Entry) × Finishes limits task c before es
 finishing limits task c before workers =
     let answers = ends c.next c.answers in
@@ -113,7 +116,8 @@ finishing limits task c before workers =
 
 -- ---- one entry more in front
 
-finish_none : (limits : Limits) (task : Task) (c : Course) (before : List Entry) → IsTidy c → c.answers ≡ 0
+finish_none : (limits : Limits) (task : Task) (c : Course) (before : List Entry) → IsTidy c
+    → c.answers ≡ 0
     → Finishes limits task c before []
 finish_none limits task c before tidy none =
     let over = tidy none in
@@ -127,7 +131,8 @@ finish_none limits task c before tidy none =
       run = refl;
     }
 
-finish_ask : (limits : Limits) (task : Task) (c : Course) (before es : List Entry) (e : Entry) (rest : List Entry) → c.asks ≡ e ∷ rest
+finish_ask : (limits : Limits) (task : Task) (c : Course) (before es : List Entry) (e : Entry) (rest : List Entry)
+    → c.asks ≡ e ∷ rest
     → Finishes limits task (with_asks c rest) (before ++ e ∷ []) es → Finishes limits task c before (e ∷ es)
 finish_ask limits task c before es e rest asks f =
     let front : (before ++ e ∷ []) ++ (rest ++ f.answers) ≡ before ++ (c.asks ++ f.answers) = append_assoc before (e ∷ []) (rest ++ f.answers) ∙ ap (λ xs. before ++ (xs ++ f.answers)) (sym asks) in
@@ -141,7 +146,8 @@ finish_ask limits task c before es e rest asks f =
       run = subst (λ xs. AreRoundsRun task xs f.rounds f.later) front f.run;
     }
 
-finish_answer : (limits : Limits) (task : Task) (c : Course) (before es : List Entry) (e : Entry) (n : ℕ) → c.asks ≡ []
+finish_answer : (limits : Limits) (task : Task) (c : Course) (before es : List Entry) (e : Entry) (n : ℕ)
+    → c.asks ≡ []
     → c.answers ≡ suc (suc n) → is_answer_to c.next e ≡ true
     → Finishes limits task (record { asks = []; next = c.next + 1; answers = suc n; later = c.later; is_cut = c.is_cut }) (before ++ e ∷ []) es
     → Finishes limits task c before (e ∷ es)
@@ -157,7 +163,8 @@ finish_answer limits task c before es e n asked count to f =
       run = subst (λ xs. AreRoundsRun task xs f.rounds f.later) front f.run;
     }
 
-finish_last : (limits : Limits) (task : Task) (c d : Course) (before es : List Entry) (e : Entry) → c.asks ≡ [] → c.answers ≡ suc zero
+finish_last : (limits : Limits) (task : Task) (c d : Course) (before es : List Entry) (e : Entry)
+    → c.asks ≡ [] → c.answers ≡ suc zero
     → is_answer_to c.next e ≡ true → Opens limits task (before ++ e ∷ []) c.later c.is_cut d → Finishes limits task d (before ++ e ∷ []) es
     → Finishes limits task c before (e ∷ es)
 finish_last limits task c d before es e asked count to opens f =
@@ -176,27 +183,33 @@ finish_last limits task c d before es e asked count to opens f =
 -- ---- up to the end of the batch, or to where the entries stop in it
 
 pub data Walks (limits : Limits) (task : Task) (c : Course) (before es : List Entry) (d : Course) : Type 0 where
-  done : (now rest : List Entry) (m : Course) → es ≡ now ++ rest → Finishes limits task c before now → m.answers ≡ 0 → m.is_cut ≡ c.is_cut
+  done : (now rest : List Entry) (m : Course) → es ≡ now ++ rest → Finishes limits task c before now
+      → m.answers ≡ 0 → m.is_cut ≡ c.is_cut
       → IsTidy m → Leads limits task m (before ++ now) rest d → Walks limits task c before es d
-  within : (more : List Entry) → Finishes limits task c before (es ++ more) → 0 < d.answers → Walks limits task c before es d
+  within : (more : List Entry) → Finishes limits task c before (es ++ more) → 0 < d.answers
+      → Walks limits task c before es d
 
 -- from one entry on to the one before
-walk_on : (limits : Limits) (task : Task) (c m d : Course) (before es : List Entry) (e : Entry) → m.is_cut ≡ c.is_cut
+walk_on : (limits : Limits) (task : Task) (c m d : Course) (before es : List Entry) (e : Entry)
+    → m.is_cut ≡ c.is_cut
     → ((xs : List Entry) → Finishes limits task m (before ++ e ∷ []) xs → Finishes limits task c before (e ∷ xs))
     → Walks limits task m (before ++ e ∷ []) es d → Walks limits task c before (e ∷ es) d
 walk_on limits task c m d before es e cut longer (done now rest n is finishes none same tidy leads) = done (e ∷ now) rest n (ap (λ xs. e ∷ xs) is) (longer now finishes) none (same ∙ cut) tidy (subst (λ xs. Leads limits task n xs rest d) (append_assoc before (e ∷ []) now) leads)
-walk_on limits task c m d before es e cut longer (within more finishes some) = within more (longer (es ++ more) finishes) some
+walk_on limits task c m d before es e cut longer (within more finishes some) =
+    within more (longer (es ++ more) finishes) some
 
 some_tidy : (c : Course) (n : ℕ) → c.answers ≡ suc n → IsTidy c
 some_tidy c n count none = absurd (omega (arith, count, none))
 
-pub walk : (limits : Limits) (task : Task) (c : Course) (before es : List Entry) (d : Course) (n : ℕ) → c.answers ≡ n → IsTidy c
+pub walk : (limits : Limits) (task : Task) (c : Course) (before es : List Entry) (d : Course) (n : ℕ)
+    → c.answers ≡ n → IsTidy c
     → All (λ (p : Share). 1 ≤ p.workers) limits.pools → Leads limits task c before es d → Walks limits task c before es d
 walk limits task c before es d zero none tidy workers leads = done [] es c refl (finish_none limits task c before tidy none) none refl tidy (subst (λ xs. Leads limits task c xs es d) (sym (append-nil before)) leads)
 walk limits task c before [] d (suc n) count tidy workers leads =
     let f = finishing limits task c before workers in
     within f.0 f.1 (omega (arith, count, ap (λ (x : Course). x.answers) leads))
-walk limits task c before (e ∷ es) d (suc n) count tidy workers (m, inl b, more) = absurd (omega (arith, b.resting, count))
+walk limits task c before (e ∷ es) d (suc n) count tidy workers (m, inl b, more) =
+    absurd (omega (arith, b.resting, count))
 walk limits task c before (e ∷ es) d (suc n) count tidy workers (m, inr (inl r), more) =
     let after : m.answers ≡ suc n = ap (λ (x : Course). x.answers) r.is ∙ count in
     walk_on limits task c m d before es e (ap (λ (x : Course). x.is_cut) r.is)
@@ -245,13 +258,16 @@ level_of limits task c m before es e b f =
     }
 
 -- behind a batch that was cut nothing comes
-nothing_more : (limits : Limits) (task : Task) (m d : Course) (before rest : List Entry) → m.answers ≡ 0 → m.is_cut ≡ true
+nothing_more : (limits : Limits) (task : Task) (m d : Course) (before rest : List Entry)
+    → m.answers ≡ 0 → m.is_cut ≡ true
     → Leads limits task m before rest d → (rest ≡ []) × (m ≡ d)
 nothing_more limits task m d before [] none cut leads = (refl, leads)
 nothing_more limits task m d before (e ∷ es) none cut (n, inl b, more) =
     absurd (let both : true ≡ false = sym cut ∙ b.uncut in true≢false both)
-nothing_more limits task m d before (e ∷ es) none cut (n, inr (inl r), more) = absurd (omega (arith, none, r.more))
-nothing_more limits task m d before (e ∷ es) none cut (n, inr (inr a), more) = absurd (omega (arith, none, a.answers))
+nothing_more limits task m d before (e ∷ es) none cut (n, inr (inl r), more) =
+    absurd (omega (arith, none, r.more))
+nothing_more limits task m d before (e ∷ es) none cut (n, inr (inr a), more) =
+    absurd (omega (arith, none, a.answers))
 
 -- that shorter lists of entries from later places on are turns
 abbrev pub Shorter : Limits → Task → ℕ → Type 0
@@ -259,7 +275,8 @@ Shorter limits task n =
     (before es : List Entry) (c d : Course) → length es ≤ n → c.answers ≡ 0 → c.is_cut ≡ false → IsTidy c → Leads limits task c before es d
     → Turned limits task before es d
 
-turn_first : (limits : Limits) (task : Task) (n : ℕ) (c m d : Course) (before es : List Entry) (e : Entry) → Shorter limits task n
+turn_first : (limits : Limits) (task : Task) (n : ℕ) (c m d : Course) (before es : List Entry) (e : Entry)
+    → Shorter limits task n
     → length es ≤ n → (b : BeginsLevel limits task before c e m) → Walks limits task m (before ++ e ∷ []) es d
     → Turned limits task before (e ∷ es) d
 turn_first limits task n c m d before es e shorter few b (within more finishes some) =
@@ -276,7 +293,8 @@ turn_first limits task n c m d before es e shorter few b (done now rest k is fin
     level : IsLevel limits task before (e ∷ now) (is_cut limits before b.may.list)
     level = level_of limits task c m before now e b finishes
 
-    by : (b_cut : Bool) → is_cut limits before b.may.list ≡ b_cut → Turned limits task before (e ∷ es) d
+    by : (b_cut : Bool) → is_cut limits before b.may.list ≡ b_cut
+        → Turned limits task before (e ∷ es) d
     by false uncut =
         let t = shorter (before ++ e ∷ now) rest k d (omega (arith, few, ap length is, length-append now rest)) none (cut_is ∙ uncut) tidy later in
         record {
@@ -293,10 +311,14 @@ turn_first limits task n c m d before es e shorter few b (done now rest k is fin
           turns = subst (λ xs. AreTurns limits task (IncrementalTurn limits task) tt before xs after_cut) (sym all) (cut_off tt b.may (subst (IsLevel limits task before (e ∷ now)) spent level));
         }
 
-pub turned : (limits : Limits) (task : Task) (n : ℕ) → All (λ (p : Share). 1 ≤ p.workers) limits.pools → Shorter limits task n
+pub turned : (limits : Limits) (task : Task) (n : ℕ)
+    → All (λ (p : Share). 1 ≤ p.workers) limits.pools → Shorter limits task n
 turned limits task n workers before [] c d few none uncut tidy leads = record { stage = between; at = (ap (λ (x : Course). x.answers) (sym leads) ∙ none, ap (λ (x : Course). x.is_cut) (sym leads) ∙ uncut); turns = none_left }
-turned limits task zero workers before (e ∷ es) c d few none uncut tidy leads = absurd (omega (arith, few))
+turned limits task zero workers before (e ∷ es) c d few none uncut tidy leads =
+    absurd (omega (arith, few))
 turned limits task (suc n) workers before (e ∷ es) c d few none uncut tidy (m, inl b, more) =
     turn_first limits task n c m d before es e (turned limits task n workers) (omega (arith, few)) b (walk limits task m (before ++ e ∷ []) es d m.answers refl (opened_tidy limits task (before ++ e ∷ []) (take (calls_left limits before) b.may.list) (is_cut limits before b.may.list) m b.opens) workers more)
-turned limits task (suc n) workers before (e ∷ es) c d few none uncut tidy (m, inr (inl r), more) = absurd (omega (arith, none, r.more))
-turned limits task (suc n) workers before (e ∷ es) c d few none uncut tidy (m, inr (inr a), more) = absurd (omega (arith, none, a.answers))
+turned limits task (suc n) workers before (e ∷ es) c d few none uncut tidy (m, inr (inl r), more) =
+    absurd (omega (arith, none, r.more))
+turned limits task (suc n) workers before (e ∷ es) c d few none uncut tidy (m, inr (inr a), more) =
+    absurd (omega (arith, none, a.answers))

@@ -13,7 +13,8 @@ count_front : (f : Instance → Bool) (xs ys : List Instance) → count_by f xs 
 count_front f xs ys = omega (arith, sum_by-append (λ x. cond (f x) 1 0) xs ys)
 
 -- a front of what fits does so
-pub fits_front : (pools : List Share) (xs ys : List Instance) → fits pools (xs ++ ys) ≡ true → fits pools xs ≡ true
+pub fits_front : (pools : List Share) (xs ys : List Instance) → fits pools (xs ++ ys) ≡ true
+    → fits pools xs ≡ true
 fits_front [] xs ys fit = refl
 fits_front (p ∷ ps) xs ys fit =
     let here = leb-true (count_by (serves p) (xs ++ ys)) p.workers (first_so (nat_le (count_by (serves p) (xs ++ ys)) p.workers) (fits ps (xs ++ ys)) fit) in
@@ -23,10 +24,12 @@ fits_front (p ∷ ps) xs ys fit =
 
 pub none_fit : (pools : List Share) → fits pools [] ≡ true
 none_fit [] = refl
-none_fit (p ∷ ps) = and_from (nat_le 0 p.workers) (fits ps []) (le-leb 0 p.workers (omega arith)) (none_fit ps)
+none_fit (p ∷ ps) =
+    and_from (nat_le 0 p.workers) (fits ps []) (le-leb 0 p.workers (omega arith)) (none_fit ps)
 
 -- one instance fits where each pool has a worker
-pub one_fits : (pools : List Share) (i : Instance) → All (λ (p : Share). 1 ≤ p.workers) pools → fits pools (i ∷ []) ≡ true
+pub one_fits : (pools : List Share) (i : Instance) → All (λ (p : Share). 1 ≤ p.workers) pools
+    → fits pools (i ∷ []) ≡ true
 one_fits [] i some = refl
 one_fits (p ∷ ps) i some =
     and_from (nat_le (count_by (serves p) (i ∷ [])) p.workers) (fits ps (i ∷ []))
@@ -44,26 +47,34 @@ pub record HasFront (pools : List Share) (list : List Instance) : Type 0 where
   pub full : IsFull pools round rest
   pub some : 0 < length list → 0 < length round
 
-front_from : (pools : List Share) (taken rest : List Instance) → 0 < length taken → fits pools taken ≡ true → HasFront pools (taken ++ rest)
-front_from pools taken [] some fit = record { round = taken; rest = []; parts = refl; fit = fit; full = tt; some = λ lt. some }
+front_from : (pools : List Share) (taken rest : List Instance) → 0 < length taken
+    → fits pools taken ≡ true → HasFront pools (taken ++ rest)
+front_from pools taken [] some fit =
+    record { round = taken; rest = []; parts = refl; fit = fit; full = tt; some = λ lt. some }
 front_from pools taken (i ∷ is) some fit = by (fits pools (taken ++ i ∷ [])) refl (λ e. front_from pools (taken ++ i ∷ []) is (omega (arith, length-append taken (i ∷ []), some)) e)
   where
-    by : (b : Bool) → fits pools (taken ++ i ∷ []) ≡ b → (fits pools (taken ++ i ∷ []) ≡ true → HasFront pools ((taken ++ i ∷ []) ++ is))
+    by : (b : Bool) → fits pools (taken ++ i ∷ []) ≡ b
+        → (fits pools (taken ++ i ∷ []) ≡ true → HasFront pools ((taken ++ i ∷ []) ++ is))
         → HasFront pools (taken ++ i ∷ is)
     by false e more = record { round = taken; rest = i ∷ is; parts = refl; fit = fit; full = e; some = λ lt. some }
     by true e more = subst (HasFront pools) (append_assoc taken (i ∷ []) is) (more e)
 
-pub front_of : (pools : List Share) (list : List Instance) → All (λ (p : Share). 1 ≤ p.workers) pools → HasFront pools list
-front_of pools [] workers = record { round = []; rest = []; parts = refl; fit = none_fit pools; full = tt; some = λ lt. lt }
-front_of pools (i ∷ is) workers = front_from pools (i ∷ []) is (omega arith) (one_fits pools i workers)
+pub front_of : (pools : List Share) (list : List Instance)
+    → All (λ (p : Share). 1 ≤ p.workers) pools → HasFront pools list
+front_of pools [] workers =
+    record { round = []; rest = []; parts = refl; fit = none_fit pools; full = tt; some = λ lt. lt }
+front_of pools (i ∷ is) workers =
+    front_from pools (i ∷ []) is (omega arith) (one_fits pools i workers)
 
 -- ---- there is only one
 
 -- Of two fronts of a list one is a front of the other.
 pub data Compared (xs us ys vs : List Instance) : Type 0 where
   same : xs ≡ ys → us ≡ vs → Compared xs us ys vs
-  shorter : (i : Instance) (is : List Instance) → ys ≡ xs ++ i ∷ is → us ≡ i ∷ is ++ vs → Compared xs us ys vs
-  longer : (i : Instance) (is : List Instance) → xs ≡ ys ++ i ∷ is → vs ≡ i ∷ is ++ us → Compared xs us ys vs
+  shorter : (i : Instance) (is : List Instance) → ys ≡ xs ++ i ∷ is → us ≡ i ∷ is ++ vs
+      → Compared xs us ys vs
+  longer : (i : Instance) (is : List Instance) → xs ≡ ys ++ i ∷ is → vs ≡ i ∷ is ++ us
+      → Compared xs us ys vs
 
 compare : (xs us ys vs : List Instance) → xs ++ us ≡ ys ++ vs → Compared xs us ys vs
 compare [] us [] vs e = same refl e
@@ -77,7 +88,8 @@ compare (x ∷ xs) us (y ∷ ys) vs e = by (compare xs us ys vs (let tail : xs +
     by (longer i is f r) h = longer i is (λ k. h k ∷ f k) r
 
 -- a front behind which an instance stands that doesn't fit is no front of a longer one that fits
-stops : (pools : List Share) (xs us ys vs : List Instance) (i : Instance) (is : List Instance) → IsFull pools xs us → ys ≡ xs ++ i ∷ is
+stops : (pools : List Share) (xs us ys vs : List Instance) (i : Instance) (is : List Instance)
+    → IsFull pools xs us → ys ≡ xs ++ i ∷ is
     → us ≡ i ∷ is ++ vs → fits pools ys ≡ true → ⊥
 stops pools xs us ys vs i is full f r fit =
     let stuck : fits pools (xs ++ i ∷ []) ≡ false = subst (IsFull pools xs) r full in
@@ -85,7 +97,8 @@ stops pools xs us ys vs i is full f r fit =
     false≢true (sym stuck ∙ fits_front pools (xs ++ i ∷ []) is whole)
 
 -- two longest fronts of a list are one
-pub one_front : (pools : List Share) (xs us ys vs : List Instance) → xs ++ us ≡ ys ++ vs → fits pools xs ≡ true → fits pools ys ≡ true
+pub one_front : (pools : List Share) (xs us ys vs : List Instance) → xs ++ us ≡ ys ++ vs
+    → fits pools xs ≡ true → fits pools ys ≡ true
     → IsFull pools xs us → IsFull pools ys vs → (xs ≡ ys) × (us ≡ vs)
 one_front pools xs us ys vs e fit_x fit_y full_x full_y = by (compare xs us ys vs e)
   where
@@ -97,7 +110,8 @@ one_front pools xs us ys vs e fit_x fit_y full_x full_y = by (compare xs us ys v
 -- ---- all rounds
 
 -- the list can be cut into rounds
-pub cuts : (pools : List Share) (n : ℕ) (list : List Instance) → length list ≤ n → All (λ (p : Share). 1 ≤ p.workers) pools
+pub cuts : (pools : List Share) (n : ℕ) (list : List Instance) → length list ≤ n
+    → All (λ (p : Share). 1 ≤ p.workers) pools
     → (rounds : List (List Instance)) × AreRounds pools list rounds
 cuts pools n [] few workers = ([], refl)
 cuts pools zero (i ∷ is) few workers = absurd (omega (arith, few))

@@ -24,7 +24,8 @@ at_first = record { asks = []; next = 1; answers = 0; later = []; is_cut = false
 
 -- behind the requests up to these, of the same round
 abbrev pub with_asks : Course → List Entry → Course
-with_asks c asks = record { asks = asks; next = c.next; answers = c.answers; later = c.later; is_cut = c.is_cut }
+with_asks c asks =
+    record { asks = asks; next = c.next; answers = c.answers; later = c.later; is_cut = c.is_cut }
 
 module _ (limits : Limits) (task : Task) (before : List Entry) where
   -- The first round of the list begins.

@@ -7,7 +7,8 @@ use Rattle.transcript_model.specs.declared.entry.Entry.{Entry}
 use Rattle.level_course.specs.Courses.{Course, Leads, at_first}
 
 abbrev pub AreIncremental : Limits → Task → List Entry → Stage → Type 0
-AreIncremental limits task entries stage = AreTurns limits task (IncrementalTurn limits task) tt [] entries stage
+AreIncremental limits task entries stage =
+    AreTurns limits task (IncrementalTurn limits task) tt [] entries stage
 
 -- a course stands between levels, behind one that was cut, or inside one
 abbrev pub IsAt : Course → Stage → Type 0

@@ -23,8 +23,10 @@ less : (a b c : ℕ) → a - (b + c) ≡ a - b - c
 less a b c = omega arith
 
 -- the pools of the head, as a session has them
-pools_same : (head : Head) (s : State) → IsOf head s → map ready.share_of s.pools ≡ map share_of head.pools
-pools_same head s of = ap (map ready.share_of) of.pools ∙ map-map ready.share_of workers_of head.pools
+pools_same : (head : Head) (s : State) → IsOf head s
+    → map ready.share_of s.pools ≡ map share_of head.pools
+pools_same head s of =
+    ap (map ready.share_of) of.pools ∙ map-map ready.share_of workers_of head.pools
 
 pub batch_none : (head : Head) (task : Task) (before : List Entry) (list : List Instance)
     → take (rounds.calls_left (limits_of head) before) list ≡ [] → IsBatch (limits_of head) task before list []
@@ -51,7 +53,8 @@ module _ (head : Head) (task : Task) (s : State) (dues : List Due) (count : ℕ)
       ∙ ap instances_of (drop-take count (left - count) dues)
       ∙ sym (take-map (λ (d : Due). d.instance) (left - count) (drop count dues))
 
-  pub batch_step : (now rest : List Entry) → 0 < count → IsRound task s.entries (instances_of (take count dues)) now
+  pub batch_step : (now rest : List Entry) → 0 < count
+      → IsRound task s.entries (instances_of (take count dues)) now
       → asks_of (s.entries ++ now) ≡ asks_of s.entries + count
       → IsBatch (limits_of head) task (s.entries ++ now) (instances_of (drop count dues)) rest
       → IsBatch (limits_of head) task s.entries (instances_of dues) (now ++ rest)
@@ -78,8 +81,10 @@ pub record SoFar (head : Head) (task : Task) (first : List Entry) (list : List I
   pub with_rest : (tail : List Entry) → IsBatch (limits_of head) task now left tail
       → IsBatch (limits_of head) task first list (more ++ tail)
 
-pub so_far_none : (head : Head) (task : Task) (first : List Entry) (list : List Instance) → SoFar head task first list first list
-so_far_none head task first list = record { more = []; pushed = sym (append-nil first); with_rest = λ tail b. b }
+pub so_far_none : (head : Head) (task : Task) (first : List Entry) (list : List Instance)
+    → SoFar head task first list first list
+so_far_none head task first list =
+    record { more = []; pushed = sym (append-nil first); with_rest = λ tail b. b }
 
 pub so_far_step : (head : Head) (task : Task) (first : List Entry) (list : List Instance) (s : State) (dues : List Due) (count : ℕ) (after : List Entry)
     → IsOf head s → IsSession task s → IsNextRound s dues count → 0 < count → (round : (now : List Entry) × (after ≡ s.entries ++ now) × IsRound task s.entries (instances_of (take count dues)) now) → asks_of after ≡ asks_of s.entries + count → SoFar head task first list s.entries (instances_of dues) → SoFar head task first list after (instances_of (drop count dues))
@@ -109,7 +114,8 @@ none_of_none head before dues none =
     take_none (suc n) = refl
 
 -- where no ask makes a round, the calls are spent
-pub spent : (head : Head) (task : Task) (s : State) (dues : List Due) (count : ℕ) → IsOf head s → IsSession task s
+pub spent : (head : Head) (task : Task) (s : State) (dues : List Due) (count : ℕ) → IsOf head s
+    → IsSession task s
     → IsNextRound s dues count → (0 < length dues → length s.asked < s.calls → 0 < count) → 0 < length dues → count ≡ 0
     → length s.asked ≡ head.calls
 spent head task s dues count of h n some there none = elim (cases_lt (length s.asked) s.calls) [
@@ -117,6 +123,7 @@ spent head task s dues count of h n some there none = elim (cases_lt (length s.a
   | inr more ↦ omega (arith, more, n.left, of.calls, none)
 ]
 
-pub none_left : (head : Head) (task : Task) (s : State) (list : List Instance) → IsSession task s → length s.asked ≡ head.calls
+pub none_left : (head : Head) (task : Task) (s : State) (list : List Instance) → IsSession task s
+    → length s.asked ≡ head.calls
     → take (rounds.calls_left (limits_of head) s.entries) list ≡ []
 none_left head task s list h all = ap (λ n. take n list) (let e : head.calls - asks_of s.entries ≡ 0 = omega (arith, h.counted, all) in e)

@@ -28,10 +28,13 @@ use Rattle.session_core.specs.Slots.{Slot}
 -- ---- what the fault tells
 
 -- a call that was refused is the fault's
-pub tells_of : (free : Type 0) (cause : HostFault) (fault : RunFault) (e : Event) → IsHostFault cause fault → refusal e ≡ Some cause
+pub tells_of : (free : Type 0) (cause : HostFault) (fault : RunFault) (e : Event)
+    → IsHostFault cause fault → refusal e ≡ Some cause
     → Tells free fault (e ∷ [])
-tells_of free host.Failed fault e is has = subst (λ f. Tells free f (e ∷ [])) (sym is) (e, refl, has)
-tells_of free host.Memory fault e is has = subst (λ f. Tells free f (e ∷ [])) (sym is) (inr (e, refl, has))
+tells_of free host.Failed fault e is has =
+    subst (λ f. Tells free f (e ∷ [])) (sym is) (e, refl, has)
+tells_of free host.Memory fault e is has =
+    subst (λ f. Tells free f (e ∷ [])) (sym is) (inr (e, refl, has))
 
 pub tells_memory : (free : Type 0) (fault : RunFault) → free → fault ≡ Memory → Tells free fault []
 tells_memory free fault here is = subst (λ f. Tells free f []) (sym is) (inl (refl, here))
@@ -46,7 +49,8 @@ tells_written free Write here may = refl
 tells_written free (Answer number why) here may = absurd may
 
 -- what holds where no call was refused may be another
-pub tells_map : (free other : Type 0) (fault : RunFault) (refused : List Event) → (free → other) → Tells free fault refused
+pub tells_map : (free other : Type 0) (fault : RunFault) (refused : List Event) → (free → other)
+    → Tells free fault refused
     → Tells other fault refused
 tells_map free other Generator refused f t = t
 tells_map free other Memory refused f (inl (none, here)) = inl (none, f here)
@@ -54,31 +58,36 @@ tells_map free other Memory refused f (inr call) = inr call
 tells_map free other Write refused f t = t
 tells_map free other (Answer number why) refused f t = t
 
-pub tells_refused : (slots : List Slot) (child : ℕ) (line : List ℕ) (fault : RunFault) → IsRefused slots child line fault → Tells ⊥ fault []
+pub tells_refused : (slots : List Slot) (child : ℕ) (line : List ℕ) (fault : RunFault)
+    → IsRefused slots child line fault → Tells ⊥ fault []
 tells_refused slots child line Generator is = absurd is
 tells_refused slots child line Memory is = absurd is
 tells_refused slots child line Write is = absurd is
 tells_refused slots child line (Answer number why) is = refl
 
-pub tells_blamed : (number : ℕ) (why : Why) (fault : RunFault) → fault ≡ Answer number why → Tells ⊥ fault []
+pub tells_blamed : (number : ℕ) (why : Why) (fault : RunFault) → fault ≡ Answer number why
+    → Tells ⊥ fault []
 tells_blamed number why fault is = subst (λ f. Tells ⊥ f []) (sym is) refl
 
 -- ---- one child
 
 -- no answer was taken, and no call was made
-pub hears_none : (child : ℕ) (kept : List ℕ) (fault : RunFault) (log : Option (List Event)) → Tells ⊥ fault []
+pub hears_none : (child : ℕ) (kept : List ℕ) (fault : RunFault) (log : Option (List Event))
+    → Tells ⊥ fault []
     → LogHears child kept fault log log
 hears_none child kept fault log tells =
     ([], [], λ k d below. absurd (omega (arith, below)), λ k below. absurd (omega (arith, below)), inl refl, tells, extends_none log)
 
 -- bytes came, and no answer was taken
-pub hears_given : (child : ℕ) (kept bytes : List ℕ) (fault : RunFault) (old new : Option (List Event)) → lines_of kept ≡ []
+pub hears_given : (child : ℕ) (kept bytes : List ℕ) (fault : RunFault) (old new : Option (List Event))
+    → lines_of kept ≡ []
     → Tells ⊥ fault [] → LogsGiven child [] bytes old new → LogHears child kept fault old new
 hears_given child kept bytes fault old new none tells (events, gives, grows) =
     (events, [], gives.each, λ k below. still_part kept (spelled child silence (take k events)).heard none (gives.early k below), inl refl, tells, subst (Extends old new) (sym (append-nil events)) grows)
 
 -- a read was refused
-pub hears_refused : (child : ℕ) (kept : List ℕ) (fault : RunFault) (old new : Option (List Event)) → lines_of kept ≡ []
+pub hears_refused : (child : ℕ) (kept : List ℕ) (fault : RunFault) (old new : Option (List Event))
+    → lines_of kept ≡ []
     → (cause : HostFault) × IsHostFault cause fault × LogsGivenPart child [] cause old new → LogHears child kept fault old new
 hears_refused child kept fault old new none (cause, is, (events, bytes, room, gives, line, grows)) = (
   events,
@@ -122,7 +131,8 @@ module _ (task : Task) (version : ℕ) (pools : List Workers) where
     },
   )
 
-  pub breaks_none : (before : List Entry) (fault : RunFault) (log : Option (List Event)) → Tells (HasNoneOpen before) fault []
+  pub breaks_none : (before : List Entry) (fault : RunFault) (log : Option (List Event))
+      → Tells (HasNoneOpen before) fault []
       → LogBreaks task version pools before fault log log []
   breaks_none before fault log tells = breaks_begun before fault log log [] [] tells (extends_none log) (λ past was. inl (refl, refl))
 
@@ -171,7 +181,8 @@ module _ (task : Task) (version : ℕ) (pools : List Workers) where
     told = subst (λ es. Tells (HasNoneOpen es) fault b.refused) (append_assoc a front more) b.told;
   }
 
-  pub breaks_then : (a b : List Entry) (fault : RunFault) (old mid new : Option (List Event)) → (calls : Calls task pools a b old mid)
+  pub breaks_then : (a b : List Entry) (fault : RunFault) (old mid new : Option (List Event))
+      → (calls : Calls task pools a b old mid)
       → (front : List Entry) → b ≡ a ++ front → (more : List Entry) → LogBreaks task version pools b fault mid new more
       → LogBreaks task version pools a fault old new (front ++ more)
   breaks_then a b fault old mid new calls front is more broken = by mid new (subst (λ es. LogFollows task pools a es old mid) same calls.log) (subst (λ es. LogBreaks task version pools es fault mid new more) is broken)

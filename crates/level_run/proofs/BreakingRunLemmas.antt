@@ -25,7 +25,8 @@ use Rattle.lemmas.proofs.Members.{get_append}
 use Rattle.level_course.proofs.CoursesStepLemmas.{same_asks}
 
 -- the starts that came before a batch of some asks
-pub same_after : (pools : List Pool) (asked many : ℕ) → 0 < many → starts_before pools asked many ≡ starts_after pools asked
+pub same_after : (pools : List Pool) (asked many : ℕ) → 0 < many
+    → starts_before pools asked many ≡ starts_after pools asked
 same_after pools zero zero some = absurd (omega (arith, some))
 same_after pools zero (suc many) some = refl
 same_after pools (suc asked) many some = refl
@@ -34,7 +35,8 @@ pub some_after : (pools : List Pool) (asked : ℕ) → 0 < asked → starts_afte
 some_after pools zero some = absurd (omega (arith, some))
 some_after pools (suc asked) some = refl
 
-none_after : (pools : List Pool) (asked : ℕ) → asked ≡ 0 → starts_after pools asked ≡ starts_of pools
+none_after : (pools : List Pool) (asked : ℕ) → asked ≡ 0
+    → starts_after pools asked ≡ starts_of pools
 none_after pools zero none = refl
 none_after pools (suc asked) none = absurd (omega (arith, none))
 
@@ -57,7 +59,8 @@ pub rounds_broken : (task : Task) (head : Head) (before : List Entry) (starts : 
     → starts ≡ starts_after head.pools (asks_of before) → Extends old mid starts → (more : List Entry)
     → LogBreaks task head.version (workers_in head) before fault mid new more → RunBreaks task head before fault old new more
 rounds_broken task head before starts fault old mid None is first more broken = tt
-rounds_broken task head before starts fault old None (Some after) is first more (reached, events, was, came, b) = absurd (cc)
+rounds_broken task head before starts fault old None (Some after) is first more (reached, events, was, came, b) =
+    absurd (cc)
 rounds_broken task head before starts fault old (Some now) (Some after) is (past, was, came) more (reached, events, told, grown, b) =
     let both : now ≡ reached = cc in
     let here : reached ≡ past ++ starts_after head.pools (asks_of before) = sym both ∙ came ∙ ap (λ es. past ++ es) is in (
@@ -71,9 +74,11 @@ rounds_broken task head before starts fault old (Some now) (Some after) is (past
 -- ---- levels
 
 -- the line of a level opens no request
-none_marked : (before more : List Entry) → (more ≡ []) ⊎ (more ≡ entry.Level ∷ []) → HasNoneOpen before → HasNoneOpen (before ++ more)
+none_marked : (before more : List Entry) → (more ≡ []) ⊎ (more ≡ entry.Level ∷ [])
+    → HasNoneOpen before → HasNoneOpen (before ++ more)
 none_marked before more (inl is) none = subst (λ es. HasNoneOpen (before ++ es)) (sym is) (subst HasNoneOpen (sym (append-nil before)) none)
-none_marked before more (inr is) none = subst (λ es. HasNoneOpen (before ++ es)) (sym is) (λ n. same n ∙ none n)
+none_marked before more (inr is) none =
+    subst (λ es. HasNoneOpen (before ++ es)) (sym is) (λ n. same n ∙ none n)
   where
     same : (n : ℕ) → is_open (before ++ entry.Level ∷ []) n ≡ is_open before n
     same n = rw (list_any-append (is_ask_of n) before (entry.Level ∷ []), list_any-append (is_answer_to n) before (entry.Level ∷ []), or_false (list_any (is_ask_of n) before), or_false (list_any (is_answer_to n) before)) refl
@@ -83,7 +88,8 @@ pub quiet_breaks : (task : Task) (head : Head) (before : List Entry) (fault : Ru
     → Tells (HasNoneOpen before) fault [] → (more : List Entry) → (more ≡ []) ⊎ (more ≡ entry.Level ∷ [])
     → RunBreaks task head before fault log log more
 quiet_breaks task head before fault None tells more is = tt
-quiet_breaks task head before fault (Some log) tells more is = (log, [], refl, sym (append-nil log), by (asks_of before) refl)
+quiet_breaks task head before fault (Some log) tells more is =
+    (log, [], refl, sym (append-nil log), by (asks_of before) refl)
   where
     still : Tells (HasNoneOpen (before ++ more)) fault []
     still = tells_map (HasNoneOpen before) (HasNoneOpen (before ++ more)) fault [] (none_marked before more is) tells
@@ -92,8 +98,10 @@ quiet_breaks task head before fault (Some log) tells more is = (log, [], refl, s
     none es (inl e) = ap asks_of e
     none es (inr e) = ap asks_of e ∙ count_one is_ask entry.Level
 
-    follows : (past : List Event) (es : List Entry) → (es ≡ []) ⊎ (es ≡ entry.Level ∷ []) → Follows task (workers_in head) past before es []
-    follows past es (inl e) = subst (λ xs. Follows task (workers_in head) past before xs []) (sym e) refl
+    follows : (past : List Event) (es : List Entry) → (es ≡ []) ⊎ (es ≡ entry.Level ∷ [])
+        → Follows task (workers_in head) past before es []
+    follows past es (inl e) =
+        subst (λ xs. Follows task (workers_in head) past before xs []) (sym e) refl
     follows past es (inr e) = subst (λ xs. Follows task (workers_in head) past before xs []) (sym e) ([], [], refl, refl, refl)
 
     by : (n : ℕ) → asks_of before ≡ n
@@ -116,15 +124,18 @@ marked_breaks task head before mid front fault old new marked pushed more broken
     starts : starts_after head.pools (asks_of (before ++ entry.Level ∷ [])) ≡ starts_after head.pools (asks_of before)
     starts = ap (starts_after head.pools) (same_asks before)
 
-    joined : (past later : List Event) → Breaks task head.version (workers_in head) past (before ++ entry.Level ∷ []) more fault later
+    joined : (past later : List Event)
+        → Breaks task head.version (workers_in head) past (before ++ entry.Level ∷ []) more fault later
         → Breaks task head.version (workers_in head) past before (entry.Level ∷ more) fault later
     joined past later b = breaks_join task head.version (workers_in head) past before (entry.Level ∷ []) more [] later fault ([], [], refl, refl, refl) (subst (λ p. Breaks task head.version (workers_in head) p (before ++ entry.Level ∷ []) more fault later) (sym (append-nil past)) b)
 
-    told : (events : List Event) → WereStarts head ((before ++ entry.Level ∷ []) ++ more) fault events
+    told : (events : List Event)
+        → WereStarts head ((before ++ entry.Level ∷ []) ++ more) fault events
         → WereStarts head (before ++ entry.Level ∷ more) fault events
     told events were = subst (λ es. WereStarts head es fault events) (append_assoc before (entry.Level ∷ []) more) were
 
-    by : (log : Option (List Event)) → RunBreaks task head (before ++ entry.Level ∷ []) fault old log more
+    by : (log : Option (List Event))
+        → RunBreaks task head (before ++ entry.Level ∷ []) fault old log more
         → RunBreaks task head before fault old log (entry.Level ∷ more)
     by None x = tt
     by (Some after) (past, events, was, came, inl u) = (past, events, was, came, inl (record { first = sym (same_asks before) ∙ u.first; none = asks_behind more ∙ u.none; were = told events u.were }))
@@ -147,7 +158,8 @@ levels_broken task head a front fault old mid new runs pushed more broken =
     all : asks_of (front ++ more) ≡ asks_of front + asks_of more
     all = count_joined is_ask front more
 
-    by : (middle log : Option (List Event)) → LogRuns task head [] front old middle → RunBreaks task head front fault middle log more
+    by : (middle log : Option (List Event)) → LogRuns task head [] front old middle
+        → RunBreaks task head front fault middle log more
         → RunBreaks task head [] fault old log (front ++ more)
     by middle None f x = tt
     by None (Some after) f (reached, events, was, came, x) = absurd (cc)
@@ -155,7 +167,8 @@ levels_broken task head a front fault old mid new runs pushed more broken =
         let both : now ≡ reached = cc in
         of (asks_of front) refl follows (sym both ∙ came) x
       where
-        of : (n : ℕ) → asks_of front ≡ n → Follows task (workers_in head) (past ++ starts_before head.pools 0 n) [] front es
+        of : (n : ℕ) → asks_of front ≡ n
+            → Follows task (workers_in head) (past ++ starts_before head.pools 0 n) [] front es
             → reached ≡ past ++ starts_before head.pools 0 n ++ es
             → Unstarted head front more fault events ⊎ ((later : List Event) × (events ≡ starts_after head.pools (asks_of front) ++ later) × Breaks task head.version (workers_in head) (reached ++ starts_after head.pools (asks_of front)) front more fault later)
             → RunBreaks task head [] fault old (Some after) (front ++ more)
@@ -194,7 +207,8 @@ levels_broken task head a front fault old mid new runs pushed more broken =
 
 -- ---- the line of a level
 
-level_put : (before front more : List Entry) → before ++ entry.Level ∷ [] ≡ before ++ front → HasLevel (front ++ more)
+level_put : (before front more : List Entry) → before ++ entry.Level ∷ [] ≡ before ++ front
+    → HasLevel (front ++ more)
 level_put before front more is = subst (λ es. HasLevel (es ++ more)) (append_cancel_left before (entry.Level ∷ []) front is) (0, refl)
 
 pub marked_level : (task : Task) (head : Head) (before mid front : List Entry) (fault : RunFault) (old new : Option (List Event))
@@ -206,14 +220,16 @@ marked_level task head before mid front fault old new marked pushed more broken 
 pub quiet_level : (task : Task) (head : Head) (before : List Entry) (fault : RunFault) (log : Option (List Event))
     → Tells (HasNoneOpen before) fault [] → (more : List Entry) → (more ≡ []) ⊎ (more ≡ entry.Level ∷ [])
     → LevelBreaks task head before fault log log more
-quiet_level task head before fault log tells more is = (quiet_breaks task head before fault log tells more is, inl refl)
+quiet_level task head before fault log tells more is =
+    (quiet_breaks task head before fault log tells more is, inl refl)
 
 pub counted_level : (es : List Entry) → 0 < count_by is_level es → HasLevel es
 counted_level [] some = absurd (omega (arith, some))
 counted_level (entry.Level ∷ es) some = (0, refl)
 counted_level (e ∷ es) some = by (counted_level es) e some
   where
-    by : (0 < count_by is_level es → HasLevel es) → (x : Entry) → 0 < count_by is_level (x ∷ es) → HasLevel (x ∷ es)
+    by : (0 < count_by is_level es → HasLevel es) → (x : Entry) → 0 < count_by is_level (x ∷ es)
+        → HasLevel (x ∷ es)
     by later entry.Level more = (0, refl)
     by later x more =
         let there = later (omega (arith, more, count_joined is_level (x ∷ []) es, count_one is_level x)) in (suc there.0, there.1)
@@ -223,7 +239,8 @@ level_front front more (k, at) = (k, get_append front more k entry.Level at)
 
 level_behind : (front more : List Entry) → HasLevel more → HasLevel (front ++ more)
 level_behind [] more there = there
-level_behind (e ∷ front) more there = let later = level_behind front more there in (suc later.0, later.1)
+level_behind (e ∷ front) more there =
+    let later = level_behind front more there in (suc later.0, later.1)
 
 pub levels_needed : (task : Task) (head : Head) (a front : List Entry) (fault : RunFault) (old mid new : Option (List Event))
     → Runs task head [] a old mid → (mid ≡ old) ⊎ HasLevel a → a ≡ front → (more : List Entry) → LevelBreaks task head a fault mid new more
@@ -231,12 +248,14 @@ pub levels_needed : (task : Task) (head : Head) (a front : List Entry) (fault : 
 levels_needed task head a front fault old mid new runs needed pushed more (broken, new_needed) =
     (levels_broken task head a front fault old mid new runs pushed more broken, by needed new_needed)
   where
-    by : (mid ≡ old) ⊎ HasLevel a → (new ≡ mid) ⊎ HasLevel more → (new ≡ old) ⊎ HasLevel (front ++ more)
+    by : (mid ≡ old) ⊎ HasLevel a → (new ≡ mid) ⊎ HasLevel more
+        → (new ≡ old) ⊎ HasLevel (front ++ more)
     by (inl first) (inl second) = inl (second ∙ first)
     by (inr there) w = inr (level_front front more (subst HasLevel pushed there))
     by (inl first) (inr there) = inr (level_behind front more there)
 
-pub needed_stops : (entries : List Entry) (old new : Option (List Event)) → (new ≡ old) ⊎ HasLevel entries
+pub needed_stops : (entries : List Entry) (old new : Option (List Event))
+    → (new ≡ old) ⊎ HasLevel entries
     → LogStops old new ⊎ HasLevel entries
 needed_stops entries old new (inl same) = inl (subst (LogStops old) (sym same) (stops_none old))
 needed_stops entries old new (inr there) = inr there
@@ -246,21 +265,25 @@ needed_stops entries old new (inr there) = inr there
 pub broken_of : (task : Task) (head : Head) (entries : List Entry) (fault : RunFault) (old new : Option (List Event))
     → RunBreaks task head [] fault old new entries → LogBroken task head entries fault old new
 broken_of task head entries fault old None b = tt
-broken_of task head entries fault old (Some after) b = (after, [], sym (append-nil after), λ k d below. absurd (omega (arith, below)), b)
+broken_of task head entries fault old (Some after) b =
+    (after, [], sym (append-nil after), λ k d below. absurd (omega (arith, below)), b)
 
 pub broken_more : (task : Task) (head : Head) (entries : List Entry) (fault : RunFault) (old mid new : Option (List Event))
     → LogBroken task head entries fault old mid → LogStops mid new → LogBroken task head entries fault old new
 broken_more task head entries fault old mid None b stops = tt
-broken_more task head entries fault old None (Some after) b (more, each, (before, is, grown)) = absurd (cc)
+broken_more task head entries fault old None (Some after) b (more, each, (before, is, grown)) =
+    absurd (cc)
 broken_more task head entries fault old (Some now) (Some after) (events, stops, cut, all, b) (more, each, (before, is, grown)) =
     let same : now ≡ before = cc in
     (events, stops ++ more, grown ∙ ap (λ es. es ++ more) (sym same ∙ cut) ∙ append_assoc events stops more, All-append IsStop stops more all each, b)
 
-pub stops_then_stops : (old mid new : Option (List Event)) → LogStops old mid → LogStops mid new → LogStops old new
+pub stops_then_stops : (old mid new : Option (List Event)) → LogStops old mid → LogStops mid new
+    → LogStops old new
 stops_then_stops old mid new (first, all, grown) (second, each, grows) =
     (first ++ second, All-append IsStop first second all each, extends_more old mid new first second grown grows)
 
-pub needed_more : (entries : List Entry) (old mid new : Option (List Event)) → LogStops old mid ⊎ HasLevel entries → LogStops mid new
+pub needed_more : (entries : List Entry) (old mid new : Option (List Event))
+    → LogStops old mid ⊎ HasLevel entries → LogStops mid new
     → LogStops old new ⊎ HasLevel entries
 needed_more entries old mid new (inl first) second = inl (stops_then_stops old mid new first second)
 needed_more entries old mid new (inr there) second = inr there

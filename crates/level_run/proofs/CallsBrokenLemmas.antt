@@ -18,7 +18,8 @@ use Rattle.level_run.specs.declared.fault.RunFault.{RunFault}
 
 module _ (task : Task) (s : State) (place : ℕ) (kept : ℕ → List ℕ) (spoken : ℕ → Option Talk) (t : Slot) (at : slice_get s.slots place ≡ Some t) (e : Entry) (at_e : slice_get s.asks place ≡ Some e) (opened : s.is_open ≡ true) (h : IsSession task s) (k : IsTalking task s place 0 kept spoken) where
   -- the request at this place was written in part
-  pub sent_part : (child : ℕ) (request : List ℕ) (fault : RunFault) (was now : Option (List Event)) → child ≡ t.child → request ≡ t.request
+  pub sent_part : (child : ℕ) (request : List ℕ) (fault : RunFault) (was now : Option (List Event))
+      → child ≡ t.child → request ≡ t.request
       → (cause : HostFault) × IsHostFault cause fault × LogsTakenPart child request cause was now
       → LogBreaks task s.version s.pools (s.entries ++ take place s.asks) fault was now []
   sent_part child request fault was now own same log =
@@ -36,7 +37,8 @@ module _ (task : Task) (s : State) (running : ℕ → Bool) (place : ℕ) (rolli
       ∙ next_is task s running place rolling within t at (requests_of task s.pools s.entries) (replies_of s.entries) q.0 k.even q.1
 
   -- no answer was taken
-  pub heard_off : (child : ℕ) (fault : RunFault) (was now : Option (List Event)) → child ≡ t.child → Spells was child (old child)
+  pub heard_off : (child : ℕ) (fault : RunFault) (was now : Option (List Event)) → child ≡ t.child
+      → Spells was child (old child)
       → LogHears child (kept child) fault was now
       → LogBreaks task s.version s.pools (s.entries ++ s.asks ++ take place (finished s.slots)) fault was now []
   heard_off child fault was now own spells log =

@@ -16,7 +16,8 @@ use Rattle.level_run.specs.Dialogue.{Request, requests_of, text_of_request}
 
 -- ---- what events spell
 
-pub spelled_join : (child : ℕ) (talk : Talk) (xs ys : List Event) → spelled child talk (xs ++ ys) ≡ spelled child (spelled child talk xs) ys
+pub spelled_join : (child : ℕ) (talk : Talk) (xs ys : List Event)
+    → spelled child talk (xs ++ ys) ≡ spelled child (spelled child talk xs) ys
 spelled_join child talk [] ys = refl
 spelled_join child talk (e ∷ xs) ys = spelled_join child (said_after child talk e) xs ys
 
@@ -35,15 +36,20 @@ spelled_reads child talk (heard k room (Ok bytes) ∷ events) all =
     ∙ spelled_reads child (heard_more bytes talk) events rest
     ∙ ap (λ b. let t : Talk = record { written = talk.written; heard = b } in t) (append_assoc talk.heard bytes (spelled child silence events).heard)
     ∙ ap (λ b. heard_more b talk) (sym first)
-spelled_reads child talk (heard k room (Err fault) ∷ events) all = absurd (all 0 (heard k room (Err fault)) (omega arith))
-spelled_reads child talk (wrote k bytes answer ∷ events) all = absurd (all 0 (wrote k bytes answer) (omega arith))
-spelled_reads child talk (started k words answer ∷ events) all = absurd (all 0 (started k words answer) (omega arith))
-spelled_reads child talk (stopped k answer ∷ events) all = absurd (all 0 (stopped k answer) (omega arith))
+spelled_reads child talk (heard k room (Err fault) ∷ events) all =
+    absurd (all 0 (heard k room (Err fault)) (omega arith))
+spelled_reads child talk (wrote k bytes answer ∷ events) all =
+    absurd (all 0 (wrote k bytes answer) (omega arith))
+spelled_reads child talk (started k words answer ∷ events) all =
+    absurd (all 0 (started k words answer) (omega arith))
+spelled_reads child talk (stopped k answer ∷ events) all =
+    absurd (all 0 (stopped k answer) (omega arith))
 
 -- ---- entries, one after another
 
 module _ (task : Task) (pools : List Workers) where
-  pub follows_join : (past : List Event) (before xs ys : List Entry) (es fs : List Event) → Follows task pools past before xs es
+  pub follows_join : (past : List Event) (before xs ys : List Entry) (es fs : List Event)
+      → Follows task pools past before xs es
       → Follows task pools (past ++ es) (before ++ xs) ys fs → Follows task pools past before (xs ++ ys) (es ++ fs)
   follows_join past before [] ys es fs first second =
       subst (λ (zs : List Event). Follows task pools past before ys (zs ++ fs)) (sym first)
@@ -60,19 +66,22 @@ module _ (task : Task) (pools : List Workers) where
         (subst (λ (zs : List Event). Follows task pools zs (before ++ e ∷ xs) ys fs) (ap (λ zs. past ++ zs) cut ∙ sym (append_assoc past now later)) second)),
   )
 
-  pub log_none : (before : List Entry) (log : Option (List Event)) → LogFollows task pools before [] log log
+  pub log_none : (before : List Entry) (log : Option (List Event))
+      → LogFollows task pools before [] log log
   log_none before None = tt
   log_none before (Some events) = (events, [], refl, sym (append-nil events), refl)
 
   -- the calls of one entry
-  pub log_one : (before : List Entry) (e : Entry) (old new : Option (List Event)) (events : List Event) → Extends old new events
+  pub log_one : (before : List Entry) (e : Entry) (old new : Option (List Event)) (events : List Event)
+      → Extends old new events
       → ((past : List Event) → old ≡ Some past → new ≡ Some (past ++ events) → AreCallsOf task pools past before e events)
       → LogFollows task pools before (e ∷ []) old new
   log_one before e old None events grows calls = tt
   log_one before e old (Some after) events (past, is, grown) calls =
       (past, events, is, grown, (events, [], sym (append-nil events), calls past is (ap Some grown), refl))
 
-  pub log_join : (before xs ys : List Entry) (old mid new : Option (List Event)) → LogFollows task pools before xs old mid
+  pub log_join : (before xs ys : List Entry) (old mid new : Option (List Event))
+      → LogFollows task pools before xs old mid
       → LogFollows task pools (before ++ xs) ys mid new → LogFollows task pools before (xs ++ ys) old new
   log_join before xs ys old mid None first second = tt
   log_join before xs ys old None (Some after) first (later, fs, is, grown, follows) = absurd (cc)
@@ -86,24 +95,31 @@ module _ (task : Task) (pools : List Workers) where
         follows_join past before xs ys es fs begins (subst (λ zs. Follows task pools zs (before ++ xs) ys fs) reached follows),
       )
 
-  pub calls_none : (before : List Entry) (log : Option (List Event)) → Calls task pools before before log log
-  calls_none before log = record { more = []; pushed = sym (append-nil before); log = log_none before log }
+  pub calls_none : (before : List Entry) (log : Option (List Event))
+      → Calls task pools before before log log
+  calls_none before log =
+      record { more = []; pushed = sym (append-nil before); log = log_none before log }
 
-  pub calls_one : (before after : List Entry) (e : Entry) (old new : Option (List Event)) → after ≡ before ++ e ∷ []
+  pub calls_one : (before after : List Entry) (e : Entry) (old new : Option (List Event))
+      → after ≡ before ++ e ∷ []
       → LogFollows task pools before (e ∷ []) old new → Calls task pools before after old new
   calls_one before after e old new pushed log = record { more = e ∷ []; pushed = pushed; log = log }
 
-  pub calls_then : (a b c : List Entry) (old mid new : Option (List Event)) → Calls task pools a b old mid → Calls task pools b c mid new
+  pub calls_then : (a b c : List Entry) (old mid new : Option (List Event))
+      → Calls task pools a b old mid → Calls task pools b c mid new
       → Calls task pools a c old new
   calls_then a b c old mid new first second = record {
     more = first.more ++ second.more;
-    pushed = second.pushed ∙ ap (λ front. front ++ second.more) first.pushed ∙ append_assoc a first.more second.more;
+    pushed =
+        second.pushed ∙ ap (λ front. front ++ second.more) first.pushed
+        ∙ append_assoc a first.more second.more;
     log = log_join a first.more second.more old mid new first.log (subst (λ es. LogFollows task pools es second.more mid new) first.pushed second.log);
   }
 
   -- ---- one entry
 
-  pub ask_calls : (before : List Entry) (e : Entry) (r : Request) (past events : List Event) → is_ask e ≡ true
+  pub ask_calls : (before : List Entry) (e : Entry) (r : Request) (past events : List Event)
+      → is_ask e ≡ true
       → requests_of task pools (before ++ e ∷ []) ≡ requests_of task pools before ++ r ∷ [] → Takes r.child (text_of_request r) events
       → AreCallsOf task pools past before e events
   ask_calls before (entry.Ask number turn call) r past events ask grown takes =
@@ -117,7 +133,8 @@ module _ (task : Task) (pools : List Workers) where
   ask_calls before (entry.End number) r past events ask grown takes = absurd (cc)
   ask_calls before e r past events ask grown takes = absurd (cc)
 
-  pub answer_calls : (before : List Entry) (e : Entry) (past events : List Event) → is_answer e ≡ true
+  pub answer_calls : (before : List Entry) (e : Entry) (past events : List Event)
+      → is_answer e ≡ true
       → Hearing task pools past before events → AreCallsOf task pools past before e events
   answer_calls before (entry.Got number tuples values) past events answer hearing = hearing
   answer_calls before (entry.Value number value) past events answer hearing = hearing

@@ -18,28 +18,35 @@ IsWrite e = (child : ℕ) × IsTaken child e
 abbrev IsRead : Event → Type 0
 IsRead e = (child : ℕ) × IsGiven child e
 
-of_child : (P : ℕ → Event → Type 0) (child : ℕ) (events : List Event) → All (P child) events → All (λ e. (c : ℕ) × P c e) events
+of_child : (P : ℕ → Event → Type 0) (child : ℕ) (events : List Event) → All (P child) events
+    → All (λ e. (c : ℕ) × P c e) events
 of_child P child events all k d below = (child, all k d below)
 
 module _ (task : Task) (pools : List Workers) where
-  reads_of : (past : List Event) (before : List Entry) (events : List Event) → Hearing task pools past before events → All IsRead events
+  reads_of : (past : List Event) (before : List Entry) (events : List Event)
+      → Hearing task pools past before events → All IsRead events
   reads_of past before events h = of_child IsGiven h.request.child events h.reads.each
 
-  read_calls : (past : List Event) (before : List Entry) (e : Entry) (events : List Event) → is_answer e ≡ true
+  read_calls : (past : List Event) (before : List Entry) (e : Entry) (events : List Event)
+      → is_answer e ≡ true
       → AreCallsOf task pools past before e events → All IsRead events
-  read_calls past before (entry.Got number tuples values) events is calls = reads_of past before events calls
-  read_calls past before (entry.Value number value) events is calls = reads_of past before events calls
+  read_calls past before (entry.Got number tuples values) events is calls =
+      reads_of past before events calls
+  read_calls past before (entry.Value number value) events is calls =
+      reads_of past before events calls
   read_calls past before (entry.End number) events is calls = reads_of past before events calls
   read_calls past before e events is calls = absurd (cc)
 
-  answers_read : (past : List Event) (before answers : List Entry) (events : List Event) → AreReplies answers
+  answers_read : (past : List Event) (before answers : List Entry) (events : List Event)
+      → AreReplies answers
       → Follows task pools past before answers events → All IsRead events
   answers_read past before [] events each is = subst (All IsRead) (sym is) (All-nil IsRead)
   answers_read past before (e ∷ es) events each (now, later, cut, calls, follows) =
       subst (All IsRead) (sym cut) (All-append IsRead now later (read_calls past before e now (each 0 e refl) calls) (answers_read (past ++ now) (before ++ e ∷ []) es later (λ k x at. each (suc k) x at) follows))
 
   -- the calls of requests and of answers behind them are writes, and then reads
-  pub written_first : (past : List Event) (before asks answers : List Entry) (events : List Event) → AreAsks asks → AreReplies answers
+  pub written_first : (past : List Event) (before asks answers : List Entry) (events : List Event)
+      → AreAsks asks → AreReplies answers
       → Follows task pools past before (asks ++ answers) events
       → (writes : List Event) × (reads : List Event) × (events ≡ writes ++ reads) × All IsWrite writes × All IsRead reads
   written_first past before [] answers events each replies follows =
@@ -52,4 +59,5 @@ module _ (task : Task) (pools : List Workers) where
         All-append IsWrite now rest.0 (of_child IsTaken _ now calls.each) rest.3,
         rest.4,
       )
-  written_first past before (e ∷ asks) answers events each replies follows = absurd (let bad = each 0 e refl in cc)
+  written_first past before (e ∷ asks) answers events each replies follows =
+      absurd (let bad = each 0 e refl in cc)

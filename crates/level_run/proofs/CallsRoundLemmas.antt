@@ -42,26 +42,31 @@ none_fed : (bytes : List ℕ) → list_any is_feed bytes ≡ false → count_by 
 none_fed [] e = refl
 none_fed (b ∷ bs) e = by (none_fed bs) (is_feed b) refl e
   where
-    by : (list_any is_feed bs ≡ false → count_by is_feed bs ≡ 0) → (t : Bool) → is_feed b ≡ t → (is_feed b || list_any is_feed bs) ≡ false
+    by : (list_any is_feed bs ≡ false → count_by is_feed bs ≡ 0) → (t : Bool) → is_feed b ≡ t
+        → (is_feed b || list_any is_feed bs) ≡ false
         → count_by is_feed (b ∷ bs) ≡ 0
-    by later true is any = absurd (let bad : true ≡ false = ap (λ t. t || list_any is_feed bs) (sym is) ∙ any in cc)
+    by later true is any =
+        absurd (let bad : true ≡ false = ap (λ t. t || list_any is_feed bs) (sym is) ∙ any in cc)
     by later false is any =
         let none : cond {A = ℕ} (is_feed b) 1 0 ≡ 0 = ap (λ t. cond {A = ℕ} t 1 0) is in
         let rest : list_any is_feed bs ≡ false = ap (λ t. t || list_any is_feed bs) (sym is) ∙ any in
         omega (arith, count_joined is_feed (b ∷ []) bs, count_one is_feed b, none, later rest)
 
 -- bytes without a line feed add no line
-pub still_part : (kept bytes : List ℕ) → lines_of kept ≡ [] → IsLine bytes → lines_of (kept ++ bytes) ≡ []
+pub still_part : (kept bytes : List ℕ) → lines_of kept ≡ [] → IsLine bytes
+    → lines_of (kept ++ bytes) ≡ []
 still_part kept bytes none line =
     nil_from_length (lines_of (kept ++ bytes)) (omega (arith, lines_counted (kept ++ bytes), count_joined is_feed kept bytes, lines_counted kept, ap length none, none_fed bytes line))
 
 -- ---- the reads of one child
 
 -- a line was kept, so no call was made
-pub reads_none : (child : ℕ) (kept : List ℕ) (log : Option (List Event)) → LogReads child kept log log
+pub reads_none : (child : ℕ) (kept : List ℕ) (log : Option (List Event))
+    → LogReads child kept log log
 reads_none child kept log = ([], λ k d below. absurd (omega (arith, below)), λ k below. absurd (omega (arith, below)), extends_none log)
 
-pub reads_given : (child : ℕ) (kept bytes : List ℕ) (old new : Option (List Event)) → lines_of kept ≡ [] → LogsGiven child [] bytes old new
+pub reads_given : (child : ℕ) (kept bytes : List ℕ) (old new : Option (List Event))
+    → lines_of kept ≡ [] → LogsGiven child [] bytes old new
     → LogReads child kept old new
 reads_given child kept bytes old new none (events, gives, grows) =
     (events, gives.each, λ k below. still_part kept (spelled child silence (take k events)).heard none (gives.early k below), grows)
@@ -80,7 +85,8 @@ module _ (task : Task) (version : ℕ) (pools : List Workers) (rs : List Request
   answered = count_to r.child (take (length replies) rs)
 
   -- while the bytes kept and those that came make no line, no more lines were read than were taken
-  pub reads_quiet : IsTalk task version rs replies r.child kept (spelled r.child silence past) → All (IsGiven r.child) events
+  pub reads_quiet : IsTalk task version rs replies r.child kept (spelled r.child silence past)
+      → All (IsGiven r.child) events
       → lines_of (kept ++ (spelled r.child silence events).heard) ≡ []
       → lines_read r.child (past ++ events) ≤ count_to r.child (take (length replies) rs)
   reads_quiet t each none =
@@ -91,7 +97,8 @@ module _ (task : Task) (version : ℕ) (pools : List Workers) (rs : List Request
       let count : lines_read r.child (past ++ events) ≡ length (t.taken ++ lines_of (kept ++ piece)) = ap (λ (x : Talk). length (lines_of x.heard)) spells ∙ ap length lines in
       omega (arith, count, length-append t.taken (lines_of (kept ++ piece)), ap length none, t.many)
 
-  pub reads_early : IsTalk task version rs replies r.child kept (spelled r.child silence past) → All (IsGiven r.child) events
+  pub reads_early : IsTalk task version rs replies r.child kept (spelled r.child silence past)
+      → All (IsGiven r.child) events
       → ((k : ℕ) → k < length events → lines_of (kept ++ (spelled r.child silence (take k events)).heard) ≡ []) → (k : ℕ)
       → k < length events → lines_read r.child (past ++ take k events) ≤ count_to r.child (take (length replies) rs)
   reads_early t each early k below =
@@ -102,7 +109,8 @@ module _ (task : Task) (version : ℕ) (pools : List Workers) (rs : List Request
       let count : lines_read r.child (past ++ take k events) ≡ length (t.taken ++ lines_of (kept ++ piece)) = ap (λ (x : Talk). length (lines_of x.heard)) spells ∙ ap length lines in
       omega (arith, count, length-append t.taken (lines_of (kept ++ piece)), ap length (early k below), t.many)
 
-  reads_line : (e : Entry) → IsTalk task version rs (replies ++ e ∷ []) r.child left (spelled r.child silence (past ++ events))
+  reads_line : (e : Entry)
+      → IsTalk task version rs (replies ++ e ∷ []) r.child left (spelled r.child silence (past ++ events))
       → count_to r.child (take (length replies) rs) < lines_read r.child (past ++ events)
   reads_line e t =
       let longer : length (replies ++ e ∷ []) ≡ length replies + 1 = length-append replies (e ∷ []) in
@@ -148,7 +156,8 @@ module _ (task : Task) (s : State) (place : ℕ) (kept : ℕ → List ℕ) (spok
       ∙ ap (λ rs. rs ++ r.0 ∷ []) (sym (requests_sent task s.pools s.entries s.asks k.closed asks place))
 
   -- it is written
-  pub sent_calls : (child : ℕ) (request : List ℕ) (was now : Option (List Event)) → child ≡ t.child → request ≡ t.request
+  pub sent_calls : (child : ℕ) (request : List ℕ) (was now : Option (List Event)) → child ≡ t.child
+      → request ≡ t.request
       → LogsTaken child request was now → LogFollows task s.pools (s.entries ++ take place s.asks) (e ∷ []) was now
   sent_calls child request was now own same log =
       let r = request_at task s place kept spoken spoken t at k.slots in
@@ -226,7 +235,8 @@ module _ (task : Task) (s : State) (running : ℕ → Bool) (place : ℕ) (rolli
 
 -- ---- a whole round
 
-pub round_order : (task : Task) (s b m x : State) (dues : List Due) (old mid new : Option (List Event)) → b ≡ begun task s dues
+pub round_order : (task : Task) (s b m x : State) (dues : List Due) (old mid new : Option (List Event))
+    → b ≡ begun task s dues
     → IsSameRound b m → IsSameRound m x → finished x.slots ≡ answers_of x.slots → Calls task b.pools b.entries (b.entries ++ b.asks) old mid
     → Calls task m.pools (m.entries ++ m.asks) (m.entries ++ m.asks ++ finished x.slots) mid new
     → Calls task s.pools s.entries (x.entries ++ x.asks ++ answers_of x.slots) old new
@@ -243,4 +253,6 @@ round_order task s b m x dues old mid new starts first second all sent heard =
     x_is = second ∙ ap (λ (y : State). with_slots y x.slots x.failed) m_is
 
     entries_are : x.entries ++ x.asks ++ answers_of x.slots ≡ s.entries ++ (begun task s dues).asks ++ finished x.slots
-    entries_are = ap (λ es. x.entries ++ x.asks ++ es) (sym all) ∙ ap (λ (y : State). y.entries ++ y.asks ++ finished x.slots) x_is
+    entries_are =
+        ap (λ es. x.entries ++ x.asks ++ es) (sym all)
+        ∙ ap (λ (y : State). y.entries ++ y.asks ++ finished x.slots) x_is

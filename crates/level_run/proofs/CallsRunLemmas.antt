@@ -52,7 +52,8 @@ starts_split words first (suc k) (suc n) below =
       ap (λ es. started first words (Ok tt) ∷ es) (later.1 ∙ ap (λ j. starts_from words (first + 1) k ++ started j words (Ok tt) ∷ later.0) (let e : first + 1 + k ≡ first + suc k = omega arith in e)),
     )
 
-get_behind : {A : Type 0} (xs ys : List A) (n : ℕ) → slice_get (xs ++ ys) (length xs + n) ≡ slice_get ys n
+get_behind : {A : Type 0} (xs ys : List A) (n : ℕ)
+    → slice_get (xs ++ ys) (length xs + n) ≡ slice_get ys n
 get_behind [] ys n = ap (slice_get ys) (let e : 0 + n ≡ n = omega arith in e)
 get_behind (x ∷ xs) ys n =
     ap (slice_get (x ∷ (xs ++ ys))) (let e : suc (length xs) + n ≡ suc (length xs + n) = omega arith in e) ∙ get_behind xs ys n
@@ -82,7 +83,8 @@ part_first : (child : ℕ) (words : List (List ℕ)) (cause : HostFault) (fault 
 part_first child words cause fault rest mid new is log = (0, child, words, cause, refl, is, log)
 
 -- the next worker of a pool was refused
-pub pool_refused : (pool : Pool) (worker : ℕ) (fault : RunFault) (old mid new : Option (List Event)) → worker < pool.workers
+pub pool_refused : (pool : Pool) (worker : ℕ) (fault : RunFault) (old mid new : Option (List Event))
+    → worker < pool.workers
     → Extends old mid (starts_from (map string_bytes pool.argv) pool.first worker)
     → (cause : HostFault) × IsHostFault cause fault × Logs mid new (started (pool.first + worker) (map string_bytes pool.argv) (Err cause))
     → LogStartsPart (starts_in pool) fault old new
@@ -93,7 +95,8 @@ pool_refused pool worker fault old mid new below first (cause, is, log) =
     (split.1 ∙ ap (λ es. starts_from words pool.first worker ++ es) (sym (append-nil (started (pool.first + worker) words (Ok tt) ∷ split.0)))) first
     (part_first (pool.first + worker) words cause fault split.0 mid new is log)
 
-pub worker_started : (words : List (List ℕ)) (first n : ℕ) (old mid new : Option (List Event)) → Extends old mid (starts_from words first n)
+pub worker_started : (words : List (List ℕ)) (first n : ℕ) (old mid new : Option (List Event))
+    → Extends old mid (starts_from words first n)
     → Logs mid new (started (first + n) words (Ok tt)) → Extends old new (starts_from words first (n + 1))
 worker_started words first n old mid new before log =
     subst (Extends old new) (sym (ap (starts_from words first) (let e : n + 1 ≡ suc n = omega arith in e) ∙ starts_next words first n)) (extends_more old mid new (starts_from words first n) (started (first + n) words (Ok tt) ∷ []) before log)
@@ -106,7 +109,8 @@ cut_at [] k x at = absurd (cc)
 cut_at (y ∷ ys) zero x at = let same : y ≡ x = cc in (ys, ap (λ z. z ∷ ys) same, ap (λ z. let one : List _ = z ∷ [] in one) same)
 cut_at (y ∷ ys) (suc k) x at = let later = cut_at ys k x at in (later.0, ap (λ zs. y ∷ zs) later.1, ap (λ n. take n (y ∷ ys)) (let e : suc k + 1 ≡ suc (k + 1) = omega arith in e) ∙ ap (λ zs. y ∷ zs) later.2)
 
-pub pool_started : (pools : List Pool) (i : ℕ) (pool : Pool) (old mid new : Option (List Event)) → slice_get pools i ≡ Some pool
+pub pool_started : (pools : List Pool) (i : ℕ) (pool : Pool) (old mid new : Option (List Event))
+    → slice_get pools i ≡ Some pool
     → Extends old mid (flat_map starts_in (take i pools)) → Extends mid new (starts_in pool)
     → Extends old new (flat_map starts_in (take (i + 1) pools))
 pool_started pools i pool old mid new at before log =
@@ -128,19 +132,23 @@ pub starts_idle : (pools : List Pool) (before : ℕ) → starts_before pools bef
 starts_idle pools zero = refl
 starts_idle pools (suc before) = refl
 
-pub starts_some : (pools : List Pool) (before more : ℕ) → 0 < before → starts_before pools before more ≡ []
+pub starts_some : (pools : List Pool) (before more : ℕ) → 0 < before
+    → starts_before pools before more ≡ []
 starts_some pools zero more some = absurd (omega (arith, some))
 starts_some pools (suc before) more some = refl
 
-pub starts_first : (pools : List Pool) (before more : ℕ) → before ≡ 0 → 0 < more → starts_before pools before more ≡ starts_of pools
+pub starts_first : (pools : List Pool) (before more : ℕ) → before ≡ 0 → 0 < more
+    → starts_before pools before more ≡ starts_of pools
 starts_first pools zero zero first some = absurd (omega (arith, some))
 starts_first pools zero (suc more) first some = refl
 starts_first pools (suc before) more first some = absurd (omega (arith, first))
 
-same_starts : (pools : List Pool) (before many more : ℕ) → (before ≡ 0 → many ≡ 0 → more ≡ 0) → (before ≡ 0 → 0 < many → 0 < more)
+same_starts : (pools : List Pool) (before many more : ℕ) → (before ≡ 0 → many ≡ 0 → more ≡ 0)
+    → (before ≡ 0 → 0 < many → 0 < more)
     → starts_before pools before many ≡ starts_before pools before more
 same_starts pools zero zero more none some = sym (ap (starts_before pools 0) (none refl refl))
-same_starts pools zero (suc many) more none some = sym (starts_first pools 0 more refl (some refl (omega arith)))
+same_starts pools zero (suc many) more none some =
+    sym (starts_first pools 0 more refl (some refl (omega arith)))
 same_starts pools (suc before) many more none some = refl
 
 -- ---- the calls of batches
@@ -149,7 +157,8 @@ runs_from : (task : Task) (head : Head) (before : List Entry) (more : List Entry
     → starts ≡ starts_before head.pools (asks_of before) (asks_of more) → Extends old mid starts
     → Rattle.level_run.specs.Calls.LogFollows task (workers_in head) before more mid new → LogRuns task head before more old new
 runs_from task head before more starts old mid None is first second = tt
-runs_from task head before more starts old None (Some after) is first (later, events, was, grown, follows) = absurd (cc)
+runs_from task head before more starts old None (Some after) is first (later, events, was, grown, follows) =
+    absurd (cc)
 runs_from task head before more starts old (Some middle) (Some after) is (past, was, came) (later, events, told, grown, follows) =
     let same : middle ≡ later = cc in
     let reached : later ≡ past ++ starts_before head.pools (asks_of before) (asks_of more) = sym same ∙ came ∙ ap (λ es. past ++ es) is in (
@@ -165,20 +174,25 @@ pub batch_runs : (task : Task) (head : Head) (before after : List Entry) (asked 
     → asked ≡ asks_of before → asks ≡ asks_of after → 1 ≤ head.calls → EndsBatch task after asked asks head.calls many b
     → Extends old mid (starts_before head.pools asked many) → Calls task (workers_in head) before after mid new
     → Runs task head before after old new
-batch_runs task head before after asked asks many b old mid new counted of_after some ends first calls = record {
-  more = calls.more;
-  pushed = calls.pushed;
-  log = runs_from task head before calls.more (starts_before head.pools asked many) old mid new starts first calls.log;
-}
+batch_runs task head before after asked asks many b old mid new counted of_after some ends first calls =
+    record {
+      more = calls.more;
+      pushed = calls.pushed;
+      log = runs_from task head before calls.more (starts_before head.pools asked many) old mid new starts first calls.log;
+    }
   where
     grown : asks ≡ asked + asks_of calls.more
-    grown = of_after ∙ ap asks_of calls.pushed ∙ count_joined is_ask before calls.more ∙ ap (λ n. n + asks_of calls.more) (sym counted)
+    grown =
+        of_after ∙ ap asks_of calls.pushed ∙ count_joined is_ask before calls.more
+        ∙ ap (λ n. n + asks_of calls.more) (sym counted)
 
-    none : (c : Batch) → EndsBatch task after asked asks head.calls many c → asked ≡ 0 → many ≡ 0 → asks_of calls.more ≡ 0
+    none : (c : Batch) → EndsBatch task after asked asks head.calls many c → asked ≡ 0 → many ≡ 0
+        → asks_of calls.more ≡ 0
     none Done e is zero_many = omega (arith, e.0, grown, is, zero_many)
     none CallsSpent e is zero_many = absurd (omega (arith, e.1, some, is, zero_many))
 
-    filled : (c : Batch) → EndsBatch task after asked asks head.calls many c → asked ≡ 0 → 0 < many → 0 < asks_of calls.more
+    filled : (c : Batch) → EndsBatch task after asked asks head.calls many c → asked ≡ 0 → 0 < many
+        → 0 < asks_of calls.more
     filled Done e is more = omega (arith, e.0, grown, is, more)
     filled CallsSpent e is more = omega (arith, e.0, grown, is, some)
 
@@ -190,14 +204,17 @@ batch_runs task head before after asked asks many b old mid new counted of_after
 -- ---- a level
 
 pub asks_behind : (more : List Entry) → asks_of (entry.Level ∷ more) ≡ asks_of more
-asks_behind more = omega (arith, count_joined is_ask (entry.Level ∷ []) more, count_one is_ask entry.Level)
+asks_behind more =
+    omega (arith, count_joined is_ask (entry.Level ∷ []) more, count_one is_ask entry.Level)
 
 -- the line of a level needs no call
 pub runs_marked : (task : Task) (head : Head) (before mid after : List Entry) (old new : Option (List Event))
     → mid ≡ before ++ entry.Level ∷ [] → Runs task head mid after old new → Runs task head before after old new
 runs_marked task head before mid after old new marked runs = record {
   more = entry.Level ∷ runs.more;
-  pushed = runs.pushed ∙ ap (λ es. es ++ runs.more) marked ∙ append_assoc before (entry.Level ∷ []) runs.more;
+  pushed =
+      runs.pushed ∙ ap (λ es. es ++ runs.more) marked
+      ∙ append_assoc before (entry.Level ∷ []) runs.more;
   log = by new (subst (λ es. LogRuns task head es runs.more old new) marked runs.log);
 }
   where
@@ -206,7 +223,8 @@ runs_marked task head before mid after old new marked runs = record {
         ap (λ n. starts_before head.pools n (asks_of runs.more)) (same_asks before)
         ∙ ap (starts_before head.pools (asks_of before)) (sym (asks_behind runs.more))
 
-    by : (log : Option (List Event)) → LogRuns task head (before ++ entry.Level ∷ []) runs.more old log
+    by : (log : Option (List Event))
+        → LogRuns task head (before ++ entry.Level ∷ []) runs.more old log
         → LogRuns task head before (entry.Level ∷ runs.more) old log
     by None l = tt
     by (Some now) (past, events, was, came, follows) =
@@ -220,17 +238,20 @@ runs_marked task head before mid after old new marked runs = record {
 
 -- ---- levels, one after another
 
-pub runs_none : (task : Task) (head : Head) (before : List Entry) (log : Option (List Event)) → before ≡ []
+pub runs_none : (task : Task) (head : Head) (before : List Entry) (log : Option (List Event))
+    → before ≡ []
     → Runs task head [] before log log
 runs_none task head before log is =
     record { more = before; pushed = refl; log = subst (λ es. LogRuns task head [] es log log) (sym is) (by log) }
   where
     by : (o : Option (List Event)) → LogRuns task head [] [] o o
     by None = tt
-    by (Some events) = (events, [], refl, sym (append-nil events) ∙ sym (append-nil (events ++ [])), refl)
+    by (Some events) =
+        (events, [], refl, sym (append-nil events) ∙ sym (append-nil (events ++ [])), refl)
 
 -- entries without a request need no call
-pub unasked : (task : Task) (pools : List Workers) (past : List Event) (before es : List Entry) (events : List Event) → asks_of before ≡ 0
+pub unasked : (task : Task) (pools : List Workers) (past : List Event) (before es : List Entry) (events : List Event)
+    → asks_of before ≡ 0
     → asks_of es ≡ 0 → Follows task pools past before es events → (events ≡ []) × ((p : List Event) → Follows task pools p before es [])
 unasked task pools past before [] events none no_more follows = (follows, λ p. refl)
 unasked task pools past before (e ∷ es) events none no_more (now, later, cut, calls, follows) =
@@ -254,7 +275,8 @@ unasked task pools past before (e ∷ es) events none no_more (now, later, cut, 
 
     of : (x : Entry) → asks_of (x ∷ []) ≡ 0 → AreCallsOf task pools past before x now
         → (now ≡ []) × ((p : List Event) → AreCallsOf task pools p before x [])
-    of (entry.Ask number turn call) free h = absurd (omega (arith, free, count_one is_ask (entry.Ask number turn call)))
+    of (entry.Ask number turn call) free h =
+        absurd (omega (arith, free, count_one is_ask (entry.Ask number turn call)))
     of (entry.Got number tuples values) free h = absurd (no_hearing h)
     of (entry.Value number value) free h = absurd (no_hearing h)
     of (entry.End number) free h = absurd (no_hearing h)
@@ -265,13 +287,15 @@ unasked task pools past before (e ∷ es) events none no_more (now, later, cut, 
 pub stops_none : (log : Option (List Event)) → LogStops log log
 stops_none log = ([], λ k d below. absurd (omega (arith, below)), extends_none log)
 
-pub stops_more : (child : ℕ) (answer : Result (Unit {0}) HostFault) (old mid new : Option (List Event)) → LogStops old mid
+pub stops_more : (child : ℕ) (answer : Result (Unit {0}) HostFault) (old mid new : Option (List Event))
+    → LogStops old mid
     → Logs mid new (stopped child answer) → LogStops old new
 stops_more child answer old mid new (stops, each, grows) log =
     (stops ++ stopped child answer ∷ [], All-append IsStop stops (stopped child answer ∷ []) each (all_one IsStop (stopped child answer) tt), extends_more old mid new stops (stopped child answer ∷ []) grows log)
 
 -- two batches, one after the other
-pub runs_then : (task : Task) (head : Head) (a b : List Entry) (old mid new : Option (List Event)) → Runs task head [] a old mid
+pub runs_then : (task : Task) (head : Head) (a b : List Entry) (old mid new : Option (List Event))
+    → Runs task head [] a old mid
     → Runs task head a b mid new → Runs task head [] b old new
 runs_then task head a b old mid new first second = record {
   more = first.more ++ second.more;
@@ -313,7 +337,8 @@ runs_then task head a b old mid new first second = record {
         let grown_here = grown ∙ ap (λ xs. xs ++ starts_before pools (asks_of first.more) (asks_of second.more) ++ fs) here in
         of (asks_of first.more) refl begins goes_here grown_here
       where
-        of : (n : ℕ) → asks_of first.more ≡ n → Follows task (workers_in head) (past ++ starts_before pools 0 n) [] first.more es
+        of : (n : ℕ) → asks_of first.more ≡ n
+            → Follows task (workers_in head) (past ++ starts_before pools 0 n) [] first.more es
             → Follows task (workers_in head) (past ++ starts_before pools 0 n ++ es ++ starts_before pools n (asks_of second.more)) first.more second.more fs
             → after ≡ past ++ starts_before pools 0 n ++ es ++ starts_before pools n (asks_of second.more) ++ fs
             → LogRuns task head [] (first.more ++ second.more) old (Some after)
@@ -333,18 +358,23 @@ runs_then task head a b old mid new first second = record {
 
 -- ---- with stops
 
-pub ran_of : (task : Task) (head : Head) (entries : List Entry) (old new : Option (List Event)) → Runs task head [] entries old new
+pub ran_of : (task : Task) (head : Head) (entries : List Entry) (old new : Option (List Event))
+    → Runs task head [] entries old new
     → LogRan task head entries old new
-ran_of task head entries old new runs = by new (subst (λ es. LogRuns task head [] es old new) (sym runs.pushed) runs.log)
+ran_of task head entries old new runs =
+    by new (subst (λ es. LogRuns task head [] es old new) (sym runs.pushed) runs.log)
   where
-    by : (log : Option (List Event)) → LogRuns task head [] entries old log → LogRan task head entries old log
+    by : (log : Option (List Event)) → LogRuns task head [] entries old log
+        → LogRan task head entries old log
     by None l = tt
     by (Some after) (past, events, was, came, follows) = (past, events, [], was, came ∙ sym (append-nil (past ++ starts_before head.pools 0 (asks_of entries) ++ events)), follows, λ k d below. absurd (omega (arith, below)))
 
-pub ran_stopped : (task : Task) (head : Head) (entries : List Entry) (old mid new : Option (List Event)) → LogRan task head entries old mid
+pub ran_stopped : (task : Task) (head : Head) (entries : List Entry) (old mid new : Option (List Event))
+    → LogRan task head entries old mid
     → LogStops mid new → LogRan task head entries old new
 ran_stopped task head entries old mid None ran stops = tt
-ran_stopped task head entries old None (Some after) ran (more, each, (before, is, grown)) = absurd (cc)
+ran_stopped task head entries old None (Some after) ran (more, each, (before, is, grown)) =
+    absurd (cc)
 ran_stopped task head entries old (Some now) (Some after) (past, events, stops, was, came, follows, all) (more, each, (before, is, grown)) =
     let same : now ≡ before = cc in (
       past,

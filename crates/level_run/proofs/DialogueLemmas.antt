@@ -26,12 +26,14 @@ use Rattle.level_run.specs.Talking.{IsTalk, Talks}
 
 -- ---- what is told
 
-pub mapped : {A B : Type 0} (f : A → B) (P : A → Type 0) (Q : B → Type 0) (o : Option A) → ((x : A) → P x → Q (f x)) → IfSome o P
+pub mapped : {A B : Type 0} (f : A → B) (P : A → Type 0) (Q : B → Type 0) (o : Option A)
+    → ((x : A) → P x → Q (f x)) → IfSome o P
     → IfSome (option_map f o) Q
 mapped f P Q None step p = tt
 mapped f P Q (Some x) step p = step x p
 
-pub told_map : {A : Type 0} (P Q : A → Type 0) (o : Option A) → ((x : A) → P x → Q x) → IfSome o P → IfSome o Q
+pub told_map : {A : Type 0} (P Q : A → Type 0) (o : Option A) → ((x : A) → P x → Q x) → IfSome o P
+    → IfSome o Q
 told_map P Q None step p = tt
 told_map P Q (Some x) step p = step x p
 
@@ -53,7 +55,8 @@ is_same a b = by (a == b) refl
 
 -- ---- requests
 
-own_bytes : (r : Request) (child : ℕ) → r.child ≡ child → bytes_to child (r ∷ []) ≡ text_of_request r
+own_bytes : (r : Request) (child : ℕ) → r.child ≡ child
+    → bytes_to child (r ∷ []) ≡ text_of_request r
 own_bytes r child own =
     append-nil (cond (is_to child r) (text_of_request r) []) ∙ ap (λ b. cond b (text_of_request r) []) (eq-eqb r.child child own)
 
@@ -68,15 +71,19 @@ other_bytes : (r : Request) (child : ℕ) → r.child ≢ child → bytes_to chi
 other_bytes r child other =
     append-nil (cond (is_to child r) (text_of_request r) []) ∙ ap (λ b. cond b (text_of_request r) []) (not_to r child other)
 
-pub bytes_more : (child : ℕ) (rs more : List Request) → bytes_to child (rs ++ more) ≡ bytes_to child rs ++ bytes_to child more
-bytes_more child rs more = flat_map-append (λ (r : Request). cond (is_to child r) (text_of_request r) []) rs more
+pub bytes_more : (child : ℕ) (rs more : List Request)
+    → bytes_to child (rs ++ more) ≡ bytes_to child rs ++ bytes_to child more
+bytes_more child rs more =
+    flat_map-append (λ (r : Request). cond (is_to child r) (text_of_request r) []) rs more
 
-pub count_own : (rs : List Request) (r : Request) (child : ℕ) → r.child ≡ child → count_to child (rs ++ r ∷ []) ≡ count_to child rs + 1
+pub count_own : (rs : List Request) (r : Request) (child : ℕ) → r.child ≡ child
+    → count_to child (rs ++ r ∷ []) ≡ count_to child rs + 1
 count_own rs r child own =
     count_joined (is_to child) rs (r ∷ [])
     ∙ ap (λ n. count_to child rs + n) (count_one (is_to child) r ∙ ap (λ b. cond b 1 0) (eq-eqb r.child child own))
 
-count_other : (rs : List Request) (r : Request) (child : ℕ) → r.child ≢ child → count_to child (rs ++ r ∷ []) ≡ count_to child rs
+count_other : (rs : List Request) (r : Request) (child : ℕ) → r.child ≢ child
+    → count_to child (rs ++ r ∷ []) ≡ count_to child rs
 count_other rs r child other =
     let none : cond {A = ℕ} (is_to child r) 1 0 ≡ 0 = ap (λ b. cond {A = ℕ} b 1 0) (not_to r child other) in
     omega (arith, count_joined (is_to child) rs (r ∷ []), count_one (is_to child) r, none)
@@ -99,9 +106,11 @@ module _ (task : Task) (version : ℕ) (rs : List Request) (replies : List Entry
 
     many_grown : (lines : List (List ℕ)) → length lines ≡ count_to child (take (length replies) rs)
         → length lines ≡ count_to child (take (length replies) (rs ++ r ∷ []))
-    many_grown lines many = many ∙ sym (ap (count_to child) (take-append-le (length replies) rs (r ∷ []) few))
+    many_grown lines many =
+        many ∙ sym (ap (count_to child) (take-append-le (length replies) rs (r ∷ []) few))
 
-    talk_sent : (kept : List ℕ) (talk : Talk) → r.child ≡ child → IsTalk task version rs replies child kept talk
+    talk_sent : (kept : List ℕ) (talk : Talk) → r.child ≡ child
+        → IsTalk task version rs replies child kept talk
         → IsTalk task version (rs ++ r ∷ []) replies child kept (wrote_more (text_of_request r) talk)
     talk_sent kept talk own t = record {
       written =
@@ -113,7 +122,8 @@ module _ (task : Task) (version : ℕ) (rs : List Request) (replies : List Entry
       said = said_grown t.taken t.said;
     }
 
-    talk_unsent : (kept : List ℕ) (talk : Talk) → r.child ≢ child → IsTalk task version rs replies child kept talk
+    talk_unsent : (kept : List ℕ) (talk : Talk) → r.child ≢ child
+        → IsTalk task version rs replies child kept talk
         → IsTalk task version (rs ++ r ∷ []) replies child kept talk
     talk_unsent kept talk other t = record {
       written =
@@ -154,7 +164,8 @@ module _ (task : Task) (version : ℕ) (rs : List Request) (replies : List Entry
                 let same : q ≡ r = same_some (slice_get rs k) q r at (ap (slice_get rs) here.0 ∙ next) in
                 (line, get_pushed t.taken line (count_to child (take k rs)) (ap (λ n. count_to child (take n rs)) here.0 ∙ sym t.many), subst (λ (w : Request). entry_of w.number (reply_of line (wanted_by task version w)) ≡ Some x) (sym same) (says ∙ ap Some (sym here.1)))
 
-    talk_unheard : (kept : List ℕ) (talk : Talk) → r.child ≢ child → IsTalk task version rs replies child kept talk
+    talk_unheard : (kept : List ℕ) (talk : Talk) → r.child ≢ child
+        → IsTalk task version rs replies child kept talk
         → IsTalk task version rs (replies ++ e ∷ []) child kept talk
     talk_unheard kept talk other t = record {
       written = t.written;
@@ -201,7 +212,8 @@ module _ (task : Task) (version : ℕ) (rs : List Request) (replies : List Entry
   talk_bad kept talk r why (inl (line, first, is)) t =
       inl (line, ap (λ ls. slice_get ls (count_to child (take (length replies) rs))) (all_lines kept talk t ∙ ap (λ ls. t.taken ++ ls) first) ∙ seam t.taken line (lines_of (after_first is_feed kept)) (count_to child (take (length replies) rs)) t.many, is)
     where
-      seam : {A : Type 0} (xs : List A) (x : A) (ys : List A) (n : ℕ) → length xs ≡ n → slice_get (xs ++ x ∷ ys) n ≡ Some x
+      seam : {A : Type 0} (xs : List A) (x : A) (ys : List A) (n : ℕ) → length xs ≡ n
+          → slice_get (xs ++ x ∷ ys) n ≡ Some x
       seam [] x ys n e = ap (slice_get (x ∷ ys)) (sym e)
       seam (y ∷ zs) x ys zero e = absurd (omega (arith, e))
       seam (y ∷ zs) x ys (suc n) e = seam zs x ys n (omega (arith, e))
@@ -230,13 +242,15 @@ module _ (task : Task) (version : ℕ) (pools : List Workers) (rs : List Request
           subst (λ o. IfSome o (IsTalk task version (rs ++ r ∷ []) replies child (kept child))) (sym (w.others child other))
           (told_map _ _ (old child) (λ talk. talk_unsent task version rs replies child r t.few (kept child) talk (λ e. other (sym e))) (t.each child is))
 
-  pub talks_heard : (kept left : ℕ → List ℕ) (r : Request) (e : Entry) (more line : List ℕ) → slice_get rs (length replies) ≡ Some r
+  pub talks_heard : (kept left : ℕ → List ℕ) (r : Request) (e : Entry) (more line : List ℕ)
+      → slice_get rs (length replies) ≡ Some r
       → Hears r.child more old new → lines_of (kept r.child ++ more) ≡ line ∷ lines_of (after_first is_feed (kept r.child ++ more))
       → entry_of r.number (reply_of line (wanted_by task version r)) ≡ Some e → left r.child ≡ after_first is_feed (kept r.child ++ more)
       → ((k : ℕ) → k ≢ r.child → left k ≡ kept k) → Talks task version pools rs replies kept old
       → Talks task version pools rs (replies ++ e ∷ []) left new
   talks_heard kept left r e more line next h first says here others t = record {
-    few = omega (arith, slice_get_within rs (length replies) r next, length-append replies (e ∷ []));
+    few =
+        omega (arith, slice_get_within rs (length replies) r next, length-append replies (e ∷ []));
     each = λ child is. by child is (is_same child r.child);
   }
     where
@@ -256,9 +270,11 @@ abbrev pub with_more : (ℕ → List ℕ) → ℕ → List ℕ → ℕ → List 
 with_more kept child more k = cond (k == child) (kept k ++ more) (kept k)
 
 module _ (task : Task) (version : ℕ) (pools : List Workers) (rs : List Request) (replies : List Entry) (old new : ℕ → Option Talk) where
-  pub talks_more : (kept : ℕ → List ℕ) (heard : ℕ) (more : List ℕ) → Hears heard more old new → Talks task version pools rs replies kept old
+  pub talks_more : (kept : ℕ → List ℕ) (heard : ℕ) (more : List ℕ) → Hears heard more old new
+      → Talks task version pools rs replies kept old
       → Talks task version pools rs replies (with_more kept heard more) new
-  talks_more kept heard more h t = record { few = t.few; each = λ child is. by child is (child == heard) refl }
+  talks_more kept heard more h t =
+      record { few = t.few; each = λ child is. by child is (child == heard) refl }
     where
       by : (child : ℕ) → IsOneOf pools child → (b : Bool) → (child == heard) ≡ b
           → IfSome (new child) (IsTalk task version rs replies child (with_more kept heard more child))
@@ -311,7 +327,9 @@ broken_one task version pools entries e r n kept old new legal grown w t = recor
 }
   where
     further : further_requests task pools entries (e ∷ []) ≡ r ∷ []
-    further = ap (drop (length (requests_of task pools entries))) grown ∙ drop_front (requests_of task pools entries) (r ∷ [])
+    further =
+        ap (drop (length (requests_of task pools entries))) grown
+        ∙ drop_front (requests_of task pools entries) (r ∷ [])
 
     nothing : (m : ℕ) → take m (let none : List ℕ = [] in none) ≡ []
     nothing zero = refl

@@ -27,15 +27,18 @@ module _ (task : Task) (pools : List Workers) where
   requests_join round (entry.Ask number turn call ∷ xs) ys = ap (λ rs. record { child = child_for pools round (stream_of task call); number = number; turn = turn; call = call } ∷ rs) (requests_join (round ++ stream_of task call ∷ []) xs ys)
   requests_join round (e ∷ xs) ys = requests_join [] xs ys
 
-  pub requests_counted : (round : List ℕ) (xs : List Entry) → length (requests_after task pools round xs) ≡ asks_of xs
+  pub requests_counted : (round : List ℕ) (xs : List Entry)
+      → length (requests_after task pools round xs) ≡ asks_of xs
   requests_counted round [] = refl
   requests_counted round (entry.Ask number turn call ∷ xs) = omega (arith, requests_counted (round ++ stream_of task call ∷ []) xs, count_joined is_ask (entry.Ask number turn call ∷ []) xs, count_one is_ask (entry.Ask number turn call))
-  requests_counted round (e ∷ xs) = omega (arith, requests_counted [] xs, count_joined is_ask (e ∷ []) xs, count_one is_ask e)
+  requests_counted round (e ∷ xs) =
+      omega (arith, requests_counted [] xs, count_joined is_ask (e ∷ []) xs, count_one is_ask e)
 
 pub last_join : (task : Task) (round : List ℕ) (xs ys : List Entry)
     → last_round task round (xs ++ ys) ≡ last_round task (last_round task round xs) ys
 last_join task round [] ys = refl
-last_join task round (entry.Ask number turn call ∷ xs) ys = last_join task (round ++ stream_of task call ∷ []) xs ys
+last_join task round (entry.Ask number turn call ∷ xs) ys =
+    last_join task (round ++ stream_of task call ∷ []) xs ys
 last_join task round (e ∷ xs) ys = last_join task [] xs ys
 
 -- ---- lists of requests alone, and of answers alone
@@ -46,7 +49,8 @@ AreAsks es = (k : ℕ) (e : Entry) → slice_get es k ≡ Some e → is_ask e �
 abbrev pub AreReplies : List Entry → Type 0
 AreReplies es = (k : ℕ) (e : Entry) → slice_get es k ≡ Some e → is_answer e ≡ true
 
-pub asks_are : (task : Task) (names : List (List ℕ)) (n : ℕ) (dues : List Due) → AreAsks (asks_from task names n dues)
+pub asks_are : (task : Task) (names : List (List ℕ)) (n : ℕ) (dues : List Due)
+    → AreAsks (asks_from task names n dues)
 asks_are task names n [] k e at = absurd (cc)
 asks_are task names n (d ∷ ds) zero e at =
     let same : entry.Ask n d.turn (call_of_instance task names d.instance) ≡ e = cc in ap is_ask (sym same)
@@ -61,27 +65,33 @@ module _ (task : Task) (pools : List Workers) where
   requests_front round (entry.Ask number turn call ∷ es) (suc n) asks = ap (λ rs. record { child = child_for pools round (stream_of task call); number = number; turn = turn; call = call } ∷ rs) (requests_front (round ++ stream_of task call ∷ []) es n (λ k e at. asks (suc k) e at))
   requests_front round (e ∷ es) (suc n) asks = absurd (let bad = asks 0 e refl in cc)
 
-  pub requests_long : (round : List ℕ) (es : List Entry) → AreAsks es → length (requests_after task pools round es) ≡ length es
+  pub requests_long : (round : List ℕ) (es : List Entry) → AreAsks es
+      → length (requests_after task pools round es) ≡ length es
   requests_long round [] asks = refl
   requests_long round (entry.Ask number turn call ∷ es) asks =
       ap suc (requests_long (round ++ stream_of task call ∷ []) es (λ k e at. asks (suc k) e at))
   requests_long round (e ∷ es) asks = absurd (let bad = asks 0 e refl in cc)
 
   -- answers are no requests
-  pub no_requests : (round : List ℕ) (es : List Entry) → AreReplies es → requests_after task pools round es ≡ []
+  pub no_requests : (round : List ℕ) (es : List Entry) → AreReplies es
+      → requests_after task pools round es ≡ []
   no_requests round [] replies = refl
-  no_requests round (entry.Ask number turn call ∷ es) replies = absurd (let bad = replies 0 (entry.Ask number turn call) refl in cc)
+  no_requests round (entry.Ask number turn call ∷ es) replies =
+      absurd (let bad = replies 0 (entry.Ask number turn call) refl in cc)
   no_requests round (e ∷ es) replies = no_requests [] es (λ k x at. replies (suc k) x at)
 
 -- behind answers no request stands
-pub closed_by : (task : Task) (round : List ℕ) (es : List Entry) → AreReplies es → 0 < length es → last_round task round es ≡ []
+pub closed_by : (task : Task) (round : List ℕ) (es : List Entry) → AreReplies es → 0 < length es
+    → last_round task round es ≡ []
 closed_by task round [] replies some = absurd (omega (arith, some))
-closed_by task round (entry.Ask number turn call ∷ es) replies some = absurd (let bad = replies 0 (entry.Ask number turn call) refl in cc)
+closed_by task round (entry.Ask number turn call ∷ es) replies some =
+    absurd (let bad = replies 0 (entry.Ask number turn call) refl in cc)
 closed_by task round (e ∷ es) replies some = still es (λ k x at. replies (suc k) x at)
   where
     still : (xs : List Entry) → AreReplies xs → last_round task [] xs ≡ []
     still [] rs = refl
-    still (entry.Ask number turn call ∷ xs) rs = absurd (let bad = rs 0 (entry.Ask number turn call) refl in cc)
+    still (entry.Ask number turn call ∷ xs) rs =
+        absurd (let bad = rs 0 (entry.Ask number turn call) refl in cc)
     still (x ∷ xs) rs = still xs (λ k y at. rs (suc k) y at)
 
 pub no_replies : (es : List Entry) → AreAsks es → replies_of es ≡ []
@@ -100,7 +110,8 @@ replies_join xs ys = filter-append is_answer xs ys
 -- ---- the slots of a round
 
 -- the stream of an instance as it is shown
-pub stream_shown : (task : Task) (names : List (List ℕ)) (i : Instance) → IsFit task → i.stream < length task.streams
+pub stream_shown : (task : Task) (names : List (List ℕ)) (i : Instance) → IsFit task
+    → i.stream < length task.streams
     → stream_of task (call_of_instance task names i) ≡ i.stream
 stream_shown task names i fit below =
     let bare : Instance = record { stream = i.stream; inputs = [] } in

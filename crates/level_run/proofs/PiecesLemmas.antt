@@ -17,14 +17,17 @@ use Rattle.level_run.specs.Pieces.{CutOff, Prints}
 use Rattle.level_run.specs.declared.fault.RunFault.{RunFault}
 use Rattle.level_run.specs.declared.fault.RunFault.TheVariants.{Write}
 
-cut_more : (old new : Option (List ℕ)) (xs ys : List ℕ) → CutOff old new xs → CutOff old new (xs ++ ys)
+cut_more : (old new : Option (List ℕ)) (xs ys : List ℕ) → CutOff old new xs
+    → CutOff old new (xs ++ ys)
 cut_more old new xs ys c = record {
   count = c.count;
   less = omega (arith, c.less, length-append xs ys);
-  took = subst (Appends old new) (sym (take-append-le c.count xs ys (omega (arith, c.less)))) c.took;
+  took =
+      subst (Appends old new) (sym (take-append-le c.count xs ys (omega (arith, c.less)))) c.took;
 }
 
-cut_then : (old mid new : Option (List ℕ)) (xs ys : List ℕ) → Appends old mid xs → CutOff mid new ys → CutOff old new (xs ++ ys)
+cut_then : (old mid new : Option (List ℕ)) (xs ys : List ℕ) → Appends old mid xs → CutOff mid new ys
+    → CutOff old new (xs ++ ys)
 cut_then old mid new xs ys first c = record {
   count = length xs + c.count;
   less = omega (arith, c.less, length-append xs ys);
@@ -32,7 +35,8 @@ cut_then old mid new xs ys first c = record {
 }
 
 -- a piece failed, behind which more was to come
-pub prints_cut : {T : Type 0} (r : Result T RunFault) (fault : RunFault) (old new : Option (List ℕ)) (xs ys all : List ℕ) → all ≡ xs ++ ys
+pub prints_cut : {T : Type 0} (r : Result T RunFault) (fault : RunFault) (old new : Option (List ℕ)) (xs ys all : List ℕ)
+    → all ≡ xs ++ ys
     → IsErrAnd r (λ y. y ≡ fault) → (fault ≡ Write) × CutOff old new xs → Prints r old new all
 prints_cut r fault old new xs ys all whole is (why, cut) =
     let p = err_from_is_err_and r is in
@@ -45,32 +49,38 @@ prints_later r fault old mid new xs ys zs all whole is first (why, cut) =
     prints_cut r fault old new (xs ++ ys) zs all whole is (why, cut_then old mid new xs ys first cut)
 
 -- pieces were written, and then the last
-pub prints_last : {T : Type 0} (r : Result T RunFault) (old mid new : Option (List ℕ)) (xs ys all : List ℕ) → all ≡ xs ++ ys
+pub prints_last : {T : Type 0} (r : Result T RunFault) (old mid new : Option (List ℕ)) (xs ys all : List ℕ)
+    → all ≡ xs ++ ys
     → Appends old mid xs → Prints r mid new ys → Prints r old new all
-prints_last (Ok x) old mid new xs ys all whole first rest = subst (Appends old new) (sym whole) (appends_then old mid new xs ys first rest)
+prints_last (Ok x) old mid new xs ys all whole first rest =
+    subst (Appends old new) (sym whole) (appends_then old mid new xs ys first rest)
 prints_last (Err fault) old mid new xs ys all whole first (why, cut) =
     (why, subst (CutOff old new) (sym whole) (cut_then old mid new xs ys first cut))
 
 -- what is printed up to a member, that member, and the others
-pub around : {X A : Type 0} (f : X → List A) (xs : List X) (i : ℕ) (x : X) → i < length xs → x ≡ get_or xs i x
+pub around : {X A : Type 0} (f : X → List A) (xs : List X) (i : ℕ) (x : X) → i < length xs
+    → x ≡ get_or xs i x
     → flat_map f xs ≡ (flat_map f (take i xs) ++ f x) ++ flat_map f (drop (i + 1) xs)
 around f xs i x lt is =
     ap (flat_map f) (sym (take-append-drop (i + 1) xs)) ∙ flat_map-append f (take (i + 1) xs) (drop (i + 1) xs)
     ∙ ap (λ t. t ++ flat_map f (drop (i + 1) xs)) (flat_map_next f xs i x lt is)
 
-pub lines_around : {X B A : Type 0} (f : B → List A) (g : X → B) (xs : List X) (i : ℕ) (x : X) → i < length xs → x ≡ get_or xs i x
+pub lines_around : {X B A : Type 0} (f : B → List A) (g : X → B) (xs : List X) (i : ℕ) (x : X)
+    → i < length xs → x ≡ get_or xs i x
     → flat_map f (map g xs) ≡ (flat_map f (map g (take i xs)) ++ f (g x)) ++ flat_map f (map g (drop (i + 1) xs))
 lines_around f g xs i x lt is =
     flat_map-map f g xs ∙ around (λ y. f (g y)) xs i x lt is
     ∙ (λ k. (sym (flat_map-map f g (take i xs)) k ++ f (g x)) ++ sym (flat_map-map f g (drop (i + 1) xs)) k)
 
 -- what was printed, in the words of clauses of their own
-pub printed_all : {T : Type 0} (r : Result T RunFault) (old new : Option (List ℕ)) (bytes : List ℕ) → Prints r old new bytes
+pub printed_all : {T : Type 0} (r : Result T RunFault) (old new : Option (List ℕ)) (bytes : List ℕ)
+    → Prints r old new bytes
     → OnOk r (Appends old new bytes)
 printed_all (Ok x) old new bytes p = p
 printed_all (Err fault) old new bytes p = tt
 
-pub printed_part : {T : Type 0} (r : Result T RunFault) (old new : Option (List ℕ)) (bytes : List ℕ) → Prints r old new bytes
+pub printed_part : {T : Type 0} (r : Result T RunFault) (old new : Option (List ℕ)) (bytes : List ℕ)
+    → Prints r old new bytes
     → IfErr r (λ fault. (fault ≡ Write) × CutOff old new bytes)
 printed_part (Ok x) old new bytes p = tt
 printed_part (Err fault) old new bytes p = p
@@ -84,7 +94,8 @@ pub record IsBehind (old new : Option (List ℕ)) (left all : List ℕ) : Type 0
 pub behind_none : (old : Option (List ℕ)) (all : List ℕ) → IsBehind old old all all
 behind_none old all = record { bytes = []; whole = refl; took = appends_none old }
 
-pub behind_next : (old mid new : Option (List ℕ)) (piece left rest all : List ℕ) → left ≡ piece ++ rest → Appends mid new piece
+pub behind_next : (old mid new : Option (List ℕ)) (piece left rest all : List ℕ)
+    → left ≡ piece ++ rest → Appends mid new piece
     → IsBehind old mid left all → IsBehind old new rest all
 behind_next old mid new piece left rest all is next b = record {
   bytes = b.bytes ++ piece;
@@ -98,9 +109,11 @@ pub behind_cut : {T : Type 0} (r : Result T RunFault) (fault : RunFault) (old mi
 behind_cut r fault old mid new piece left rest all is err b cut =
     prints_later r fault old mid new b.bytes piece rest all (b.whole ∙ ap (λ t. b.bytes ++ t) is ∙ sym (append_assoc b.bytes piece rest)) err b.took cut
 
-pub behind_last : {T : Type 0} (r : Result T RunFault) (old mid new : Option (List ℕ)) (left all : List ℕ) → IsBehind old mid left all
+pub behind_last : {T : Type 0} (r : Result T RunFault) (old mid new : Option (List ℕ)) (left all : List ℕ)
+    → IsBehind old mid left all
     → Prints r mid new left → Prints r old new all
-behind_last r old mid new left all b last = prints_last r old mid new b.bytes left all b.whole b.took last
+behind_last r old mid new left all b last =
+    prints_last r old mid new b.bytes left all b.whole b.took last
 
 -- ---- lines
 

@@ -15,13 +15,17 @@ use Rattle.level_run.specs.Turns.{EndsBatch, RunsLevel}
 use Rattle.level_run.specs.declared.ending.Batch.{Batch}
 use Rattle.level_run.specs.declared.ending.Batch.TheVariants.{CallsSpent}
 
-count_head : (e : Entry) (es : List Entry) → count_by is_level (e ∷ es) ≡ cond (is_level e) 1 0 + count_by is_level es
-count_head e es = count_joined is_level (e ∷ []) es ∙ ap (λ n. n + count_by is_level es) (count_one is_level e)
+count_head : (e : Entry) (es : List Entry)
+    → count_by is_level (e ∷ es) ≡ cond (is_level e) 1 0 + count_by is_level es
+count_head e es =
+    count_joined is_level (e ∷ []) es ∙ ap (λ n. n + count_by is_level es) (count_one is_level e)
 
-none_more : (e : Entry) (es : List Entry) → is_level e ≡ false → count_by is_level es ≡ 0 → count_by is_level (e ∷ es) ≡ 0
+none_more : (e : Entry) (es : List Entry) → is_level e ≡ false → count_by is_level es ≡ 0
+    → count_by is_level (e ∷ es) ≡ 0
 none_more e es other none = count_head e es ∙ (λ i. cond (other i) 1 0 + none i)
 
-none_joined : (xs ys : List Entry) → count_by is_level xs ≡ 0 → count_by is_level ys ≡ 0 → count_by is_level (xs ++ ys) ≡ 0
+none_joined : (xs ys : List Entry) → count_by is_level xs ≡ 0 → count_by is_level ys ≡ 0
+    → count_by is_level (xs ++ ys) ≡ 0
 none_joined xs ys first second = count_joined is_level xs ys ∙ (λ i. first i + second i)
 
 -- no request is a level, and no answer is one
@@ -46,7 +50,8 @@ answers_none : (number n : ℕ) (es : List Entry) → AreAnswers number n es →
 answers_none number zero [] are = refl
 answers_none number zero (e ∷ es) are = absurd are
 answers_none number (suc n) [] are = absurd are
-answers_none number (suc n) (e ∷ es) are = none_more e es (answer_is_none number e are.0) (answers_none (number + 1) n es are.1)
+answers_none number (suc n) (e ∷ es) are =
+    none_more e es (answer_is_none number e are.0) (answers_none (number + 1) n es are.1)
 
 -- no entry of a batch is a level
 rounds_none : (task : Task) (before : List Entry) (rounds : List (List Instance)) (entries : List Entry)
@@ -57,14 +62,16 @@ rounds_none task before (round ∷ rounds) entries (now, rest, is, (answers, sam
     ap (count_by is_level) is ∙ none_joined now rest first (rounds_none task (before ++ now) rounds rest run)
 
 -- a level is counted once
-pub level_counts : (head : Head) (task : Task) (before after : List Entry) (b : Batch) → RunsLevel head task before after b
+pub level_counts : (head : Head) (task : Task) (before after : List Entry) (b : Batch)
+    → RunsLevel head task before after b
     → count_by is_level after ≡ count_by is_level before + 1
 level_counts head task before after b (now, pushed, level) =
     let one = ap (count_by is_level) level.level.is ∙ count_head entry.Level level.level.rest ∙ ap (λ n. 1 + n) (rounds_none task _ level.level.batch.rounds level.level.rest level.level.batch.run) in
     ap (count_by is_level) pushed ∙ count_joined is_level before now ∙ ap (λ n. count_by is_level before + n) one
 
 -- where calls are wanting some were made
-pub spent_some : (task : Task) (entries : List Entry) (before after calls many : ℕ) (b : Batch) → b ≡ CallsSpent
+pub spent_some : (task : Task) (entries : List Entry) (before after calls many : ℕ) (b : Batch)
+    → b ≡ CallsSpent
     → EndsBatch task entries before after calls many b → 1 ≤ calls → after ≡ 0 → ⊥
 spent_some task entries before after calls many b is ends some none =
     let e = subst (EndsBatch task entries before after calls many) is ends in omega (arith, e.0, some, none)

@@ -38,7 +38,8 @@ module _ (task : Task) (head : Head) (spoken : ℕ → Option Talk) where
   talks_nil = broken_unasked task head.version (workers_in head) [] spoken refl legal_nil
 
   -- what was said is the dialogue of the whole transcript
-  talks_whole : (entries : List Entry) → IsLegal head.version task entries → Dialogue task head.version (workers_in head) entries spoken
+  talks_whole : (entries : List Entry) → IsLegal head.version task entries
+      → Dialogue task head.version (workers_in head) entries spoken
       → BrokenOff task head.version (workers_in head) entries spoken
   talks_whole entries legal talks = record {
     next = [];
@@ -53,16 +54,19 @@ module _ (task : Task) (head : Head) (spoken : ℕ → Option Talk) where
   only_head = sym (append-nil (text_of_head task head))
 
   -- nothing was written, for want of memory
-  pub broken_before : (was now : Option (List Event)) (sink : Option (List ℕ)) (fault : RunFault) → LogStops was now → fault ≡ Memory
+  pub broken_before : (was now : Option (List Event)) (sink : Option (List ℕ)) (fault : RunFault)
+      → LogStops was now → fault ≡ Memory
       → IsBroken task head spoken was now sink sink fault
   broken_before was now sink fault stops is = subst (IsBroken task head spoken was now sink sink) (sym is) (record { text = []; form = inl (refl, refl, stops); told = appends_none sink })
 
   -- the head was to be written
-  pub broken_head : head.mode ≡ Incremental → (fault : RunFault) (log : Option (List Event)) (old new : Option (List ℕ))
+  pub broken_head : head.mode ≡ Incremental
+      → (fault : RunFault) (log : Option (List Event)) (old new : Option (List ℕ))
       → Misses fault old new (text_of_head task head) → IsBroken task head spoken log log old new fault
   broken_head mode Generator log old new misses = absurd misses
   broken_head mode (Answer number why) log old new misses = absurd misses
-  broken_head mode Memory log old new misses = record { text = []; form = inl (refl, refl, stops_none log); told = misses }
+  broken_head mode Memory log old new misses =
+      record { text = []; form = inl (refl, refl, stops_none log); told = misses }
   broken_head mode Write log old new misses = record {
     text = text_of_head task head;
     form = inr (inl (record { entries = []; front = front_nil mode; blamed = tt; talks = talks_nil; calls = broken_of task head [] Write log log (quiet_breaks task head [] Write log refl [] (inl refl)); needed = inl (stops_none log); is = only_head }));
@@ -70,13 +74,15 @@ module _ (task : Task) (head : Head) (spoken : ℕ → Option Talk) where
   }
 
   -- the head was written, and then no memory was there
-  pub broken_behind : head.mode ≡ Incremental → (fault : RunFault) (log : Option (List Event)) (old new : Option (List ℕ))
+  pub broken_behind : head.mode ≡ Incremental
+      → (fault : RunFault) (log : Option (List Event)) (old new : Option (List ℕ))
       → Appends old new (text_of_head task head) → fault ≡ Memory → IsBroken task head spoken log log old new fault
-  broken_behind mode fault log old new told is = subst (IsBroken task head spoken log log old new) (sym is) (record {
-    text = text_of_head task head;
-    form = inr (inl (record { entries = []; front = front_nil mode; blamed = tt; talks = talks_nil; calls = broken_of task head [] Memory log log (quiet_breaks task head [] Memory log (inl (refl, λ n. refl)) [] (inl refl)); needed = inl (stops_none log); is = only_head }));
-    told = told;
-  })
+  broken_behind mode fault log old new told is =
+      subst (IsBroken task head spoken log log old new) (sym is) (record {
+        text = text_of_head task head;
+        form = inr (inl (record { entries = []; front = front_nil mode; blamed = tt; talks = talks_nil; calls = broken_of task head [] Memory log log (quiet_breaks task head [] Memory log (inl (refl, λ n. refl)) [] (inl refl)); needed = inl (stops_none log); is = only_head }));
+        told = told;
+      })
 
   -- the head was written, and the levels stopped
   pub broken_levels : (fault : RunFault) (was now : Option (List Event)) (old mid new : Option (List ℕ))
@@ -90,7 +96,8 @@ module _ (task : Task) (head : Head) (spoken : ℕ → Option Talk) where
   }
 
   -- the lines of the head and of the entries were written
-  pub told_so_far : (entries : List Entry) (old mid new : Option (List ℕ)) → Appends old mid (text_of_head task head)
+  pub told_so_far : (entries : List Entry) (old mid new : Option (List ℕ))
+      → Appends old mid (text_of_head task head)
       → Goes [] entries mid new → Appends old new (text_so_far task head entries)
   told_so_far entries old mid new first goes =
       subst (λ es. Appends old new (text_so_far task head es)) (sym goes.pushed) (appends_then old mid new _ _ first goes.told)
@@ -101,37 +108,42 @@ module _ (task : Task) (head : Head) (spoken : ℕ → Option Talk) where
       → IsRun task head entries o → Dialogue task head.version (workers_in head) entries spoken → Runs task head [] entries was now
       → (now ≡ was) ⊎ HasLevel entries → HasNoneOpen entries → Appends old mid (text_so_far task head entries)
       → Misses fault mid new (text_of_end head.version o) → IsBroken task head spoken was now old new fault
-  broken_end mode entries o Generator was now old mid new run talks runs needed closed first misses = absurd misses
-  broken_end mode entries o (Answer number why) was now old mid new run talks runs needed closed first misses = absurd misses
-  broken_end mode entries o Memory was now old mid new run talks runs needed closed first misses = record {
-    text = text_so_far task head entries;
-    form = inr (inl (record { entries = entries; front = run_stands head task entries run.stage mode run.legal run.turns run.needed; blamed = tt; talks = talks_whole entries run.legal talks; calls = ended; needed = needed_stops entries was now needed; is = refl }));
-    told = subst (Appends old new) (append-nil (text_so_far task head entries)) (appends_then old mid new (text_so_far task head entries) [] first misses);
-  }
+  broken_end mode entries o Generator was now old mid new run talks runs needed closed first misses =
+      absurd misses
+  broken_end mode entries o (Answer number why) was now old mid new run talks runs needed closed first misses =
+      absurd misses
+  broken_end mode entries o Memory was now old mid new run talks runs needed closed first misses =
+      record {
+        text = text_so_far task head entries;
+        form = inr (inl (record { entries = entries; front = run_stands head task entries run.stage mode run.legal run.turns run.needed; blamed = tt; talks = talks_whole entries run.legal talks; calls = ended; needed = needed_stops entries was now needed; is = refl }));
+        told = subst (Appends old new) (append-nil (text_so_far task head entries)) (appends_then old mid new (text_so_far task head entries) [] first misses);
+      }
     where
       ended : LogBroken task head entries Memory was now
       ended = broken_of task head entries Memory was now (subst (RunBreaks task head [] Memory was now) (append-nil entries)
           (levels_broken task head entries entries Memory was now now runs refl [] (quiet_breaks task head entries Memory now (inl (refl, closed)) [] (inl refl))))
-  broken_end mode entries o Write was now old mid new run talks runs needed closed first misses = record {
-    text = whole_text task head entries o;
-    form = inr (inr (refl, record { entries = entries; outcome = o; run = run; talks = talks; calls = ran_of task head entries was now runs; is = refl }));
-    told = stops_then Write old mid new (text_so_far task head entries) (text_of_end head.version o) first misses;
-  }
+  broken_end mode entries o Write was now old mid new run talks runs needed closed first misses =
+      record {
+        text = whole_text task head entries o;
+        form = inr (inr (refl, record { entries = entries; outcome = o; run = run; talks = talks; calls = ran_of task head entries was now runs; is = refl }));
+        told = stops_then Write old mid new (text_so_far task head entries) (text_of_end head.version o) first misses;
+      }
 
   pub reported : (entries : List Entry) (o : Outcome) (levels asks : ℕ) (was now : Option (List Event)) (old mid new : Option (List ℕ))
       → IsRun task head entries o → Dialogue task head.version (workers_in head) entries spoken → LogRan task head entries was now
       → levels ≡ count_by is_level entries → asks ≡ asks_of entries → Appends old mid (text_so_far task head entries)
       → Appends mid new (text_of_end head.version o)
       → IsReported task head spoken was now old new (record { outcome = o; levels = levels; asks = asks })
-  reported entries o levels asks was now old mid new run talks calls of_levels of_asks first second = record {
-    entries = entries;
-    run = run;
-    talks = talks;
-    calls = calls;
-    told = appends_then old mid new (text_so_far task head entries) (text_of_end head.version o) first second;
-    levels = of_levels;
-    asks = of_asks;
-  }
+  reported entries o levels asks was now old mid new run talks calls of_levels of_asks first second =
+      record {
+        entries = entries;
+        run = run;
+        talks = talks;
+        calls = calls;
+        told = appends_then old mid new (text_so_far task head entries) (text_of_end head.version o) first second;
+        levels = of_levels;
+        asks = of_asks;
+      }
 
 -- what was said stays, and stops come to the log, so the report is still of it
 pub reported_behind : (task : Task) (head : Head) (spoken later : ℕ → Option Talk) (was now after : Option (List Event)) (old new : Option (List ℕ)) (ran : Ran)
@@ -153,7 +165,8 @@ pub broken_stopped : (task : Task) (head : Head) (spoken later : ℕ → Option 
     → IsBroken task head later was after old new fault
 broken_stopped task head spoken later was now after old new fault same stops b = record { text = b.text; form = subst (λ s. WasToWrite task head fault s was after b.text) (λ i. λ k. sym (same k) i) (of b.form); told = b.told }
   where
-    of : {text : List ℕ} → WasToWrite task head fault spoken was now text → WasToWrite task head fault spoken was after text
+    of : {text : List ℕ} → WasToWrite task head fault spoken was now text
+        → WasToWrite task head fault spoken was after text
     of (inl (is, none, before)) = inl (is, none, stops_then_stops was now after before stops)
     of (inr (inl p)) = inr (inl (record { entries = p.entries; front = p.front; blamed = p.blamed; talks = p.talks; calls = broken_more task head p.entries fault was now after p.calls stops; needed = needed_more p.entries was now after p.needed stops; is = p.is }))
     of (inr (inr (is, w))) = inr (inr (is, record { entries = w.entries; outcome = w.outcome; run = w.run; talks = w.talks; calls = ran_stopped task head w.entries was now after w.calls stops; is = w.is }))

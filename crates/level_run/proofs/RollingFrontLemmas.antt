@@ -33,13 +33,17 @@ use Rattle.level_run.specs.Turns.{IsFrontOfRun, IsSomeLevel, IsTurn, NeededTurn}
 -- ---- fronts
 
 -- nothing of it is there yet
-pub front_first : (before now : List Entry) (Whole : List Entry → Type 0) → Whole now → IsFront before Whole before
-front_first before now Whole w = record { part = []; rest = now; is = sym (append-nil before); whole = w }
+pub front_first : (before now : List Entry) (Whole : List Entry → Type 0) → Whole now
+    → IsFront before Whole before
+front_first before now Whole w =
+    record { part = []; rest = now; is = sym (append-nil before); whole = w }
 
 -- all of it is there
-pub front_whole : (before after now : List Entry) (Whole : List Entry → Type 0) → after ≡ before ++ now → Whole now
+pub front_whole : (before after now : List Entry) (Whole : List Entry → Type 0)
+    → after ≡ before ++ now → Whole now
     → IsFront before Whole after
-front_whole before after now Whole pushed w = record { part = now; rest = []; is = pushed; whole = subst Whole (sym (append-nil now)) w }
+front_whole before after now Whole pushed w =
+    record { part = now; rest = []; is = pushed; whole = subst Whole (sym (append-nil now)) w }
 
 -- ---- there is a round of any instances
 
@@ -53,9 +57,11 @@ ends_are number (suc n) = (eq-eqb number number refl, ends_are (number + 1) n)
 
 -- each request is answered `end`
 abbrev ended : Task → List Entry → List Instance → List Entry
-ended task before round = requests task before round ++ ends_from (asks_of before + 1) (length round)
+ended task before round =
+    requests task before round ++ ends_from (asks_of before + 1) (length round)
 
-pub round_exists : (task : Task) (before : List Entry) (round : List Instance) → (now : List Entry) × IsRound task before round now
+pub round_exists : (task : Task) (before : List Entry) (round : List Instance)
+    → (now : List Entry) × IsRound task before round now
 round_exists task before round =
     (ended task before round, (ends_from (asks_of before + 1) (length round), refl, ends_are (asks_of before + 1) (length round)))
 
@@ -76,14 +82,16 @@ batch_exists limits task before list work =
     let run = rounds_exist task before cut.0 in
     (run.0, record { rounds = cut.0; cut = cut.1; run = run.1 })
 
-pub all_work : (pools : List Pool) → ((k : ℕ) (p : Workers) → slice_get (map workers_of pools) k ≡ Some p → 1 ≤ p.workers)
+pub all_work : (pools : List Pool)
+    → ((k : ℕ) (p : Workers) → slice_get (map workers_of pools) k ≡ Some p → 1 ≤ p.workers)
     → All (λ (p : Share). 1 ≤ p.workers) (map share_of pools)
 all_work [] some = All-nil (λ (p : Share). 1 ≤ p.workers)
 all_work (p ∷ ps) some = All-cons (λ (q : Share). 1 ≤ q.workers) (share_of p) (map share_of ps) (some 0 (workers_of p) refl) (all_work ps (λ k q at. some (suc k) q at))
 
 -- ---- how many requests a round has
 
-round_asks : (task : Task) (before now : List Entry) (round : List Instance) → IsRound task before round now
+round_asks : (task : Task) (before now : List Entry) (round : List Instance)
+    → IsRound task before round now
     → asks_of (before ++ now) ≡ asks_of before + length round
 round_asks task before now round (answers, is, are) =
     asks_more before now ∙ ap (λ n. asks_of before + n)
@@ -105,7 +113,8 @@ so_far_front head task first list s dues count es of h n some work so f = record
     now = f.part ++ f.rest
 
     tail : (entries : List Entry) × IsBatch (limits_of head) task (s.entries ++ now) (instances_of (drop count dues)) entries
-    tail = batch_exists (limits_of head) task (s.entries ++ now) (instances_of (drop count dues)) work
+    tail =
+        batch_exists (limits_of head) task (s.entries ++ now) (instances_of (drop count dues)) work
 
     counted : asks_of (s.entries ++ now) ≡ asks_of s.entries + count
     counted = round_asks task s.entries now (instances_of (take count dues)) f.whole
@@ -117,7 +126,8 @@ so_far_front head task first list s dues count es of h n some work so f = record
 -- ---- levels
 
 module _ (head : Head) (task : Task) (before : List Entry) (asks : ℕ) (dues : List Due) (turn : IsTurn head task before asks dues) where
-  level_whole : (more : List Entry) → IsBatch (limits_of head) task (before ++ entry.Level ∷ []) (instances_of dues) more
+  level_whole : (more : List Entry)
+      → IsBatch (limits_of head) task (before ++ entry.Level ∷ []) (instances_of dues) more
       → IsSomeLevel head task before (entry.Level ∷ more)
   level_whole more batch = (
     is_cut (limits_of head) before (instances_of dues),
@@ -125,14 +135,17 @@ module _ (head : Head) (task : Task) (before : List Entry) (asks : ℕ) (dues : 
   )
 
   -- its line is there, or not yet
-  pub front_marked : (es : List Entry) → All (λ (p : Share). 1 ≤ p.workers) (map share_of head.pools)
+  pub front_marked : (es : List Entry)
+      → All (λ (p : Share). 1 ≤ p.workers) (map share_of head.pools)
       → (es ≡ before) ⊎ (es ≡ before ++ entry.Level ∷ []) → IsFront before (IsSomeLevel head task before) es
   front_marked es work at = by at
     where
       tail : (entries : List Entry) × IsBatch (limits_of head) task (before ++ entry.Level ∷ []) (instances_of dues) entries
-      tail = batch_exists (limits_of head) task (before ++ entry.Level ∷ []) (instances_of dues) work
+      tail =
+          batch_exists (limits_of head) task (before ++ entry.Level ∷ []) (instances_of dues) work
 
-      by : (es ≡ before) ⊎ (es ≡ before ++ entry.Level ∷ []) → IsFront before (IsSomeLevel head task before) es
+      by : (es ≡ before) ⊎ (es ≡ before ++ entry.Level ∷ [])
+          → IsFront before (IsSomeLevel head task before) es
       by (inl e) = subst (IsFront before (IsSomeLevel head task before)) (sym e) (front_first before (entry.Level ∷ tail.0) (IsSomeLevel head task before) (level_whole tail.0 tail.1))
       by (inr e) = record { part = entry.Level ∷ []; rest = tail.0; is = e; whole = level_whole tail.0 tail.1 }
 
@@ -149,7 +162,8 @@ module _ (head : Head) (task : Task) (before : List Entry) (asks : ℕ) (dues : 
   -- ---- runs
 
   -- a front of a level behind whole levels
-  pub run_inside : (es : List Entry) → head.mode ≡ Incremental → asks ≡ asks_of before → Standing head task before
+  pub run_inside : (es : List Entry) → head.mode ≡ Incremental → asks ≡ asks_of before
+      → Standing head task before
       → IsLegal head.version task es → IsFront before (IsSomeLevel head task before) es → IsFrontOfRun head task es
   run_inside es mode counted st legal f =
       let may = may_begin head task before asks dues counted turn in
@@ -164,7 +178,8 @@ module _ (head : Head) (task : Task) (before : List Entry) (asks : ℕ) (dues : 
       }
 
 -- whole levels
-pub run_between : (head : Head) (task : Task) (entries : List Entry) → head.mode ≡ Incremental → Standing head task entries
+pub run_between : (head : Head) (task : Task) (entries : List Entry) → head.mode ≡ Incremental
+    → Standing head task entries
     → IsLegal head.version task entries → IsFrontOfRun head task entries
 run_between head task entries mode st legal = record {
   stage = between;
@@ -177,7 +192,8 @@ run_between head task entries mode st legal = record {
 }
 
 -- the transcript of a run with an outcome
-pub run_stands : (head : Head) (task : Task) (entries : List Entry) (stage : Stage) → head.mode ≡ Incremental
+pub run_stands : (head : Head) (task : Task) (entries : List Entry) (stage : Stage)
+    → head.mode ≡ Incremental
     → IsLegal head.version task entries → AreTurnsOf Incremental (limits_of head) task entries stage
     → AreTurns (limits_of head) task (NeededTurn (limits_of head) task) tt [] entries stage → IsFrontOfRun head task entries
 run_stands head task entries stage mode legal turns needed = record {

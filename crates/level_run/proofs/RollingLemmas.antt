@@ -50,16 +50,20 @@ less_same k n e = ltb-true k n e
 -- ---- one slot is changed
 
 -- after the slot at a place is changed, the slot there is that, and the others are as they were
-pub changed_at : (slots : List Slot) (place : ℕ) (t : Slot) (f : Slot → Slot) → AreDistinct (children_of slots)
+pub changed_at : (slots : List Slot) (place : ℕ) (t : Slot) (f : Slot → Slot)
+    → AreDistinct (children_of slots)
     → slice_get slots place ≡ Some t → (k : ℕ) (u : Slot) → slice_get (map (at_child t.child f) slots) k ≡ Some u
     → ((k ≡ place) × (u ≡ f t)) ⊎ ((k ≡ place → ⊥) × (slice_get slots k ≡ Some u))
 changed_at slots place t f apart at k u changed =
     by (slice_get slots k) refl (sym (slice_get-map (at_child t.child f) slots k) ∙ changed)
   where
-    child_at : (j : ℕ) (s : Slot) → slice_get slots j ≡ Some s → slice_get (children_of slots) j ≡ Some s.child
-    child_at j s is = slice_get-map (λ (v : Slot). v.child) slots j ∙ ap (option_map (λ (v : Slot). v.child)) is
+    child_at : (j : ℕ) (s : Slot) → slice_get slots j ≡ Some s
+        → slice_get (children_of slots) j ≡ Some s.child
+    child_at j s is =
+        slice_get-map (λ (v : Slot). v.child) slots j ∙ ap (option_map (λ (v : Slot). v.child)) is
 
-    by_same : (s : Slot) (b : Bool) → is_slot_of t.child s ≡ b → slice_get slots k ≡ Some s → at_child t.child f s ≡ u
+    by_same : (s : Slot) (b : Bool) → is_slot_of t.child s ≡ b → slice_get slots k ≡ Some s
+        → at_child t.child f s ≡ u
         → ((k ≡ place) × (u ≡ f t)) ⊎ ((k ≡ place → ⊥) × (slice_get slots k ≡ Some u))
     by_same s true own is here =
         let here_too : k ≡ place = apart k place t.child (child_at k s is ∙ ap Some (eqb-true s.child t.child own)) (child_at place t at) in
@@ -78,7 +82,8 @@ changed_at slots place t f apart at k u changed =
     by : (o : Option Slot) → slice_get slots k ≡ o → option_map (at_child t.child f) o ≡ Some u
         → ((k ≡ place) × (u ≡ f t)) ⊎ ((k ≡ place → ⊥) × (slice_get slots k ≡ Some u))
     by None is e = absurd (cc)
-    by (Some s) is e = by_same s (is_slot_of t.child s) refl is (let same : at_child t.child f s ≡ u = cc in same)
+    by (Some s) is e =
+        by_same s (is_slot_of t.child s) refl is (let same : at_child t.child f s ≡ u = cc in same)
 
 less_more : (k place : ℕ) → (k ≡ place → ⊥) → nat_lt k place ≡ nat_lt k (place + 1)
 less_more k place other = by (nat_lt k place) refl
@@ -138,7 +143,8 @@ module _ (s : State) (running : ℕ → Bool) (place : ℕ) (r : IsRolling s run
   }
 
 -- the same children run
-pub rolling_same : (s : State) (running now : ℕ → Bool) (sent answered : ℕ) → ((k : ℕ) → now k ≡ running k)
+pub rolling_same : (s : State) (running now : ℕ → Bool) (sent answered : ℕ)
+    → ((k : ℕ) → now k ≡ running k)
     → IsRolling s running sent answered → IsRolling s now sent answered
 rolling_same s running now sent answered same r = record {
   working = r.working;
@@ -159,17 +165,20 @@ reply_good n (reply.number value) e = refl
 reply_good n reply.ends e = refl
 reply_good n (reply.bad why) e = absurd (cc)
 
-pub number_is : (slots : List Slot) (child : ℕ) (t : Slot) → slot_of slots child ≡ Some t → number_at slots child ≡ t.number
+pub number_is : (slots : List Slot) (child : ℕ) (t : Slot) → slot_of slots child ≡ Some t
+    → number_at slots child ≡ t.number
 number_is slots child t e = rw e refl
 
 -- what is printed at a place
-pub printed_there : (slots : List Slot) (k : ℕ) (t : Slot) (e : Entry) → slice_get slots k ≡ Some t → t.answer ≡ Some e
+pub printed_there : (slots : List Slot) (k : ℕ) (t : Slot) (e : Entry) → slice_get slots k ≡ Some t
+    → t.answer ≡ Some e
     → slice_get (finished slots) k ≡ Some e
 printed_there slots k t e at is =
     slice_get-map (λ (v : Slot). unwrap_or v.answer (entry.End v.number)) slots k
     ∙ ap (option_map (λ (v : Slot). unwrap_or v.answer (entry.End v.number))) at ∙ ap (λ o. Some (unwrap_or o (entry.End t.number))) is
 
-pub unprinted_there : (slots : List Slot) (k : ℕ) (t : Slot) → slice_get slots k ≡ Some t → t.answer ≡ None
+pub unprinted_there : (slots : List Slot) (k : ℕ) (t : Slot) → slice_get slots k ≡ Some t
+    → t.answer ≡ None
     → slice_get (finished slots) k ≡ Some (entry.End t.number)
 unprinted_there slots k t at is =
     slice_get-map (λ (v : Slot). unwrap_or v.answer (entry.End v.number)) slots k
@@ -187,7 +196,8 @@ module _ (s : State) (running : ℕ → Bool) (sent place : ℕ) (r : IsRolling 
     open_still = open_now;
   }
 
-  pub blamed_there : (version : ℕ) (task : Task) → IsLegal version task (s.entries ++ s.asks ++ finished s.slots)
+  pub blamed_there : (version : ℕ) (task : Task)
+      → IsLegal version task (s.entries ++ s.asks ++ finished s.slots)
       → is_open (s.entries ++ s.asks ++ take place (finished s.slots)) (number_at s.slots t.child) ≡ true
   blamed_there version task legal =
       ap (is_open (s.entries ++ s.asks ++ take place (finished s.slots))) (number_is s.slots t.child t (own_slot s.slots place t r.apart at))
@@ -233,10 +243,14 @@ module _ (s : State) (running : ℕ → Bool) (sent place : ℕ) (r : IsRolling 
         printed : Slot → Entry
         printed = λ (v : Slot). unwrap_or v.answer (entry.End v.number)
 
-        child_at : (j : ℕ) (u : Slot) → slice_get s.slots j ≡ Some u → slice_get (children_of s.slots) j ≡ Some u.child
-        child_at j u is = slice_get-map (λ (v : Slot). v.child) s.slots j ∙ ap (option_map (λ (v : Slot). v.child)) is
+        child_at : (j : ℕ) (u : Slot) → slice_get s.slots j ≡ Some u
+            → slice_get (children_of s.slots) j ≡ Some u.child
+        child_at j u is =
+            slice_get-map (λ (v : Slot). v.child) s.slots j
+            ∙ ap (option_map (λ (v : Slot). v.child)) is
 
-        elsewhere : (k : ℕ) (u : Slot) → slice_get (take place s.slots) k ≡ Some u → is_slot_of t.child u ≡ false
+        elsewhere : (k : ℕ) (u : Slot) → slice_get (take place s.slots) k ≡ Some u
+            → is_slot_of t.child u ≡ false
         elsewhere k u is = by (is_slot_of t.child u) refl
           where
             by : (b : Bool) → is_slot_of t.child u ≡ b → is_slot_of t.child u ≡ false
@@ -308,25 +322,31 @@ heard_more s running place child new kept left before after r within t at own ta
     }
 
 -- a child that was started has a place
-pub started_within : (started : List Bool) (child : ℕ) → unwrap_or (slice_get started child) false ≡ true → child < length started
+pub started_within : (started : List Bool) (child : ℕ)
+    → unwrap_or (slice_get started child) false ≡ true → child < length started
 started_within [] child e = absurd (cc)
 started_within (b ∷ bs) zero e = omega arith
 started_within (b ∷ bs) (suc child) e = omega (arith, started_within bs child e)
 
 -- ---- a round that is answered
 
-with_answer : (t : Slot) (ts : List Slot) (o : Option Entry) → t.answer ≡ o → is_none t.answer ≡ false
+with_answer : (t : Slot) (ts : List Slot) (o : Option Entry) → t.answer ≡ o
+    → is_none t.answer ≡ false
     → (all_answered ts ≡ true) × (finished ts ≡ answers_of ts) → (all_answered (t ∷ ts) ≡ true) × (finished (t ∷ ts) ≡ answers_of (t ∷ ts))
-with_answer t ts None is some rest = absurd (let bad : true ≡ false = sym (ap is_none is) ∙ some in cc)
+with_answer t ts None is some rest =
+    absurd (let bad : true ≡ false = sym (ap is_none is) ∙ some in cc)
 with_answer t ts (Some e) is some rest =
     (ap (λ o. not (is_none o) && all_answered ts) is ∙ rest.0, (λ i. unwrap_or (is i) (entry.End t.number) ∷ rest.1 i) ∙ ap (λ o. cons_option o (answers_of ts)) (sym is))
 
-all_by : (slots : List Slot) → ((k : ℕ) (t : Slot) → slice_get slots k ≡ Some t → is_none t.answer ≡ false)
+all_by : (slots : List Slot)
+    → ((k : ℕ) (t : Slot) → slice_get slots k ≡ Some t → is_none t.answer ≡ false)
     → (all_answered slots ≡ true) × (finished slots ≡ answers_of slots)
 all_by [] each = (refl, refl)
-all_by (t ∷ ts) each = with_answer t ts t.answer refl (each 0 t refl) (all_by ts (λ k u at. each (suc k) u at))
+all_by (t ∷ ts) each =
+    with_answer t ts t.answer refl (each 0 t refl) (all_by ts (λ k u at. each (suc k) u at))
 
-pub all_heard : (s : State) (running : ℕ → Bool) (count : ℕ) → count ≡ length s.slots → IsRolling s running count count
+pub all_heard : (s : State) (running : ℕ → Bool) (count : ℕ) → count ≡ length s.slots
+    → IsRolling s running count count
     → (all_answered s.slots ≡ true) × (finished s.slots ≡ answers_of s.slots)
 all_heard s running count is r =
     all_by s.slots (λ k t at. r.each_open k t at ∙ ap not (lt-ltb k count (omega (arith, is, slice_get_within s.slots k t at))))
@@ -344,7 +364,8 @@ fresh_at task names version pools n before (d ∷ ds) (suc k) t at =
 pub as_long : (task : Task) (names : List (List ℕ)) (version : ℕ) (pools : List Workers) (n : ℕ) (before : List ℕ) (dues : List Due)
     → length (asks_from task names n dues) ≡ length (slots_from task names version pools n before dues)
 as_long task names version pools n before [] = refl
-as_long task names version pools n before (d ∷ ds) = ap suc (as_long task names version pools (n + 1) (before ++ d.instance.stream ∷ []) ds)
+as_long task names version pools n before (d ∷ ds) =
+    ap suc (as_long task names version pools (n + 1) (before ++ d.instance.stream ∷ []) ds)
 
 pub slots_long : (task : Task) (names : List (List ℕ)) (version : ℕ) (pools : List Workers) (n : ℕ) (before : List ℕ) (dues : List Due)
     → length (slots_from task names version pools n before dues) ≡ length dues
@@ -352,7 +373,8 @@ slots_long task names version pools n before [] = refl
 slots_long task names version pools n before (d ∷ ds) =
     ap suc (slots_long task names version pools (n + 1) (before ++ d.instance.stream ∷ []) ds)
 
-pub rolling_begun : (task : Task) (s : State) (dues : List Due) (running : ℕ → Bool) → s.failed ≡ false → MayBeginRound task s dues
+pub rolling_begun : (task : Task) (s : State) (dues : List Due) (running : ℕ → Bool)
+    → s.failed ≡ false → MayBeginRound task s dues
     → IsSession task s → AllRun s.pools running → IsRolling (begun task s dues) running 0 0
 rolling_begun task s dues running works may h all = record {
   working = works;
@@ -366,7 +388,8 @@ rolling_begun task s dues running works may h all = record {
   runs = λ k t at. let p = served k t at in all p.0 t.child p.1 p.2 p.3;
 }
   where
-    served : (k : ℕ) (t : Slot) → slice_get (slots_from task s.known.names s.version s.pools (length s.asked + 1) [] dues) k ≡ Some t
+    served : (k : ℕ) (t : Slot)
+        → slice_get (slots_from task s.known.names s.version s.pools (length s.asked + 1) [] dues) k ≡ Some t
         → (j : ℕ) × (p : Workers) × (slice_get s.pools j ≡ Some p) × HasChild p t.child
     served k t at = child_served task s dues works may h s.known.names s.version (length s.asked + 1) k t.child (slice_get-map (λ (v : Slot). v.child) (slots_from task s.known.names s.version s.pools (length s.asked + 1) [] dues) k ∙ ap (option_map (λ (v : Slot). v.child)) at)
 
@@ -381,7 +404,8 @@ pub record RoundEnd (task : Task) (s x : State) (dues : List Due) (old new : Opt
   pub round : IsRound task s.entries (instances_of dues) more
   pub goes : Goes s.entries (x.entries ++ x.asks ++ answers_of x.slots) old new
 
-pub round_end : (task : Task) (s b m x : State) (dues : List Due) (old mid new : Option (List ℕ)) → b ≡ begun task s dues → IsSameRound b m
+pub round_end : (task : Task) (s b m x : State) (dues : List Due) (old mid new : Option (List ℕ))
+    → b ≡ begun task s dues → IsSameRound b m
     → IsSameRound m x → x.is_open ≡ true → IsSession task x → finished x.slots ≡ answers_of x.slots
     → Goes b.entries (b.entries ++ b.asks) old mid → Goes (m.entries ++ m.asks) (m.entries ++ m.asks ++ finished x.slots) mid new
     → RoundEnd task s x dues old new
@@ -404,10 +428,13 @@ round_end task s b m x dues old mid new starts first second is_open_now h all go
     x_is = second ∙ ap (λ (y : State). with_slots y x.slots x.failed) m_is
 
     entries_are : x.entries ++ x.asks ++ answers_of x.slots ≡ s.entries ++ (begun task s dues).asks ++ finished x.slots
-    entries_are = ap (λ es. x.entries ++ x.asks ++ es) (sym all) ∙ ap (λ (y : State). y.entries ++ y.asks ++ finished x.slots) x_is
+    entries_are =
+        ap (λ es. x.entries ++ x.asks ++ es) (sym all)
+        ∙ ap (λ (y : State). y.entries ++ y.asks ++ finished x.slots) x_is
 
 -- a round has as many slots as asks
-pub count_is : (task : Task) (s b : State) (dues : List Due) (count : ℕ) → count ≡ length dues → b ≡ begun task s dues
+pub count_is : (task : Task) (s b : State) (dues : List Due) (count : ℕ) → count ≡ length dues
+    → b ≡ begun task s dues
     → count ≡ length b.slots
 count_is task s b dues count is starts =
     is ∙ sym (ap (λ (x : State). length x.slots) starts ∙ slots_long task s.known.names s.version s.pools (length s.asked + 1) [] dues)

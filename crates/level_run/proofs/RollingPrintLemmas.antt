@@ -31,14 +31,16 @@ complete t = record { number = t.number; child = t.child; request = t.request; w
 
 complete_answers : (slots : List Slot) → answers_of (map complete slots) ≡ finished slots
 complete_answers [] = refl
-complete_answers (t ∷ ts) = ap (λ es. unwrap_or t.answer (entry.End t.number) ∷ es) (complete_answers ts)
+complete_answers (t ∷ ts) =
+    ap (λ es. unwrap_or t.answer (entry.End t.number) ∷ es) (complete_answers ts)
 
 complete_all : (slots : List Slot) → all_answered (map complete slots) ≡ true
 complete_all [] = refl
 complete_all (t ∷ ts) = complete_all ts
 
 -- the line `end` ends
-end_said : (number : ℕ) (w : Wanted) → entry_of number (reply_of (101 ∷ 110 ∷ 100 ∷ []) w) ≡ Some (entry.End number)
+end_said : (number : ℕ) (w : Wanted)
+    → entry_of number (reply_of (101 ∷ 110 ∷ 100 ∷ []) w) ≡ Some (entry.End number)
 end_said number (wanted.Outputs width several) = refl
 end_said number wanted.Number = refl
 
@@ -49,7 +51,8 @@ complete_right : (t : Slot) (e : Entry)
 complete_right t e right None is same = (101 ∷ 110 ∷ 100 ∷ [], end_said t.number t.wanted ∙ same)
 complete_right t e right (Some x) is same = let r = right x is in (r.0, r.1 ∙ same)
 
-complete_slots : (task : Task) (version n : ℕ) (dues : List Due) (slots : List Slot) → AreSlotsFor task version n dues slots
+complete_slots : (task : Task) (version n : ℕ) (dues : List Due) (slots : List Slot)
+    → AreSlotsFor task version n dues slots
     → AreSlotsFor task version n dues (map complete slots)
 complete_slots task version n [] [] h = tt
 complete_slots task version n [] (t ∷ ts) h = absurd h
@@ -83,11 +86,13 @@ round_legal task s begun h =
     subst (λ es. IsLegal s.version task (s.entries ++ s.asks ++ es)) (complete_answers s.slots) closed.legal
 
 -- the front of a legal transcript
-pub front_legal : (version : ℕ) (task : Task) (xs ys : List Entry) → IsLegal version task (xs ++ ys) → IsLegal version task xs
+pub front_legal : (version : ℕ) (task : Task) (xs ys : List Entry) → IsLegal version task (xs ++ ys)
+    → IsLegal version task xs
 front_legal version task xs ys legal = (grows version task xs).front ys legal
 
 -- the requests so far are legal
-pub asks_legal : (version : ℕ) (task : Task) (es asks rest : List Entry) (n : ℕ) → IsLegal version task (es ++ asks ++ rest)
+pub asks_legal : (version : ℕ) (task : Task) (es asks rest : List Entry) (n : ℕ)
+    → IsLegal version task (es ++ asks ++ rest)
     → IsLegal version task (es ++ take n asks)
 asks_legal version task es asks rest n legal =
     front_legal version task (es ++ take n asks) (drop n asks ++ rest) (subst (IsLegal version task) (sym whole) legal)
@@ -98,7 +103,8 @@ asks_legal version task es asks rest n legal =
         ∙ ap (λ xs. xs ++ rest) (append_assoc es (take n asks) (drop n asks) ∙ ap (λ xs. es ++ xs) (take-append-drop n asks))
 
 -- and so are the answers so far
-pub answers_legal : (version : ℕ) (task : Task) (es asks rest : List Entry) (n : ℕ) → IsLegal version task (es ++ asks ++ rest)
+pub answers_legal : (version : ℕ) (task : Task) (es asks rest : List Entry) (n : ℕ)
+    → IsLegal version task (es ++ asks ++ rest)
     → IsLegal version task (es ++ asks ++ take n rest)
 answers_legal version task es asks rest n legal =
     front_legal version task (es ++ asks ++ take n rest) (drop n rest) (subst (IsLegal version task) (sym (append_assoc (es ++ asks) (take n rest) (drop n rest) ∙ ap (λ xs. es ++ asks ++ xs) (take-append-drop n rest))) legal)
@@ -106,10 +112,12 @@ answers_legal version task es asks rest n legal =
 -- one entry more
 pub one_more : (es rest : List Entry) (n : ℕ) (e : Entry) → slice_get rest n ≡ Some e
     → es ++ take (n + 1) rest ≡ (es ++ take n rest) ++ e ∷ []
-one_more es rest n e at = ap (λ xs. es ++ xs) (take_next rest n e at) ∙ sym (append_assoc es (take n rest) (e ∷ []))
+one_more es rest n e at =
+    ap (λ xs. es ++ xs) (take_next rest n e at) ∙ sym (append_assoc es (take n rest) (e ∷ []))
 
 -- a request that waits for its answer is open
-pub open_there : (version : ℕ) (task : Task) (es asks rest : List Entry) (n number : ℕ) → IsLegal version task (es ++ asks ++ rest)
+pub open_there : (version : ℕ) (task : Task) (es asks rest : List Entry) (n number : ℕ)
+    → IsLegal version task (es ++ asks ++ rest)
     → slice_get rest n ≡ Some (entry.End number) → is_open (es ++ asks ++ take n rest) number ≡ true
 open_there version task es asks rest n number legal at =
     (grows version task (es ++ asks ++ take n rest)).last (entry.End number) (subst (IsLegal version task) (one_more (es ++ asks) rest n (entry.End number) at) (answers_legal version task es asks rest (n + 1) legal))
@@ -125,8 +133,10 @@ asks_are task before n (d ∷ ds) turns = λ i. entry.Ask n (All-head (λ (u : D
 answers_number : (n : ℕ) (r : Reply) (e : Entry) → entry_of n r ≡ Some e → is_answer_to n e ≡ true
 answers_number n (reply.yields tuples values) e is =
     let same : entry.Got n tuples values ≡ e = cc in ap (is_answer_to n) (sym same) ∙ eq-eqb n n refl
-answers_number n (reply.number value) e is = let same : entry.Value n value ≡ e = cc in ap (is_answer_to n) (sym same) ∙ eq-eqb n n refl
-answers_number n reply.ends e is = let same : entry.End n ≡ e = cc in ap (is_answer_to n) (sym same) ∙ eq-eqb n n refl
+answers_number n (reply.number value) e is =
+    let same : entry.Value n value ≡ e = cc in ap (is_answer_to n) (sym same) ∙ eq-eqb n n refl
+answers_number n reply.ends e is =
+    let same : entry.End n ≡ e = cc in ap (is_answer_to n) (sym same) ∙ eq-eqb n n refl
 answers_number n (reply.bad why) e is = absurd (cc)
 
 answer_right : (t : Slot) (n : ℕ) → t.number ≡ n
@@ -136,7 +146,8 @@ answer_right t n is right None e = eq-eqb n t.number (sym is)
 answer_right t n is right (Some x) e =
     let r = right x e in ap (λ m. is_answer_to m x) (sym is) ∙ answers_number t.number (reply_of r.0 t.wanted) x r.1
 
-are_answers : (task : Task) (version n : ℕ) (dues : List Due) (slots : List Slot) → AreSlotsFor task version n dues slots
+are_answers : (task : Task) (version n : ℕ) (dues : List Due) (slots : List Slot)
+    → AreSlotsFor task version n dues slots
     → AreAnswers n (length (instances_of dues)) (finished slots)
 are_answers task version n [] [] h = tt
 are_answers task version n [] (t ∷ ts) h = absurd h

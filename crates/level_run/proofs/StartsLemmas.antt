@@ -20,20 +20,25 @@ none_started zero child = refl
 none_started (suc n) zero = refl
 none_started (suc n) (suc child) = none_started n child
 
-pub not_started_past : (started : List Bool) (child : ℕ) → length started ≤ child → unwrap_or (slice_get started child) false ≡ false
-not_started_past started child past = ap (λ o. unwrap_or o false) (slice_get_past started child past)
+pub not_started_past : (started : List Bool) (child : ℕ) → length started ≤ child
+    → unwrap_or (slice_get started child) false ≡ false
+not_started_past started child past =
+    ap (λ o. unwrap_or o false) (slice_get_past started child past)
 
 -- ---- the workers of a pool
 
 module _ (first n : ℕ) (old new : ℕ → Bool) (becomes : Becomes (first + n) true old new) where
-  pub worker_done : ((child : ℕ) → first ≤ child → child < first + n → old child ≡ true) → (child : ℕ) → first ≤ child
+  pub worker_done : ((child : ℕ) → first ≤ child → child < first + n → old child ≡ true)
+      → (child : ℕ) → first ≤ child
       → child < first + (n + 1) → new child ≡ true
   worker_done done child from to = elim (cases_lt child (first + n)) [
     | inl less ↦ becomes.others child (λ e. omega (arith, e, less)) ∙ done child from less
     | inr more ↦ ap new (let same : child ≡ first + n = omega (arith, more, to) in same) ∙ becomes.here
   ]
 
-  pub worker_others : (base : ℕ → Bool) → ((child : ℕ) → (first ≤ child → child < first + n → ⊥) → old child ≡ base child) → (child : ℕ)
+  pub worker_others : (base : ℕ → Bool)
+      → ((child : ℕ) → (first ≤ child → child < first + n → ⊥) → old child ≡ base child)
+      → (child : ℕ)
       → (first ≤ child → child < first + (n + 1) → ⊥) → new child ≡ base child
   worker_others base others child not =
       becomes.others child (λ e. not (omega (arith, e)) (omega (arith, e))) ∙ others child (λ from to. not from (omega (arith, to)))
@@ -72,15 +77,18 @@ startable task head runnable = record {
   words = runnable.words;
 }
   where
-    seen : (k : ℕ) (p : Pool) → slice_get head.pools k ≡ Some p → slice_get (map workers_of head.pools) k ≡ Some (workers_of p)
+    seen : (k : ℕ) (p : Pool) → slice_get head.pools k ≡ Some p
+        → slice_get (map workers_of head.pools) k ≡ Some (workers_of p)
     seen k p at = slice_get-map workers_of head.pools k ∙ ap (option_map workers_of) at
 
-pub all_run : (pools : List Pool) (workers : List Workers) (running : ℕ → Bool) → workers ≡ map workers_of pools → AllWork pools running
+pub all_run : (pools : List Pool) (workers : List Workers) (running : ℕ → Bool)
+    → workers ≡ map workers_of pools → AllWork pools running
     → AllRun workers running
 all_run pools workers running is all k child w at in_w =
     by (slice_get pools k) refl (sym (slice_get-map workers_of pools k) ∙ ap (λ ws. slice_get ws k) (sym is) ∙ at)
   where
-    by : (o : Option Pool) → slice_get pools k ≡ o → option_map workers_of o ≡ Some w → running child ≡ true
+    by : (o : Option Pool) → slice_get pools k ≡ o → option_map workers_of o ≡ Some w
+        → running child ≡ true
     by None here e = absurd (cc)
     by (Some p) here e =
         let same : workers_of p ≡ w = cc in
@@ -89,7 +97,8 @@ all_run pools workers running is all k child w at in_w =
 -- ---- after a batch
 
 -- an answer of which several things are known
-pub all_ok : {T E : Type 0} (r : Result T E) (P : T → Type 0) (A B R : Type 0) → ((t : T) → P t → A → B → R) → IfOk r P → OnOk r A
+pub all_ok : {T E : Type 0} (r : Result T E) (P : T → Type 0) (A B R : Type 0)
+    → ((t : T) → P t → A → B → R) → IfOk r P → OnOk r A
     → OnOk r B → OnOk r R
 all_ok (Ok t) P A B R f p a b = f t p a b
 all_ok (Err e) P A B R f p a b = tt
@@ -106,7 +115,8 @@ started_after task entries before after calls many b pools later old mid new end
 
     stays : many ≡ 0 → after ≡ before → AreStarted pools after new
     stays none here = record {
-      none = λ e child. running child ∙ idle none child ∙ started.none (omega (arith, e, here)) child;
+      none =
+          λ e child. running child ∙ idle none child ∙ started.none (omega (arith, e, here)) child;
       all = λ more k child p at is. running child ∙ idle none child ∙ started.all (omega (arith, more, here)) k child p at is;
     }
 
@@ -116,12 +126,14 @@ started_after task entries before after calls many b pools later old mid new end
       all = λ more_there. moved (ready more);
     }
 
-    by : (n : ℕ) (c : Batch) → many ≡ n → EndsBatch task entries before after calls many c → AreStarted pools after new
+    by : (n : ℕ) (c : Batch) → many ≡ n → EndsBatch task entries before after calls many c
+        → AreStarted pools after new
     by zero Done e h = stays e (omega (arith, h.0, e))
     by zero CallsSpent e h = absurd (omega (arith, h.0, h.1, e, grows))
     by (suc n) Done e h = runs (omega (arith, e)) (omega (arith, h.0, e))
     by (suc n) CallsSpent e h = runs (omega (arith, e)) (omega (arith, h.0, some))
 
-pub level_ok : {T E : Type 0} (r : Result T E) (P R : T → Type 0) (A : Type 0) → ((t : T) → P t → A → R t) → IfOk r P → OnOk r A → IfOk r R
+pub level_ok : {T E : Type 0} (r : Result T E) (P R : T → Type 0) (A : Type 0)
+    → ((t : T) → P t → A → R t) → IfOk r P → OnOk r A → IfOk r R
 level_ok (Ok t) P R A f p a = f t p a
 level_ok (Err e) P R A f p a = tt

@@ -29,11 +29,13 @@ pub appends_none : (old : Option (List ℕ)) → Appends old old []
 appends_none None = tt
 appends_none (Some xs) = sym (append-nil xs)
 
-pub appends_then : (old mid new : Option (List ℕ)) (xs ys : List ℕ) → Appends old mid xs → Appends mid new ys → Appends old new (xs ++ ys)
+pub appends_then : (old mid new : Option (List ℕ)) (xs ys : List ℕ) → Appends old mid xs
+    → Appends mid new ys → Appends old new (xs ++ ys)
 appends_then None mid new xs ys first second = tt
 appends_then (Some a) None new xs ys first second = absurd first
 appends_then (Some a) (Some b) None xs ys first second = absurd second
-appends_then (Some a) (Some b) (Some c) xs ys first second = second ∙ ap (λ front. front ++ ys) first ∙ append_assoc a xs ys
+appends_then (Some a) (Some b) (Some c) xs ys first second =
+    second ∙ ap (λ front. front ++ ys) first ∙ append_assoc a xs ys
 
 -- the lines of one entry
 pub lines_of_one : (e : Entry) → flat_map text_of_entry (e ∷ []) ≡ text_of_entry e
@@ -42,27 +44,34 @@ lines_of_one e = append-nil (text_of_entry e)
 -- ---- entries
 
 pub goes_none : (before : List Entry) (old : Option (List ℕ)) → Goes before before old old
-goes_none before old = record { more = []; pushed = sym (append-nil before); told = appends_none old }
+goes_none before old =
+    record { more = []; pushed = sym (append-nil before); told = appends_none old }
 
-pub goes_one : (before after : List Entry) (e : Entry) (old new : Option (List ℕ)) → after ≡ before ++ e ∷ []
+pub goes_one : (before after : List Entry) (e : Entry) (old new : Option (List ℕ))
+    → after ≡ before ++ e ∷ []
     → Appends old new (text_of_entry e) → Goes before after old new
 goes_one before after e old new pushed told =
     record { more = e ∷ []; pushed = pushed; told = subst (Appends old new) (sym (lines_of_one e)) told }
 
-pub goes_then : (a b c : List Entry) (old mid new : Option (List ℕ)) → Goes a b old mid → Goes b c mid new → Goes a c old new
+pub goes_then : (a b c : List Entry) (old mid new : Option (List ℕ)) → Goes a b old mid
+    → Goes b c mid new → Goes a c old new
 goes_then a b c old mid new first second = record {
   more = first.more ++ second.more;
-  pushed = second.pushed ∙ ap (λ front. front ++ second.more) first.pushed ∙ append_assoc a first.more second.more;
+  pushed =
+      second.pushed ∙ ap (λ front. front ++ second.more) first.pushed
+      ∙ append_assoc a first.more second.more;
   told = subst (Appends old new) (sym (flat_map-append text_of_entry first.more second.more)) (appends_then old mid new _ _ first.told second.told);
 }
 
 -- ---- stops
 
-pub stops_then : (fault : RunFault) (old mid new : Option (List ℕ)) (xs ys : List ℕ) → Appends old mid xs → StopsAt fault mid new ys
+pub stops_then : (fault : RunFault) (old mid new : Option (List ℕ)) (xs ys : List ℕ)
+    → Appends old mid xs → StopsAt fault mid new ys
     → StopsAt fault old new (xs ++ ys)
 stops_then Generator old mid new xs ys first second = appends_then old mid new xs ys first second
 stops_then Memory old mid new xs ys first second = appends_then old mid new xs ys first second
-stops_then (Answer number why) old mid new xs ys first second = appends_then old mid new xs ys first second
+stops_then (Answer number why) old mid new xs ys first second =
+    appends_then old mid new xs ys first second
 stops_then Write old mid new xs ys first (n, less, told) = (
   length xs + n,
   omega (arith, length-append xs ys),
@@ -78,14 +87,17 @@ MayBlame version task pools spoken Memory entries = Unit {0}
 MayBlame version task pools spoken Write entries = ⊥
 
 module _ (version : ℕ) (task : Task) (pools : List Workers) (spoken : ℕ → Option Talk) (Front : List Entry → Type 0) where
-  legal_none : (before : List Entry) → IsLegal version task before → IsLegal version task (before ++ [])
+  legal_none : (before : List Entry) → IsLegal version task before
+      → IsLegal version task (before ++ [])
   legal_none before legal = subst (IsLegal version task) (sym (append-nil before)) legal
 
   front_none : (before : List Entry) → Front before → Front (before ++ [])
   front_none before front = subst Front (sym (append-nil before)) front
 
-  broken_same : (before : List Entry) → BrokenOff task version pools before spoken → BrokenOff task version pools (before ++ []) spoken
-  broken_same before broken = subst (λ es. BrokenOff task version pools es spoken) (sym (append-nil before)) broken
+  broken_same : (before : List Entry) → BrokenOff task version pools before spoken
+      → BrokenOff task version pools (before ++ []) spoken
+  broken_same before broken =
+      subst (λ es. BrokenOff task version pools es spoken) (sym (append-nil before)) broken
 
   -- nothing was written
   pub stopped_hearing : (before : List Entry) (fault : RunFault) (sink : Option (List ℕ)) (log : List Entry → Type 0)
@@ -106,8 +118,10 @@ module _ (version : ℕ) (task : Task) (pools : List Workers) (spoken : ℕ → 
   pub stopped_blamed : (before : List Entry) (fault : RunFault) (sink : Option (List ℕ)) (log : List Entry → Type 0)
       → IsLegal version task before → Front before → BrokenOff task version pools before spoken → log []
       → MayBlame version task pools spoken fault before → Stopped version task pools Front before fault sink sink spoken log
-  stopped_blamed before Generator sink log legal front broken here is = stopped_hearing before Generator sink log legal front broken here tt
-  stopped_blamed before Memory sink log legal front broken here is = stopped_hearing before Memory sink log legal front broken here tt
+  stopped_blamed before Generator sink log legal front broken here is =
+      stopped_hearing before Generator sink log legal front broken here tt
+  stopped_blamed before Memory sink log legal front broken here is =
+      stopped_hearing before Memory sink log legal front broken here tt
   stopped_blamed before Write sink log legal front broken here is = absurd is
   stopped_blamed before (Answer number why) sink log legal front broken here is = record {
     more = [];
@@ -170,12 +184,14 @@ module _ (version : ℕ) (task : Task) (pools : List Workers) (spoken : ℕ → 
   pub stopped_map : (before : List Entry) (fault : RunFault) (old new : Option (List ℕ)) (log later : List Entry → Type 0)
       → ((more : List Entry) → log more → later more) → Stopped version task pools Front before fault old new spoken log
       → Stopped version task pools Front before fault old new spoken later
-  stopped_map before fault old new log later f s = stopped_as Front before fault old new log later (λ es legal front. front) f s
+  stopped_map before fault old new log later f s =
+      stopped_as Front before fault old new log later (λ es legal front. front) f s
 
 -- ---- faults that are handed on
 
 -- the fault that is handed on is this one
-pub handed : {T E : Type 0} (r : Result T E) (e : E) (P : E → Type 0) → IsErrAnd r (λ y. y ≡ e) → P e → IfErr r P
+pub handed : {T E : Type 0} (r : Result T E) (e : E) (P : E → Type 0) → IsErrAnd r (λ y. y ≡ e)
+    → P e → IfErr r P
 handed r e P is here =
     let p = err_from_is_err_and r is in
     rw p.1 (subst P (sym p.2) here)
@@ -194,22 +210,26 @@ no_cause failed last before mid first fault r a never is = record {
   cause = λ same. absurd (never (same_err fault failed (sym is ∙ same)));
 }
   where
-    same_err : {V : Type 0} (x y : RunFault) → (let r : Result V RunFault = Err x in r) ≡ Err y → x ≡ y
+    same_err : {V : Type 0} (x y : RunFault) → (let r : Result V RunFault = Err x in r) ≡ Err y
+        → x ≡ y
     same_err x y e = cc
 
 -- nothing failed
-pub same_cause : {U : Type 0} (failed : RunFault) (last before : ℕ) (fault : RunFault) (r : Result U RunFault) → (fault ≡ failed → ⊥)
+pub same_cause : {U : Type 0} (failed : RunFault) (last before : ℕ) (fault : RunFault) (r : Result U RunFault)
+    → (fault ≡ failed → ⊥)
     → r ≡ Err fault → HasCause failed last before before r
 same_cause failed last before fault r never is =
     record { later = omega arith; cause = λ same. absurd (never (faults_same fault failed (sym is ∙ same))) }
   where
-    faults_same : {V : Type 0} (x y : RunFault) → (let r : Result V RunFault = Err x in r) ≡ Err y → x ≡ y
+    faults_same : {V : Type 0} (x y : RunFault) → (let r : Result V RunFault = Err x in r) ≡ Err y
+        → x ≡ y
     faults_same x y e = cc
 
 pub heard_no_write : (fault : RunFault) → MayHear fault → fault ≡ Write → ⊥
 heard_no_write fault may is = subst MayHear is may
 
-pub blamed_no_write : (slots : List Slot) (child : ℕ) (bytes : List ℕ) (fault : RunFault) → IsBlamed slots child bytes fault → fault ≡ Write
+pub blamed_no_write : (slots : List Slot) (child : ℕ) (bytes : List ℕ) (fault : RunFault)
+    → IsBlamed slots child bytes fault → fault ≡ Write
     → ⊥
 blamed_no_write slots child bytes fault may is = subst (IsBlamed slots child bytes) is may
 
@@ -226,15 +246,18 @@ pub ok_map : {T E : Type 0} (r : Result T E) (P Q : Type 0) → (P → Q) → On
 ok_map (Ok x) P Q f p = f p
 ok_map (Err e) P Q f p = tt
 
-pub err_both : {T E : Type 0} (r : Result T E) (P : E → Type 0) (Q : Type 0) (R : E → Type 0) → ((e : E) → P e → Q → R e) → IfErr r P
+pub err_both : {T E : Type 0} (r : Result T E) (P : E → Type 0) (Q : Type 0) (R : E → Type 0)
+    → ((e : E) → P e → Q → R e) → IfErr r P
     → OnErr r Q → IfErr r R
 err_both (Ok x) P Q R f p q = tt
 err_both (Err e) P Q R f p q = f e p q
 
 -- all went well
-pub written_cause : {T : Type 0} (last first second third now : ℕ) (value : T) → first ≤ second → second ≤ third → third ≤ now
+pub written_cause : {T : Type 0} (last first second third now : ℕ) (value : T) → first ≤ second
+    → second ≤ third → third ≤ now
     → HasCause Write last first now (let r : Result T RunFault = Ok value in r)
-written_cause last first second third now value a b c = record { later = omega (arith, a, b, c); cause = λ is. absurd (cc) }
+written_cause last first second third now value a b c =
+    record { later = omega (arith, a, b, c); cause = λ is. absurd (cc) }
 
 -- a fault that is handed on has its cause after earlier calls that went well
 pub cause_handed : {T U : Type 0} (failed : RunFault) (last first second third now : ℕ) (fault : RunFault) (r : Result U RunFault)
@@ -245,7 +268,8 @@ cause_handed {T} {U} failed last first second third now fault r a b c is = recor
   cause = λ same. rises (c.cause (ap Err (faults_same fault failed (sym is ∙ same))));
 }
   where
-    faults_same : {V : Type 0} (x y : RunFault) → (let s : Result V RunFault = Err x in s) ≡ Err y → x ≡ y
+    faults_same : {V : Type 0} (x y : RunFault) → (let s : Result V RunFault = Err x in s) ≡ Err y
+        → x ≡ y
     faults_same x y e = cc
 
     rises : Rose last third now → Rose last first now

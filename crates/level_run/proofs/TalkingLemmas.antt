@@ -16,19 +16,25 @@ use Rattle.level_run.specs.Turns.{AllRun, AreStarted}
 
 module _ (task : Task) (version : ℕ) (pools : List Workers) where
   -- at first
-  pub told_first : (entries : List Entry) (running : ℕ → Bool) (kept : ℕ → List ℕ) (spoken : ℕ → Option Talk) → entries ≡ []
+  pub told_first : (entries : List Entry) (running : ℕ → Bool) (kept : ℕ → List ℕ) (spoken : ℕ → Option Talk)
+      → entries ≡ []
       → ((k : ℕ) → running k ≡ false) → ((k : ℕ) → kept k ≡ []) → IsTold task version pools entries running kept spoken
-  told_first entries running kept spoken is idle none = subst (λ es. IsTold task version pools es running kept spoken) (sym is) (record {
-    closed = refl;
-    even = refl;
-    idle = λ child _. none child;
-    each = λ child one runs. absurd (let bad : true ≡ false = sym runs ∙ idle child in cc);
-  })
+  told_first entries running kept spoken is idle none =
+      subst (λ es. IsTold task version pools es running kept spoken) (sym is) (record {
+        closed = refl;
+        even = refl;
+        idle = λ child _. none child;
+        each = λ child one runs. absurd (let bad : true ≡ false = sym runs ∙ idle child in cc);
+      })
 
-  requests_marked : (entries : List Entry) → requests_of task pools (entries ++ entry.Level ∷ []) ≡ requests_of task pools entries
-  requests_marked entries = requests_join task pools [] entries (entry.Level ∷ []) ∙ append-nil (requests_of task pools entries)
+  requests_marked : (entries : List Entry)
+      → requests_of task pools (entries ++ entry.Level ∷ []) ≡ requests_of task pools entries
+  requests_marked entries =
+      requests_join task pools [] entries (entry.Level ∷ [])
+      ∙ append-nil (requests_of task pools entries)
 
-  replies_marked : (entries : List Entry) → replies_of (entries ++ entry.Level ∷ []) ≡ replies_of entries
+  replies_marked : (entries : List Entry)
+      → replies_of (entries ++ entry.Level ∷ []) ≡ replies_of entries
   replies_marked entries = replies_join entries (entry.Level ∷ []) ∙ append-nil (replies_of entries)
 
   -- a level begins
@@ -64,7 +70,8 @@ module _ (task : Task) (version : ℕ) (pools : List Workers) where
     }
 
   -- where all workers run
-  pub broken_run : (entries : List Entry) (running : ℕ → Bool) (kept : ℕ → List ℕ) (spoken : ℕ → Option Talk) → AllRun pools running
+  pub broken_run : (entries : List Entry) (running : ℕ → Bool) (kept : ℕ → List ℕ) (spoken : ℕ → Option Talk)
+      → AllRun pools running
       → IsLegal version task entries → IsTold task version pools entries running kept spoken → BrokenOff task version pools entries spoken
   broken_run entries running kept spoken all legal t = record {
     next = [];
@@ -90,10 +97,12 @@ module _ (task : Task) (version : ℕ) (pools : List Workers) where
 
   -- ---- where nothing was asked
 
-  pub none_asked : (entries : List Entry) → asks_of entries ≡ 0 → requests_of task pools entries ≡ []
+  pub none_asked : (entries : List Entry) → asks_of entries ≡ 0
+      → requests_of task pools entries ≡ []
   none_asked entries none = nil_from_length (requests_of task pools entries) (requests_counted task pools [] entries ∙ none)
 
-  pub broken_unasked : (entries : List Entry) (spoken : ℕ → Option Talk) → asks_of entries ≡ 0 → IsLegal version task entries
+  pub broken_unasked : (entries : List Entry) (spoken : ℕ → Option Talk) → asks_of entries ≡ 0
+      → IsLegal version task entries
       → BrokenOff task version pools entries spoken
   broken_unasked entries spoken none legal = record {
     next = [];

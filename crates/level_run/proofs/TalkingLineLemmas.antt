@@ -24,7 +24,8 @@ feeds : (bytes : List ℕ) → list_any is_feed bytes ≡ true → 1 ≤ count_b
 feeds [] e = absurd (cc)
 feeds (b ∷ bs) e = by (feeds bs) (is_feed b) refl e
   where
-    by : (list_any is_feed bs ≡ true → 1 ≤ count_by is_feed bs) → (t : Bool) → is_feed b ≡ t → (is_feed b || list_any is_feed bs) ≡ true
+    by : (list_any is_feed bs ≡ true → 1 ≤ count_by is_feed bs) → (t : Bool) → is_feed b ≡ t
+        → (is_feed b || list_any is_feed bs) ≡ true
         → 1 ≤ count_by is_feed (b ∷ bs)
     by later true is any =
         let one : cond {A = ℕ} (is_feed b) 1 0 ≡ 1 = ap (λ t. cond {A = ℕ} t 1 0) is in
@@ -39,7 +40,8 @@ has_line bytes fed none =
     omega (arith, length-map (ended (slice_split is_feed bytes)) (strip_last 13), ap length none, ended_length (slice_split is_feed bytes) (omega (arith, length-slice_split is_feed bytes)), length-slice_split is_feed bytes, feeds bytes fed)
 
 -- where no line came, the buffer is full
-pub filled : (held room : List ℕ) (count most : ℕ) → length room + length held ≡ most → count ≤ length room
+pub filled : (held room : List ℕ) (count most : ℕ) → length room + length held ≡ most
+    → count ≤ length room
     → (count < length room → HasLine (take count room)) → lines_of (held ++ take count room) ≡ [] → length (held ++ take count room) ≡ most
 filled held room count most whole within line none = elim (cases_lt count (length room)) [
   | inl less ↦ absurd (has_line (held ++ take count room) (list_any-append is_feed held (take count room) ∙ or_right (list_any is_feed held) (list_any is_feed (take count room)) (line less)) none)
@@ -48,7 +50,8 @@ filled held room count most whole within line none = elim (cases_lt count (lengt
 
 -- ---- empty buffers
 
-pub none_held : (held : List (List ℕ)) (one : List ℕ) → ((k : ℕ) → unwrap_or (slice_get held k) [] ≡ []) → one ≡ [] → (k : ℕ)
+pub none_held : (held : List (List ℕ)) (one : List ℕ)
+    → ((k : ℕ) → unwrap_or (slice_get held k) [] ≡ []) → one ≡ [] → (k : ℕ)
     → unwrap_or (slice_get (held ++ one ∷ []) k) [] ≡ []
 none_held [] one none is zero = is
 none_held [] one none is (suc k) = refl
@@ -81,8 +84,10 @@ takes_kept (Ok x) old new child kept left line spoken after good first short res
 pub too_long_kept : (slots : List Slot) (child : ℕ) (kept : List ℕ) (spoken : ℕ → Option Talk) (fault : RunFault)
     → fault ≡ Answer (number_at slots child) TooLong → lines_of kept ≡ [] → length kept ≡ 1025
     → Misheard slots child kept spoken spoken fault
-too_long_kept slots child kept spoken fault is none long = subst (Misheard slots child kept spoken spoken) (sym is) (record {
-  more = [];
-  heard = hears_none child spoken;
-  blamed = (refl, inr (refl, ap lines_of (append-nil kept) ∙ none, ap length (append-nil kept) ∙ long));
-})
+too_long_kept slots child kept spoken fault is none long =
+    subst (Misheard slots child kept spoken spoken) (sym is) (record {
+      more = [];
+      heard = hears_none child spoken;
+      blamed =
+          (refl, inr (refl, ap lines_of (append-nil kept) ∙ none, ap length (append-nil kept) ∙ long));
+    })

@@ -46,12 +46,15 @@ round_asks task s opened h =
     let r = h.round opened in subst AreAsks (sym r.asks) (asks_are task _ (length s.asked + 1) r.dues)
 
 says_reply : (n : ℕ) (r : Reply) (e : Entry) → entry_of n r ≡ Some e → is_answer e ≡ true
-says_reply n (reply.yields tuples values) e is = let same : entry.Got n tuples values ≡ e = cc in ap is_answer (sym same)
-says_reply n (reply.number value) e is = let same : entry.Value n value ≡ e = cc in ap is_answer (sym same)
+says_reply n (reply.yields tuples values) e is =
+    let same : entry.Got n tuples values ≡ e = cc in ap is_answer (sym same)
+says_reply n (reply.number value) e is =
+    let same : entry.Value n value ≡ e = cc in ap is_answer (sym same)
 says_reply n reply.ends e is = let same : entry.End n ≡ e = cc in ap is_answer (sym same)
 says_reply n (reply.bad why) e is = absurd (cc)
 
-finished_each : (task : Task) (version n : ℕ) (dues : List Due) (slots : List Slot) → AreSlotsFor task version n dues slots
+finished_each : (task : Task) (version n : ℕ) (dues : List Due) (slots : List Slot)
+    → AreSlotsFor task version n dues slots
     → AreReplies (finished slots)
 finished_each task version n [] [] h k e at = absurd (cc)
 finished_each task version n [] (t ∷ ts) h k e at = absurd h
@@ -59,12 +62,15 @@ finished_each task version n (d ∷ ds) [] h k e at = absurd h
 finished_each task version n (d ∷ ds) (t ∷ ts) h zero e at =
     by t.answer refl (let same : unwrap_or t.answer (entry.End t.number) ≡ e = cc in same)
   where
-    by : (o : Option Entry) → t.answer ≡ o → unwrap_or t.answer (entry.End t.number) ≡ e → is_answer e ≡ true
+    by : (o : Option Entry) → t.answer ≡ o → unwrap_or t.answer (entry.End t.number) ≡ e
+        → is_answer e ≡ true
     by None is same = ap is_answer (sym same ∙ ap (λ o. unwrap_or o (entry.End t.number)) is)
     by (Some x) is same = let f = h.0.right x is in ap is_answer (sym same ∙ ap (λ o. unwrap_or o (entry.End t.number)) is) ∙ says_reply t.number (reply_of f.0 t.wanted) x f.1
-finished_each task version n (d ∷ ds) (t ∷ ts) h (suc k) e at = finished_each task version (n + 1) ds ts h.1 k e at
+finished_each task version n (d ∷ ds) (t ∷ ts) h (suc k) e at =
+    finished_each task version (n + 1) ds ts h.1 k e at
 
-pub round_replies : (task : Task) (s : State) → s.is_open ≡ true → IsSession task s → AreReplies (finished s.slots)
+pub round_replies : (task : Task) (s : State) → s.is_open ≡ true → IsSession task s
+    → AreReplies (finished s.slots)
 round_replies task s opened h = let r = h.round opened in finished_each task s.version (length s.asked + 1) r.dues s.slots r.slots
 
 pub front_each : (es : List Entry) (n : ℕ) → AreReplies es → AreReplies (take n es)
@@ -85,7 +91,9 @@ module _ (task : Task) (pools : List Workers) (es asks : List Entry) (closed : l
       ∙ ap (λ rs. requests_of task pools es ++ rs) (requests_front task pools [] asks n all)
 
   pub replies_sent : (n : ℕ) → replies_of (es ++ take n asks) ≡ replies_of es ++ []
-  replies_sent n = replies_join es (take n asks) ∙ ap (λ xs. replies_of es ++ xs) (no_replies (take n asks) (front_asks asks n all))
+  replies_sent n =
+      replies_join es (take n asks)
+      ∙ ap (λ xs. replies_of es ++ xs) (no_replies (take n asks) (front_asks asks n all))
 
   -- all requests, and these answers
   module _ (answers : List Entry) (each : AreReplies answers) where
@@ -103,19 +111,23 @@ module _ (task : Task) (pools : List Workers) (es asks : List Entry) (closed : l
         ∙ ap (λ xs. replies_of (es ++ asks) ++ xs) (all_replies answers each)
         ∙ ap (λ xs. xs ++ answers) (replies_join es asks ∙ ap (λ xs. replies_of es ++ xs) (no_replies asks all) ∙ append-nil (replies_of es))
 
-    pub closed_heard : length answers ≡ length asks → last_round task [] (es ++ asks ++ answers) ≡ []
+    pub closed_heard : length answers ≡ length asks
+        → last_round task [] (es ++ asks ++ answers) ≡ []
     closed_heard same = last_join task [] (es ++ asks) answers ∙ by asks refl answers refl same
       where
-        by : (xs : List Entry) → asks ≡ xs → (ys : List Entry) → answers ≡ ys → length answers ≡ length asks
+        by : (xs : List Entry) → asks ≡ xs → (ys : List Entry) → answers ≡ ys
+            → length answers ≡ length asks
             → last_round task (last_round task [] (es ++ asks)) answers ≡ []
         by xs is_xs (y ∷ ys) is same =
             closed_by task (last_round task [] (es ++ asks)) answers each (subst (λ zs. 0 < length zs) (sym is) (omega arith))
         by [] is_xs [] is same =
             ap (λ zs. last_round task (last_round task [] (es ++ asks)) zs) is ∙ ap (λ zs. last_round task [] (es ++ zs)) is_xs ∙ ap (last_round task []) (append-nil es) ∙ closed
-        by (x ∷ xs) is_xs [] is same = absurd (omega (arith, sym (ap length is) ∙ same ∙ ap length is_xs))
+        by (x ∷ xs) is_xs [] is same =
+            absurd (omega (arith, sym (ap length is) ∙ same ∙ ap length is_xs))
 
 -- what was said when so much of the round is printed
-pub talks_at_sent : (task : Task) (s : State) (place : ℕ) (kept : ℕ → List ℕ) (spoken : ℕ → Option Talk) → s.is_open ≡ true
+pub talks_at_sent : (task : Task) (s : State) (place : ℕ) (kept : ℕ → List ℕ) (spoken : ℕ → Option Talk)
+    → s.is_open ≡ true
     → IsSession task s → IsTalking task s place 0 kept spoken
     → Talks task s.version s.pools (requests_of task s.pools (s.entries ++ take place s.asks)) (replies_of (s.entries ++ take place s.asks)) kept spoken
 talks_at_sent task s place kept spoken opened h t =
@@ -126,7 +138,8 @@ talks_at_sent task s place kept spoken opened h t =
 all_taken : {A : Type 0} (n : ℕ) (xs : List A) → length xs ≡ n → take n xs ≡ xs
 all_taken n xs e = ap (λ m. take m xs) (sym e) ∙ take-length xs
 
-pub talks_at_heard : (task : Task) (s : State) (place : ℕ) (kept : ℕ → List ℕ) (spoken : ℕ → Option Talk) → s.is_open ≡ true
+pub talks_at_heard : (task : Task) (s : State) (place : ℕ) (kept : ℕ → List ℕ) (spoken : ℕ → Option Talk)
+    → s.is_open ≡ true
     → IsSession task s → IsTalking task s (length s.slots) place kept spoken
     → Talks task s.version s.pools (requests_of task s.pools (s.entries ++ s.asks ++ take place (finished s.slots))) (replies_of (s.entries ++ s.asks ++ take place (finished s.slots))) kept spoken
 talks_at_heard task s place kept spoken opened h t =
@@ -163,7 +176,8 @@ talking_begun task s dues running kept spoken works may h all told = record {
         let due = may.due d.instance (member_at (instances_of dues) k d.instance (slice_get-map (λ (u : Due). u.instance) dues k ∙ ap (option_map (λ (u : Due). u.instance)) at)) in
         slice_get_within task.streams d.instance.stream due.stream due.named
 
-    served : (k : ℕ) (t : Slot) → slice_get (slots_from task s.known.names s.version s.pools (length s.asked + 1) [] dues) k ≡ Some t
+    served : (k : ℕ) (t : Slot)
+        → slice_get (slots_from task s.known.names s.version s.pools (length s.asked + 1) [] dues) k ≡ Some t
         → IsOneOf s.pools t.child
     served k t at =
         let p = child_served task s dues works may h s.known.names s.version (length s.asked + 1) k t.child (slice_get-map (λ (v : Slot). v.child) (slots_from task s.known.names s.version s.pools (length s.asked + 1) [] dues) k ∙ ap (option_map (λ (v : Slot). v.child)) at) in
@@ -173,7 +187,8 @@ talking_begun task s dues running kept spoken works may h all told = record {
 
 -- a change of slots that keeps what they ask
 module _ (f : Slot → Slot) (child_same : (t : Slot) → (f t).child ≡ t.child) (number_same : (t : Slot) → (f t).number ≡ t.number) (text_same : (t : Slot) → (f t).request ≡ t.request) (wanted_same : (t : Slot) → (f t).wanted ≡ t.wanted) where
-  asks_still : (task : Task) (version : ℕ) (pools : List Workers) (r : Request) (child : ℕ) (t : Slot) → IsSlotOf task version pools r t
+  asks_still : (task : Task) (version : ℕ) (pools : List Workers) (r : Request) (child : ℕ) (t : Slot)
+      → IsSlotOf task version pools r t
       → IsSlotOf task version pools r (at_child child f t)
   asks_still task version pools r child t i = by (is_slot_of child t) refl
     where
@@ -188,7 +203,8 @@ module _ (f : Slot → Slot) (child_same : (t : Slot) → (f t).child ≡ t.chil
     each = λ k r t at_r at_t. by k r t at_r (slice_get s.slots k) refl (sym (slice_get-map (at_child child f) s.slots k) ∙ at_t);
   }
     where
-      by : (k : ℕ) (r : Request) (t : Slot) → slice_get (requests_of task s.pools s.asks) k ≡ Some r → (o : Option Slot)
+      by : (k : ℕ) (r : Request) (t : Slot) → slice_get (requests_of task s.pools s.asks) k ≡ Some r
+          → (o : Option Slot)
           → slice_get s.slots k ≡ o → option_map (at_child child f) o ≡ Some t → IsSlotOf task s.version s.pools r t
       by k r t at_r None is e = absurd (cc)
       by k r t at_r (Some u) is e =
@@ -218,7 +234,8 @@ module _ (task : Task) (s : State) (place : ℕ) (kept : ℕ → List ℕ) (old 
       }
 
   -- the request was written in part, or is not printed
-  pub broken_sending : (e : Entry) (n : ℕ) → s.is_open ≡ true → IsSession task s → slice_get s.asks place ≡ Some e
+  pub broken_sending : (e : Entry) (n : ℕ) → s.is_open ≡ true → IsSession task s
+      → slice_get s.asks place ≡ Some e
       → IsLegal s.version task ((s.entries ++ take place s.asks) ++ e ∷ []) → IsTalking task s place 0 kept old
       → Writes t.child (take n t.request) old new → BrokenOff task s.version s.pools (s.entries ++ take place s.asks) new
   broken_sending e n opened h at_e legal k w =
@@ -240,7 +257,8 @@ module _ (task : Task) (s : State) (place : ℕ) (kept : ℕ → List ℕ) (old 
 -- ---- one answer more
 
 -- how many answers are printed
-printed_many : (slots : List Slot) (place : ℕ) → place < length slots → length (take place (finished slots)) ≡ place
+printed_many : (slots : List Slot) (place : ℕ) → place < length slots
+    → length (take place (finished slots)) ≡ place
 printed_many slots place within =
     length-take-le place (finished slots) (omega (arith, within, length-map slots (λ (v : Slot). unwrap_or v.answer (entry.End v.number))))
 
@@ -267,7 +285,8 @@ module _ (task : Task) (s : State) (running : ℕ → Bool) (place : ℕ) (r : I
         take_next (finished (map (at_child t.child (heard_slot line)) s.slots)) place answer_is.0 (printed_there (map (at_child t.child (heard_slot line)) s.slots) place (heard_slot line t) answer_is.0 heard_there answer_is.1)
         ∙ ap (λ es. es ++ answer_is.0 ∷ []) (front_same s running (length s.slots) place r within t at line good)
 
-    talking_line : (kept left : ℕ → List ℕ) (old new : ℕ → Option Talk) (more : List ℕ) → Hears t.child more old new
+    talking_line : (kept left : ℕ → List ℕ) (old new : ℕ → Option Talk) (more : List ℕ)
+        → Hears t.child more old new
         → lines_of (kept t.child ++ more) ≡ line ∷ lines_of (after_first is_feed (kept t.child ++ more))
         → left t.child ≡ after_first is_feed (kept t.child ++ more) → ((k : ℕ) → k ≢ t.child → left k ≡ kept k)
         → IsTalking task s (length s.slots) place kept old
@@ -296,7 +315,8 @@ module _ (task : Task) (s : State) (running : ℕ → Bool) (place : ℕ) (r : I
         }
 
   -- the line is taken, and it is an answer
-  pub talking_heard : (child : ℕ) (now : State) (kept left : ℕ → List ℕ) (old new : ℕ → Option Talk) → child ≡ t.child
+  pub talking_heard : (child : ℕ) (now : State) (kept left : ℕ → List ℕ) (old new : ℕ → Option Talk)
+      → child ≡ t.child
       → TakesAnswer s child now (kept child) (left child) old new → ((k : ℕ) → k ≢ child → left k ≡ kept k)
       → IsTalking task s (length s.slots) place kept old → IsTalking task now (length now.slots) (place + 1) left new
   talking_heard child now kept left old new own takes others k =
@@ -308,16 +328,19 @@ module _ (task : Task) (s : State) (running : ℕ → Bool) (place : ℕ) (r : I
 
   -- ---- no answer
 
-  bad_reply : (n number : ℕ) (why : Why) (x : Reply) → heard_by n (fault_of x) ≡ heard.Bad number why → x ≡ reply.bad why
+  bad_reply : (n number : ℕ) (why : Why) (x : Reply)
+      → heard_by n (fault_of x) ≡ heard.Bad number why → x ≡ reply.bad why
   bad_reply n number why (reply.yields tuples values) e = absurd (cc)
   bad_reply n number why (reply.number value) e = absurd (cc)
   bad_reply n number why reply.ends e = absurd (cc)
   bad_reply n number why (reply.bad other) e = let same : other ≡ why = cc in ap reply.bad same
 
-  heard_is : (line : List ℕ) → heard_at s.slots t.child line ≡ heard_by t.number (fault_of (reply_to line t))
+  heard_is : (line : List ℕ)
+      → heard_at s.slots t.child line ≡ heard_by t.number (fault_of (reply_to line t))
   heard_is line = rw (own_slot s.slots place t r.apart at) refl
 
-  pub may_blame : (kept : ℕ → List ℕ) (old new : ℕ → Option Talk) (fault : RunFault) → s.is_open ≡ true → IsSession task s
+  pub may_blame : (kept : ℕ → List ℕ) (old new : ℕ → Option Talk) (fault : RunFault)
+      → s.is_open ≡ true → IsSession task s
       → IsLegal s.version task (s.entries ++ s.asks ++ finished s.slots) → IsTalking task s (length s.slots) place kept old
       → Misheard s.slots t.child (kept t.child) old new fault
       → MayBlame s.version task s.pools new fault (s.entries ++ s.asks ++ take place (finished s.slots))
@@ -356,7 +379,8 @@ module _ (task : Task) (s : State) (running : ℕ → Bool) (place : ℕ) (r : I
           )
           first q i number why (inr (is, none, long)) = inr (is, subst (λ d. lines_of (kept d ++ m.more) ≡ []) i.child none, subst (λ d. length (kept d ++ m.more) ≡ 1025) i.child long)
 
-  pub broken_hearing : (kept : ℕ → List ℕ) (old new : ℕ → Option Talk) (child : ℕ) (more : List ℕ) → s.is_open ≡ true → IsSession task s
+  pub broken_hearing : (kept : ℕ → List ℕ) (old new : ℕ → Option Talk) (child : ℕ) (more : List ℕ)
+      → s.is_open ≡ true → IsSession task s
       → IsLegal s.version task (s.entries ++ s.asks ++ take place (finished s.slots)) → IsTalking task s (length s.slots) place kept old
       → Hears child more old new → BrokenOff task s.version s.pools (s.entries ++ s.asks ++ take place (finished s.slots)) new
   broken_hearing kept old new child more opened h legal k hears =
@@ -414,12 +438,14 @@ module _ (task : Task) (s : State) (place : ℕ) (kept : ℕ → List ℕ) (old 
   pub next_legal : IsLegal s.version task ((s.entries ++ take place s.asks) ++ e ∷ [])
   next_legal = subst (IsLegal s.version task) (one_more s.entries s.asks place e at_e) (asks_legal s.version task s.entries s.asks (finished s.slots) (place + 1) (round_legal task s opened h))
 
-  pub broken_part : (child : ℕ) (request : List ℕ) (n : ℕ) → child ≡ t.child → request ≡ t.request → Writes child (take n request) old new
+  pub broken_part : (child : ℕ) (request : List ℕ) (n : ℕ) → child ≡ t.child → request ≡ t.request
+      → Writes child (take n request) old new
       → BrokenOff task s.version s.pools (s.entries ++ take place s.asks) new
   broken_part child request n own same w =
       broken_sending task s place kept old new t at e n opened h at_e next_legal k (subst (λ c. Writes c (take n t.request) old new) own (subst (λ bytes. Writes child (take n bytes) old new) same w))
 
-  pub broken_after : (child : ℕ) (request : List ℕ) → child ≡ t.child → request ≡ t.request → Writes child request old new
+  pub broken_after : (child : ℕ) (request : List ℕ) → child ≡ t.child → request ≡ t.request
+      → Writes child request old new
       → IsSession task (after_sent s t.child) → BrokenOff task s.version s.pools ((s.entries ++ take place s.asks) ++ e ∷ []) new
   broken_after child request own same w h_after =
       broken_none task s.version s.pools ((s.entries ++ take place s.asks) ++ e ∷ []) new kept next_legal

@@ -21,13 +21,15 @@ pub record Standing (head : Head) (task : Task) (entries : List Entry) : Type 0 
   pub turns : (rest : List Entry) (stage : Stage)
       → AreTurns (limits_of head) task (IncrementalTurn (limits_of head) task) tt entries rest stage
       → AreTurns (limits_of head) task (IncrementalTurn (limits_of head) task) tt [] (entries ++ rest) stage
-  pub needed : (rest : List Entry) (stage : Stage) → AreTurns (limits_of head) task (NeededTurn (limits_of head) task) tt entries rest stage
+  pub needed : (rest : List Entry) (stage : Stage)
+      → AreTurns (limits_of head) task (NeededTurn (limits_of head) task) tt entries rest stage
       → AreTurns (limits_of head) task (NeededTurn (limits_of head) task) tt [] (entries ++ rest) stage
 
 pub standing_first : (head : Head) (task : Task) → Standing head task []
 standing_first head task = record { turns = λ rest stage t. t; needed = λ rest stage t. t }
 
-pub standing_next : (head : Head) (task : Task) (before after : List Entry) (asks : ℕ) (dues : List Due) → asks ≡ asks_of before
+pub standing_next : (head : Head) (task : Task) (before after : List Entry) (asks : ℕ) (dues : List Due)
+    → asks ≡ asks_of before
     → IsTurn head task before asks dues → RunsLevel head task before after Done → Standing head task before → Standing head task after
 standing_next head task before after asks dues counted turn (now, pushed, level) st =
     let may = may_begin head task before asks dues counted turn in
@@ -37,7 +39,8 @@ standing_next head task before after asks dues counted turn (now, pushed, level)
     })
 
 -- an outcome between two levels
-pub run_at : (head : Head) (task : Task) (entries : List Entry) (o : Outcome) → IsLegal head.version task entries
+pub run_at : (head : Head) (task : Task) (entries : List Entry) (o : Outcome)
+    → IsLegal head.version task entries
     → IsSure head task entries o → Standing head task entries → IsRun task head entries o
 run_at head task entries o legal sure st = record {
   stage = between;
@@ -49,7 +52,8 @@ run_at head task entries o legal sure st = record {
 }
 
 -- the limit of calls after a level that was cut
-pub run_cut : (head : Head) (task : Task) (before after : List Entry) (asks : ℕ) (dues : List Due) → asks ≡ asks_of before
+pub run_cut : (head : Head) (task : Task) (before after : List Entry) (asks : ℕ) (dues : List Due)
+    → asks ≡ asks_of before
     → IsTurn head task before asks dues → RunsLevel head task before after CallsSpent → IsLegal head.version task after
     → IsSure head task after (outcome.Limit Calls) → Standing head task before → IsRun task head after (outcome.Limit Calls)
 run_cut head task before after asks dues counted turn (now, pushed, level) legal sure st =

@@ -29,7 +29,8 @@ pub level_legal : (version : ℕ) (task : Task) (before : List Entry) → IsLega
 level_legal version task before legal = (grows version task before).next entry.Level legal tt
 
 -- what was due is due behind the line of a level
-pub ready_marked : (version : ℕ) (task : Task) (before : List Entry) (dues : List Due) → IsFit task → IsLegal version task before
+pub ready_marked : (version : ℕ) (task : Task) (before : List Entry) (dues : List Due) → IsFit task
+    → IsLegal version task before
     → AreReady task before dues → AreReady task (before ++ entry.Level ∷ []) dues
 ready_marked version task before dues fit legal ready =
     let same = (mark_adds version task before fit.problem.objects.names.distinct legal entry.Level refl).same in
@@ -40,7 +41,8 @@ ready_marked version task before dues fit legal ready =
     }
 
 -- the turn may begin
-pub may_begin : (head : Head) (task : Task) (before : List Entry) (asks : ℕ) (dues : List Due) → asks ≡ asks_of before
+pub may_begin : (head : Head) (task : Task) (before : List Entry) (asks : ℕ) (dues : List Due)
+    → asks ≡ asks_of before
     → IsTurn head task before asks dues → MayBegin (limits_of head) task before
 may_begin head task before asks dues counted turn = record {
   list = instances_of dues;

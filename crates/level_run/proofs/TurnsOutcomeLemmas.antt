@@ -53,7 +53,8 @@ module _ (task : Task) (s : State) (works : s.failed ≡ false) (learnt : IsLear
     pub names_known : known.names ≡ names_of task s.entries
     names_known = ap (λ (k : Known). k.names) all_known
 
-    pub steps_named : IsCoherent known → (steps : List GroundAction) (cost : ℕ) → IsValid task known steps cost
+    pub steps_named : IsCoherent known → (steps : List GroundAction) (cost : ℕ)
+        → IsValid task known steps cost
         → AreNamedSteps task (names_of task s.entries) steps
     steps_named coherent steps cost valid =
         subst (λ ns. AreNamedSteps task ns steps) names_known (valid_named task known coherent steps cost valid)
@@ -61,14 +62,17 @@ module _ (task : Task) (s : State) (works : s.failed ≡ false) (learnt : IsLear
     pub unsolvable_there : ¬ (IsSolvable task known) → ¬ (IsSolvable task (known_of task s.entries))
     unsolvable_there none solvable = none (subst (IsSolvable task) (sym all_known) solvable)
 
-    pub few_there : (limit : ℕ) → ¬ (MoreThan limit (IsReached task known)) → ¬ (MoreThan limit (IsReached task (known_of task s.entries)))
-    few_there limit none more = none (subst (λ k. MoreThan limit (IsReached task k)) (sym all_known) more)
+    pub few_there : (limit : ℕ) → ¬ (MoreThan limit (IsReached task known))
+        → ¬ (MoreThan limit (IsReached task (known_of task s.entries)))
+    few_there limit none more =
+        none (subst (λ k. MoreThan limit (IsReached task k)) (sym all_known) more)
 
     module _ (head : Head) (of : IsOf head s) (mode : head.mode ≡ Incremental) where
       pub legal_head : IsLegal head.version task s.entries
       legal_head = subst (λ v. IsLegal v task s.entries) of.version h.legal
 
-      pub plan_sure : (steps : List GroundAction) (cost : ℕ) (o : Outcome) → ShowsPlan head.version task s.entries steps cost o
+      pub plan_sure : (steps : List GroundAction) (cost : ℕ) (o : Outcome)
+          → ShowsPlan head.version task s.entries steps cost o
           → IsValid task known steps cost → cost < 2 ^ 64 → IsSure head task s.entries o
       plan_sure steps cost o shows valid small = record {
         holds = true_outcome (limits_of head) task s.entries steps cost o shows (subst (λ k. IsValid task k steps cost) all_known valid);
@@ -77,7 +81,8 @@ module _ (task : Task) (s : State) (works : s.failed ≡ false) (learnt : IsLear
         room = subst HasRoom (sym shows.is) small;
       }
 
-      pub states_sure : IsFar task known head.states → IsSure head task s.entries (outcome.Limit States)
+      pub states_sure : IsFar task known head.states
+          → IsSure head task s.entries (outcome.Limit States)
       states_sure far =
           let there = subst (λ k. IsFar task k head.states) all_known far in
           record {
@@ -97,7 +102,8 @@ module _ (task : Task) (s : State) (works : s.failed ≡ false) (learnt : IsLear
       room = tt;
     }
 
-    pub calls_sure : length s.asked ≡ head.calls → (i : Instance) → IsDue task (known_of task s.entries) (notes_of task s.entries) i
+    pub calls_sure : length s.asked ≡ head.calls → (i : Instance)
+        → IsDue task (known_of task s.entries) (notes_of task s.entries) i
         → IsSure head task s.entries (outcome.Limit Calls)
     calls_sure spent i due = record {
       holds = record { calls = sym h.counted ∙ spent; none_open = h.none_open; instance = i; due = due };
@@ -106,7 +112,8 @@ module _ (task : Task) (s : State) (works : s.failed ≡ false) (learnt : IsLear
       room = tt;
     }
 
-    pub no_plan_sure : ¬ (IsSolvable task (known_of task s.entries)) → ¬ (MoreThan head.states (IsReached task (known_of task s.entries)))
+    pub no_plan_sure : ¬ (IsSolvable task (known_of task s.entries))
+        → ¬ (MoreThan head.states (IsReached task (known_of task s.entries)))
         → NothingIsDue task (known_of task s.entries) (notes_of task s.entries) → IsSure head task s.entries outcome.NoPlan
     no_plan_sure none few due = record {
       holds = record {
@@ -120,9 +127,11 @@ module _ (task : Task) (s : State) (works : s.failed ≡ false) (learnt : IsLear
 
 -- ---- the list of what is due
 
-pub none_due : (task : Task) (known : Known) (notes : List Note) (dues : List Due) → AreDueInTurn task known notes dues → dues ≡ []
+pub none_due : (task : Task) (known : Known) (notes : List Note) (dues : List Due)
+    → AreDueInTurn task known notes dues → dues ≡ []
     → NothingIsDue task known notes
-none_due task known notes dues turn empty = nothing_due task known notes (instances_of dues) turn.due (ap instances_of empty)
+none_due task known notes dues turn empty =
+    nothing_due task known notes (instances_of dues) turn.due (ap instances_of empty)
 
 pub empty_of : {A : Type 0} (xs : List A) → (length xs == 0) ≡ true → xs ≡ []
 empty_of [] e = refl
@@ -133,46 +142,56 @@ filled_of [] e = absurd (cc)
 filled_of (x ∷ xs) e = omega arith
 
 -- something is due where the list isn't empty
-pub first_of : (task : Task) (entries : List Entry) (dues : List Due) → AreReady task entries dues → 0 < length dues
+pub first_of : (task : Task) (entries : List Entry) (dues : List Due) → AreReady task entries dues
+    → 0 < length dues
     → (i : Instance) × IsDue task (known_of task entries) (notes_of task entries) i
 first_of task entries [] ready some = absurd (omega (arith, some))
-first_of task entries (d ∷ ds) ready some = (d.instance, ready.due d.instance (contains_here d.instance (instances_of ds)))
+first_of task entries (d ∷ ds) ready some =
+    (d.instance, ready.due d.instance (contains_here d.instance (instances_of ds)))
 
 -- ---- what a search has found
 
-pub found_plan : (task : Task) (known : Known) (limit : ℕ) (f : Found) (plan : Plan) (cost : ℕ) → f ≡ found.Plan plan cost
+pub found_plan : (task : Task) (known : Known) (limit : ℕ) (f : Found) (plan : Plan) (cost : ℕ)
+    → f ≡ found.Plan plan cost
     → HasPlan task known limit f → IsFoundPlan task known limit plan.steps cost
 found_plan task known limit f plan cost is has = subst (HasPlan task known limit) is has
 
-pub found_limit : (task : Task) (known : Known) (limit : ℕ) (f : Found) → f ≡ found.Limit → (IsLimit f → IsFar task known limit)
+pub found_limit : (task : Task) (known : Known) (limit : ℕ) (f : Found) → f ≡ found.Limit
+    → (IsLimit f → IsFar task known limit)
     → IsFar task known limit
 found_limit task known limit f is far = far (subst IsLimit (sym is) tt)
 
 -- ---- what was decided
 
-pub decided_outcome : (head : Head) (task : Task) (entries : List Entry) (asks : ℕ) (d : Decision) (o : Outcome) → d ≡ Ends o
+pub decided_outcome : (head : Head) (task : Task) (entries : List Entry) (asks : ℕ) (d : Decision) (o : Outcome)
+    → d ≡ Ends o
     → IsDecided head task entries asks d → IsSure head task entries o
 decided_outcome head task entries asks d o is h = subst (IsDecided head task entries asks) is h
 
-pub decided_dues : (head : Head) (task : Task) (entries : List Entry) (asks : ℕ) (d : Decision) (dues : Vec Due Global) → d ≡ Asks dues
+pub decided_dues : (head : Head) (task : Task) (entries : List Entry) (asks : ℕ) (d : Decision) (dues : Vec Due Global)
+    → d ≡ Asks dues
     → IsDecided head task entries asks d → IsTurn head task entries asks dues.items
 decided_dues head task entries asks d dues is h = subst (IsDecided head task entries asks) is h
 
 -- ---- how a level ends
 
-pub spent_sure : (head : Head) (task : Task) (s : State) (before many : ℕ) (b : Batch) → s.failed ≡ false → IsLearnt s → IsSession task s
+pub spent_sure : (head : Head) (task : Task) (s : State) (before many : ℕ) (b : Batch)
+    → s.failed ≡ false → IsLearnt s → IsSession task s
     → IsOf head s → b ≡ CallsSpent → EndsBatch task s.entries before (length s.asked) head.calls many b
     → IsSure head task s.entries (outcome.Limit Calls)
 spent_sure head task s before many b works learnt h of is ends =
     by (subst (EndsBatch task s.entries before (length s.asked) head.calls many) is ends)
   where
-    by : EndsBatch task s.entries before (length s.asked) head.calls many CallsSpent → IsSure head task s.entries (outcome.Limit Calls)
+    by : EndsBatch task s.entries before (length s.asked) head.calls many CallsSpent
+        → IsSure head task s.entries (outcome.Limit Calls)
     by (all, more, left) = calls_sure task s works learnt h head of all left.0 left.1
 
 pub done_of : (b : Batch) → (b ≡ CallsSpent → ⊥) → b ≡ Done
 done_of Done not = refl
 done_of CallsSpent not = absurd (not refl)
 
-pub all_asked : (task : Task) (entries : List Entry) (before after calls many : ℕ) (b : Batch) → b ≡ Done
+pub all_asked : (task : Task) (entries : List Entry) (before after calls many : ℕ) (b : Batch)
+    → b ≡ Done
     → EndsBatch task entries before after calls many b → (after ≡ before + many) × (after ≤ calls)
-all_asked task entries before after calls many b is ends = subst (EndsBatch task entries before after calls many) is ends
+all_asked task entries before after calls many b is ends =
+    subst (EndsBatch task entries before after calls many) is ends

@@ -53,7 +53,8 @@ pub record Listening (task : Task) (pools : List Workers) (past : List Event) (b
   pub last : (refused ≡ []) ⊎ ((cause : HostFault) × (room : ℕ) × (refused ≡ heard request.child room (Err cause) ∷ []) × (lines_read request.child (past ++ calls) ≤ answers_by task pools before request.child))
 
 -- the calls, behind those of the entries, of one entry that doesn't stand in the transcript
-abbrev pub IsBegun : Task → ℕ → List Workers → List Event → List Entry → List Event → List Event → Type 0
+abbrev pub IsBegun : Task → ℕ → List Workers → List Event → List Entry → List Event → List Event
+    → Type 0
 IsBegun task version pools past before calls refused =
     ((calls ≡ []) × (refused ≡ [])) ⊎ Writing task version pools before calls refused
     ⊎ Listening task pools past before calls refused
@@ -70,7 +71,8 @@ pub record Breaks (task : Task) (version : ℕ) (pools : List Workers) (past : L
   pub told : Tells (HasNoneOpen (before ++ more)) fault refused
 
 -- the same of the calls that came to a log that is told
-abbrev pub LogBreaks : Task → ℕ → List Workers → List Entry → RunFault → Option (List Event) → Option (List Event)
+abbrev pub LogBreaks : Task → ℕ → List Workers → List Entry → RunFault → Option (List Event)
+    → Option (List Event)
     → List Entry → Type 0
 LogBreaks task version pools before fault old None more = ⊤
 LogBreaks task version pools before fault old (Some after) more =
@@ -97,7 +99,8 @@ pub record Unstarted (head : Head) (before more : List Entry) (fault : RunFault)
 
 -- The calls that came to the log, where it is told, are the starts of all workers, if none ran before, and then those of the entries,
 -- up to where the run broke off; or it broke off before the first request was written.
-abbrev pub RunBreaks : Task → Head → List Entry → RunFault → Option (List Event) → Option (List Event) → List Entry
+abbrev pub RunBreaks : Task → Head → List Entry → RunFault → Option (List Event)
+    → Option (List Event) → List Entry
     → Type 0
 RunBreaks task head before fault old None more = ⊤
 RunBreaks task head before fault old (Some after) more =
@@ -110,13 +113,15 @@ abbrev pub HasLevel : List Entry → Type 0
 HasLevel entries = (k : ℕ) × (slice_get entries k ≡ Some entry.Level)
 
 -- the same of levels: a call was made only where the line of a level stands
-abbrev pub LevelBreaks : Task → Head → List Entry → RunFault → Option (List Event) → Option (List Event) → List Entry
+abbrev pub LevelBreaks : Task → Head → List Entry → RunFault → Option (List Event)
+    → Option (List Event) → List Entry
     → Type 0
 LevelBreaks task head before fault old new more =
     RunBreaks task head before fault old new more × ((new ≡ old) ⊎ HasLevel more)
 
 -- The same of a whole run, and then stops.
-abbrev pub LogBroken : Task → Head → List Entry → RunFault → Option (List Event) → Option (List Event) → Type 0
+abbrev pub LogBroken : Task → Head → List Entry → RunFault → Option (List Event)
+    → Option (List Event) → Type 0
 LogBroken task head entries fault old None = ⊤
 LogBroken task head entries fault old (Some after) =
     (events : List Event) × (stops : List Event) × (after ≡ events ++ stops) × All IsStop stops

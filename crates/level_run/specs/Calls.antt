@@ -55,7 +55,8 @@ module _ (task : Task) (pools : List Workers) where
   abbrev pub AreCallsOf : List Event → List Entry → Entry → List Event → Type 0
   AreCallsOf past before (entry.Ask number turn call) events =
       Takes (child_for pools (last_round task [] before) (stream_of task call)) (text_of_request (next_request task pools before number turn call)) events
-  AreCallsOf past before (entry.Got number tuples values) events = Hearing task pools past before events
+  AreCallsOf past before (entry.Got number tuples values) events =
+      Hearing task pools past before events
   AreCallsOf past before (entry.Value number value) events = Hearing task pools past before events
   AreCallsOf past before (entry.End number) events = Hearing task pools past before events
   AreCallsOf past before e events = events ≡ []
@@ -67,7 +68,8 @@ module _ (task : Task) (pools : List Workers) where
       (now : List Event) × (later : List Event) × (events ≡ now ++ later) × AreCallsOf past before e now × Follows (past ++ now) (before ++ e ∷ []) entries later
 
   -- the same of the calls that came to a log that is told
-  abbrev pub LogFollows : List Entry → List Entry → Option (List Event) → Option (List Event) → Type 0
+  abbrev pub LogFollows : List Entry → List Entry → Option (List Event) → Option (List Event)
+      → Type 0
   LogFollows before more old None = ⊤
   LogFollows before more old (Some after) =
       (past : List Event) × (events : List Event) × (old ≡ Some past) × (after ≡ past ++ events) × Follows past before more events
@@ -101,7 +103,8 @@ starts_before pools (suc before) more = []
 
 -- Entries came behind the others, by the calls that came to the log: the starts of all workers, if the first request is among these
 -- entries, and then the calls of the entries.
-abbrev pub LogRuns : Task → Head → List Entry → List Entry → Option (List Event) → Option (List Event) → Type 0
+abbrev pub LogRuns : Task → Head → List Entry → List Entry → Option (List Event)
+    → Option (List Event) → Type 0
 LogRuns task head before more old None = ⊤
 LogRuns task head before more old (Some after) =
     (past : List Event) × (events : List Event) × (old ≡ Some past) × (after ≡ past ++ starts_before head.pools (asks_of before) (asks_of more) ++ events)
@@ -113,7 +116,8 @@ pub record Runs (task : Task) (head : Head) (before after : List Entry) (old new
   pub log : LogRuns task head before more old new
 
 -- The log grew by the first of these starts, and by the next one, which was refused, as the fault tells.
-abbrev pub LogStartsPart : List Event → RunFault → Option (List Event) → Option (List Event) → Type 0
+abbrev pub LogStartsPart : List Event → RunFault → Option (List Event) → Option (List Event)
+    → Type 0
 LogStartsPart starts fault old new =
     (n : ℕ) × (child : ℕ) × (words : List (List ℕ)) × (cause : HostFault) × (slice_get starts n ≡ Some (started child words (Ok tt))) × IsHostFault cause fault
     × Extends old new (take n starts ++ started child words (Err cause) ∷ [])

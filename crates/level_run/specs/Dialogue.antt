@@ -61,7 +61,8 @@ is_to child r = r.child == child
 
 -- the bytes of those that go to the child
 abbrev pub bytes_to : ℕ → List Request → List ℕ
-bytes_to child requests = flat_map (λ (r : Request). if is_to child r then text_of_request r else []) requests
+bytes_to child requests =
+    flat_map (λ (r : Request). if is_to child r then text_of_request r else []) requests
 
 -- how many go to it
 abbrev pub count_to : ℕ → List Request → ℕ
@@ -120,7 +121,8 @@ pub record BrokenOff (task : Task) (version : ℕ) (pools : List Workers) (entri
   pub few : length next ≤ 1
   pub legal : IsLegal version task (entries ++ next)
   pub count : ℕ
-  pub said : (child : ℕ) → IsOneOf pools child → 0 < length (requests_of task pools (entries ++ next))
+  pub said : (child : ℕ) → IsOneOf pools child
+      → 0 < length (requests_of task pools (entries ++ next))
       → IfSome (spoken child) (IsSaid task version (requests_of task pools entries) (replies_of entries) (take count (bytes_to child (further_requests task pools entries next))) child)
 
 -- ---- lines that are no answer

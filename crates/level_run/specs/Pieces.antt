@@ -11,6 +11,7 @@ pub record CutOff (old new : Option (List ℕ)) (bytes : List ℕ) : Type 0 wher
   pub took : Appends old new (take count bytes)
 
 -- all of these bytes were taken; or the sink failed, and took a part
-abbrev pub Prints : {T : Type 0} → Result T RunFault → Option (List ℕ) → Option (List ℕ) → List ℕ → Type 0
+abbrev pub Prints : {T : Type 0} → Result T RunFault → Option (List ℕ) → Option (List ℕ) → List ℕ
+    → Type 0
 Prints (Ok x) old new bytes = Appends old new bytes
 Prints (Err fault) old new bytes = (fault ≡ Write) × CutOff old new bytes

@@ -27,7 +27,8 @@ use Rattle.level_run.specs.declared.incremental_mode.Ran.{Ran}
 
 -- the streams of the head's pools are the task's
 abbrev pub AreStreamsOf : Task → Head → Type 0
-AreStreamsOf task head = All (λ (pool : Pool). All (λ stream. stream < length task.streams) pool.streams) head.pools
+AreStreamsOf task head =
+    All (λ (pool : Pool). All (λ stream. stream < length task.streams) pool.streams) head.pools
 
 -- ---- texts
 
@@ -89,7 +90,8 @@ pub record IsWhole (task : Task) (head : Head) (spoken : ℕ → Option Talk) (w
 
 -- What was to be written before the fault: nothing, for want of memory, and no child was started; or the head and whole turns,
 -- the last of which may have stopped; or, where the sink failed, a whole report.
-abbrev pub WasToWrite : Task → Head → RunFault → (ℕ → Option Talk) → (was now : Option (List Event)) → List ℕ → Type 0
+abbrev pub WasToWrite : Task → Head → RunFault → (ℕ → Option Talk) → (was now : Option (List Event))
+    → List ℕ → Type 0
 WasToWrite task head fault spoken was now text =
     ((fault ≡ Memory) × (text ≡ []) × LogStops was now) ⊎ IsPart task head fault spoken was now text
     ⊎ ((fault ≡ Write) × IsWhole task head spoken was now text)

@@ -35,7 +35,8 @@ pub record IsRolling (s : State) (running : ℕ → Bool) (sent answered : ℕ) 
   pub asks : length s.asks ≡ length s.slots
   pub apart : AreDistinct (map (λ (t : Slot). t.child) s.slots)
   pub each_sent : (k : ℕ) (t : Slot) → slice_get s.slots k ≡ Some t → t.sent ≡ nat_lt k sent
-  pub each_open : (k : ℕ) (t : Slot) → slice_get s.slots k ≡ Some t → is_none t.answer ≡ not (nat_lt k answered)
+  pub each_open : (k : ℕ) (t : Slot) → slice_get s.slots k ≡ Some t
+      → is_none t.answer ≡ not (nat_lt k answered)
   pub low : (k : ℕ) (t : Slot) → slice_get s.slots k ≡ Some t → t.child ≤ 16
   pub runs : (k : ℕ) (t : Slot) → slice_get s.slots k ≡ Some t → running t.child ≡ true
 

@@ -9,7 +9,8 @@ pub record IsWorker (pool : Pool) (child : ℕ) : Type 0 where
 
 -- all workers of the pools run
 abbrev pub AllWork : List Pool → (ℕ → Bool) → Type 0
-AllWork pools running = (k child : ℕ) (p : Pool) → slice_get pools k ≡ Some p → IsWorker p child → running child ≡ true
+AllWork pools running =
+    (k child : ℕ) (p : Pool) → slice_get pools k ≡ Some p → IsWorker p child → running child ≡ true
 
 -- none of them runs
 abbrev pub NoneWorks : List Pool → (ℕ → Bool) → Type 0
@@ -18,7 +19,8 @@ NoneWorks pools running =
 
 -- Pools have children of their own, with numbers up to 16, and words that start these.
 pub record AreStartable (pools : List Pool) : Type 0 where
-  pub apart : (j k child : ℕ) (p q : Pool) → slice_get pools j ≡ Some p → slice_get pools k ≡ Some q → IsWorker p child
+  pub apart : (j k child : ℕ) (p q : Pool) → slice_get pools j ≡ Some p → slice_get pools k ≡ Some q
+      → IsWorker p child
       → IsWorker q child → j ≡ k
   pub low : All (λ (p : Pool). p.first + p.workers ≤ 17) pools
   pub words : All (λ (p : Pool). 0 < length p.argv) pools

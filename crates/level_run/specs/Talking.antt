@@ -53,7 +53,8 @@ pub record Talks (task : Task) (version : ℕ) (pools : List Workers) (requests 
 
 -- children that run have said nothing yet
 abbrev pub AreSilent : (ℕ → Bool) → (ℕ → Option Talk) → Type 0
-AreSilent running spoken = (child : ℕ) → running child ≡ true → IfSome (spoken child) (λ talk. talk ≡ silence)
+AreSilent running spoken =
+    (child : ℕ) → running child ≡ true → IfSome (spoken child) (λ talk. talk ≡ silence)
 
 -- ---- an open round
 
@@ -68,7 +69,8 @@ pub record IsSlotOf (task : Task) (version : ℕ) (pools : List Workers) (r : Re
 -- The slots ask what the round's requests say, one by one.
 pub record AreSlotsOf (task : Task) (s : State) : Type 0 where
   pub many : length (requests_of task s.pools s.asks) ≡ length s.slots
-  pub each : (k : ℕ) (r : Request) (t : Slot) → slice_get (requests_of task s.pools s.asks) k ≡ Some r
+  pub each : (k : ℕ) (r : Request) (t : Slot)
+      → slice_get (requests_of task s.pools s.asks) k ≡ Some r
       → slice_get s.slots k ≡ Some t → IsSlotOf task s.version s.pools r t
 
 -- What was said when so many requests of the round are sent, and so many of them are answered.

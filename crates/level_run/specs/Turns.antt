@@ -69,7 +69,8 @@ HasRoom (outcome.Limit kind) = Unit {0}
 pub record IsSure (head : Head) (task : Task) (entries : List Entry) (o : Outcome) : Type 0 where
   pub holds : IsTrueOutcome (limits_of head) task entries o
   pub far : o ≡ outcome.Limit States → IsFar task (known_of task entries) head.states
-  pub within : o ≡ outcome.NoPlan → ¬ (MoreThan head.states (IsReached task (known_of task entries)))
+  pub within : o ≡ outcome.NoPlan
+      → ¬ (MoreThan head.states (IsReached task (known_of task entries)))
   pub room : HasRoom o
 
 -- The run ends with a true outcome; or no plan exists, these instances are due, one at least, and a call is left.
@@ -89,12 +90,14 @@ pub record IsNeededLevel (limits : Limits) (task : Task) (before now : List Entr
   pub level : IsLevel limits task before now cut
   pub unsolvable : ¬ (IsSolvable task (known_of task before))
 
-abbrev pub NeededTurn : Limits → Task → Unit {0} → List Entry → List Entry → Unit {0} → Bool → Type 0
+abbrev pub NeededTurn : Limits → Task → Unit {0} → List Entry → List Entry → Unit {0} → Bool
+    → Type 0
 NeededTurn limits task kept before now next cut = IsNeededLevel limits task before now cut
 
 -- turns from the empty transcript, each of which begins where no plan exists
 abbrev pub AreNeededTurns : Limits → Task → List Entry → Stage → Type 0
-AreNeededTurns limits task entries stage = AreTurns limits task (NeededTurn limits task) tt [] entries stage
+AreNeededTurns limits task entries stage =
+    AreTurns limits task (NeededTurn limits task) tt [] entries stage
 
 -- a whole level that begins where no plan exists, cut or not
 abbrev pub IsSomeLevel : Head → Task → List Entry → List Entry → Type 0

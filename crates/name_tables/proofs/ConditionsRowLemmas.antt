@@ -6,7 +6,8 @@ abbrev pub parts_then : List Condition → Conditions → Conditions
 parts_then [] rest = rest
 parts_then (c ∷ cs) rest = more c (parts_then cs rest)
 
-pub push_part : (cs : List Condition) (c : Condition) (rest : Conditions) → parts_then (cs ++ c ∷ []) rest ≡ parts_then cs (more c rest)
+pub push_part : (cs : List Condition) (c : Condition) (rest : Conditions)
+    → parts_then (cs ++ c ∷ []) rest ≡ parts_then cs (more c rest)
 push_part [] c rest = refl
 push_part (x ∷ xs) c rest = ap (more x) (push_part xs c rest)
 

@@ -7,12 +7,14 @@ use Rattle.task_model.specs.declared.domain.Signature.{Signature}
 use Rattle.name_tables.specs.Declarations.{declared_list, signature_list}
 use Rattle.name_tables.specs.Names.{name_at}
 
-drop_step : {A : Type 0} (xs : List A) (i : ℕ) (x : A) → slice_get xs i ≡ Some x → drop i xs ≡ x ∷ drop (i + 1) xs
+drop_step : {A : Type 0} (xs : List A) (i : ℕ) (x : A) → slice_get xs i ≡ Some x
+    → drop i xs ≡ x ∷ drop (i + 1) xs
 drop_step xs i x e =
     let one : i + 1 ≡ suc i = omega arith in
     drop-cons xs i x (slice_get_within xs i x e) ∙ ap (λ y. y ∷ drop (suc i) xs) (get_or_from_slice_get xs i x x e) ∙ ap (λ n. x ∷ drop n xs) (sym one)
 
-pub name_step : (ns : List (List ℕ)) (i : ℕ) → i < length ns → drop i ns ≡ name_at ns i ∷ drop (i + 1) ns
+pub name_step : (ns : List (List ℕ)) (i : ℕ) → i < length ns
+    → drop i ns ≡ name_at ns i ∷ drop (i + 1) ns
 name_step ns i lt =
     let one : i + 1 ≡ suc i = omega arith in
     drop-cons ns i [] lt ∙ ap (λ y. y ∷ drop (suc i) ns) (sym (unwrap_or-slice_get ns i [])) ∙ ap (λ n. name_at ns i ∷ drop n ns) (sym one)
@@ -39,7 +41,10 @@ module _ (ns ss : List (List ℕ)) (list : List declared.Declared) (i : ℕ) (so
   pub declared_end : slice_get ss i ≡ None → list ≡ declared_list ns ss
   declared_end none = sym (so_far ∙ ap (λ xs. list ++ declared_list (drop i ns) xs) (past ss i none) ∙ ap (λ xs. list ++ xs) (declared_none (drop i ns)) ∙ append-nil list)
 
-  pub declared_more : (new : List declared.Declared) (name sorts : List ℕ) → i < length ns → slice_get ss i ≡ Some sorts → name ≡ name_at ns i → new ≡ list ++ record { name = name; sorts = sorts } ∷ [] → declared_list ns ss ≡ new ++ declared_list (drop (i + 1) ns) (drop (i + 1) ss)
+  pub declared_more : (new : List declared.Declared) (name sorts : List ℕ) → i < length ns
+      → slice_get ss i ≡ Some sorts → name ≡ name_at ns i
+      → new ≡ list ++ record { name = name; sorts = sorts } ∷ []
+      → declared_list ns ss ≡ new ++ declared_list (drop (i + 1) ns) (drop (i + 1) ss)
   declared_more new name sorts lt at is pushed =
       so_far ∙ (λ k. list ++ declared_list (name_step ns i lt k) (drop_step ss i sorts at k))
       ∙ ap (λ n. list ++ record { name = n; sorts = sorts } ∷ declared_list (drop (i + 1) ns) (drop (i + 1) ss)) (sym is)
@@ -50,7 +55,10 @@ module _ (ns : List (List ℕ)) (as' : List ℕ) (list : List Signature) (i : �
   pub signature_end : slice_get as' i ≡ None → list ≡ signature_list ns as'
   signature_end none = sym (so_far ∙ ap (λ xs. list ++ signature_list (drop i ns) xs) (past as' i none) ∙ ap (λ xs. list ++ xs) (signature_none (drop i ns)) ∙ append-nil list)
 
-  pub signature_more : (new : List Signature) (name : List ℕ) (arity : ℕ) → i < length ns → slice_get as' i ≡ Some arity → name ≡ name_at ns i → new ≡ list ++ record { name = name; arity = arity } ∷ [] → signature_list ns as' ≡ new ++ signature_list (drop (i + 1) ns) (drop (i + 1) as')
+  pub signature_more : (new : List Signature) (name : List ℕ) (arity : ℕ) → i < length ns
+      → slice_get as' i ≡ Some arity → name ≡ name_at ns i
+      → new ≡ list ++ record { name = name; arity = arity } ∷ []
+      → signature_list ns as' ≡ new ++ signature_list (drop (i + 1) ns) (drop (i + 1) as')
   signature_more new name arity lt at is pushed =
       so_far ∙ (λ k. list ++ signature_list (name_step ns i lt k) (drop_step as' i arity at k))
       ∙ ap (λ n. list ++ record { name = n; arity = arity } ∷ signature_list (drop (i + 1) ns) (drop (i + 1) as')) (sym is)

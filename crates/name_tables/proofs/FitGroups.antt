@@ -23,10 +23,12 @@ pub copies_long : (k n : ℕ) → length (copies k n) ≡ k
 copies_long zero n = refl
 copies_long (suc k) n = ap suc (copies_long k n)
 
-pub sorts_long : (sorts : List (List ℕ)) (spot : Spot) (waiting : ℕ) (ts : Trees) → length (named_sorts sorts spot waiting ts) ≡ waiting + length (named_words spot ts)
+pub sorts_long : (sorts : List (List ℕ)) (spot : Spot) (waiting : ℕ) (ts : Trees)
+    → length (named_sorts sorts spot waiting ts) ≡ waiting + length (named_words spot ts)
 sorts_long sorts spot waiting nothing = copies_long waiting 0 ∙ omega arith
 sorts_long sorts spot waiting (list items at rest) = copies_long waiting 0 ∙ omega arith
-sorts_long sorts Start waiting (word text at rest) = sorts_long sorts Named (waiting + 1) rest ∙ omega arith
+sorts_long sorts Start waiting (word text at rest) =
+    sorts_long sorts Named (waiting + 1) rest ∙ omega arith
 sorts_long sorts Named waiting (word text at rest) =
     elim (is_dash text) as (λ b. length (if not b then named_sorts sorts Named (waiting + 1) rest else named_sorts sorts Typed waiting rest) ≡ waiting + length (if not b then text ∷ named_words (if b then Typed else Named) rest else named_words (if b then Typed else Named) rest)) [
       | true ↦ sorts_long sorts Typed waiting rest
@@ -35,7 +37,8 @@ sorts_long sorts Named waiting (word text at rest) =
 sorts_long sorts Typed waiting (word text at rest) =
     length-append (copies waiting (sort_of sorts text)) (named_sorts sorts Start 0 rest) ∙ ap (λ n. n + length (named_sorts sorts Start 0 rest)) (copies_long waiting (sort_of sorts text)) ∙ ap (λ n. waiting + n) (sorts_long sorts Start 0 rest) ∙ omega arith
 
-pub sorts_as_long : (sorts : List (List ℕ)) (ts : Trees) → length (named_sorts sorts Start 0 ts) ≡ length (named_words Start ts)
+pub sorts_as_long : (sorts : List (List ℕ)) (ts : Trees)
+    → length (named_sorts sorts Start 0 ts) ≡ length (named_words Start ts)
 sorts_as_long sorts ts = sorts_long sorts Start 0 ts ∙ omega arith
 
 -- ---- each type is there
@@ -44,7 +47,8 @@ all_copies : (p : ℕ → Bool) (k n : ℕ) → p n ≡ true → list_all p (cop
 all_copies p zero n t = refl
 all_copies p (suc k) n t = and_from (p n) (list_all p (copies k n)) t (all_copies p k n t)
 
-pub sort_there : (sorts : List (List ℕ)) (text : List ℕ) → has_name text sorts ≡ true → sort_of sorts text < length sorts
+pub sort_there : (sorts : List (List ℕ)) (text : List ℕ) → has_name text sorts ≡ true
+    → sort_of sorts text < length sorts
 sort_there sorts text e =
     let found = place_there text sorts e in
     subst (λ n. n < length sorts) (ap (λ o. unwrap_or o 0) (sym found.1)) (place_within text sorts found.0 found.1)
@@ -56,7 +60,8 @@ module _ (sorts : List (List ℕ)) (typed : 0 < length sorts) where
   first_place : is_place 0 ≡ true
   first_place = lt-ltb 0 (length sorts) typed
 
-  pub sort_places : (spot : Spot) (waiting : ℕ) (ts : Trees) → types_names sorts spot ts ≡ [] → list_all (λ n. nat_lt n (length sorts)) (named_sorts sorts spot waiting ts) ≡ true
+  pub sort_places : (spot : Spot) (waiting : ℕ) (ts : Trees) → types_names sorts spot ts ≡ []
+      → list_all (λ n. nat_lt n (length sorts)) (named_sorts sorts spot waiting ts) ≡ true
   sort_places spot waiting nothing e = all_copies is_place waiting 0 first_place
   sort_places spot waiting (list items at rest) e = all_copies is_place waiting 0 first_place
   sort_places Start waiting (word text at rest) e = sort_places Named (waiting + 1) rest e
@@ -71,13 +76,16 @@ module _ (sorts : List (List ℕ)) (typed : 0 < length sorts) where
       (sort_places Start 0 rest (append_nil_second (unless (has_name text sorts) Unknown at) (types_names sorts Start rest) e))
 
   -- the types of few names are places in the list of types
-  pub few_places : (ts : Trees) → length (named_words Start ts) ≤ 8388608 → types_names sorts Start ts ≡ [] → are_places (length sorts) (named_sorts sorts Start 0 ts) ≡ true
+  pub few_places : (ts : Trees) → length (named_words Start ts) ≤ 8388608
+      → types_names sorts Start ts ≡ []
+      → are_places (length sorts) (named_sorts sorts Start 0 ts) ≡ true
   few_places ts few e =
       and_from (is_short (named_sorts sorts Start 0 ts)) (list_all is_place (named_sorts sorts Start 0 ts)) (le-leb (length (named_sorts sorts Start 0 ts)) 8388608 (omega (arith, sorts_as_long sorts ts))) (sort_places Start 0 ts e)
 
 -- ---- how many variables are in scope
 
-pub scope_bound : (size : ℕ) (spot : Spot) (ts : Trees) → size ≤ 16 → scope_names size spot ts ≡ [] → size + length (named_words spot ts) ≤ 16
+pub scope_bound : (size : ℕ) (spot : Spot) (ts : Trees) → size ≤ 16 → scope_names size spot ts ≡ []
+    → size + length (named_words spot ts) ≤ 16
 scope_bound size spot nothing few e = omega arith
 scope_bound size spot (list items at rest) few e = omega arith
 scope_bound size spot (word text at rest) few e =
@@ -91,7 +99,8 @@ scope_bound size spot (word text at rest) few e =
 
 -- ---- each name is one
 
-pub words_are_names : (place : ℕ) (spot : Spot) (ts : Trees) → groups_faults Name place spot ts ≡ [] → list_all is_name (named_words spot ts) ≡ true
+pub words_are_names : (place : ℕ) (spot : Spot) (ts : Trees) → groups_faults Name place spot ts ≡ []
+    → list_all is_name (named_words spot ts) ≡ true
 words_are_names place spot nothing e = refl
 words_are_names place spot (list items at rest) e = refl
 words_are_names place Start (word text at rest) e =

@@ -22,7 +22,8 @@ gets_push : (ns : List ℕ) (m : ℕ) → has_number (ns ++ m ∷ []) m ≡ true
 gets_push [] m = or_left (m == m) false (eq-eqb m m refl)
 gets_push (n ∷ ns) m = or_right (m == n) (has_number (ns ++ m ∷ []) m) (gets_push ns m)
 
-pub splits_push : (ns : List ℕ) (m b : ℕ) → has_number (ns ++ m ∷ []) b ≡ true → (has_number ns b ≡ true) ⊎ (b ≡ m)
+pub splits_push : (ns : List ℕ) (m b : ℕ) → has_number (ns ++ m ∷ []) b ≡ true
+    → (has_number ns b ≡ true) ⊎ (b ≡ m)
 splits_push [] m b h =
     elim (or_cases (b == m) false h) [
       | inl e ↦ inr (eqb-true b m e)
@@ -40,25 +41,30 @@ splits_push (n ∷ ns) m b h =
 
 -- one number more, unless it is there
 
-keeps_if : (v : Bool) (ns : List ℕ) (m b : ℕ) → has_number ns b ≡ true → has_number (cond v ns (ns ++ m ∷ [])) b ≡ true
+keeps_if : (v : Bool) (ns : List ℕ) (m b : ℕ) → has_number ns b ≡ true
+    → has_number (cond v ns (ns ++ m ∷ [])) b ≡ true
 keeps_if true ns m b h = h
 keeps_if false ns m b h = keeps_push ns m b h
 
-gets_if : (v : Bool) (ns : List ℕ) (m : ℕ) → has_number ns m ≡ v → has_number (cond v ns (ns ++ m ∷ [])) m ≡ true
+gets_if : (v : Bool) (ns : List ℕ) (m : ℕ) → has_number ns m ≡ v
+    → has_number (cond v ns (ns ++ m ∷ [])) m ≡ true
 gets_if true ns m e = e
 gets_if false ns m e = gets_push ns m
 
-splits_if : (v : Bool) (ns : List ℕ) (m b : ℕ) → has_number (cond v ns (ns ++ m ∷ [])) b ≡ true → (has_number ns b ≡ true) ⊎ (b ≡ m)
+splits_if : (v : Bool) (ns : List ℕ) (m b : ℕ) → has_number (cond v ns (ns ++ m ∷ [])) b ≡ true
+    → (has_number ns b ≡ true) ⊎ (b ≡ m)
 splits_if true ns m b h = inl h
 splits_if false ns m b h = splits_push ns m b h
 
 -- numbers more
 
-pub keeps_all : (ns ms : List ℕ) (b : ℕ) → has_number ns b ≡ true → has_number (with_numbers ns ms) b ≡ true
+pub keeps_all : (ns ms : List ℕ) (b : ℕ) → has_number ns b ≡ true
+    → has_number (with_numbers ns ms) b ≡ true
 keeps_all ns [] b h = h
 keeps_all ns (m ∷ ms) b h = keeps_all (with_number ns m) ms b (keeps_if (has_number ns m) ns m b h)
 
-pub gets_all : (ns ms : List ℕ) (b : ℕ) → has_number ms b ≡ true → has_number (with_numbers ns ms) b ≡ true
+pub gets_all : (ns ms : List ℕ) (b : ℕ) → has_number ms b ≡ true
+    → has_number (with_numbers ns ms) b ≡ true
 gets_all ns [] b h = absurd (cc)
 gets_all ns (m ∷ ms) b h =
     elim (or_cases (b == m) (has_number ms b) h) [
@@ -66,7 +72,8 @@ gets_all ns (m ∷ ms) b h =
       | inr e ↦ gets_all (with_number ns m) ms b e
     ]
 
-pub splits_all : (ns ms : List ℕ) (b : ℕ) → has_number (with_numbers ns ms) b ≡ true → (has_number ns b ≡ true) ⊎ (has_number ms b ≡ true)
+pub splits_all : (ns ms : List ℕ) (b : ℕ) → has_number (with_numbers ns ms) b ≡ true
+    → (has_number ns b ≡ true) ⊎ (has_number ms b ≡ true)
 splits_all ns [] b h = inl h
 splits_all ns (m ∷ ms) b h =
     elim (splits_all (with_number ns m) ms b h) [
@@ -97,18 +104,21 @@ pub grows_all : (ns ms : List ℕ) → Grows ns (with_numbers ns ms)
 grows_all ns [] = grows_not ns
 grows_all ns (m ∷ ms) = grows_twice ns (with_number ns m) (with_numbers (with_number ns m) ms) (grows_if (has_number ns m) ns m) (grows_all (with_number ns m) ms)
 
-take_next : (xs : List ℕ) (i x : ℕ) → slice_get xs i ≡ Some x → take (i + 1) xs ≡ take i xs ++ x ∷ []
+take_next : (xs : List ℕ) (i x : ℕ) → slice_get xs i ≡ Some x
+    → take (i + 1) xs ≡ take i xs ++ x ∷ []
 take_next xs i x e =
     let one : i + 1 ≡ suc i = omega arith in
     ap (λ n. take n xs) one ∙ take-suc xs i 0 (slice_get_within xs i x e) ∙ ap (λ y. take i xs ++ y ∷ []) (get_or_from_slice_get xs i x 0 e)
 
-pub take_grown : (old new : List ℕ) (i x : ℕ) → Grows old new → slice_get old i ≡ Some x → take (i + 1) new ≡ take i old ++ x ∷ []
+pub take_grown : (old new : List ℕ) (i x : ℕ) → Grows old new → slice_get old i ≡ Some x
+    → take (i + 1) new ≡ take i old ++ x ∷ []
 take_grown old new i x g e =
     let within : i + 1 ≤ length old = let w = slice_get_within old i x e in omega arith in
     ap (take (i + 1)) g.split ∙ take-append-le (i + 1) old g.more within ∙ take_next old i x e
 
 has_at : (xs : List ℕ) (i x : ℕ) → slice_get xs i ≡ Some x → has_number (take (i + 1) xs) x ≡ true
-has_at xs i x e = subst (λ ys. has_number ys x ≡ true) (sym (take_next xs i x e)) (gets_push (take i xs) x)
+has_at xs i x e =
+    subst (λ ys. has_number ys x ≡ true) (sym (take_next xs i x e)) (gets_push (take i xs) x)
 
 pub number_there : (xs : List ℕ) (i x : ℕ) → slice_get xs i ≡ Some x → has_number xs x ≡ true
 number_there xs i x e = any_passes_from_place (λ m. x == m) xs i x e (eq-eqb x x refl)
@@ -119,20 +129,24 @@ no_number b h = absurd (cc)
 -- ---- ways
 
 module _ (edges : List (List ℕ)) where
-  longer : (a : ℕ) (between : List ℕ) (b c : ℕ) → LeadsAlong (leads edges) a between b → leads edges b c ≡ true → LeadsAlong (leads edges) a (between ++ b ∷ []) c
+  longer : (a : ℕ) (between : List ℕ) (b c : ℕ) → LeadsAlong (leads edges) a between b
+      → leads edges b c ≡ true → LeadsAlong (leads edges) a (between ++ b ∷ []) c
   longer a [] b c l e = (l, e)
   longer a (m ∷ ms) b c l e = (l.0, longer m ms b c l.1 e)
 
   further : (a b c : ℕ) → HasWay edges a b → leads edges b c ≡ true → HasWay edges a c
-  further a b c w e = record { between = w.between ++ b ∷ []; steps = longer a w.between b c w.steps e }
+  further a b c w e =
+      record { between = w.between ++ b ∷ []; steps = longer a w.between b c w.steps e }
 
   -- what has been seen, of which the first `done` have been gone through
   pub record Explored (start : ℕ) (seen : List ℕ) (done : ℕ) : Type 0 where
     pub reached : (b : ℕ) → has_number seen b ≡ true → HasWay edges start b
     pub begun : (b : ℕ) → leads edges start b ≡ true → has_number seen b ≡ true
-    pub closed : (a b : ℕ) → has_number (take done seen) a ≡ true → leads edges a b ≡ true → has_number seen b ≡ true
+    pub closed : (a b : ℕ) → has_number (take done seen) a ≡ true → leads edges a b ≡ true
+        → has_number seen b ≡ true
 
-  pub explored_first : (start : ℕ) (seen : List ℕ) → seen ≡ with_numbers [] (next_of edges start) → Explored start seen 0
+  pub explored_first : (start : ℕ) (seen : List ℕ) → seen ≡ with_numbers [] (next_of edges start)
+      → Explored start seen 0
   explored_first start seen e =
       subst (λ s. Explored start s 0) (sym e) (
       record {
@@ -145,10 +159,13 @@ module _ (edges : List (List ℕ)) where
       }
       )
 
-  has_prefix : (n : ℕ) (xs : List ℕ) (b : ℕ) → Grows (take n xs) xs → has_number (take n xs) b ≡ true → has_number xs b ≡ true
-  has_prefix n xs b g h = subst (λ ys. has_number ys b ≡ true) (sym g.split) (keeps_behind (take n xs) g.more b h)
+  has_prefix : (n : ℕ) (xs : List ℕ) (b : ℕ) → Grows (take n xs) xs
+      → has_number (take n xs) b ≡ true → has_number xs b ≡ true
+  has_prefix n xs b g h =
+      subst (λ ys. has_number ys b ≡ true) (sym g.split) (keeps_behind (take n xs) g.more b h)
     where
-      keeps_behind : (xs ys : List ℕ) (b : ℕ) → has_number xs b ≡ true → has_number (xs ++ ys) b ≡ true
+      keeps_behind : (xs ys : List ℕ) (b : ℕ) → has_number xs b ≡ true
+          → has_number (xs ++ ys) b ≡ true
       keeps_behind [] ys b h = absurd (no_number b h)
       keeps_behind (x ∷ xs) ys b h =
           elim (or_cases (b == x) (has_number xs b) h) [
@@ -156,7 +173,9 @@ module _ (edges : List (List ℕ)) where
             | inr e ↦ or_right (b == x) (has_number (xs ++ ys) b) (keeps_behind xs ys b e)
           ]
 
-  pub explored_more : (start : ℕ) (seen new : List ℕ) (done a : ℕ) → Explored start seen done → slice_get seen done ≡ Some a → new ≡ with_numbers seen (next_of edges a) → Explored start new (done + 1)
+  pub explored_more : (start : ℕ) (seen new : List ℕ) (done a : ℕ) → Explored start seen done
+      → slice_get seen done ≡ Some a → new ≡ with_numbers seen (next_of edges a)
+      → Explored start new (done + 1)
   explored_more start seen new done a x at e =
       subst (λ s. Explored start s (done + 1)) (sym e) (
       record {
@@ -172,11 +191,16 @@ module _ (edges : List (List ℕ)) where
       }
       )
 
-  all_closed : (start : ℕ) (seen : List ℕ) → ((a b : ℕ) → has_number seen a ≡ true → leads edges a b ≡ true → has_number seen b ≡ true) → (a : ℕ) (between : List ℕ) (b : ℕ) → has_number seen a ≡ true → LeadsAlong (leads edges) a between b → has_number seen b ≡ true
+  all_closed : (start : ℕ) (seen : List ℕ)
+      → ((a b : ℕ) → has_number seen a ≡ true → leads edges a b ≡ true → has_number seen b ≡ true)
+      → (a : ℕ) (between : List ℕ) (b : ℕ) → has_number seen a ≡ true
+      → LeadsAlong (leads edges) a between b → has_number seen b ≡ true
   all_closed start seen closed a [] b h l = closed a b h l
-  all_closed start seen closed a (m ∷ ms) b h l = all_closed start seen closed m ms b (closed a m h l.0) l.1
+  all_closed start seen closed a (m ∷ ms) b h l =
+      all_closed start seen closed m ms b (closed a m h l.0) l.1
 
-  pub explored_all : (start : ℕ) (seen : List ℕ) (done : ℕ) → Explored start seen done → slice_get seen done ≡ None → AreReached edges start seen
+  pub explored_all : (start : ℕ) (seen : List ℕ) (done : ℕ) → Explored start seen done
+      → slice_get seen done ≡ None → AreReached edges start seen
   explored_all start seen done x none = record { only = x.reached; all = all }
     where
       whole : take done seen ≡ seen
@@ -192,9 +216,11 @@ module _ (edges : List (List ℕ)) where
               some_none : (x : ℕ) → Some x ≡ None → ⊥
               some_none x e = cc
 
-      closed : (a b : ℕ) → has_number seen a ≡ true → leads edges a b ≡ true → has_number seen b ≡ true
+      closed : (a b : ℕ) → has_number seen a ≡ true → leads edges a b ≡ true
+          → has_number seen b ≡ true
       closed a b h f = x.closed a b (subst (λ ys. has_number ys a ≡ true) (sym whole) h) f
 
-      all : (b : ℕ) (between : List ℕ) → LeadsAlong (leads edges) start between b → has_number seen b ≡ true
+      all : (b : ℕ) (between : List ℕ) → LeadsAlong (leads edges) start between b
+          → has_number seen b ≡ true
       all b [] l = x.begun b l
       all b (m ∷ ms) l = all_closed start seen closed m ms b (x.begun m l.0) l.1

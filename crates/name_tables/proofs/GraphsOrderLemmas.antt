@@ -12,7 +12,8 @@ abbrev pub Ascends : ℕ → ℕ → List ℕ → Type 0
 Ascends low high [] = Unit {0}
 Ascends low high (n ∷ ns) = (low ≤ n) × (n < high) × Ascends (n + 1) high ns
 
-pub ascends_with : (low high : ℕ) (ns : List ℕ) (n : ℕ) → low ≤ n → n < high → Ascends low high ns → Ascends low high (ascending_with ns n)
+pub ascends_with : (low high : ℕ) (ns : List ℕ) (n : ℕ) → low ≤ n → n < high → Ascends low high ns
+    → Ascends low high (ascending_with ns n)
 ascends_with low high [] n le lt a = (le, lt, tt)
 ascends_with low high (m ∷ ms) n le lt a =
     elim (nat_lt n m) as (λ b. nat_lt n m ≡ b → Ascends low high (cond b (n ∷ m ∷ ms) (cond (n == m) (m ∷ ms) (m ∷ ascending_with ms n)))) [
@@ -23,7 +24,8 @@ ascends_with low high (m ∷ ms) n le lt a =
       ] refl
     ] refl
 
-pub ascends_all : (high : ℕ) (so_far ns : List ℕ) → list_all (λ n. nat_lt n high) ns ≡ true → Ascends 0 high so_far → Ascends 0 high (ascending so_far ns)
+pub ascends_all : (high : ℕ) (so_far ns : List ℕ) → list_all (λ n. nat_lt n high) ns ≡ true
+    → Ascends 0 high so_far → Ascends 0 high (ascending so_far ns)
 ascends_all high so_far [] e a = a
 ascends_all high so_far (n ∷ ns) e a =
     ascends_all high (ascending_with so_far n) ns (second_so (nat_lt n high) (list_all (λ n. nat_lt n high) ns) e)
@@ -33,12 +35,14 @@ ascends_long : (low high : ℕ) (ns : List ℕ) → Ascends low high ns → leng
 ascends_long low high [] a = omega arith
 ascends_long low high (n ∷ ns) a = omega (arith, ascends_long (n + 1) high ns a.2, a.0, a.1)
 
-ascends_below : (low high : ℕ) (ns : List ℕ) → Ascends low high ns → list_all (λ n. nat_lt n high) ns ≡ true
+ascends_below : (low high : ℕ) (ns : List ℕ) → Ascends low high ns
+    → list_all (λ n. nat_lt n high) ns ≡ true
 ascends_below low high [] a = refl
 ascends_below low high (n ∷ ns) a = and_from (nat_lt n high) (list_all (λ n. nat_lt n high) ns) (lt-ltb n high a.1) (ascends_below (n + 1) high ns a.2)
 
 -- ascending places of a list are fit
-pub ascends_places : (size : ℕ) (ns : List ℕ) → size ≤ 8388608 → Ascends 0 size ns → are_places size ns ≡ true
+pub ascends_places : (size : ℕ) (ns : List ℕ) → size ≤ 8388608 → Ascends 0 size ns
+    → are_places size ns ≡ true
 ascends_places size ns few a =
     and_from (is_short ns) (list_all (λ n. nat_lt n size) ns) (le-leb (length ns) 8388608 (omega (arith, ascends_long 0 size ns a))) (ascends_below 0 size ns a)
 
@@ -56,8 +60,10 @@ pub number_any : (ns : List ℕ) (n : ℕ) → list_any (λ m. m == n) ns ≡ ha
 number_any [] n = refl
 number_any (m ∷ ms) n = λ i. same_test m n i || number_any ms n i
 
-pub in_with : (ns : List ℕ) (n b : ℕ) → has_number (ascending_with ns n) b ≡ true → (b ≡ n) ⊎ (has_number ns b ≡ true)
-in_with [] n b h = elim (or_cases (b == n) false h) [ inl e ↦ inl (eqb-true b n e) | inr e ↦ absurd (cc) ]
+pub in_with : (ns : List ℕ) (n b : ℕ) → has_number (ascending_with ns n) b ≡ true
+    → (b ≡ n) ⊎ (has_number ns b ≡ true)
+in_with [] n b h =
+    elim (or_cases (b == n) false h) [ inl e ↦ inl (eqb-true b n e) | inr e ↦ absurd (cc) ]
 in_with (m ∷ ms) n b h =
     elim (nat_lt n m) as (λ c. has_number (cond c (n ∷ m ∷ ms) (cond (n == m) (m ∷ ms) (m ∷ ascending_with ms n))) b ≡ true → (b ≡ n) ⊎ (has_number (m ∷ ms) b ≡ true)) [
       | true ↦ λ g. elim (or_cases (b == n) (has_number (m ∷ ms) b) g) [ inl e ↦ inl (eqb-true b n e) | inr e ↦ inr e ]
@@ -71,7 +77,8 @@ in_with (m ∷ ms) n b h =
       ] g
     ] h
 
-pub with_in : (ns : List ℕ) (n b : ℕ) → (b ≡ n) ⊎ (has_number ns b ≡ true) → has_number (ascending_with ns n) b ≡ true
+pub with_in : (ns : List ℕ) (n b : ℕ) → (b ≡ n) ⊎ (has_number ns b ≡ true)
+    → has_number (ascending_with ns n) b ≡ true
 with_in [] n b (inl e) = or_left (b == n) false (eq-eqb b n e)
 with_in [] n b (inr e) = absurd (cc)
 with_in (m ∷ ms) n b h =
@@ -87,7 +94,8 @@ with_in (m ∷ ms) n b h =
     ]
 
 -- the numbers of an ascending list are those so far and the added ones
-pub in_ascending : (so_far ns : List ℕ) (b : ℕ) → has_number (ascending so_far ns) b ≡ true → (has_number so_far b ≡ true) ⊎ (has_number ns b ≡ true)
+pub in_ascending : (so_far ns : List ℕ) (b : ℕ) → has_number (ascending so_far ns) b ≡ true
+    → (has_number so_far b ≡ true) ⊎ (has_number ns b ≡ true)
 in_ascending so_far [] b h = inl h
 in_ascending so_far (n ∷ ns) b h =
     elim (in_ascending (ascending_with so_far n) ns b h) [
@@ -95,10 +103,13 @@ in_ascending so_far (n ∷ ns) b h =
       | inr e ↦ inr (or_right (b == n) (has_number ns b) e)
     ]
 
-pub ascending_in : (so_far ns : List ℕ) (b : ℕ) → (has_number so_far b ≡ true) ⊎ (has_number ns b ≡ true) → has_number (ascending so_far ns) b ≡ true
+pub ascending_in : (so_far ns : List ℕ) (b : ℕ)
+    → (has_number so_far b ≡ true) ⊎ (has_number ns b ≡ true)
+    → has_number (ascending so_far ns) b ≡ true
 ascending_in so_far [] b (inl e) = e
 ascending_in so_far [] b (inr e) = absurd (cc)
-ascending_in so_far (n ∷ ns) b (inl e) = ascending_in (ascending_with so_far n) ns b (inl (with_in so_far n b (inr e)))
+ascending_in so_far (n ∷ ns) b (inl e) =
+    ascending_in (ascending_with so_far n) ns b (inl (with_in so_far n b (inr e)))
 ascending_in so_far (n ∷ ns) b (inr e) =
     elim (or_cases (b == n) (has_number ns b) e) [
       | inl k ↦ ascending_in (ascending_with so_far n) ns b (inl (with_in so_far n b (inl (eqb-true b n k))))

@@ -16,7 +16,8 @@ AreFresh seen (n ∷ ns) = (has_name n seen ≡ false) × AreFresh (seen ++ n �
 
 -- ---- by places
 
-pub get_middle : {A : Type 0} (xs : List A) (x : A) (ys : List A) → slice_get (xs ++ x ∷ ys) (length xs) ≡ Some x
+pub get_middle : {A : Type 0} (xs : List A) (x : A) (ys : List A)
+    → slice_get (xs ++ x ∷ ys) (length xs) ≡ Some x
 get_middle [] x ys = refl
 get_middle (y ∷ xs) x ys = get_middle xs x ys
 
@@ -35,8 +36,11 @@ fresh_from seen (n ∷ ns) d = (false_from_ne_true (has_name n seen) clash, fres
         omega (arith, twice, inside)
 
 -- a table of fresh names has all of them, in their order
-pub name_new : (names : List (List ℕ)) (n : List ℕ) → has_name n names ≡ false → with_name names n ≡ names ++ n ∷ []
+pub name_new : (names : List (List ℕ)) (n : List ℕ) → has_name n names ≡ false
+    → with_name names n ≡ names ++ n ∷ []
 name_new names n e = ap (λ b. cond b names (names ++ n ∷ [])) e
 
-pub signature_new : (s : Signed) (n : List ℕ) (a : ℕ) → has_name n s.names ≡ false → with_signature s n a ≡ record { names = s.names ++ n ∷ []; arities = s.arities ++ a ∷ [] }
-signature_new s n a e = ap (λ b. cond b s (record { names = s.names ++ n ∷ []; arities = s.arities ++ a ∷ [] })) e
+pub signature_new : (s : Signed) (n : List ℕ) (a : ℕ) → has_name n s.names ≡ false
+    → with_signature s n a ≡ record { names = s.names ++ n ∷ []; arities = s.arities ++ a ∷ [] }
+signature_new s n a e =
+    ap (λ b. cond b s (record { names = s.names ++ n ∷ []; arities = s.arities ++ a ∷ [] })) e

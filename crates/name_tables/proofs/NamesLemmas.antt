@@ -20,7 +20,8 @@ name_itself n m e = (bytes_eq-Decides n m).1 e
 
 -- ---- the place of a name
 
-first_within : {A : Type 0} (p : A → Bool) (xs : List A) → list_any p xs ≡ true → position_or_len p xs < length xs
+first_within : {A : Type 0} (p : A → Bool) (xs : List A) → list_any p xs ≡ true
+    → position_or_len p xs < length xs
 first_within p [] e = absurd (cc)
 first_within p (x ∷ xs) e =
     elim (p x) as (λ b. (b || list_any p xs) ≡ true → cond (not b) (1 + position_or_len p xs) 0 < suc (length xs)) [
@@ -28,31 +29,39 @@ first_within p (x ∷ xs) e =
       | false ↦ λ rest. omega (arith, first_within p xs rest)
     ] e
 
-pub place_there : (name : List ℕ) (names : List (List ℕ)) → has_name name names ≡ true → (i : ℕ) × (place_of name names ≡ Some i)
+pub place_there : (name : List ℕ) (names : List (List ℕ)) → has_name name names ≡ true
+    → (i : ℕ) × (place_of name names ≡ Some i)
 place_there name names e = (position_or_len (bytes_eq name) names, cond-true (nat_lt (position_or_len (bytes_eq name) names) (length names)) (Some (position_or_len (bytes_eq name) names)) None (lt-ltb _ _ (first_within (bytes_eq name) names e)))
 
-pub place_within : (name : List ℕ) (names : List (List ℕ)) (i : ℕ) → place_of name names ≡ Some i → i < length names
+pub place_within : (name : List ℕ) (names : List (List ℕ)) (i : ℕ) → place_of name names ≡ Some i
+    → i < length names
 place_within name names i e = (position-Some (bytes_eq name) names i [] e).0
 
-pub place_named : (name : List ℕ) (names : List (List ℕ)) (i : ℕ) → place_of name names ≡ Some i → slice_get names i ≡ Some name
+pub place_named : (name : List ℕ) (names : List (List ℕ)) (i : ℕ) → place_of name names ≡ Some i
+    → slice_get names i ≡ Some name
 place_named name names i e =
     let found = position-Some (bytes_eq name) names i [] e in
     slice_get-get_or names i [] found.0 ∙ ap Some (sym (same_name name (get_or names i []) found.1))
 
-pub name_there : (name : List ℕ) (names : List (List ℕ)) (i : ℕ) → slice_get names i ≡ Some name → has_name name names ≡ true
-name_there name names i e = any_passes_from_place (bytes_eq name) names i name e (name_itself name name refl)
+pub name_there : (name : List ℕ) (names : List (List ℕ)) (i : ℕ) → slice_get names i ≡ Some name
+    → has_name name names ≡ true
+name_there name names i e =
+    any_passes_from_place (bytes_eq name) names i name e (name_itself name name refl)
 
-pub name_found : (name : List ℕ) (names : List (List ℕ)) → has_name name names ≡ true → (i : ℕ) × (slice_get names i ≡ Some name)
+pub name_found : (name : List ℕ) (names : List (List ℕ)) → has_name name names ≡ true
+    → (i : ℕ) × (slice_get names i ≡ Some name)
 name_found name names e = let found = any_found (bytes_eq name) names e in (found.0, found.2 ∙ ap Some (sym (same_name name found.1 found.3)))
 
-pub place_is : (name : List ℕ) (names : List (List ℕ)) (i : ℕ) → AreDistinct names → slice_get names i ≡ Some name → place_of name names ≡ Some i
+pub place_is : (name : List ℕ) (names : List (List ℕ)) (i : ℕ) → AreDistinct names
+    → slice_get names i ≡ Some name → place_of name names ≡ Some i
 place_is name names i distinct at =
     let found = place_there name names (name_there name names i at) in
     found.1 ∙ ap Some (distinct found.0 i name (place_named name names found.0 found.1) at)
 
 -- ---- tables in which each name stands once
 
-pub distinct_with : (names : List (List ℕ)) (name : List ℕ) → AreDistinct names → AreDistinct (with_name names name)
+pub distinct_with : (names : List (List ℕ)) (name : List ℕ) → AreDistinct names
+    → AreDistinct (with_name names name)
 distinct_with names name d =
     elim (has_name name names) as (λ b. has_name name names ≡ b → AreDistinct (cond b names (names ++ name ∷ []))) [
       | true ↦ λ _. d
@@ -61,7 +70,9 @@ distinct_with names name d =
 
 -- ---- the last place of a name
 
-pub last_within : (at : ℕ) (so_far : Option ℕ) (name : List ℕ) (names : List (List ℕ)) (size : ℕ) → ((k : ℕ) → so_far ≡ Some k → k < size) → at + length names ≤ size → (k : ℕ) → last_place at so_far name names ≡ Some k → k < size
+pub last_within : (at : ℕ) (so_far : Option ℕ) (name : List ℕ) (names : List (List ℕ)) (size : ℕ)
+    → ((k : ℕ) → so_far ≡ Some k → k < size) → at + length names ≤ size → (k : ℕ)
+    → last_place at so_far name names ≡ Some k → k < size
 last_within at so_far name [] size low fits k e = low k e
 last_within at so_far name (n ∷ ns) size low fits k e = last_within (at + 1) (cond (bytes_eq n name) (Some at) so_far) name ns size (here (bytes_eq n name)) (omega arith) k e
   where
@@ -70,7 +81,8 @@ last_within at so_far name (n ∷ ns) size low fits k e = last_within (at + 1) (
     here false m f = low m f
 
 -- no place only where the name isn't there
-pub last_none : (at : ℕ) (so_far : Option ℕ) (name : List ℕ) (names : List (List ℕ)) → last_place at so_far name names ≡ None → (so_far ≡ None) × (has_name name names ≡ false)
+pub last_none : (at : ℕ) (so_far : Option ℕ) (name : List ℕ) (names : List (List ℕ))
+    → last_place at so_far name names ≡ None → (so_far ≡ None) × (has_name name names ≡ false)
 last_none at so_far name [] e = (e, refl)
 last_none at so_far name (n ∷ ns) e =
     let rest = last_none (at + 1) (cond (bytes_eq n name) (Some at) so_far) name ns e in
@@ -79,7 +91,8 @@ last_none at so_far name (n ∷ ns) e =
       | false ↦ λ other f. (f, other_name other rest.1)
     ] refl rest.0
   where
-    other_name : bytes_eq n name ≡ false → has_name name ns ≡ false → (bytes_eq name n || has_name name ns) ≡ false
+    other_name : bytes_eq n name ≡ false → has_name name ns ≡ false
+        → (bytes_eq name n || has_name name ns) ≡ false
     other_name other none =
         elim (bytes_eq name n) as (λ b. bytes_eq name n ≡ b → (b || has_name name ns) ≡ false) [
           | true ↦ λ t. absurd (false≢true (sym other ∙ name_itself n name (sym (same_name name n t))))

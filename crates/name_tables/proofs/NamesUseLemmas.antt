@@ -22,13 +22,15 @@ module _ (n : List ℕ) (ns : List (List ℕ)) where
 
   -- a name that is there has a place, and stands at it
   pub place_some : has_name n ns ≡ true → place_of n ns ≡ Some (unwrap_or (place_of n ns) 0)
-  place_some e = let found = place_there n ns e in found.1 ∙ ap Some (sym (ap (λ o. unwrap_or o 0) found.1))
+  place_some e =
+      let found = place_there n ns e in found.1 ∙ ap Some (sym (ap (λ o. unwrap_or o 0) found.1))
 
   pub place_holds : has_name n ns ≡ true → slice_get ns (unwrap_or (place_of n ns) 0) ≡ Some n
   place_holds e = place_named n ns (unwrap_or (place_of n ns) 0) (place_some e)
 
 -- a place so far stays
-pub place_push : (n y : List ℕ) (ns : List (List ℕ)) → has_name n ns ≡ true → place_of n (ns ++ y ∷ []) ≡ place_of n ns
+pub place_push : (n y : List ℕ) (ns : List (List ℕ)) → has_name n ns ≡ true
+    → place_of n (ns ++ y ∷ []) ≡ place_of n ns
 place_push n y ns e =
     let k : ℕ = position_or_len (bytes_eq n) ns in
     let low : nat_lt k (length ns) ≡ true = sym (any_within (bytes_eq n) ns) ∙ e in
@@ -46,11 +48,14 @@ pub record IsUsable (s : Signed) (n : List ℕ) (count : ℕ) : Type 0 where
   pub there : has_name n s.names ≡ true
   pub arity : slice_get s.arities (declared_place s n) ≡ Some count
 
-usable_by : (s : Signed) (n : List ℕ) (count at place : ℕ) (o : Option ℕ) → has_name n s.names ≡ true → slice_get s.arities (declared_place s n) ≡ o → use_names o count at place ≡ [] → IsUsable s n count
+usable_by : (s : Signed) (n : List ℕ) (count at place : ℕ) (o : Option ℕ)
+    → has_name n s.names ≡ true → slice_get s.arities (declared_place s n) ≡ o
+    → use_names o count at place ≡ [] → IsUsable s n count
 usable_by s n count at place None there is e = absurd (cc)
 usable_by s n count at place (Some a) there is e = record { there = there; arity = is ∙ ap Some (eqb-true a count (met (a == count) Arity place e)) }
 
-pub usable : (s : Signed) (n : List ℕ) (count at place : ℕ) → use_names (arity_of s n) count at place ≡ [] → IsUsable s n count
+pub usable : (s : Signed) (n : List ℕ) (count at place : ℕ)
+    → use_names (arity_of s n) count at place ≡ [] → IsUsable s n count
 usable s n count at place e =
     elim (cases_Bool (has_name n s.names)) [
       | inl there ↦
@@ -60,7 +65,8 @@ usable s n count at place e =
           absurd (cc)
     ]
 
-pub has_arity_at : (all : List Signature) (k n : ℕ) → slice_get (map (λ (s : Signature). s.arity) all) k ≡ Some n → has_arity all k n ≡ true
+pub has_arity_at : (all : List Signature) (k n : ℕ)
+    → slice_get (map (λ (s : Signature). s.arity) all) k ≡ Some n → has_arity all k n ≡ true
 has_arity_at [] k n e = absurd (cc)
 has_arity_at (s ∷ all) zero n e =
     let same : s.arity ≡ n = cc in

@@ -11,6 +11,7 @@ met true kind place e = refl
 met false kind place e = absurd (cc)
 
 -- where a test chooses between faults and one fault, the test holds, and the faults are none
-pub chosen : {A : Type 0} (b : Bool) (xs : List A) (y : A) (ys : List A) → if b then xs else y ∷ ys ≡ [] → (b ≡ true) × (xs ≡ [])
+pub chosen : {A : Type 0} (b : Bool) (xs : List A) (y : A) (ys : List A)
+    → if b then xs else y ∷ ys ≡ [] → (b ≡ true) × (xs ≡ [])
 chosen true xs y ys e = (refl, e)
 chosen false xs y ys e = absurd (some_fault y ys e)

@@ -12,7 +12,9 @@ inner_shallow (list items at rest) = omega arith
 
 -- no larger than the text, and one level less deep
 pub body_less : (t : Trees) → size (body_of t) ≤ size t
-body_less t = omega (arith, inner_small t, tail_small (inner_of t), tail_small (tail_of (inner_of t)))
+body_less t =
+    omega (arith, inner_small t, tail_small (inner_of t), tail_small (tail_of (inner_of t)))
 
 pub body_shallow : (t : Trees) → depth (body_of t) ≤ depth t - 1
-body_shallow t = omega (arith, inner_shallow t, tail_shallow (inner_of t), tail_shallow (tail_of (inner_of t)))
+body_shallow t =
+    omega (arith, inner_shallow t, tail_shallow (inner_of t), tail_shallow (tail_of (inner_of t)))

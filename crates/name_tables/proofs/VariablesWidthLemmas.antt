@@ -10,11 +10,13 @@ use Rattle.form_reader.specs.Rows.{after_word, can_stand, groups_faults, is_dash
 use Rattle.name_tables.specs.Variables.{is_named, named_words}
 use Rattle.name_tables.proofs.NoFaultLemmas.{chosen}
 
-stands_by : (b : Bool) (w : List ℕ) → cond b true (is_name w) ≡ true → not b ≡ true → is_name w ≡ true
+stands_by : (b : Bool) (w : List ℕ) → cond b true (is_name w) ≡ true → not b ≡ true
+    → is_name w ≡ true
 stands_by true w e f = absurd (cc)
 stands_by false w e f = e
 
-stands : (spot : Spot) (w : List ℕ) → can_stand Name spot w ≡ true → is_named spot w ≡ true → is_name w ≡ true
+stands : (spot : Spot) (w : List ℕ) → can_stand Name spot w ≡ true → is_named spot w ≡ true
+    → is_name w ≡ true
 stands Start w e f = e
 stands Named w e f = stands_by (is_dash w) w e f
 stands Typed w e f = absurd (cc)
@@ -23,12 +25,14 @@ pub name_long : (w : List ℕ) → is_name w ≡ true → 1 ≤ length w
 name_long [] e = absurd (cc)
 name_long (c ∷ cs) e = omega arith
 
-length_step : (b : Bool) (w : List ℕ) (ws : List (List ℕ)) (n : ℕ) → (b ≡ true → is_name w ≡ true) → length ws ≤ n → length (cond b (w ∷ ws) ws) ≤ length w + n
+length_step : (b : Bool) (w : List ℕ) (ws : List (List ℕ)) (n : ℕ) → (b ≡ true → is_name w ≡ true)
+    → length ws ≤ n → length (cond b (w ∷ ws) ws) ≤ length w + n
 length_step true w ws n e h = omega (arith, name_long w (e refl))
 length_step false w ws n e h = omega arith
 
 -- each name takes a byte
-pub words_length : (place : ℕ) (spot : Spot) (ts : Trees) → groups_faults Name place spot ts ≡ [] → length (named_words spot ts) ≤ size ts
+pub words_length : (place : ℕ) (spot : Spot) (ts : Trees) → groups_faults Name place spot ts ≡ []
+    → length (named_words spot ts) ≤ size ts
 words_length place spot nothing e = omega arith
 words_length place spot (list items at rest) e = omega arith
 words_length place spot (word w at rest) e =

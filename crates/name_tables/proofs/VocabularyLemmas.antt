@@ -38,25 +38,33 @@ used_inside all s n count are used =
     let long : length s.names ≡ length all = ap length are.names ∙ length-map all (λ (g : Signature). g.name) in
     omega arith
 
-number_at : {A : Type 0} (f : ℕ → A) (first count k : ℕ) → k < count → slice_get (map f (numbers_from first count)) k ≡ Some (f (first + k))
+number_at : {A : Type 0} (f : ℕ → A) (first count k : ℕ) → k < count
+    → slice_get (map f (numbers_from first count)) k ≡ Some (f (first + k))
 number_at f first zero k h = absurd (omega arith)
-number_at f first (suc count) zero h = let e : first ≡ first + 0 = omega arith in ap (λ n. Some (f n)) e
+number_at f first (suc count) zero h =
+    let e : first ≡ first + 0 = omega arith in ap (λ n. Some (f n)) e
 number_at f first (suc count) (suc k) h = let e : first + 1 + k ≡ first + suc k = omega arith in number_at f (first + 1) count k (omega arith) ∙ ap (λ n. Some (f n)) e
 
 -- each predicate's role stands at its place
-pub role_at : (d : Domain) (k : ℕ) → d.roles ≡ map (role_of d) (numbers_from 0 (length d.predicates)) → k < length d.predicates → slice_get d.roles k ≡ Some (role_of d k)
+pub role_at : (d : Domain) (k : ℕ)
+    → d.roles ≡ map (role_of d) (numbers_from 0 (length d.predicates)) → k < length d.predicates
+    → slice_get d.roles k ≡ Some (role_of d k)
 role_at d k e h =
     let zeros : 0 + k ≡ k = omega arith in
     ap (λ rs. slice_get rs k) e ∙ number_at (role_of d) 0 (length d.predicates) k h ∙ ap (λ n. Some (role_of d n)) zeros
 
 -- ---- as conditions ask for them
 
-side_by_side : (all : List Signature) → signature_list (map (λ (g : Signature). g.name) all) (map (λ (g : Signature). g.arity) all) ≡ all
+side_by_side : (all : List Signature)
+    → signature_list (map (λ (g : Signature). g.name) all) (map (λ (g : Signature). g.arity) all) ≡ all
 side_by_side [] = refl
 side_by_side (g ∷ gs) = ap (λ hs. g ∷ hs) (side_by_side gs)
 
-pub listed : (all : List Signature) (s : Signed) → AreSigned all s → all ≡ signature_list s.names s.arities
-listed all s are = sym (side_by_side all) ∙ (λ i. signature_list (sym are.names i) (sym are.arities i))
+pub listed : (all : List Signature) (s : Signed) → AreSigned all s
+    → all ≡ signature_list s.names s.arities
+listed all s are =
+    sym (side_by_side all) ∙ (λ i. signature_list (sym are.names i) (sym are.arities i))
 
-pub knows_from : (d : Domain) (n : ℕ) (v : Vocabulary) → 0 < length v.sorts → AreNamesOf d n v → Knows v d n
+pub knows_from : (d : Domain) (n : ℕ) (v : Vocabulary) → 0 < length v.sorts → AreNamesOf d n v
+    → Knows v d n
 knows_from d n v some are = record { predicates = listed d.predicates v.predicates are.predicates; functions = listed d.functions v.functions are.functions; sorts = sym are.sorts; typed = some; objects_long = sym are.long }

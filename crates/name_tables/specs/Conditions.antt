@@ -23,7 +23,8 @@ equal_of (s ∷ []) = Equal s s
 equal_of (s ∷ t ∷ ts) = Equal s t
 
 -- what the head of a condition makes of it
-abbrev pub condition_by : ConditionHead → (parts : Conditions) (single quantified equal atom : Condition) → Condition
+abbrev pub condition_by : ConditionHead
+    → (parts : Conditions) (single quantified equal atom : Condition) → Condition
 condition_by head.And parts single quantified equal atom = every parts
 condition_by head.Or parts single quantified equal atom = Any parts
 condition_by head.Not parts single quantified equal atom = Not single
@@ -38,7 +39,8 @@ module _ (v : Vocabulary) where
     pub conditions_names : List (List ℕ) → Trees → List Fault
     conditions_names scope nothing = []
     conditions_names scope (word text at rest) = conditions_names scope rest
-    conditions_names scope (list items at rest) = condition_names scope at items ++ conditions_names scope rest
+    conditions_names scope (list items at rest) =
+        condition_names scope at items ++ conditions_names scope rest
 
     -- the condition that the list at a place is
     pub condition_names : List (List ℕ) → ℕ → Trees → List Fault
@@ -52,13 +54,16 @@ module _ (v : Vocabulary) where
     pub exists_names : List (List ℕ) → Trees → List Fault
     exists_names scope nothing = []
     exists_names scope (word text at rest) = []
-    exists_names scope (list items at rest) = variables_names v.sorts (length scope) items ++ conditions_names (scope ++ named_words Start items) rest
+    exists_names scope (list items at rest) =
+        variables_names v.sorts (length scope) items
+        ++ conditions_names (scope ++ named_words Start items) rest
 
   abbrev mutual
     pub conditions_of : List (List ℕ) → Trees → Conditions
     conditions_of scope nothing = none
     conditions_of scope (word text at rest) = conditions_of scope rest
-    conditions_of scope (list items at rest) = more (condition_of scope items) (conditions_of scope rest)
+    conditions_of scope (list items at rest) =
+        more (condition_of scope items) (conditions_of scope rest)
 
     pub condition_of : List (List ℕ) → Trees → Condition
     condition_of scope nothing = truth

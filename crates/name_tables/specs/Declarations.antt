@@ -22,7 +22,8 @@ abbrev pub number_put : List (List ℕ) → ℕ → ℕ → List (List ℕ)
 number_put lists place n = put_number lists place n (slice_get lists place)
 
 abbrev pub declared_by : Typed → List ℕ → ℕ → Option ℕ → Typed
-declared_by t name sort None = record { names = with_name t.names name; sorts = t.sorts ++ (sort ∷ []) ∷ [] }
+declared_by t name sort None =
+    record { names = with_name t.names name; sorts = t.sorts ++ (sort ∷ []) ∷ [] }
 declared_by t name sort (Some place) = record t { sorts = number_put t.sorts place sort }
 
 -- A name that is declared again has both types.

@@ -25,12 +25,14 @@ pub record HasWay (edges : List (List ℕ)) (a b : ℕ) : Type 0 where
 -- The list has exactly the numbers to which there is a way.
 pub record AreReached (edges : List (List ℕ)) (a : ℕ) (reached : List ℕ) : Type 0 where
   pub only : (b : ℕ) → has_number reached b ≡ true → HasWay edges a b
-  pub all : (b : ℕ) (between : List ℕ) → LeadsAlong (leads edges) a between b → has_number reached b ≡ true
+  pub all : (b : ℕ) (between : List ℕ) → LeadsAlong (leads edges) a between b
+      → has_number reached b ≡ true
 
 -- ascending numbers with one more, unless it is there
 abbrev pub ascending_with : List ℕ → ℕ → List ℕ
 ascending_with [] n = n ∷ []
-ascending_with (m ∷ ms) n = if nat_lt n m then n ∷ m ∷ ms else (if n == m then m ∷ ms else m ∷ ascending_with ms n)
+ascending_with (m ∷ ms) n =
+    if nat_lt n m then n ∷ m ∷ ms else (if n == m then m ∷ ms else m ∷ ascending_with ms n)
 
 -- the numbers of a list, ascending, each once
 abbrev pub ascending : List ℕ → List ℕ → List ℕ

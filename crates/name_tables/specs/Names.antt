@@ -21,7 +21,8 @@ with_name names name = if has_name name names then names else names ++ name ∷ 
 -- the last place of a name from this place on, or else the one so far
 abbrev pub last_place : ℕ → Option ℕ → List ℕ → List (List ℕ) → Option ℕ
 last_place at so_far name [] = so_far
-last_place at so_far name (n ∷ ns) = last_place (at + 1) (if bytes_eq n name then Some at else so_far) name ns
+last_place at so_far name (n ∷ ns) =
+    last_place (at + 1) (if bytes_eq n name then Some at else so_far) name ns
 
 -- declared names, each with its number of arguments
 pub record Signed : Type 0 where

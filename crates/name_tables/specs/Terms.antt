@@ -21,7 +21,9 @@ width (list items at rest) = width rest + 1
 -- each term is a variable in scope or an object
 abbrev pub terms_names : (objects scope : List (List ℕ)) → Trees → List Fault
 terms_names objects scope nothing = []
-terms_names objects scope (word text at rest) = unless (has_name text scope || has_name text objects) Unknown at ++ terms_names objects scope rest
+terms_names objects scope (word text at rest) =
+    unless (has_name text scope || has_name text objects) Unknown at
+    ++ terms_names objects scope rest
 terms_names objects scope (list items at rest) = terms_names objects scope rest
 
 -- the name is declared, and with so many arguments: the word's place and the list's
@@ -32,7 +34,8 @@ use_names (Some arity) count at place = unless (arity == count) Arity place
 -- an atom or a function term, as the list at this place
 abbrev pub application_names : Signed → (objects scope : List (List ℕ)) → ℕ → Trees → List Fault
 application_names declared objects scope place nothing = []
-application_names declared objects scope place (word text at rest) = use_names (arity_of declared text) (width rest) at place ++ terms_names objects scope rest
+application_names declared objects scope place (word text at rest) =
+    use_names (arity_of declared text) (width rest) at place ++ terms_names objects scope rest
 application_names declared objects scope place (list items at rest) = []
 
 -- a variable is the innermost of its name, by its slot, and else the word is an object
@@ -45,7 +48,8 @@ term_of objects scope text = term_by (last_place 0 None text scope) (place_of te
 
 abbrev pub terms_of : (objects scope : List (List ℕ)) → Trees → List Term
 terms_of objects scope nothing = []
-terms_of objects scope (word text at rest) = term_of objects scope text ∷ terms_of objects scope rest
+terms_of objects scope (word text at rest) =
+    term_of objects scope text ∷ terms_of objects scope rest
 terms_of objects scope (list items at rest) = terms_of objects scope rest
 
 -- the place of a declared name

@@ -56,7 +56,8 @@ type_names sorts spot text at = if is_type spot then unless (has_name text sorts
 -- each type is there
 abbrev pub types_names : List (List ℕ) → Spot → Trees → List Fault
 types_names sorts spot nothing = []
-types_names sorts spot (word text at rest) = type_names sorts spot text at ++ types_names sorts (after_word spot text) rest
+types_names sorts spot (word text at rest) =
+    type_names sorts spot text at ++ types_names sorts (after_word spot text) rest
 types_names sorts spot (list items at rest) = []
 
 -- the variables that were seen, with this word if it is one
@@ -66,7 +67,8 @@ seen_with seen spot text = if is_named spot text then with_name seen text else s
 -- the variables that were seen, with all of these
 abbrev pub seen_after : List (List ℕ) → Spot → Trees → List (List ℕ)
 seen_after seen spot nothing = seen
-seen_after seen spot (word text at rest) = seen_after (seen_with seen spot text) (after_word spot text) rest
+seen_after seen spot (word text at rest) =
+    seen_after (seen_with seen spot text) (after_word spot text) rest
 seen_after seen spot (list items at rest) = seen
 
 -- no variable stands twice, where these were seen before
@@ -85,4 +87,5 @@ scope_names size spot (list items at rest) = []
 
 -- of a list of variables, where so many are in scope around it
 abbrev pub variables_names : List (List ℕ) → ℕ → Trees → List Fault
-variables_names sorts size items = types_names sorts Start items ++ doubles_names [] Start items ++ scope_names size Start items
+variables_names sorts size items =
+    types_names sorts Start items ++ doubles_names [] Start items ++ scope_names size Start items

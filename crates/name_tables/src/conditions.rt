@@ -25,7 +25,8 @@ pub fn check_condition(
     items: &[Tree],
     so_far: Option<Fault>,
 ) -> Result<Option<Fault>, AllocError>
-    ensures faults { IfOk result (λ f. f ≡ first so_far (specs.condition_names names.now scope.old place (trees items.now))) }
+    ensures faults { IfOk result (λ f. f
+        ≡ first so_far (specs.condition_names names.now scope.old place (trees items.now))) }
     ensures scope { OnOk result (scope.new ≡ scope.old) }
 {
     match front_of(items) {
@@ -60,7 +61,8 @@ pub fn check_conditions(
     items: &[Tree],
     so_far: Option<Fault>,
 ) -> Result<Option<Fault>, AllocError>
-    ensures faults { IfOk result (λ f. f ≡ first so_far (specs.conditions_names names.now scope.old (trees items.now))) }
+    ensures faults { IfOk result (λ f. f
+        ≡ first so_far (specs.conditions_names names.now scope.old (trees items.now))) }
     ensures scope { OnOk result (scope.new ≡ scope.old) }
 {
     let mut left = items;
@@ -86,7 +88,8 @@ fn check_exists(
     items: &[Tree],
     so_far: Option<Fault>,
 ) -> Result<Option<Fault>, AllocError>
-    ensures faults { IfOk result (λ f. f ≡ first so_far (specs.exists_names names.now scope.old (trees items.now))) }
+    ensures faults { IfOk result (λ f. f
+        ≡ first so_far (specs.exists_names names.now scope.old (trees items.now))) }
     ensures scope { OnOk result (scope.new ≡ scope.old) }
 {
     match front_of(items) {

@@ -79,7 +79,8 @@ impl TypedNames {
 
     /// The names and their types as a task has them. Fails only where memory is wanting.
     pub fn to_declared(&self) -> Result<Vec<Declared>, AllocError>
-        ensures { IfOk result (λ list. list.items ≡ specs.declared_list self.now.names self.now.sorts) }
+        ensures { IfOk result (λ list. list.items
+            ≡ specs.declared_list self.now.names self.now.sorts) }
     {
         let mut list = Vec::new(self.alloc);
         for place in 0..self.names.len() {
@@ -101,7 +102,9 @@ pub fn declare_groups(
     sorts: &NameTable,
     items: &[Tree],
 ) -> Result<(), AllocError>
-    ensures { OnOk result (names.new ≡ declare_each names.old (named_words Start (trees items.now)) (sorts_in sorts.now Start 0 (trees items.now))) }
+    ensures { OnOk result (names.new
+        ≡ declare_each names.old (named_words Start (trees items.now))
+        (sorts_in sorts.now Start 0 (trees items.now))) }
 {
     let types = named_sorts(alloc, sorts, items)?;
     let mut waiting = types.as_slice();

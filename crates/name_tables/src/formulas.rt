@@ -48,7 +48,8 @@ pub fn condition_of(
     scope: &mut Scope,
     items: &[Tree],
 ) -> Result<Formula, AllocError>
-    ensures value { IfOk result (λ f. f ≡ specs.condition_of names.now scope.old (trees items.now)) }
+    ensures value { IfOk result (λ f. f
+        ≡ specs.condition_of names.now scope.old (trees items.now)) }
     ensures scope { OnOk result (scope.new ≡ scope.old) }
 {
     match front_of(items) {
@@ -100,7 +101,8 @@ fn conditions_of(
     scope: &mut Scope,
     items: &[Tree],
 ) -> Result<Vec<Formula>, AllocError>
-    ensures value { IfOk result (λ fs. parts_of fs.items ≡ specs.conditions_of names.now scope.old (trees items.now)) }
+    ensures value { IfOk result (λ fs. parts_of fs.items
+        ≡ specs.conditions_of names.now scope.old (trees items.now)) }
     ensures scope { OnOk result (scope.new ≡ scope.old) }
 {
     let mut parts = Vec::new(alloc);

@@ -81,7 +81,8 @@ impl Signatures {
 
     /// The declarations as a task has them. Fails only where memory is wanting or an arity is past 255.
     pub fn to_signatures(&self) -> Result<Vec<Signature>, AllocError>
-        ensures { IfOk result (λ list. list.items ≡ signature_list self.now.names self.now.arities) }
+        ensures { IfOk result (λ list. list.items
+            ≡ signature_list self.now.names self.now.arities) }
     {
         let mut list = Vec::new(self.alloc);
         for place in 0..self.names.len() {

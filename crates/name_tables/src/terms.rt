@@ -82,7 +82,8 @@ pub fn check_application(
     items: &[Tree],
     so_far: Option<Fault>,
 ) -> Result<Option<Fault>, AllocError>
-    ensures { IfOk result (λ f. f ≡ first so_far (specs.application_names declared.now objects.now scope.now place (trees items.now))) }
+    ensures { IfOk result (λ f. f ≡ first so_far
+        (specs.application_names declared.now objects.now scope.now place (trees items.now))) }
 {
     match front_of(items) {
         Front::End | Front::List { .. } => Ok(so_far),
@@ -126,7 +127,8 @@ pub fn terms_of(
     scope: &Scope,
     items: &[Tree],
 ) -> Result<Vec<Term>, AllocError>
-    ensures { IfOk result (λ terms. terms.items ≡ specs.terms_of objects.now scope.now (trees items.now)) }
+    ensures { IfOk result (λ terms. terms.items
+        ≡ specs.terms_of objects.now scope.now (trees items.now)) }
 {
     let mut terms = Vec::new(alloc);
     let mut left = items;

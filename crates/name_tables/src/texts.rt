@@ -56,7 +56,8 @@ pub fn check_repeated(
     items: &[Tree],
     so_far: Option<Fault>,
 ) -> Result<Option<Fault>, AllocError>
-    ensures { IfOk result (λ f. f ≡ first so_far (specs.repeated_names seen.old (trees items.now))) }
+    ensures { IfOk result (λ f. f ≡ first so_far
+        (specs.repeated_names seen.old (trees items.now))) }
 {
     let mut left = items;
     let mut found = so_far;

@@ -106,7 +106,8 @@ pub fn check_doubles(
     items: &[Tree],
     so_far: Option<Fault>,
 ) -> Result<Option<Fault>, AllocError>
-    ensures faults { IfOk result (λ f. f ≡ first so_far (specs.doubles_names seen.old Start (trees items.now))) }
+    ensures faults { IfOk result (λ f. f
+        ≡ first so_far (specs.doubles_names seen.old Start (trees items.now))) }
     ensures seen { OnOk result (seen.new ≡ specs.seen_after seen.old Start (trees items.now)) }
 {
     let mut left = items;
@@ -158,7 +159,8 @@ pub fn check_variables(
     items: &[Tree],
     so_far: Option<Fault>,
 ) -> Result<Option<Fault>, AllocError>
-    ensures { IfOk result (λ f. f ≡ first so_far (specs.variables_names sorts.now size (trees items.now))) }
+    ensures { IfOk result (λ f. f ≡ first so_far
+        (specs.variables_names sorts.now size (trees items.now))) }
 {
     let typed = check_types(sorts, items, so_far);
     let mut seen = NameTable::new(alloc);
@@ -185,7 +187,8 @@ pub fn number(n: usize) -> Result<u32, AllocError>
 
 /// The types of names or variables, in order. Fails only where memory is wanting.
 pub fn named_sorts(alloc: Global, sorts: &NameTable, items: &[Tree]) -> Result<Vec<u32>, AllocError>
-    ensures { IfOk result (λ list. list.items ≡ specs.named_sorts sorts.now Start 0 (trees items.now)) }
+    ensures { IfOk result (λ list. list.items
+        ≡ specs.named_sorts sorts.now Start 0 (trees items.now)) }
 {
     let mut list = Vec::new(alloc);
     let mut left = items;

@@ -28,11 +28,14 @@ use Rattle.pddlstream_app.specs.declared.stop.Text.TheVariants.{Domain, Problem,
 -- ---- the three files
 
 module _ (paths : TaskFiles) (old first second : Option (List Asked)) where
-  pub stopped_at_domain : (why : Stop) → AsksOne paths.domain (role.Text Domain) old first why → AsksUpTo paths old first why
-  stopped_at_domain why one = record { text = Domain; answer = one.answer; fits = one.fits; asked = one.asked }
+  pub stopped_at_domain : (why : Stop) → AsksOne paths.domain (role.Text Domain) old first why
+      → AsksUpTo paths old first why
+  stopped_at_domain why one =
+      record { text = Domain; answer = one.answer; fits = one.fits; asked = one.asked }
 
   module _ (domain : Extends old first (ask paths.domain (Ok tt) ∷ [])) where
-    pub stopped_at_problem : (why : Stop) → AsksOne paths.problem (role.Text Problem) first second why → AsksUpTo paths old second why
+    pub stopped_at_problem : (why : Stop)
+        → AsksOne paths.problem (role.Text Problem) first second why → AsksUpTo paths old second why
     stopped_at_problem why one = record {
       text = Problem;
       answer = one.answer;
@@ -44,7 +47,8 @@ module _ (paths : TaskFiles) (old first second : Option (List Asked)) where
       both : Extends old second (ask paths.domain (Ok tt) ∷ ask paths.problem (Ok tt) ∷ [])
       both = extends_more old first second (ask paths.domain (Ok tt) ∷ []) (ask paths.problem (Ok tt) ∷ []) domain problem
 
-      pub stopped_at_streams : (third : Option (List Asked)) (why : Stop) → AsksOne paths.streams (role.Text Streams) second third why
+      pub stopped_at_streams : (third : Option (List Asked)) (why : Stop)
+          → AsksOne paths.streams (role.Text Streams) second third why
           → AsksUpTo paths old third why
       stopped_at_streams third why one = record {
         text = Streams;
@@ -53,7 +57,8 @@ module _ (paths : TaskFiles) (old first second : Option (List Asked)) where
         asked = extends_more old second third (ask paths.domain (Ok tt) ∷ ask paths.problem (Ok tt) ∷ []) (ask paths.streams one.answer ∷ []) both one.asked;
       }
 
-      pub all_read : (third : Option (List Asked)) → Extends second third (ask paths.streams (Ok tt) ∷ [])
+      pub all_read : (third : Option (List Asked))
+          → Extends second third (ask paths.streams (Ok tt) ∷ [])
           → Extends old third (asks_to paths Streams (Ok tt))
       all_read third streams = extends_more old second third (ask paths.domain (Ok tt) ∷ ask paths.problem (Ok tt) ∷ []) (ask paths.streams (Ok tt) ∷ []) both streams
 
@@ -61,7 +66,8 @@ module _ (paths : TaskFiles) (old first second : Option (List Asked)) where
 
 module _ (words : ReplayWords) (old first second : Option (List Asked)) (task : Extends old first (asks_to words.files Streams (Ok tt))) where
   -- the report was asked for
-  pub report_asked : (answer : Result (Unit {0}) FileFault) → Extends first second (ask words.report answer ∷ [])
+  pub report_asked : (answer : Result (Unit {0}) FileFault)
+      → Extends first second (ask words.report answer ∷ [])
       → Extends old second (asks_to_report words answer)
   report_asked answer asked = extends_more old first second (asks_to words.files Streams (Ok tt)) (ask words.report answer ∷ []) task asked
 
@@ -71,9 +77,11 @@ module _ (words : List (List ℕ)) (old new : Option (List Asked)) where
   front_of_all : AsksAll words old new → AsksFront words old new
   front_of_all all = of all.command all.meant all.asked
     where
-      of : (c : Command) → command_of words ≡ Some c → Extends old new (asks_all c) → AsksFront words old new
+      of : (c : Command) → command_of words ≡ Some c → Extends old new (asks_all c)
+          → AsksFront words old new
       of (solve w) meant asked = inl (record { command = solve w; meant = meant; text = Streams; answer = Ok tt; asked = asked })
-      of (replay w) meant asked = inr (record { command = w; meant = meant; answer = Ok tt; asked = asked })
+      of (replay w) meant asked =
+          inr (record { command = w; meant = meant; answer = Ok tt; asked = asked })
 
   front_of_part : (why : Stop) → AsksWhileReading words old new why → AsksFront words old new
   front_of_part why (inl part) = inl (record { command = part.command; meant = part.meant; text = part.files.text; answer = part.files.answer; asked = part.files.asked })
@@ -87,12 +95,16 @@ module _ (words : List (List ℕ)) (old new : Option (List Asked)) where
   asked_running fault.Memory all = front_of_all all
 
   -- no task was read
-  pub asked_reading : (command : Command) → command_of words ≡ Some command → (why : Stop) → AsksUpTo (files_of command) old new why
+  pub asked_reading : (command : Command) → command_of words ≡ Some command → (why : Stop)
+      → AsksUpTo (files_of command) old new why
       → AsksBefore words old new why
   asked_reading command meant stop.Usage a = absurd a.fits
-  asked_reading command meant (stop.Input which kind place) a = inl (record { command = command; meant = meant; files = a })
-  asked_reading command meant (stop.Failed which) a = inl (record { command = command; meant = meant; files = a })
-  asked_reading command meant (stop.TooLong which) a = inl (record { command = command; meant = meant; files = a })
+  asked_reading command meant (stop.Input which kind place) a =
+      inl (record { command = command; meant = meant; files = a })
+  asked_reading command meant (stop.Failed which) a =
+      inl (record { command = command; meant = meant; files = a })
+  asked_reading command meant (stop.TooLong which) a =
+      inl (record { command = command; meant = meant; files = a })
   asked_reading command meant (stop.Run (fault.Answer number why)) a = absurd a.fits
   asked_reading command meant (stop.Run fault.Generator) a = absurd a.fits
   asked_reading command meant (stop.Run fault.Write) a = absurd a.fits
@@ -128,7 +140,8 @@ module _ (words : List (List ℕ)) (old new : Option (List Asked)) where
 
   module _ (told : Option FileMap) (rose : Type 0) (before now : Option (List ℕ)) where
     -- the sink took no more
-    pub asked_written : (why : Stop) → AsksBefore words old new why → AsksFiles words told rose old new before now WriteFault
+    pub asked_written : (why : Stop) → AsksBefore words old new why
+        → AsksFiles words told rose old new before now WriteFault
     asked_written why a = some_before why a
 
     -- the run has an outcome
@@ -155,7 +168,8 @@ module _ (words : List (List ℕ)) (old new : Option (List Asked)) where
 
     module _ (spoken : ℕ → Option Talk) (was log : Option (List Event)) (mid : Option (List ℕ)) where
       -- nothing was written before the last line of a run that reads no task
-      named : (why : Stop) → HasNoInput words told rose why × (text : List ℕ) × (text ≡ []) × Appends before mid text
+      named : (why : Stop)
+          → HasNoInput words told rose why × (text : List ℕ) × (text ≡ []) × Appends before mid text
           → Appends mid now (last_text why) → AsksWhileReading words old new why
           → AsksToNamed words told rose old new before now (status_at why)
       named why (cause, text, none, took) app a = record {
@@ -166,24 +180,31 @@ module _ (words : List (List ℕ)) (old new : Option (List Asked)) where
         asked = a;
       }
 
-      asked_whole : (why : Stop) → IsStopped words told rose spoken was log before mid why → (why ≡ stop.Run fault.Write → ⊥)
+      asked_whole : (why : Stop) → IsStopped words told rose spoken was log before mid why
+          → (why ≡ stop.Run fault.Write → ⊥)
           → Appends mid now (last_text why) → AsksBefore words old new why → AsksFiles words told rose old new before now (status_at why)
       asked_whole stop.Usage s other app a = a
       asked_whole (stop.Input which kind place) s other app a =
           named (stop.Input which kind place) (s.cause.0, s.text, s.cause.1, s.took) app a
-      asked_whole (stop.Failed which) s other app a = named (stop.Failed which) (s.cause.0, s.text, s.cause.1, s.took) app a
-      asked_whole (stop.TooLong which) s other app a = named (stop.TooLong which) (s.cause.0, s.text, s.cause.1, s.took) app a
+      asked_whole (stop.Failed which) s other app a =
+          named (stop.Failed which) (s.cause.0, s.text, s.cause.1, s.took) app a
+      asked_whole (stop.TooLong which) s other app a =
+          named (stop.TooLong which) (s.cause.0, s.text, s.cause.1, s.took) app a
       asked_whole (stop.Run (fault.Answer number why)) s other app a = a
       asked_whole (stop.Run fault.Generator) s other app a = a
       asked_whole (stop.Run fault.Write) s other app a = absurd (other refl)
       asked_whole (stop.Run fault.Memory) s other app a = inr a
 
       -- the last line was written, or a part of it, or that memory is wanting
-      pub asked_closed : (why : Stop) (status : Status) → IsStopped words told rose spoken was log before mid why
+      pub asked_closed : (why : Stop) (status : Status)
+          → IsStopped words told rose spoken was log before mid why
           → (why ≡ stop.Run fault.Write → ⊥) → ClosesRun why mid now status → AsksBefore words old new why
           → AsksFiles words told rose old new before now status
       asked_closed why status s other (inl (inl x)) a =
           subst (AsksFiles words told rose old new before now) (sym x.0) (asked_whole why s other x.1 a)
-      asked_closed why status s other (inl (inr x)) a = subst (AsksFiles words told rose old new before now) (sym x.0) (some_before why a)
-      asked_closed why status s other (inr (inl x)) a = subst (AsksFiles words told rose old new before now) (sym x.0) (some_before why a)
-      asked_closed why status s other (inr (inr x)) a = subst (AsksFiles words told rose old new before now) (sym x.0) (some_before why a)
+      asked_closed why status s other (inl (inr x)) a =
+          subst (AsksFiles words told rose old new before now) (sym x.0) (some_before why a)
+      asked_closed why status s other (inr (inl x)) a =
+          subst (AsksFiles words told rose old new before now) (sym x.0) (some_before why a)
+      asked_closed why status s other (inr (inr x)) a =
+          subst (AsksFiles words told rose old new before now) (sym x.0) (some_before why a)

@@ -17,7 +17,8 @@ module _ (words : List (List ℕ)) (told : Option FileMap) (old new : Option (Li
   abbrev Printed : ProgramRun words told → Outcome → Type 0
   Printed run o = Appends old new (text_of_report (report_of run.task run.head run.entries o))
 
-  plan_from : (o : Outcome) → kind_of o ≡ Plan → (run : ProgramRun words told) → reports.IsRun run.task run.head run.entries o
+  plan_from : (o : Outcome) → kind_of o ≡ Plan → (run : ProgramRun words told)
+      → reports.IsRun run.task run.head run.entries o
       → Printed run o → PrintsPlan words told old new
   plan_from (outcome.Plan calls cost from) kind run turns took =
       let plan = turns.sure.holds in
@@ -25,7 +26,8 @@ module _ (words : List (List ℕ)) (told : Option FileMap) (old new : Option (Li
   plan_from outcome.NoPlan kind run turns took = absurd (cc)
   plan_from (outcome.Limit limit) kind run turns took = absurd (cc)
 
-  no_plan_from : (o : Outcome) → kind_of o ≡ NoPlan → (run : ProgramRun words told) → reports.IsRun run.task run.head run.entries o
+  no_plan_from : (o : Outcome) → kind_of o ≡ NoPlan → (run : ProgramRun words told)
+      → reports.IsRun run.task run.head run.entries o
       → Printed run o → PrintsNoPlan words told old new
   no_plan_from outcome.NoPlan kind run turns took =
       let none = turns.sure.holds in

@@ -41,7 +41,8 @@ numbers_below first (suc n) (suc i) d lt =
     omega (arith, there)
 
 all_there : (task : Task) → All (λ stream. stream < length task.streams) (all_streams task)
-all_there task i d lt = let there = numbers_below 0 (length task.streams) i d lt in omega (arith, there)
+all_there task i d lt =
+    let there = numbers_below 0 (length task.streams) i d lt in omega (arith, there)
 
 -- ---- pools
 
@@ -85,13 +86,15 @@ module _ (task : Task) (w : words.SolveWords) (some : 1 ≤ w.workers) (few : w.
     streams = all_one (λ (p : Pool). All (λ stream. stream < length task.streams) p.streams) pool (subst (All (λ stream. stream < length task.streams)) (sym is.streams) (all_there task));
   }
 
-  pools_run : (ss : List Stream) → ss ≡ task.streams → (pools : List Pool) → ArePoolsFor task w ss pools → AreRunnable task pools
+  pools_run : (ss : List Stream) → ss ≡ task.streams → (pools : List Pool)
+      → ArePoolsFor task w ss pools → AreRunnable task pools
   pools_run [] none pools are = subst (AreRunnable task) (sym are) (record {
     fit = no_pool task none;
     words = λ i d lt. absurd (omega arith);
     streams = λ i d lt. absurd (omega arith);
   })
-  pools_run (s ∷ ss) are_some pools (pool, are, is) = subst (AreRunnable task) (sym are) (one_runs pool is)
+  pools_run (s ∷ ss) are_some pools (pool, are, is) =
+      subst (AreRunnable task) (sym are) (one_runs pool is)
 
 -- the numbers of the words are in their ranges, and the program has a word
 pub record AreInRange (w : words.SolveWords) : Type 0 where
@@ -104,7 +107,8 @@ pub record AreInRange (w : words.SolveWords) : Type 0 where
   pub program : 1 ≤ length w.program
 
 -- a head of such words can be run
-pub head_runs : (task : Task) (w : words.SolveWords) (head : Head) → IsHeadOf task w head → AreInRange w → IsRunnable task head
+pub head_runs : (task : Task) (w : words.SolveWords) (head : Head) → IsHeadOf task w head
+    → AreInRange w → IsRunnable task head
 head_runs task w head headed within =
     let pools = pools_run task w within.some_workers within.few_workers within.program task.streams refl head.pools headed.pools in
     record {
@@ -122,7 +126,8 @@ head_runs task w head headed within =
     }
 
 -- the same of words as the program holds them
-pub runnable_head : (task : Task) (w : code.SolveWords) (head : Head) → IsHeadOf task (held_solve w) head → IsWithin w
+pub runnable_head : (task : Task) (w : code.SolveWords) (head : Head)
+    → IsHeadOf task (held_solve w) head → IsWithin w
     → IsRunnable task head
 runnable_head task w head headed within = head_runs task (held_solve w) head headed (record {
   some_calls = within.some_calls;

@@ -33,9 +33,11 @@ no_text : (which : Text) → role.Report ≡ role.Text which → ⊥
 no_text which e = absurd (cc)
 
 -- what was refused later is refused from the beginning
-pub refused_later : (told old : Option FileMap) (paths : TaskFiles) (rose more : Type 0) → told ≡ old → (rose → more) → (stop : Stop)
+pub refused_later : (told old : Option FileMap) (paths : TaskFiles) (rose more : Type 0)
+    → told ≡ old → (rose → more) → (stop : Stop)
     → MayRefuse told paths rose stop → MayRefuse old paths more stop
-refused_later told old paths rose more same f stop r = subst (λ files. MayRefuse files paths more stop) same (of stop r)
+refused_later told old paths rose more same f stop r =
+    subst (λ files. MayRefuse files paths more stop) same (of stop r)
   where
     of : (stop : Stop) → MayRefuse told paths rose stop → MayRefuse told paths more stop
     of Usage r = absurd r
@@ -50,7 +52,8 @@ refused_later told old paths rose more same f stop r = subst (λ files. MayRefus
     of (Run fault.Memory) r = tt
 
 -- what was not read later was not read from the beginning
-pub unread_later : (told : Option FileMap) (which : FileRole) (most : ℕ) (path : List ℕ) (rose more : Type 0) → (rose → more) → (why : Stop)
+pub unread_later : (told : Option FileMap) (which : FileRole) (most : ℕ) (path : List ℕ) (rose more : Type 0)
+    → (rose → more) → (why : Stop)
     → MayNotRead told which most path rose why → MayNotRead told which most path more why
 unread_later told which most path rose more f Usage n = absurd n
 unread_later told which most path rose more f (Input t kind place) n = absurd n
@@ -67,7 +70,8 @@ module _ (told : Option FileMap) (paths : TaskFiles) (rose : Type 0) where
       → MayNotRead told (role.Text which) text_bytes (path_of paths which) rose stop → MayRefuse told paths rose stop
   not_read which before Usage n = absurd n
   not_read which before (Input t kind place) n = absurd n
-  not_read which before (Failed (role.Text t)) n = (n.1, subst (IsAccepted told paths) (sym (same_text t which n.0)) before)
+  not_read which before (Failed (role.Text t)) n =
+      (n.1, subst (IsAccepted told paths) (sym (same_text t which n.0)) before)
   not_read which before (Failed role.Report) n = absurd (no_text which n.0)
   not_read which before (TooLong (role.Text t)) n = (subst (λ w. IsTooLong told text_bytes (path_of paths w)) (sym (same_text t which n.0)) n.1, subst (IsAccepted told paths) (sym (same_text t which n.0)) before)
   not_read which before (TooLong role.Report) n = absurd (no_text which n.0)
@@ -76,13 +80,16 @@ module _ (told : Option FileMap) (paths : TaskFiles) (rose : Type 0) where
   not_read which before (Run fault.Write) n = absurd n
   not_read which before (Run fault.Memory) n = tt
 
-  pub domain_refused : (bytes : List ℕ) → Holds told paths.domain bytes → IsShort bytes → (why : InputRefusal)
+  pub domain_refused : (bytes : List ℕ) → Holds told paths.domain bytes → IsShort bytes
+      → (why : InputRefusal)
       → Refuses (RefusesDomain bytes) why → MayRefuse told paths rose (stop_for Domain why)
-  domain_refused bytes holds short (refusal.At kind place) r = record { bytes = bytes; held = holds; short = short; so = r }
+  domain_refused bytes holds short (refusal.At kind place) r =
+      record { bytes = bytes; held = holds; short = short; so = r }
   domain_refused bytes holds short refusal.Memory r = tt
 
   module _ (d : domains.Domain) (first : HasDomain told paths d) where
-    pub problem_refused : (bytes : List ℕ) → Holds told paths.problem bytes → IsShort bytes → (why : InputRefusal)
+    pub problem_refused : (bytes : List ℕ) → Holds told paths.problem bytes → IsShort bytes
+        → (why : InputRefusal)
         → Refuses (RefusesProblem d bytes) why → MayRefuse told paths rose (stop_for Problem why)
     problem_refused bytes holds short (refusal.At kind place) r = record {
       bytes = first.bytes;
@@ -93,7 +100,8 @@ module _ (told : Option FileMap) (paths : TaskFiles) (rose : Type 0) where
     problem_refused bytes holds short refusal.Memory r = tt
 
     module _ (p : problems.Problem) (second : HasProblem told paths d p) where
-      pub streams_refused : (bytes : List ℕ) → Holds told paths.streams bytes → IsShort bytes → (why : InputRefusal)
+      pub streams_refused : (bytes : List ℕ) → Holds told paths.streams bytes → IsShort bytes
+          → (why : InputRefusal)
           → Refuses (RefusesStreams d bytes) why → MayRefuse told paths rose (stop_for Streams why)
       streams_refused bytes holds short (refusal.At kind place) r = record {
         bytes = first.bytes;
@@ -109,7 +117,8 @@ module _ (told : Option FileMap) (paths : TaskFiles) (rose : Type 0) where
       streams_refused bytes holds short refusal.Memory r = tt
 
 -- the parts of a task, each read from its file
-pub task_of_parts : (told : Option FileMap) (paths : TaskFiles) (task : Task) → HasDomain told paths task.domain
+pub task_of_parts : (told : Option FileMap) (paths : TaskFiles) (task : Task)
+    → HasDomain told paths task.domain
     → HasProblem told paths task.domain task.problem → HasStreams told paths task.domain task.streams → IsTaskOf told paths task
 task_of_parts told paths task first second third = record {
   bytes = first.bytes;
@@ -124,7 +133,8 @@ task_of_parts told paths task first second third = record {
 }
 
 -- the task that the texts spell is fit
-pub fit_if_spelled : (told : Option FileMap) (paths : TaskFiles) (result : Result Task Stop) → IfOk result (IsTaskOf told paths)
+pub fit_if_spelled : (told : Option FileMap) (paths : TaskFiles) (result : Result Task Stop)
+    → IfOk result (IsTaskOf told paths)
     → IfOk result (λ task. IsFit task)
 fit_if_spelled told paths (Ok task) is =
     spelled_tasks_fit is.bytes is.so.bytes is.so.so.bytes task is.short is.so.short is.so.so.short is.so.so.so

@@ -31,7 +31,8 @@ module _ (words : List (List ℕ)) (told : Option FileMap) (rose : Type 0) (spok
     completed_said (Ok status) (v, is, shown) = judged words told rose spoken was now asked meant task spelled fit v (record { bytes = bytes; held = held; short = short; so = is }) (Unit {0}) tt old new status shown.0 shown.1
     completed_said (Err why) said = tt
 
-    pub stopped_said : LogStops was now → (r : Result Status Stop) → IsSaidOf asked.states task bytes old new r
+    pub stopped_said : LogStops was now → (r : Result Status Stop)
+        → IsSaidOf asked.states task bytes old new r
         → IfErr r (IsStopped words told rose spoken was now old new)
     stopped_said none (Ok status) said = tt
     stopped_said none (Err why) (inl x) =
@@ -44,16 +45,19 @@ module _ (words : List (List ℕ)) (asked : ReplayWords) (meant : command_of wor
   all_asked : Extends first second (ask asked.report (Ok tt) ∷ []) → AsksAll words old second
   all_asked e = record { command = replay asked; meant = meant; asked = report_asked asked old first second task (Ok tt) e }
 
-  pub asked_said : (r : Result Status Stop) → IfOk r (λ status. Extends first second (ask asked.report (Ok tt) ∷ []))
+  pub asked_said : (r : Result Status Stop)
+      → IfOk r (λ status. Extends first second (ask asked.report (Ok tt) ∷ []))
       → IfOk r (λ status. AsksAll words old second)
   asked_said (Ok status) e = all_asked e
   asked_said (Err why) e = tt
 
-  asked_one : (why : Stop) → AsksReport asked.report first second why → AsksBefore words old second why
+  asked_one : (why : Stop) → AsksReport asked.report first second why
+      → AsksBefore words old second why
   asked_one why (inl one) =
       asked_report words old second asked meant why one.answer one.fits (report_asked asked old first second task one.answer one.asked)
   asked_one why (inr (is, e)) = subst (AsksBefore words old second) (sym is) (all_asked e)
 
-  pub asked_unsaid : (r : Result Status Stop) → IfErr r (AsksReport asked.report first second) → IfErr r (AsksBefore words old second)
+  pub asked_unsaid : (r : Result Status Stop) → IfErr r (AsksReport asked.report first second)
+      → IfErr r (AsksBefore words old second)
   asked_unsaid (Ok status) e = tt
   asked_unsaid (Err why) e = asked_one why e

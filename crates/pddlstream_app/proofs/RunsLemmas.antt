@@ -46,7 +46,8 @@ whole_is task head entries o = sym (append_assoc (text_so_far task head entries)
 module _ (words : List (List ℕ)) (told : Option FileMap) (rose : Type 0) (spoken : ℕ → Option Talk) (was now : Option (List Event)) where
   -- no task was read
   module _ (asked : Command) (meant : command_of words ≡ Some asked) where
-    pub stopped_reading : (sink : Option (List ℕ)) (why : Stop) → MayRefuse told (files_of asked) rose why → LogStops was now
+    pub stopped_reading : (sink : Option (List ℕ)) (why : Stop)
+        → MayRefuse told (files_of asked) rose why → LogStops was now
         → IsStopped words told rose spoken was now sink sink why
     stopped_reading sink stop.Usage r none = absurd r
     stopped_reading sink (stop.Input which kind place) r none =
@@ -58,15 +59,19 @@ module _ (words : List (List ℕ)) (told : Option FileMap) (rose : Type 0) (spok
     stopped_reading sink (stop.Run (fault.Answer number why)) r none = absurd r
     stopped_reading sink (stop.Run fault.Generator) r none = absurd r
     stopped_reading sink (stop.Run fault.Write) r none = absurd r
-    stopped_reading sink (stop.Run fault.Memory) r none = record { text = []; cause = inl (refl, none); took = appends_none sink }
+    stopped_reading sink (stop.Run fault.Memory) r none =
+        record { text = []; cause = inl (refl, none); took = appends_none sink }
 
   -- a report is to be judged
   module _ (asked : ReplayWords) (meant : command_of words ≡ Some (replay asked)) (task : Task) (spelled : IsTaskOf told asked.files task) where
-    no_report : (why : Stop) → MayNotRead told role.Report report_bytes asked.report rose why → HasNoReport words told rose why
-    no_report why r = record { asked = asked; meant = meant; task = task; spelled = spelled; refused = r }
+    no_report : (why : Stop) → MayNotRead told role.Report report_bytes asked.report rose why
+        → HasNoReport words told rose why
+    no_report why r =
+        record { asked = asked; meant = meant; task = task; spelled = spelled; refused = r }
 
     -- the report was not read
-    pub stopped_report : (sink : Option (List ℕ)) (why : Stop) → MayNotRead told role.Report report_bytes asked.report rose why
+    pub stopped_report : (sink : Option (List ℕ)) (why : Stop)
+        → MayNotRead told role.Report report_bytes asked.report rose why
         → LogStops was now → IsStopped words told rose spoken was now sink sink why
     stopped_report sink stop.Usage r none = absurd r
     stopped_report sink (stop.Input which kind place) r none = absurd r
@@ -77,18 +82,22 @@ module _ (words : List (List ℕ)) (told : Option FileMap) (rose : Type 0) (spok
     stopped_report sink (stop.Run (fault.Answer number why)) r none = absurd r
     stopped_report sink (stop.Run fault.Generator) r none = absurd r
     stopped_report sink (stop.Run fault.Write) r none = absurd r
-    stopped_report sink (stop.Run fault.Memory) r none = record { text = []; cause = inl (refl, none); took = appends_none sink }
+    stopped_report sink (stop.Run fault.Memory) r none =
+        record { text = []; cause = inl (refl, none); took = appends_none sink }
 
     module _ (fit : IsFit task) (v : Verdict) (report : HoldsReport told asked.report (λ bytes. IsVerdict asked.states task bytes v)) where
-      verdict_with : (unused : Type 0) → unused → HasVerdict words told unused (kind_of_verdict v) (verdict_text v)
+      verdict_with : (unused : Type 0) → unused
+          → HasVerdict words told unused (kind_of_verdict v) (verdict_text v)
       verdict_with unused none = record { asked = asked; meant = meant; task = task; spelled = spelled; fit = fit; verdict = v; report = report; kind = refl; untouched = none; is = refl }
 
       -- the verdict was written
-      pub judged : (unused : Type 0) → unused → (old new : Option (List ℕ)) (status : Status) → status ≡ kind_of_verdict v
+      pub judged : (unused : Type 0) → unused → (old new : Option (List ℕ)) (status : Status)
+          → status ≡ kind_of_verdict v
           → Appends old new (verdict_text v) → IsCompleted words told unused spoken was now old new status
       judged unused none old new status e app = subst (IsCompleted words told unused spoken was now old new) (sym e) (record { text = verdict_text v; has = inr (verdict_with unused none); took = app })
 
-      writes_verdict : (w : Verdict) → HasVerdict words told (Unit {0}) (kind_of_verdict w) (verdict_text v)
+      writes_verdict : (w : Verdict)
+          → HasVerdict words told (Unit {0}) (kind_of_verdict w) (verdict_text v)
           → RunWrites words told rose (Unit {0}) spoken was now (kind_of_verdict w) (verdict_text v)
       writes_verdict verdict.Valid h = h
       writes_verdict (verdict.Invalid line kind) h = h
@@ -105,10 +114,12 @@ module _ (words : List (List ℕ)) (told : Option FileMap) (rose : Type 0) (spok
   -- a task is to be solved
   module _ (asked : SolveWords) (meant : command_of words ≡ Some (solve asked)) where
     module _ (task : Task) (spelled : IsTaskOf told asked.files task) (fit : IsFit task) (head : Head) (headed : IsHeadOf task asked head) where
-      abbrev run_with : (entries : List Entry) → IsLegal head.version task entries → ProgramRun words told
+      abbrev run_with : (entries : List Entry) → IsLegal head.version task entries
+          → ProgramRun words told
       run_with entries legal = record { asked = asked; meant = meant; task = task; spelled = spelled; fit = fit; head = head; headed = headed; entries = entries; legal = legal }
 
-      outcome_with : (unused : Type 0) (text : List ℕ) (entries : List Entry) (o : Outcome) → reports.IsRun task head entries o
+      outcome_with : (unused : Type 0) (text : List ℕ) (entries : List Entry) (o : Outcome)
+          → reports.IsRun task head entries o
           → Dialogue task head.version (workers_in head) entries spoken → (asks_of entries ≡ 0 → unused) → LogRan task head entries was now
           → text ≡ whole_text task head entries o → HasOutcome words told unused spoken was now (kind_of o) text
       outcome_with unused text entries o turns talks unneeded calls is = record { run = run_with entries turns.legal; outcome = o; kind = refl; turns = turns; talks = talks; unneeded = unneeded; calls = calls; is = is ∙ whole_is task head entries o }
@@ -117,39 +128,46 @@ module _ (words : List (List ℕ)) (told : Option FileMap) (rose : Type 0) (spok
       pub completed : (unused : Type 0) (old new : Option (List ℕ)) (ran : Ran) (status : Status)
           → IsReported task head spoken was now old new ran → (ran.asks ≡ 0 → unused) → status ≡ kind_of ran.outcome
           → IsCompleted words told unused spoken was now old new status
-      completed unused old new ran status r none e = subst (IsCompleted words told unused spoken was now old new) (sym e) (record {
-        text = whole_text task head r.entries ran.outcome;
-        has = inl (outcome_with unused (whole_text task head r.entries ran.outcome) r.entries ran.outcome r.run r.talks (λ asked. none (r.asks ∙ asked)) r.calls refl);
-        took = r.told;
-      })
+      completed unused old new ran status r none e =
+          subst (IsCompleted words told unused spoken was now old new) (sym e) (record {
+            text = whole_text task head r.entries ran.outcome;
+            has = inl (outcome_with unused (whole_text task head r.entries ran.outcome) r.entries ran.outcome r.run r.talks (λ asked. none (r.asks ∙ asked)) r.calls refl);
+            took = r.told;
+          })
 
-      part_with : (text : List ℕ) (f : RunFault) → IsPart task head f spoken was now text → IsPartOfRun words told spoken was now f text
+      part_with : (text : List ℕ) (f : RunFault) → IsPart task head f spoken was now text
+          → IsPartOfRun words told spoken was now f text
       part_with text f p = (run_with p.entries p.front.turns.legal, p.front, p.talks, record { calls = p.calls; needed = p.needed }, p.is)
 
-      writes_outcome : (text : List ℕ) (o : Outcome) → HasOutcome words told (Unit {0}) spoken was now (kind_of o) text
+      writes_outcome : (text : List ℕ) (o : Outcome)
+          → HasOutcome words told (Unit {0}) spoken was now (kind_of o) text
           → RunWrites words told rose (Unit {0}) spoken was now (kind_of o) text
       writes_outcome text (outcome.Plan steps cost from) h = h
       writes_outcome text outcome.NoPlan h = h
       writes_outcome text (outcome.Limit kind) h = inl h
 
       -- the run over the task has no outcome
-      pub stopped_running : (old new : Option (List ℕ)) (f : RunFault) → IsBroken task head spoken was now old new f
+      pub stopped_running : (old new : Option (List ℕ)) (f : RunFault)
+          → IsBroken task head spoken was now old new f
           → IsStopped words told rose spoken was now old new (stop.Run f)
-      stopped_running old new fault.Generator b = record { text = b.text; cause = of b.form; took = b.told }
+      stopped_running old new fault.Generator b =
+          record { text = b.text; cause = of b.form; took = b.told }
         where
           of : {text : List ℕ} → WasToWrite task head fault.Generator spoken was now text
               → IsBefore words told rose spoken was now (stop.Run fault.Generator) text
           of (inl x) = absurd (let e = x.0 in cc)
           of {text} (inr (inl p)) = part_with text fault.Generator p
           of (inr (inr x)) = absurd (let e = x.0 in cc)
-      stopped_running old new fault.Memory b = record { text = b.text; cause = of b.form; took = b.told }
+      stopped_running old new fault.Memory b =
+          record { text = b.text; cause = of b.form; took = b.told }
         where
           of : {text : List ℕ} → WasToWrite task head fault.Memory spoken was now text
               → IsBefore words told rose spoken was now (stop.Run fault.Memory) text
           of (inl x) = inl (x.1, x.2)
           of {text} (inr (inl p)) = inr (fault.Memory, part_with text fault.Memory p)
           of (inr (inr x)) = absurd (let e = x.0 in cc)
-      stopped_running old new (fault.Answer number why) b = record { text = b.text; cause = of b.form; took = b.told }
+      stopped_running old new (fault.Answer number why) b =
+          record { text = b.text; cause = of b.form; took = b.told }
         where
           of : {text : List ℕ} → WasToWrite task head (fault.Answer number why) spoken was now text
               → IsBefore words told rose spoken was now (stop.Run (fault.Answer number why)) text
@@ -167,17 +185,20 @@ module _ (words : List (List ℕ)) (told : Option FileMap) (rose : Type 0) (spok
   -- the words are no command
   pub stopped_words : (sink : Option (List ℕ)) → command_of words ≡ None → LogStops was now
       → IsStopped words told rose spoken was now sink sink stop.Usage
-  stopped_words sink no_command none = record { text = []; cause = (no_command, refl, none); took = appends_none sink }
+  stopped_words sink no_command none =
+      record { text = []; cause = (no_command, refl, none); took = appends_none sink }
 
   -- memory is wanting before anything was written
-  pub stopped_early : (sink : Option (List ℕ)) (why : Stop) → why ≡ stop.Run fault.Memory → LogStops was now
+  pub stopped_early : (sink : Option (List ℕ)) (why : Stop) → why ≡ stop.Run fault.Memory
+      → LogStops was now
       → IsStopped words told rose spoken was now sink sink why
   stopped_early sink why is none = subst (IsStopped words told rose spoken was now sink sink) (sym is) (record { text = []; cause = inl (refl, none); took = appends_none sink })
 
   -- ---- last lines
 
   module _ (unused : Type 0) (old mid new : Option (List ℕ)) where
-    all_taken : (why : Stop) (b : IsBeforeLast words told rose spoken was now old mid why) → Appends mid new (last_text why)
+    all_taken : (why : Stop) (b : IsBeforeLast words told rose spoken was now old mid why)
+        → Appends mid new (last_text why)
         → (RunWrites words told rose unused spoken was now (status_at why) (b.text ++ last_text why))
         → TookAll words told rose unused spoken was now old new (status_at why)
     all_taken why b app writes =
@@ -194,38 +215,47 @@ module _ (words : List (List ℕ)) (told : Option FileMap) (rose : Type 0) (spok
     writes_fault free (stop.Input which kind place) b = faulty (stop.Input which kind place) b
     writes_fault free (stop.Failed which) b = faulty (stop.Failed which) b
     writes_fault free (stop.TooLong which) b = faulty (stop.TooLong which) b
-    writes_fault free (stop.Run (fault.Answer number why)) b = faulty (stop.Run (fault.Answer number why)) b
+    writes_fault free (stop.Run (fault.Answer number why)) b =
+        faulty (stop.Run (fault.Answer number why)) b
     writes_fault free (stop.Run fault.Generator) b = faulty (stop.Run fault.Generator) b
     writes_fault free (stop.Run fault.Write) b = absurd b.cause
     writes_fault free (stop.Run fault.Memory) b = faulty (stop.Run fault.Memory) b
 
-    ends_whole : (why : Stop) → IsBeforeLast words told rose spoken was now old mid why → Appends mid new (last_text why)
+    ends_whole : (why : Stop) → IsBeforeLast words told rose spoken was now old mid why
+        → Appends mid new (last_text why)
         → Ends words told rose unused spoken was now old new (status_at why)
     ends_whole stop.Usage b app = all_taken stop.Usage b app (writes_fault unused stop.Usage b)
     ends_whole (stop.Input which kind place) b app =
         all_taken (stop.Input which kind place) b app (writes_fault unused (stop.Input which kind place) b)
-    ends_whole (stop.Failed which) b app = all_taken (stop.Failed which) b app (writes_fault unused (stop.Failed which) b)
-    ends_whole (stop.TooLong which) b app = all_taken (stop.TooLong which) b app (writes_fault unused (stop.TooLong which) b)
+    ends_whole (stop.Failed which) b app =
+        all_taken (stop.Failed which) b app (writes_fault unused (stop.Failed which) b)
+    ends_whole (stop.TooLong which) b app =
+        all_taken (stop.TooLong which) b app (writes_fault unused (stop.TooLong which) b)
     ends_whole (stop.Run (fault.Answer number why)) b app =
         all_taken (stop.Run (fault.Answer number why)) b app (writes_fault unused (stop.Run (fault.Answer number why)) b)
     ends_whole (stop.Run fault.Generator) b app =
         all_taken (stop.Run fault.Generator) b app (writes_fault unused (stop.Run fault.Generator) b)
     ends_whole (stop.Run fault.Write) b app = absurd b.cause
-    ends_whole (stop.Run fault.Memory) b app = all_taken (stop.Run fault.Memory) b app (writes_fault unused (stop.Run fault.Memory) b)
+    ends_whole (stop.Run fault.Memory) b app =
+        all_taken (stop.Run fault.Memory) b app (writes_fault unused (stop.Run fault.Memory) b)
 
-    ends_told : (why : Stop) (status : Status) → IsBeforeLast words told rose spoken was now old mid why
+    ends_told : (why : Stop) (status : Status)
+        → IsBeforeLast words told rose spoken was now old mid why
         → TellsStatus (status_at why) (last_text why) mid new status → Ends words told rose unused spoken was now old new status
-    ends_told why status b (inl x) = subst (Ends words told rose unused spoken was now old new) (sym x.0) (ends_whole why b x.1)
-    ends_told why status b (inr (is, n, less, app)) = subst (Ends words told rose unused spoken was now old new) (sym is) (record {
-      text = b.text ++ last_text why;
-      was = inl (status_at why, writes_fault (Unit {0}) why b);
-      count = length b.text + n;
-      less = omega (arith, less, length-append b.text (last_text why));
-      took = subst (Appends old new) (sym (take-append-add b.text (last_text why) n)) (appends_then old mid new b.text (take n (last_text why)) b.took app);
-    })
+    ends_told why status b (inl x) =
+        subst (Ends words told rose unused spoken was now old new) (sym x.0) (ends_whole why b x.1)
+    ends_told why status b (inr (is, n, less, app)) =
+        subst (Ends words told rose unused spoken was now old new) (sym is) (record {
+          text = b.text ++ last_text why;
+          was = inl (status_at why, writes_fault (Unit {0}) why b);
+          count = length b.text + n;
+          less = omega (arith, less, length-append b.text (last_text why));
+          took = subst (Appends old new) (sym (take-append-add b.text (last_text why) n)) (appends_then old mid new b.text (take n (last_text why)) b.took app);
+        })
 
     -- before the last line
-    before_last : (why : Stop) → IsStopped words told rose spoken was now old mid why → (why ≡ stop.Run fault.Write → ⊥)
+    before_last : (why : Stop) → IsStopped words told rose spoken was now old mid why
+        → (why ≡ stop.Run fault.Write → ⊥)
         → IsBeforeLast words told rose spoken was now old mid why
     before_last stop.Usage s other = s
     before_last (stop.Input which kind place) s other = s
@@ -243,12 +273,14 @@ module _ (words : List (List ℕ)) (told : Option FileMap) (rose : Type 0) (spok
     for_memory (stop.Input which kind place) text b = inl (b.1, b.2)
     for_memory (stop.Failed which) text b = inl (b.1, b.2)
     for_memory (stop.TooLong which) text b = inl (b.1, b.2)
-    for_memory (stop.Run (fault.Answer number why)) text b = inr (fault.Answer number why, (b.0, b.1.front, b.1.broken, b.2, b.3))
+    for_memory (stop.Run (fault.Answer number why)) text b =
+        inr (fault.Answer number why, (b.0, b.1.front, b.1.broken, b.2, b.3))
     for_memory (stop.Run fault.Generator) text b = inr (fault.Generator, b)
     for_memory (stop.Run fault.Write) text b = absurd b
     for_memory (stop.Run fault.Memory) text b = b
 
-    pub ends_closed : (why : Stop) (status : Status) → IsStopped words told rose spoken was now old mid why
+    pub ends_closed : (why : Stop) (status : Status)
+        → IsStopped words told rose spoken was now old mid why
         → (why ≡ stop.Run fault.Write → ⊥) → ClosesRun why mid new status → Ends words told rose unused spoken was now old new status
     ends_closed why status s other (inl x) = ends_told why status (before_last why s other) x
     ends_closed why status s other (inr x) =
@@ -256,7 +288,8 @@ module _ (words : List (List ℕ)) (told : Option FileMap) (rose : Type 0) (spok
         ends_told (stop.Run fault.Memory) status (record { text = b.text; cause = for_memory why b.text b.cause; took = b.took }) x
 
   -- the sink took a part
-  pub ends_written : (unused : Type 0) (old new : Option (List ℕ)) (why : Stop) → is_write why ≡ true
+  pub ends_written : (unused : Type 0) (old new : Option (List ℕ)) (why : Stop)
+      → is_write why ≡ true
       → IsStopped words told rose spoken was now old new why → Ends words told rose unused spoken was now old new WriteFault
   ends_written unused old new stop.Usage e s = absurd (cc)
   ends_written unused old new (stop.Input which kind place) e s = absurd (cc)
@@ -277,7 +310,8 @@ module _ (words : List (List ℕ)) (told : Option FileMap) (rose : Type 0) (spok
       of (inl h) = inl (record { run = h.run; outcome = h.outcome; kind = h.kind; turns = h.turns; talks = h.talks; unneeded = λ asked. none; calls = h.calls; is = h.is })
       of (inr h) = inr (record { asked = h.asked; meant = h.meant; task = h.task; spelled = h.spelled; fit = h.fit; verdict = h.verdict; report = h.report; kind = h.kind; untouched = none; is = h.is })
 
-  pub untouched_each : (unused : Type 0) → unused → (old new : Option (List ℕ)) (r : Result Status Stop)
+  pub untouched_each : (unused : Type 0) → unused
+      → (old new : Option (List ℕ)) (r : Result Status Stop)
       → IfOk r (IsCompleted words told (Unit {0}) spoken was now old new) → IfOk r (IsCompleted words told unused spoken was now old new)
   untouched_each unused none old new (Ok status) c = untouched unused none old new status c
   untouched_each unused none old new (Err why) c = tt
@@ -346,7 +380,8 @@ module _ {words : List (List ℕ)} {told : Option FileMap} {unused : Type 0} {sp
   completed_generator (inl h) e = no_generator h.outcome (h.kind ∙ e)
   completed_generator (inr h) e = judged_generator h.verdict (h.kind ∙ e)
 
-  completed_write : HasOutcome words told unused spoken was log status text ⊎ HasVerdict words told unused status text → status ≡ WriteFault
+  completed_write : HasOutcome words told unused spoken was log status text ⊎ HasVerdict words told unused status text
+      → status ≡ WriteFault
       → ⊥
   completed_write (inl h) e = no_write h.outcome (h.kind ∙ e)
   completed_write (inr h) e = judged_write h.verdict (h.kind ∙ e)
@@ -368,7 +403,8 @@ other_memory : Memory ≡ GeneratorFault → ⊥
 other_memory e = absurd (cc)
 
 -- a line that names the generator was written for its fault
-closed_generator : (why : Stop) (old new : Option (List ℕ)) (status : Status) → ClosesRun why old new status → status ≡ GeneratorFault
+closed_generator : (why : Stop) (old new : Option (List ℕ)) (status : Status)
+    → ClosesRun why old new status → status ≡ GeneratorFault
     → why ≡ stop.Run fault.Generator
 closed_generator why old new status (inl (inl x)) e = generator_stop why (sym x.0 ∙ e)
 closed_generator why old new status (inl (inr x)) e = absurd (other_write (sym x.0 ∙ e))
@@ -380,29 +416,36 @@ module _ (last before now : ℕ) (r : Result Status Stop) where
   pub host_of_outcome : {words : List (List ℕ)} {told : Option FileMap} {unused : Type 0} {spoken : ℕ → Option Talk} {was log : Option (List Event)} {old new : Option (List ℕ)} (status : Status)
       → IsCompleted words told unused spoken was log old new status → HasCause (stop.Run fault.Generator) last before now r
       → Caused GeneratorFault last before now status
-  host_of_outcome status c h = record { later = h.later; cause = λ e. absurd (completed_generator status c.has e) }
+  host_of_outcome status c h =
+      record { later = h.later; cause = λ e. absurd (completed_generator status c.has e) }
 
   pub sink_of_outcome : {words : List (List ℕ)} {told : Option FileMap} {unused : Type 0} {spoken : ℕ → Option Talk} {was log : Option (List Event)} {old new : Option (List ℕ)} (status : Status)
       → IsCompleted words told unused spoken was log old new status → HasCause (stop.Run fault.Write) last before now r
       → Caused WriteFault last before now status
-  sink_of_outcome status c h = record { later = h.later; cause = λ e. absurd (completed_write status c.has e) }
+  sink_of_outcome status c h =
+      record { later = h.later; cause = λ e. absurd (completed_write status c.has e) }
 
-  pub host_of_write : HasCause (stop.Run fault.Generator) last before now r → Caused GeneratorFault last before now WriteFault
+  pub host_of_write : HasCause (stop.Run fault.Generator) last before now r
+      → Caused GeneratorFault last before now WriteFault
   host_of_write h = record { later = h.later; cause = λ e. absurd (other_write e) }
 
-  pub sink_of_write : r ≡ Err (stop.Run fault.Write) → HasCause (stop.Run fault.Write) last before now r
+  pub sink_of_write : r ≡ Err (stop.Run fault.Write)
+      → HasCause (stop.Run fault.Write) last before now r
       → Caused WriteFault last before now WriteFault
   sink_of_write is h = record { later = h.later; cause = λ e. h.cause is }
 
-  pub host_of_close : (why : Stop) (old new : Option (List ℕ)) (status : Status) → r ≡ Err why → ClosesRun why old new status
+  pub host_of_close : (why : Stop) (old new : Option (List ℕ)) (status : Status) → r ≡ Err why
+      → ClosesRun why old new status
       → HasCause (stop.Run fault.Generator) last before now r → Caused GeneratorFault last before now status
   host_of_close why old new status is closed h =
       record { later = h.later; cause = λ e. h.cause (is ∙ ap Err (closed_generator why old new status closed e)) }
 
-  pub sink_of_close : (after : ℕ) (why : Stop) (status : Status) → r ≡ Err why → HasCause (stop.Run fault.Write) last before now r
+  pub sink_of_close : (after : ℕ) (why : Stop) (status : Status) → r ≡ Err why
+      → HasCause (stop.Run fault.Write) last before now r
       → now ≤ after → (status ≡ WriteFault → (why ≡ stop.Run fault.Write) ⊎ Rose last now after)
       → Caused WriteFault last before after status
-  sink_of_close after why status is h later c = record { later = omega (arith, h.later, later); cause = λ e. of (c e) }
+  sink_of_close after why status is h later c =
+      record { later = omega (arith, h.later, later); cause = λ e. of (c e) }
     where
       of : (why ≡ stop.Run fault.Write) ⊎ Rose last now after → Rose last before after
       of (inl same) = let rose = h.cause (is ∙ ap Err same) in omega (arith, rose, later)

@@ -16,7 +16,8 @@ use Rattle.pddlstream_app.specs.Words.{Counted, SolveWords, TaskFiles, command_o
 abbrev IsBetween : ℕ → ℕ → Type 0
 IsBetween most n = (1 ≤ n) × (n ≤ most)
 
-digits_between : (most : ℕ) (word : List ℕ) → is_count most word ≡ true → IsBetween most (digits_value 10 word)
+digits_between : (most : ℕ) (word : List ℕ) → is_count most word ≡ true
+    → IsBetween most (digits_value 10 word)
 unfolding is_count
 digits_between most word e =
     let written = is_filled word && list_all is_ascii_digit word in
@@ -28,17 +29,20 @@ digits_between most word e =
 count_between : (most : ℕ) (word : List ℕ) (n : ℕ) → count_of most word ≡ Some n → IsBetween most n
 count_between most word n e = by (is_count most word) refl e
   where
-    by : (b : Bool) → is_count most word ≡ b → (if b then Some (digits_value 10 word) else None) ≡ Some n → IsBetween most n
+    by : (b : Bool) → is_count most word ≡ b
+        → (if b then Some (digits_value 10 word) else None) ≡ Some n → IsBetween most n
     by true is said = let same : digits_value 10 word ≡ n = cc in subst (IsBetween most) same (digits_between most word is)
     by false is said = absurd (cc)
 
 -- ---- options
 
 module _ (name : List ℕ) (most default : ℕ) (between : IsBetween most default) where
-  defaulted : (words : List (List ℕ)) (c : Counted) → Some (counted words default) ≡ Some c → IsBetween most c.count
+  defaulted : (words : List (List ℕ)) (c : Counted) → Some (counted words default) ≡ Some c
+      → IsBetween most c.count
   defaulted words c e = let same : counted words default ≡ c = cc in subst (λ (x : Counted). IsBetween most x.count) same between
 
-  option_between : (words : List (List ℕ)) (c : Counted) → option_of name most default words ≡ Some c → IsBetween most c.count
+  option_between : (words : List (List ℕ)) (c : Counted)
+      → option_of name most default words ≡ Some c → IsBetween most c.count
   option_between [] c e = defaulted [] c e
   option_between (word ∷ []) c e = defaulted (word ∷ []) c e
   option_between (word ∷ number ∷ rest) c e = by (bytes_eq word name) e
@@ -51,16 +55,19 @@ module _ (name : List ℕ) (most default : ℕ) (between : IsBetween most defaul
 
 -- ---- commands
 
-program_some : (words program : List (List ℕ)) → program_of words ≡ Some program → 1 ≤ length program
+program_some : (words program : List (List ℕ)) → program_of words ≡ Some program
+    → 1 ≤ length program
 program_some [] program e = absurd (cc)
 program_some (dashes ∷ []) program e = absurd (cc)
 program_some (dashes ∷ word ∷ more) program e = by (bytes_eq dashes (codes "--")) e
   where
     by : (b : Bool) → (if b then Some (word ∷ more) else None) ≡ Some program → 1 ≤ length program
-    by true said = let same : word ∷ more ≡ program = cc in subst (λ p. 1 ≤ length p) same (omega arith)
+    by true said =
+        let same : word ∷ more ≡ program = cc in subst (λ p. 1 ≤ length p) same (omega arith)
     by false said = absurd (cc)
 
-solve_between : (files : TaskFiles) (words : List (List ℕ)) (w : SolveWords) → solve_of files words ≡ Some w → AreInRange w
+solve_between : (files : TaskFiles) (words : List (List ℕ)) (w : SolveWords)
+    → solve_of files words ≡ Some w → AreInRange w
 solve_between files words w e =
     let calls = and_then_some _ (option_of (codes "--calls") 100000 10000 words) w e in
     let states = and_then_some _ (option_of (codes "--states") 200000 100000 calls.0.rest) w calls.2 in
@@ -80,12 +87,14 @@ solve_between files words w e =
     })
 
 -- the words of `solve` are in their ranges
-pub words_in_range : (line : List (List ℕ)) (w : SolveWords) → command_of line ≡ Some (solve w) → AreInRange w
+pub words_in_range : (line : List (List ℕ)) (w : SolveWords) → command_of line ≡ Some (solve w)
+    → AreInRange w
 words_in_range [] w e = absurd (cc)
 words_in_range (name ∷ []) w e = absurd (cc)
 words_in_range (name ∷ domain ∷ []) w e = absurd (cc)
 words_in_range (name ∷ domain ∷ problem ∷ []) w e = absurd (cc)
-words_in_range (name ∷ domain ∷ problem ∷ streams ∷ words) w e = by (bytes_eq name (codes "solve")) (bytes_eq name (codes "replay")) e
+words_in_range (name ∷ domain ∷ problem ∷ streams ∷ words) w e =
+    by (bytes_eq name (codes "solve")) (bytes_eq name (codes "replay")) e
   where
     files : TaskFiles
     files = record { domain = domain; problem = problem; streams = streams }

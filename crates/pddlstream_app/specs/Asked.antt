@@ -32,7 +32,8 @@ ask path answer = record { path = path; answer = answer }
 abbrev pub asks_to : TaskFiles → Text → FileAnswer → List Asked
 asks_to paths Domain answer = ask paths.domain answer ∷ []
 asks_to paths Problem answer = ask paths.domain (Ok tt) ∷ ask paths.problem answer ∷ []
-asks_to paths Streams answer = ask paths.domain (Ok tt) ∷ ask paths.problem (Ok tt) ∷ ask paths.streams answer ∷ []
+asks_to paths Streams answer =
+    ask paths.domain (Ok tt) ∷ ask paths.problem (Ok tt) ∷ ask paths.streams answer ∷ []
 
 -- all files of a task, and then a report's, which was answered so
 abbrev pub asks_to_report : ReplayWords → FileAnswer → List Asked
@@ -121,7 +122,8 @@ pub record AsksForReport (words : List (List ℕ)) (old new : Option (List Asked
   pub fits : IsAnswerFor role.Report answer why
   pub asked : Extends old new (asks_to_report command answer)
 
-abbrev pub AsksWhileReading : List (List ℕ) → Option (List Asked) → Option (List Asked) → Stop → Type 0
+abbrev pub AsksWhileReading : List (List ℕ) → Option (List Asked) → Option (List Asked) → Stop
+    → Type 0
 AsksWhileReading words old new why = AsksForTask words old new why ⊎ AsksForReport words old new why
 
 -- The file that the last line names is the cause of the run's end, and the files were asked for up to that one.
@@ -133,11 +135,14 @@ pub record AsksToNamed (words : List (List ℕ)) (told : Option FileMap) (rose :
   pub asked : AsksWhileReading words old new why
 
 -- which files a run asks for that ends so: `old` and `new` are the asks that the files tell, and `before` and `now` what the sink took
-abbrev pub AsksFiles : List (List ℕ) → Option FileMap → Type 0 → Option (List Asked) → Option (List Asked)
+abbrev pub AsksFiles : List (List ℕ) → Option FileMap → Type 0 → Option (List Asked)
+    → Option (List Asked)
     → Option (List ℕ) → Option (List ℕ) → Status → Type 0
 AsksFiles words told rose old new before now Usage = AsksNone words old new
-AsksFiles words told rose old new before now Input = AsksToNamed words told rose old new before now Input
-AsksFiles words told rose old new before now ReadFault = AsksToNamed words told rose old new before now ReadFault
+AsksFiles words told rose old new before now Input =
+    AsksToNamed words told rose old new before now Input
+AsksFiles words told rose old new before now ReadFault =
+    AsksToNamed words told rose old new before now ReadFault
 AsksFiles words told rose old new before now Plan = AsksAll words old new
 AsksFiles words told rose old new before now NoPlan = AsksAll words old new
 AsksFiles words told rose old new before now Limit = AsksAll words old new
@@ -151,7 +156,8 @@ AsksFiles words told rose old new before now WriteFault = AsksSome words old new
 -- which files were asked for where a run stops so
 abbrev pub AsksBefore : List (List ℕ) → Option (List Asked) → Option (List Asked) → Stop → Type 0
 AsksBefore words old new stop.Usage = AsksNone words old new
-AsksBefore words old new (stop.Input which kind place) = AsksWhileReading words old new (stop.Input which kind place)
+AsksBefore words old new (stop.Input which kind place) =
+    AsksWhileReading words old new (stop.Input which kind place)
 AsksBefore words old new (stop.Failed which) = AsksWhileReading words old new (stop.Failed which)
 AsksBefore words old new (stop.TooLong which) = AsksWhileReading words old new (stop.TooLong which)
 AsksBefore words old new (stop.Run (fault.Answer number why)) = AsksAll words old new

@@ -22,7 +22,8 @@ pub record IsPoolOf (task : Task) (words : SolveWords) (pool : Pool) : Type 0 wh
 -- one pool, and none where there are no streams
 abbrev pub ArePoolsFor : Task → SolveWords → List Stream → List Pool → Type 0
 ArePoolsFor task words [] pools = pools ≡ []
-ArePoolsFor task words (s ∷ ss) pools = (pool : Pool) × (pools ≡ pool ∷ []) × IsPoolOf task words pool
+ArePoolsFor task words (s ∷ ss) pools =
+    (pool : Pool) × (pools ≡ pool ∷ []) × IsPoolOf task words pool
 
 abbrev pub ArePoolsOf : Task → SolveWords → List Pool → Type 0
 ArePoolsOf task words pools = ArePoolsFor task words task.streams pools

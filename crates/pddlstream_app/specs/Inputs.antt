@@ -66,7 +66,8 @@ IsAccepted told paths Streams =
 
 -- this text is refused for this fault, and the texts before it are not
 abbrev pub IsRefused : Option FileMap → TaskFiles → Text → FaultKind → ℕ → Type 0
-IsRefused told paths Domain kind place = HoldsText told paths.domain (λ d. RefusesDomain d kind place)
+IsRefused told paths Domain kind place =
+    HoldsText told paths.domain (λ d. RefusesDomain d kind place)
 IsRefused told paths Problem kind place =
     HoldsText told paths.domain (λ d. HoldsText told paths.problem (λ p. RefusesSecond d p kind place))
 IsRefused told paths Streams kind place = HoldsText told paths.domain (λ d. HoldsText told paths.problem (λ p. HoldsText told paths.streams (λ s. RefusesThird d p s kind place)))

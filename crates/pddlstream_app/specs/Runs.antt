@@ -51,7 +51,8 @@ pub record ProgramRun (words : List (List ℕ)) (told : Option FileMap) : Type 0
   pub legal : IsLegal head.version task entries
 
 -- the lines of a run's head and of its transcript
-abbrev pub lines_so_far : (words : List (List ℕ)) (told : Option FileMap) → ProgramRun words told → List ℕ
+abbrev pub lines_so_far : (words : List (List ℕ)) (told : Option FileMap) → ProgramRun words told
+    → List ℕ
 lines_so_far words told run = text_so_far run.task run.head run.entries
 
 -- a run's report, if this is its outcome
@@ -116,12 +117,15 @@ abbrev pub HasNoInput : List (List ℕ) → Option FileMap → Type 0 → Stop �
 HasNoInput words told rose why = HasNoTask words told rose why ⊎ HasNoReport words told rose why
 
 -- what was said with the children is the dialogue of the run's transcript, broken off behind it
-abbrev pub IsBrokenOff : (words : List (List ℕ)) (told : Option FileMap) → (ℕ → Option Talk) → ProgramRun words told
+abbrev pub IsBrokenOff : (words : List (List ℕ)) (told : Option FileMap) → (ℕ → Option Talk)
+    → ProgramRun words told
     → Type 0
-IsBrokenOff words told spoken run = BrokenOff run.task run.head.version (workers_in run.head) run.entries spoken
+IsBrokenOff words told spoken run =
+    BrokenOff run.task run.head.version (workers_in run.head) run.entries spoken
 
 -- the run's transcript is one of whole turns, the last of which may stop at any entry; each begins where no plan exists
-abbrev pub IsFrontRun : (words : List (List ℕ)) (told : Option FileMap) → ProgramRun words told → Type 0
+abbrev pub IsFrontRun : (words : List (List ℕ)) (told : Option FileMap) → ProgramRun words told
+    → Type 0
 IsFrontRun words told run = IsFrontOfRun run.head run.task run.entries
 
 -- The calls that came to the log are those of the run's transcript, up to where it broke off with this fault, and then stops. Where no
@@ -131,7 +135,8 @@ pub record HasCalls (words : List (List ℕ)) (told : Option FileMap) (was now :
   pub needed : LogStops was now ⊎ HasLevel run.entries
 
 -- the lines of a run's head and transcript, where it stopped with this fault and the dialogue and the calls were broken off
-abbrev pub IsPartOfRun : List (List ℕ) → Option FileMap → (ℕ → Option Talk) → (was now : Option (List Event)) → RunFault
+abbrev pub IsPartOfRun : List (List ℕ) → Option FileMap → (ℕ → Option Talk)
+    → (was now : Option (List Event)) → RunFault
     → List ℕ → Type 0
 IsPartOfRun words told spoken was now f text =
     (run : ProgramRun words told) × IsFrontRun words told run × IsBrokenOff words told spoken run
@@ -146,9 +151,11 @@ pub record HasBadAnswer (words : List (List ℕ)) (told : Option FileMap) (spoke
 
 -- what was written before the last line of a run that stops so, with the cause; `rose` says that the files' count of faults rose, and
 -- `spoken` what was said with each child, where that is told; for want of memory a run may stop that had another fault to tell
-abbrev pub IsBefore : List (List ℕ) → Option FileMap → Type 0 → (ℕ → Option Talk) → (was now : Option (List Event))
+abbrev pub IsBefore : List (List ℕ) → Option FileMap → Type 0 → (ℕ → Option Talk)
+    → (was now : Option (List Event))
     → Stop → List ℕ → Type 0
-IsBefore words told rose spoken was now stop.Usage text = (command_of words ≡ None) × (text ≡ []) × LogStops was now
+IsBefore words told rose spoken was now stop.Usage text =
+    (command_of words ≡ None) × (text ≡ []) × LogStops was now
 IsBefore words told rose spoken was now (stop.Input which kind place) text =
     HasNoInput words told rose (stop.Input which kind place) × (text ≡ []) × LogStops was now
 IsBefore words told rose spoken was now (stop.Failed which) text =
@@ -177,20 +184,28 @@ pub record HasFault (words : List (List ℕ)) (told : Option FileMap) (rose : Ty
 -- what a run writes in all that ends so
 abbrev pub RunWrites : List (List ℕ) → Option FileMap → Type 0 → Type 0 → (ℕ → Option Talk)
     → (was now : Option (List Event)) → Status → List ℕ → Type 0
-RunWrites words told rose unused spoken was now Plan text = HasOutcome words told unused spoken was now Plan text
-RunWrites words told rose unused spoken was now NoPlan text = HasOutcome words told unused spoken was now NoPlan text
+RunWrites words told rose unused spoken was now Plan text =
+    HasOutcome words told unused spoken was now Plan text
+RunWrites words told rose unused spoken was now NoPlan text =
+    HasOutcome words told unused spoken was now NoPlan text
 RunWrites words told rose unused spoken was now Limit text =
     HasOutcome words told unused spoken was now Limit text ⊎ HasVerdict words told unused Limit text
-RunWrites words told rose unused spoken was now Usage text = HasFault words told rose spoken was now Usage text
-RunWrites words told rose unused spoken was now Input text = HasFault words told rose spoken was now Input text
-RunWrites words told rose unused spoken was now BadAnswer text = HasFault words told rose spoken was now BadAnswer text
-RunWrites words told rose unused spoken was now ReadFault text = HasFault words told rose spoken was now ReadFault text
+RunWrites words told rose unused spoken was now Usage text =
+    HasFault words told rose spoken was now Usage text
+RunWrites words told rose unused spoken was now Input text =
+    HasFault words told rose spoken was now Input text
+RunWrites words told rose unused spoken was now BadAnswer text =
+    HasFault words told rose spoken was now BadAnswer text
+RunWrites words told rose unused spoken was now ReadFault text =
+    HasFault words told rose spoken was now ReadFault text
 RunWrites words told rose unused spoken was now GeneratorFault text =
     HasFault words told rose spoken was now GeneratorFault text
-RunWrites words told rose unused spoken was now Memory text = HasFault words told rose spoken was now Memory text
+RunWrites words told rose unused spoken was now Memory text =
+    HasFault words told rose spoken was now Memory text
 RunWrites words told rose unused spoken was now WriteFault text = ⊥
 RunWrites words told rose unused spoken was now Done text = HasVerdict words told unused Done text
-RunWrites words told rose unused spoken was now Invalid text = HasVerdict words told unused Invalid text
+RunWrites words told rose unused spoken was now Invalid text =
+    HasVerdict words told unused Invalid text
 
 -- The sink took all that the run writes.
 pub record TookAll (words : List (List ℕ)) (told : Option FileMap) (rose unused : Type 0) (spoken : ℕ → Option Talk) (was now : Option (List Event)) (old new : Option (List ℕ)) (status : Status) : Type 0 where
@@ -207,22 +222,31 @@ pub record TookPart (words : List (List ℕ)) (told : Option FileMap) (rose : Ty
   pub took : Appends old new (take count text)
 
 -- how a run ends
-abbrev pub Ends : List (List ℕ) → Option FileMap → Type 0 → Type 0 → (ℕ → Option Talk) → (was now : Option (List Event))
+abbrev pub Ends : List (List ℕ) → Option FileMap → Type 0 → Type 0 → (ℕ → Option Talk)
+    → (was now : Option (List Event))
     → Option (List ℕ) → Option (List ℕ) → Status → Type 0
-Ends words told rose unused spoken was now old new WriteFault = TookPart words told rose spoken was now old new
-Ends words told rose unused spoken was now old new Plan = TookAll words told rose unused spoken was now old new Plan
-Ends words told rose unused spoken was now old new NoPlan = TookAll words told rose unused spoken was now old new NoPlan
-Ends words told rose unused spoken was now old new Limit = TookAll words told rose unused spoken was now old new Limit
-Ends words told rose unused spoken was now old new Usage = TookAll words told rose unused spoken was now old new Usage
-Ends words told rose unused spoken was now old new Input = TookAll words told rose unused spoken was now old new Input
+Ends words told rose unused spoken was now old new WriteFault =
+    TookPart words told rose spoken was now old new
+Ends words told rose unused spoken was now old new Plan =
+    TookAll words told rose unused spoken was now old new Plan
+Ends words told rose unused spoken was now old new NoPlan =
+    TookAll words told rose unused spoken was now old new NoPlan
+Ends words told rose unused spoken was now old new Limit =
+    TookAll words told rose unused spoken was now old new Limit
+Ends words told rose unused spoken was now old new Usage =
+    TookAll words told rose unused spoken was now old new Usage
+Ends words told rose unused spoken was now old new Input =
+    TookAll words told rose unused spoken was now old new Input
 Ends words told rose unused spoken was now old new BadAnswer =
     TookAll words told rose unused spoken was now old new BadAnswer
 Ends words told rose unused spoken was now old new ReadFault =
     TookAll words told rose unused spoken was now old new ReadFault
 Ends words told rose unused spoken was now old new GeneratorFault =
     TookAll words told rose unused spoken was now old new GeneratorFault
-Ends words told rose unused spoken was now old new Memory = TookAll words told rose unused spoken was now old new Memory
-Ends words told rose unused spoken was now old new Done = TookAll words told rose unused spoken was now old new Done
+Ends words told rose unused spoken was now old new Memory =
+    TookAll words told rose unused spoken was now old new Memory
+Ends words told rose unused spoken was now old new Done =
+    TookAll words told rose unused spoken was now old new Done
 Ends words told rose unused spoken was now old new Invalid =
     TookAll words told rose unused spoken was now old new Invalid
 
@@ -246,7 +270,8 @@ pub record IsBeforeLast (words : List (List ℕ)) (told : Option FileMap) (rose 
   pub took : Appends old new text
 
 -- how a run stands that has no outcome
-abbrev pub IsStopped : List (List ℕ) → Option FileMap → Type 0 → (ℕ → Option Talk) → (was now : Option (List Event))
+abbrev pub IsStopped : List (List ℕ) → Option FileMap → Type 0 → (ℕ → Option Talk)
+    → (was now : Option (List Event))
     → Option (List ℕ) → Option (List ℕ) → Stop → Type 0
 IsStopped words told rose spoken was now old new (stop.Run fault.Write) =
     TookPart words told rose spoken was now old new
@@ -285,7 +310,8 @@ IsShown v old new (Err why) =
     ⊎ ((why ≡ stop.Run fault.Write) × (n : ℕ) × (n < length (verdict_text v)) × Appends old new (take n (verdict_text v)))
 
 -- What a replay says of the bytes was written; or memory was wanting, or the sink failed and took a part of it.
-abbrev pub IsSaidOf : ℕ → Task → List ℕ → Option (List ℕ) → Option (List ℕ) → Result Status Stop → Type 0
+abbrev pub IsSaidOf : ℕ → Task → List ℕ → Option (List ℕ) → Option (List ℕ) → Result Status Stop
+    → Type 0
 IsSaidOf limit task bytes old new (Ok status) =
     (v : Verdict) × IsVerdict limit task bytes v × IsShown v old new (Ok status)
 IsSaidOf limit task bytes old new (Err why) =

@@ -73,7 +73,8 @@ option_of name most default [] = Some (counted [] default)
 
 -- `--` and the program
 abbrev pub program_of : List (List ℕ) → Option (List (List ℕ))
-program_of (dashes ∷ word ∷ more) = if bytes_eq dashes (codes "--") then Some (word ∷ more) else None
+program_of (dashes ∷ word ∷ more) =
+    if bytes_eq dashes (codes "--") then Some (word ∷ more) else None
 program_of (dashes ∷ []) = None
 program_of [] = None
 
@@ -84,7 +85,8 @@ solve_of files words =
 
 -- a report and its limit, with no word behind them
 abbrev pub replay_with : TaskFiles → List ℕ → ℕ → List (List ℕ) → Option ReplayWords
-replay_with files report states [] = Some (record { files = files; report = report; states = states })
+replay_with files report states [] =
+    Some (record { files = files; report = report; states = states })
 replay_with files report states (word ∷ words) = None
 
 -- REPORT [--states N], behind the three files

@@ -23,7 +23,8 @@ Names task step action = slice_get task.domain.actions step.action ≡ Some acti
 -- this part of the step is the first that fails
 abbrev pub StepFails : Task → Known → Atoms → GroundAction → StepFault → Type 0
 StepFails task known state step NoAction = slice_get task.domain.actions step.action ≡ None
-StepFails task known state step Args = (a : Action) × Names task step a × (have_types known step.args a.params ≡ false)
+StepFails task known state step Args =
+    (a : Action) × Names task step a × (have_types known step.args a.params ≡ false)
 StepFails task known state step Condition =
     (a : Action) × Names task step a × (have_types known step.args a.params ≡ true) × (is_true task.domain known state a.condition (slots_of step.args) ≡ false)
 StepFails task known state step NoCost =

@@ -48,7 +48,9 @@ fn put_in(state: &mut State, patterns: &[Pattern], env: &Env) -> Result<(), Allo
 pub(crate) fn effect(state: &State, action: &Action, env: &Env) -> Result<State, AllocError>
     requires adds { list_all is_readable_pattern action.now.adds ≡ true }
     requires deletes { list_all is_readable_pattern action.now.deletes ≡ true }
-    ensures { IfOk result (λ after. after ≡ with_atoms (without_atoms state.now (map (atom_of env.now) action.now.deletes)) (map (atom_of env.now) action.now.adds)) }
+    ensures { IfOk result (λ after. after
+        ≡ with_atoms (without_atoms state.now (map (atom_of env.now) action.now.deletes))
+        (map (atom_of env.now) action.now.adds)) }
 {
     let mut after = state.copy()?;
     take_out(&mut after, action.deletes.as_slice(), env);

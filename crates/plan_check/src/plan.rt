@@ -34,7 +34,8 @@ fn run<L: Look>(
 ) -> Result<Applied, CheckFault>
     requires fit { IsFit task.now }
     requires few { length steps.now < 2 ^ 26 }
-    ensures ok { IfOk result (λ end. Executes task.now (L.known look.now) (initial_state task.now) steps.now end.state end.cost) }
+    ensures ok { IfOk result (λ end. Executes task.now (L.known look.now) (initial_state task.now)
+        steps.now end.state end.cost) }
     ensures err { IfErr result (StepsRun task.now (L.known look.now) steps.now) }
 {
     let Ok(mut state) = initial(alloc, task) else {

@@ -62,7 +62,8 @@ pub fn apply<L: Look>(
     step: &GroundAction,
 ) -> Result<Applied, StepFault>
     requires { IsFit task.now }
-    ensures ok { IfOk result (λ applied. IsStep task.now (L.known look.now) state.now step.now applied.state applied.cost) }
+    ensures ok { IfOk result (λ applied. IsStep task.now (L.known look.now) state.now step.now
+        applied.state applied.cost) }
     ensures err { IfErr result (StepFails task.now (L.known look.now) state.now step.now) }
     ensures small { IfOk result (λ applied. applied.cost ≤ 262144000000) }
 {

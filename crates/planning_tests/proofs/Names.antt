@@ -7,7 +7,8 @@ some_there [] some = absurd (some refl)
 some_there (x ∷ xs) some = omega arith
 
 -- two objects that are within
-pub two_within : (names : List (List ℕ)) (object : ℕ) (objects : List ℕ) → objects ≡ object ∷ object ∷ [] → object < length names
+pub two_within : (names : List (List ℕ)) (object : ℕ) (objects : List ℕ)
+    → objects ≡ object ∷ object ∷ [] → object < length names
     → All (λ o. o < length names) objects
 two_within names object objects e h =
     let P : List ℕ → Type 0 = λ os. All (λ o. o < length names) os in

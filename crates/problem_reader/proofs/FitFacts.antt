@@ -32,7 +32,8 @@ pub record AreObjects (objects : List (List ℕ)) (ts : Trees) : Type 0 where
   pub count : length (places_of objects ts) ≡ width ts
   pub each : list_all (λ o. nat_lt o (length objects)) (places_of objects ts) ≡ true
 
-pub objects_there : (objects : List (List ℕ)) (ts : Trees) → row_faults Name ts ≡ [] → terms_names objects [] ts ≡ [] → AreObjects objects ts
+pub objects_there : (objects : List (List ℕ)) (ts : Trees) → row_faults Name ts ≡ []
+    → terms_names objects [] ts ≡ [] → AreObjects objects ts
 objects_there objects nothing e f = record { count = refl; each = refl }
 objects_there objects (list items at rest) e f = absurd (cc)
 objects_there objects (word w at rest) e f =
@@ -47,19 +48,24 @@ objects_there objects (word w at rest) e f =
 
 -- ---- facts
 
-derived_some : (roles : List Role) (k : ℕ) (r : Role) → slice_get roles k ≡ Some r → is_derived_at roles (Some k) ≡ is_derived_role r
+derived_some : (roles : List Role) (k : ℕ) (r : Role) → slice_get roles k ≡ Some r
+    → is_derived_at roles (Some k) ≡ is_derived_role r
 derived_some roles k r e = rw e refl
 
 module _ (d : Domain) (n : ℕ) (v : Vocabulary) (fit : IsFitDomain d) (named : AreNamesOf d n v) where
   -- the role that was looked up is the predicate's
-  pub not_derived : (w : List ℕ) (count place : ℕ) → IsUsable v.predicates w count → unless (not (is_derived_at d.roles (place_of w v.predicates.names))) EffectOnStatic place ≡ [] → not (is_derived_role (role_of d (declared_place v.predicates w))) ≡ true
+  pub not_derived : (w : List ℕ) (count place : ℕ) → IsUsable v.predicates w count
+      → unless (not (is_derived_at d.roles (place_of w v.predicates.names))) EffectOnStatic place ≡ []
+      → not (is_derived_role (role_of d (declared_place v.predicates w))) ≡ true
   not_derived w count place used e =
       let at = role_at d (declared_place v.predicates w) fit.roles (used_inside d.predicates v.predicates w count named.predicates used) in
       let is : is_derived_at d.roles (place_of w v.predicates.names) ≡ is_derived_role (role_of d (declared_place v.predicates w)) =
       ap (is_derived_at d.roles) (place_some w v.predicates.names used.there) ∙ derived_some d.roles (declared_place v.predicates w) (role_of d (declared_place v.predicates w)) at in
       ap not (sym is) ∙ met (not (is_derived_at d.roles (place_of w v.predicates.names))) EffectOnStatic place e
 
-  pub fact_fit : (place : ℕ) (items : Trees) → application_faults Predicate Name place items ≡ [] → atom_names v d.roles place items ≡ [] → is_fit_fact d (length v.objects) (fact_of v items) ≡ true
+  pub fact_fit : (place : ℕ) (items : Trees) → application_faults Predicate Name place items ≡ []
+      → atom_names v d.roles place items ≡ []
+      → is_fit_fact d (length v.objects) (fact_of v items) ≡ true
   fact_fit place nothing e f = absurd (cc)
   fact_fit place (list items at rest) e f = absurd (cc)
   fact_fit place (word w at rest) e f =

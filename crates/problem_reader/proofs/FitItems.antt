@@ -30,11 +30,14 @@ module _ (v : Vocabulary) (d : Domain) where
     formed : single_faults place rest ≡ []
     named : conditions_names v [] rest ≡ []
 
-  goal_by : (it : Item) (place at : ℕ) (rest : Trees) → is_goal it ≡ true → body_faults it place at rest ≡ [] → body_names v d it rest ≡ [] → IsGoal rest
+  goal_by : (it : Item) (place at : ℕ) (rest : Trees) → is_goal it ≡ true
+      → body_faults it place at rest ≡ [] → body_names v d it rest ≡ [] → IsGoal rest
   goal_by item.Goal place at rest e f g = record { place = place; formed = f; named = g }
   goal_by it place at rest e f g = absurd (cc)
 
-  is_good_goal : (place : ℕ) (items : Trees) → item_faults text.Problem place items ≡ [] → body_names v d (item_of text.Problem (head_of items)) (tail_of items) ≡ [] → is_goal (item_of text.Problem (head_of items)) ≡ true → IsGoal (tail_of items)
+  is_good_goal : (place : ℕ) (items : Trees) → item_faults text.Problem place items ≡ []
+      → body_names v d (item_of text.Problem (head_of items)) (tail_of items) ≡ []
+      → is_goal (item_of text.Problem (head_of items)) ≡ true → IsGoal (tail_of items)
   is_good_goal place nothing f g e = absurd (cc)
   is_good_goal place (list items at rest) f g e = absurd (cc)
   is_good_goal place (word w at rest) f g e = goal_by (item_of text.Problem w) place at rest e f g
@@ -43,11 +46,13 @@ module _ (v : Vocabulary) (d : Domain) where
     abbrev IsFitGoal : Trees → Type 0
     IsFitGoal rest = is_fit_condition d objects [] (condition_of v rest) ≡ true
 
-    goal_here : (b : Bool) (rest behind : Trees) → size rest ≤ 8388608 → depth rest ≤ 64 → (b ≡ true → IsGoal rest) → IsFitGoal behind → IsFitGoal (cond b rest behind)
+    goal_here : (b : Bool) (rest behind : Trees) → size rest ≤ 8388608 → depth rest ≤ 64
+        → (b ≡ true → IsGoal rest) → IsFitGoal behind → IsFitGoal (cond b rest behind)
     goal_here true rest behind small shallow is more = single_fits v d objects knows [] [] (filled_first 0) (omega arith) (is refl).place rest small shallow (is refl).formed (is refl).named
     goal_here false rest behind small shallow is more = more
 
-    pub goal_fit : (body : Trees) → size body ≤ 8388608 → depth body ≤ 64 → items_faults text.Problem body ≡ [] → items_names v d body ≡ [] → IsFitGoal (goal_of body)
+    pub goal_fit : (body : Trees) → size body ≤ 8388608 → depth body ≤ 64
+        → items_faults text.Problem body ≡ [] → items_names v d body ≡ [] → IsFitGoal (goal_of body)
     goal_fit nothing small shallow e f = refl
     goal_fit (word w at rest) small shallow e f = absurd (cc)
     goal_fit (list items at rest) small shallow e f =
@@ -68,20 +73,27 @@ module _ (v : Vocabulary) (d : Domain) where
     pub formed : facts_faults rest ≡ []
     pub named : facts_names v d.roles rest ≡ []
 
-  init_by : (it : Item) (place at : ℕ) (rest : Trees) → is_init it ≡ true → body_faults it place at rest ≡ [] → body_names v d it rest ≡ [] → IsFormed rest
-  init_by item.Init place at rest e f g = record { formed = append_nil_second _ (facts_faults rest) f; named = g }
+  init_by : (it : Item) (place at : ℕ) (rest : Trees) → is_init it ≡ true
+      → body_faults it place at rest ≡ [] → body_names v d it rest ≡ [] → IsFormed rest
+  init_by item.Init place at rest e f g =
+      record { formed = append_nil_second _ (facts_faults rest) f; named = g }
   init_by it place at rest e f g = absurd (cc)
 
-  is_good_init : (place : ℕ) (items : Trees) → item_faults text.Problem place items ≡ [] → body_names v d (item_of text.Problem (head_of items)) (tail_of items) ≡ [] → is_init (item_of text.Problem (head_of items)) ≡ true → IsFormed (tail_of items)
+  is_good_init : (place : ℕ) (items : Trees) → item_faults text.Problem place items ≡ []
+      → body_names v d (item_of text.Problem (head_of items)) (tail_of items) ≡ []
+      → is_init (item_of text.Problem (head_of items)) ≡ true → IsFormed (tail_of items)
   is_good_init place nothing f g e = absurd (cc)
   is_good_init place (list items at rest) f g e = absurd (cc)
   is_good_init place (word w at rest) f g e = init_by (item_of text.Problem w) place at rest e f g
 
-  init_here : (b : Bool) (rest behind more : Trees) → (b ≡ true → IsFormed rest) → (cond b (row_names nothing_given rest) [] ++ values_names (cond b (row_put nothing_given rest) nothing_given) more ≡ []) → (values_names nothing_given more ≡ [] → IsInit behind) → IsInit (cond b rest behind)
+  init_here : (b : Bool) (rest behind more : Trees) → (b ≡ true → IsFormed rest)
+      → (cond b (row_names nothing_given rest) [] ++ values_names (cond b (row_put nothing_given rest) nothing_given) more ≡ [])
+      → (values_names nothing_given more ≡ [] → IsInit behind) → IsInit (cond b rest behind)
   init_here true rest behind more is e next = record { formed = (is refl).formed; named = (is refl).named; valued = (none_both (row_names nothing_given rest) (values_names (row_put nothing_given rest) more) e).0 }
   init_here false rest behind more is e next = next e
 
-  pub init_good : (body : Trees) → items_faults text.Problem body ≡ [] → items_names v d body ≡ [] → values_names nothing_given body ≡ [] → IsInit (init_of body)
+  pub init_good : (body : Trees) → items_faults text.Problem body ≡ [] → items_names v d body ≡ []
+      → values_names nothing_given body ≡ [] → IsInit (init_of body)
   init_good nothing e f g = record { formed = refl; named = refl; valued = refl }
   init_good (word w at rest) e f g = absurd (cc)
   init_good (list items at rest) e f g =
@@ -90,7 +102,8 @@ module _ (v : Vocabulary) (d : Domain) where
       let names = none_both (body_names v d it (tail_of items)) (items_names v d rest) f in
       init_here (is_init it) (tail_of items) (init_of rest) rest (is_good_init at items forms.0 names.0) g (init_good rest forms.1 names.1)
 
-init_less : (b : Bool) (rest behind : Trees) (n : ℕ) → size rest ≤ n → size behind ≤ n → size (cond b rest behind) ≤ n
+init_less : (b : Bool) (rest behind : Trees) (n : ℕ) → size rest ≤ n → size behind ≤ n
+    → size (cond b rest behind) ≤ n
 init_less true rest behind n h k = h
 init_less false rest behind n h k = k
 

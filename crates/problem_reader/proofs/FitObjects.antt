@@ -43,31 +43,47 @@ abbrev pub HaveTypes : List declared.Declared → Type 0
 HaveTypes [] = Unit {0}
 HaveTypes (c ∷ cs) = (0 < length c.sorts) × HaveTypes cs
 
-again : (t : Typed) (n : List ℕ) (ss : List ℕ) → has_name n t.names ≡ true → (declare_all t n ss).names ≡ t.names
+again : (t : Typed) (n : List ℕ) (ss : List ℕ) → has_name n t.names ≡ true
+    → (declare_all t n ss).names ≡ t.names
 again t n [] e = refl
 again t n (s ∷ ss) e =
     let same : (declare t n s).names ≡ t.names = names_declared t n s ∙ cond-true (has_name n t.names) t.names (t.names ++ n ∷ []) e in
     again (declare t n s) n ss (ap (has_name n) same ∙ e) ∙ same
 
-once_named : (t : Typed) (n : List ℕ) (ss : List ℕ) → 0 < length ss → (declare_all t n ss).names ≡ with_name t.names n
+once_named : (t : Typed) (n : List ℕ) (ss : List ℕ) → 0 < length ss
+    → (declare_all t n ss).names ≡ with_name t.names n
 once_named t n [] h = absurd (omega arith)
-once_named t n (s ∷ ss) h = again (declare t n s) n ss (ap (has_name n) (names_declared t n s) ∙ has_with t.names n) ∙ names_declared t n s
+once_named t n (s ∷ ss) h =
+    again (declare t n s) n ss (ap (has_name n) (names_declared t n s) ∙ has_with t.names n)
+    ∙ names_declared t n s
 
-constants_named : (t : Typed) (cs : List declared.Declared) → HaveTypes cs → (constants_typed t cs).names ≡ put_constants t.names cs
+constants_named : (t : Typed) (cs : List declared.Declared) → HaveTypes cs
+    → (constants_typed t cs).names ≡ put_constants t.names cs
 constants_named t [] h = refl
-constants_named t (c ∷ cs) h = constants_named (declare_all t c.name c.sorts) cs h.1 ∙ ap (λ ns. put_constants ns cs) (once_named t c.name c.sorts h.0)
+constants_named t (c ∷ cs) h =
+    constants_named (declare_all t c.name c.sorts) cs h.1
+    ∙ ap (λ ns. put_constants ns cs) (once_named t c.name c.sorts h.0)
 
-pub constants_put : (names : List (List ℕ)) (cs : List declared.Declared) → AreFresh names (constant_names cs) → put_constants names cs ≡ names ++ constant_names cs
+pub constants_put : (names : List (List ℕ)) (cs : List declared.Declared)
+    → AreFresh names (constant_names cs) → put_constants names cs ≡ names ++ constant_names cs
 constants_put names [] f = sym (append-nil names)
-constants_put names (c ∷ cs) f = ap (λ ns. put_constants ns cs) (name_new names c.name f.0) ∙ constants_put (names ++ c.name ∷ []) cs f.1 ∙ append_assoc names (c.name ∷ []) (constant_names cs)
+constants_put names (c ∷ cs) f =
+    ap (λ ns. put_constants ns cs) (name_new names c.name f.0)
+    ∙ constants_put (names ++ c.name ∷ []) cs f.1
+    ∙ append_assoc names (c.name ∷ []) (constant_names cs)
 
-typed_all : (sorts : ℕ) (t : Typed) (n : List ℕ) (ss : List ℕ) → is_name n ≡ true → list_all (λ s. nat_lt s sorts) ss ≡ true → AreTyped sorts t → AreTyped sorts (declare_all t n ss)
+typed_all : (sorts : ℕ) (t : Typed) (n : List ℕ) (ss : List ℕ) → is_name n ≡ true
+    → list_all (λ s. nat_lt s sorts) ss ≡ true → AreTyped sorts t
+    → AreTyped sorts (declare_all t n ss)
 typed_all sorts t n [] e f a = a
 typed_all sorts t n (s ∷ ss) e f a =
     typed_all sorts (declare t n s) n ss e (second_so (nat_lt s sorts) (list_all (λ s. nat_lt s sorts) ss) f)
     (typed_each sorts t (n ∷ []) (s ∷ []) a (and_from (is_name n) true e refl) (and_from (nat_lt s sorts) true (first_so (nat_lt s sorts) (list_all (λ s. nat_lt s sorts) ss) f) refl))
 
-typed_constants : (sorts : ℕ) (t : Typed) (cs : List declared.Declared) → list_all is_name (constant_names cs) ≡ true → list_all (λ (c : declared.Declared). are_places sorts c.sorts) cs ≡ true → AreTyped sorts t → AreTyped sorts (constants_typed t cs)
+typed_constants : (sorts : ℕ) (t : Typed) (cs : List declared.Declared)
+    → list_all is_name (constant_names cs) ≡ true
+    → list_all (λ (c : declared.Declared). are_places sorts c.sorts) cs ≡ true → AreTyped sorts t
+    → AreTyped sorts (constants_typed t cs)
 typed_constants sorts t [] e f a = a
 typed_constants sorts t (c ∷ cs) e f a =
     let places = first_so (are_places sorts c.sorts) (list_all (λ (c : declared.Declared). are_places sorts c.sorts) cs) f in
@@ -80,27 +96,35 @@ none_typed sorts = record { even = refl; named = refl; distinct = distinct_nil; 
 -- ---- an `:objects` item
 
 abbrev declared_here : List (List ℕ) → Typed → Trees → Typed
-declared_here sorts t rest = declare_each t (named_words Start rest) (named_sorts sorts Start 0 rest)
+declared_here sorts t rest =
+    declare_each t (named_words Start rest) (named_sorts sorts Start 0 rest)
 
 abbrev grown_by : List (List ℕ) → Typed → Item → Trees → Typed
 grown_by sorts t it rest = cond (is_objects it) (declared_here sorts t rest) t
 
-begins_here : (sorts : List (List ℕ)) (t : Typed) (rest : Trees) (b : Bool) → BeginsWith t.names (cond b (declared_here sorts t rest) t).names
-begins_here sorts t rest true = begins_each t (named_words Start rest) (named_sorts sorts Start 0 rest)
+begins_here : (sorts : List (List ℕ)) (t : Typed) (rest : Trees) (b : Bool)
+    → BeginsWith t.names (cond b (declared_here sorts t rest) t).names
+begins_here sorts t rest true =
+    begins_each t (named_words Start rest) (named_sorts sorts Start 0 rest)
 begins_here sorts t rest false = begins_itself t.names
 
-begins_all : (sorts : List (List ℕ)) (t : Typed) (body : Trees) → BeginsWith t.names (objects_typed sorts t body).names
+begins_all : (sorts : List (List ℕ)) (t : Typed) (body : Trees)
+    → BeginsWith t.names (objects_typed sorts t body).names
 begins_all sorts t nothing = begins_itself t.names
 begins_all sorts t (word w at rest) = begins_all sorts t rest
 begins_all sorts t (list items at rest) =
     let it : Item = item_of text.Problem (head_of items) in
     begins_twice t.names (grown_by sorts t it (tail_of items)).names (objects_typed sorts (grown_by sorts t it (tail_of items)) rest).names (begins_here sorts t (tail_of items) (is_objects it)) (begins_all sorts (grown_by sorts t it (tail_of items)) rest)
 
-same_here : (sorts : List (List ℕ)) (t : Typed) (rest : Trees) (b : Bool) → (cond b (declared_here sorts t rest) t).names ≡ cond b (seen_after t.names Start rest) t.names
-same_here sorts t rest true = names_each t (named_words Start rest) (named_sorts sorts Start 0 rest) (sorts_as_long sorts rest) ∙ sym (seen_put t.names Start rest)
+same_here : (sorts : List (List ℕ)) (t : Typed) (rest : Trees) (b : Bool)
+    → (cond b (declared_here sorts t rest) t).names ≡ cond b (seen_after t.names Start rest) t.names
+same_here sorts t rest true =
+    names_each t (named_words Start rest) (named_sorts sorts Start 0 rest) (sorts_as_long sorts rest)
+    ∙ sym (seen_put t.names Start rest)
 same_here sorts t rest false = refl
 
-same_all : (sorts : List (List ℕ)) (t : Typed) (body : Trees) → (objects_typed sorts t body).names ≡ objects_in t.names body
+same_all : (sorts : List (List ℕ)) (t : Typed) (body : Trees)
+    → (objects_typed sorts t body).names ≡ objects_in t.names body
 same_all sorts t nothing = refl
 same_all sorts t (word w at rest) = same_all sorts t rest
 same_all sorts t (list items at rest) =
@@ -113,21 +137,31 @@ record AreGood (v : Vocabulary) (rest : Trees) : Type 0 where
   formed : groups_faults Name place Start rest ≡ []
   known : types_names v.sorts Start rest ≡ []
 
-good_by : (v : Vocabulary) (d : Domain) (it : Item) (place at : ℕ) (rest : Trees) → is_objects it ≡ true → body_faults it place at rest ≡ [] → body_names v d it rest ≡ [] → AreGood v rest
+good_by : (v : Vocabulary) (d : Domain) (it : Item) (place at : ℕ) (rest : Trees)
+    → is_objects it ≡ true → body_faults it place at rest ≡ [] → body_names v d it rest ≡ []
+    → AreGood v rest
 good_by v d item.Objects place at rest e f g = record { place = place; formed = f; known = g }
 good_by v d it place at rest e f g = absurd (cc)
 
-good : (v : Vocabulary) (d : Domain) (place : ℕ) (items : Trees) → item_faults text.Problem place items ≡ [] → body_names v d (item_of text.Problem (head_of items)) (tail_of items) ≡ [] → is_objects (item_of text.Problem (head_of items)) ≡ true → AreGood v (tail_of items)
+good : (v : Vocabulary) (d : Domain) (place : ℕ) (items : Trees)
+    → item_faults text.Problem place items ≡ []
+    → body_names v d (item_of text.Problem (head_of items)) (tail_of items) ≡ []
+    → is_objects (item_of text.Problem (head_of items)) ≡ true → AreGood v (tail_of items)
 good v d place nothing f g e = absurd (cc)
 good v d place (list items at rest) f g e = absurd (cc)
 good v d place (word w at rest) f g e = good_by v d (item_of text.Problem w) place at rest e f g
 
 module _ (v : Vocabulary) (d : Domain) (typed : 0 < length v.sorts) where
-  typed_here : (t : Typed) (rest : Trees) (b : Bool) → (b ≡ true → AreGood v rest) → AreTyped (length v.sorts) t → AreTyped (length v.sorts) (cond b (declared_here v.sorts t rest) t)
-  typed_here t rest true are a = typed_groups v.sorts t (are refl).place rest typed a (are refl).formed (are refl).known
+  typed_here : (t : Typed) (rest : Trees) (b : Bool) → (b ≡ true → AreGood v rest)
+      → AreTyped (length v.sorts) t
+      → AreTyped (length v.sorts) (cond b (declared_here v.sorts t rest) t)
+  typed_here t rest true are a =
+      typed_groups v.sorts t (are refl).place rest typed a (are refl).formed (are refl).known
   typed_here t rest false are a = a
 
-  typed_objects : (t : Typed) (body : Trees) → items_faults text.Problem body ≡ [] → items_names v d body ≡ [] → AreTyped (length v.sorts) t → AreTyped (length v.sorts) (objects_typed v.sorts t body)
+  typed_objects : (t : Typed) (body : Trees) → items_faults text.Problem body ≡ []
+      → items_names v d body ≡ [] → AreTyped (length v.sorts) t
+      → AreTyped (length v.sorts) (objects_typed v.sorts t body)
   typed_objects t nothing e f a = a
   typed_objects t (word w at rest) e f a = absurd (cc)
   typed_objects t (list items at rest) e f a =
@@ -136,11 +170,14 @@ module _ (v : Vocabulary) (d : Domain) (typed : 0 < length v.sorts) where
       let names = none_both (body_names v d it (tail_of items)) (items_names v d rest) f in
       typed_objects (grown_by v.sorts t it (tail_of items)) rest forms.1 names.1 (typed_here t (tail_of items) (is_objects it) (good v d at items forms.0 names.0) a)
 
-  few_here : (t : Typed) (rest : Trees) (b : Bool) → (b ≡ true → AreGood v rest) → length (cond b (declared_here v.sorts t rest) t).names ≤ length t.names + size rest
+  few_here : (t : Typed) (rest : Trees) (b : Bool) → (b ≡ true → AreGood v rest)
+      → length (cond b (declared_here v.sorts t rest) t).names ≤ length t.names + size rest
   few_here t rest true are = declared_length v.sorts t (are refl).place rest (are refl).formed
   few_here t rest false are = omega arith
 
-  few_objects : (t : Typed) (body : Trees) → items_faults text.Problem body ≡ [] → items_names v d body ≡ [] → length (objects_typed v.sorts t body).names ≤ length t.names + size body
+  few_objects : (t : Typed) (body : Trees) → items_faults text.Problem body ≡ []
+      → items_names v d body ≡ []
+      → length (objects_typed v.sorts t body).names ≤ length t.names + size body
   few_objects t nothing e f = omega arith
   few_objects t (word w at rest) e f = absurd (cc)
   few_objects t (list items at rest) e f =
@@ -166,13 +203,17 @@ module _ (d : Domain) (v : Vocabulary) (body : Trees) (fit : IsFitDomain d) (con
   all = all_typed d v.sorts body
 
   places : list_all (λ (c : declared.Declared). are_places (length v.sorts) c.sorts) d.constants ≡ true
-  places = ap (λ k. list_all (λ (c : declared.Declared). are_places k c.sorts) d.constants) sorts ∙ fit.constants.types
+  places =
+      ap (λ k. list_all (λ (c : declared.Declared). are_places k c.sorts) d.constants) sorts
+      ∙ fit.constants.types
 
   typed_whole : AreTyped (length v.sorts) all
   typed_whole = typed_objects v d some (constants_typed no_typed d.constants) body formed named (typed_constants (length v.sorts) no_typed d.constants fit.constants.names.each places (none_typed (length v.sorts)))
 
   pub constants_are : (constants_typed no_typed d.constants).names ≡ constant_names d.constants
-  constants_are = constants_named no_typed d.constants constants.typed ∙ constants_put [] d.constants (fresh_from [] (constant_names d.constants) fit.constants.names.distinct)
+  constants_are =
+      constants_named no_typed d.constants constants.typed
+      ∙ constants_put [] d.constants (fresh_from [] (constant_names d.constants) fit.constants.names.distinct)
 
   length_mapped : (cs : List declared.Declared) → length (constant_names cs) ≡ length cs
   length_mapped [] = refl
@@ -189,7 +230,9 @@ module _ (d : Domain) (v : Vocabulary) (body : Trees) (fit : IsFitDomain d) (con
 
   -- the names that the problem looks up
   pub objects_same : all.names ≡ objects_in (put_constants [] d.constants) body
-  objects_same = same_all v.sorts (constants_typed no_typed d.constants) body ∙ ap (λ ns. objects_in ns body) (constants_named no_typed d.constants constants.typed)
+  objects_same =
+      same_all v.sorts (constants_typed no_typed d.constants) body
+      ∙ ap (λ ns. objects_in ns body) (constants_named no_typed d.constants constants.typed)
 
   pub objects_fit : size body ≤ 4194304 → AreFitObjects d all_objects
   objects_fit small =

@@ -43,7 +43,8 @@ record IsFormed (t : Trees) : Type 0 where
 formed : (t : Trees) → ¬ (t ≡ nothing) → form_faults text.Problem t ≡ [] → IsFormed t
 formed nothing some e = absurd (some refl)
 formed (word w at rest) some e = absurd (cc)
-formed (list items at rest) some e = let is = titled text.Problem items at rest e in record { named = is.named; items = is.items }
+formed (list items at rest) some e =
+    let is = titled text.Problem items at rest e in record { named = is.named; items = is.items }
 
 -- ---- the problem
 
@@ -104,7 +105,8 @@ module _ (d : Domain) (t : Trees) (over : IsFitRead d) (bounded : IsBounded t) (
   spelled_fit = record {
     name = form.named;
     objects = objects_fit d v body over.fit constants names.sorts form.items items_clean few;
-    constants_first = constants_first d v body over.fit constants names.sorts form.items items_clean;
+    constants_first =
+        constants_first d v body over.fit constants names.sorts form.items items_clean;
     init = init_fit;
     values = valued_fit;
     one_value = one_value d (length v.objects) v over.fit names nothing_given init refl init_is.formed init_is.named init_is.valued;
@@ -112,10 +114,14 @@ module _ (d : Domain) (t : Trees) (over : IsFitRead d) (bounded : IsBounded t) (
   }
 
 -- over a fit domain that was read
-pub read_problems_fit : (d : Domain) (t : Trees) (p : Problem) → IsFitRead d → IsBounded t → ¬ (t ≡ nothing) → IsProblemRead d t p → IsFitOver d p
+pub read_problems_fit : (d : Domain) (t : Trees) (p : Problem) → IsFitRead d → IsBounded t
+    → ¬ (t ≡ nothing) → IsProblemRead d t p → IsFitOver d p
 read_problems_fit d t p over bounded some read streams = subst (λ (q : Problem). IsFitProblem (record { domain = d; problem = q; streams = streams })) (sym read.problem) (spelled_fit d t over bounded some p read streams)
 
 -- where it was read
-pub fit_if_read : (d : Domain) (t : Tree) (result : Result Problem InputFault) → ProblemReads d (tree t) result → IfOk result (λ p. IsFitRead d → IsBounded (tree t) → IsFitOver d p)
-fit_if_read d t (Ok p) read = λ over bounded. read_problems_fit d (tree t) p over bounded (tree_there t) read
+pub fit_if_read : (d : Domain) (t : Tree) (result : Result Problem InputFault)
+    → ProblemReads d (tree t) result
+    → IfOk result (λ p. IsFitRead d → IsBounded (tree t) → IsFitOver d p)
+fit_if_read d t (Ok p) read =
+    λ over bounded. read_problems_fit d (tree t) p over bounded (tree_there t) read
 fit_if_read d t (Err fault) read = tt

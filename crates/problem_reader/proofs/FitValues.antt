@@ -31,10 +31,12 @@ use Rattle.problem_reader.proofs.FitFacts.{objects_there}
 
 -- ---- numbers
 
-small_by : (w : List ℕ) (b : Bool) → is_number w ≡ b → nat_le (cond b (digits_value 10 w) 0) 1000000 ≡ true
+small_by : (w : List ℕ) (b : Bool) → is_number w ≡ b
+    → nat_le (cond b (digits_value 10 w) 0) 1000000 ≡ true
 unfolding is_number
 small_by [] true e = absurd (cc)
-small_by (c ∷ cs) true e = second_so (list_all is_ascii_digit (c ∷ cs)) (nat_le (digits_value 10 (c ∷ cs)) 1000000) e
+small_by (c ∷ cs) true e =
+    second_so (list_all is_ascii_digit (c ∷ cs)) (nat_le (digits_value 10 (c ∷ cs)) 1000000) e
 small_by w false e = refl
 
 number_small : (w : List ℕ) → nat_le (number_in w) 1000000 ≡ true
@@ -50,12 +52,15 @@ pub record IsTerm (v : Vocabulary) (term : Trees) : Type 0 where
   pub headed : spelled term ≡ head_of term ++ 32 ∷ spelled (tail_of term)
 
 -- words at the same places are the same
-same_word : (ns : List (List ℕ)) (a b : List ℕ) → has_name a ns ≡ true → has_name b ns ≡ true → unwrap_or (place_of a ns) 0 ≡ unwrap_or (place_of b ns) 0 → a ≡ b
+same_word : (ns : List (List ℕ)) (a b : List ℕ) → has_name a ns ≡ true → has_name b ns ≡ true
+    → unwrap_or (place_of a ns) 0 ≡ unwrap_or (place_of b ns) 0 → a ≡ b
 same_word ns a b p q e =
     let one : Some a ≡ Some b = sym (place_holds a ns p) ∙ ap (slice_get ns) e ∙ place_holds b ns q in
     cc
 
-row_same : (objects : List (List ℕ)) (ts us : Trees) → row_faults Name ts ≡ [] → row_faults Name us ≡ [] → terms_names objects [] ts ≡ [] → terms_names objects [] us ≡ [] → places_of objects ts ≡ places_of objects us → spelled ts ≡ spelled us
+row_same : (objects : List (List ℕ)) (ts us : Trees) → row_faults Name ts ≡ []
+    → row_faults Name us ≡ [] → terms_names objects [] ts ≡ [] → terms_names objects [] us ≡ []
+    → places_of objects ts ≡ places_of objects us → spelled ts ≡ spelled us
 row_same objects (list items at rest) us p q e f same = absurd (cc)
 row_same objects nothing (list items at rest) p q e f same = absurd (cc)
 row_same objects (word a at rest) (list items at' rest') p q e f same = absurd (cc)
@@ -72,7 +77,9 @@ row_same objects (word a at rest) (word b at' rest') p q e f same =
     λ i. one i ++ 32 ∷ more i
 
 -- terms of the same function and objects are written the same
-pub term_same : (v : Vocabulary) (t u : Trees) → IsTerm v t → IsTerm v u → declared_place v.functions (head_of t) ≡ declared_place v.functions (head_of u) → places_of v.objects (tail_of t) ≡ places_of v.objects (tail_of u) → spelled t ≡ spelled u
+pub term_same : (v : Vocabulary) (t u : Trees) → IsTerm v t → IsTerm v u
+    → declared_place v.functions (head_of t) ≡ declared_place v.functions (head_of u)
+    → places_of v.objects (tail_of t) ≡ places_of v.objects (tail_of u) → spelled t ≡ spelled u
 term_same v t u p q f a =
     let heads = same_word v.functions.names (head_of t) (head_of u) p.there q.there f in
     let tails = row_same v.objects (tail_of t) (tail_of u) p.words q.words p.known q.known a in
@@ -86,7 +93,10 @@ module _ (d : Domain) (n : ℕ) (v : Vocabulary) (named : AreNamesOf d n v) (rol
     pub term : IsTerm v (term_in items)
     pub fit : is_fit_value d (length v.objects) (valued_of v items) ≡ true
 
-  application_good : (w : List ℕ) (at at' place : ℕ) (term rest more : Trees) → application_faults Name Name at' term ≡ [] → application_names v.functions v.objects [] at' term ≡ [] → IsGood (word w at (list term at' rest))
+  application_good : (w : List ℕ) (at at' place : ℕ) (term rest more : Trees)
+      → application_faults Name Name at' term ≡ []
+      → application_names v.functions v.objects [] at' term ≡ []
+      → IsGood (word w at (list term at' rest))
   application_good w at at' place nothing rest more e f = absurd (cc)
   application_good w at at' place (list items at'' rest'') rest more e f = absurd (cc)
   application_good w at at' place (word g at'' args) rest more e f =
@@ -101,13 +111,15 @@ module _ (d : Domain) (n : ℕ) (v : Vocabulary) (named : AreNamesOf d n v) (rol
         fit = and_from _ _ (and_from _ _ arity are.each) (number_small (head_of rest));
       }
 
-  worth_good : (w : List ℕ) (at place : ℕ) (rest : Trees) → valued_faults place rest ≡ [] → worth_names v rest ≡ [] → IsGood (word w at rest)
+  worth_good : (w : List ℕ) (at place : ℕ) (rest : Trees) → valued_faults place rest ≡ []
+      → worth_names v rest ≡ [] → IsGood (word w at rest)
   worth_good w at place nothing e f = absurd (cc)
   worth_good w at place (word x at' rest) e f = absurd (cc)
   worth_good w at place (list term at' rest) e f = application_good w at at' place term rest nothing ((none_both (application_faults Name Name at' term) (number_faults place rest) e).0) f
 
   -- a list that gives a value, without faults
-  pub value_good : (place : ℕ) (items : Trees) → is_worth items ≡ true → fact_faults place items ≡ [] → fact_names v roles place items ≡ [] → IsGood items
+  pub value_good : (place : ℕ) (items : Trees) → is_worth items ≡ true
+      → fact_faults place items ≡ [] → fact_names v roles place items ≡ [] → IsGood items
   value_good place nothing is e f = absurd (cc)
   value_good place (list items at rest) is e f = absurd (cc)
   value_good place (word w at rest) is e f =

@@ -24,13 +24,15 @@ pub record BeginsWith (ns ms : List (List ℕ)) : Type 0 where
 pub begins_itself : (ns : List (List ℕ)) → BeginsWith ns ns
 begins_itself ns = record { more = []; split = sym (append-nil ns) }
 
-pub begins_twice : (ns ms ks : List (List ℕ)) → BeginsWith ns ms → BeginsWith ms ks → BeginsWith ns ks
+pub begins_twice : (ns ms ks : List (List ℕ)) → BeginsWith ns ms → BeginsWith ms ks
+    → BeginsWith ns ks
 begins_twice ns ms ks p q = record { more = p.more ++ q.more; split = q.split ∙ ap (λ xs. xs ++ q.more) p.split ∙ append_assoc ns p.more q.more }
 
 pub begins_with : (ns : List (List ℕ)) (n : List ℕ) → BeginsWith ns (with_name ns n)
 begins_with ns n = cond_both (has_name n ns) ns (ns ++ n ∷ []) (BeginsWith ns) (λ known. begins_itself ns) (λ no. record { more = n ∷ []; split = refl })
 
-pub begins_each : (t : Typed) (ns : List (List ℕ)) (ss : List ℕ) → BeginsWith t.names (declare_each t ns ss).names
+pub begins_each : (t : Typed) (ns : List (List ℕ)) (ss : List ℕ)
+    → BeginsWith t.names (declare_each t ns ss).names
 begins_each t [] ss = begins_itself t.names
 begins_each t (n ∷ ns) [] = begins_itself t.names
 begins_each t (n ∷ ns) (s ∷ ss) =
@@ -43,5 +45,7 @@ first_ones ns ms b = sym (ap (take (length ns)) b.split ∙ take_append ns b.mor
 -- ---- how many
 
 -- each declared name takes a byte
-pub declared_length : (sorts : List (List ℕ)) (t : Typed) (place : ℕ) (ts : Trees) → groups_faults Name place Start ts ≡ [] → length (declare_each t (named_words Start ts) (named_sorts sorts Start 0 ts)).names ≤ length t.names + size ts
+pub declared_length : (sorts : List (List ℕ)) (t : Typed) (place : ℕ) (ts : Trees)
+    → groups_faults Name place Start ts ≡ []
+    → length (declare_each t (named_words Start ts) (named_sorts sorts Start 0 ts)).names ≤ length t.names + size ts
 declared_length sorts t place ts e = omega (arith, ap length (groups_declared sorts t ts), length_names t.names (named_words Start ts), words_length place Start ts e)

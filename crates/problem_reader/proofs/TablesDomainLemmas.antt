@@ -26,16 +26,19 @@ use Rattle.problem_reader.proofs.TablesLemmas.{built, put, signed_again}
 
 -- ---- types
 
-sorts_put : (names : List (List ℕ)) (edges : List (List ℕ)) (k : ℕ) (ns : List (List ℕ)) (ss : List sort.Sort) → AreSorts edges k ns ss → put_sorts names ss ≡ put names ns
+sorts_put : (names : List (List ℕ)) (edges : List (List ℕ)) (k : ℕ) (ns : List (List ℕ)) (ss : List sort.Sort)
+    → AreSorts edges k ns ss → put_sorts names ss ≡ put names ns
 sorts_put names edges k [] [] no_sorts = refl
 sorts_put names edges k [] (s ∷ ss) x = elim x [ ]
 sorts_put names edges k (n ∷ ns) [] x = elim x [ ]
-sorts_put names edges k (n ∷ ns) (s ∷ ss) (more_sorts above more) = sorts_put (with_name names n) edges (k + 1) ns ss more
+sorts_put names edges k (n ∷ ns) (s ∷ ss) (more_sorts above more) =
+    sorts_put (with_name names n) edges (k + 1) ns ss more
 
 -- ---- constants
 
 -- what an item adds to the constants' names
-objects_by : (v : Vocabulary) (it : Item) (rest : Trees) → (with_item v it rest).objects ≡ cond (is_constants it) (seen_after v.objects Start rest) v.objects
+objects_by : (v : Vocabulary) (it : Item) (rest : Trees)
+    → (with_item v it rest).objects ≡ cond (is_constants it) (seen_after v.objects Start rest) v.objects
 objects_by v item.Types rest = refl
 objects_by v item.Constants rest = refl
 objects_by v item.Predicates rest = refl
@@ -54,24 +57,34 @@ objects_by v item.Unknown rest = refl
 objects_by v item.NoItem rest = refl
 
 abbrev declared_here : List (List ℕ) → Typed → Trees → Typed
-declared_here sorts t rest = declare_each t (named_words Start rest) (named_sorts sorts Start 0 rest)
+declared_here sorts t rest =
+    declare_each t (named_words Start rest) (named_sorts sorts Start 0 rest)
 
-names_here : (sorts : List (List ℕ)) (t : Typed) (names : List (List ℕ)) (rest : Trees) (b : Bool) → names ≡ t.names → cond b (seen_after names Start rest) names ≡ (cond b (declared_here sorts t rest) t).names
-names_here sorts t names rest true e = seen_put names Start rest ∙ ap (λ m. put m (named_words Start rest)) e ∙ sym (names_each t (named_words Start rest) (named_sorts sorts Start 0 rest) (sorts_long sorts Start 0 rest ∙ none_more (length (named_words Start rest))))
+names_here : (sorts : List (List ℕ)) (t : Typed) (names : List (List ℕ)) (rest : Trees) (b : Bool)
+    → names ≡ t.names
+    → cond b (seen_after names Start rest) names ≡ (cond b (declared_here sorts t rest) t).names
+names_here sorts t names rest true e =
+    seen_put names Start rest ∙ ap (λ m. put m (named_words Start rest)) e
+    ∙ sym (names_each t (named_words Start rest) (named_sorts sorts Start 0 rest) (sorts_long sorts Start 0 rest ∙ none_more (length (named_words Start rest))))
 names_here sorts t names rest false e = e
 
-even_here : (sorts : List (List ℕ)) (t : Typed) (rest : Trees) (b : Bool) → length t.names ≡ length t.sorts → length (cond b (declared_here sorts t rest) t).names ≡ length (cond b (declared_here sorts t rest) t).sorts
-even_here sorts t rest true h = even_each t (named_words Start rest) (named_sorts sorts Start 0 rest) h
+even_here : (sorts : List (List ℕ)) (t : Typed) (rest : Trees) (b : Bool)
+    → length t.names ≡ length t.sorts
+    → length (cond b (declared_here sorts t rest) t).names ≡ length (cond b (declared_here sorts t rest) t).sorts
+even_here sorts t rest true h =
+    even_each t (named_words Start rest) (named_sorts sorts Start 0 rest) h
 even_here sorts t rest false h = h
 
-objects_same : (sorts : List (List ℕ)) (v : Vocabulary) (t : Typed) (body : Trees) → v.objects ≡ t.names → (with_items v body).objects ≡ (constants_in sorts t body).names
+objects_same : (sorts : List (List ℕ)) (v : Vocabulary) (t : Typed) (body : Trees)
+    → v.objects ≡ t.names → (with_items v body).objects ≡ (constants_in sorts t body).names
 objects_same sorts v t nothing e = e
 objects_same sorts v t (word w at rest) e = objects_same sorts v t rest e
 objects_same sorts v t (list items at rest) e =
     objects_same sorts (with_item v (item_of text.Domain (head_of items)) (tail_of items)) (cond (is_constants (item_of text.Domain (head_of items))) (declared_here sorts t (tail_of items)) t) rest
     (objects_by v (item_of text.Domain (head_of items)) (tail_of items) ∙ names_here sorts t v.objects (tail_of items) (is_constants (item_of text.Domain (head_of items))) e)
 
-objects_even : (sorts : List (List ℕ)) (t : Typed) (body : Trees) → length t.names ≡ length t.sorts → length (constants_in sorts t body).names ≡ length (constants_in sorts t body).sorts
+objects_even : (sorts : List (List ℕ)) (t : Typed) (body : Trees) → length t.names ≡ length t.sorts
+    → length (constants_in sorts t body).names ≡ length (constants_in sorts t body).sorts
 objects_even sorts t nothing h = h
 objects_even sorts t (word w at rest) h = objects_even sorts t rest h
 objects_even sorts t (list items at rest) h =
@@ -85,13 +98,19 @@ module _ (t : Trees) (d : domain.Domain) (read : IsDomainRead t d) where
   v = vocabulary_of (body_of t)
 
   known_sorts : put_sorts [] d.sorts ≡ v.sorts
-  known_sorts = sorts_put [] (type_edges v.sorts (body_of t)) 0 v.sorts d.sorts read.domain.parts.sorts ∙ (built (body_of t)).sorts
+  known_sorts =
+      sorts_put [] (type_edges v.sorts (body_of t)) 0 v.sorts d.sorts read.domain.parts.sorts
+      ∙ (built (body_of t)).sorts
 
   known_predicates : put_signatures nothing_signed d.predicates ≡ v.predicates
-  known_predicates = ap (put_signatures nothing_signed) read.domain.parts.predicates ∙ signed_again v.predicates (built (body_of t)).predicates
+  known_predicates =
+      ap (put_signatures nothing_signed) read.domain.parts.predicates
+      ∙ signed_again v.predicates (built (body_of t)).predicates
 
   known_functions : put_signatures nothing_signed d.functions ≡ v.functions
-  known_functions = ap (put_signatures nothing_signed) read.domain.parts.functions ∙ signed_again v.functions (built (body_of t)).functions
+  known_functions =
+      ap (put_signatures nothing_signed) read.domain.parts.functions
+      ∙ signed_again v.functions (built (body_of t)).functions
 
   abbrev typed : Typed
   typed = constants_in v.sorts no_typed (body_of t)

@@ -30,9 +30,11 @@ put_append names (n ∷ ns) ms = put_append (with_name names n) ns ms
 abbrev pub IsTable : List (List ℕ) → Type 0
 IsTable ns = put [] ns ≡ ns
 
-grown : (ns : List (List ℕ)) (n : List ℕ) (b : Bool) → has_name n ns ≡ b → IsTable ns → put [] (cond b ns (ns ++ n ∷ [])) ≡ cond b ns (ns ++ n ∷ [])
+grown : (ns : List (List ℕ)) (n : List ℕ) (b : Bool) → has_name n ns ≡ b → IsTable ns
+    → put [] (cond b ns (ns ++ n ∷ [])) ≡ cond b ns (ns ++ n ∷ [])
 grown ns n true e t = t
-grown ns n false e t = put_append [] ns (n ∷ []) ∙ ap (λ ms. with_name ms n) t ∙ ap (λ b. cond b ns (ns ++ n ∷ [])) e
+grown ns n false e t =
+    put_append [] ns (n ∷ []) ∙ ap (λ ms. with_name ms n) t ∙ ap (λ b. cond b ns (ns ++ n ∷ [])) e
 
 pub table_grows : (ns : List (List ℕ)) (n : List ℕ) → IsTable ns → IsTable (with_name ns n)
 table_grows ns n t = grown ns n (has_name n ns) refl t
@@ -41,7 +43,8 @@ pub table_if : (b : Bool) (xs ys : List (List ℕ)) → IsTable xs → IsTable y
 table_if true xs ys s t = s
 table_if false xs ys s t = t
 
-pub table_seen : (ns : List (List ℕ)) (spot : Spot) (ts : Trees) → IsTable ns → IsTable (seen_after ns spot ts)
+pub table_seen : (ns : List (List ℕ)) (spot : Spot) (ts : Trees) → IsTable ns
+    → IsTable (seen_after ns spot ts)
 table_seen ns spot nothing t = t
 table_seen ns spot (word w at rest) t = table_seen (seen_with ns spot w) (after_word spot w) rest (table_if (is_named spot w) (with_name ns w) ns (table_grows ns w t) t)
 table_seen ns spot (list items at rest) t = t
@@ -63,30 +66,43 @@ pub record IsSigned (s : Signed) : Type 0 where
 pub none_signed : IsSigned nothing_signed
 none_signed = record { made = []; right = refl; names = refl; arities = refl }
 
-signed_append : (s : Signed) (xs ys : List Signature) → put_signatures s (xs ++ ys) ≡ put_signatures (put_signatures s xs) ys
+signed_append : (s : Signed) (xs ys : List Signature)
+    → put_signatures s (xs ++ ys) ≡ put_signatures (put_signatures s xs) ys
 signed_append s [] ys = refl
 signed_append s (x ∷ xs) ys = signed_append (with_signature s x.name x.arity) xs ys
 
-signed_by : (s : Signed) (n : List ℕ) (a : ℕ) (b : Bool) → has_name n s.names ≡ b → IsSigned s → IsSigned (cond b s (record { names = s.names ++ n ∷ []; arities = s.arities ++ a ∷ [] }))
+signed_by : (s : Signed) (n : List ℕ) (a : ℕ) (b : Bool) → has_name n s.names ≡ b → IsSigned s
+    → IsSigned (cond b s (record { names = s.names ++ n ∷ []; arities = s.arities ++ a ∷ [] }))
 signed_by s n a true e i = i
 signed_by s n a false e i =
     record {
       made = i.made ++ record { name = n; arity = a } ∷ [];
-      right = signed_append nothing_signed i.made (record { name = n; arity = a } ∷ []) ∙ ap (λ r. with_signature r n a) i.right ∙ ap (λ b. cond b s (record { names = s.names ++ n ∷ []; arities = s.arities ++ a ∷ [] })) e;
-      names = map_push (λ (x : Signature). x.name) i.made (record { name = n; arity = a }) ∙ ap (λ ns. ns ++ n ∷ []) i.names;
-      arities = map_push (λ (x : Signature). x.arity) i.made (record { name = n; arity = a }) ∙ ap (λ as'. as' ++ a ∷ []) i.arities;
+      right =
+          signed_append nothing_signed i.made (record { name = n; arity = a } ∷ [])
+          ∙ ap (λ r. with_signature r n a) i.right
+          ∙ ap (λ b. cond b s (record { names = s.names ++ n ∷ []; arities = s.arities ++ a ∷ [] })) e;
+      names =
+          map_push (λ (x : Signature). x.name) i.made (record { name = n; arity = a })
+          ∙ ap (λ ns. ns ++ n ∷ []) i.names;
+      arities =
+          map_push (λ (x : Signature). x.arity) i.made (record { name = n; arity = a })
+          ∙ ap (λ as'. as' ++ a ∷ []) i.arities;
     }
 
 pub signed_grows : (s : Signed) (n : List ℕ) (a : ℕ) → IsSigned s → IsSigned (with_signature s n a)
 signed_grows s n a i = signed_by s n a (has_name n s.names) refl i
 
-side_by_side : (xs : List Signature) → signature_list (map (λ (x : Signature). x.name) xs) (map (λ (x : Signature). x.arity) xs) ≡ xs
+side_by_side : (xs : List Signature)
+    → signature_list (map (λ (x : Signature). x.name) xs) (map (λ (x : Signature). x.arity) xs) ≡ xs
 side_by_side [] = refl
 side_by_side (x ∷ xs) = ap (λ ys. x ∷ ys) (side_by_side xs)
 
 -- the declarations of such a table make it
-pub signed_again : (s : Signed) → IsSigned s → put_signatures nothing_signed (signature_list s.names s.arities) ≡ s
-signed_again s i = ap (put_signatures nothing_signed) ((λ k. signature_list (sym i.names k) (sym i.arities k)) ∙ side_by_side i.made) ∙ i.right
+pub signed_again : (s : Signed) → IsSigned s
+    → put_signatures nothing_signed (signature_list s.names s.arities) ≡ s
+signed_again s i =
+    ap (put_signatures nothing_signed) ((λ k. signature_list (sym i.names k) (sym i.arities k)) ∙ side_by_side i.made)
+    ∙ i.right
 
 pub signed_predicates : (s : Signed) (ts : Trees) → IsSigned s → IsSigned (predicates_in s ts)
 signed_predicates s nothing i = i
@@ -130,7 +146,8 @@ built_items v (word w at rest) b = built_items v rest b
 built_items v (list items at rest) b = built_items (with_item v (item_of text.Domain (head_of items)) (tail_of items)) rest (built_item v (item_of text.Domain (head_of items)) (tail_of items) b)
 
 built_first : IsBuilt no_names
-built_first = record { sorts = refl; predicates = none_signed; functions = none_signed; objects = refl }
+built_first =
+    record { sorts = refl; predicates = none_signed; functions = none_signed; objects = refl }
 
 built_total : (v : Vocabulary) → IsBuilt v → IsBuilt (with_total_cost v)
 built_total v b = record { sorts = b.sorts; predicates = b.predicates; functions = signed_grows v.functions (codes "total-cost") 0 b.functions; objects = b.objects }

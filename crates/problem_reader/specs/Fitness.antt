@@ -10,7 +10,8 @@ use Rattle.domain_reader.specs.Domains as domains
 
 -- The problem is fit for tasks of this domain, whatever their streams are.
 abbrev pub IsFitOver : Domain → Problem → Type 0
-IsFitOver d p = (streams : List Stream) → IsFitProblem (record { domain = d; problem = p; streams = streams })
+IsFitOver d p =
+    (streams : List Stream) → IsFitProblem (record { domain = d; problem = p; streams = streams })
 
 -- The domain is fit, and was read from a tree as texts of at most 2^22 bytes give it.
 pub record IsFitRead (d : Domain) : Type 0 where

@@ -14,4 +14,6 @@ with_objects v body = record v { objects = objects_in v.objects body }
 -- Of a domain that was read from a text, a problem's names are those in the domain's text, with their numbers, and its
 -- objects behind them.
 abbrev pub NamesAreTheDomains : Type 0
-NamesAreTheDomains = (t : Trees) (d : Domain) (body : Trees) → IsDomainRead t d → problem_names d body ≡ with_objects (domains.domain_names t) body
+NamesAreTheDomains =
+    (t : Trees) (d : Domain) (body : Trees) → IsDomainRead t d
+    → problem_names d body ≡ with_objects (domains.domain_names t) body

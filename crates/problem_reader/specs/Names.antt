@@ -51,7 +51,8 @@ worth_names v (word w at rest) = []
 worth_names v (list items at rest) = application_names v.functions v.objects [] at items
 
 abbrev pub fact_names : Vocabulary → List Role → ℕ → Trees → List Fault
-fact_names v roles place items = if is_worth items then worth_names v (tail_of items) else atom_names v roles place items
+fact_names v roles place items =
+    if is_worth items then worth_names v (tail_of items) else atom_names v roles place items
 
 abbrev pub facts_names : Vocabulary → List Role → Trees → List Fault
 facts_names v roles nothing = []
@@ -86,4 +87,5 @@ body_names v d item.NoItem rest = []
 abbrev pub items_names : Vocabulary → Domain → Trees → List Fault
 items_names v d nothing = []
 items_names v d (word w at rest) = items_names v d rest
-items_names v d (list items at rest) = body_names v d (item_of text.Problem (head_of items)) (tail_of items) ++ items_names v d rest
+items_names v d (list items at rest) =
+    body_names v d (item_of text.Problem (head_of items)) (tail_of items) ++ items_names v d rest

@@ -36,7 +36,8 @@ use Rattle.problem_reader.specs.Values.{is_init, nothing_given, term_in, value_i
 
 -- all of a problem of this domain with these items, whose names these are
 abbrev pub names_faults : Domain → Vocabulary → Trees → List faults.Fault
-names_faults d v body = items_names v d body ++ second_items text.Problem [] body ++ values_names nothing_given body
+names_faults d v body =
+    items_names v d body ++ second_items text.Problem [] body ++ values_names nothing_given body
 
 -- all of a text that is this row of one tree, as a problem of this domain
 abbrev pub name_faults : Domain → Trees → List faults.Fault
@@ -65,7 +66,8 @@ abbrev pub all_typed : Domain → List (List ℕ) → Trees → Typed
 all_typed d sorts body = objects_typed sorts (constants_typed no_typed d.constants) body
 
 abbrev pub objects_of : Domain → List (List ℕ) → Trees → List declared.Declared
-objects_of d sorts body = declared_list (all_typed d sorts body).names (all_typed d sorts body).sorts
+objects_of d sorts body =
+    declared_list (all_typed d sorts body).names (all_typed d sorts body).sorts
 
 -- ---- facts and values, in the order of the text
 
@@ -87,12 +89,14 @@ valued_of v items =
 abbrev pub facts_of : Vocabulary → Trees → List Fact
 facts_of v nothing = []
 facts_of v (word w at rest) = facts_of v rest
-facts_of v (list items at rest) = (if is_worth items then [] else fact_of v items ∷ []) ++ facts_of v rest
+facts_of v (list items at rest) =
+    (if is_worth items then [] else fact_of v items ∷ []) ++ facts_of v rest
 
 abbrev pub valueds_of : Vocabulary → Trees → List Valued
 valueds_of v nothing = []
 valueds_of v (word w at rest) = valueds_of v rest
-valueds_of v (list items at rest) = (if is_worth items then valued_of v items ∷ [] else []) ++ valueds_of v rest
+valueds_of v (list items at rest) =
+    (if is_worth items then valued_of v items ∷ [] else []) ++ valueds_of v rest
 
 -- ---- the problem
 
@@ -100,7 +104,8 @@ valueds_of v (list items at rest) = (if is_worth items then valued_of v items �
 abbrev pub init_of : Trees → Trees
 init_of nothing = nothing
 init_of (word w at rest) = init_of rest
-init_of (list items at rest) = if is_init (item_of text.Problem (head_of items)) then tail_of items else init_of rest
+init_of (list items at rest) =
+    if is_init (item_of text.Problem (head_of items)) then tail_of items else init_of rest
 
 abbrev pub is_goal : Item → Bool
 is_goal item.Goal = true
@@ -110,7 +115,8 @@ is_goal _ = false
 abbrev pub goal_of : Trees → Trees
 goal_of nothing = nothing
 goal_of (word w at rest) = goal_of rest
-goal_of (list items at rest) = if is_goal (item_of text.Problem (head_of items)) then tail_of items else goal_of rest
+goal_of (list items at rest) =
+    if is_goal (item_of text.Problem (head_of items)) then tail_of items else goal_of rest
 
 abbrev pub is_metric : Item → Bool
 is_metric item.Metric = true
@@ -120,7 +126,8 @@ is_metric _ = false
 abbrev pub has_metric : Trees → Bool
 has_metric nothing = false
 has_metric (word w at rest) = has_metric rest
-has_metric (list items at rest) = if is_metric (item_of text.Problem (head_of items)) then true else has_metric rest
+has_metric (list items at rest) =
+    if is_metric (item_of text.Problem (head_of items)) then true else has_metric rest
 
 -- the condition of a goal, in which no variable is in scope from outside
 abbrev pub condition_of : Vocabulary → Trees → Condition
@@ -151,7 +158,8 @@ ReadsNamed d t (Err f) = least_fault (name_faults d t) ≡ Some f
 -- The fault is answered: of form faults the least, and where there is none, of name faults the least.
 pub data IsProblemAnswered (d : Domain) (t : Trees) (f : faults.Fault) : Type 0 where
   of_form : least_fault (form_faults text.Problem t) ≡ Some f → IsProblemAnswered d t f
-  of_names : form_faults text.Problem t ≡ [] → least_fault (name_faults d t) ≡ Some f → IsProblemAnswered d t f
+  of_names : form_faults text.Problem t ≡ [] → least_fault (name_faults d t) ≡ Some f
+      → IsProblemAnswered d t f
 
 -- there is no fault, and this is the problem
 pub record IsProblemRead (d : Domain) (t : Trees) (p : Problem) : Type 0 where
@@ -162,5 +170,6 @@ pub record IsProblemRead (d : Domain) (t : Trees) (p : Problem) : Type 0 where
 -- A problem is read where there is no fault, and a fault is the answered one. Memory is free.
 abbrev pub ProblemReads : Domain → Trees → Result Problem InputFault → Type 0
 ProblemReads d t (Ok p) = IsProblemRead d t p
-ProblemReads d t (Err (input.At place kind)) = IsProblemAnswered d t (record { place = place; kind = kind })
+ProblemReads d t (Err (input.At place kind)) =
+    IsProblemAnswered d t (record { place = place; kind = kind })
 ProblemReads d t (Err input.Memory) = Unit {0}

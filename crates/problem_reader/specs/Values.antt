@@ -71,7 +71,8 @@ abbrev pub value_names : Given → ℕ → Trees → List Fault
 value_names g place items = if is_worth items then unless (not (differs (value_of g (spelled (term_in items))) (value_in items))) Duplicate place else []
 
 abbrev pub value_put : Given → Trees → Given
-value_put g items = if is_worth items then with_value g (spelled (term_in items)) (value_in items) else g
+value_put g items =
+    if is_worth items then with_value g (spelled (term_in items)) (value_in items) else g
 
 -- of facts in a row
 abbrev pub row_names : Given → Trees → List Fault

@@ -53,7 +53,8 @@ fn check_atom(
     items: &[Tree],
     so_far: Option<Fault>,
 ) -> Result<Option<Fault>, AllocError>
-    ensures { IfOk result (λ f. f ≡ first so_far (specs.atom_names names.now roles.now place (trees items.now))) }
+    ensures { IfOk result (λ f. f ≡ first so_far
+        (specs.atom_names names.now roles.now place (trees items.now))) }
 {
     let scope = Scope::new(alloc);
     let used = check_application(
@@ -102,7 +103,8 @@ fn check_fact(
     items: &[Tree],
     so_far: Option<Fault>,
 ) -> Result<Option<Fault>, AllocError>
-    ensures { IfOk result (λ f. f ≡ first so_far (specs.fact_names names.now roles.now place (trees items.now))) }
+    ensures { IfOk result (λ f. f ≡ first so_far
+        (specs.fact_names names.now roles.now place (trees items.now))) }
 {
     if is_worth(items) {
         check_worth(alloc, names, tail_of(items), so_far)
@@ -119,7 +121,8 @@ fn check_facts(
     items: &[Tree],
     so_far: Option<Fault>,
 ) -> Result<Option<Fault>, AllocError>
-    ensures { IfOk result (λ f. f ≡ first so_far (specs.facts_names names.now roles.now (trees items.now))) }
+    ensures { IfOk result (λ f. f ≡ first so_far
+        (specs.facts_names names.now roles.now (trees items.now))) }
 {
     let mut left = items;
     let mut found = so_far;
@@ -157,7 +160,8 @@ fn check_body(
     items: &[Tree],
     so_far: Option<Fault>,
 ) -> Result<Option<Fault>, AllocError>
-    ensures { IfOk result (λ f. f ≡ first so_far (specs.body_names names.now domain.now item (trees items.now))) }
+    ensures { IfOk result (λ f. f ≡ first so_far
+        (specs.body_names names.now domain.now item (trees items.now))) }
 {
     match item {
         Item::Domain => Ok(check_domain(domain.name.bytes(), items, so_far)),
@@ -187,7 +191,8 @@ pub(crate) fn check_items(
     items: &[Tree],
     so_far: Option<Fault>,
 ) -> Result<Option<Fault>, AllocError>
-    ensures { IfOk result (λ f. f ≡ first so_far (specs.items_names names.now domain.now (trees items.now))) }
+    ensures { IfOk result (λ f. f ≡ first so_far
+        (specs.items_names names.now domain.now (trees items.now))) }
 {
     let mut left = items;
     let mut found = so_far;

@@ -64,7 +64,8 @@ fn objects_of(
     sorts: &NameTable,
     body: &[Tree],
 ) -> Result<Vec<Declared>, AllocError>
-    ensures { IfOk result (λ list. list.items ≡ specs.objects_of domain.now sorts.now (trees body.now)) }
+    ensures { IfOk result (λ list. list.items
+        ≡ specs.objects_of domain.now sorts.now (trees body.now)) }
 {
     let mut names = TypedNames::new(alloc);
     declare_constants(&mut names, domain.constants.as_slice())?;

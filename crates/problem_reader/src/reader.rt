@@ -26,7 +26,8 @@ fn check_names(
     names: &Vocabulary,
     body: &[Tree],
 ) -> Result<Option<Fault>, AllocError>
-    ensures { IfOk result (λ f. f ≡ least_fault (specs.names_faults domain.now names.now (trees body.now))) }
+    ensures { IfOk result (λ f. f ≡ least_fault
+        (specs.names_faults domain.now names.now (trees body.now))) }
 {
     let used = check_items(alloc, names, domain, body, None)?;
     let single = check_second_items(alloc, TextKind::Problem, body, used)?;
@@ -79,7 +80,8 @@ fn read(alloc: Global, text: &Tree, domain: &Domain) -> Result<Problem, InputFau
 pub fn read_problem(alloc: Global, text: &Tree, domain: &Domain) -> Result<Problem, InputFault>
     ensures reads { specs.ProblemReads domain.now (tree text.now) result }
     // Over a fit domain that was read, the problem of a tree as texts of at most 4 MiB give it is fit.
-    ensures fit { IfOk result (λ p. IsFitRead domain.now → IsBounded (tree text.now) → IsFitOver domain.now p) }
+    ensures fit { IfOk result (λ p. IsFitRead domain.now → IsBounded (tree text.now)
+        → IsFitOver domain.now p) }
 {
     read(alloc, text, domain)
 }

@@ -118,7 +118,8 @@ fn check_value(
     items: &[Tree],
     so_far: Option<Fault>,
 ) -> Result<Option<Fault>, AllocError>
-    ensures faults { IfOk result (λ f. f ≡ first so_far (specs.value_names given.old place (trees items.now))) }
+    ensures faults { IfOk result (λ f. f
+        ≡ first so_far (specs.value_names given.old place (trees items.now))) }
     ensures given { OnOk result (given.new ≡ specs.value_put given.old (trees items.now)) }
 {
     if !is_worth(items) {
@@ -138,7 +139,8 @@ fn check_row(
     items: &[Tree],
     so_far: Option<Fault>,
 ) -> Result<Option<Fault>, AllocError>
-    ensures faults { IfOk result (λ f. f ≡ first so_far (specs.row_names given.old (trees items.now))) }
+    ensures faults { IfOk result (λ f. f
+        ≡ first so_far (specs.row_names given.old (trees items.now))) }
     ensures given { OnOk result (given.new ≡ specs.row_put given.old (trees items.now)) }
 {
     let mut left = items;
@@ -161,7 +163,8 @@ pub(crate) fn check_values(
     items: &[Tree],
     so_far: Option<Fault>,
 ) -> Result<Option<Fault>, AllocError>
-    ensures { IfOk result (λ f. f ≡ first so_far (specs.values_names specs.nothing_given (trees items.now))) }
+    ensures { IfOk result (λ f. f ≡ first so_far
+        (specs.values_names specs.nothing_given (trees items.now))) }
 {
     let mut given = Values::new(alloc);
     let mut left = items;

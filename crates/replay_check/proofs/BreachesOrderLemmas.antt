@@ -33,7 +33,8 @@ use Rattle.task_model.proofs.StreamsLemmas.{due_once}
 -- ---- requests and answers
 
 -- where requests are to come, instances are
-none_to_ask : (task : Task) (es : List Entry) (number : ℕ) (is : List Instance) → requests_from task es number is ≡ [] → is ≡ []
+none_to_ask : (task : Task) (es : List Entry) (number : ℕ) (is : List Instance)
+    → requests_from task es number is ≡ [] → is ≡ []
 none_to_ask task es number [] e = refl
 none_to_ask task es number (i ∷ is) e = absurd (cc)
 
@@ -45,7 +46,8 @@ first_request task es number [] e rest asks = absurd (nothing_left e rest asks)
 first_request task es number (i ∷ is) e rest asks =
     (i, refl, let same : e ≡ entry.Ask number (yields_of (notes_of task es) i) (call_of_instance task (names_of task es) i) = cc in same)
 
-ask_is : (number : ℕ) (e : Entry) (turn : ℕ) (call : Call) → e ≡ entry.Ask number turn call → is_ask e ≡ true
+ask_is : (number : ℕ) (e : Entry) (turn : ℕ) (call : Call) → e ≡ entry.Ask number turn call
+    → is_ask e ≡ true
 ask_is number e turn call is = ap is_ask is
 
 answer_no_ask : (e : Entry) (n : ℕ) → answered_number e ≡ Some n → is_ask e ≡ false
@@ -90,7 +92,8 @@ module _ (limits : Limits) (task : Task) (entries : List Entry) (l : Ledger) (a 
       (parts.2.0, subst (λ c. IsCourseStep limits task entries c e parts.2.0) same parts.2.1)
 
   -- a request with which a turn goes on is the next
-  pub next_request : (number turn : ℕ) (call : Call) → AreBegun limits task (entries ++ entry.Ask number turn call ∷ [])
+  pub next_request : (number turn : ℕ) (call : Call)
+      → AreBegun limits task (entries ++ entry.Ask number turn call ∷ [])
       → IsNextRequest task l a number turn call
   next_request number turn call begun = by (step_of (entry.Ask number turn call) begun)
     where
@@ -109,7 +112,8 @@ module _ (limits : Limits) (task : Task) (entries : List Entry) (l : Ledger) (a 
       by (after, inr (inr g)) = absurd (let to = g.to in cc)
 
   -- an answer with which a turn goes on answers the next request of a round that is asked
-  pub next_answer : (e : Entry) (n : ℕ) → answered_number e ≡ Some n → AreBegun limits task (entries ++ e ∷ [])
+  pub next_answer : (e : Entry) (n : ℕ) → answered_number e ≡ Some n
+      → AreBegun limits task (entries ++ e ∷ [])
       → (n ≡ a.next) × (a.to_ask ≡ []) × (0 < a.answers)
   next_answer e n is begun = by (step_of e begun)
     where
@@ -125,7 +129,8 @@ module _ (limits : Limits) (task : Task) (entries : List Entry) (l : Ledger) (a 
           (some_is n a.next (sym is ∙ answer_number e a.next g.to), asked, omega (arith, answers))
 
   -- a level with which a turn goes on begins where nothing is to do
-  pub next_level : AreBegun limits task (entries ++ entry.Level ∷ []) → (a.answers ≡ 0) × (a.is_cut ≡ false) × MayBegin limits task entries
+  pub next_level : AreBegun limits task (entries ++ entry.Level ∷ [])
+      → (a.answers ≡ 0) × (a.is_cut ≡ false) × MayBegin limits task entries
   next_level begun = by (step_of entry.Level begun)
     where
       by : (after : Course) × IsCourseStep limits task entries (place_in task entries a) entry.Level after
@@ -146,12 +151,14 @@ module _ (limits : Limits) (task : Task) (entries : List Entry) (l : Ledger) (a 
       by (after, inr (inl m)) =
           let first = first_request task entries (asks_of entries + 1) a.to_ask e m.rest m.asks in
           true≢false (sym (ap is_ask first.2) ∙ no_ask)
-      by (after, inr (inr g)) = absurd (let to : Some a.next ≡ None = sym (answer_number e a.next g.to) ∙ no_answer in cc)
+      by (after, inr (inr g)) =
+          absurd (let to : Some a.next ≡ None = sym (answer_number e a.next g.to) ∙ no_answer in cc)
 
   -- ---- what is due
 
   -- where nothing is due, no level begins
-  pub none_begins : (dues : List Due) → length dues ≡ 0 → AreDueInTurn task l.facts.known l.queue dues → MayBegin limits task entries → ⊥
+  pub none_begins : (dues : List Due) → length dues ≡ 0
+      → AreDueInTurn task l.facts.known l.queue dues → MayBegin limits task entries → ⊥
   none_begins dues none turn may =
       let due = all_due limits.version task entries l s.ledger dues turn in
       let same : instances_of dues ≡ may.list = due_once task (known_of task entries) (notes_of task entries) (instances_of dues) may.list due may.due in
@@ -172,10 +179,12 @@ module _ (limits : Limits) (task : Task) (entries : List Entry) (l : Ledger) (a 
 -- ---- what is wrong with an entry
 
 module _ (limits : Limits) (task : Task) (before : List Entry) (e : Entry) where
-  pub wrong_ask : is_ask e ≡ true → ¬ (MayAsk limits task before e) → IsWrong limits task before e kind.Ask
+  pub wrong_ask : is_ask e ≡ true → ¬ (MayAsk limits task before e)
+      → IsWrong limits task before e kind.Ask
   wrong_ask is bad = record { breaks = (is, bad); first = first }
     where
-      first : (other : BreachKind) → kind_number other < kind_number kind.Ask → ¬ (BreaksEntry limits task before e other)
+      first : (other : BreachKind) → kind_number other < kind_number kind.Ask
+          → ¬ (BreaksEntry limits task before e other)
       first kind.Text lt breaks = breaks
       first kind.Head lt breaks = breaks
       first kind.Ask lt breaks = omega (arith, lt)
@@ -187,11 +196,13 @@ module _ (limits : Limits) (task : Task) (before : List Entry) (e : Entry) where
       first kind.From lt breaks = omega (arith, lt)
       first kind.Outcome lt breaks = omega (arith, lt)
 
-  pub wrong_answer : is_answer e ≡ true → is_ask e ≡ false → ¬ (MayFollow limits.version task before e)
+  pub wrong_answer : is_answer e ≡ true → is_ask e ≡ false
+      → ¬ (MayFollow limits.version task before e)
       → IsWrong limits task before e kind.Answer
   wrong_answer is no_ask bad = record { breaks = (is, bad); first = first }
     where
-      first : (other : BreachKind) → kind_number other < kind_number kind.Answer → ¬ (BreaksEntry limits task before e other)
+      first : (other : BreachKind) → kind_number other < kind_number kind.Answer
+          → ¬ (BreaksEntry limits task before e other)
       first kind.Text lt breaks = breaks
       first kind.Head lt breaks = breaks
       first kind.Ask lt breaks = true≢false (sym breaks.0 ∙ no_ask)
@@ -203,11 +214,13 @@ module _ (limits : Limits) (task : Task) (before : List Entry) (e : Entry) where
       first kind.From lt breaks = omega (arith, lt)
       first kind.Outcome lt breaks = omega (arith, lt)
 
-  pub wrong_order : (is_ask e ≡ true → MayAsk limits task before e) → (is_answer e ≡ true → MayFollow limits.version task before e)
+  pub wrong_order : (is_ask e ≡ true → MayAsk limits task before e)
+      → (is_answer e ≡ true → MayFollow limits.version task before e)
       → ¬ (AreBegun limits task (before ++ e ∷ [])) → IsWrong limits task before e kind.Order
   wrong_order asks answers bad = record { breaks = bad; first = first }
     where
-      first : (other : BreachKind) → kind_number other < kind_number kind.Order → ¬ (BreaksEntry limits task before e other)
+      first : (other : BreachKind) → kind_number other < kind_number kind.Order
+          → ¬ (BreaksEntry limits task before e other)
       first kind.Text lt breaks = breaks
       first kind.Head lt breaks = breaks
       first kind.Ask lt breaks = breaks.1 (asks breaks.0)
@@ -219,7 +232,8 @@ module _ (limits : Limits) (task : Task) (before : List Entry) (e : Entry) where
       first kind.From lt breaks = omega (arith, lt)
       first kind.Outcome lt breaks = omega (arith, lt)
 
-pub answer_is : (e : Entry) (n : ℕ) → answered_number e ≡ Some n → (is_answer e ≡ true) × (is_ask e ≡ false)
+pub answer_is : (e : Entry) (n : ℕ) → answered_number e ≡ Some n
+    → (is_answer e ≡ true) × (is_ask e ≡ false)
 answer_is (entry.Got m tuples values) n is = (refl, refl)
 answer_is (entry.Value m value) n is = (refl, refl)
 answer_is (entry.End m) n is = (refl, refl)

@@ -28,7 +28,8 @@ has_first m ms = ap (λ (b : Bool). b || has_number ms m) (eq-eqb m m refl)
 
 some_among : (numbers : List ℕ) → 0 < length numbers → ((n : ℕ) → has_number numbers n ≡ false) → ⊥
 some_among [] some none = omega (arith, some)
-some_among (m ∷ ms) some none = let both : true ≡ false = sym (has_first m ms) ∙ none m in absurd (cc)
+some_among (m ∷ ms) some none =
+    let both : true ≡ false = sym (has_first m ms) ∙ none m in absurd (cc)
 
 none_among : (numbers : List ℕ) → length numbers ≡ 0 → (n : ℕ) → has_number numbers n ≡ false
 none_among [] empty n = refl
@@ -46,13 +47,15 @@ module _ (b : Bounds) (limit : ℕ) (task : Task) (entries : List Entry) (l : Le
 
   -- a request waits
   pub some_wait : 0 < length l.unanswered.items → IsSaid False
-  some_wait some = (λ p. some_among l.unanswered.items some (λ n. h.unanswered n ∙ p.none_open n), λ none. none)
+  some_wait some =
+      (λ p. some_among l.unanswered.items some (λ n. h.unanswered n ∙ p.none_open n), λ none. none)
 
   none_wait : length l.unanswered.items ≡ 0 → HasNoneOpen entries
   none_wait empty n = sym (h.unanswered n) ∙ none_among l.unanswered.items empty n
 
   module _ (all : length l.asked.items ≡ b.calls) (empty : length l.unanswered.items ≡ 0) where
-    past : (i : Instance) → IsDue task (known_of task entries) (notes_of task entries) i → IsSaid True
+    past : (i : Instance) → IsDue task (known_of task entries) (notes_of task entries) i
+        → IsSaid True
     past i due = (record { calls = sym h.counted ∙ all; none_open = none_wait empty; instance = i; due = due }, λ none. none)
 
     of_many : (instances : List Instance) → 1000000 < length instances
@@ -62,11 +65,14 @@ module _ (b : Bounds) (limit : ℕ) (task : Task) (entries : List Entry) (l : Le
 
     -- too much is due
     pub past_many : MoreAreDue 1000000 task l.facts.known l.queue → IsSaid True
-    past_many due = let more = more_due b.version task entries l h due in of_many more.0 more.1 more.3
+    past_many due =
+        let more = more_due b.version task entries l h due in of_many more.0 more.1 more.3
 
     -- something is due, or nothing
-    pub past_some : (dues : List Due) → AreDueInTurn task l.facts.known l.queue dues → IsSaid (claim_of (not (length dues == 0)))
-    past_some [] turn = (λ p. none_due_at b.version task entries l h [] refl turn p.instance p.due, λ none. none)
+    pub past_some : (dues : List Due) → AreDueInTurn task l.facts.known l.queue dues
+        → IsSaid (claim_of (not (length dues == 0)))
+    past_some [] turn =
+        (λ p. none_due_at b.version task entries l h [] refl turn p.instance p.due, λ none. none)
     past_some (d ∷ more) turn =
         let not_empty : (length (d ∷ more) == 0) ≡ false = ne_eqb (length (d ∷ more)) 0 (λ e. omega (arith, e)) in
         subst (λ is. IsSaid (claim_of (not is))) (sym not_empty) (past d.instance (some_due b.version task entries l h (d ∷ more) d more turn refl))

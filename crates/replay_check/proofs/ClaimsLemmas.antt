@@ -15,7 +15,8 @@ use Rattle.transcript_model.specs.declared.entry.Entry.{Entry}
 
 module _ (version : ℕ) (task : Task) (entries : List Entry) (l : Ledger) (h : IsLedger version task entries l) where
   -- too much is due after the entries
-  pub more_due : MoreAreDue 1000000 task l.facts.known l.queue → MoreAreDue 1000000 task (known_of task entries) (notes_of task entries)
+  pub more_due : MoreAreDue 1000000 task l.facts.known l.queue
+      → MoreAreDue 1000000 task (known_of task entries) (notes_of task entries)
   more_due more =
       subst (λ k. MoreAreDue 1000000 task k (notes_of task entries)) h.known (subst (MoreAreDue 1000000 task l.facts.known) h.notes more)
 
@@ -38,7 +39,8 @@ module _ (version : ℕ) (task : Task) (entries : List Entry) (l : Ledger) (h : 
   -- ---- states, of which there are more than so many or not
 
   -- something is due where the list isn't empty
-  pub some_due : (dues : List Due) (d : Due) (more : List Due) → AreDueInTurn task l.facts.known l.queue dues → dues ≡ d ∷ more
+  pub some_due : (dues : List Due) (d : Due) (more : List Due)
+      → AreDueInTurn task l.facts.known l.queue dues → dues ≡ d ∷ more
       → IsDue task (known_of task entries) (notes_of task entries) d.instance
   some_due dues d more turn is =
       let due = all_due (d ∷ more) (subst (AreDueInTurn task l.facts.known l.queue) is turn) in
@@ -51,7 +53,8 @@ module _ (version : ℕ) (task : Task) (entries : List Entry) (l : Ledger) (h : 
       nothing_due task (known_of task entries) (notes_of task entries) (instances_of dues) (all_due dues turn) (ap instances_of is)
 
   -- where something is due, it isn't so that nothing is
-  pub not_none_due : (dues : List Due) (d : Due) (more : List Due) → AreDueInTurn task l.facts.known l.queue dues → dues ≡ d ∷ more
+  pub not_none_due : (dues : List Due) (d : Due) (more : List Due)
+      → AreDueInTurn task l.facts.known l.queue dues → dues ≡ d ∷ more
       → NothingIsDue task (known_of task entries) (notes_of task entries) → ⊥
   not_none_due dues d more turn is none = none d.instance (some_due dues d more turn is)
 
@@ -60,18 +63,21 @@ module _ (version : ℕ) (task : Task) (entries : List Entry) (l : Ledger) (h : 
       → NothingIsDue task (known_of task entries) (notes_of task entries) → ⊥
   not_none_more more none = some_member more.0 more.1 (λ i m. none i (more.3 i m))
     where
-      some_member : (is : List Instance) → 1000000 < length is → ((i : Instance) → Contains is i → ⊥) → ⊥
+      some_member : (is : List Instance) → 1000000 < length is
+          → ((i : Instance) → Contains is i → ⊥) → ⊥
       some_member [] many each = omega (arith, many)
       some_member (i ∷ is) many each = each i (0, omega arith, refl)
 
   -- where the list of what is due has a member, it isn't so that nothing is due
-  pub not_none_some : (dues : List Due) → 0 < length dues → AreDueInTurn task l.facts.known l.queue dues
+  pub not_none_some : (dues : List Due) → 0 < length dues
+      → AreDueInTurn task l.facts.known l.queue dues
       → NothingIsDue task (known_of task entries) (notes_of task entries) → ⊥
   not_none_some [] some turn none = omega (arith, some)
   not_none_some (d ∷ more) some turn none = not_none_due (d ∷ more) d more turn refl none
 
   -- where the list has none, nothing is due
-  pub none_due_at : (dues : List Due) → length dues ≡ 0 → AreDueInTurn task l.facts.known l.queue dues
+  pub none_due_at : (dues : List Due) → length dues ≡ 0
+      → AreDueInTurn task l.facts.known l.queue dues
       → NothingIsDue task (known_of task entries) (notes_of task entries)
   none_due_at [] empty turn = none_due [] turn refl
   none_due_at (d ∷ more) empty turn = absurd (omega (arith, empty))

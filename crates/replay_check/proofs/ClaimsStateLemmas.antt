@@ -13,7 +13,8 @@ use Rattle.replay_check.specs.declared.claims.Claim.TheVariants.{False}
 
 module _ (b : Bounds) (limit : ℕ) (task : Task) (entries : List Entry) where
   -- where the report's limit is searched
-  pub states_decided : (more : Bool) → b.states ≤ limit → IsTrue more ↔ MoreThan b.states (IsReached task (known_of task entries))
+  pub states_decided : (more : Bool) → b.states ≤ limit
+      → IsTrue more ↔ MoreThan b.states (IsReached task (known_of task entries))
       → IsJudged (limits_by b) limit task entries (outcome.Limit States) (claim_of more)
   states_decided true le e = (record { many = e.0 refl; closed = λ other. absurd (other refl) }, λ u. let lt = u.0 in omega (arith, le, lt))
   states_decided false le e = (λ p. let bad : false ≡ true = e.1 p.many in absurd (cc), λ u. let lt = u.0 in omega (arith, le, lt))

@@ -34,12 +34,14 @@ use Rattle.replay_check.specs.declared.verdict.BreachKind.TheVariants as kind
 -- ---- order
 
 -- what precedes a line is in no later one
-pub not_later : (line : ℕ) (k : BreachKind) (other : ℕ) (than : BreachKind) → Precedes line k other than → line ≤ other
+pub not_later : (line : ℕ) (k : BreachKind) (other : ℕ) (than : BreachKind)
+    → Precedes line k other than → line ≤ other
 not_later line k other than (inl lt) = omega arith
 not_later line k other than (inr (is, lt)) = omega (arith, is)
 
 -- what precedes another of its line is of a smaller kind
-pub smaller : (line : ℕ) (k than : BreachKind) → Precedes line k line than → breach_number k < breach_number than
+pub smaller : (line : ℕ) (k than : BreachKind) → Precedes line k line than
+    → breach_number k < breach_number than
 smaller line k than (inl lt) = absurd (omega arith)
 smaller line k than (inr (is, lt)) = lt
 
@@ -50,39 +52,46 @@ module _ (task : Task) (entries : List Entry) where
       → take k (map (call_of_step task (names_of task entries)) steps) ≡ map (call_of_step task (names_of task entries)) (take k steps)
   shown_front zero steps = refl
   shown_front (suc k) [] = refl
-  shown_front (suc k) (s ∷ steps) = ap (λ cs. call_of_step task (names_of task entries) s ∷ cs) (shown_front k steps)
+  shown_front (suc k) (s ∷ steps) =
+      ap (λ cs. call_of_step task (names_of task entries) s ∷ cs) (shown_front k steps)
 
   -- a front of calls that can be taken can be taken
-  pub front_can : (calls : List Call) (k : ℕ) → CanRun task entries calls → CanRun task entries (take k calls)
+  pub front_can : (calls : List Call) (k : ℕ) → CanRun task entries calls
+      → CanRun task entries (take k calls)
   front_can calls k can =
       let whole = subst (λ steps. Executes task (known_of task entries) (initial_state task) steps can.state can.cost) (sym (take-append-drop k can.steps)) can.runs in
       let parts = parts_of_whole task (known_of task entries) (initial_state task) can.state (take k can.steps) (drop k can.steps) can.cost whole in
       record { steps = take k can.steps; shown = ap (take k) can.shown ∙ shown_front k can.steps; state = parts.0; cost = parts.1; runs = parts.3 }
 
   -- a plan can be taken
-  pub plan_can : (calls : List Call) (cost : ℕ) → IsPlan task entries calls cost → CanRun task entries calls
+  pub plan_can : (calls : List Call) (cost : ℕ) → IsPlan task entries calls cost
+      → CanRun task entries calls
   plan_can calls cost plan = record { steps = plan.steps; shown = plan.shown; state = plan.valid.0; cost = cost; runs = plan.valid.1 }
 
   take_fewer : (m n : ℕ) (calls : List Call) → m ≤ n → take m (take n calls) ≡ take m calls
   take_fewer zero n calls le = refl
   take_fewer (suc m) zero calls le = absurd (omega (arith, le))
   take_fewer (suc m) (suc n) [] le = refl
-  take_fewer (suc m) (suc n) (c ∷ calls) le = let below : m ≤ n = omega (arith, le) in ap (λ cs. c ∷ cs) (take_fewer m n calls below)
+  take_fewer (suc m) (suc n) (c ∷ calls) le =
+      let below : m ≤ n = omega (arith, le) in ap (λ cs. c ∷ cs) (take_fewer m n calls below)
 
   -- no step of these is stuck
-  none_stuck : (calls : List Call) (n offset : ℕ) → CanRun task entries (take n calls) → (b : BreaksStep task entries calls offset)
+  none_stuck : (calls : List Call) (n offset : ℕ) → CanRun task entries (take n calls)
+      → (b : BreaksStep task entries calls offset)
       → b.place + 1 ≤ n → ⊥
   none_stuck calls n offset can b le =
       b.stuck (subst (CanRun task entries) (take_fewer (b.place + 1) n calls le) (front_can (take n calls) (b.place + 1) can))
 
-  none_stuck_in : (calls : List Call) (offset : ℕ) → CanRun task entries calls → BreaksStep task entries calls offset → ⊥
+  none_stuck_in : (calls : List Call) (offset : ℕ) → CanRun task entries calls
+      → BreaksStep task entries calls offset → ⊥
   none_stuck_in calls offset can b = b.stuck (front_can calls (b.place + 1) can)
 
 -- ---- plans
 
 module _ (limits : Limits) (limit : ℕ) (task : Task) (entries : List Entry) (calls : List Call) (cost : ℕ) (from : List Origin) (legal : IsLegal limits.version task entries) (placed : IsPlaced limits limit task entries (outcome.Plan calls cost from)) where
   -- of a plan that stands in its place only the plan can be wrong
-  said : (offset : ℕ) (k : BreachKind) → BreaksOutcome limits task entries (outcome.Plan calls cost from) offset k
+  said : (offset : ℕ) (k : BreachKind)
+      → BreaksOutcome limits task entries (outcome.Plan calls cost from) offset k
       → BreaksPlan limits task entries calls cost from offset k
   said offset kind.Order wrong = absurd (placed.right wrong.1)
   said offset kind.Text wrong = wrong
@@ -116,7 +125,8 @@ module _ (limits : Limits) (limit : ℕ) (task : Task) (entries : List Entry) (c
   stuck_first place other kind.Dream stops wrong before = wrong
   stuck_first place other kind.Outcome stops wrong before = wrong
 
-  goal_first : (other : ℕ) (than : BreachKind) → CanRun task entries calls → BreaksPlan limits task entries calls cost from other than
+  goal_first : (other : ℕ) (than : BreachKind) → CanRun task entries calls
+      → BreaksPlan limits task entries calls cost from other than
       → Precedes other than (length calls + 1) kind.Plan → ⊥
   goal_first other kind.Plan can (inl b) before = none_stuck_in task entries calls other can b
   goal_first other kind.Plan can (inr (is, none)) (inl lt) = omega (arith, is, lt)
@@ -150,7 +160,8 @@ module _ (limits : Limits) (limit : ℕ) (task : Task) (entries : List Entry) (c
   cost_first other true_cost kind.Dream plan wrong before = wrong
   cost_first other true_cost kind.Outcome plan wrong before = wrong
 
-  from_first : (place other : ℕ) (than : BreachKind) → IsPlan task entries calls cost → DiffersAt limits.version entries calls from place
+  from_first : (place other : ℕ) (than : BreachKind) → IsPlan task entries calls cost
+      → DiffersAt limits.version entries calls from place
       → BreaksPlan limits task entries calls cost from other than → Precedes other than (length calls + 2 + place) kind.From → ⊥
   from_first place other kind.Plan plan differs (inl b) before =
       none_stuck_in task entries calls other (plan_can task entries calls cost plan) b
@@ -178,18 +189,21 @@ module _ (limits : Limits) (limit : ℕ) (task : Task) (entries : List Entry) (c
       → IsFound limits limit task entries (outcome.Plan calls cost from) (finding.Breaks (place + 1) kind.Plan)
   stuck_found place stops =
       record {
-        breaks = inl (record { place = place; within = stops.within; stuck = stops.stuck; is = refl });
+        breaks =
+            inl (record { place = place; within = stops.within; stuck = stops.stuck; is = refl });
         first = λ other than wrong. stuck_first place other than stops (said other than wrong);
         decided = λ none. absurd none;
       }
 
-  pub no_goal_found : (n : ℕ) → length calls ≡ n → IsPlanned limits.version task entries calls cost from planned.NoGoal
+  pub no_goal_found : (n : ℕ) → length calls ≡ n
+      → IsPlanned limits.version task entries calls cost from planned.NoGoal
       → IsFound limits limit task entries (outcome.Plan calls cost from) (finding.Breaks (n + 1) kind.Plan)
   no_goal_found n is missed =
       subst (λ m. IsFound limits limit task entries (outcome.Plan calls cost from) (finding.Breaks (m + 1) kind.Plan)) is
       (record { breaks = inr (refl, missed.1); first = λ other than wrong. goal_first other than missed.0 (said other than wrong); decided = λ none. absurd none })
 
-  pub wrong_cost_found : (n : ℕ) → length calls ≡ n → IsPlanned limits.version task entries calls cost from planned.WrongCost
+  pub wrong_cost_found : (n : ℕ) → length calls ≡ n
+      → IsPlanned limits.version task entries calls cost from planned.WrongCost
       → IsFound limits limit task entries (outcome.Plan calls cost from) (finding.Breaks (n + 1) kind.Cost)
   wrong_cost_found n is wrong_cost =
       subst (λ m. IsFound limits limit task entries (outcome.Plan calls cost from) (finding.Breaks (m + 1) kind.Cost)) is
@@ -209,13 +223,15 @@ module _ (limits : Limits) (limit : ℕ) (task : Task) (entries : List Entry) (c
 -- ---- claims
 
 module _ (limits : Limits) (limit : ℕ) (task : Task) (entries : List Entry) where
-  as_claim : (o : Outcome) (offset : ℕ) (k : BreachKind) → IsClaim o → BreaksSaid limits task entries o offset k
+  as_claim : (o : Outcome) (offset : ℕ) (k : BreachKind) → IsClaim o
+      → BreaksSaid limits task entries o offset k
       → BreaksClaim limits task entries o offset k
   as_claim (outcome.Plan calls cost from) offset k is wrong = absurd is
   as_claim outcome.NoPlan offset k is wrong = wrong
   as_claim (outcome.Limit which) offset k is wrong = wrong
 
-  as_said : (o : Outcome) (offset : ℕ) (k : BreachKind) → IsClaim o → BreaksClaim limits task entries o offset k
+  as_said : (o : Outcome) (offset : ℕ) (k : BreachKind) → IsClaim o
+      → BreaksClaim limits task entries o offset k
       → BreaksSaid limits task entries o offset k
   as_said (outcome.Plan calls cost from) offset k is wrong = absurd is
   as_said outcome.NoPlan offset k is wrong = wrong
@@ -235,7 +251,8 @@ module _ (limits : Limits) (limit : ℕ) (task : Task) (entries : List Entry) wh
   only_said o offset kind.From placed wrong = wrong
   only_said o offset kind.Outcome placed wrong = wrong
 
-  last_of_all : (o : Outcome) (offset : ℕ) (k : BreachKind) → BreaksClaim limits task entries o offset k → Precedes offset k 0 kind.Outcome
+  last_of_all : (o : Outcome) (offset : ℕ) (k : BreachKind)
+      → BreaksClaim limits task entries o offset k → Precedes offset k 0 kind.Outcome
       → ⊥
   last_of_all o offset kind.Outcome wrong (inl lt) = omega (arith, lt)
   last_of_all o offset kind.Outcome wrong (inr (is, lt)) = omega (arith, lt)
@@ -250,37 +267,46 @@ module _ (limits : Limits) (limit : ℕ) (task : Task) (entries : List Entry) wh
   last_of_all o offset kind.From wrong before = wrong
 
   module _ (o : Outcome) (is : IsClaim o) (placed : IsPlaced limits limit task entries o) where
-    none_earlier : (other : ℕ) (than : BreachKind) → BreaksOutcome limits task entries o other than → ¬ (Precedes other than 0 kind.Outcome)
-    none_earlier other than wrong = last_of_all o other than (as_claim o other than is (only_said o other than placed wrong))
+    none_earlier : (other : ℕ) (than : BreachKind) → BreaksOutcome limits task entries o other than
+        → ¬ (Precedes other than 0 kind.Outcome)
+    none_earlier other than wrong =
+        last_of_all o other than (as_claim o other than is (only_said o other than placed wrong))
 
-    pub true_found : IsJudged limits limit task entries o claim.True → IsFound limits limit task entries o finding.Holds
+    pub true_found : IsJudged limits limit task entries o claim.True
+        → IsFound limits limit task entries o finding.Holds
     true_found judged = (placed.stands judged.0, judged.1)
 
-    pub false_found : IsJudged limits limit task entries o claim.False → IsFound limits limit task entries o (finding.Breaks 0 kind.Outcome)
+    pub false_found : IsJudged limits limit task entries o claim.False
+        → IsFound limits limit task entries o (finding.Breaks 0 kind.Outcome)
     false_found judged =
         record { breaks = as_said o 0 kind.Outcome is (refl, judged.0); first = none_earlier; decided = λ unsure. absurd (judged.1 unsure) }
 
-    pub open_found : IsJudged limits limit task entries o claim.Open → IsFound limits limit task entries o finding.Open
+    pub open_found : IsJudged limits limit task entries o claim.Open
+        → IsFound limits limit task entries o finding.Open
     open_found judged = (judged, none_earlier)
 
 -- ---- places
 
 module _ (limits : Limits) (limit : ℕ) (task : Task) (entries : List Entry) (o : Outcome) where
   -- an outcome that may stand at the stage of the entries
-  pub placed_at : (stage : Stage) → AreTurnsOf limits.mode limits task entries stage → MayStand stage o
+  pub placed_at : (stage : Stage) → AreTurnsOf limits.mode limits task entries stage
+      → MayStand stage o
       → IsPlaced limits limit task entries o
   placed_at stage turns stands =
       record { right = right stands; stands = λ said. record { stage = stage; turns = turns; stands = stands; true = said } }
     where
       right : MayStand stage o → ¬ (IsMisplaced limits task entries o)
-      right (inl rests) wrong = wrong.1 (subst (λ s. AreTurnsOf limits.mode limits task entries s) rests turns)
+      right (inl rests) wrong =
+          wrong.1 (subst (λ s. AreTurnsOf limits.mode limits task entries s) rests turns)
       right (inr (cut, is)) wrong = wrong.0 is
 
-  before_order : (offset : ℕ) (k : BreachKind) → BreaksOutcome limits task entries o offset k → Precedes offset k 0 kind.Order → ⊥
+  before_order : (offset : ℕ) (k : BreachKind) → BreaksOutcome limits task entries o offset k
+      → Precedes offset k 0 kind.Order → ⊥
   before_order offset k wrong (inl lt) = omega (arith, lt)
   before_order offset k wrong (inr (at, lt)) = small o k wrong lt
     where
-      small : (p : Outcome) (j : BreachKind) → BreaksOutcome limits task entries p offset j → breach_number j < 5 → ⊥
+      small : (p : Outcome) (j : BreachKind) → BreaksOutcome limits task entries p offset j
+          → breach_number j < 5 → ⊥
       small (outcome.Plan calls cost from) kind.Text bad few = bad
       small (outcome.Plan calls cost from) kind.Head bad few = bad
       small (outcome.Plan calls cost from) kind.Ask bad few = bad
@@ -301,5 +327,6 @@ module _ (limits : Limits) (limit : ℕ) (task : Task) (entries : List Entry) (o
       small p kind.Outcome bad few = omega (arith, few)
 
   -- an outcome that may not stand here
-  pub misplaced_found : IsMisplaced limits task entries o → IsFound limits limit task entries o (finding.Breaks 0 kind.Order)
+  pub misplaced_found : IsMisplaced limits task entries o
+      → IsFound limits limit task entries o (finding.Breaks 0 kind.Order)
   misplaced_found wrong = record { breaks = (refl, wrong); first = before_order; decided = λ unsure. inr (refl, omega arith) }

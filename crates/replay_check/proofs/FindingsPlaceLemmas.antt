@@ -45,25 +45,29 @@ module _ (b : Bounds) (limit : ℕ) (bounds : AreBounds b) (entries : List Entry
       record { stage = t.stage; at = t.at; turns = t.turns }
 
   -- between levels each outcome may stand
-  pub between_placed : (o : Outcome) → s.course.answers ≡ 0 → s.course.is_cut ≡ false → IsPlaced (limits_by b) limit b.task.now entries o
+  pub between_placed : (o : Outcome) → s.course.answers ≡ 0 → s.course.is_cut ≡ false
+      → IsPlaced (limits_by b) limit b.task.now entries o
   between_placed o none uncut = by stops.stage stops.at stops.turns
     where
       by : (stage : Stage) → IsAt here stage
           → AreTurns (limits_by b) b.task.now (IncrementalTurn (limits_by b) b.task.now) tt [] entries stage
           → IsPlaced (limits_by b) limit b.task.now entries o
-      by between at turns = placed_at (limits_by b) limit b.task.now entries o between turns (inl refl)
+      by between at turns =
+          placed_at (limits_by b) limit b.task.now entries o between turns (inl refl)
       by after_cut at turns = let both : true ≡ false = sym at.1 ∙ uncut in absurd (cc)
       by inside at turns = absurd (omega (arith, at, none))
 
   -- elsewhere none but the limit of calls
-  pub elsewhere : (o : Outcome) → ¬ (o ≡ outcome.Limit Calls) → (s.course.answers ≡ 0 → s.course.is_cut ≡ false → ⊥)
+  pub elsewhere : (o : Outcome) → ¬ (o ≡ outcome.Limit Calls)
+      → (s.course.answers ≡ 0 → s.course.is_cut ≡ false → ⊥)
       → IsMisplaced (limits_by b) b.task.now entries o
   elsewhere o other busy = (other, λ turns. busy_there turns)
     where
       not_inside : between ≡ inside → ⊥
       not_inside e = absurd (cc)
 
-      busy_there : AreTurns (limits_by b) b.task.now (IncrementalTurn (limits_by b) b.task.now) tt [] entries between → ⊥
+      busy_there : AreTurns (limits_by b) b.task.now (IncrementalTurn (limits_by b) b.task.now) tt [] entries between
+          → ⊥
       busy_there turns =
           let to = turns_lead (limits_by b) b.task.now tt [] entries between at_first turns refl refl in
           let same = leads_once (limits_by b) b.task.now at_first [] entries here to.last stands.leads to.leads in
@@ -94,14 +98,17 @@ module _ (b : Bounds) (limit : ℕ) (bounds : AreBounds b) (entries : List Entry
       let both : true ≡ false = sym waits ∙ past.none_open s.course.next in
       absurd (cc)
 
-  calls_stand : IsPastCalls (limits_by b) b.task.now entries → IsRightEnd (limits_by b) limit b.task.now entries (outcome.Limit Calls)
+  calls_stand : IsPastCalls (limits_by b) b.task.now entries
+      → IsRightEnd (limits_by b) limit b.task.now entries (outcome.Limit Calls)
   calls_stand past = by stops.stage stops.at stops.turns
     where
       by : (stage : Stage) → IsAt here stage
           → AreTurns (limits_by b) b.task.now (IncrementalTurn (limits_by b) b.task.now) tt [] entries stage
           → IsRightEnd (limits_by b) limit b.task.now entries (outcome.Limit Calls)
-      by between at turns = record { stage = between; turns = turns; stands = inl refl; true = past }
-      by after_cut at turns = record { stage = after_cut; turns = turns; stands = inr (refl, refl); true = past }
+      by between at turns =
+          record { stage = between; turns = turns; stands = inl refl; true = past }
+      by after_cut at turns =
+          record { stage = after_cut; turns = turns; stands = inr (refl, refl); true = past }
       by inside at turns = absurd (all_answered past at)
 
   -- the limit of calls is in its place everywhere, since it is false inside a turn

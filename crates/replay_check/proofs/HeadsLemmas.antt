@@ -13,7 +13,8 @@ use Rattle.replay_check.specs.Heads.{AreFitPoolLines, are_fit_limits, is_fit_poo
 use Rattle.replay_check.specs.Lines.{line_behind_pools}
 
 module _ (task : Task) (r : Report) (place : ℕ) (mode : r.mode ≡ Incremental) (limits : are_fit_limits r ≡ true) (fit : AreFitPoolLines task (take place r.pools)) (within : place < length r.pools) where
-  not_earlier : (b : ℕ) (pool : PoolLine) → slice_get r.pools b ≡ Some pool → is_fit_pool task (take b r.pools) pool ≡ false → b < place → ⊥
+  not_earlier : (b : ℕ) (pool : PoolLine) → slice_get r.pools b ≡ Some pool
+      → is_fit_pool task (take b r.pools) pool ≡ false → b < place → ⊥
   not_earlier b pool at wrong lt =
       let front = get_and_take r.pools b place pool lt at in
       not_both _ (ap (λ (ps : List PoolLine). is_fit_pool task ps pool) (sym front.1) ∙ fit b pool front.0) wrong

@@ -13,7 +13,8 @@ use Rattle.replay_check.specs.Headed.{IsAfter}
 use Rattle.replay_check.specs.Heads.{AreFitPoolLines, are_new, is_fit_pool, served_by, share_in, streams_in, workers_in}
 use Rattle.replay_check.specs.declared.head.Before.{Before}
 
-last_or_before : {A : Type 0} (xs : List A) (x : A) (k : ℕ) (y : A) → slice_get (xs ++ x ∷ []) k ≡ Some y
+last_or_before : {A : Type 0} (xs : List A) (x : A) (k : ℕ) (y : A)
+    → slice_get (xs ++ x ∷ []) k ≡ Some y
     → ((slice_get xs k ≡ Some y) × (take k (xs ++ x ∷ []) ≡ take k xs)) ⊎ ((x ≡ y) × (take k (xs ++ x ∷ []) ≡ xs))
 last_or_before [] x zero y at = inr (cc, refl)
 last_or_before [] x (suc k) y at = absurd (cc)
@@ -29,7 +30,8 @@ within : (m n : ℕ) → m ≤ n → nat_le m n ≡ true
 within m n le = grind (arith, common_steps)
 
 module _ (task : Task) (before : List PoolLine) (pool : PoolLine) (b : Before) (h : IsAfter task before b) where
-  pub pool_fits : 1 ≤ pool.workers → pool.workers ≤ 16 → b.workers + pool.workers ≤ 17 → are_new task b.served.items pool.streams ≡ true
+  pub pool_fits : 1 ≤ pool.workers → pool.workers ≤ 16 → b.workers + pool.workers ≤ 17
+      → are_new task b.served.items pool.streams ≡ true
       → is_fit_pool task before pool ≡ true
   pool_fits some few together new =
       let all : workers_in before + pool.workers ≤ 17 = let is = h.workers in omega (arith, is, together) in
@@ -41,11 +43,13 @@ module _ (task : Task) (before : List PoolLine) (pool : PoolLine) (b : Before) (
     where
       by : ((slice_get before place ≡ Some other) × (take place (before ++ pool ∷ []) ≡ take place before)) ⊎ ((pool ≡ other) × (take place (before ++ pool ∷ []) ≡ before))
           → is_fit_pool task (take place (before ++ pool ∷ [])) other ≡ true
-      by (inl (there, front)) = ap (λ (ps : List PoolLine). is_fit_pool task ps other) front ∙ h.fit place other there
+      by (inl (there, front)) =
+          ap (λ (ps : List PoolLine). is_fit_pool task ps other) front ∙ h.fit place other there
       by (inr (is, front)) = (λ i. is_fit_pool task (front i) (sym is i)) ∙ fits
 
   -- one pool more
-  pub pool_passed : (a : Before) (share : Share) → is_fit_pool task before pool ≡ true → b.workers + pool.workers ≤ 17
+  pub pool_passed : (a : Before) (share : Share) → is_fit_pool task before pool ≡ true
+      → b.workers + pool.workers ≤ 17
       → a.shares.items ≡ b.shares.items ++ share ∷ [] → share_of share ≡ share_in task pool
       → a.served.items ≡ b.served.items ++ streams_in task pool → a.workers ≡ b.workers + pool.workers
       → IsAfter task (before ++ pool ∷ []) a
@@ -63,6 +67,7 @@ module _ (task : Task) (before : List PoolLine) (pool : PoolLine) (b : Before) (
       }
 
 -- before the first pool
-pub none_passed : (task : Task) (b : Before) → b.shares.items ≡ [] → b.served.items ≡ [] → b.workers ≡ 0 → IsAfter task [] b
+pub none_passed : (task : Task) (b : Before) → b.shares.items ≡ [] → b.served.items ≡ []
+    → b.workers ≡ 0 → IsAfter task [] b
 none_passed task b shares served workers =
     record { shares = ap shares_of shares; served = served; workers = workers; few = omega (arith, workers); fit = λ place pool at. absurd (cc) }

@@ -35,7 +35,8 @@ lines_long (l ∷ lines) =
     omega (arith, rest, sum, own)
 
 -- a report has at most as many lines as bytes
-pub report_short : (r : Report) (bytes : List ℕ) → text_of_report r ≡ bytes → length (lines_of_report r) ≤ length bytes
+pub report_short : (r : Report) (bytes : List ℕ) → text_of_report r ≡ bytes
+    → length (lines_of_report r) ≤ length bytes
 report_short r bytes is =
     let long = lines_long (lines_of_report r) in
     let same : length (lines_text (lines_of_report r)) ≡ length bytes = ap length (sym (report_text r) ∙ is) in
@@ -83,7 +84,8 @@ lines_past xs j within =
 -- ---- all lines
 
 -- the lines of the head, of the entries, of the outcome, and the last
-pub report_count : (r : Report) → length (lines_of_report r) ≡ outcome_line r + length (outcome_lines r.version r.outcome)
+pub report_count : (r : Report)
+    → length (lines_of_report r) ≡ outcome_line r + length (outcome_lines r.version r.outcome)
 report_count r =
     let h = head_lines r.version r.mode r.calls r.states r.depth r.pools in
     let es = flat_map entry_lines r.entries in
@@ -96,7 +98,8 @@ report_count r =
 
 -- ---- offsets of outcomes
 
-there_or_past : {A : Type 0} (xs : List A) (k : ℕ) → ((x : A) × (slice_get xs k ≡ Some x)) ⊎ ((slice_get xs k ≡ None) × (length xs ≤ k))
+there_or_past : {A : Type 0} (xs : List A) (k : ℕ)
+    → ((x : A) × (slice_get xs k ≡ Some x)) ⊎ ((slice_get xs k ≡ None) × (length xs ≤ k))
 there_or_past [] k = inr (refl, omega arith)
 there_or_past (x ∷ xs) zero = inl (x, refl)
 there_or_past (x ∷ xs) (suc k) = one_more x xs k (there_or_past xs k)
@@ -144,7 +147,8 @@ module _ (limits : Limits) (limit : ℕ) (task : Task) (entries : List Entry) wh
       → NoneEarlier limits limit task entries (outcome.Plan calls cost from) offset k
       → BreaksOutcome limits task entries (outcome.Plan calls cost from) offset k → offset ≤ length calls + 2 + length from
   plan_few calls cost from offset kind.Order first wrong = omega (arith, wrong.0)
-  plan_few calls cost from offset kind.Plan first (inl b) = let within = b.within in let is = b.is in omega (arith, within, is)
+  plan_few calls cost from offset kind.Plan first (inl b) =
+      let within = b.within in let is = b.is in omega (arith, within, is)
   plan_few calls cost from offset kind.Plan first (inr (is, none)) = omega (arith, is)
   plan_few calls cost from offset kind.Cost first (is, wrong) = omega (arith, is)
   plan_few calls cost from offset kind.From first b =
@@ -156,7 +160,8 @@ module _ (limits : Limits) (limit : ℕ) (task : Task) (entries : List Entry) wh
   plan_few calls cost from offset kind.Dream first wrong = absurd wrong
   plan_few calls cost from offset kind.Outcome first wrong = absurd wrong
 
-  no_plan_few : (offset : ℕ) (k : BreachKind) → BreaksOutcome limits task entries outcome.NoPlan offset k → offset ≡ 0
+  no_plan_few : (offset : ℕ) (k : BreachKind)
+      → BreaksOutcome limits task entries outcome.NoPlan offset k → offset ≡ 0
   no_plan_few offset kind.Order wrong = wrong.0
   no_plan_few offset kind.Outcome wrong = wrong.0
   no_plan_few offset kind.Text wrong = absurd wrong
@@ -168,7 +173,8 @@ module _ (limits : Limits) (limit : ℕ) (task : Task) (entries : List Entry) wh
   no_plan_few offset kind.Cost wrong = absurd wrong
   no_plan_few offset kind.From wrong = absurd wrong
 
-  limit_few : (which : LimitKind) (offset : ℕ) (k : BreachKind) → BreaksOutcome limits task entries (outcome.Limit which) offset k
+  limit_few : (which : LimitKind) (offset : ℕ) (k : BreachKind)
+      → BreaksOutcome limits task entries (outcome.Limit which) offset k
       → offset ≡ 0
   limit_few which offset kind.Order wrong = wrong.0
   limit_few which offset kind.Outcome wrong = wrong.0
@@ -182,11 +188,14 @@ module _ (limits : Limits) (limit : ℕ) (task : Task) (entries : List Entry) wh
   limit_few which offset kind.From wrong = absurd wrong
 
   -- the line of an outcome that is told is one of its own
-  pub offset_few : (version : ℕ) (o : Outcome) (offset : ℕ) (k : BreachKind) → IsFirstWrong limits limit task entries o offset k
+  pub offset_few : (version : ℕ) (o : Outcome) (offset : ℕ) (k : BreachKind)
+      → IsFirstWrong limits limit task entries o offset k
       → offset ≤ length (outcome_lines version o)
   offset_few version (outcome.Plan calls cost from) offset k w =
       let few = plan_few calls cost from offset k w.first w.breaks in
       let count = plan_count version cost calls from in
       omega (arith, few, count)
-  offset_few version outcome.NoPlan offset k w = let is = no_plan_few offset k w.breaks in omega (arith, is)
-  offset_few version (outcome.Limit which) offset k w = let is = limit_few which offset k w.breaks in omega (arith, is)
+  offset_few version outcome.NoPlan offset k w =
+      let is = no_plan_few offset k w.breaks in omega (arith, is)
+  offset_few version (outcome.Limit which) offset k w =
+      let is = limit_few which offset k w.breaks in omega (arith, is)

@@ -13,7 +13,8 @@ use Rattle.transcript_model.specs.Names.{call_of_instance}
 use Rattle.transcript_model.specs.declared.entry.Call.{Call}
 use Rattle.transcript_model.specs.declared.entry.Entry.TheVariants as entry
 
-four_parts : (a b c d : Bool) → (a && b && c && d) ≡ true → (a ≡ true) × (b ≡ true) × (c ≡ true) × (d ≡ true)
+four_parts : (a b c d : Bool) → (a && b && c && d) ≡ true
+    → (a ≡ true) × (b ≡ true) × (c ≡ true) × (d ≡ true)
 four_parts true true true d e = (refl, refl, refl, e)
 four_parts true true false d e = absurd (cc)
 four_parts true false c d e = absurd (cc)

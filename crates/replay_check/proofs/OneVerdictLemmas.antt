@@ -23,14 +23,16 @@ use Rattle.replay_check.specs.declared.verdict.Verdict.TheVariants.{Valid, Inval
 
 -- ---- reports
 
-same_report : (first second : Report) → IsFormed first → IsFormed second → text_of_report first ≡ text_of_report second → first ≡ second
+same_report : (first second : Report) → IsFormed first → IsFormed second
+    → text_of_report first ≡ text_of_report second → first ≡ second
 same_report first second formed also same =
     lines_determine first second formed also (sym (lines_read (report_lines first) (report_clear first formed)) ∙ ap read_lines (sym (report_text first) ∙ same ∙ report_text second) ∙ lines_read (report_lines second) (report_clear second also))
 
 -- ---- faults of the text
 
 -- the lines in front of some with which a report begins begin one
-begins_front : (lines : List (List ℕ)) (n m : ℕ) → n ≤ m → BeginsReport (take m lines) → BeginsReport (take n lines)
+begins_front : (lines : List (List ℕ)) (n m : ℕ) → n ≤ m → BeginsReport (take m lines)
+    → BeginsReport (take n lines)
 begins_front lines n m le begins =
     let front = take n (take m lines) in
     let back = drop n (take m lines) in
@@ -44,7 +46,8 @@ begins_front lines n m le begins =
     twice xs zero k le = refl
     twice xs (suc j) zero le = absurd (omega (arith, le))
     twice [] (suc j) (suc k) le = refl
-    twice (x ∷ xs) (suc j) (suc k) le = let below : j ≤ k = omega (arith, le) in ap (λ ys. x ∷ ys) (twice xs j k below)
+    twice (x ∷ xs) (suc j) (suc k) le =
+        let below : j ≤ k = omega (arith, le) in ap (λ ys. x ∷ ys) (twice xs j k below)
 
 not_earlier : (bytes : List ℕ) (n m : ℕ) → IsFirstFault bytes n → IsFirstFault bytes m → n < m → ⊥
 not_earlier bytes n m first second lt =
@@ -79,7 +82,8 @@ kind_is kind.Cost = refl
 kind_is kind.From = refl
 kind_is kind.Outcome = refl
 
-neither : (line other : ℕ) (k than : BreachKind) → ¬ (Precedes line k other than) → ¬ (Precedes other than line k)
+neither : (line other : ℕ) (k than : BreachKind) → ¬ (Precedes line k other than)
+    → ¬ (Precedes other than line k)
     → (line ≡ other) × (k ≡ than)
 neither line other k than first second =
     let lines : line ≡ other = by (cases_lt line other) (cases_lt other line) in
@@ -91,7 +95,8 @@ neither line other k than first second =
     by (inr ge) (inl lt) = absurd (second (inl lt))
     by (inr ge) (inr le) = omega (arith, ge, le)
 
-    of : line ≡ other → (breach_number k < breach_number than) ⊎ (breach_number than ≤ breach_number k)
+    of : line ≡ other
+        → (breach_number k < breach_number than) ⊎ (breach_number than ≤ breach_number k)
         → (breach_number than < breach_number k) ⊎ (breach_number k ≤ breach_number than) → breach_number k ≡ breach_number than
     of same (inl lt) q = absurd (first (inr (same, lt)))
     of same (inr ge) (inl lt) = absurd (second (inr (sym same, lt)))
@@ -100,31 +105,40 @@ neither line other k than first second =
 -- ---- verdicts
 
 module _ (limit : ℕ) (task : Task) (r : Report) where
-  said_once : (v w : Verdict) → IsReportVerdict limit task r v → IsReportVerdict limit task r w → v ≡ w
+  said_once : (v w : Verdict) → IsReportVerdict limit task r v → IsReportVerdict limit task r w
+      → v ≡ w
   said_once Valid Valid first second = refl
-  said_once Valid (Invalid line k) first second = absurd (no_breach task r line k first.0 second.breach)
+  said_once Valid (Invalid line k) first second =
+      absurd (no_breach task r line k first.0 second.breach)
   said_once Valid Limit first second = absurd (first.1 second.0)
-  said_once (Invalid line k) Valid first second = absurd (no_breach task r line k second.0 first.breach)
+  said_once (Invalid line k) Valid first second =
+      absurd (no_breach task r line k second.0 first.breach)
   said_once (Invalid line k) (Invalid other than) first second =
       let same = neither line other k than (second.first line k first.breach) (first.first other than second.breach) in
       λ i. Invalid (same.0 i) (same.1 i)
-  said_once (Invalid line k) Limit first second = absurd (second.1 line k first.breach (first.decided second.0))
+  said_once (Invalid line k) Limit first second =
+      absurd (second.1 line k first.breach (first.decided second.0))
   said_once Limit Valid first second = absurd (second.1 first.0)
-  said_once Limit (Invalid line k) first second = absurd (first.1 line k second.breach (second.decided first.0))
+  said_once Limit (Invalid line k) first second =
+      absurd (first.1 line k second.breach (second.decided first.0))
   said_once Limit Limit first second = refl
 
-pub verdict_once : (limit : ℕ) (task : Task) (bytes : List ℕ) (v w : Verdict) → IsVerdict limit task bytes v → IsVerdict limit task bytes w
+pub verdict_once : (limit : ℕ) (task : Task) (bytes : List ℕ) (v w : Verdict)
+    → IsVerdict limit task bytes v → IsVerdict limit task bytes w
     → v ≡ w
 verdict_once limit task bytes v w (inl (line, is, fault)) (inl (other, also, again)) =
     is ∙ (λ i. Invalid (fault_once bytes line other fault again i) kind.Text) ∙ sym also
-verdict_once limit task bytes v w (inl (line, is, fault)) (inr of) = absurd (fault.none (of.report, of.formed, of.spelled))
-verdict_once limit task bytes v w (inr of) (inl (line, is, fault)) = absurd (fault.none (of.report, of.formed, of.spelled))
+verdict_once limit task bytes v w (inl (line, is, fault)) (inr of) =
+    absurd (fault.none (of.report, of.formed, of.spelled))
+verdict_once limit task bytes v w (inr of) (inl (line, is, fault)) =
+    absurd (fault.none (of.report, of.formed, of.spelled))
 verdict_once limit task bytes v w (inr first) (inr second) =
     let same = same_report second.report first.report second.formed first.formed (second.spelled ∙ sym first.spelled) in
     said_once limit task first.report v w first.said (subst (λ r. IsReportVerdict limit task r w) same second.said)
 
 -- Of a report that is right, and whose claim is decided, nothing else is said.
-pub right_valid : (limit : ℕ) (task : Task) (r : Report) (v : Verdict) → IsFormed r → IsRightReport task r → ¬ (IsUndecided limit task r)
+pub right_valid : (limit : ℕ) (task : Task) (r : Report) (v : Verdict) → IsFormed r
+    → IsRightReport task r → ¬ (IsUndecided limit task r)
     → IsVerdict limit task (text_of_report r) v → v ≡ Valid
 right_valid limit task r v formed right decided is =
     verdict_once limit task (text_of_report r) v Valid is (inr (record { report = r; formed = formed; spelled = refl; said = (right, decided) }))

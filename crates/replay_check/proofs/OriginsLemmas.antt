@@ -27,20 +27,25 @@ not_both : (a : Bool) → a ≡ true → not a ≡ true → ⊥
 not_both true first second = absurd (cc)
 not_both false first second = absurd (cc)
 
-answered_before : (version : ℕ) (task : Task) (entries : List Entry) (n j k : ℕ) (e f : Entry) → IsLegal version task entries
+answered_before : (version : ℕ) (task : Task) (entries : List Entry) (n j k : ℕ) (e f : Entry)
+    → IsLegal version task entries
     → slice_get entries j ≡ Some e → slice_get entries k ≡ Some f → is_answer_to n e ≡ true → is_answer_to n f ≡ true → j < k → ⊥
 answered_before version task entries n j k e f legal at_j at_k first second lt =
     let open_there = waiting_of version task (take k entries) n f (legal k f at_k) second in
     let unanswered = second_so (list_any (is_ask_of n) (take k entries)) (not (list_any (is_answer_to n) (take k entries))) open_there in
     not_both (list_any (is_answer_to n) (take k entries)) (any_passes_from_place (is_answer_to n) (take k entries) j e (get_take entries j k e at_j lt) first) unanswered
 
-pub answered_once : (version : ℕ) (task : Task) (entries : List Entry) (n j k : ℕ) (e f : Entry) → IsLegal version task entries
+pub answered_once : (version : ℕ) (task : Task) (entries : List Entry) (n j k : ℕ) (e f : Entry)
+    → IsLegal version task entries
     → slice_get entries j ≡ Some e → slice_get entries k ≡ Some f → is_answer_to n e ≡ true → is_answer_to n f ≡ true → e ≡ f
-answered_once version task entries n j k e f legal at_j at_k first second = by (cases_lt j k) (cases_lt k j)
+answered_once version task entries n j k e f legal at_j at_k first second =
+    by (cases_lt j k) (cases_lt k j)
   where
     by : (j < k) ⊎ (k ≤ j) → (k < j) ⊎ (j ≤ k) → e ≡ f
-    by (inl lt) q = absurd (answered_before version task entries n j k e f legal at_j at_k first second lt)
-    by (inr ge) (inl lt) = absurd (answered_before version task entries n k j f e legal at_k at_j second first lt)
+    by (inl lt) q =
+        absurd (answered_before version task entries n j k e f legal at_j at_k first second lt)
+    by (inr ge) (inl lt) =
+        absurd (answered_before version task entries n k j f e legal at_k at_j second first lt)
     by (inr ge) (inr le) =
         let same : j ≡ k = omega (arith, ge, le) in
         same_some (slice_get entries k) e f (ap (slice_get entries) (sym same) ∙ at_j) at_k
@@ -50,14 +55,16 @@ chosen true o t e = refl
 chosen false o t e = absurd (cc)
 
 -- a yield with the value answers the request
-found_answers : (value : List ℕ) (n t : ℕ) (e : Entry) → tuple_with value n e ≡ Some t → is_answer_to n e ≡ true
+found_answers : (value : List ℕ) (n t : ℕ) (e : Entry) → tuple_with value n e ≡ Some t
+    → is_answer_to n e ≡ true
 found_answers value n t (entry.Got number tuples values) is = chosen (n == number) (option_map (λ place. place + 1) (position (list_any (same_numbers value)) (tuples_in (length values / tuples) tuples values))) t is
 found_answers value n t e is = absurd (cc)
 
 -- ---- one origin
 
 module _ (version : ℕ) (task : Task) (entries : List Entry) (legal : IsLegal version task entries) where
-  tuple_once : (value : List ℕ) (n s t : ℕ) (e f : Entry) → Contains entries e → Contains entries f → tuple_with value n e ≡ Some s
+  tuple_once : (value : List ℕ) (n s t : ℕ) (e f : Entry) → Contains entries e → Contains entries f
+      → tuple_with value n e ≡ Some s
       → tuple_with value n f ≡ Some t → s ≡ t
   tuple_once value n s t e f in_e in_f first second =
       let j = place_of entries e in_e in
@@ -65,7 +72,8 @@ module _ (version : ℕ) (task : Task) (entries : List Entry) (legal : IsLegal v
       let same = answered_once version task entries n j.0 k.0 e f legal j.1 k.1 (found_answers value n s e first) (found_answers value n t f second) in
       same_some (tuple_with value n f) s t (ap (tuple_with value n) (sym same) ∙ first) second
 
-  origin_once : (o p : Origin) → IsOrigin version entries o → IsOrigin version entries p → o.object ≡ p.object → o ≡ p
+  origin_once : (o p : Origin) → IsOrigin version entries o → IsOrigin version entries p
+      → o.object ≡ p.object → o ≡ p
   origin_once o p first second same =
       let values : first.value ≡ second.value = let both : 35 ∷ first.value ≡ 35 ∷ second.value = sym first.named ∙ same ∙ second.named in cc in
       let low = first.first p.number (subst (λ v. has_value entries p.number v ≡ true) (sym values) second.there) in
@@ -74,8 +82,10 @@ module _ (version : ℕ) (task : Task) (entries : List Entry) (legal : IsLegal v
       let tuples = by values numbers (version == 1) refl in
       λ i. record { object = same i; number = numbers i; tuple = tuples i }
     where
-      by : first.value ≡ second.value → o.number ≡ p.number → (b : Bool) → (version == 1) ≡ b → o.tuple ≡ p.tuple
-      by values numbers true one = first.one (eqb-true version 1 one) ∙ sym (second.one (eqb-true version 1 one))
+      by : first.value ≡ second.value → o.number ≡ p.number → (b : Bool) → (version == 1) ≡ b
+          → o.tuple ≡ p.tuple
+      by values numbers true one =
+          first.one (eqb-true version 1 one) ∙ sym (second.one (eqb-true version 1 one))
       by values numbers false more =
           let other : version ≡ 1 → ⊥ = λ e. true≢false (sym (ap (λ n. n == 1) e) ∙ more) in
           let x = first.tuple other in

@@ -26,25 +26,29 @@ use Rattle.replay_check.specs.declared.steps.Run.{Run}
 
 module _ (version : ℕ) (task : Task) (fit : IsFit task) (entries : List Entry) (coherent : IsCoherent (known_of task entries)) (calls : List Call) (from : List Origin) (run : Run) (r : IsRunOf task entries calls run) where
   -- a plan that the calls show ends where the run does, and costs as much
-  same_end : (cost : ℕ) (plan : IsPlan task entries calls cost) → (plan.valid.0 ≡ run.state) × (cost ≡ r.total)
+  same_end : (cost : ℕ) (plan : IsPlan task entries calls cost)
+      → (plan.valid.0 ≡ run.state) × (cost ≡ r.total)
   same_end cost plan =
       let same = same_steps task fit entries coherent (initial_state task) plan.valid.0 run.state plan.steps run.steps.items cost r.total plan.valid.1 r.runs (sym plan.shown ∙ r.shown) in
       let ran = subst (λ steps. Executes task (known_of task entries) (initial_state task) steps plan.valid.0 cost) same plan.valid.1 in
       execution_determined task (known_of task entries) (initial_state task) run.steps.items plan.valid.0 run.state cost r.total ran r.runs
 
   -- the steps don't reach the goal
-  pub goal_missed : (cost : ℕ) → ¬ (IsGoal task (known_of task entries) run.state) → IsPlanned version task entries calls cost from NoGoal
+  pub goal_missed : (cost : ℕ) → ¬ (IsGoal task (known_of task entries) run.state)
+      → IsPlanned version task entries calls cost from NoGoal
   goal_missed cost missed = (
     record { steps = run.steps.items; shown = r.shown; state = run.state; cost = r.total; runs = r.runs },
     λ other plan. missed (subst (IsGoal task (known_of task entries)) (same_end other plan).0 plan.valid.2),
   )
 
-  summed : (sum : Option ℕ) (cost : ℕ) → cost < 2 ^ 64 → cost ≡ r.total → IsSum r.total sum → sum ≡ Some cost
+  summed : (sum : Option ℕ) (cost : ℕ) → cost < 2 ^ 64 → cost ≡ r.total → IsSum r.total sum
+      → sum ≡ Some cost
   summed None cost few is large = absurd (omega (arith, few, is, large))
   summed (Some n) cost few is same = ap Some (same ∙ sym is)
 
   -- they reach it, and cost another sum
-  pub costs_other : (cost : ℕ) → cost < 2 ^ 64 → IsGoal task (known_of task entries) run.state → ¬ (run.cost ≡ Some cost)
+  pub costs_other : (cost : ℕ) → cost < 2 ^ 64 → IsGoal task (known_of task entries) run.state
+      → ¬ (run.cost ≡ Some cost)
       → IsPlanned version task entries calls cost from WrongCost
   costs_other cost few reached other = (
     (r.total, record { steps = run.steps.items; shown = r.shown; valid = (run.state, r.runs, reached) }),

@@ -34,10 +34,12 @@ use Rattle.replay_check.specs.declared.verdict.BreachKind.TheVariants as kind
 
 -- ---- the head
 
-pub head_right : (task : Task) (r : Report) (line : ℕ) → IsFitHead task r → BreaksHead task r line → ⊥
+pub head_right : (task : Task) (r : Report) (line : ℕ) → IsFitHead task r → BreaksHead task r line
+    → ⊥
 head_right task r line fit (inl (at, other)) = other fit.mode
 head_right task r line fit (inr (inl (at, wrong))) = true≢false (sym fit.limits ∙ wrong)
-head_right task r line fit (inr (inr (inl breaks))) = true≢false (sym (fit.pools breaks.place breaks.pool breaks.there) ∙ breaks.wrong)
+head_right task r line fit (inr (inr (inl breaks))) =
+    true≢false (sym (fit.pools breaks.place breaks.pool breaks.there) ∙ breaks.wrong)
 head_right task r line fit (inr (inr (inr (at, wrong)))) = true≢false (sym fit.served ∙ wrong)
 
 -- ---- entries
@@ -49,7 +51,8 @@ module _ (limits : Limits) (task : Task) (entries : List Entry) (stage : Stage) 
   all_few : asks_of entries ≤ limits.calls
   all_few = turns_count limits task tt [] entries stage incremental (omega arith)
 
-  front_few : (place : ℕ) (e : Entry) → slice_get entries place ≡ Some e → asks_of (take place entries ++ e ∷ []) ≤ limits.calls
+  front_few : (place : ℕ) (e : Entry) → slice_get entries place ≡ Some e
+      → asks_of (take place entries ++ e ∷ []) ≤ limits.calls
   front_few place e at =
       let parts = ap asks_of (cut_at entries place e at) in
       let whole = asks_more (take place entries) (e ∷ drop (suc place) entries) in
@@ -57,7 +60,8 @@ module _ (limits : Limits) (task : Task) (entries : List Entry) (stage : Stage) 
       let front = asks_more (take place entries) (e ∷ []) in
       omega (arith, parts, whole, behind, front, all_few)
 
-  may_ask : (place : ℕ) (e : Entry) → slice_get entries place ≡ Some e → is_ask e ≡ true → MayAsk limits task (take place entries) e
+  may_ask : (place : ℕ) (e : Entry) → slice_get entries place ≡ Some e → is_ask e ≡ true
+      → MayAsk limits task (take place entries) e
   may_ask place (entry.Ask number turn call) at is =
       let next = request_number limits.version task entries place number turn call legal at in
       let more = asks_more (take place entries) (entry.Ask number turn call ∷ []) in
@@ -73,15 +77,18 @@ module _ (limits : Limits) (task : Task) (entries : List Entry) (stage : Stage) 
   may_ask place (entry.Pick number) at is = absurd (cc)
   may_ask place (entry.Retire number) at is = absurd (cc)
 
-  front_is : (place : ℕ) (e : Entry) → slice_get entries place ≡ Some e → take (suc place) entries ≡ take place entries ++ e ∷ []
+  front_is : (place : ℕ) (e : Entry) → slice_get entries place ≡ Some e
+      → take (suc place) entries ≡ take place entries ++ e ∷ []
   front_is place e at = one_more entries place e at
     where
-      one_more : (xs : List Entry) (k : ℕ) (x : Entry) → slice_get xs k ≡ Some x → take (suc k) xs ≡ take k xs ++ x ∷ []
+      one_more : (xs : List Entry) (k : ℕ) (x : Entry) → slice_get xs k ≡ Some x
+          → take (suc k) xs ≡ take k xs ++ x ∷ []
       one_more [] k x there = absurd (cc)
       one_more (y ∷ ys) zero x there = let same : y ≡ x = cc in ap (λ z. z ∷ []) same
       one_more (y ∷ ys) (suc k) x there = ap (λ zs. y ∷ zs) (one_more ys k x there)
 
-  begun : (place : ℕ) (e : Entry) → slice_get entries place ≡ Some e → AreBegun limits task (take place entries ++ e ∷ [])
+  begun : (place : ℕ) (e : Entry) → slice_get entries place ≡ Some e
+      → AreBegun limits task (take place entries ++ e ∷ [])
   begun place e at =
       let front = front_turns limits task tt [] entries stage incremental (suc place) in
       (front.0, subst (λ m. AreTurnsOf m limits task (take place entries ++ e ∷ []) front.0) (sym mode) (subst (λ es. AreTurns limits task (IncrementalTurn limits task) tt [] es front.0) (front_is place e at) front.1))
@@ -106,7 +113,8 @@ module _ (limits : Limits) (task : Task) (entries : List Entry) (calls : List Ca
       → take k (map (call_of_step task (names_of task entries)) steps) ≡ map (call_of_step task (names_of task entries)) (take k steps)
   take_map zero steps = refl
   take_map (suc k) [] = refl
-  take_map (suc k) (s ∷ steps) = ap (λ cs. call_of_step task (names_of task entries) s ∷ cs) (take_map k steps)
+  take_map (suc k) (s ∷ steps) =
+      ap (λ cs. call_of_step task (names_of task entries) s ∷ cs) (take_map k steps)
 
   front_runs : (k : ℕ) → CanRun task entries (take k calls)
   front_runs k =
@@ -117,7 +125,8 @@ module _ (limits : Limits) (task : Task) (entries : List Entry) (calls : List Ca
   is_plan : IsPlan task entries calls cost
   is_plan = record { steps = plan.steps; shown = plan.shown; valid = plan.valid }
 
-  plan_right : (offset : ℕ) (k : BreachKind) → BreaksPlan limits task entries calls cost from offset k → ⊥
+  plan_right : (offset : ℕ) (k : BreachKind)
+      → BreaksPlan limits task entries calls cost from offset k → ⊥
   plan_right offset kind.Plan (inl breaks) = breaks.stuck (front_runs (breaks.place + 1))
   plan_right offset kind.Plan (inr (at, none)) = none cost is_plan
   plan_right offset kind.Cost wrong = wrong.1 is_plan
@@ -147,31 +156,40 @@ claim_right limits task entries o offset kind.From holds wrong = wrong
 
 module _ (limits : Limits) (task : Task) (entries : List Entry) (stage : Stage) (legal : IsLegal limits.version task entries) (turns : AreTurnsOf limits.mode limits task entries stage) where
   placed : (o : Outcome) → MayStand stage o → IsMisplaced limits task entries o → ⊥
-  placed o (inl rests) wrong = wrong.1 (subst (λ s. AreTurnsOf limits.mode limits task entries s) rests turns)
+  placed o (inl rests) wrong =
+      wrong.1 (subst (λ s. AreTurnsOf limits.mode limits task entries s) rests turns)
   placed o (inr (cut, is)) wrong = wrong.0 is
 
-  said_right : (o : Outcome) (offset : ℕ) (k : BreachKind) → IsTrueOutcome limits task entries o → BreaksSaid limits task entries o offset k
+  said_right : (o : Outcome) (offset : ℕ) (k : BreachKind) → IsTrueOutcome limits task entries o
+      → BreaksSaid limits task entries o offset k
       → ⊥
-  said_right (outcome.Plan calls cost from) offset k holds wrong = plan_right limits task entries calls cost from legal holds offset k wrong
-  said_right outcome.NoPlan offset k holds wrong = claim_right limits task entries outcome.NoPlan offset k holds wrong
-  said_right (outcome.Limit kind) offset k holds wrong = claim_right limits task entries (outcome.Limit kind) offset k holds wrong
+  said_right (outcome.Plan calls cost from) offset k holds wrong =
+      plan_right limits task entries calls cost from legal holds offset k wrong
+  said_right outcome.NoPlan offset k holds wrong =
+      claim_right limits task entries outcome.NoPlan offset k holds wrong
+  said_right (outcome.Limit kind) offset k holds wrong =
+      claim_right limits task entries (outcome.Limit kind) offset k holds wrong
 
-  outcome_right : (o : Outcome) (offset : ℕ) (k : BreachKind) → MayStand stage o → IsTrueOutcome limits task entries o
+  outcome_right : (o : Outcome) (offset : ℕ) (k : BreachKind) → MayStand stage o
+      → IsTrueOutcome limits task entries o
       → BreaksOutcome limits task entries o offset k → ⊥
   outcome_right o offset kind.Order stands holds wrong = placed o stands wrong.1
   outcome_right o offset kind.Text stands holds wrong = said_right o offset kind.Text holds wrong
   outcome_right o offset kind.Head stands holds wrong = said_right o offset kind.Head holds wrong
   outcome_right o offset kind.Ask stands holds wrong = said_right o offset kind.Ask holds wrong
-  outcome_right o offset kind.Answer stands holds wrong = said_right o offset kind.Answer holds wrong
+  outcome_right o offset kind.Answer stands holds wrong =
+      said_right o offset kind.Answer holds wrong
   outcome_right o offset kind.Dream stands holds wrong = said_right o offset kind.Dream holds wrong
   outcome_right o offset kind.Plan stands holds wrong = said_right o offset kind.Plan holds wrong
   outcome_right o offset kind.Cost stands holds wrong = said_right o offset kind.Cost holds wrong
   outcome_right o offset kind.From stands holds wrong = said_right o offset kind.From holds wrong
-  outcome_right o offset kind.Outcome stands holds wrong = said_right o offset kind.Outcome holds wrong
+  outcome_right o offset kind.Outcome stands holds wrong =
+      said_right o offset kind.Outcome holds wrong
 
 -- ---- all
 
-pub no_breach : (task : Task) (r : Report) (line : ℕ) (k : BreachKind) → IsRightReport task r → IsBreach task r line k → ⊥
+pub no_breach : (task : Task) (r : Report) (line : ℕ) (k : BreachKind) → IsRightReport task r
+    → IsBreach task r line k → ⊥
 no_breach task r line k right (inl (is, wrong)) = head_right task r line right.head wrong
 no_breach task r line k right (inr (inl breaks)) = entry_right (limits_in task r) task r.entries right.stage right.head.mode right.legal.legal right.legal.turns breaks.place breaks.e k breaks.there breaks.wrong
 no_breach task r line k right (inr (inr breaks)) = outcome_right (limits_in task r) task r.entries right.stage right.legal.legal right.legal.turns r.outcome breaks.offset k right.stands right.true breaks.wrong

@@ -36,7 +36,8 @@ use Rattle.transcript_ledger.specs.Steps.{action_named, step_named}
 
 -- ---- names of objects
 
-names_there : (names more : List (List ℕ)) (objects : List ℕ) → map (slice_get names) objects ≡ map Some more
+names_there : (names more : List (List ℕ)) (objects : List ℕ)
+    → map (slice_get names) objects ≡ map Some more
     → map (name_at names) objects ≡ more
 names_there names [] [] e = refl
 names_there names [] (o ∷ os) e = absurd (cc)
@@ -58,37 +59,44 @@ there_named names (o ∷ os) all =
 -- ---- calls and steps
 
 module _ (task : Task) (fit : IsFit task) (names : List (List ℕ)) (distinct : AreDistinct names) where
-  named_action : (name : List ℕ) (k : ℕ) → action_named task name ≡ Some k → action_name task k ≡ name
+  named_action : (name : List ℕ) (k : ℕ) → action_named task name ≡ Some k
+      → action_name task k ≡ name
   named_action name k is =
       let at = position_at (λ (a : Action). same_numbers name a.name) task.domain.actions k is in
       rw at.1 (sym ((numbers_decided name at.0.name).0 at.2))
 
   -- a call stands for the step that shows it
-  pub step_shown : (call : Call) (step : GroundAction) → step_named task names call ≡ Some step → call ≡ call_of_step task names step
+  pub step_shown : (call : Call) (step : GroundAction) → step_named task names call ≡ Some step
+      → call ≡ call_of_step task names step
   step_shown call step is =
       let action = and_then_some (λ a. option_map (λ (args : List ℕ). record { action = a; args = args }) (places_of names call.args)) (action_named task call.name) step is in
       let args = map_some (λ (args : List ℕ). record { action = action.0; args = args }) (places_of names call.args) step action.2 in
       let objects = names_there names call.args args.0 ((places_exact names call.args args.0 distinct).0 args.1) in
       (λ i. record { name = sym (named_action call.name action.0 action.1) i; args = sym objects i }) ∙ ap (call_of_step task names) args.2
 
-  action_found : (k : ℕ) (a : Action) → slice_get task.domain.actions k ≡ Some a → action_named task (action_name task k) ≡ Some k
+  action_found : (k : ℕ) (a : Action) → slice_get task.domain.actions k ≡ Some a
+      → action_named task (action_name task k) ≡ Some k
   action_found k a at =
       let named : action_name task k ≡ a.name = rw at refl in
       position_only (λ (b : Action). same_numbers (action_name task k) b.name) task.domain.actions k a at ((numbers_decided (action_name task k) a.name).1 named) (λ m b there same. fit.domain.action_names.distinct m k a.name (name_there m b there ∙ ap Some (sym ((numbers_decided (action_name task k) b.name).0 same) ∙ named)) (name_there k a at))
     where
       name_there : (m : ℕ) (b : Action) → slice_get task.domain.actions m ≡ Some b
           → slice_get (map (λ (c : Action). c.name) task.domain.actions) m ≡ Some b.name
-      name_there m b there = slice_get-map (λ (c : Action). c.name) task.domain.actions m ∙ ap (option_map (λ (c : Action). c.name)) there
+      name_there m b there =
+          slice_get-map (λ (c : Action). c.name) task.domain.actions m
+          ∙ ap (option_map (λ (c : Action). c.name)) there
 
   -- the call that shows a step stands for it
-  pub step_found : (step : GroundAction) (a : Action) → slice_get task.domain.actions step.action ≡ Some a → All (IsIn names) step.args
+  pub step_found : (step : GroundAction) (a : Action)
+      → slice_get task.domain.actions step.action ≡ Some a → All (IsIn names) step.args
       → step_named task names (call_of_step task names step) ≡ Some step
   step_found step a at all =
       rw (action_found step.action a at, (places_exact names (map (name_at names) step.args) step.args distinct).1 (there_named names step.args all)) refl
 
 -- ---- lists of calls
 
-ends : (f : GroundAction → Call) (cs : List Call) (c : Call) (steps : List GroundAction) → cs ++ c ∷ [] ≡ map f steps
+ends : (f : GroundAction → Call) (cs : List Call) (c : Call) (steps : List GroundAction)
+    → cs ++ c ∷ [] ≡ map f steps
     → (front : List GroundAction) × (last : GroundAction) × (steps ≡ front ++ last ∷ []) × (cs ≡ map f front) × (c ≡ f last)
 ends f [] c [] e = absurd (cc)
 ends f [] c (s ∷ []) e = ([], s, refl, refl, cc)
@@ -108,12 +116,14 @@ module _ (task : Task) (fit : IsFit task) (entries : List Entry) (coherent : IsC
   found_in = step_named task (names_of task entries)
 
   -- a step that can be taken is found by its call
-  found : (before after : Atoms) (step : GroundAction) (cost : ℕ) → IsStep task (known_of task entries) before step after cost
+  found : (before after : Atoms) (step : GroundAction) (cost : ℕ)
+      → IsStep task (known_of task entries) before step after cost
       → found_in (cs step) ≡ Some step
   found before after step cost s = step_found task fit (names_of task entries) coherent.names step s.action s.named (All-head (λ (x : GroundAction). All (IsIn (names_of task entries)) x.args) step [] (named_steps task (known_of task entries) coherent before after (step ∷ []) cost (after, cost, 0, s, (refl, refl), omega arith)).objects)
 
   -- calls show one list of steps that can be taken
-  pub same_steps : (before a b : Atoms) (xs ys : List GroundAction) (m n : ℕ) → Executes task (known_of task entries) before xs a m
+  pub same_steps : (before a b : Atoms) (xs ys : List GroundAction) (m n : ℕ)
+      → Executes task (known_of task entries) before xs a m
       → Executes task (known_of task entries) before ys b n → map cs xs ≡ map cs ys → xs ≡ ys
   same_steps before a b [] [] m n first second e = refl
   same_steps before a b [] (y ∷ ys) m n first second e = absurd (cc)
@@ -140,7 +150,8 @@ module _ (task : Task) (fit : IsFit task) (entries : List Entry) (coherent : IsC
     runs : Executes task (known_of task entries) (initial_state task) front state cost
     step : IsStep task (known_of task entries) state last after more
 
-  last_of : (calls : List Call) (call : Call) → CanRun task entries (calls ++ call ∷ []) → Last calls call
+  last_of : (calls : List Call) (call : Call) → CanRun task entries (calls ++ call ∷ [])
+      → Last calls call
   last_of calls call can =
       let e = ends cs calls call can.steps can.shown in
       let whole = subst (λ steps. Executes task (known_of task entries) (initial_state task) steps can.state can.cost) e.2 can.runs in
@@ -148,12 +159,14 @@ module _ (task : Task) (fit : IsFit task) (entries : List Entry) (coherent : IsC
       record { front = e.0; last = e.1; shown = e.3; is = e.4; state = parts.0; after = parts.4.0; cost = parts.1; more = parts.4.1; runs = parts.3; step = parts.4.3 }
 
   -- a call of no step can't be taken
-  pub no_step : (calls : List Call) (call : Call) → found_in call ≡ None → ¬ (CanRun task entries (calls ++ call ∷ []))
+  pub no_step : (calls : List Call) (call : Call) → found_in call ≡ None
+      → ¬ (CanRun task entries (calls ++ call ∷ []))
   no_step calls call none can =
       let l = last_of calls call can in
       none-some l.last (sym none ∙ ap found_in l.is ∙ found l.state l.after l.last l.more l.step)
 
-  fails_not : (state after : Atoms) (step : GroundAction) (cost : ℕ) (fault : StepFault) → ¬ (fault ≡ Memory)
+  fails_not : (state after : Atoms) (step : GroundAction) (cost : ℕ) (fault : StepFault)
+      → ¬ (fault ≡ Memory)
       → IsStep task (known_of task entries) state step after cost → StepFails task (known_of task entries) state step fault → ⊥
   fails_not state after step cost NoAction other s fails = none-some s.action (sym fails ∙ s.named)
   fails_not state after step cost Args other s (a, named, wrong) =
@@ -176,7 +189,8 @@ module _ (task : Task) (fit : IsFit task) (entries : List Entry) (coherent : IsC
   fails_not state after step cost Memory other s fails = other refl
 
   -- a step that isn't applicable can't be taken
-  pub step_stuck : (calls : List Call) (call : Call) (run : Run) (step : GroundAction) (fault : StepFault) → ¬ (fault ≡ Memory)
+  pub step_stuck : (calls : List Call) (call : Call) (run : Run) (step : GroundAction) (fault : StepFault)
+      → ¬ (fault ≡ Memory)
       → IsRunOf task entries calls run → found_in call ≡ Some step → StepFails task (known_of task entries) run.state step fault
       → ¬ (CanRun task entries (calls ++ call ∷ []))
   step_stuck calls call run step fault other r is fails can =
@@ -190,7 +204,8 @@ module _ (task : Task) (fit : IsFit task) (entries : List Entry) (coherent : IsC
       fails_not run.state l.after step l.more fault other taken fails
 
   -- one step more
-  pub step_more : (calls : List Call) (call : Call) (run next : Run) (step : GroundAction) (cost : ℕ) → IsRunOf task entries calls run
+  pub step_more : (calls : List Call) (call : Call) (run next : Run) (step : GroundAction) (cost : ℕ)
+      → IsRunOf task entries calls run
       → found_in call ≡ Some step → IsStep task (known_of task entries) run.state step next.state cost
       → next.steps.items ≡ run.steps.items ++ step ∷ [] → ((total : ℕ) → IsSum total run.cost → IsSum (total + cost) next.cost)
       → IsRunOf task entries (calls ++ call ∷ []) next
@@ -207,7 +222,8 @@ module _ (task : Task) (fit : IsFit task) (entries : List Entry) (coherent : IsC
       }
 
   -- no step was taken
-  pub none_taken : (run : Run) → run.steps.items ≡ [] → run.state ≡ initial_state task → run.cost ≡ Some 0 → IsRunOf task entries [] run
+  pub none_taken : (run : Run) → run.steps.items ≡ [] → run.state ≡ initial_state task
+      → run.cost ≡ Some 0 → IsRunOf task entries [] run
   none_taken run steps state cost =
       record {
         shown = ap (map cs) (sym steps);

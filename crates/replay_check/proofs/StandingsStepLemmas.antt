@@ -43,7 +43,8 @@ head_is [] x at = absurd (cc)
 head_is (y ∷ ys) x at = let same : y ≡ x = cc in ap (λ z. z ∷ ys) same
 
 -- each entry so far has one line, and so has this one
-lines_more : (entries : List Entry) (e : Entry) → length (entry_lines e) ≡ 1 → length (flat_map entry_lines entries) ≡ length entries
+lines_more : (entries : List Entry) (e : Entry) → length (entry_lines e) ≡ 1
+    → length (flat_map entry_lines entries) ≡ length entries
     → length (flat_map entry_lines (entries ++ e ∷ [])) ≡ length (entries ++ e ∷ [])
 lines_more entries e one so_far =
     let parts : length (flat_map entry_lines (entries ++ e ∷ [])) ≡ length (flat_map entry_lines entries) + length (entry_lines e ++ []) =
@@ -55,7 +56,8 @@ lines_more entries e one so_far =
 -- ---- requests of the open round
 
 -- the requests are the same where the names and the notes are
-requests_same : (task : Task) (before after : List Entry) (number : ℕ) (is : List Instance) → names_of task after ≡ names_of task before
+requests_same : (task : Task) (before after : List Entry) (number : ℕ) (is : List Instance)
+    → names_of task after ≡ names_of task before
     → notes_of task after ≡ notes_of task before → requests_from task after number is ≡ requests_from task before number is
 requests_same task before after number [] names notes = refl
 requests_same task before after number (i ∷ is) names notes =
@@ -69,7 +71,8 @@ module _ (pools : List Share) (list : List Instance) (number : ℕ) (cut : Bool)
   starts_next = ap (λ (x : Agenda). x.next) st.is
 
   pub starts_answers : b.answers ≡ length b.to_ask
-  starts_answers = ap (λ (x : Agenda). x.answers) st.is ∙ sym (ap (λ (x : Agenda). length x.to_ask) st.is)
+  starts_answers =
+      ap (λ (x : Agenda). x.answers) st.is ∙ sym (ap (λ (x : Agenda). length x.to_ask) st.is)
 
   pub starts_all : length b.to_ask + length b.later ≡ length list
   starts_all =
@@ -115,7 +118,8 @@ stands_first limits task l ledger =
 -- ---- one entry more
 
 module _ (limits : Limits) (task : Task) (entries : List Entry) (l : Ledger) (a : Agenda) (s : StandsBehind limits task entries l a) where
-  one_step : (e : Entry) (after : Course) → IsCourseStep limits task entries (place_in task entries a) e after
+  one_step : (e : Entry) (after : Course)
+      → IsCourseStep limits task entries (place_in task entries a) e after
       → Leads limits task at_first [] (entries ++ e ∷ []) after
   one_step e after step = leads_then limits task at_first [] entries (e ∷ []) (place_in task entries a) after s.leads (after, step, refl)
 
@@ -157,7 +161,8 @@ module _ (limits : Limits) (task : Task) (entries : List Entry) (l : Ledger) (a 
         → is_open (entries ++ entry.Ask number turn call ∷ []) m ≡ true
     ask_waits m from upto = by (cases_lt (asks_of entries) m)
       where
-        by : (asks_of entries < m) ⊎ (m ≤ asks_of entries) → is_open (entries ++ entry.Ask number turn call ∷ []) m ≡ true
+        by : (asks_of entries < m) ⊎ (m ≤ asks_of entries)
+            → is_open (entries ++ entry.Ask number turn call ∷ []) m ≡ true
         by (inl past) =
             let same : m ≡ number = let next = right.next in let more = adds.asks in omega (arith, past, upto, next, more) in
             adds.waiting m ∙ ap (λ b. is_open entries m || b) (eq-eqb m number same) ∙ or_true (is_open entries m)
@@ -165,10 +170,13 @@ module _ (limits : Limits) (task : Task) (entries : List Entry) (l : Ledger) (a 
 
     ask_answered : (m : ℕ) → is_open (entries ++ entry.Ask number turn call ∷ []) m ≡ true
         → (a.next ≤ m) × (m ≤ asks_of (entries ++ entry.Ask number turn call ∷ []))
-    ask_answered m waits = by (or_cases (is_open entries m) (m == number) (sym (adds.waiting m) ∙ waits))
+    ask_answered m waits =
+        by (or_cases (is_open entries m) (m == number) (sym (adds.waiting m) ∙ waits))
       where
-        by : (is_open entries m ≡ true) ⊎ ((m == number) ≡ true) → (a.next ≤ m) × (m ≤ asks_of (entries ++ entry.Ask number turn call ∷ []))
-        by (inl was) = let r = s.answered m was in let more = adds.asks in (r.0, omega (arith, r.1, more))
+        by : (is_open entries m ≡ true) ⊎ ((m == number) ≡ true)
+            → (a.next ≤ m) × (m ≤ asks_of (entries ++ entry.Ask number turn call ∷ []))
+        by (inl was) =
+            let r = s.answered m was in let more = adds.asks in (r.0, omega (arith, r.1, more))
         by (inr here) =
             let same = eqb-true m number here in
             let next = right.next in
@@ -177,7 +185,8 @@ module _ (limits : Limits) (task : Task) (entries : List Entry) (l : Ledger) (a 
             let few = s.some in
             (omega (arith, same, next, count, few), omega (arith, same, next, more))
 
-    pub ask_onward : (new : Ledger) → IsLedger limits.version task (entries ++ entry.Ask number turn call ∷ []) new
+    pub ask_onward : (new : Ledger)
+        → IsLedger limits.version task (entries ++ entry.Ask number turn call ∷ []) new
         → StandsBehind limits task (entries ++ entry.Ask number turn call ∷ []) new (with_asked a)
     ask_onward new ledger =
         let more = adds.asks in
@@ -202,7 +211,8 @@ module _ (limits : Limits) (task : Task) (entries : List Entry) (l : Ledger) (a 
     no_more = ap length none
 
     few_asked : length l.asked.items ≤ 100000
-    few_asked = let counted = s.ledger.counted in let left = s.left in omega (arith, counted, left, few)
+    few_asked =
+        let counted = s.ledger.counted in let left = s.left in omega (arith, counted, left, few)
 
     here : (r : Asked) × (asked task entries n ≡ Some r)
     here = asked_here limits.version task entries l e n s.ledger few_asked is may
@@ -222,14 +232,16 @@ module _ (limits : Limits) (task : Task) (entries : List Entry) (l : Ledger) (a 
     one_line (entry.Pick m) at = absurd (cc)
     one_line (entry.Retire m) at = absurd (cc)
 
-    still_waits : (m : ℕ) → a.next + 1 ≤ m → m ≤ asks_of (entries ++ e ∷ []) → is_open (entries ++ e ∷ []) m ≡ true
+    still_waits : (m : ℕ) → a.next + 1 ≤ m → m ≤ asks_of (entries ++ e ∷ [])
+        → is_open (entries ++ e ∷ []) m ≡ true
     still_waits m from upto =
         let same = gives.asks in
         let was : is_open entries m ≡ true = s.waiting m (omega (arith, from)) (omega (arith, upto, same)) in
         let other : (m == n) ≡ false = ne_eqb m n (λ is_n. omega (arith, is_n, next, from)) in
         gives.waiting m ∙ (λ k. was k && not (other k))
 
-    waits_yet : (m : ℕ) → is_open (entries ++ e ∷ []) m ≡ true → (a.next + 1 ≤ m) × (m ≤ asks_of (entries ++ e ∷ []))
+    waits_yet : (m : ℕ) → is_open (entries ++ e ∷ []) m ≡ true
+        → (a.next + 1 ≤ m) × (m ≤ asks_of (entries ++ e ∷ []))
     waits_yet m waits =
         let parts = and_not_parts (is_open entries m) (m == n) (sym (gives.waiting m) ∙ waits) in
         let was = s.answered m parts.0 in
@@ -244,7 +256,8 @@ module _ (limits : Limits) (task : Task) (entries : List Entry) (l : Ledger) (a 
             absurd (true≢false (sym (eq-eqb m n is_n) ∙ other))
 
     -- the round has more answers to come
-    pub answer_more : (new : Ledger) (b : Agenda) → IsLedger limits.version task (entries ++ e ∷ []) new → 1 < a.answers → b ≡ with_answer a
+    pub answer_more : (new : Ledger) (b : Agenda)
+        → IsLedger limits.version task (entries ++ e ∷ []) new → 1 < a.answers → b ≡ with_answer a
         → StandsBehind limits task (entries ++ e ∷ []) new b
     answer_more new b ledger some b_is =
         subst (λ (x : Agenda). StandsBehind limits task (entries ++ e ∷ []) new x) (sym b_is)
@@ -282,7 +295,8 @@ module _ (limits : Limits) (task : Task) (entries : List Entry) (l : Ledger) (a 
         one_less k e = omega (arith, e)
 
     -- it was the last of its round
-    pub answer_last : (new : Ledger) (b : Agenda) → IsLedger limits.version task (entries ++ e ∷ []) new → a.answers ≡ 1
+    pub answer_last : (new : Ledger) (b : Agenda)
+        → IsLedger limits.version task (entries ++ e ∷ []) new → a.answers ≡ 1
         → Starts limits.pools a.later (a.next + 1) a.is_cut b → StandsBehind limits task (entries ++ e ∷ []) new b
     answer_last new b ledger one st =
         let count = s.count in

@@ -30,7 +30,8 @@ rounds_count limits task (round ∷ rounds) list before es (rest, parts, some, f
     let all = ap length parts ∙ length-append round rest in
     omega (arith, first, asked, count, none, next, joined, sum, all)
 
-level_count : (limits : Limits) (task : Task) (before now : List Entry) (cut : Bool) → asks_of before ≤ limits.calls
+level_count : (limits : Limits) (task : Task) (before now : List Entry) (cut : Bool)
+    → asks_of before ≤ limits.calls
     → IsLevel limits task before now cut → asks_of (before ++ now) ≤ limits.calls
 level_count limits task before now cut few level =
     let marked = before ++ entry.Level ∷ [] in
@@ -47,11 +48,13 @@ level_count limits task before now cut few level =
 pub turns_count : (limits : Limits) (task : Task) (kept : Unit {0}) (before es : List Entry) (stage : Stage)
     → AreTurns limits task (IncrementalTurn limits task) kept before es stage → asks_of before ≤ limits.calls
     → asks_of (before ++ es) ≤ limits.calls
-turns_count limits task kept before es stage none_left few = omega (arith, ap asks_of (append-nil before), few)
+turns_count limits task kept before es stage none_left few =
+    omega (arith, ap asks_of (append-nil before), few)
 turns_count limits task kept before es stage (whole next {now = now} {rest = rest} may turn more) few =
     let later = turns_count limits task next (before ++ now) rest stage more (level_count limits task before now false few turn) in
     omega (arith, later, ap asks_of (append_assoc before now rest))
-turns_count limits task kept before es stage (cut_off next may turn) few = level_count limits task before es true few turn
+turns_count limits task kept before es stage (cut_off next may turn) few =
+    level_count limits task before es true few turn
 turns_count limits task kept before es stage (stopped next more cut may turn) few =
     let all = level_count limits task before (es ++ more) cut few turn in
     omega (arith, all, asks_more before (es ++ more), asks_more es more, asks_more before es)
@@ -71,7 +74,8 @@ front_turns limits task kept before es stage none_left k =
 front_turns limits task kept before es stage (whole next {now = now} {rest = rest} may turn more) k =
     by (cases_lt k (length now)) (front_turns limits task next (before ++ now) rest stage more (k - length now))
   where
-    begun : k < length now → AreTurns limits task (IncrementalTurn limits task) kept before (take k (now ++ rest)) inside
+    begun : k < length now
+        → AreTurns limits task (IncrementalTurn limits task) kept before (take k (now ++ rest)) inside
     begun lt =
         let parts : now ≡ take k now ++ drop k now = sym (take-append-drop k now) in
         subst (λ xs. AreTurns limits task (IncrementalTurn limits task) kept before xs inside) (sym (take-append-le k now rest (omega (arith, lt))))

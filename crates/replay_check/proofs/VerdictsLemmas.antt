@@ -46,12 +46,14 @@ use Rattle.replay_check.specs.declared.verdict.Verdict.TheVariants.{Valid, Inval
 -- ---- order
 
 -- the same number of lines further on
-further : (base line : ℕ) (k : BreachKind) (other : ℕ) (than : BreachKind) → Precedes line k other than
+further : (base line : ℕ) (k : BreachKind) (other : ℕ) (than : BreachKind)
+    → Precedes line k other than
     → Precedes (base + line) k (base + other) than
 further base line k other than (inl lt) = inl (omega (arith, lt))
 further base line k other than (inr (is, lt)) = inr (ap (λ n. base + n) is, lt)
 
-nearer : (base line : ℕ) (k : BreachKind) (other : ℕ) (than : BreachKind) → Precedes (base + line) k (base + other) than
+nearer : (base line : ℕ) (k : BreachKind) (other : ℕ) (than : BreachKind)
+    → Precedes (base + line) k (base + other) than
     → Precedes line k other than
 nearer base line k other than (inl lt) = inl (omega (arith, lt))
 nearer base line k other than (inr (is, lt)) = inr (omega (arith, is), lt)
@@ -59,7 +61,8 @@ nearer base line k other than (inr (is, lt)) = inr (omega (arith, is), lt)
 -- ---- kinds
 
 -- an entry is wrong in none of the first two ways
-entry_kind : (limits : Limits) (task : Task) (before : List Entry) (e : Entry) (k : BreachKind) → BreaksEntry limits task before e k
+entry_kind : (limits : Limits) (task : Task) (before : List Entry) (e : Entry) (k : BreachKind)
+    → BreaksEntry limits task before e k
     → 3 ≤ breach_number k
 entry_kind limits task before e kind.Text wrong = absurd wrong
 entry_kind limits task before e kind.Head wrong = absurd wrong
@@ -75,10 +78,12 @@ entry_kind limits task before e kind.Outcome wrong = omega arith
 -- and so is an outcome
 outcome_kind : (limits : Limits) (task : Task) (entries : List Entry) (o : Outcome) (offset : ℕ) (k : BreachKind)
     → BreaksOutcome limits task entries o offset k → 3 ≤ breach_number k
-outcome_kind limits task entries (outcome.Plan calls cost from) offset kind.Text wrong = absurd wrong
+outcome_kind limits task entries (outcome.Plan calls cost from) offset kind.Text wrong =
+    absurd wrong
 outcome_kind limits task entries outcome.NoPlan offset kind.Text wrong = absurd wrong
 outcome_kind limits task entries (outcome.Limit which) offset kind.Text wrong = absurd wrong
-outcome_kind limits task entries (outcome.Plan calls cost from) offset kind.Head wrong = absurd wrong
+outcome_kind limits task entries (outcome.Plan calls cost from) offset kind.Head wrong =
+    absurd wrong
 outcome_kind limits task entries outcome.NoPlan offset kind.Head wrong = absurd wrong
 outcome_kind limits task entries (outcome.Limit which) offset kind.Head wrong = absurd wrong
 outcome_kind limits task entries o offset kind.Ask wrong = omega arith
@@ -93,13 +98,16 @@ outcome_kind limits task entries o offset kind.Outcome wrong = omega arith
 -- ---- a head that breaks a rule
 
 module _ (limit : ℕ) (task : Task) (r : Report) (line : ℕ) (h : IsHeaded task r (headed.Breaks line)) where
-  not_in_entries : (other : ℕ) (than : BreachKind) → BreaksEntries task r other than → Precedes other than line kind.Head → ⊥
-  not_in_entries other than b (inl lt) = let is = b.is in let upto = h.1 in omega (arith, is, upto, lt)
+  not_in_entries : (other : ℕ) (than : BreachKind) → BreaksEntries task r other than
+      → Precedes other than line kind.Head → ⊥
+  not_in_entries other than b (inl lt) =
+      let is = b.is in let upto = h.1 in omega (arith, is, upto, lt)
   not_in_entries other than b (inr (same, lt)) =
       let least = entry_kind (limits_in task r) task (take b.place r.entries) b.e than b.wrong in
       omega (arith, least, lt)
 
-  not_in_end : (other : ℕ) (than : BreachKind) → BreaksEnd task r other than → Precedes other than line kind.Head → ⊥
+  not_in_end : (other : ℕ) (than : BreachKind) → BreaksEnd task r other than
+      → Precedes other than line kind.Head → ⊥
   not_in_end other than b (inl lt) = let is = b.is in let upto = h.1 in omega (arith, is, upto, lt)
   not_in_end other than b (inr (same, lt)) =
       let least = outcome_kind (limits_in task r) task r.entries r.outcome b.offset than b.wrong in
@@ -119,7 +127,8 @@ module _ (limit : ℕ) (task : Task) (r : Report) (line : ℕ) (h : IsHeaded tas
   pub head_found : IsReportVerdict limit task r (Invalid line kind.Head)
   head_found = record { breach = inl (refl, h.0); first = head_first; decided = λ unsure. ahead (cases_lt line (outcome_line r)) }
     where
-      ahead : (line < outcome_line r) ⊎ (outcome_line r ≤ line) → Precedes line kind.Head (outcome_line r) kind.Outcome
+      ahead : (line < outcome_line r) ⊎ (outcome_line r ≤ line)
+          → Precedes line kind.Head (outcome_line r) kind.Outcome
       ahead (inl lt) = inl lt
       ahead (inr le) = let upto = h.1 in inr (omega (arith, le, upto), omega arith)
 
@@ -130,19 +139,22 @@ module _ (b : Bounds) (r : Report) (limit : ℕ) (bounds : AreBounds b) (head : 
   task = b.task.now
 
   -- the entries so far are turns
-  turns_of : (es : List Entry) (s : Standing) → IsStanding b es s → (stage : Stage) × AreTurnsOf Incremental (limits_by b) task es stage
+  turns_of : (es : List Entry) (s : Standing) → IsStanding b es s
+      → (stage : Stage) × AreTurnsOf Incremental (limits_by b) task es stage
   turns_of es s stands =
       let t = turned (limits_by b) task (length es) bounds.workers [] es at_first (place_in task es s.course) (omega arith) refl refl (λ none. (refl, refl)) stands.leads in
       (t.stage, t.turns)
 
   -- none of them is wrong
-  none_wrong : (es : List Entry) (s : Standing) → IsStanding b es s → (place : ℕ) (e : Entry) (k : BreachKind) → slice_get es place ≡ Some e
+  none_wrong : (es : List Entry) (s : Standing) → IsStanding b es s
+      → (place : ℕ) (e : Entry) (k : BreachKind) → slice_get es place ≡ Some e
       → BreaksEntry (limits_by b) task (take place es) e k → ⊥
   none_wrong es s stands place e k at wrong =
       let turns = turns_of es s stands in
       entry_right (limits_by b) task es turns.0 refl stands.ledger.legal turns.1 place e k at wrong
 
-  by_bounds : (before : List Entry) (e : Entry) (k : BreachKind) → BreaksEntry (limits_in task r) task before e k
+  by_bounds : (before : List Entry) (e : Entry) (k : BreachKind)
+      → BreaksEntry (limits_in task r) task before e k
       → BreaksEntry (limits_by b) task before e k
   by_bounds before e k wrong = subst (λ ls. BreaksEntry ls task before e k) limits wrong
 
@@ -161,13 +173,15 @@ module _ (b : Bounds) (r : Report) (limit : ℕ) (bounds : AreBounds b) (head : 
     before_end : line_behind_pools r + place < outcome_line r
     before_end = let past = lines_past r.entries place place_within in let is = line_is in omega (arith, past, is)
 
-    not_before : (other : ℕ) (than : BreachKind) → (x : BreaksEntries task r other than) → x.place < place → ⊥
+    not_before : (other : ℕ) (than : BreachKind) → (x : BreaksEntries task r other than)
+        → x.place < place → ⊥
     not_before other than x lt =
         let front = get_and_take r.entries x.place place x.e lt x.there in
         none_wrong (take place r.entries) w.before w.standing x.place x.e than front.0
         (subst (λ es. BreaksEntry (limits_by b) task es x.e than) (sym front.1) (by_bounds (take x.place r.entries) x.e than x.wrong))
 
-    not_behind : (other : ℕ) (than : BreachKind) → (x : BreaksEntries task r other than) → place < x.place
+    not_behind : (other : ℕ) (than : BreachKind) → (x : BreaksEntries task r other than)
+        → place < x.place
         → Precedes other than (line_behind_pools r + place) k → ⊥
     not_behind other than x lt before =
         let rise = lines_rise r.entries place x.place place_within lt in
@@ -176,7 +190,8 @@ module _ (b : Bounds) (r : Report) (limit : ℕ) (bounds : AreBounds b) (head : 
         let here = line_is in
         omega (arith, rise, le, is, here)
 
-    not_here : (other : ℕ) (than : BreachKind) → (x : BreaksEntries task r other than) → x.place ≡ place
+    not_here : (other : ℕ) (than : BreachKind) → (x : BreaksEntries task r other than)
+        → x.place ≡ place
         → Precedes other than (line_behind_pools r + place) k → ⊥
     not_here other than x same before =
         w.wrong.first than (smaller before)
@@ -189,7 +204,8 @@ module _ (b : Bounds) (r : Report) (limit : ℕ) (bounds : AreBounds b) (head : 
         entry_is : x.e ≡ w.e
         entry_is = some_is x.e w.e (sym x.there ∙ ap (slice_get r.entries) same ∙ w.there)
 
-        smaller : Precedes other than (line_behind_pools r + place) k → breach_number than < breach_number k
+        smaller : Precedes other than (line_behind_pools r + place) k
+            → breach_number than < breach_number k
         smaller (inl lt) =
             let is = x.is in
             let at : line_of r x.place ≡ line_of r place = ap (line_of r) same in
@@ -199,7 +215,8 @@ module _ (b : Bounds) (r : Report) (limit : ℕ) (bounds : AreBounds b) (head : 
 
     entry_first : NonePrecedes task r (line_behind_pools r + place) k
     entry_first other than (inl (is, wrong)) before = head_right task r other head wrong
-    entry_first other than (inr (inl x)) before = by (cases_lt x.place place) (cases_lt place x.place)
+    entry_first other than (inr (inl x)) before =
+        by (cases_lt x.place place) (cases_lt place x.place)
       where
         by : (x.place < place) ⊎ (place ≤ x.place) → (place < x.place) ⊎ (x.place ≤ place) → ⊥
         by (inl lt) q = not_before other than x lt
@@ -230,7 +247,8 @@ module _ (b : Bounds) (r : Report) (limit : ℕ) (bounds : AreBounds b) (head : 
     outcome_at = let lines = stands.lines in omega (arith, lines)
 
     -- the line that is told is one of the report's
-    pub end_line_few : (offset : ℕ) (k : BreachKind) → IsFound (limits_by b) limit task r.entries r.outcome (finding.Breaks offset k)
+    pub end_line_few : (offset : ℕ) (k : BreachKind)
+        → IsFound (limits_by b) limit task r.entries r.outcome (finding.Breaks offset k)
         → length (lines_of_report r) < 2 ^ 31 → length r.pools + 3 + length r.entries + offset < 2 ^ 31
     end_line_few offset k w short =
         let few = offset_few (limits_by b) limit task r.entries r.version r.outcome offset k w in
@@ -249,7 +267,8 @@ module _ (b : Bounds) (r : Report) (limit : ℕ) (bounds : AreBounds b) (head : 
     states_same : r.states ≡ b.states
     states_same = ap (λ (ls : Limits). ls.states) limits
 
-    pub right_end : IsFound (limits_by b) limit task r.entries r.outcome finding.Holds → IsReportVerdict limit task r Valid
+    pub right_end : IsFound (limits_by b) limit task r.entries r.outcome finding.Holds
+        → IsReportVerdict limit task r Valid
     right_end (end, decided) = (
       record {
         head = head;
@@ -262,19 +281,22 @@ module _ (b : Bounds) (r : Report) (limit : ℕ) (bounds : AreBounds b) (head : 
       λ unsure. decided (subst (λ n. IsUndecidedClaim limit n task r.entries r.outcome) states_same unsure),
     )
 
-    none_ahead : (offset : ℕ) (k : BreachKind) → NoneEarlier (limits_by b) limit task r.entries r.outcome offset k
+    none_ahead : (offset : ℕ) (k : BreachKind)
+        → NoneEarlier (limits_by b) limit task r.entries r.outcome offset k
         → NonePrecedes task r (outcome_line r + offset) k
     none_ahead offset k none other than breach before =
         let at = in_end other than breach in
         none at.0 than at.2 (nearer (outcome_line r) at.0 than offset k (subst (λ l. Precedes l than (outcome_line r + offset) k) at.1 before))
 
-    pub open_end : IsFound (limits_by b) limit task r.entries r.outcome finding.Open → IsReportVerdict limit task r Limit
+    pub open_end : IsFound (limits_by b) limit task r.entries r.outcome finding.Open
+        → IsReportVerdict limit task r Limit
     open_end (unsure, none) = (
       subst (λ n. IsUndecidedClaim limit n task r.entries r.outcome) (sym states_same) unsure,
       subst (λ l. NonePrecedes task r l kind.Outcome) (plus_zero (outcome_line r)) (none_ahead 0 kind.Outcome none),
     )
 
-    pub wrong_end : (offset : ℕ) (k : BreachKind) → IsFound (limits_by b) limit task r.entries r.outcome (finding.Breaks offset k)
+    pub wrong_end : (offset : ℕ) (k : BreachKind)
+        → IsFound (limits_by b) limit task r.entries r.outcome (finding.Breaks offset k)
         → IsReportVerdict limit task r (Invalid (outcome_line r + offset) k)
     wrong_end offset k w =
         record {
@@ -286,34 +308,42 @@ module _ (b : Bounds) (r : Report) (limit : ℕ) (bounds : AreBounds b) (head : 
 
 -- ---- what a head that fits binds
 
-some_worker : (task : Task) (before : List PoolLine) (pool : PoolLine) → is_fit_pool task before pool ≡ true → 1 ≤ pool.workers
+some_worker : (task : Task) (before : List PoolLine) (pool : PoolLine)
+    → is_fit_pool task before pool ≡ true → 1 ≤ pool.workers
 some_worker task before pool fits = leb-true 1 pool.workers (first_of (nat_le 1 pool.workers) (nat_le pool.workers 16) (nat_le (workers_in before + pool.workers) 17) (are_new task (served_by task before) pool.streams) fits)
   where
     first_of : (x y z w : Bool) → (x && y && z && w) ≡ true → x ≡ true
     first_of true y z w e = refl
     first_of false y z w e = absurd (cc)
 
-shared_at : (task : Task) (pools : List PoolLine) (k : ℕ) (p : Share) → slice_get (map (share_in task) pools) k ≡ Some p
+shared_at : (task : Task) (pools : List PoolLine) (k : ℕ) (p : Share)
+    → slice_get (map (share_in task) pools) k ≡ Some p
     → (pool : PoolLine) × (slice_get pools k ≡ Some pool) × (share_in task pool ≡ p)
 shared_at task [] k p at = absurd (cc)
-shared_at task (pool ∷ pools) zero p at = (pool, refl, let same : share_in task pool ≡ p = cc in same)
+shared_at task (pool ∷ pools) zero p at =
+    (pool, refl, let same : share_in task pool ≡ p = cc in same)
 shared_at task (pool ∷ pools) (suc k) p at = shared_at task pools k p at
 
-pub pools_work : (task : Task) (pools : List PoolLine) → AreFitPoolLines task pools → AllWork (map (share_in task) pools)
-pools_work task pools fit = all_by_place (λ (p : Share). 1 ≤ p.workers) (map (share_in task) pools) each
+pub pools_work : (task : Task) (pools : List PoolLine) → AreFitPoolLines task pools
+    → AllWork (map (share_in task) pools)
+pools_work task pools fit =
+    all_by_place (λ (p : Share). 1 ≤ p.workers) (map (share_in task) pools) each
   where
-    worker : (k : ℕ) (p : Share) (pool : PoolLine) → slice_get pools k ≡ Some pool → share_in task pool ≡ p → 1 ≤ p.workers
+    worker : (k : ℕ) (p : Share) (pool : PoolLine) → slice_get pools k ≡ Some pool
+        → share_in task pool ≡ p → 1 ≤ p.workers
     worker k p pool at is = subst (λ (x : Share). 1 ≤ x.workers) is (some_worker task (take k pools) pool (fit k pool at))
 
     each : (k : ℕ) (p : Share) → slice_get (map (share_in task) pools) k ≡ Some p → 1 ≤ p.workers
     each k p at = let there = shared_at task pools k p at in worker k p there.0 there.1 there.2
 
-pub limits_fit : (r : Report) → are_fit_limits r ≡ true → (r.calls ≤ 100000) × (1 ≤ r.states) × (r.states ≤ 200000)
+pub limits_fit : (r : Report) → are_fit_limits r ≡ true
+    → (r.calls ≤ 100000) × (1 ≤ r.states) × (r.states ≤ 200000)
 limits_fit r e =
     let p = six_parts (nat_le 1 r.calls) (nat_le r.calls 100000) (nat_le 1 r.states) (nat_le r.states 200000) (nat_le 1 r.depth) (nat_le r.depth 8) e in
     (leb-true r.calls 100000 p.0, leb-true 1 r.states p.1, leb-true r.states 200000 p.2)
   where
-    six_parts : (u v w x y z : Bool) → (u && v && w && x && y && z) ≡ true → (v ≡ true) × (w ≡ true) × (x ≡ true)
+    six_parts : (u v w x y z : Bool) → (u && v && w && x && y && z) ≡ true
+        → (v ≡ true) × (w ≡ true) × (x ≡ true)
     six_parts true true true true y z e = (refl, refl, refl)
     six_parts true true true false y z e = absurd (cc)
     six_parts true true false x y z e = absurd (cc)

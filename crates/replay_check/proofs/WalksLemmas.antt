@@ -28,11 +28,14 @@ use Rattle.replay_check.specs.declared.entries.Standing.{Standing}
 use Rattle.replay_check.specs.declared.verdict.BreachKind.{BreachKind}
 use Rattle.replay_check.specs.declared.verdict.BreachKind.TheVariants as kind
 
-pub entry_formed : (b : Bounds) (entries : List Entry) (place : ℕ) (s : Standing) (e : Entry) → CanTake b entries place s
+pub entry_formed : (b : Bounds) (entries : List Entry) (place : ℕ) (s : Standing) (e : Entry)
+    → CanTake b entries place s
     → slice_get entries place ≡ Some e → IsFormedEntry b.version e
-entry_formed b entries place s e can there = All-contains (IsFormedEntry b.version) entries e can.formed (member_at entries place e there)
+entry_formed b entries place s e can there =
+    All-contains (IsFormedEntry b.version) entries e can.formed (member_at entries place e there)
 
-pub not_ask : (e : Entry) → ((n turn : ℕ) (call : Call) → e ≡ entry.Ask n turn call → ⊥) → is_ask e ≡ false
+pub not_ask : (e : Entry) → ((n turn : ℕ) (call : Call) → e ≡ entry.Ask n turn call → ⊥)
+    → is_ask e ≡ false
 not_ask (entry.Ask n turn call) other = absurd (other n turn call refl)
 not_ask (entry.Got m tuples values) other = refl
 not_ask (entry.Value m value) other = refl
@@ -46,12 +49,16 @@ not_ask (entry.Retire m) other = refl
 
 module _ (b : Bounds) (entries : List Entry) (place : ℕ) (s : Standing) (can : CanTake b entries place s) (e : Entry) (there : slice_get entries place ≡ Some e) where
   -- the entry is wrong, where the judge stands
-  pub is_wrong : (k : BreachKind) → IsWrong (limits_by b) b.task.now (take place entries) e k → IsWrongAt b entries place k
-  is_wrong k wrong = record { before = s; standing = can.standing; e = e; there = there; wrong = wrong }
+  pub is_wrong : (k : BreachKind) → IsWrong (limits_by b) b.task.now (take place entries) e k
+      → IsWrongAt b entries place k
+  is_wrong k wrong =
+      record { before = s; standing = can.standing; e = e; there = there; wrong = wrong }
 
   -- the judge stands behind it
-  pub is_taken : (new : Standing) → IsStanding b (take place entries ++ e ∷ []) new → IsStanding b (take (place + 1) entries) new
-  is_taken new stands = subst (λ es. IsStanding b es new) (sym (take_next entries place e there)) stands
+  pub is_taken : (new : Standing) → IsStanding b (take place entries ++ e ∷ []) new
+      → IsStanding b (take (place + 1) entries) new
+  is_taken new stands =
+      subst (λ es. IsStanding b es new) (sym (take_next entries place e there)) stands
 
   pub few_asked : length s.ledger.asked.items ≤ 100000
   few_asked =
@@ -63,14 +70,17 @@ module _ (b : Bounds) (entries : List Entry) (place : ℕ) (s : Standing) (can :
 -- ---- requests
 
 module _ (b : Bounds) (entries : List Entry) (place : ℕ) (s : Standing) (can : CanTake b entries place s) (number turn : ℕ) (call : Call) (there : slice_get entries place ≡ Some (entry.Ask number turn call)) where
-  ask_refused : IsAskedBy b.calls b.task.now (take place entries) number turn call None → IsWrongAt b entries place kind.Ask
+  ask_refused : IsAskedBy b.calls b.task.now (take place entries) number turn call None
+      → IsWrongAt b entries place kind.Ask
   ask_refused refused = is_wrong b entries place s can (entry.Ask number turn call) there kind.Ask (wrong_ask (limits_by b) b.task.now (take place entries) (entry.Ask number turn call) refl refused)
 
-  pub ask_is_refused : (asked : Option Instance) → asked ≡ None → IsAskedBy b.calls b.task.now (take place entries) number turn call asked
+  pub ask_is_refused : (asked : Option Instance) → asked ≡ None
+      → IsAskedBy b.calls b.task.now (take place entries) number turn call asked
       → IsWrongAt b entries place kind.Ask
   ask_is_refused asked none said = ask_refused (subst (IsAskedBy b.calls b.task.now (take place entries) number turn call) none said)
 
-  pub ask_out_of_order : (i : Instance) → IsAskedBy b.calls b.task.now (take place entries) number turn call (Some i)
+  pub ask_out_of_order : (i : Instance)
+      → IsAskedBy b.calls b.task.now (take place entries) number turn call (Some i)
       → ¬ (IsNextRequest b.task.now s.ledger s.course number turn call) → IsWrongAt b entries place kind.Order
   ask_out_of_order i said other =
       is_wrong b entries place s can (entry.Ask number turn call) there kind.Order
@@ -78,7 +88,8 @@ module _ (b : Bounds) (entries : List Entry) (place : ℕ) (s : Standing) (can :
       (λ begun. other (next_request (limits_by b) b.task.now (take place entries) s.ledger s.course refl can.standing number turn call begun)))
 
   -- the request has the next number, of which there are as many as calls at the most
-  pub ask_number : (i : Instance) → IsAskedBy b.calls b.task.now (take place entries) number turn call (Some i)
+  pub ask_number : (i : Instance)
+      → IsAskedBy b.calls b.task.now (take place entries) number turn call (Some i)
       → (number ≡ length s.ledger.asked.items + 1) × (length s.ledger.asked.items < 100000)
   ask_number i said =
       let next = said.0.next in
@@ -99,7 +110,8 @@ module _ (b : Bounds) (entries : List Entry) (place : ℕ) (s : Standing) (can :
 -- ---- answers
 
 module _ (b : Bounds) (entries : List Entry) (place : ℕ) (s : Standing) (can : CanTake b entries place s) (n : ℕ) (e : Entry) (there : slice_get entries place ≡ Some e) (is : answered_number e ≡ Some n) where
-  pub answer_refused : ¬ (MayFollow b.version b.task.now (take place entries) e) → IsWrongAt b entries place kind.Answer
+  pub answer_refused : ¬ (MayFollow b.version b.task.now (take place entries) e)
+      → IsWrongAt b entries place kind.Answer
   answer_refused bad =
       let kinds = answer_is e n is in
       is_wrong b entries place s can e there kind.Answer (wrong_answer (limits_by b) b.task.now (take place entries) e kinds.0 kinds.1 bad)
@@ -112,12 +124,14 @@ module _ (b : Bounds) (entries : List Entry) (place : ℕ) (s : Standing) (can :
       (wrong_order (limits_by b) b.task.now (take place entries) e (λ ask. absurd (false≢true (sym kinds.1 ∙ ask))) (λ answer. may)
       (λ begun. other (next_answer (limits_by b) b.task.now (take place entries) s.ledger s.course refl can.standing e n is begun)))
 
-  pub answer_taken : (new : Standing) → MayFollow b.version b.task.now (take place entries) e → n ≡ s.course.next → s.course.to_ask ≡ []
+  pub answer_taken : (new : Standing) → MayFollow b.version b.task.now (take place entries) e
+      → n ≡ s.course.next → s.course.to_ask ≡ []
       → 0 < s.course.answers → IsLedger b.version b.task.now (take (place + 1) entries) new.ledger
       → (1 < s.course.answers → new.course ≡ with_answer s.course)
       → (s.course.answers ≡ 1 → Starts (shares_of b.shares.now) s.course.later (s.course.next + 1) s.course.is_cut new.course)
       → IsStanding b (take (place + 1) entries) new
-  answer_taken new may next none some ledger more last = is_taken b entries place s can e there new (by (cases_lt 1 s.course.answers))
+  answer_taken new may next none some ledger more last =
+      is_taken b entries place s can e there new (by (cases_lt 1 s.course.answers))
     where
       here : IsLedger b.version b.task.now (take place entries ++ e ∷ []) new.ledger
       here = subst (λ es. IsLedger b.version b.task.now es new.ledger) (take_next entries place e there) ledger
@@ -132,7 +146,8 @@ module _ (b : Bounds) (entries : List Entry) (place : ℕ) (s : Standing) (can :
 -- ---- levels
 
 module _ (b : Bounds) (entries : List Entry) (place : ℕ) (s : Standing) (can : CanTake b entries place s) (there : slice_get entries place ≡ Some entry.Level) where
-  level_wrong : ¬ (AreBegun (limits_by b) b.task.now (take place entries ++ entry.Level ∷ [])) → IsWrongAt b entries place kind.Order
+  level_wrong : ¬ (AreBegun (limits_by b) b.task.now (take place entries ++ entry.Level ∷ []))
+      → IsWrongAt b entries place kind.Order
   level_wrong bad = is_wrong b entries place s can entry.Level there kind.Order (wrong_order (limits_by b) b.task.now (take place entries) entry.Level (λ is. absurd (false≢true is)) (λ is. absurd (false≢true is)) bad)
 
   -- something is to do, or calls were wanting, or none is left
@@ -141,22 +156,26 @@ module _ (b : Bounds) (entries : List Entry) (place : ℕ) (s : Standing) (can :
   level_early busy =
       level_wrong (λ begun. begins (next_level (limits_by b) b.task.now (take place entries) s.ledger s.course refl can.standing begun))
     where
-      begins : (s.course.answers ≡ 0) × (s.course.is_cut ≡ false) × MayBegin (limits_by b) b.task.now (take place entries) → ⊥
+      begins : (s.course.answers ≡ 0) × (s.course.is_cut ≡ false) × MayBegin (limits_by b) b.task.now (take place entries)
+          → ⊥
       begins (resting, uncut, may) =
           let counted = can.standing.ledger.counted in let left = may.left in busy (resting, uncut, omega (arith, counted, left))
 
   -- too much is due
-  pub level_too_great : MoreAreDue 1000000 b.task.now s.ledger.facts.known s.ledger.queue → IsWrongAt b entries place kind.Order
+  pub level_too_great : MoreAreDue 1000000 b.task.now s.ledger.facts.known s.ledger.queue
+      → IsWrongAt b entries place kind.Order
   level_too_great more =
       level_wrong (λ begun. many_begin (limits_by b) b.task.now (take place entries) s.ledger s.course refl can.standing more (next_level (limits_by b) b.task.now (take place entries) s.ledger s.course refl can.standing begun).2)
 
   -- nothing is due
-  pub level_of_none : (dues : List Due) → length dues ≡ 0 → AreDueInTurn b.task.now s.ledger.facts.known s.ledger.queue dues
+  pub level_of_none : (dues : List Due) → length dues ≡ 0
+      → AreDueInTurn b.task.now s.ledger.facts.known s.ledger.queue dues
       → IsWrongAt b entries place kind.Order
   level_of_none dues none turn =
       level_wrong (λ begun. none_begins (limits_by b) b.task.now (take place entries) s.ledger s.course refl can.standing dues none turn (next_level (limits_by b) b.task.now (take place entries) s.ledger s.course refl can.standing begun).2)
 
-  pub level_taken : (new : Standing) (dues : List Due) (before : ℕ) → new.ledger ≡ s.ledger → s.course.answers ≡ 0 → s.course.is_cut ≡ false
+  pub level_taken : (new : Standing) (dues : List Due) (before : ℕ) → new.ledger ≡ s.ledger
+      → s.course.answers ≡ 0 → s.course.is_cut ≡ false
       → AreDueInTurn b.task.now s.ledger.facts.known s.ledger.queue dues → 0 < length dues → before ≡ length s.ledger.asked.items
       → before < b.calls
       → Starts (shares_of b.shares.now) (take (b.calls - before) (instances_of dues)) (before + 1) (nat_lt (b.calls - before) (length dues)) new.course

@@ -52,7 +52,8 @@ AreBegun limits task entries = (stage : Stage) × AreTurnsOf limits.mode limits 
 -- A request that may not be made; an answer that may not be given; an entry with which no turn goes on.
 abbrev pub BreaksEntry : Limits → Task → List Entry → Entry → BreachKind → Type 0
 BreaksEntry limits task before e kind.Ask = (is_ask e ≡ true) × ¬ (MayAsk limits task before e)
-BreaksEntry limits task before e kind.Answer = (is_answer e ≡ true) × ¬ (MayFollow limits.version task before e)
+BreaksEntry limits task before e kind.Answer =
+    (is_answer e ≡ true) × ¬ (MayFollow limits.version task before e)
 BreaksEntry limits task before e kind.Order = ¬ (AreBegun limits task (before ++ e ∷ []))
 BreaksEntry limits task before e other = ⊥
 
@@ -83,18 +84,21 @@ pub record BreaksFrom (version : ℕ) (entries : List Entry) (calls : List Call)
 
 -- So many lines behind the plan's first: a step that can't be taken, or a plan that doesn't reach the goal, which is told with its
 -- cost; a wrong cost; a wrong origin.
-abbrev pub BreaksPlan : Limits → Task → List Entry → List Call → ℕ → List Origin → ℕ → BreachKind → Type 0
+abbrev pub BreaksPlan : Limits → Task → List Entry → List Call → ℕ → List Origin → ℕ → BreachKind
+    → Type 0
 BreaksPlan limits task entries calls cost from offset kind.Plan =
     BreaksStep task entries calls offset
     ⊎ ((offset ≡ length calls + 1) × ((other : ℕ) → ¬ (IsPlan task entries calls other)))
 BreaksPlan limits task entries calls cost from offset kind.Cost =
     (offset ≡ length calls + 1) × ¬ (IsPlan task entries calls cost)
-BreaksPlan limits task entries calls cost from offset kind.From = BreaksFrom limits.version entries calls from offset
+BreaksPlan limits task entries calls cost from offset kind.From =
+    BreaksFrom limits.version entries calls from offset
 BreaksPlan limits task entries calls cost from offset other = ⊥
 
 -- the outcome's claim is false
 abbrev pub BreaksClaim : Limits → Task → List Entry → Outcome → ℕ → BreachKind → Type 0
-BreaksClaim limits task entries o offset kind.Outcome = (offset ≡ 0) × ¬ (IsTrueOutcome limits task entries o)
+BreaksClaim limits task entries o offset kind.Outcome =
+    (offset ≡ 0) × ¬ (IsTrueOutcome limits task entries o)
 BreaksClaim limits task entries o offset other = ⊥
 
 -- what the outcome says is wrong
@@ -105,11 +109,13 @@ BreaksSaid limits task entries o offset k = BreaksClaim limits task entries o of
 
 -- The outcome stands inside a turn, or behind a batch that was cut. The limit of calls is false there, and so has the other kind.
 abbrev pub IsMisplaced : Limits → Task → List Entry → Outcome → Type 0
-IsMisplaced limits task entries o = ¬ (o ≡ outcome.Limit Calls) × ¬ (AreTurnsOf limits.mode limits task entries between)
+IsMisplaced limits task entries o =
+    ¬ (o ≡ outcome.Limit Calls) × ¬ (AreTurnsOf limits.mode limits task entries between)
 
 -- the line of the outcome that is so many behind its first is wrong so
 abbrev pub BreaksOutcome : Limits → Task → List Entry → Outcome → ℕ → BreachKind → Type 0
-BreaksOutcome limits task entries o offset kind.Order = (offset ≡ 0) × IsMisplaced limits task entries o
+BreaksOutcome limits task entries o offset kind.Order =
+    (offset ≡ 0) × IsMisplaced limits task entries o
 BreaksOutcome limits task entries o offset k = BreaksSaid limits task entries o offset k
 
 pub record BreaksEnd (task : Task) (r : Report) (line : ℕ) (k : BreachKind) : Type 0 where

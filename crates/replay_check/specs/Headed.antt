@@ -21,10 +21,12 @@ pub record IsAfter (task : Task) (pools : List PoolLine) (b : Before) : Type 0 w
 
 -- the next pool fits, and was passed; or it doesn't fit
 abbrev pub IsPassed : Task → List PoolLine → PoolLine → Before → Bool → Type 0
-IsPassed task before pool b true = (is_fit_pool task before pool ≡ true) × IsAfter task (before ++ pool ∷ []) b
+IsPassed task before pool b true =
+    (is_fit_pool task before pool ≡ true) × IsAfter task (before ++ pool ∷ []) b
 IsPassed task before pool b false = is_fit_pool task before pool ≡ false
 
 abbrev pub IsHeaded : Task → Report → Headed → Type 0
-IsHeaded task r (Fits shares) = IsFitHead task r × (shares_of shares.items ≡ map (share_in task) r.pools)
+IsHeaded task r (Fits shares) =
+    IsFitHead task r × (shares_of shares.items ≡ map (share_in task) r.pools)
 IsHeaded task r (Breaks line) =
     BreaksHead task r line × (line ≤ line_behind_pools r) × ((other : ℕ) → BreaksHead task r other → line ≤ other)

@@ -20,4 +20,5 @@ outcome_line r = line_behind_pools r + length (flat_map entry_lines r.entries)
 
 -- Of two breaches the one in the earlier line is told, and in one line the one of the smaller kind.
 abbrev pub Precedes : ℕ → BreachKind → ℕ → BreachKind → Type 0
-Precedes line kind other than = (line < other) ⊎ ((line ≡ other) × (breach_number kind < breach_number than))
+Precedes line kind other than =
+    (line < other) ⊎ ((line ≡ other) × (breach_number kind < breach_number than))

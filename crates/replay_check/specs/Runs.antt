@@ -57,7 +57,8 @@ pub record DiffersAt (version : ℕ) (entries : List Entry) (calls : List Call) 
 
 -- what is said of a plan, by the first thing that is wrong with it
 abbrev pub IsPlanned : ℕ → Task → List Entry → List Call → ℕ → List Origin → Planned → Type 0
-IsPlanned version task entries calls cost from Right = IsTruePlan version task entries calls cost from
+IsPlanned version task entries calls cost from Right =
+    IsTruePlan version task entries calls cost from
 IsPlanned version task entries calls cost from (Stuck place) = StopsAtStep task entries calls place
 IsPlanned version task entries calls cost from NoGoal =
     CanRun task entries calls × ((other : ℕ) → ¬ (IsPlan task entries calls other))

@@ -54,7 +54,8 @@ IsStanding b entries s = StandsBehind (limits_by b) b.task.now entries s.ledger 
 -- the entry is wrong so, and in no way of a smaller kind
 pub record IsWrong (limits : Limits) (task : Task) (before : List Entry) (e : Entry) (k : BreachKind) : Type 0 where
   pub breaks : BreaksEntry limits task before e k
-  pub first : (other : BreachKind) → breach_number other < breach_number k → ¬ (BreaksEntry limits task before e other)
+  pub first : (other : BreachKind) → breach_number other < breach_number k
+      → ¬ (BreaksEntry limits task before e other)
 
 -- the request is the next of the open round
 pub record IsNextRequest (task : Task) (l : Ledger) (a : Agenda) (number turn : ℕ) (call : Call) : Type 0 where

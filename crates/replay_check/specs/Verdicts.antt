@@ -62,7 +62,8 @@ pub record IsFirstBreach (limit : ℕ) (task : Task) (r : Report) (line : ℕ) (
 abbrev pub IsReportVerdict : ℕ → Task → Report → Verdict → Type 0
 IsReportVerdict limit task r Valid = IsRightReport task r × ¬ (IsUndecided limit task r)
 IsReportVerdict limit task r (Invalid line k) = IsFirstBreach limit task r line k
-IsReportVerdict limit task r Limit = IsUndecided limit task r × NonePrecedes task r (outcome_line r) kind.Outcome
+IsReportVerdict limit task r Limit =
+    IsUndecided limit task r × NonePrecedes task r (outcome_line r) kind.Outcome
 
 -- ---- texts
 

@@ -33,7 +33,8 @@ use Rattle.report_text.proofs.FormsNameLemmas.{names_formed}
 
 -- ---- names
 
-placed_formed : (names more : List (List ℕ)) (objects : List ℕ) → All IsObject names → places_of names more ≡ Some objects
+placed_formed : (names more : List (List ℕ)) (objects : List ℕ) → All IsObject names
+    → places_of names more ≡ Some objects
     → All IsObject more
 placed_formed names [] objects all is = All-nil IsObject
 placed_formed names (name ∷ more) objects all is =
@@ -48,7 +49,8 @@ no_width : (tuples outputs : ℕ) → 1 ≤ tuples → tuples * outputs ≡ 0 �
 no_width zero outputs some none = absurd (omega (arith, some))
 no_width (suc t) outputs some none = omega (arith, none)
 
-tuples_formed : (version outputs tuples : ℕ) (values : List (List ℕ)) → IsRight outputs (has_several version) tuples values
+tuples_formed : (version outputs tuples : ℕ) (values : List (List ℕ))
+    → IsRight outputs (has_several version) tuples values
     → AreTuples version tuples values
 tuples_formed version outputs tuples values right = record {
   some = right.some;
@@ -75,11 +77,14 @@ module _ (version : ℕ) (task : Task) (fit : IsFit task) (entries : List Entry)
       asked_few n (subst (λ es. list_any (is_ask_of n) es ≡ true) (take-append-drop k entries) (any_append_left (is_ask_of n) (take k entries) (drop k entries) there))
 
   -- an answer's number is one of a request's
-  pub answer_few : (k number tuples : ℕ) (values : List (List ℕ)) → slice_get entries k ≡ Some (entry.Got number tuples values)
+  pub answer_few : (k number tuples : ℕ) (values : List (List ℕ))
+      → slice_get entries k ≡ Some (entry.Got number tuples values)
       → number ≤ 100000
-  answer_few k number tuples values at = open_few k number (legal k (entry.Got number tuples values) at).waiting
+  answer_few k number tuples values at =
+      open_few k number (legal k (entry.Got number tuples values) at).waiting
 
-  call_formed : (k : ℕ) (call : Call) (i : Instance) → instance_of task (names_of task (take k entries)) call ≡ Some i
+  call_formed : (k : ℕ) (call : Call) (i : Instance)
+      → instance_of task (names_of task (take k entries)) call ≡ Some i
       → IsFormedCall IsObject call
   call_formed k call i named =
       let names = names_of task (take k entries) in
@@ -91,7 +96,8 @@ module _ (version : ℕ) (task : Task) (fit : IsFit task) (entries : List Entry)
       let stream_name = all_at is_name (map (λ (s : Stream). s.name) task.streams) first.0 place.0.name fit.streams.names.each there in
       record { name = ap is_name same ∙ stream_name; args = placed_formed names call.args second.0 (names_formed version task fit (take k entries) (legal_take version task entries k legal)) second.1 }
 
-  pub entry_formed : (k : ℕ) (e : Entry) → slice_get entries k ≡ Some e → is_plain e ≡ true → IsFormedEntry version e
+  pub entry_formed : (k : ℕ) (e : Entry) → slice_get entries k ≡ Some e → is_plain e ≡ true
+      → IsFormedEntry version e
   entry_formed k (entry.Ask number turn call) at plain =
       let right = legal k (entry.Ask number turn call) at in
       let yields = yields_few version task (take k entries) right.instance (legal_take version task entries k legal) in
@@ -105,6 +111,7 @@ module _ (version : ℕ) (task : Task) (fit : IsFit task) (entries : List Entry)
   entry_formed k (entry.Value number value) at plain =
       let right = legal k (entry.Value number value) at in
       (omega (arith, open_few k number right.waiting), right.few)
-  entry_formed k (entry.End number) at plain = omega (arith, open_few k number (legal k (entry.End number) at))
+  entry_formed k (entry.End number) at plain =
+      omega (arith, open_few k number (legal k (entry.End number) at))
   entry_formed k entry.Level at plain = tt
   entry_formed k e at plain = absurd (cc)

@@ -55,10 +55,12 @@ steps_few version cost calls from =
 -- ---- steps
 
 module _ (version : ℕ) (task : Task) (fit : IsFit task) (entries : List Entry) (legal : IsLegal version task entries) where
-  name_formed : (object : ℕ) → IsIn (names_of task entries) object → IsObject (name_at (names_of task entries) object)
+  name_formed : (object : ℕ) → IsIn (names_of task entries) object
+      → IsObject (name_at (names_of task entries) object)
   name_formed object within = by (slice_get (names_of task entries) object) refl within
     where
-      by : (o : Option (List ℕ)) → slice_get (names_of task entries) object ≡ o → IsSome o → IsObject (unwrap_or o [])
+      by : (o : Option (List ℕ)) → slice_get (names_of task entries) object ≡ o → IsSome o
+          → IsObject (unwrap_or o [])
       by (Some name) at here = All-contains IsObject (names_of task entries) name (names_formed version task fit entries legal) (member_at (names_of task entries) object name at)
       by None at here = absurd (cc)
 
@@ -77,13 +79,15 @@ module _ (version : ℕ) (task : Task) (fit : IsFit task) (entries : List Entry)
           let there = slice_get-map (λ (x : Action). x.name) task.domain.actions k ∙ ap (option_map (λ (x : Action). x.name)) at in
           ap is_name named ∙ all_at is_name (map (λ (x : Action). x.name) task.domain.actions) k a.name fit.domain.action_names.each there
 
-  calls_formed : (steps : List GroundAction) → All (λ (s : GroundAction). s.action < length task.domain.actions) steps
+  calls_formed : (steps : List GroundAction)
+      → All (λ (s : GroundAction). s.action < length task.domain.actions) steps
       → All (λ (s : GroundAction). All (IsIn (names_of task entries)) s.args) steps
       → All (IsFormedCall IsTerm) (map (call_of_step task (names_of task entries)) steps)
   calls_formed steps actions objects =
       All-map (IsFormedCall IsTerm) (call_of_step task (names_of task entries)) steps (all_by_place _ steps one)
     where
-      one : (k : ℕ) (s : GroundAction) → slice_get steps k ≡ Some s → IsFormedCall IsTerm (call_of_step task (names_of task entries) s)
+      one : (k : ℕ) (s : GroundAction) → slice_get steps k ≡ Some s
+          → IsFormedCall IsTerm (call_of_step task (names_of task entries) s)
       one k s at =
           let there = member_at steps k s at in
           let args = All-contains (λ (x : GroundAction). All (IsIn (names_of task entries)) x.args) steps s objects there in
@@ -108,7 +112,8 @@ has_at number value [] has = absurd (cc)
 has_at number value (entry.Got n tuples values ∷ xs) has =
     by ((number == n) && list_any (same_numbers value) values) refl has (has_at number value xs)
   where
-    by : (b : Bool) → ((number == n) && list_any (same_numbers value) values) ≡ b → (b || has_value xs number value) ≡ true
+    by : (b : Bool) → ((number == n) && list_any (same_numbers value) values) ≡ b
+        → (b || has_value xs number value) ≡ true
         → (has_value xs number value ≡ true → (k : ℕ) × (e : Entry) × (slice_get xs k ≡ Some e) × (has_value (e ∷ []) number value ≡ true))
         → (k : ℕ) × (e : Entry) × (slice_get (entry.Got n tuples values ∷ xs) k ≡ Some e) × (has_value (e ∷ []) number value ≡ true)
     by true here all later = (0, entry.Got n tuples values, refl, (rw here refl))
@@ -117,7 +122,8 @@ has_at number value (x ∷ xs) has = let r = has_at number value xs has in (suc 
 
 module _ (version : ℕ) (task : Task) (fit : IsFit task) (entries : List Entry) (legal : IsLegal version task entries) (few : AreFew entries) where
   -- the value is one of an answer's, and the request is one that was made
-  given : (number : ℕ) (value : List ℕ) (k : ℕ) (e : Entry) → slice_get entries k ≡ Some e → has_value (e ∷ []) number value ≡ true
+  given : (number : ℕ) (value : List ℕ) (k : ℕ) (e : Entry) → slice_get entries k ≡ Some e
+      → has_value (e ∷ []) number value ≡ true
       → (is_value value ≡ true) × (number ≤ 100000)
   given number value k (entry.Got n tuples values) at has =
       let parts = from_or_false ((number == n) && list_any (same_numbers value) values) has in
@@ -129,14 +135,18 @@ module _ (version : ℕ) (task : Task) (fit : IsFit task) (entries : List Entry)
       (ap is_value is ∙ all_at is_value values there.0 there.1 valid there.2, omega (arith, same, most))
   given number value k e at has = absurd (cc)
 
-  value_given : (number : ℕ) (value : List ℕ) → has_value entries number value ≡ true → (is_value value ≡ true) × (number ≤ 100000)
+  value_given : (number : ℕ) (value : List ℕ) → has_value entries number value ≡ true
+      → (is_value value ≡ true) × (number ≤ 100000)
   value_given number value has = let there = has_at number value entries has in given number value there.0 there.1 there.2 there.3
 
-  tuples_long : (width tuples : ℕ) (values : List (List ℕ)) → length (tuples_in width tuples values) ≡ tuples
+  tuples_long : (width tuples : ℕ) (values : List (List ℕ))
+      → length (tuples_in width tuples values) ≡ tuples
   tuples_long width zero values = refl
-  tuples_long width (suc tuples) values = let rest = tuples_long width tuples (drop width values) in omega (arith, rest)
+  tuples_long width (suc tuples) values =
+      let rest = tuples_long width tuples (drop width values) in omega (arith, rest)
 
-  tuple_few : (value : List ℕ) (number tuple k : ℕ) (e : Entry) → slice_get entries k ≡ Some e → tuple_with value number e ≡ Some tuple
+  tuple_few : (value : List ℕ) (number tuple k : ℕ) (e : Entry) → slice_get entries k ≡ Some e
+      → tuple_with value number e ≡ Some tuple
       → tuple ≤ 16
   tuple_few value number tuple k (entry.Got n tuples values) at is =
       let list = tuples_in (length values / tuples) tuples values in
@@ -165,7 +175,8 @@ module _ (version : ℕ) (task : Task) (fit : IsFit task) (entries : List Entry)
 
   -- ---- outcomes
 
-  pub outcome_formed : (limits : Limits) → limits.version ≡ version → (o : Outcome) → IsTrueOutcome limits task entries o → HasRoom o
+  pub outcome_formed : (limits : Limits) → limits.version ≡ version → (o : Outcome)
+      → IsTrueOutcome limits task entries o → HasRoom o
       → length (lines_text (outcome_lines version o)) < 2 ^ 31 → IsFormedOutcome version o
   outcome_formed limits same (outcome.Plan calls cost from) plan room short =
       let steps = steps_few version cost calls from in

@@ -36,8 +36,11 @@ pub record ArePlain (es : List Entry) (many : ℕ) : Type 0 where
   pub answers : count_by is_answer es ≡ many
   pub asks : asks_of es ≡ many
 
-joined_plain : (xs ys : List Entry) → list_all is_plain xs ≡ true → list_all is_plain ys ≡ true → list_all is_plain (xs ++ ys) ≡ true
-joined_plain xs ys first second = list_all-append is_plain xs ys ∙ and_from (list_all is_plain xs) (list_all is_plain ys) first second
+joined_plain : (xs ys : List Entry) → list_all is_plain xs ≡ true → list_all is_plain ys ≡ true
+    → list_all is_plain (xs ++ ys) ≡ true
+joined_plain xs ys first second =
+    list_all-append is_plain xs ys
+    ∙ and_from (list_all is_plain xs) (list_all is_plain ys) first second
 
 requests_plain : (task : Task) (before : List Entry) (number : ℕ) (is : List Instance)
     → list_all is_plain (requests_from task before number is) ≡ true
@@ -94,7 +97,8 @@ rounds_plain limits task (round ∷ rounds) list before es (rest, parts, some, f
     })
 
 -- whether or not the batch was cut, a level has as many answers as requests
-level_plain : (limits : Limits) (task : Task) (before now : List Entry) (cut : Bool) → IsLevel limits task before now cut
+level_plain : (limits : Limits) (task : Task) (before now : List Entry) (cut : Bool)
+    → IsLevel limits task before now cut
     → ArePlain now (asks_of now)
 level_plain limits task before now cut level =
     let marked = before ++ entry.Level ∷ [] in
@@ -106,15 +110,18 @@ level_plain limits task before now cut level =
 -- Turns none of which stops inside have as many answers as requests.
 pub turns_plain : (limits : Limits) (task : Task) (kept : Unit {0}) (before es : List Entry) (stage : Stage)
     → AreTurns limits task (IncrementalTurn limits task) kept before es stage → ¬ (stage ≡ inside) → ArePlain es (asks_of es)
-turns_plain limits task kept before es stage none_left resting = record { plain = refl; answers = refl; asks = refl }
+turns_plain limits task kept before es stage none_left resting =
+    record { plain = refl; answers = refl; asks = refl }
 turns_plain limits task kept before es stage (whole next {now = now} {rest = rest} may turn more) resting =
     let here = level_plain limits task before now false turn in
     let later = turns_plain limits task next (before ++ now) rest stage more resting in
     let count = count_joined is_answer now rest in
     let asks = asks_more now rest in
     record { plain = joined_plain now rest here.plain later.plain; answers = omega (arith, here.answers, later.answers, count, asks); asks = refl }
-turns_plain limits task kept before es stage (cut_off next may turn) resting = level_plain limits task before es true turn
-turns_plain limits task kept before es stage (stopped next more cut may turn) resting = absurd (resting refl)
+turns_plain limits task kept before es stage (cut_off next may turn) resting =
+    level_plain limits task before es true turn
+turns_plain limits task kept before es stage (stopped next more cut may turn) resting =
+    absurd (resting refl)
 
 -- ---- how often an instance has yielded
 
@@ -131,21 +138,25 @@ notes_few f (x ∷ xs) each =
     let sizes = length-append (f x) (flat_map f xs) in
     omega (arith, here, rest, count, one, sizes)
 
-told_few : (version : ℕ) (task : Task) (entries before : List Entry) (e : Entry) → MayFollow version task before e
+told_few : (version : ℕ) (task : Task) (entries before : List Entry) (e : Entry)
+    → MayFollow version task before e
     → length (note_of task entries e) ≤ 16 * cond (is_answer e) 1 0
 told_few version task entries before (entry.Got n tuples values) may = by (asked task entries n)
   where
-    by : (o : Option Asked) → length (option_map_or (λ (a : Asked). replicate tuples (Yielded a.instance)) o []) ≤ 16 * cond true 1 0
+    by : (o : Option Asked)
+        → length (option_map_or (λ (a : Asked). replicate tuples (Yielded a.instance)) o []) ≤ 16 * cond true 1 0
     by None = omega arith
     by (Some a) = omega (arith, length-replicate tuples (Yielded a.instance), may.right.few)
 told_few version task entries before (entry.Value n value) may = by (asked task entries n)
   where
-    by : (o : Option Asked) → length (option_map_or (λ (a : Asked). Ended a.instance ∷ []) o []) ≤ 16 * cond true 1 0
+    by : (o : Option Asked)
+        → length (option_map_or (λ (a : Asked). Ended a.instance ∷ []) o []) ≤ 16 * cond true 1 0
     by None = omega arith
     by (Some a) = omega arith
 told_few version task entries before (entry.End n) may = by (asked task entries n)
   where
-    by : (o : Option Asked) → length (option_map_or (λ (a : Asked). Ended a.instance ∷ []) o []) ≤ 16 * cond true 1 0
+    by : (o : Option Asked)
+        → length (option_map_or (λ (a : Asked). Ended a.instance ∷ []) o []) ≤ 16 * cond true 1 0
     by None = omega arith
     by (Some a) = omega arith
 told_few version task entries before e may = omega arith
@@ -163,7 +174,8 @@ count_few f (x ∷ xs) =
     at_most true = omega arith
     at_most false = omega arith
 
-pub yields_few : (version : ℕ) (task : Task) (entries : List Entry) (i : Instance) → IsLegal version task entries
+pub yields_few : (version : ℕ) (task : Task) (entries : List Entry) (i : Instance)
+    → IsLegal version task entries
     → yields_of (notes_of task entries) i ≤ 16 * count_by is_answer entries
 yields_few version task entries i legal =
     let few = count_few (is_yield_of i) (notes_of task entries) in

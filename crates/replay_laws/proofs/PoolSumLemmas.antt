@@ -33,10 +33,12 @@ module _ {A : Type 0} where
   sum_next : (f : A → ℕ) (x : A) (xs : List A) → sum_by f (x ∷ xs) ≡ f x + sum_by f xs
   sum_next f x xs = omega (arith, sum_by-append f (x ∷ []) xs)
 
-  count_next : (f : A → Bool) (x : A) (xs : List A) → count_by f (x ∷ xs) ≡ cond (f x) 1 0 + count_by f xs
+  count_next : (f : A → Bool) (x : A) (xs : List A)
+      → count_by f (x ∷ xs) ≡ cond (f x) 1 0 + count_by f xs
   count_next f x xs = count_joined f (x ∷ []) xs ∙ ap (λ n. n + count_by f xs) (count_one f x)
 
-  count_none : (f : A → Bool) (xs : List A) → ((k : ℕ) (x : A) → slice_get xs k ≡ Some x → f x ≡ true → ⊥) → count_by f xs ≡ 0
+  count_none : (f : A → Bool) (xs : List A)
+      → ((k : ℕ) (x : A) → slice_get xs k ≡ Some x → f x ≡ true → ⊥) → count_by f xs ≡ 0
   count_none f [] none = refl
   count_none f (x ∷ xs) none =
       let rest = count_none f xs (λ k y at. none (suc k) y at) in
@@ -61,7 +63,8 @@ module _ {A : Type 0} where
           let here : cond {A = ℕ} (f x) 1 0 ≡ 0 = ap (λ b. cond {A = ℕ} b 1 0) e in
           omega (arith, count_next f x xs, rest, here)
 
-sum_more : (m : ℕ) (all : List Workers) → sum_by (cover (suc m)) all ≤ sum_by (cover m) all + count_by (has m) all
+sum_more : (m : ℕ) (all : List Workers)
+    → sum_by (cover (suc m)) all ≤ sum_by (cover m) all + count_by (has m) all
 sum_more m [] = omega arith
 sum_more m (p ∷ all) =
     omega (arith, sum_next (cover (suc m)) p all, sum_next (cover m) p all, count_next (has m) p all, cover_more m p, sum_more m all)
@@ -78,10 +81,12 @@ module _ (task : Task) (all : List Workers) (fit : AreFitPools task all) where
       child : (p : Workers) → has m p ≡ true → HasChild p m
       child p e = record { from = leb-true p.first m (first_so (nat_le p.first m) (nat_lt m (p.first + p.workers)) e); to = ltb-true m (p.first + p.workers) (second_so (nat_le p.first m) (nat_lt m (p.first + p.workers)) e) }
 
-      own : (j k : ℕ) (p q : Workers) → slice_get all j ≡ Some p → slice_get all k ≡ Some q → has m p ≡ true → has m q ≡ true → j ≡ k
+      own : (j k : ℕ) (p q : Workers) → slice_get all j ≡ Some p → slice_get all k ≡ Some q
+          → has m p ≡ true → has m q ≡ true → j ≡ k
       own j k p q at_j at_k in_p in_q = fit.apart j k m p q at_j at_k (child p in_p) (child q in_q)
 
-  all_covered : (some : List Workers) → ((k : ℕ) (p : Workers) → slice_get some k ≡ Some p → p.first + p.workers ≤ 17)
+  all_covered : (some : List Workers)
+      → ((k : ℕ) (p : Workers) → slice_get some k ≡ Some p → p.first + p.workers ≤ 17)
       → sum_by (λ (p : Workers). p.workers) some ≤ sum_by (cover 17) some
   all_covered [] few = omega arith
   all_covered (p ∷ some) few =
@@ -92,10 +97,13 @@ module _ (task : Task) (all : List Workers) (fit : AreFitPools task all) where
   few_workers : sum_by (λ (p : Workers). p.workers) all ≤ 17
   few_workers = omega (arith, all_covered all fit.few, covered 17)
 
-kept_workers : (pools : List Pool) → sum_by (λ (p : Workers). p.workers) (map workers_of pools) ≡ sum_by (λ (p : Pool). p.workers) pools
+kept_workers : (pools : List Pool)
+    → sum_by (λ (p : Workers). p.workers) (map workers_of pools) ≡ sum_by (λ (p : Pool). p.workers) pools
 kept_workers [] = refl
 kept_workers (p ∷ pools) = omega (arith, sum_next (λ (q : Workers). q.workers) (workers_of p) (map workers_of pools), sum_next (λ (q : Pool). q.workers) p pools, kept_workers pools)
 
 -- at most 17 together
-pub together : (task : Task) (pools : List Pool) → AreFitPools task (map workers_of pools) → sum_by (λ (p : Pool). p.workers) pools ≤ 17
-together task pools fit = omega (arith, few_workers task (map workers_of pools) fit, kept_workers pools)
+pub together : (task : Task) (pools : List Pool) → AreFitPools task (map workers_of pools)
+    → sum_by (λ (p : Pool). p.workers) pools ≤ 17
+together task pools fit =
+    omega (arith, few_workers task (map workers_of pools) fit, kept_workers pools)

@@ -23,13 +23,15 @@ use Rattle.replay_laws.specs.Written.{IsHeadOfReports, IsOnePool}
 
 -- ---- the head of a run
 
-pools_one : (task : Task) (w : SolveWords) → w.workers ≤ 16 → (ss : List Stream) → ss ≡ task.streams → (pools : List Pool)
+pools_one : (task : Task) (w : SolveWords) → w.workers ≤ 16 → (ss : List Stream) → ss ≡ task.streams
+    → (pools : List Pool)
     → ArePoolsFor task w ss pools → IsOnePool task pools
 pools_one task w few [] none pools are = inl are
 pools_one task w few (s ∷ ss) some pools (pool, are, is) =
     inr (pool, are, omega (arith, is.workers, few), is.streams, omega (arith, ap length some))
 
-shown_head : (task : Task) (w : SolveWords) (head : Head) → IsHeadOf task w head → AreInRange w → IsHeadOfReports task head
+shown_head : (task : Task) (w : SolveWords) (head : Head) → IsHeadOf task w head → AreInRange w
+    → IsHeadOfReports task head
 shown_head task w head headed within = record {
   runnable = head_runs task w head headed within;
   mode = headed.mode;
@@ -41,11 +43,14 @@ shown_head task w head headed within = record {
 -- ---- the task of both
 
 -- one text stands under both paths
-same_bytes : (files later : FileMap) (path other a b : List ℕ) → files path ≡ later other → files path ≡ Some a → later other ≡ Some b
+same_bytes : (files later : FileMap) (path other a b : List ℕ) → files path ≡ later other
+    → files path ≡ Some a → later other ≡ Some b
     → b ≡ a
-same_bytes files later path other a b same first second = let both : Some b ≡ Some a = sym second ∙ sym same ∙ first in cc
+same_bytes files later path other a b same first second =
+    let both : Some b ≡ Some a = sym second ∙ sym same ∙ first in cc
 
-same_task : (files later : FileMap) (paths others : TaskFiles) (t u : Task) → AreSameTexts files later paths others
+same_task : (files later : FileMap) (paths others : TaskFiles) (t u : Task)
+    → AreSameTexts files later paths others
     → IsTaskOf (Some files) paths t → IsTaskOf (Some later) others u → u ≡ t
 same_task files later paths others t u same x y =
     let domain : y.bytes ≡ x.bytes = same_bytes files later paths.domain others.domain x.bytes y.bytes same.domain x.held y.held in

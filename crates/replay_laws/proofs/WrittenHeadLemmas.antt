@@ -76,13 +76,15 @@ module _ (task : Task) (fit : IsFit task) where
       let there = slice_get-map (λ (s : Stream). s.name) task.streams k ∙ ap (option_map (λ (s : Stream). s.name)) place.1 in
       ap is_name same ∙ All-contains (λ name. is_name name ≡ true) (map (λ (s : Stream). s.name) task.streams) place.0.name (passes_all is_name (λ name. is_name name ≡ true) (map (λ (s : Stream). s.name) task.streams) (λ name e. e) fit.streams.names.each) (member_at (map (λ (s : Stream). s.name) task.streams) k place.0.name there)
 
-  all_found : (streams : List ℕ) → AreStreams task streams → filter_map (stream_named task) (map (stream_name task) streams) ≡ streams
+  all_found : (streams : List ℕ) → AreStreams task streams
+      → filter_map (stream_named task) (map (stream_name task) streams) ≡ streams
   all_found [] are = refl
   all_found (s ∷ streams) are =
       let rest = all_found streams (All-tail (λ stream. stream < length task.streams) s streams are) in
       rw (stream_found s (All-head (λ stream. stream < length task.streams) s streams are), rest) refl
 
-  share_same : (p : Pool) → AreStreams task p.streams → share_in task (shown_pool task p) ≡ share_of p
+  share_same : (p : Pool) → AreStreams task p.streams
+      → share_in task (shown_pool task p) ≡ share_of p
   share_same p are = λ i. record { workers = p.workers; streams = all_found p.streams are i }
 
   shares_same : (pools : List Pool) → All (λ (p : Pool). AreStreams task p.streams) pools
@@ -94,7 +96,8 @@ module _ (task : Task) (fit : IsFit task) where
       λ i. here i ∷ rest i
 
   -- The report binds the transcript as the run's head does.
-  pub limits_same : (head : Head) (entries : List Entry) (o : Outcome) → All (λ (p : Pool). AreStreams task p.streams) head.pools
+  pub limits_same : (head : Head) (entries : List Entry) (o : Outcome)
+      → All (λ (p : Pool). AreStreams task p.streams) head.pools
       → limits_in task (report_of task head entries o) ≡ limits_of head
   limits_same head entries o are = λ i. record { version = head.version; mode = head.mode; calls = head.calls; states = head.states; depth = head.depth; pools = shares_same head.pools are i }
 
@@ -108,7 +111,8 @@ module _ (task : Task) (fit : IsFit task) where
       let rest = served_same pools (All-tail (λ (q : Pool). AreStreams task q.streams) p pools are) in
       λ i. here i ++ rest i
 
-  workers_same : (pools : List Pool) → workers_in (map (shown_pool task) pools) ≡ sum_by (λ (p : Pool). p.workers) pools
+  workers_same : (pools : List Pool)
+      → workers_in (map (shown_pool task) pools) ≡ sum_by (λ (p : Pool). p.workers) pools
   workers_same [] = refl
   workers_same (p ∷ pools) =
       let shown = sum_by-append (λ (q : PoolLine). q.workers) (shown_pool task p ∷ []) (map (shown_pool task) pools) in
@@ -116,7 +120,8 @@ module _ (task : Task) (fit : IsFit task) where
       let rest = workers_same pools in
       omega (arith, shown, own, rest)
 
-  fresh : (before : List ℕ) (s : ℕ) (rest : List ℕ) → AreDistinct (before ++ s ∷ rest) → not (list_any (λ t. t == s) before) ≡ true
+  fresh : (before : List ℕ) (s : ℕ) (rest : List ℕ) → AreDistinct (before ++ s ∷ rest)
+      → not (list_any (λ t. t == s) before) ≡ true
   fresh before s rest distinct = by (list_any (λ t. t == s) before) refl
     where
       at_end : (xs ys : List ℕ) → slice_get (xs ++ s ∷ ys) (length xs) ≡ Some s
@@ -141,11 +146,13 @@ module _ (task : Task) (fit : IsFit task) where
       rw (found, fresh before s streams distinct, rest) refl
 
   front_distinct : (xs ys : List ℕ) → AreDistinct (xs ++ ys) → AreDistinct xs
-  front_distinct xs ys distinct j k x at_j at_k = distinct j k x (get_append xs ys j x at_j) (get_append xs ys k x at_k)
+  front_distinct xs ys distinct j k x at_j at_k =
+      distinct j k x (get_append xs ys j x at_j) (get_append xs ys k x at_k)
 
   -- ---- the pools fit
 
-  take_map : (k : ℕ) (pools : List Pool) → take k (map (shown_pool task) pools) ≡ map (shown_pool task) (take k pools)
+  take_map : (k : ℕ) (pools : List Pool)
+      → take k (map (shown_pool task) pools) ≡ map (shown_pool task) (take k pools)
   take_map zero pools = refl
   take_map (suc k) [] = refl
   take_map (suc k) (p ∷ pools) = ap (λ ps. shown_pool task p ∷ ps) (take_map k pools)
@@ -154,7 +161,8 @@ module _ (task : Task) (fit : IsFit task) where
     are : All (λ (p : Pool). AreStreams task p.streams) head.pools
     are = can.runnable.streams
 
-    shown_at : (place : ℕ) (line : PoolLine) → slice_get (map (shown_pool task) head.pools) place ≡ Some line
+    shown_at : (place : ℕ) (line : PoolLine)
+        → slice_get (map (shown_pool task) head.pools) place ≡ Some line
         → (p : Pool) × (slice_get head.pools place ≡ Some p) × (shown_pool task p ≡ line)
     shown_at place line at =
         map_some (shown_pool task) (slice_get head.pools place) line (sym (slice_get-map (shown_pool task) head.pools place) ∙ at)
@@ -204,10 +212,12 @@ module _ (task : Task) (fit : IsFit task) where
 
     -- ---- the head fits
 
-    six : (a b c d e f : Bool) → a ≡ true → b ≡ true → c ≡ true → d ≡ true → e ≡ true → f ≡ true → (a && b && c && d && e && f) ≡ true
+    six : (a b c d e f : Bool) → a ≡ true → b ≡ true → c ≡ true → d ≡ true → e ≡ true → f ≡ true
+        → (a && b && c && d && e && f) ≡ true
     six a b c d e f ea eb ec ed ee ef = rw (ea, eb, ec, ed, ee, ef) refl
 
-    pub head_fits : (entries : List Entry) (o : Outcome) → IsFitHead task (report_of task head entries o)
+    pub head_fits : (entries : List Entry) (o : Outcome)
+        → IsFitHead task (report_of task head entries o)
     head_fits entries o = record {
       mode = can.mode;
       limits = six (nat_le 1 head.calls) (nat_le head.calls 100000) (nat_le 1 head.states) (nat_le head.states 200000) (nat_le 1 head.depth) (nat_le head.depth 8)

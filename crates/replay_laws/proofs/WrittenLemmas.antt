@@ -40,7 +40,8 @@ pub text_same : (task : Task) (head : Head) (entries : List Entry) (o : Outcome)
 text_same task head entries o = sym (append_assoc (text_so_far task head entries) (text_of_outcome head.version o) (line_text done_line))
 
 -- the outcome's lines are a part of it
-outcome_short : (task : Task) (head : Head) (entries : List Entry) (o : Outcome) → length (whole_text task head entries o) < 2 ^ 31
+outcome_short : (task : Task) (head : Head) (entries : List Entry) (o : Outcome)
+    → length (whole_text task head entries o) < 2 ^ 31
     → length (lines_text (outcome_lines head.version o)) < 2 ^ 31
 outcome_short task head entries o short =
     let sum = length-append (text_so_far task head entries) (text_of_end head.version o) in
@@ -52,19 +53,23 @@ outcome_short task head entries o short =
 fewer : (P : Atoms → Type 0) (few many : ℕ) → few ≤ many → MoreThan many P → MoreThan few P
 fewer P few many le more = (more.0, omega (arith, le, more.1), more.2, more.3)
 
-decided : (limit : ℕ) (task : Task) (head : Head) (entries : List Entry) (o : Outcome) → IsSure head task entries o → head.states ≤ limit
+decided : (limit : ℕ) (task : Task) (head : Head) (entries : List Entry) (o : Outcome)
+    → IsSure head task entries o → head.states ≤ limit
     → ¬ (IsUndecided limit task (report_of task head entries o))
 decided limit task head entries (outcome.Plan calls cost from) sure le open_claim = open_claim
 decided limit task head entries outcome.NoPlan sure le open_claim =
     sure.within refl (fewer (IsReached task (known_of task entries)) head.states limit le open_claim.1)
 decided limit task head entries (outcome.Limit Calls) sure le open_claim = open_claim
-decided limit task head entries (outcome.Limit States) sure le open_claim = omega (arith, le, open_claim.0)
+decided limit task head entries (outcome.Limit States) sure le open_claim =
+    omega (arith, le, open_claim.0)
 decided limit task head entries (outcome.Limit Instances) sure le open_claim = open_claim
 
 -- an outcome stands nowhere inside a turn
 resting : (stage : Stage) (o : Outcome) → MayStand stage o → ¬ (stage ≡ inside)
-resting stage o (inl rests) stopped_there = let no : between ≡ inside = sym rests ∙ stopped_there in absurd (cc)
-resting stage o (inr cut) stopped_there = let no : after_cut ≡ inside = sym cut.0 ∙ stopped_there in absurd (cc)
+resting stage o (inl rests) stopped_there =
+    let no : between ≡ inside = sym rests ∙ stopped_there in absurd (cc)
+resting stage o (inr cut) stopped_there =
+    let no : after_cut ≡ inside = sym cut.0 ∙ stopped_there in absurd (cc)
 
 module _ (task : Task) (head : Head) (entries : List Entry) (o : Outcome) (fit : IsFit task) (can : IsHeadOfReports task head) (run : IsRun task head entries o) where
   few : AreFew entries
@@ -79,7 +84,8 @@ module _ (task : Task) (head : Head) (entries : List Entry) (o : Outcome) (fit :
       let plain = turns_plain (limits_of head) task tt [] entries run.stage run.turns (resting run.stage o run.stands) in
       all_by_place (IsFormedEntry head.version) entries (λ k e at. entry_formed head.version task fit entries run.legal few k e at (all_at is_plain entries k e plain.plain at))
 
-  pool_formed : (k : ℕ) (p : Pool) → slice_get head.pools k ≡ Some p → IsFormedPool (shown_pool task p)
+  pool_formed : (k : ℕ) (p : Pool) → slice_get head.pools k ≡ Some p
+      → IsFormedPool (shown_pool task p)
   pool_formed k p at =
       let there = member_at head.pools k p at in
       let workers = All-contains (λ (q : Pool). q.workers ≤ 16) head.pools p can.pools.few there in
@@ -99,7 +105,8 @@ module _ (task : Task) (head : Head) (entries : List Entry) (o : Outcome) (fit :
       by (suc zero) low high = inl refl
       by (suc (suc n)) low high = inr (omega (arith, high))
 
-  formed : length (whole_text task head entries o) < 2 ^ 31 → IsFormed (report_of task head entries o)
+  formed : length (whole_text task head entries o) < 2 ^ 31
+      → IsFormed (report_of task head entries o)
   formed short = record {
     version = versions;
     calls = omega (arith, can.runnable.fit.calls);
@@ -125,7 +132,8 @@ module _ (task : Task) (head : Head) (entries : List Entry) (o : Outcome) (fit :
         true = subst (λ (l : Limits). IsTrueOutcome l task entries o) (sym limits) run.sure.holds;
       }
 
-  pub written_valid : (limit : ℕ) (v : Verdict) → length (whole_text task head entries o) < 2 ^ 31 → head.states ≤ limit
+  pub written_valid : (limit : ℕ) (v : Verdict) → length (whole_text task head entries o) < 2 ^ 31
+      → head.states ≤ limit
       → IsVerdict limit task (whole_text task head entries o) v → v ≡ Valid
   written_valid limit v short le is =
       right_valid limit task (report_of task head entries o) v (formed short) right (decided limit task head entries o run.sure le) (subst (λ bytes. IsVerdict limit task bytes v) (text_same task head entries o) is)

@@ -15,7 +15,8 @@ number_at first (suc n) zero x at = let same : first ≡ x = cc in omega (arith,
 number_at first (suc n) (suc k) x at = omega (arith, number_at (first + 1) n k x at)
 
 numbers_distinct : (first n : ℕ) → AreDistinct (numbers_from first n)
-numbers_distinct first n j k x at_j at_k = omega (arith, number_at first n j x at_j, number_at first n k x at_k)
+numbers_distinct first n j k x at_j at_k =
+    omega (arith, number_at first n j x at_j, number_at first n k x at_k)
 
 pub one_pool : (task : Task) (pools : List Pool) → IsOnePool task pools → ArePoolsOfReports pools
 one_pool task pools (inl none) = subst ArePoolsOfReports (sym none) (record {
@@ -23,8 +24,9 @@ one_pool task pools (inl none) = subst ArePoolsOfReports (sym none) (record {
   some = All-nil (λ (p : Pool). 0 < length p.streams);
   once = λ j k x at_j at_k. absurd (let e = at_j in cc);
 })
-one_pool task pools (inr (pool, is, few, streams, some)) = subst ArePoolsOfReports (sym is) (record {
-  few = all_one (λ (p : Pool). p.workers ≤ 16) pool few;
-  some = all_one (λ (p : Pool). 0 < length p.streams) pool (omega (arith, some, ap length streams, length-numbers_from 0 (length task.streams)));
-  once = subst AreDistinct (sym (append-nil pool.streams ∙ streams)) (numbers_distinct 0 (length task.streams));
-})
+one_pool task pools (inr (pool, is, few, streams, some)) =
+    subst ArePoolsOfReports (sym is) (record {
+      few = all_one (λ (p : Pool). p.workers ≤ 16) pool few;
+      some = all_one (λ (p : Pool). 0 < length p.streams) pool (omega (arith, some, ap length streams, length-numbers_from 0 (length task.streams)));
+      once = subst AreDistinct (sym (append-nil pool.streams ∙ streams)) (numbers_distinct 0 (length task.streams));
+    })

@@ -29,7 +29,8 @@ IsOnePool task pools =
 
 -- The one pool of a run without a map is such as a report shows.
 abbrev pub OnePoolIsOfReports : Type 0
-OnePoolIsOfReports = (task : Task) (pools : List Pool) → IsOnePool task pools → ArePoolsOfReports pools
+OnePoolIsOfReports =
+    (task : Task) (pools : List Pool) → IsOnePool task pools → ArePoolsOfReports pools
 
 -- The head may be run, in incremental mode; its depth is from 1 to 8, and its pools are such as a report shows.
 pub record IsHeadOfReports (task : Task) (head : Head) : Type 0 where

@@ -34,7 +34,8 @@ limits_stop f old mid new t none =
     stops_behind first (limits f.version) (first_of f ∷ []) old mid new (limits f.version, (f.version, f.mode, t.0, refl, refl), refl) t.1
     (stops_at (limits f.version) mid new none.0 (λ e. absurd (cc)) (λ l rest to e step. none.1 (record { calls = step.0; states = step.1; depth = step.2 }) rest (record { calls = step.3; states = step.4; depth = step.5 }) (ap (λ (m : Line). fields_of m ∷ rest) (sym step.6) ∙ e)))
 
-pools_front : (v : ℕ) (ps : List PoolLine) → All IsFormedPool ps → IsPath (pools v) (map pool_line ps) (pools v)
+pools_front : (v : ℕ) (ps : List PoolLine) → All IsFormedPool ps
+    → IsPath (pools v) (map pool_line ps) (pools v)
 pools_front v [] all = refl
 pools_front v (p ∷ ps) all = (pools v, inl (p, all 0 p (omega arith), refl, refl), pools_front v ps (λ k d lt. all (suc k) d (omega arith)))
 
@@ -46,7 +47,8 @@ pub record HasHead (f : First) (l : Limits) (ps : List PoolLine) (old new : Rows
   pub limits_line : TakesLine IsLimits limits_line_of (Some l) second third
   pub pool_lines : TakesAll IsFormedPool pool_line ps third new
 
-pub head_then : (f : First) (l : Limits) (ps : List PoolLine) (old mid new : Rows) → HasHead f l ps old mid
+pub head_then : (f : First) (l : Limits) (ps : List PoolLine) (old mid new : Rows)
+    → HasHead f l ps old mid
     → Stops (entries f.version) mid new → Stops first old new
 head_then f l ps old mid new h s =
     stops_behind first (limits f.version) (first_of f ∷ []) old h.second new (limits f.version, (f.version, f.mode, h.first_line.0, refl, refl), refl) h.first_line.1
@@ -55,19 +57,23 @@ head_then f l ps old mid new h s =
 
 -- ---- entries with the line that ends them
 
-ending_path : (v : ℕ) (ending : Ending) → IsEnding ending → IsPath (entries v) (ending_line ending ∷ []) (ending_place v ending)
-ending_path v (Plan steps) formed = (planning v steps, inr (inr (inl (steps, formed, refl, refl))), refl)
+ending_path : (v : ℕ) (ending : Ending) → IsEnding ending
+    → IsPath (entries v) (ending_line ending ∷ []) (ending_place v ending)
+ending_path v (Plan steps) formed =
+    (planning v steps, inr (inr (inl (steps, formed, refl, refl))), refl)
 ending_path v NoPlan formed = (last, inr (inr (inr (inl refl, refl))), refl)
 ending_path v (Limit kind) formed = (last, inr (inr (inr (inr (kind, refl), refl))), refl)
 
-pub body_then : (v : ℕ) (b : Body) (old mid new : Rows) → IsBody v b → map fields_of (body_lines b) ++ mid ≡ old
+pub body_then : (v : ℕ) (b : Body) (old mid new : Rows) → IsBody v b
+    → map fields_of (body_lines b) ++ mid ≡ old
     → Stops (ending_place v b.ending) mid new → Stops (entries v) old new
 body_then v b old mid new formed is s =
     stops_behind (entries v) (ending_place v b.ending) (body_lines b) old mid new (path_then (entries v) (flat_map entry_lines b.entries) (ending_line b.ending ∷ []) (entries v) (ending_place v b.ending) (entries_path v b.entries formed.0) (ending_path v b.ending formed.1)) is s
 
 -- ---- the whole
 
-outcome_whole : (v : ℕ) (o : Outcome) → outcome_lines v o ++ done_line ∷ [] ≡ ending_line (ending_of o) ∷ outcome_rest v o
+outcome_whole : (v : ℕ) (o : Outcome)
+    → outcome_lines v o ++ done_line ∷ [] ≡ ending_line (ending_of o) ∷ outcome_rest v o
 outcome_whole v (outcome.Plan steps cost from) =
     ap (λ ls. ending_line (ending_of (outcome.Plan steps cost from)) ∷ ls) (append_assoc (map do_line steps) (cost_line cost ∷ map (from_line v) from) (done_line ∷ []))
 outcome_whole v outcome.NoPlan = refl

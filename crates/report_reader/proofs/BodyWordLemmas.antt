@@ -66,13 +66,15 @@ named_spelled word.Limit = refl
 spelled_same : (w u : Word) → spelled w ≡ spelled u → w ≡ u
 spelled_same w u e = sym (named_spelled w) ∙ ap named e ∙ named_spelled u
 
-pub no_word : (v : ℕ) (field : List ℕ) (left old : List (List ℕ)) → old ≡ field ∷ left → ((w : Word) → ¬ (spelled w ≡ field))
+pub no_word : (v : ℕ) (field : List ℕ) (left old : List (List ℕ)) → old ≡ field ∷ left
+    → ((w : Word) → ¬ (spelled w ≡ field))
     → (b : BodyLine) → IsBodyLine v b → ¬ (fields_of (body_line b) ≡ old)
 no_word v field left old is none b formed e =
     let same : (body_line b).first ≡ field = cc in
     none (word_of_line b) (sym (first_word b) ∙ same)
 
-pub of_word : (v : ℕ) (w : Word) (field : List ℕ) (left old : List (List ℕ)) (found : Option BodyLine) → old ≡ field ∷ left
+pub of_word : (v : ℕ) (w : Word) (field : List ℕ) (left old : List (List ℕ)) (found : Option BodyLine)
+    → old ≡ field ∷ left
     → spelled w ≡ field → Finds (IsBodyLineOf v w) body_more found left → Finds (IsBodyLine v) (λ b. fields_of (body_line b)) found old
 of_word v w field left old (Some b) is spells found =
     let first : (body_line b).first ≡ field = first_word b ∙ ap spelled found.0.1 ∙ spells in

@@ -29,7 +29,8 @@ parts f (t ∷ texts) (x ∷ xs) ys e =
     let rest = parts f texts xs ys later in
     (omega (arith, rest.0), (λ i. here i ∷ rest.1 i), rest.2)
 
-stuck_text : (at : Place) (texts : List (List ℕ)) (new : List (List (List ℕ))) → map (slice_split is_space) texts ≡ new → IsHeld at new
+stuck_text : (at : Place) (texts : List (List ℕ)) (new : List (List (List ℕ)))
+    → map (slice_split is_space) texts ≡ new → IsHeld at new
     → IsStuck at texts
 stuck_text at [] new e held = held.last (sym e)
 stuck_text at (t ∷ texts) new e held = λ next step. held.next step.0 (map (slice_split is_space) texts) next (ap (λ f. f ∷ map (slice_split is_space) texts) (sym (cut_fields at step.0 next t step.2 step.1)) ∙ e) step.2
@@ -37,9 +38,11 @@ stuck_text at (t ∷ texts) new e held = λ next step. held.next step.0 (map (sl
 -- how many lines have been passed
 passed_lines : (bytes : List ℕ) (new : List (List (List ℕ))) (s : Stops first (field_lines bytes) new)
     → length (field_lines bytes) - length new ≡ length (map fields_of s.passed)
-passed_lines bytes new s = omega (arith, length-append (map fields_of s.passed) new, ap length s.lines)
+passed_lines bytes new s =
+    omega (arith, length-append (map fields_of s.passed) new, ap length s.lines)
 
-pub stop_is_fault : (bytes : List ℕ) (new : List (List (List ℕ))) → Stops first (field_lines bytes) new
+pub stop_is_fault : (bytes : List ℕ) (new : List (List (List ℕ)))
+    → Stops first (field_lines bytes) new
     → IsFirstFault bytes (length (field_lines bytes) - length new + 1)
 stop_is_fault bytes new s =
     let texts = whole_lines bytes in
@@ -64,7 +67,8 @@ left_is_fault bytes r new formed is some = stop_is_fault bytes new (record {
   held = record { next = λ l rest to e step. absurd step; last = λ none. absurd (some (ap length none)) };
 })
 
-whole_texts : (bytes : List ℕ) (r : Report) (new : List (List (List ℕ))) → map fields_of (lines_of_report r) ++ new ≡ field_lines bytes
+whole_texts : (bytes : List ℕ) (r : Report) (new : List (List (List ℕ)))
+    → map fields_of (lines_of_report r) ++ new ≡ field_lines bytes
     → length new ≡ 0 → map line_body (report_lines r) ≡ whole_lines bytes
 whole_texts bytes r new is none =
     joined_lines (lines_of_report r) (whole_lines bytes) (sym is ∙ ap (λ l. map fields_of (lines_of_report r) ++ l) (nil_from_length new none) ∙ append-nil (map fields_of (lines_of_report r)))
@@ -83,13 +87,15 @@ rest_is_fault bytes r new formed is none some =
 
 pub report_is_text : (bytes : List ℕ) (r : Report) (new : List (List (List ℕ)))
     → map fields_of (lines_of_report r) ++ new ≡ field_lines bytes → length new ≡ 0 → unfinished bytes ≡ [] → text_of_report r ≡ bytes
-report_is_text bytes r new is none ended = lines_report r bytes (sym (whole_texts bytes r new is none)) ended
+report_is_text bytes r new is none ended =
+    lines_report r bytes (sym (whole_texts bytes r new is none)) ended
 
 pub few_lines : (bytes : List ℕ) → length (field_lines bytes) ≤ length bytes
 few_lines bytes = omega (arith, lines_count bytes, count_by-le-length is_feed bytes)
 
 -- the fault's line by the numbers of lines
-pub told_line : (bytes : List ℕ) (lines new : List (List (List ℕ))) (total left : ℕ) → lines ≡ field_lines bytes → total ≡ length lines
+pub told_line : (bytes : List ℕ) (lines new : List (List (List ℕ))) (total left : ℕ)
+    → lines ≡ field_lines bytes → total ≡ length lines
     → left ≡ length new → IsFirstFault bytes (length (field_lines bytes) - length new + 1) → IsFirstFault bytes (total - left + 1)
 told_line bytes lines new total left of_text is_total is_left fault =
     let all : total ≡ length (field_lines bytes) = is_total ∙ ap length of_text in

@@ -6,14 +6,18 @@ use Rattle.report_text.specs.Texts.{Line}
 use Rattle.report_reader.specs.Finding.{HasNo, shown_lines, TakesLine, TakesAll, TakesMany, TakesFewer}
 use Rattle.report_reader.specs.Splits.{fields_of}
 
-pub push_row : {A : Type 0} (xs : List A) (x : A) (left new all : List A) → xs ++ left ≡ all → left ≡ x ∷ new → (xs ++ x ∷ []) ++ new ≡ all
-push_row xs x left new all is next = append_assoc xs (x ∷ []) new ∙ ap (λ l. xs ++ l) (sym next) ∙ is
+pub push_row : {A : Type 0} (xs : List A) (x : A) (left new all : List A) → xs ++ left ≡ all
+    → left ≡ x ∷ new → (xs ++ x ∷ []) ++ new ≡ all
+push_row xs x left new all is next =
+    append_assoc xs (x ∷ []) new ∙ ap (λ l. xs ++ l) (sym next) ∙ is
 
 -- the library's lemma, under a name that code can cite
-pub all_push : {A : Type 0} (P : A → Type 0) (xs : List A) (x : A) → All P xs → P x → All P (xs ++ x ∷ [])
+pub all_push : {A : Type 0} (P : A → Type 0) (xs : List A) (x : A) → All P xs → P x
+    → All P (xs ++ x ∷ [])
 all_push P xs x all here = All-push P xs x all here
 
-pub all_middle : {A : Type 0} (P : A → Type 0) (xs : List A) (x : A) (ys : List A) → All P (xs ++ x ∷ ys) → P x
+pub all_middle : {A : Type 0} (P : A → Type 0) (xs : List A) (x : A) (ys : List A)
+    → All P (xs ++ x ∷ ys) → P x
 all_middle P [] x ys all = all 0 x (omega arith)
 all_middle P (z ∷ xs) x ys all = all_middle P xs x ys (λ k d lt. all (suc k) d (omega arith))
 
@@ -24,7 +28,8 @@ push_line line_of xs x left new all is next =
     ap (λ l. l ++ new) shown ∙ push_row (shown_lines line_of xs) (fields_of (line_of x)) left new all is (sym next)
 
 -- the fields that are left begin with one that isn't of the form, so not all are
-pub spoiled : {A : Type 0} (P : A → Type 0) (xs : List A) (x : A) (left new all ys : List A) → xs ++ left ≡ all → left ≡ x ∷ new → ¬ (P x)
+pub spoiled : {A : Type 0} (P : A → Type 0) (xs : List A) (x : A) (left new all ys : List A)
+    → xs ++ left ≡ all → left ≡ x ∷ new → ¬ (P x)
     → All P ys → ¬ (ys ≡ all)
 spoiled P xs x left new all ys is next not formed same =
     let whole : ys ≡ xs ++ x ∷ new = same ∙ sym is ∙ ap (λ l. xs ++ l) next in

@@ -33,12 +33,14 @@ by_last x (y ∷ ys) =
       | false ↦ behind_other (slice_split is_feed (y ∷ ys)) (never_empty is_feed (y ∷ ys)) (sole y ys) (by_last y ys)
     ]
   where
-    behind_feed : (parts : List (List ℕ)) → ¬ (parts ≡ []) → (is_feed (last_of y ys) ≡ true) ↔ (open_part parts ≡ [])
+    behind_feed : (parts : List (List ℕ)) → ¬ (parts ≡ [])
+        → (is_feed (last_of y ys) ≡ true) ↔ (open_part parts ≡ [])
         → (is_feed (last_of y ys) ≡ true) ↔ (open_part ([] ∷ parts) ≡ [])
     behind_feed [] some here = absurd (some refl)
     behind_feed (p ∷ parts) some here = here
 
-    behind_other : (parts : List (List ℕ)) → ¬ (parts ≡ []) → ((p : List ℕ) → parts ≡ p ∷ [] → ¬ (p ≡ []))
+    behind_other : (parts : List (List ℕ)) → ¬ (parts ≡ [])
+        → ((p : List ℕ) → parts ≡ p ∷ [] → ¬ (p ≡ []))
         → (is_feed (last_of y ys) ≡ true) ↔ (open_part parts ≡ []) → (is_feed (last_of y ys) ≡ true) ↔ (open_part (onto_first x parts) ≡ [])
     behind_other [] some one here = absurd (some refl)
     behind_other (p ∷ []) some one here = (λ e. absurd (one p refl (here.0 e)), λ e. absurd (cc))

@@ -14,9 +14,11 @@ digit_no_dot : (b : ℕ) → is_ascii_digit b ≡ true → is_dot b ≡ false
 digit_no_dot b e = grind (arith, nat_tests, e)
 
 no_dot : (n : ℕ) → n < 2 ^ 64 → All (λ b. is_dot b ≡ false) (decimal n)
-no_dot n lt k d within = digit_no_dot _ (AllPass-from_list_all is_ascii_digit (decimal n) (all_digits n lt) k d within)
+no_dot n lt k d within =
+    digit_no_dot _ (AllPass-from_list_all is_ascii_digit (decimal n) (all_digits n lt) k d within)
 
-parted : (field : List ℕ) (t : AreTwoPlaces field) → slice_split is_dot field ≡ decimal t.j ∷ slice_split is_dot (decimal t.i)
+parted : (field : List ℕ) (t : AreTwoPlaces field)
+    → slice_split is_dot field ≡ decimal t.j ∷ slice_split is_dot (decimal t.i)
 parted field t =
     ap (slice_split is_dot) (sym t.is) ∙ slice_split_at is_dot (decimal t.j) 46 (decimal t.i) (no_dot t.j (omega (arith, t.upto))) refl
 
@@ -34,7 +36,8 @@ two_places_to field n found t =
     let second : decimal t.i ≡ drop (n + 1) field = sym (join_with_byte-slice_split 46 (decimal t.i)) ∙ ap (join_with_byte 46) parts ∙ join_with_byte-slice_split 46 (drop (n + 1) field) in
     ((t.j, t.from.0, t.upto.0, first), (t.i, t.from.1, t.upto.1, second))
 
-pub two_places_from : (field : List ℕ) (n : ℕ) → position is_dot field ≡ Some n → IsPlaceNumber (take n field)
+pub two_places_from : (field : List ℕ) (n : ℕ) → position is_dot field ≡ Some n
+    → IsPlaceNumber (take n field)
     → IsPlaceNumber (drop (n + 1) field) → AreTwoPlaces field
 two_places_from field n found first second = record {
   j = first.0;

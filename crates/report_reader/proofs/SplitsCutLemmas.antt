@@ -29,7 +29,8 @@ lines_some bytes n e =
     ap (λ parts. map (slice_split is_space) (ended parts)) (cut_some is_feed bytes n e) ∙ ap (map (slice_split is_space)) (ended_cons (take n bytes) (slice_split is_feed (drop (n + 1) bytes)) (some_parts is_feed (drop (n + 1) bytes)))
 
 pub lines_none : (bytes : List ℕ) → position is_feed bytes ≡ None → field_lines bytes ≡ []
-lines_none bytes e = ap (λ parts. map (slice_split is_space) (ended parts)) (cut_none is_feed bytes e)
+lines_none bytes e =
+    ap (λ parts. map (slice_split is_space) (ended parts)) (cut_none is_feed bytes e)
 
 pub lines_count : (bytes : List ℕ) → length (field_lines bytes) ≡ count_by is_feed bytes
 lines_count bytes =

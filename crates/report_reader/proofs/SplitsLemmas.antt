@@ -11,7 +11,8 @@ use Rattle.report_text.proofs.FaultsLemmas.{line_clear}
 use Rattle.report_reader.specs.Splits.{fields_of}
 
 -- the text of a line that may stand is cut into its fields
-pub cut_fields : (p : Place) (l : Line) (n : Place) (text : List ℕ) → IsLineStep p l n → line_body l ≡ text
+pub cut_fields : (p : Place) (l : Line) (n : Place) (text : List ℕ) → IsLineStep p l n
+    → line_body l ≡ text
     → slice_split is_space text ≡ fields_of l
 cut_fields p l n text step is =
     let clear = line_clear p l n step in
@@ -22,10 +23,14 @@ joined f [] = sym (append-nil f)
 joined f (g ∷ more) = ap (λ t. f ++ 32 ∷ t) (joined g more)
 
 -- a text that is cut into the fields of a line is the line's
-pub joined_fields : (l : Line) (text : List ℕ) → slice_split is_space text ≡ fields_of l → line_body l ≡ text
-joined_fields l text is = sym (joined l.first l.more) ∙ ap (join_with_byte 32) (sym is) ∙ join_with_byte-slice_split 32 text
+pub joined_fields : (l : Line) (text : List ℕ) → slice_split is_space text ≡ fields_of l
+    → line_body l ≡ text
+joined_fields l text is =
+    sym (joined l.first l.more) ∙ ap (join_with_byte 32) (sym is)
+    ∙ join_with_byte-slice_split 32 text
 
-pub joined_lines : (ls : List Line) (texts : List (List ℕ)) → map (slice_split is_space) texts ≡ map fields_of ls → map line_body ls ≡ texts
+pub joined_lines : (ls : List Line) (texts : List (List ℕ))
+    → map (slice_split is_space) texts ≡ map fields_of ls → map line_body ls ≡ texts
 joined_lines [] [] e = refl
 joined_lines [] (t ∷ texts) e = absurd (cc)
 joined_lines (l ∷ ls) [] e = absurd (cc)

@@ -17,23 +17,28 @@ use Rattle.report_reader.specs.Tuples.{is_bar, IsValue, HasTaken, HasTuples, Tak
 -- ---- lists
 
 -- two cuts of a list at one place
-pub same_behind : {A : Type 0} (xs ys us vs : List A) → length xs ≡ length ys → xs ++ us ≡ ys ++ vs → us ≡ vs
+pub same_behind : {A : Type 0} (xs ys us vs : List A) → length xs ≡ length ys → xs ++ us ≡ ys ++ vs
+    → us ≡ vs
 same_behind [] [] us vs len e = e
 same_behind [] (y ∷ ys) us vs len e = absurd (omega (arith, len))
 same_behind (x ∷ xs) [] us vs len e = absurd (omega (arith, len))
 same_behind (x ∷ xs) (y ∷ ys) us vs len e = same_behind xs ys us vs (omega (arith, len)) (cc)
 
-pub member_of : {A : Type 0} (P : A → Type 0) (xs : List A) (x : A) (new own rest : List A) → length xs < length own
+pub member_of : {A : Type 0} (P : A → Type 0) (xs : List A) (x : A) (new own rest : List A)
+    → length xs < length own
     → own ++ rest ≡ xs ++ x ∷ new → All P own → P x
 member_of P xs x new [] rest lt e all = absurd (omega arith)
-member_of P [] x new (o ∷ own) rest lt e all = let same : o ≡ x = cc in subst P same (all 0 o (omega arith))
+member_of P [] x new (o ∷ own) rest lt e all =
+    let same : o ≡ x = cc in subst P same (all 0 o (omega arith))
 member_of P (z ∷ xs) x new (o ∷ own) rest lt e all =
     member_of P xs x new own rest (omega (arith, lt)) (cc) (λ k d within. all (suc k) d (omega arith))
 
 -- a field that is no value stands among the first ones
-pub value_wanting : (xs : List (List ℕ)) (x : List ℕ) (new given own rest : List (List ℕ)) → xs ++ x ∷ new ≡ given → ¬ (IsValue x)
+pub value_wanting : (xs : List (List ℕ)) (x : List ℕ) (new given own rest : List (List ℕ))
+    → xs ++ x ∷ new ≡ given → ¬ (IsValue x)
     → length xs < length own → All IsValue own → ¬ (own ++ rest ≡ given)
-value_wanting xs x new given own rest is not lt all e = not (member_of IsValue xs x new own rest lt (e ∙ sym is) all)
+value_wanting xs x new given own rest is not lt all e =
+    not (member_of IsValue xs x new own rest lt (e ∙ sym is) all)
 
 -- ---- so many tuples
 
@@ -47,12 +52,14 @@ less width b n e =
 pub no_values : (width bars : ℕ) (given own : List (List ℕ))
     → ((first rest : List (List ℕ)) → length first ≡ width → All IsValue first → ¬ (first ++ rest ≡ given))
     → length own ≡ (bars + 1) * width → All IsValue own → ¬ (tuples_of width bars own ≡ given)
-no_values width zero given own none len all e = none own [] (omega (arith, len)) all (append-nil own ∙ e)
+no_values width zero given own none len all e =
+    none own [] (omega (arith, len)) all (append-nil own ∙ e)
 no_values width (suc b) given own none len all e =
     let enough = less width b (length own) len in
     none (take width own) (codes "|" ∷ tuples_of width b (drop width own)) (length-take-le width own enough.0) (All-take IsValue width own all) e
 
-pub no_bar : (width bars : ℕ) (before mid given left own : List (List ℕ)) → HasTaken width before mid given left → ¬ (bars ≡ 0)
+pub no_bar : (width bars : ℕ) (before mid given left own : List (List ℕ))
+    → HasTaken width before mid given left → ¬ (bars ≡ 0)
     → ((more : List (List ℕ)) → ¬ (left ≡ codes "|" ∷ more)) → length own ≡ (bars + 1) * width → All IsValue own
     → ¬ (tuples_of width bars own ≡ given)
 no_bar width zero before mid given left own taken some none len all e = some refl
@@ -61,7 +68,8 @@ no_bar width (suc b) before mid given left own taken some none len all e =
     let sizes : length taken.own ≡ length (take width own) = taken.many ∙ sym (length-take-le width own enough.0) in
     none (tuples_of width b (drop width own)) (same_behind taken.own (take width own) left (codes "|" ∷ tuples_of width b (drop width own)) sizes (taken.fields ∙ sym e))
 
-pub one_tuple : (width : ℕ) (before mid given left : List (List ℕ)) → HasTaken width before mid given left → left ≡ []
+pub one_tuple : (width : ℕ) (before mid given left : List (List ℕ))
+    → HasTaken width before mid given left → left ≡ []
     → HasTuples width 0 before mid given
 one_tuple width before mid given left taken over = record {
   own = taken.own;
@@ -71,12 +79,14 @@ one_tuple width before mid given left taken over = record {
   each = taken.each;
 }
 
-pub not_over : (width : ℕ) (before mid given left own : List (List ℕ)) → HasTaken width before mid given left → ¬ (left ≡ [])
+pub not_over : (width : ℕ) (before mid given left own : List (List ℕ))
+    → HasTaken width before mid given left → ¬ (left ≡ [])
     → length own ≡ (0 + 1) * width → All IsValue own → ¬ (tuples_of width 0 own ≡ given)
 not_over width before mid given left own taken more len all e =
     more (same_behind taken.own own left [] (omega (arith, taken.many, len)) (taken.fields ∙ sym e ∙ sym (append-nil own)))
 
-next_tuples : (width b : ℕ) (found : Bool) (before mid after given left fields : List (List ℕ)) → HasTaken width before mid given left
+next_tuples : (width b : ℕ) (found : Bool) (before mid after given left fields : List (List ℕ))
+    → HasTaken width before mid given left
     → left ≡ codes "|" ∷ fields → TakesTuples width b found mid after fields → TakesTuples width (suc b) found before after given
 next_tuples width b true before mid after given left fields taken bar later = record {
   own = taken.own ++ later.own;
@@ -89,10 +99,14 @@ next_tuples width b true before mid after given left fields taken bar later = re
 }
   where
     front : take width (taken.own ++ later.own) ≡ taken.own
-    front = ap (λ n. take n (taken.own ++ later.own)) (sym taken.many) ∙ take-append_seam taken.own later.own
+    front =
+        ap (λ n. take n (taken.own ++ later.own)) (sym taken.many)
+        ∙ take-append_seam taken.own later.own
 
     back : drop width (taken.own ++ later.own) ≡ later.own
-    back = ap (λ n. drop n (taken.own ++ later.own)) (sym taken.many) ∙ drop-append_seam taken.own later.own
+    back =
+        ap (λ n. drop n (taken.own ++ later.own)) (sym taken.many)
+        ∙ drop-append_seam taken.own later.own
 next_tuples width b false before mid after given left fields taken bar later = λ own len all e.
     let enough = less width b (length own) len in
     let sizes : length taken.own ≡ length (take width own) = taken.many ∙ sym (length-take-le width own enough.0) in
@@ -105,7 +119,8 @@ next_tuples width b false before mid after given left fields taken bar later = �
 pub more_tuples : (width bars : ℕ) (found : Bool) (before mid after given left fields : List (List ℕ))
     → HasTaken width before mid given left → ¬ (bars ≡ 0) → left ≡ codes "|" ∷ fields → TakesTuples width (bars - 1) found mid after fields
     → TakesTuples width bars found before after given
-more_tuples width zero found before mid after given left fields taken some bar later = absurd (some refl)
+more_tuples width zero found before mid after given left fields taken some bar later =
+    absurd (some refl)
 more_tuples width (suc b) found before mid after given left fields taken some bar later =
     let one : suc b - 1 ≡ b = omega arith in
     next_tuples width b found before mid after given left fields taken bar (subst (λ n. TakesTuples width n found mid after fields) one later)
@@ -154,9 +169,11 @@ record Fits (bars tuples : ℕ) (values given : List (List ℕ)) : Type 0 where
   size : length given ≡ length values + bars
 
 is_one : (version : ℕ) → (version == 1) ≡ false → ¬ (version ≡ 1)
-is_one version e one = let same : (1 == 1) ≡ false = subst (λ v. (v == 1) ≡ false) one e in absurd (cc)
+is_one version e one =
+    let same : (1 == 1) ≡ false = subst (λ v. (v == 1) ≡ false) one e in absurd (cc)
 
-fits : (version tuples bars : ℕ) (values given : List (List ℕ)) → AreTuples version tuples values → tuple_fields tuples values ≡ given
+fits : (version tuples bars : ℕ) (values given : List (List ℕ)) → AreTuples version tuples values
+    → tuple_fields tuples values ≡ given
     → AreBars version bars given → Fits bars tuples values given
 fits version tuples bars values given t is b =
     let numbers = counted (length values / tuples) (tuples - 1) values t.each in
@@ -166,17 +183,20 @@ fits version tuples bars values given t is b =
     ] refl in
     record { count = omega (arith, bars_is, t.some); size = ap length (sym is) ∙ numbers.1 ∙ ap (λ n. length values + n) (sym bars_is) }
 
-pub too_many : (version bars : ℕ) (given : List (List ℕ)) → AreBars version bars given → 16 ≤ bars → AreNoTuples version given
+pub too_many : (version bars : ℕ) (given : List (List ℕ)) → AreBars version bars given → 16 ≤ bars
+    → AreNoTuples version given
 too_many version bars given b many tuples values t is =
     let f = fits version tuples bars values given t is b in omega (arith, f.count, t.few)
 
-pub unequal : (version bars many : ℕ) (given : List (List ℕ)) → AreBars version bars given → many ≡ length given - bars
+pub unequal : (version bars many : ℕ) (given : List (List ℕ)) → AreBars version bars given
+    → many ≡ length given - bars
     → ((width : ℕ) → ¬ (many ≡ (bars + 1) * width)) → AreNoTuples version given
 unequal version bars many given b is_many none tuples values t is =
     let f = fits version tuples bars values given t is b in
     none t.width (omega (arith, is_many, f.size, t.equal ∙ ap (λ n. n * t.width) f.count))
 
-pub no_width : (version bars many : ℕ) (given : List (List ℕ)) → AreBars version bars given → many ≡ length given - bars → many ≡ 0
+pub no_width : (version bars many : ℕ) (given : List (List ℕ)) → AreBars version bars given
+    → many ≡ length given - bars → many ≡ 0
     → 0 < bars → AreNoTuples version given
 no_width version bars many given b is_many none some tuples values t is =
     let f = fits version tuples bars values given t is b in
@@ -193,7 +213,8 @@ no_tuples version bars width given s none tuples values t is =
     none values size t.each ((λ i. tuples_of (sym each i) (sym less_one i) values) ∙ is)
 
 -- tuples of this shape may stand
-pub tuples_found : (version bars width : ℕ) (values given : List (List ℕ)) → HasShape version bars width given
+pub tuples_found : (version bars width : ℕ) (values given : List (List ℕ))
+    → HasShape version bars width given
     → HasTuples width bars [] values given → AreTuples version (bars + 1) values × (tuple_fields (bars + 1) values ≡ given)
 tuples_found version bars width values given s h =
     let own : values ≡ h.own = h.put in
@@ -214,21 +235,25 @@ tuples_found version bars width values given s h =
   where
     by_width : (w : ℕ) → (bars + 1) * w ≡ 0 → w ≡ 0
     by_width zero e = refl
-    by_width (suc w) e = absurd (omega (arith, e, mul_comm (bars + 1) (suc w), suc-mul w (bars + 1)))
+    by_width (suc w) e =
+        absurd (omega (arith, e, mul_comm (bars + 1) (suc w), suc-mul w (bars + 1)))
 
     no_empty : (bars + 1) * width ≡ 0 → bars + 1 ≡ 1
     no_empty e = omega (arith, s.some (by_width width e))
 
 -- ---- the tests of the code
 
-pub no_parts : (version bars : ℕ) (given : List (List ℕ)) (fields : ℕ) → AreBars version bars given → fields ≡ length given
+pub no_parts : (version bars : ℕ) (given : List (List ℕ)) (fields : ℕ) → AreBars version bars given
+    → fields ≡ length given
     → ¬ ((fields - bars) % (bars + 1) ≡ 0) → AreNoTuples version given
 no_parts version bars given fields b all rest = unequal version bars (fields - bars) given b (ap (λ n. n - bars) all) (λ width e. rest (ap (λ n. n % (bars + 1)) e ∙ mul-mod_right (bars + 1) width))
 
-pub no_wide : (version bars : ℕ) (given : List (List ℕ)) (fields : ℕ) → AreBars version bars given → fields ≡ length given
+pub no_wide : (version bars : ℕ) (given : List (List ℕ)) (fields : ℕ) → AreBars version bars given
+    → fields ≡ length given
     → (fields - bars) % (bars + 1) ≡ 0 → (fields - bars) / (bars + 1) ≡ 0 → 0 < bars → AreNoTuples version given
 no_wide version bars given fields b all whole none some =
     no_width version bars (fields - bars) given b (ap (λ n. n - bars) all) (div_mod (fields - bars) (bars + 1) (omega arith) whole none) some
   where
     div_mod : (m n : ℕ) → 0 < n → m % n ≡ 0 → m / n ≡ 0 → m ≡ 0
-    div_mod m n some no_rest no_part = omega (arith, div-add-mod' m n, ap (λ k. k * n) no_part, no_rest)
+    div_mod m n some no_rest no_part =
+        omega (arith, div-add-mod' m n, ap (λ k. k * n) no_part, no_rest)

@@ -13,10 +13,12 @@ Finds {X} IsFormed shown None given = (x : X) → IsFormed x → ¬ (shown x ≡
 
 -- no item of the form stands first
 abbrev pub HasNo : {X Y : Type 0} → (X → Type 0) → (X → Y) → List Y → Type 0
-HasNo {X} {Y} IsFormed shown given = (x : X) (rest : List Y) → IsFormed x → ¬ (shown x ∷ rest ≡ given)
+HasNo {X} {Y} IsFormed shown given =
+    (x : X) (rest : List Y) → IsFormed x → ¬ (shown x ∷ rest ≡ given)
 
 -- an item of the form that stood first and is taken, or that none stood there
-abbrev pub TakesFields : {X Y : Type 0} → (X → Type 0) → (X → Y) → Option X → List Y → List Y → Type 0
+abbrev pub TakesFields : {X Y : Type 0} → (X → Type 0) → (X → Y) → Option X → List Y → List Y
+    → Type 0
 TakesFields IsFormed shown (Some x) old new = IsFormed x × (shown x ∷ new ≡ old)
 TakesFields IsFormed shown None old new = HasNo IsFormed shown old
 
@@ -27,10 +29,12 @@ abbrev pub shown_lines : {X : Type 0} → (X → Line) → List X → List (List
 shown_lines line_of xs = map fields_of (map line_of xs)
 
 -- an item of the form in the next line, which is taken, or that the next line shows none and stays
-abbrev pub TakesLine : {X : Type 0} → (X → Type 0) → (X → Line) → Option X → List (List (List ℕ)) → List (List (List ℕ))
+abbrev pub TakesLine : {X : Type 0} → (X → Type 0) → (X → Line) → Option X → List (List (List ℕ))
+    → List (List (List ℕ))
     → Type 0
 TakesLine IsFormed line_of (Some x) old new = IsFormed x × (fields_of (line_of x) ∷ new ≡ old)
-TakesLine IsFormed line_of None old new = (new ≡ old) × HasNo IsFormed (λ x. fields_of (line_of x)) old
+TakesLine IsFormed line_of None old new =
+    (new ≡ old) × HasNo IsFormed (λ x. fields_of (line_of x)) old
 
 -- items of the form, a line each, as many as there are
 pub record TakesAll {X : Type 0} (IsFormed : X → Type 0) (line_of : X → Line) (xs : List X) (old new : List (List (List ℕ))) : Type 0 where
@@ -51,7 +55,8 @@ pub record TakesFewer {X : Type 0} (IsFormed : X → Type 0) (line_of : X → Li
   pub fewer : length xs < count
   pub none : HasNo IsFormed (λ x. fields_of (line_of x)) new
 
-abbrev pub TakesCounted : {X : Type 0} → (X → Type 0) → (X → Line) → ℕ → Option (List X) → List (List (List ℕ))
+abbrev pub TakesCounted : {X : Type 0} → (X → Type 0) → (X → Line) → ℕ → Option (List X)
+    → List (List (List ℕ))
     → List (List (List ℕ)) → Type 0
 TakesCounted IsFormed line_of count (Some xs) old new = TakesMany IsFormed line_of count xs old new
 TakesCounted IsFormed line_of count None old new = TakesFewer IsFormed line_of count old new
@@ -60,7 +65,8 @@ TakesCounted IsFormed line_of count None old new = TakesFewer IsFormed line_of c
 
 -- the next line may not stand at the place, or it is missing where one has to come
 pub record IsHeld (at : Place) (lines : List (List (List ℕ))) : Type 0 where
-  pub next : (l : Line) (rest : List (List (List ℕ))) (to : Place) → fields_of l ∷ rest ≡ lines → ¬ (IsLineStep at l to)
+  pub next : (l : Line) (rest : List (List (List ℕ))) (to : Place) → fields_of l ∷ rest ≡ lines
+      → ¬ (IsLineStep at l to)
   pub last : lines ≡ [] → ¬ (at ≡ behind)
 
 -- from the first place on lines may stand up to those that are left, the next of which may not
@@ -72,7 +78,9 @@ pub record Stops (from : Place) (old new : List (List (List ℕ))) : Type 0 wher
   pub held : IsHeld at new
 
 -- an item of the form that was in these lines, or that a line may not stand where it is
-abbrev pub PartReads : {X : Type 0} → Place → (X → Type 0) → (X → List Line) → Option X → List (List (List ℕ))
+abbrev pub PartReads : {X : Type 0} → Place → (X → Type 0) → (X → List Line) → Option X
+    → List (List (List ℕ))
     → List (List (List ℕ)) → Type 0
-PartReads from IsFormed lines_of (Some x) old new = IsFormed x × (map fields_of (lines_of x) ++ new ≡ old)
+PartReads from IsFormed lines_of (Some x) old new =
+    IsFormed x × (map fields_of (lines_of x) ++ new ≡ old)
 PartReads from IsFormed lines_of None old new = Stops from old new

@@ -20,7 +20,8 @@ pub record HasTaken (width : ℕ) (before values given left : List (List ℕ)) :
   pub many : length own ≡ width
   pub each : All IsValue own
 
-abbrev pub TakesValues : ℕ → Bool → List (List ℕ) → List (List ℕ) → List (List ℕ) → List (List ℕ) → Type 0
+abbrev pub TakesValues : ℕ → Bool → List (List ℕ) → List (List ℕ) → List (List ℕ) → List (List ℕ)
+    → Type 0
 TakesValues width true before values given left = HasTaken width before values given left
 TakesValues width false before values given left =
     (own rest : List (List ℕ)) → length own ≡ width → All IsValue own → ¬ (own ++ rest ≡ given)

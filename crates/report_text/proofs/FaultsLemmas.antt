@@ -24,7 +24,8 @@ use Rattle.gen_lines.proofs.CuttingLemmas.{parts_left}
 -- ---- the lines of a text
 
 -- lines that have no line feed, each with one behind it, and then more
-parts_of : (lines : List (List ℕ)) (rest : List ℕ) → All (λ line. All (λ b. is_feed b ≡ false) line) lines
+parts_of : (lines : List (List ℕ)) (rest : List ℕ)
+    → All (λ line. All (λ b. is_feed b ≡ false) line) lines
     → slice_split is_feed (lines_with_feeds lines ++ rest) ≡ lines ++ slice_split is_feed rest
 parts_of [] rest all = refl
 parts_of (l ∷ ls) rest all =
@@ -38,7 +39,8 @@ ended_more (x ∷ []) (y ∷ ys) some = refl
 ended_more (x ∷ z ∷ xs) ys some = ap (λ ps. x ∷ ps) (ended_more (z ∷ xs) ys some)
 
 -- the lines of a report's text are those of the report
-lines_written : (lines : List Line) → list_all is_clear lines ≡ true → whole_lines (lines_text lines) ≡ map line_body lines
+lines_written : (lines : List Line) → list_all is_clear lines ≡ true
+    → whole_lines (lines_text lines) ≡ map line_body lines
 lines_written lines clear =
     ap ended (feeds_cut lines clear) ∙ ended_more (map line_body lines) ([] ∷ []) (omega arith) ∙ append-nil (map line_body lines)
 
@@ -55,9 +57,11 @@ report_text_path bytes (r, formed, is) =
 -- the front of a path of texts
 path_front : (from to : Place) (front rest : List (List ℕ)) → IsTextPath from (front ++ rest) to
     → (m : Place) × IsTextPath from front m × ((text : List ℕ) (later : List (List ℕ)) → rest ≡ text ∷ later → (n : Place) × IsTextStep m text n)
-path_front from to [] rest (lines, is, path) = (from, ([], refl, refl), λ text later e. next lines is path text later e)
+path_front from to [] rest (lines, is, path) =
+    (from, ([], refl, refl), λ text later e. next lines is path text later e)
   where
-    next : (lines : List Line) → map line_body lines ≡ rest → IsPath from lines to → (text : List ℕ) (later : List (List ℕ))
+    next : (lines : List Line) → map line_body lines ≡ rest → IsPath from lines to
+        → (text : List ℕ) (later : List (List ℕ))
         → rest ≡ text ∷ later → (n : Place) × IsTextStep from text n
     next [] is path text later e = let none : [] ≡ text ∷ later = is ∙ e in absurd (cc)
     next (l ∷ ls) is path text later e = let both : line_body l ∷ map line_body ls ≡ text ∷ later = is ∙ e in let same : line_body l ≡ text = cc in (path.0, (l, same, path.1))
@@ -81,7 +85,8 @@ body_clear version l n (inr (inr (inr (inr a, b)))) = rw (a.1, limit_clear a.0) 
 
 pub line_clear : (p : Place) (l : Line) (n : Place) → IsLineStep p l n → is_clear l ≡ true
 line_clear first l n a = rw (a.3, number_inked a.0 (small_version a.0 a.2), mode_clear a.1) refl
-line_clear (limits version) l n a = rw (a.6, number_of_32 a.0 a.3, number_of_32 a.1 a.4, number_of_8 a.2 a.5) refl
+line_clear (limits version) l n a =
+    rw (a.6, number_of_32 a.0 a.3, number_of_32 a.1 a.4, number_of_8 a.2 a.5) refl
 line_clear (pools version) l n (inl a) = ap is_clear a.2 ∙ pool_clear a.0 a.1
 line_clear (pools version) l n (inr a) = body_clear version l n a
 line_clear (entries version) l n a = body_clear version l n a
@@ -96,7 +101,8 @@ line_clear (origins version) l n (inr a) = ap is_clear a.0
 line_clear last l n a = ap is_clear a.0
 line_clear behind l n a = absurd a
 
-fields_same : (l m : Line) → is_clear l ≡ true → is_clear m ≡ true → line_body l ≡ line_body m → l ≡ m
+fields_same : (l m : Line) → is_clear l ≡ true → is_clear m ≡ true → line_body l ≡ line_body m
+    → l ≡ m
 fields_same l m a b same =
     let read : (k : Line) → is_clear k ≡ true → slice_split is_space (line_body k) ≡ k.first ∷ k.more = λ k e. spaces_cut k.first k.more (first_so (is_inked k.first) (list_all is_inked k.more) e) (second_so (is_inked k.first) (list_all is_inked k.more) e) in
     let fields : l.first ∷ l.more ≡ m.first ∷ m.more = sym (read l a) ∙ ap (slice_split is_space) same ∙ read m b in
@@ -105,7 +111,8 @@ fields_same l m a b same =
     λ i. record { first = front i; more = later i }
 
 -- a text path determines its end
-text_path_same : (from m n : Place) (texts : List (List ℕ)) → IsTextPath from texts m → IsTextPath from texts n → m ≡ n
+text_path_same : (from m n : Place) (texts : List (List ℕ)) → IsTextPath from texts m
+    → IsTextPath from texts n → m ≡ n
 text_path_same from m n [] ([], is, path) ([], also, other) = sym path ∙ other
 text_path_same from m n [] ([], is, path) (k ∷ ks, also, other) = absurd (cc)
 text_path_same from m n [] (l ∷ ls, is, path) b = absurd (cc)
@@ -122,31 +129,37 @@ text_path_same from m n (t ∷ texts) (l ∷ ls, is, path) (k ∷ ks, also, othe
 
 -- ---- parts of a text
 
-no_feed_first : (x : ℕ) (parts : List (List ℕ)) → is_feed x ≡ false → All (λ line. All (λ b. is_feed b ≡ false) line) parts
+no_feed_first : (x : ℕ) (parts : List (List ℕ)) → is_feed x ≡ false
+    → All (λ line. All (λ b. is_feed b ≡ false) line) parts
     → All (λ line. All (λ b. is_feed b ≡ false) line) (onto_first x parts)
 no_feed_first x [] e all = all_one (λ line. All (λ b. is_feed b ≡ false) line) (x ∷ []) (all_one (λ b. is_feed b ≡ false) x e)
 no_feed_first x (p ∷ ps) e all = All-cons (λ line. All (λ b. is_feed b ≡ false) line) (x ∷ p) ps (All-cons (λ b. is_feed b ≡ false) x p e (all 0 p (omega arith))) (λ k d lt. all (suc k) d (omega arith))
 
-parts_free : (bytes : List ℕ) → All (λ line. All (λ b. is_feed b ≡ false) line) (slice_split is_feed bytes)
-parts_free [] = all_one (λ line. All (λ b. is_feed b ≡ false) line) [] (All-nil (λ b. is_feed b ≡ false))
+parts_free : (bytes : List ℕ)
+    → All (λ line. All (λ b. is_feed b ≡ false) line) (slice_split is_feed bytes)
+parts_free [] =
+    all_one (λ line. All (λ b. is_feed b ≡ false) line) [] (All-nil (λ b. is_feed b ≡ false))
 parts_free (x ∷ xs) =
     elim (is_feed x) as (λ c. is_feed x ≡ c → All (λ line. All (λ b. is_feed b ≡ false) line) (cond c ([] ∷ slice_split is_feed xs) (onto_first x (slice_split is_feed xs)))) [
       | true ↦ λ _. All-cons (λ line. All (λ b. is_feed b ≡ false) line) [] (slice_split is_feed xs) (All-nil (λ b. is_feed b ≡ false)) (parts_free xs)
       | false ↦ λ e. no_feed_first x (slice_split is_feed xs) e (parts_free xs)
     ] refl
 
-ended_front : (parts : List (List ℕ)) → 0 < length parts → ended parts ++ open_part parts ∷ [] ≡ parts
+ended_front : (parts : List (List ℕ)) → 0 < length parts
+    → ended parts ++ open_part parts ∷ [] ≡ parts
 ended_front [] some = absurd (omega arith)
 ended_front (p ∷ []) some = refl
 ended_front (p ∷ q ∷ parts) some = ap (λ ps. p ∷ ps) (ended_front (q ∷ parts) (omega arith))
 
-lines_free : (bytes : List ℕ) (k : ℕ) → All (λ line. All (λ b. is_feed b ≡ false) line) (take k (whole_lines bytes))
+lines_free : (bytes : List ℕ) (k : ℕ)
+    → All (λ line. All (λ b. is_feed b ≡ false) line) (take k (whole_lines bytes))
 lines_free bytes k =
     let whole = subst (All (λ line. All (λ b. is_feed b ≡ false) line)) (sym (ended_front (slice_split is_feed bytes) (parts_left bytes))) (parts_free bytes) in
     let lines : All (λ line. All (λ b. is_feed b ≡ false) line) (whole_lines bytes) = All-append_front (whole_lines bytes) (unfinished bytes ∷ []) whole in
     All-append_front (take k (whole_lines bytes)) (drop k (whole_lines bytes)) (subst (All (λ line. All (λ b. is_feed b ≡ false) line)) (sym (take-append-drop k (whole_lines bytes))) lines)
   where
-    All-append_front : (xs ys : List (List ℕ)) → All (λ line. All (λ b. is_feed b ≡ false) line) (xs ++ ys)
+    All-append_front : (xs ys : List (List ℕ))
+        → All (λ line. All (λ b. is_feed b ≡ false) line) (xs ++ ys)
         → All (λ line. All (λ b. is_feed b ≡ false) line) xs
     All-append_front [] ys all = All-nil (λ line. All (λ b. is_feed b ≡ false) line)
     All-append_front (x ∷ xs) ys all = All-cons (λ line. All (λ b. is_feed b ≡ false) line) x xs (all 0 x (omega arith)) (All-append_front xs ys (λ k d lt. all (suc k) d (omega arith)))
@@ -161,7 +174,8 @@ begins texts m (lines, is, path) =
     (lines_text rest.0, (r.0, r.1, report_text r.0 ∙ ap lines_text r.2 ∙ flat_map-append line_text lines rest.0 ∙ ap (λ t. t ++ lines_text rest.0) (sym (joined_text lines) ∙ ap lines_with_feeds is)))
 
 -- no report begins with these lines and the one at which reading is stuck
-stuck_there : (front : List (List ℕ)) (text : List ℕ) (m : Place) → IsTextPath first front m → ((n : Place) → ¬ (IsTextStep m text n))
+stuck_there : (front : List (List ℕ)) (text : List ℕ) (m : Place) → IsTextPath first front m
+    → ((n : Place) → ¬ (IsTextStep m text n))
     → (more : List (List ℕ)) (bytes : List ℕ) → whole_lines bytes ≡ front ++ text ∷ more → ¬ (IsReport bytes)
 stuck_there front text m path stuck more bytes is report =
     let other = path_front first behind front (text ∷ more) (subst (λ ts. IsTextPath first ts behind) is (report_text_path bytes report)) in
@@ -169,7 +183,8 @@ stuck_there front text m path stuck more bytes is report =
     let same : other.0 ≡ m = text_path_same first other.0 m front other.1 path in
     stuck next.0 (subst (λ q. IsTextStep q text next.0) same next.1)
 
-cut_lines : (texts : List (List ℕ)) (k : ℕ) (text : List ℕ) (later : List (List ℕ)) → drop k texts ≡ text ∷ later
+cut_lines : (texts : List (List ℕ)) (k : ℕ) (text : List ℕ) (later : List (List ℕ))
+    → drop k texts ≡ text ∷ later
     → take (suc k) texts ≡ take k texts ++ text ∷ []
 cut_lines [] zero text later e = absurd (cc)
 cut_lines [] (suc k) text later e = absurd (cc)
@@ -177,7 +192,8 @@ cut_lines (t ∷ ts) zero text later e = let same : t ≡ text = cc in ap (λ x.
 cut_lines (t ∷ ts) (suc k) text later e = ap (λ xs. t ∷ xs) (cut_lines ts k text later e)
 
 -- where a reader stops among the lines of a text, its first fault is in the next line
-pub stops_fault : (bytes : List ℕ) (k : ℕ) → StopsAfter first (whole_lines bytes) k → IsFirstFault bytes (k + 1)
+pub stops_fault : (bytes : List ℕ) (k : ℕ) → StopsAfter first (whole_lines bytes) k
+    → IsFirstFault bytes (k + 1)
 stops_fault bytes k s = by_rest (drop k (whole_lines bytes)) refl s.stuck
   where
     one_more : (k : ℕ) → k + 1 ≡ suc k
@@ -186,7 +202,8 @@ stops_fault bytes k s = by_rest (drop k (whole_lines bytes)) refl s.stuck
     minus_one : (k : ℕ) → k + 1 - 1 ≡ k
     minus_one k = omega arith
 
-    by_rest : (rest : List (List ℕ)) → drop k (whole_lines bytes) ≡ rest → IsStuck s.at rest → IsFirstFault bytes (k + 1)
+    by_rest : (rest : List (List ℕ)) → drop k (whole_lines bytes) ≡ rest → IsStuck s.at rest
+        → IsFirstFault bytes (k + 1)
     by_rest [] e stuck = record {
       some = omega arith;
       upto = omega (arith, s.within);
@@ -219,7 +236,8 @@ whole_feed : (parts : List (List ℕ)) → 0 < length parts → whole ([] ∷ pa
 whole_feed [] some = absurd (omega arith)
 whole_feed (p ∷ ps) some = refl
 
-whole_other : (x : ℕ) (parts : List (List ℕ)) → 0 < length parts → whole (onto_first x parts) ≡ x ∷ whole parts
+whole_other : (x : ℕ) (parts : List (List ℕ)) → 0 < length parts
+    → whole (onto_first x parts) ≡ x ∷ whole parts
 whole_other x [] some = absurd (omega arith)
 whole_other x (p ∷ []) some = refl
 whole_other x (p ∷ q ∷ ps) some = refl
@@ -233,7 +251,8 @@ text_parts (x ∷ xs) =
     ] refl
 
 -- lines that are those of a report, with nothing behind them, are its text
-pub lines_report : (r : Report) (bytes : List ℕ) → whole_lines bytes ≡ map line_body (report_lines r) → unfinished bytes ≡ []
+pub lines_report : (r : Report) (bytes : List ℕ)
+    → whole_lines bytes ≡ map line_body (report_lines r) → unfinished bytes ≡ []
     → text_of_report r ≡ bytes
 lines_report r bytes lines none =
     report_text r ∙ sym (joined_text (report_lines r)) ∙ ap lines_with_feeds (sym lines) ∙ sym (append-nil (lines_with_feeds (whole_lines bytes))) ∙ ap (λ t. lines_with_feeds (whole_lines bytes) ++ t) (sym none) ∙ text_parts bytes
@@ -249,7 +268,8 @@ report_ends bytes (r, formed, is) =
     last_part (x ∷ y ∷ xs) = last_part (y ∷ xs)
 
 -- behind the lines of a report stands a line without a line feed
-pub leftover_fault : (bytes : List ℕ) → IsTextPath first (whole_lines bytes) behind → 0 < length (unfinished bytes)
+pub leftover_fault : (bytes : List ℕ) → IsTextPath first (whole_lines bytes) behind
+    → 0 < length (unfinished bytes)
     → IsFirstFault bytes (length (whole_lines bytes) + 1)
 leftover_fault bytes path left =
     let all : take (length (whole_lines bytes) + 1 - 1) (whole_lines bytes) ≡ whole_lines bytes = ap (λ n. take n (whole_lines bytes)) (same (length (whole_lines bytes))) ∙ take-length (whole_lines bytes) in
@@ -266,15 +286,19 @@ leftover_fault bytes path left =
 
 -- ---- reading in parts
 
-pub text_path_then : (from middle to : Place) (xs ys : List (List ℕ)) → IsTextPath from xs middle → IsTextPath middle ys to
+pub text_path_then : (from middle to : Place) (xs ys : List (List ℕ)) → IsTextPath from xs middle
+    → IsTextPath middle ys to
     → IsTextPath from (xs ++ ys) to
 text_path_then from middle to xs ys (ls, is, path) (ms, also, later) =
     (ls ++ ms, map-append line_body ls ms ∙ (λ i. is i ++ also i), path_then from ls ms middle to path later)
 
-pub stops_here : (from : Place) (texts : List (List ℕ)) → IsStuck from texts → StopsAfter from texts 0
-stops_here from texts stuck = record { within = omega arith; at = from; path = ([], refl, refl); stuck = stuck }
+pub stops_here : (from : Place) (texts : List (List ℕ)) → IsStuck from texts
+    → StopsAfter from texts 0
+stops_here from texts stuck =
+    record { within = omega arith; at = from; path = ([], refl, refl); stuck = stuck }
 
-pub stops_then : (from middle : Place) (front rest : List (List ℕ)) (k : ℕ) → IsTextPath from front middle → StopsAfter middle rest k
+pub stops_then : (from middle : Place) (front rest : List (List ℕ)) (k : ℕ)
+    → IsTextPath from front middle → StopsAfter middle rest k
     → StopsAfter from (front ++ rest) (length front + k)
 stops_then from middle front rest k path s = record {
   within = omega (arith, s.within, length-append front rest);

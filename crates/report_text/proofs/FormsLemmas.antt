@@ -29,7 +29,8 @@ use Rattle.transcript_model.specs.declared.outcome.Outcome.TheVariants as outcom
 use Rattle.transcript_model.specs.declared.report.Report.{Report}
 use Rattle.report_text.proofs.LineTextLemmas.{is_ink, is_inked, is_clear, number_inked}
 
-pub each_passes : {A : Type 0} (p : A → Bool) (P : A → Type 0) (xs : List A) → ((x : A) → P x → p x ≡ true) → All P xs
+pub each_passes : {A : Type 0} (p : A → Bool) (P : A → Type 0) (xs : List A)
+    → ((x : A) → P x → p x ≡ true) → All P xs
     → list_all p xs ≡ true
 each_passes p P [] so all = refl
 each_passes p P (x ∷ xs) so all =
@@ -82,7 +83,8 @@ term_inked name (inr p) =
     let numbers : is_inked (decimal p.j ++ 46 ∷ decimal p.i) ≡ true = rw (list_all-append is_ink (decimal p.j) (46 ∷ decimal p.i), number_of_32 p.j p.upto.0, number_of_32 p.i p.upto.1) refl in
     rw (p.is, numbers) refl
 
-call_inked : (IsArgument : List ℕ → Type 0) → ((name : List ℕ) → IsArgument name → is_inked name ≡ true) → (call : Call)
+call_inked : (IsArgument : List ℕ → Type 0)
+    → ((name : List ℕ) → IsArgument name → is_inked name ≡ true) → (call : Call)
     → IsFormedCall IsArgument call → list_all is_inked (call_fields call) ≡ true
 call_inked IsArgument inks call formed = and_from (is_inked call.name) (list_all is_inked call.args) (name_inked call.name formed.name) (each_passes is_inked IsArgument call.args inks formed.args)
 
@@ -96,7 +98,8 @@ bars_inked width (suc bars) values e =
     rw (list_all-append is_inked (take width values) (codes "|" ∷ tuples_of width bars (drop width values)), first_so (list_all is_inked (take width values)) (list_all is_inked (drop width values)) parts, bars_inked width bars (drop width values) (second_so (list_all is_inked (take width values)) (list_all is_inked (drop width values)) parts)) refl
 
 pub use_clear : (u : DreamUse) → IsFormedUse u → is_clear (use_line u) ≡ true
-use_clear u formed = rw (number_of_32 u.number formed.0, call_inked IsTerm term_inked u.call formed.1) refl
+use_clear u formed =
+    rw (number_of_32 u.number formed.0, call_inked IsTerm term_inked u.call formed.1) refl
 
 pub step_clear : (call : Call) → IsFormedCall IsTerm call → is_clear (step_line call) ≡ true
 step_clear call formed = call_inked IsTerm term_inked call formed
@@ -104,18 +107,22 @@ step_clear call formed = call_inked IsTerm term_inked call formed
 pub do_clear : (call : Call) → IsFormedCall IsTerm call → is_clear (do_line call) ≡ true
 do_clear call formed = call_inked IsTerm term_inked call formed
 
-mapped_clear : {A : Type 0} (P : A → Type 0) (f : A → Line) (xs : List A) → ((x : A) → P x → is_clear (f x) ≡ true) → All P xs
+mapped_clear : {A : Type 0} (P : A → Type 0) (f : A → Line) (xs : List A)
+    → ((x : A) → P x → is_clear (f x) ≡ true) → All P xs
     → list_all is_clear (map f xs) ≡ true
-mapped_clear P f xs so all = list_all-map is_clear f xs ∙ each_passes (λ x. is_clear (f x)) P xs so all
+mapped_clear P f xs so all =
+    list_all-map is_clear f xs ∙ each_passes (λ x. is_clear (f x)) P xs so all
 
-pub entry_clear : (version : ℕ) (e : Entry) → IsFormedEntry version e → list_all is_clear (entry_lines e) ≡ true
+pub entry_clear : (version : ℕ) (e : Entry) → IsFormedEntry version e
+    → list_all is_clear (entry_lines e) ≡ true
 entry_clear version entry.Level formed = refl
 entry_clear version (entry.Ask number turn call) formed =
     rw (number_of_32 number formed.0, number_of_32 turn formed.1, call_inked IsObject object_inked call formed.2) refl
 entry_clear version (entry.Got number tuples values) formed =
     let inked = each_passes is_inked (λ value. is_value value ≡ true) values value_inked formed.1.each in
     rw (number_of_32 number formed.0, bars_inked (length values / tuples) (tuples - 1) values inked) refl
-entry_clear version (entry.Value number value) formed = rw (number_of_32 number formed.0, number_inked value (omega (arith, formed.1))) refl
+entry_clear version (entry.Value number value) formed =
+    rw (number_of_32 number formed.0, number_inked value (omega (arith, formed.1))) refl
 entry_clear version (entry.End number) formed = rw (number_of_32 number formed) refl
 entry_clear version (entry.Dream uses steps) formed =
     rw (number_of_32 (length uses) formed.0, number_of_32 (length steps) formed.1, list_all-append is_clear (map use_line uses) (map step_line steps), mapped_clear IsFormedUse use_line uses use_clear formed.2, mapped_clear (IsFormedCall IsTerm) step_line steps step_clear formed.3) refl
@@ -132,7 +139,8 @@ entries_clear version (e ∷ es) all =
 
 -- ---- outcomes and heads
 
-pub origin_clear : (version : ℕ) (o : Origin) → IsFormedOrigin version o → is_clear (from_line version o) ≡ true
+pub origin_clear : (version : ℕ) (o : Origin) → IsFormedOrigin version o
+    → is_clear (from_line version o) ≡ true
 origin_clear version o formed =
     elim (version == 1) as (λ b. (is_inked o.object && (is_inked (decimal o.number) && list_all is_inked (cond b [] (decimal o.tuple ∷ [])))) ≡ true) [
       | true ↦ rw (object_inked o.object formed.object, number_of_32 o.number formed.number) refl
@@ -144,7 +152,8 @@ limit_clear Calls = refl
 limit_clear States = refl
 limit_clear Instances = refl
 
-outcome_clear : (version : ℕ) (o : Outcome) → IsFormedOutcome version o → list_all is_clear (outcome_lines version o) ≡ true
+outcome_clear : (version : ℕ) (o : Outcome) → IsFormedOutcome version o
+    → list_all is_clear (outcome_lines version o) ≡ true
 outcome_clear version (outcome.Plan steps cost from) formed =
     rw (number_of_32 (length steps) formed.0, list_all-append is_clear (map do_line steps) (line (codes "cost") (decimal cost ∷ []) ∷ map (from_line version) from), mapped_clear (IsFormedCall IsTerm) do_line steps do_clear formed.2, number_inked cost formed.1, mapped_clear (IsFormedOrigin version) (from_line version) from (origin_clear version) formed.3) refl
 outcome_clear version outcome.NoPlan formed = refl
@@ -160,7 +169,8 @@ pub pool_clear : (pool : PoolLine) → IsFormedPool pool → is_clear (pool_line
 pool_clear pool formed =
     rw (number_of_8 pool.workers formed.workers, each_passes is_inked IsName pool.streams name_inked formed.streams) refl
 
-head_clear : (r : Report) → IsFormed r → list_all is_clear (head_lines r.version r.mode r.calls r.states r.depth r.pools) ≡ true
+head_clear : (r : Report) → IsFormed r
+    → list_all is_clear (head_lines r.version r.mode r.calls r.states r.depth r.pools) ≡ true
 head_clear r formed =
     rw (number_inked r.version (small_version r.version formed.version), mode_clear r.mode, number_of_32 r.calls formed.calls, number_of_32 r.states formed.states, number_of_8 r.depth formed.depth, mapped_clear IsFormedPool pool_line r.pools pool_clear formed.pools) refl
 
@@ -171,9 +181,12 @@ abbrev pub head_of : Report → List Line
 head_of r = head_lines r.version r.mode r.calls r.states r.depth r.pools
 
 abbrev pub report_lines : Report → List Line
-report_lines r = head_of r ++ (flat_map entry_lines r.entries ++ (outcome_lines r.version r.outcome ++ done_line ∷ []))
+report_lines r =
+    head_of r
+    ++ (flat_map entry_lines r.entries ++ (outcome_lines r.version r.outcome ++ done_line ∷ []))
 
-entries_text : (entries : List Entry) → flat_map text_of_entry entries ≡ lines_text (flat_map entry_lines entries)
+entries_text : (entries : List Entry)
+    → flat_map text_of_entry entries ≡ lines_text (flat_map entry_lines entries)
 entries_text [] = refl
 entries_text (e ∷ es) =
     ap (λ later. text_of_entry e ++ later) (entries_text es) ∙ sym (flat_map-append line_text (entry_lines e) (flat_map entry_lines es))

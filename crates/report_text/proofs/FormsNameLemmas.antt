@@ -16,7 +16,8 @@ use Rattle.transcript_model.specs.declared.entry.Entry.{Entry}
 use Rattle.transcript_model.specs.declared.entry.Entry.TheVariants as entry
 use Rattle.report_text.specs.Forms.{IsObject}
 
-with_name-all : (P : List ℕ → Type 0) (names : List (List ℕ)) (name : List ℕ) → All P names → P name → All P (with_name names name)
+with_name-all : (P : List ℕ → Type 0) (names : List (List ℕ)) (name : List ℕ) → All P names → P name
+    → All P (with_name names name)
 with_name-all P names name all one = by (list_any (same_numbers name) names)
   where
     by : (b : Bool) → All P (cond b names (names ++ name ∷ []))

@@ -41,9 +41,12 @@ no_feed b e = grind (arith, nat_tests, e)
 inked_free : (text : List ℕ) → is_inked text ≡ true → All (λ b. is_space b ≡ false) text
 inked_free text e k d lt = no_space _ (AllPass-from_list_all is_ink text e k d lt)
 
-pub spaces_cut : (first : List ℕ) (more : List (List ℕ)) → is_inked first ≡ true → list_all is_inked more ≡ true
+pub spaces_cut : (first : List ℕ) (more : List (List ℕ)) → is_inked first ≡ true
+    → list_all is_inked more ≡ true
     → slice_split is_space (first ++ fields_text more) ≡ first ∷ more
-spaces_cut first [] e f = ap (slice_split is_space) (append-nil first) ∙ slice_split_none is_space first (inked_free first e)
+spaces_cut first [] e f =
+    ap (slice_split is_space) (append-nil first)
+    ∙ slice_split_none is_space first (inked_free first e)
 spaces_cut first (next ∷ more) e f =
     slice_split_at is_space first 32 (next ++ fields_text more) (inked_free first e) refl ∙ ap (λ fields. first ∷ fields) (spaces_cut next more (first_so (is_inked next) (list_all is_inked more) f) (second_so (is_inked next) (list_all is_inked more) f))
 
@@ -62,7 +65,8 @@ flows_on (b ∷ bs) e =
     let here : flows b ≡ true = grind (arith, nat_tests, first_so (is_ink b) (list_all is_ink bs) e) in
     and_from (flows b) (list_all flows bs) here (flows_on bs (second_so (is_ink b) (list_all is_ink bs) e))
 
-fields_flow : (more : List (List ℕ)) → list_all is_inked more ≡ true → list_all flows (fields_text more) ≡ true
+fields_flow : (more : List (List ℕ)) → list_all is_inked more ≡ true
+    → list_all flows (fields_text more) ≡ true
 fields_flow [] e = refl
 fields_flow (field ∷ more) e = rw (list_all-append flows (32 ∷ field) (fields_text more), flows_on field (first_so (is_inked field) (list_all is_inked more) e), fields_flow more (second_so (is_inked field) (list_all is_inked more) e)) refl
 
@@ -74,7 +78,8 @@ body_flows l e k d lt =
     apart : (b : ℕ) → flows b ≡ true → is_feed b ≡ false
     apart b e = grind (arith, nat_tests, e)
 
-pub feeds_cut : (lines : List Line) → list_all is_clear lines ≡ true → slice_split is_feed (lines_text lines) ≡ map body lines ++ [] ∷ []
+pub feeds_cut : (lines : List Line) → list_all is_clear lines ≡ true
+    → slice_split is_feed (lines_text lines) ≡ map body lines ++ [] ∷ []
 feeds_cut [] e = refl
 feeds_cut (l ∷ lines) e =
     let clear = first_so (is_clear l) (list_all is_clear lines) e in
@@ -105,13 +110,15 @@ front_of (x ∷ y ∷ ys) = x ∷ front_of (y ∷ ys)
 pub read_lines : List ℕ → List Line
 read_lines text = map line_from (front_of (map (slice_split is_space) (slice_split is_feed text)))
 
-lines_back : (lines : List Line) → map line_from (front_of (map (λ (l : Line). l.first ∷ l.more) lines ++ ([] ∷ []) ∷ [])) ≡ lines
+lines_back : (lines : List Line)
+    → map line_from (front_of (map (λ (l : Line). l.first ∷ l.more) lines ++ ([] ∷ []) ∷ [])) ≡ lines
 unfolding line_from front_of
 lines_back [] = refl
 lines_back (l ∷ []) = refl
 lines_back (l ∷ m ∷ lines) = ap (λ ls. l ∷ ls) (lines_back (m ∷ lines))
 
-pub lines_read : (lines : List Line) → list_all is_clear lines ≡ true → read_lines (lines_text lines) ≡ lines
+pub lines_read : (lines : List Line) → list_all is_clear lines ≡ true
+    → read_lines (lines_text lines) ≡ lines
 unfolding read_lines
 lines_read lines e =
     ap (λ parts. map line_from (front_of (map (slice_split is_space) parts))) (feeds_cut lines e)

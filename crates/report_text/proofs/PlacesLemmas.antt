@@ -69,29 +69,42 @@ tail_fields (f ∷ fs) = fs
 
 -- ---- one place only
 
-body_same : (version : ℕ) (l : Line) (m n : Place) → IsBodyStep version l m → IsBodyStep version l n → m ≡ n
+body_same : (version : ℕ) (l : Line) (m n : Place) → IsBodyStep version l m → IsBodyStep version l n
+    → m ≡ n
 unfolding head_field tail_fields
 body_same version l m n (inl a) (inl b) = a.1 ∙ sym b.1
-body_same version l m n (inl a) (inr (inl b)) = absurd (omega (arith, single_kind version l a.0, opens_kind l b.0 b.1 b.4))
-body_same version l m n (inl a) (inr (inr (inl b))) = absurd (omega (arith, single_kind version l a.0, plans_kind l b.0 b.2))
-body_same version l m n (inl a) (inr (inr (inr b))) = absurd (omega (arith, single_kind version l a.0, ends_kind l b.0))
-body_same version l m n (inr (inl a)) (inl b) = absurd (omega (arith, single_kind version l b.0, opens_kind l a.0 a.1 a.4))
+body_same version l m n (inl a) (inr (inl b)) =
+    absurd (omega (arith, single_kind version l a.0, opens_kind l b.0 b.1 b.4))
+body_same version l m n (inl a) (inr (inr (inl b))) =
+    absurd (omega (arith, single_kind version l a.0, plans_kind l b.0 b.2))
+body_same version l m n (inl a) (inr (inr (inr b))) =
+    absurd (omega (arith, single_kind version l a.0, ends_kind l b.0))
+body_same version l m n (inr (inl a)) (inl b) =
+    absurd (omega (arith, single_kind version l b.0, opens_kind l a.0 a.1 a.4))
 body_same version l m n (inr (inl a)) (inr (inl b)) =
     let lines : dream_line a.0 a.1 ≡ dream_line b.0 b.1 = sym a.4 ∙ b.4 in
     let uses : a.0 ≡ b.0 = decimal_injective a.0 b.0 (omega (arith, a.2)) (omega (arith, b.2)) (ap (λ (x : Line). head_field x.more) lines) in
     let steps : a.1 ≡ b.1 = decimal_injective a.1 b.1 (omega (arith, a.3)) (omega (arith, b.3)) (ap (λ (x : Line). head_field (tail_fields x.more)) lines) in
     a.5 ∙ (λ i. dreaming version (uses i) (steps i)) ∙ sym b.5
-body_same version l m n (inr (inl a)) (inr (inr (inl b))) = absurd (omega (arith, opens_kind l a.0 a.1 a.4, plans_kind l b.0 b.2))
-body_same version l m n (inr (inl a)) (inr (inr (inr b))) = absurd (omega (arith, opens_kind l a.0 a.1 a.4, ends_kind l b.0))
-body_same version l m n (inr (inr (inl a))) (inl b) = absurd (omega (arith, single_kind version l b.0, plans_kind l a.0 a.2))
-body_same version l m n (inr (inr (inl a))) (inr (inl b)) = absurd (omega (arith, opens_kind l b.0 b.1 b.4, plans_kind l a.0 a.2))
+body_same version l m n (inr (inl a)) (inr (inr (inl b))) =
+    absurd (omega (arith, opens_kind l a.0 a.1 a.4, plans_kind l b.0 b.2))
+body_same version l m n (inr (inl a)) (inr (inr (inr b))) =
+    absurd (omega (arith, opens_kind l a.0 a.1 a.4, ends_kind l b.0))
+body_same version l m n (inr (inr (inl a))) (inl b) =
+    absurd (omega (arith, single_kind version l b.0, plans_kind l a.0 a.2))
+body_same version l m n (inr (inr (inl a))) (inr (inl b)) =
+    absurd (omega (arith, opens_kind l b.0 b.1 b.4, plans_kind l a.0 a.2))
 body_same version l m n (inr (inr (inl a))) (inr (inr (inl b))) =
     let steps : a.0 ≡ b.0 = decimal_injective a.0 b.0 (omega (arith, a.1)) (omega (arith, b.1)) (ap (λ (x : Line). head_field x.more) (sym a.2 ∙ b.2)) in
     a.3 ∙ ap (planning version) steps ∙ sym b.3
-body_same version l m n (inr (inr (inl a))) (inr (inr (inr b))) = absurd (omega (arith, plans_kind l a.0 a.2, ends_kind l b.0))
-body_same version l m n (inr (inr (inr a))) (inl b) = absurd (omega (arith, single_kind version l b.0, ends_kind l a.0))
-body_same version l m n (inr (inr (inr a))) (inr (inl b)) = absurd (omega (arith, opens_kind l b.0 b.1 b.4, ends_kind l a.0))
-body_same version l m n (inr (inr (inr a))) (inr (inr (inl b))) = absurd (omega (arith, plans_kind l b.0 b.2, ends_kind l a.0))
+body_same version l m n (inr (inr (inl a))) (inr (inr (inr b))) =
+    absurd (omega (arith, plans_kind l a.0 a.2, ends_kind l b.0))
+body_same version l m n (inr (inr (inr a))) (inl b) =
+    absurd (omega (arith, single_kind version l b.0, ends_kind l a.0))
+body_same version l m n (inr (inr (inr a))) (inr (inl b)) =
+    absurd (omega (arith, opens_kind l b.0 b.1 b.4, ends_kind l a.0))
+body_same version l m n (inr (inr (inr a))) (inr (inr (inl b))) =
+    absurd (omega (arith, plans_kind l b.0 b.2, ends_kind l a.0))
 body_same version l m n (inr (inr (inr a))) (inr (inr (inr b))) = a.1 ∙ sym b.1
 
 body_no_pool : (version : ℕ) (l : Line) (n : Place) → IsBodyStep version l n → kind l ≡ 3 → ⊥
@@ -107,8 +120,10 @@ step_same first l m n a b =
     a.4 ∙ ap limits version ∙ sym b.4
 step_same (limits version) l m n a b = a.7 ∙ sym b.7
 step_same (pools version) l m n (inl a) (inl b) = a.3 ∙ sym b.3
-step_same (pools version) l m n (inl a) (inr b) = absurd (body_no_pool version l n b (pool_kind l a.0 a.2))
-step_same (pools version) l m n (inr a) (inl b) = absurd (body_no_pool version l m a (pool_kind l b.0 b.2))
+step_same (pools version) l m n (inl a) (inr b) =
+    absurd (body_no_pool version l n b (pool_kind l a.0 a.2))
+step_same (pools version) l m n (inr a) (inl b) =
+    absurd (body_no_pool version l m a (pool_kind l b.0 b.2))
 step_same (pools version) l m n (inr a) (inr b) = body_same version l m n a b
 step_same (entries version) l m n a b = body_same version l m n a b
 step_same (dream version zero zero) l m n a b = absurd a
@@ -156,8 +171,10 @@ step_live (pools version) l n (inl a) = subst IsLive (sym a.3) tt
 step_live (pools version) l n (inr a) = body_live version l n a
 step_live (entries version) l n a = body_live version l n a
 step_live (dream version zero zero) l n a = absurd a
-step_live (dream version zero (suc steps)) l n a = subst IsLive (sym a.3) (dreaming_live version 0 steps)
-step_live (dream version (suc uses) steps) l n a = subst IsLive (sym a.3) (dreaming_live version uses steps)
+step_live (dream version zero (suc steps)) l n a =
+    subst IsLive (sym a.3) (dreaming_live version 0 steps)
+step_live (dream version (suc uses) steps) l n a =
+    subst IsLive (sym a.3) (dreaming_live version uses steps)
 step_live (plan version zero) l n a = absurd a
 step_live (plan version (suc steps)) l n a = subst IsLive (sym a.3) (planning_live version steps)
 step_live (cost version) l n a = subst IsLive (sym a.3) tt
@@ -228,11 +245,14 @@ path_live p (l ∷ ls) n live path = path_live path.0 ls n (step_live p l path.0
 
 pub path_same : (p : Place) (ls : List Line) (m n : Place) → IsPath p ls m → IsPath p ls n → m ≡ n
 path_same p [] m n a b = sym a ∙ b
-path_same p (l ∷ ls) m n a b = path_same a.0 ls m n a.2 (subst (λ q. IsPath q ls n) (step_same p l b.0 a.0 b.1 a.1) b.2)
+path_same p (l ∷ ls) m n a b =
+    path_same a.0 ls m n a.2 (subst (λ q. IsPath q ls n) (step_same p l b.0 a.0 b.1 a.1) b.2)
 
 -- where a path goes on behind its front, the next line may stand there
-pub path_goes_on : (p : Place) (front rest : List Line) (l : Line) (m to : Place) → IsPath p (front ++ l ∷ rest) to → IsPath p front m
+pub path_goes_on : (p : Place) (front rest : List Line) (l : Line) (m to : Place)
+    → IsPath p (front ++ l ∷ rest) to → IsPath p front m
     → (n : Place) × IsLineStep m l n
-path_goes_on p [] rest l m to whole here = (whole.0, subst (λ q. IsLineStep q l whole.0) here whole.1)
+path_goes_on p [] rest l m to whole here =
+    (whole.0, subst (λ q. IsLineStep q l whole.0) here whole.1)
 path_goes_on p (k ∷ front) rest l m to whole here =
     path_goes_on whole.0 front rest l m to whole.2 (subst (λ q. IsPath q front m) (step_same p k here.0 whole.0 here.1 whole.1) here.2)

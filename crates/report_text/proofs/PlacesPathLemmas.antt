@@ -19,10 +19,12 @@ use Rattle.report_text.proofs.FormsLemmas.{report_lines}
 
 -- ---- paths in two parts
 
-pub path_then : (from : Place) (xs ys : List Line) (middle to : Place) → IsPath from xs middle → IsPath middle ys to
+pub path_then : (from : Place) (xs ys : List Line) (middle to : Place) → IsPath from xs middle
+    → IsPath middle ys to
     → IsPath from (xs ++ ys) to
 path_then from [] ys middle to here later = subst (λ p. IsPath p ys to) (sym here) later
-path_then from (l ∷ xs) ys middle to here later = (here.0, here.1, path_then here.0 xs ys middle to here.2 later)
+path_then from (l ∷ xs) ys middle to here later =
+    (here.0, here.1, path_then here.0 xs ys middle to here.2 later)
 
 -- ---- the lines of a report are a path
 
@@ -36,17 +38,22 @@ uses_path : (version : ℕ) (uses : List DreamUse) (steps : ℕ) → All IsForme
 uses_path version [] steps all = refl
 uses_path version (u ∷ us) steps all = (dreaming version (length us) steps, (u, All-head IsFormedUse u us all, refl, refl), uses_path version us steps (All-tail IsFormedUse u us all))
 
-pub single_path : (version : ℕ) (e : Entry) (l : Line) → IsFormedEntry version e → is_dream e ≡ false → entry_lines e ≡ l ∷ []
+pub single_path : (version : ℕ) (e : Entry) (l : Line) → IsFormedEntry version e
+    → is_dream e ≡ false → entry_lines e ≡ l ∷ []
     → IsPath (entries version) (entry_lines e) (entries version)
 single_path version e l formed single is = subst (λ ls. IsPath (entries version) ls (entries version)) (sym is) (entries version, inl (record { entry = e; formed = formed; single = single; is = is }, refl), refl)
 
-pub entry_path : (version : ℕ) (e : Entry) → IsFormedEntry version e → IsPath (entries version) (entry_lines e) (entries version)
+pub entry_path : (version : ℕ) (e : Entry) → IsFormedEntry version e
+    → IsPath (entries version) (entry_lines e) (entries version)
 entry_path version (entry.Dream uses steps) formed =
     (dreaming version (length uses) (length steps), inr (inl (length uses, length steps, formed.0, formed.1, refl, refl)), path_then (dreaming version (length uses) (length steps)) (map use_line uses) (map step_line steps) (dreaming version 0 (length steps)) (entries version) (uses_path version uses (length steps) formed.2) (steps_path version steps formed.3))
 entry_path version entry.Level formed = single_path version entry.Level _ formed refl refl
-entry_path version (entry.Ask n t c) formed = single_path version (entry.Ask n t c) _ formed refl refl
-entry_path version (entry.Got n t v) formed = single_path version (entry.Got n t v) _ formed refl refl
-entry_path version (entry.Value n v) formed = single_path version (entry.Value n v) _ formed refl refl
+entry_path version (entry.Ask n t c) formed =
+    single_path version (entry.Ask n t c) _ formed refl refl
+entry_path version (entry.Got n t v) formed =
+    single_path version (entry.Got n t v) _ formed refl refl
+entry_path version (entry.Value n v) formed =
+    single_path version (entry.Value n v) _ formed refl refl
 entry_path version (entry.End n) formed = single_path version (entry.End n) _ formed refl refl
 entry_path version entry.Nothing formed = single_path version entry.Nothing _ formed refl refl
 entry_path version entry.Reset formed = single_path version entry.Reset _ formed refl refl
@@ -76,11 +83,14 @@ outcome_path version (outcome.Plan steps c from) formed =
     let whole : (dos ++ later) ++ done_line ∷ [] ≡ dos ++ (later ++ done_line ∷ []) = append_assoc dos later (done_line ∷ []) in
     let behind_dos : IsPath (cost version) (later ++ done_line ∷ []) behind = (origins version, (c, formed.1, refl, refl), origins_path version from formed.3) in
     (planning version (length steps), inr (inr (inl (length steps, formed.0, refl, refl))), subst (λ ls. IsPath (planning version (length steps)) ls behind) (sym whole) (path_then (planning version (length steps)) dos (later ++ done_line ∷ []) (cost version) behind (dos_path version steps formed.2) behind_dos))
-outcome_path version outcome.NoPlan formed = (last, inr (inr (inr (inl refl, refl))), (behind, (refl, refl), refl))
-outcome_path version (outcome.Limit kind) formed = (last, inr (inr (inr (inr (kind, refl), refl))), (behind, (refl, refl), refl))
+outcome_path version outcome.NoPlan formed =
+    (last, inr (inr (inr (inl refl, refl))), (behind, (refl, refl), refl))
+outcome_path version (outcome.Limit kind) formed =
+    (last, inr (inr (inr (inr (kind, refl), refl))), (behind, (refl, refl), refl))
 
 -- a path that leaves the entries leaves the pools as well
-body_from_pools : (version : ℕ) (ls : List Line) → IsPath (entries version) ls behind → IsPath (pools version) ls behind
+body_from_pools : (version : ℕ) (ls : List Line) → IsPath (entries version) ls behind
+    → IsPath (pools version) ls behind
 body_from_pools version [] path = absurd (apart path)
   where
     is_entries : Place → Bool
@@ -91,7 +101,8 @@ body_from_pools version [] path = absurd (apart path)
     apart e = let same : true ≡ false = ap is_entries e in absurd (cc)
 body_from_pools version (l ∷ ls) path = (path.0, inr path.1, path.2)
 
-pools_path : (version : ℕ) (ps : List PoolLine) (ls : List Line) → All IsFormedPool ps → IsPath (entries version) ls behind
+pools_path : (version : ℕ) (ps : List PoolLine) (ls : List Line) → All IsFormedPool ps
+    → IsPath (entries version) ls behind
     → IsPath (pools version) (map pool_line ps ++ ls) behind
 pools_path version [] ls all path = body_from_pools version ls path
 pools_path version (p ∷ ps) ls all path =
@@ -126,16 +137,20 @@ Sound (origins version) ls =
 Sound last ls = done_line ∷ [] ≡ ls
 Sound behind ls = [] ≡ ls
 
-sound_dreaming : (version uses steps : ℕ) (ls : List Line) → Sound (dreaming version uses steps) ls → Sound (dream version uses steps) ls
+sound_dreaming : (version uses steps : ℕ) (ls : List Line) → Sound (dreaming version uses steps) ls
+    → Sound (dream version uses steps) ls
 sound_dreaming version zero zero ls s = ([], [], s.0, s.1, refl, refl, All-nil IsFormedUse, All-nil (IsFormedCall IsTerm), s.2, s.3, s.4)
 sound_dreaming version zero (suc steps) ls s = s
 sound_dreaming version (suc uses) steps ls s = s
 
-sound_planning : (version steps : ℕ) (ls : List Line) → Sound (planning version steps) ls → Sound (plan version steps) ls
-sound_planning version zero ls s = ([], s.0, s.1, refl, All-nil (IsFormedCall IsTerm), s.2, s.3, s.4)
+sound_planning : (version steps : ℕ) (ls : List Line) → Sound (planning version steps) ls
+    → Sound (plan version steps) ls
+sound_planning version zero ls s =
+    ([], s.0, s.1, refl, All-nil (IsFormedCall IsTerm), s.2, s.3, s.4)
 sound_planning version (suc steps) ls s = s
 
-sound_body : (version : ℕ) (l : Line) (ls : List Line) (next : Place) → IsBodyStep version l next → Sound next ls
+sound_body : (version : ℕ) (l : Line) (ls : List Line) (next : Place) → IsBodyStep version l next
+    → Sound next ls
     → Sound (entries version) (l ∷ ls)
 sound_body version l ls next (inl single) s =
     let here : IsEntryLine version l = single.0 in
@@ -158,7 +173,8 @@ sound_body version l ls next (inr (inr (inr (inr (kind, at), is)))) s =
     let later : done_line ∷ [] ≡ ls = subst (λ q. Sound q ls) is s in
     ([], outcome.Limit kind, All-nil (IsFormedEntry version), tt, λ i. sym at i ∷ later i)
 
-sound_step : (p : Place) (l : Line) (ls : List Line) (next : Place) → IsLineStep p l next → Sound next ls → Sound p (l ∷ ls)
+sound_step : (p : Place) (l : Line) (ls : List Line) (next : Place) → IsLineStep p l next
+    → Sound next ls → Sound p (l ∷ ls)
 sound_step first l ls next step s =
     let r = subst (λ q. Sound q ls) step.4 s step.2 step.1 in
     (r.0, r.1, r.2 ∙ ap (λ m. m ∷ ls) (sym step.3))
@@ -208,5 +224,6 @@ sound p [] path = subst (λ q. Sound q []) (sym path) refl
 sound p (l ∷ ls) path = sound_step p l ls path.0 path.1 (sound path.0 ls path.2)
 
 -- lines from the first place to the end are those of a report
-pub path_report : (ls : List Line) → IsPath first ls behind → (r : Report) × IsFormed r × (report_lines r ≡ ls)
+pub path_report : (ls : List Line) → IsPath first ls behind
+    → (r : Report) × IsFormed r × (report_lines r ≡ ls)
 path_report ls path = sound first ls path

@@ -13,20 +13,23 @@ use Rattle.task_model.specs.declared.task.Task.{Task}
 use Rattle.report_text.specs.Texts.{Line, line, line_text, lines_text, fields_text, tuples_of}
 use Rattle.gen_lines.specs.Request.{stream_name}
 
-pub shown_next : {X C B A : Type 0} (f : B → List A) (g : C → B) (h : X → C) (xs : List X) (i : ℕ) (x : X) → i < length xs
+pub shown_next : {X C B A : Type 0} (f : B → List A) (g : C → B) (h : X → C) (xs : List X) (i : ℕ) (x : X)
+    → i < length xs
     → x ≡ get_or xs i x → flat_map f (map g (map h (take (i + 1) xs))) ≡ flat_map f (map g (map h (take i xs))) ++ f (g (h x))
 shown_next f g h xs i x lt is =
     let one : take (i + 1) xs ≡ take i xs ++ x ∷ [] = rw add-one (take-suc xs i x lt ∙ ap (λ y. take i xs ++ y ∷ []) (sym is)) in
     rw (one, map-append, map-append, flat_map-append) (ap (λ t. flat_map f (map g (map h (take i xs))) ++ t) (append-nil (f (g (h x)))))
 
-pub lines_joined : (first second : List Line) → lines_text (first ++ second) ≡ lines_text first ++ lines_text second
+pub lines_joined : (first second : List Line)
+    → lines_text (first ++ second) ≡ lines_text first ++ lines_text second
 lines_joined first second = flat_map-append line_text first second
 
 pub assoc : (first second third : List ℕ) → first ++ second ++ third ≡ first ++ (second ++ third)
 assoc first second third = append_assoc first second third
 
 -- the name of a stream that was looked up
-pub stream_named : (task : Task) (streams : List Stream) (place : ℕ) (stream : Stream) → streams ≡ task.streams
+pub stream_named : (task : Task) (streams : List Stream) (place : ℕ) (stream : Stream)
+    → streams ≡ task.streams
     → place < length task.streams → stream ≡ get_or streams place stream → stream.name ≡ stream_name task place
 stream_named task streams place stream same lt is =
     let found : slice_get task.streams place ≡ Some stream = slice_get_read task.streams (length task.streams) place stream refl lt (is ∙ ap (λ s. get_or s place stream) same) in

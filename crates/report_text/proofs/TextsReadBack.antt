@@ -80,7 +80,8 @@ value_no_bar (b ∷ bs) e =
 
 kept : {A : Type 0} (p : A → Bool) (xs : List A) → list_all p xs ≡ true → filter p xs ≡ xs
 kept p [] e = refl
-kept p (x ∷ xs) e = rw (first_so (p x) (list_all p xs) e, kept p xs (second_so (p x) (list_all p xs) e)) refl
+kept p (x ∷ xs) e =
+    rw (first_so (p x) (list_all p xs) e, kept p xs (second_so (p x) (list_all p xs) e)) refl
 
 none_counted : (xs : List (List ℕ)) → list_all is_no_bar xs ≡ true → count_by is_bar xs ≡ 0
 none_counted [] e = refl
@@ -183,14 +184,17 @@ dream_back uses steps rest all =
     let read_steps = ap (map call_on) second ∙ steps_back steps in
     λ i. Some (entry.Dream (read_uses i) (read_steps i), last i)
 
-entry_back : (version : ℕ) (e : Entry) (rest : List Line) → IsFormedEntry version e → read_entry (entry_lines e ++ rest) ≡ Some (e, rest)
+entry_back : (version : ℕ) (e : Entry) (rest : List Line) → IsFormedEntry version e
+    → read_entry (entry_lines e ++ rest) ≡ Some (e, rest)
 entry_back version entry.Level rest formed = refl
-entry_back version (entry.Ask number turn call) rest formed = rw (back_32 number formed.0, back_32 turn formed.1) refl
+entry_back version (entry.Ask number turn call) rest formed =
+    rw (back_32 number formed.0, back_32 turn formed.1) refl
 entry_back version (entry.Got number tuples values) rest formed =
     let counted = bars_counted (length values / tuples) (tuples - 1) values (each_passes is_no_bar (λ value. is_value value ≡ true) values value_no_bar formed.1.each) in
     let all_tuples : count_by is_bar (tuple_fields tuples values) + 1 ≡ tuples = omega (arith, counted.1, formed.1.some) in
     rw (back_32 number formed.0) (λ i. Some (entry.Got number (all_tuples i) (counted.0 i), rest))
-entry_back version (entry.Value number value) rest formed = rw (back_32 number formed.0, number_back value (omega (arith, formed.1))) refl
+entry_back version (entry.Value number value) rest formed =
+    rw (back_32 number formed.0, number_back value (omega (arith, formed.1))) refl
 entry_back version (entry.End number) rest formed = rw (back_32 number formed) refl
 entry_back version (entry.Dream uses steps) rest formed =
     rw (back_32 (length uses) formed.0, back_32 (length steps) formed.1) (dream_back uses steps rest formed.2)
@@ -204,11 +208,13 @@ entries_in : ℕ → List Line → List Entry × List Line
 entries_in zero lines = ([], lines)
 entries_in (suc most) lines = after (λ rest. entries_in most rest) (read_entry lines)
   where
-    after : (List Line → List Entry × List Line) → Option (Entry × List Line) → List Entry × List Line
+    after : (List Line → List Entry × List Line) → Option (Entry × List Line)
+        → List Entry × List Line
     after later None = ([], lines)
     after later (Some r) = (r.0 ∷ (later r.1).0, (later r.1).1)
 
-entries_back : (version : ℕ) (most : ℕ) (entries : List Entry) (tail : List Line) → length entries ≤ most
+entries_back : (version : ℕ) (most : ℕ) (entries : List Entry) (tail : List Line)
+    → length entries ≤ most
     → All (IsFormedEntry version) entries → read_entry tail ≡ None
     → entries_in most (flat_map entry_lines entries ++ tail) ≡ (entries, tail)
 unfolding entries_in
@@ -231,7 +237,8 @@ origin_in l = from l.more
     from [] = record { object = []; number = 0; tuple = 1 }
     from (object ∷ []) = record { object = object; number = 0; tuple = 1 }
     from (object ∷ n ∷ []) = record { object = object; number = number_in n; tuple = 1 }
-    from (object ∷ n ∷ tuple ∷ more) = record { object = object; number = number_in n; tuple = number_in tuple }
+    from (object ∷ n ∷ tuple ∷ more) =
+        record { object = object; number = number_in n; tuple = number_in tuple }
 
 front_of : {A : Type 0} → List A → List A
 front_of [] = []
@@ -260,13 +267,16 @@ outcome_in : List Line → Outcome
 outcome_in [] = outcome.NoPlan
 outcome_in (l ∷ rest) = if is_word (codes "plan") l then plan_in (first_number l.more) rest else if is_word (codes "limit") l then outcome.Limit (limit_in l.more) else outcome.NoPlan
 
-origin_back : (version : ℕ) (o : Origin) → (version ≡ 1) ⊎ (version ≡ 2) → IsFormedOrigin version o → origin_in (from_line version o) ≡ o
+origin_back : (version : ℕ) (o : Origin) → (version ≡ 1) ⊎ (version ≡ 2) → IsFormedOrigin version o
+    → origin_in (from_line version o) ≡ o
 unfolding origin_in
 origin_back version o (inl one) formed =
     rw (one, back_32 o.number formed.number) (λ i. record { object = o.object; number = o.number; tuple = sym (formed.one one) i })
-origin_back version o (inr two) formed = rw (two, back_32 o.number formed.number, back_8 o.tuple formed.tuple) refl
+origin_back version o (inr two) formed =
+    rw (two, back_32 o.number formed.number, back_8 o.tuple formed.tuple) refl
 
-origins_back : (version : ℕ) (from : List Origin) → (version ≡ 1) ⊎ (version ≡ 2) → All (IsFormedOrigin version) from
+origins_back : (version : ℕ) (from : List Origin) → (version ≡ 1) ⊎ (version ≡ 2)
+    → All (IsFormedOrigin version) from
     → map origin_in (map (from_line version) from) ≡ from
 origins_back version [] is all = refl
 origins_back version (o ∷ os) is all =
@@ -274,7 +284,8 @@ origins_back version (o ∷ os) is all =
     let rest = origins_back version os is (λ k d lt. all (suc k) d (omega arith)) in
     λ i. first i ∷ rest i
 
-plan_back : (version : ℕ) (steps : List Call) (cost : ℕ) (from : List Origin) → (version ≡ 1) ⊎ (version ≡ 2) → cost < 2 ^ 64
+plan_back : (version : ℕ) (steps : List Call) (cost : ℕ) (from : List Origin)
+    → (version ≡ 1) ⊎ (version ≡ 2) → cost < 2 ^ 64
     → All (IsFormedOrigin version) from
     → plan_in (length steps) ((map do_line steps ++ line (codes "cost") (decimal cost ∷ []) ∷ map (from_line version) from) ++ done_line ∷ []) ≡ outcome.Plan steps cost from
 unfolding plan_in cost_in
@@ -294,7 +305,8 @@ limit_back Calls = refl
 limit_back States = refl
 limit_back Instances = refl
 
-outcome_back : (version : ℕ) (o : Outcome) → (version ≡ 1) ⊎ (version ≡ 2) → IsFormedOutcome version o
+outcome_back : (version : ℕ) (o : Outcome) → (version ≡ 1) ⊎ (version ≡ 2)
+    → IsFormedOutcome version o
     → outcome_in (outcome_lines version o ++ done_line ∷ []) ≡ o
 unfolding outcome_in
 outcome_back version (outcome.Plan steps cost from) is formed =
@@ -303,7 +315,8 @@ outcome_back version outcome.NoPlan is formed = refl
 outcome_back version (outcome.Limit kind) is formed = ap outcome.Limit (limit_back kind)
 
 -- no entry begins as an outcome does
-outcome_no_entry : (version : ℕ) (o : Outcome) → read_entry (outcome_lines version o ++ done_line ∷ []) ≡ None
+outcome_no_entry : (version : ℕ) (o : Outcome)
+    → read_entry (outcome_lines version o ++ done_line ∷ []) ≡ None
 outcome_no_entry version (outcome.Plan steps cost from) = refl
 outcome_no_entry version outcome.NoPlan = refl
 outcome_no_entry version (outcome.Limit kind) = refl
@@ -321,7 +334,8 @@ is_pool_first : List Line → Bool
 is_pool_first [] = false
 is_pool_first (l ∷ rest) = is_word (codes "pool") l
 
-pools_back : (pools : List PoolLine) (tail : List Line) → All IsFormedPool pools → is_pool_first tail ≡ false
+pools_back : (pools : List PoolLine) (tail : List Line) → All IsFormedPool pools
+    → is_pool_first tail ≡ false
     → pools_in (map pool_line pools ++ tail) ≡ (pools, tail)
 unfolding pools_in pool_in is_pool_first
 pools_back [] [] all none = refl
@@ -355,7 +369,8 @@ entry_no_pool entry.Reset rest = refl
 entry_no_pool (entry.Pick number) rest = refl
 entry_no_pool (entry.Retire number) rest = refl
 
-outcome_no_pool : (version : ℕ) (o : Outcome) → is_pool_first (outcome_lines version o ++ done_line ∷ []) ≡ false
+outcome_no_pool : (version : ℕ) (o : Outcome)
+    → is_pool_first (outcome_lines version o ++ done_line ∷ []) ≡ false
 unfolding is_pool_first
 outcome_no_pool version (outcome.Plan steps cost from) = refl
 outcome_no_pool version outcome.NoPlan = refl
@@ -381,7 +396,8 @@ report_in most (first ∷ []) = behind_head most first.more [] []
 report_in most (first ∷ second ∷ lines) = behind_head most first.more second.more lines
 
 -- a report with at most so many entries is read back from its lines
-pub report_back : (most : ℕ) (r : Report) → length r.entries ≤ most → IsFormed r → report_in most (report_lines r) ≡ r
+pub report_back : (most : ℕ) (r : Report) → length r.entries ≤ most → IsFormed r
+    → report_in most (report_lines r) ≡ r
 unfolding report_in behind_head
 report_back most r le formed =
     let behind = outcome_lines r.version r.outcome ++ done_line ∷ [] in
@@ -392,7 +408,8 @@ report_back most r le formed =
     rw (pools, entries, outcome, number_back r.version (small_version r.version formed.version), mode_back r.mode, back_32 r.calls formed.calls, back_32 r.states formed.states, back_8 r.depth formed.depth) refl
 
 -- reports with equal lines are equal
-pub lines_determine : (r s : Report) → IsFormed r → IsFormed s → report_lines r ≡ report_lines s → r ≡ s
+pub lines_determine : (r s : Report) → IsFormed r → IsFormed s → report_lines r ≡ report_lines s
+    → r ≡ s
 lines_determine r s first second same =
     let most = length r.entries + length s.entries in
     sym (report_back most r (omega arith) first) ∙ ap (report_in most) same ∙ report_back most s (omega arith) second

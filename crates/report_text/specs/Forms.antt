@@ -69,8 +69,10 @@ abbrev pub IsFormedUse : DreamUse → Type 0
 IsFormedUse u = IsNumber u.number × IsFormedCall IsTerm u.call
 
 abbrev pub IsFormedEntry : ℕ → Entry → Type 0
-IsFormedEntry version (entry.Ask number turn call) = IsNumber number × IsNumber turn × IsFormedCall IsObject call
-IsFormedEntry version (entry.Got number tuples values) = IsNumber number × AreTuples version tuples values
+IsFormedEntry version (entry.Ask number turn call) =
+    IsNumber number × IsNumber turn × IsFormedCall IsObject call
+IsFormedEntry version (entry.Got number tuples values) =
+    IsNumber number × AreTuples version tuples values
 IsFormedEntry version (entry.Value number value) = IsNumber number × (value ≤ 1000000)
 IsFormedEntry version (entry.End number) = IsNumber number
 IsFormedEntry version (entry.Dream uses steps) =

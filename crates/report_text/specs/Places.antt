@@ -56,7 +56,8 @@ abbrev pub first_line : ℕ → Mode → Line
 first_line version mode = line (codes "pddlstream") (decimal version ∷ mode_word mode ∷ [])
 
 abbrev pub limits_line : ℕ → ℕ → ℕ → Line
-limits_line calls states depth = line (codes "limits") (decimal calls ∷ decimal states ∷ decimal depth ∷ [])
+limits_line calls states depth =
+    line (codes "limits") (decimal calls ∷ decimal states ∷ decimal depth ∷ [])
 
 abbrev pub is_dream : Entry → Bool
 is_dream (entry.Dream uses steps) = true
@@ -94,7 +95,8 @@ IsLineStep (dream version (suc uses) steps) l next =
 IsLineStep (plan version zero) l next = ⊥
 IsLineStep (plan version (suc steps)) l next =
     (call : Call) × IsFormedCall IsTerm call × (l ≡ do_line call) × (next ≡ planning version steps)
-IsLineStep (cost version) l next = (c : ℕ) × (c < 2 ^ 64) × (l ≡ cost_line c) × (next ≡ origins version)
+IsLineStep (cost version) l next =
+    (c : ℕ) × (c < 2 ^ 64) × (l ≡ cost_line c) × (next ≡ origins version)
 IsLineStep (origins version) l next =
     ((o : Origin) × IsFormedOrigin version o × (l ≡ from_line version o) × (next ≡ origins version))
     ⊎ ((l ≡ done_line) × (next ≡ behind))
@@ -118,7 +120,8 @@ IsTextStep from text next = (l : Line) × (line_body l ≡ text) × IsLineStep f
 
 -- lines that are written so may stand from the first place on, and the second follows
 abbrev pub IsTextPath : Place → List (List ℕ) → Place → Type 0
-IsTextPath from texts to = (lines : List Line) × (map line_body lines ≡ texts) × IsPath from lines to
+IsTextPath from texts to =
+    (lines : List Line) × (map line_body lines ≡ texts) × IsPath from lines to
 
 -- The next line may not stand at the place, or it is missing where one has to come.
 abbrev pub IsStuck : Place → List (List ℕ) → Type 0

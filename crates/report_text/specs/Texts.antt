@@ -49,7 +49,8 @@ call_fields call = call.name ∷ call.args
 -- tuples of this width, with a bar between each two
 abbrev pub tuples_of : ℕ → ℕ → List (List ℕ) → List (List ℕ)
 tuples_of width zero values = values
-tuples_of width (suc bars) values = take width values ++ codes "|" ∷ tuples_of width bars (drop width values)
+tuples_of width (suc bars) values =
+    take width values ++ codes "|" ∷ tuples_of width bars (drop width values)
 
 -- the values of so many tuples, which have equally many each
 abbrev pub tuple_fields : ℕ → List (List ℕ) → List (List ℕ)
@@ -63,9 +64,12 @@ step_line call = line (codes "step") (call_fields call)
 
 abbrev pub entry_lines : Entry → List Line
 entry_lines entry.Level = line (codes "level") [] ∷ []
-entry_lines (entry.Ask number turn call) = line (codes "ask") (decimal number ∷ decimal turn ∷ call_fields call) ∷ []
-entry_lines (entry.Got number tuples values) = line (codes "got") (decimal number ∷ tuple_fields tuples values) ∷ []
-entry_lines (entry.Value number value) = line (codes "value") (decimal number ∷ decimal value ∷ []) ∷ []
+entry_lines (entry.Ask number turn call) =
+    line (codes "ask") (decimal number ∷ decimal turn ∷ call_fields call) ∷ []
+entry_lines (entry.Got number tuples values) =
+    line (codes "got") (decimal number ∷ tuple_fields tuples values) ∷ []
+entry_lines (entry.Value number value) =
+    line (codes "value") (decimal number ∷ decimal value ∷ []) ∷ []
 entry_lines (entry.End number) = line (codes "end") (decimal number ∷ []) ∷ []
 entry_lines (entry.Dream uses steps) =
     line (codes "dream") (decimal (length uses) ∷ decimal (length steps) ∷ []) ∷ map use_line uses
@@ -112,7 +116,8 @@ mode_word Adaptive = codes "adaptive"
 
 -- a pool as a report shows it
 abbrev pub shown_pool : Task → Pool → PoolLine
-shown_pool task pool = record { workers = pool.workers; streams = map (stream_name task) pool.streams }
+shown_pool task pool =
+    record { workers = pool.workers; streams = map (stream_name task) pool.streams }
 
 abbrev pub pool_line : PoolLine → Line
 pool_line pool = line (codes "pool") (decimal pool.workers ∷ pool.streams)

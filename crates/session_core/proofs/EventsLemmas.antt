@@ -21,22 +21,28 @@ keeps_child : (e : Event) (s : Slot) → (change_by e s).child ≡ s.child
 keeps_child (sends child) s = child_kept child sent_slot (λ t. refl) s
 keeps_child (says child line) s = child_kept child (heard_slot line) (λ t. refl) s
 
-pub after_each : (slots : List Slot) (events : List Event) → after slots events ≡ map (λ s. slot_after s events) slots
+pub after_each : (slots : List Slot) (events : List Event)
+    → after slots events ≡ map (λ s. slot_after s events) slots
 after_each slots [] = sym (map_id slots)
   where
     map_id : (ss : List Slot) → map (λ s. s) ss ≡ ss
     map_id [] = refl
     map_id (s ∷ ss) = ap (λ ts. s ∷ ts) (map_id ss)
-after_each slots (e ∷ events) = after_each (map (change_by e) slots) events ∙ map-map (λ s. slot_after s events) (change_by e) slots
+after_each slots (e ∷ events) =
+    after_each (map (change_by e) slots) events
+    ∙ map-map (λ s. slot_after s events) (change_by e) slots
 
 -- what still comes to a slot: nothing if it is answered, and else its one line
 abbrev OutcomeBy : Option Entry → Bool → Slot → List Event → Type 0
 OutcomeBy (Some e) sent s events = (lines_of s.child events ≡ []) × (slot_after s events ≡ s)
-OutcomeBy None true s events = (line : List ℕ) × (lines_of s.child events ≡ line ∷ []) × (slot_after s events ≡ heard_slot line s)
+OutcomeBy None true s events =
+    (line : List ℕ) × (lines_of s.child events ≡ line ∷ [])
+    × (slot_after s events ≡ heard_slot line s)
 OutcomeBy None false s events =
     (line : List ℕ) × (lines_of s.child events ≡ line ∷ []) × (slot_after s events ≡ heard_slot line (sent_slot s))
 
-carry : (a : Option Entry) (b : Bool) (s : Slot) (es fs : List Event) → lines_of s.child fs ≡ lines_of s.child es
+carry : (a : Option Entry) (b : Bool) (s : Slot) (es fs : List Event)
+    → lines_of s.child fs ≡ lines_of s.child es
     → slot_after s fs ≡ slot_after s es → OutcomeBy a b s es → OutcomeBy a b s fs
 carry (Some e) b s es fs lines ends o = (lines ∙ o.0, ends ∙ o.1)
 carry None true s es fs lines ends o = (o.0, lines ∙ o.1, ends ∙ o.2)
@@ -54,7 +60,8 @@ has_entry n (reply.bad why) none = absurd (cc)
 
 module _ (s : Slot) where
   -- the slot's own request is sent
-  sent_own : (events : List Event) → s.answer ≡ None → s.sent ≡ false → OutcomeBy (sent_slot s).answer true (sent_slot s) events
+  sent_own : (events : List Event) → s.answer ≡ None → s.sent ≡ false
+      → OutcomeBy (sent_slot s).answer true (sent_slot s) events
       → OutcomeBy s.answer s.sent s (sends s.child ∷ events)
   sent_own events none unsent o =
       let r = subst (λ a. OutcomeBy a true (sent_slot s) events) none o in
@@ -75,24 +82,28 @@ module _ (s : Slot) where
       (subst (λ b. OutcomeBy None b s (says s.child line ∷ events)) (sym sent) (line, lines, ap (λ t. slot_after t events) own ∙ r.1))
 
   -- an event of another child
-  sent_other : (child : ℕ) (events : List Event) → is_slot_of child s ≡ false → OutcomeBy s.answer s.sent s events
+  sent_other : (child : ℕ) (events : List Event) → is_slot_of child s ≡ false
+      → OutcomeBy s.answer s.sent s events
       → OutcomeBy s.answer s.sent s (sends child ∷ events)
   sent_other child events apart o =
       carry s.answer s.sent s events (sends child ∷ events) refl (ap (λ t. slot_after t events) (at_other child sent_slot s apart)) o
 
-  heard_other : (child : ℕ) (line : List ℕ) (events : List Event) → is_slot_of child s ≡ false → OutcomeBy s.answer s.sent s events
+  heard_other : (child : ℕ) (line : List ℕ) (events : List Event) → is_slot_of child s ≡ false
+      → OutcomeBy s.answer s.sent s events
       → OutcomeBy s.answer s.sent s (says child line ∷ events)
   heard_other child line events apart o =
       carry s.answer s.sent s events (says child line ∷ events) (ap (λ b. cond b (line ∷ lines_of s.child events) (lines_of s.child events)) apart) (ap (λ t. slot_after t events) (at_other child (heard_slot line) s apart)) o
 
 -- the slot in the changed list
-moved : (slots : List Slot) (e : Event) (s t : Slot) → slot_of slots s.child ≡ Some s → change_by e s ≡ t → t.child ≡ s.child
+moved : (slots : List Slot) (e : Event) (s t : Slot) → slot_of slots s.child ≡ Some s
+    → change_by e s ≡ t → t.child ≡ s.child
     → slot_of (map (change_by e) slots) t.child ≡ Some t
 moved slots e s t at is child =
     ap (slot_of (map (change_by e) slots)) child ∙ slot_of-map (change_by e) (keeps_child e) slots s.child
     ∙ ap (option_map (change_by e)) at ∙ ap Some is
 
-pub outcome : (slots : List Slot) (events : List Event) → AreDistinct (children_of slots) → IsPlayed slots events → (s : Slot)
+pub outcome : (slots : List Slot) (events : List Event) → AreDistinct (children_of slots)
+    → IsPlayed slots events → (s : Slot)
     → slot_of slots s.child ≡ Some s → OutcomeBy s.answer s.sent s events
 outcome slots [] d all s at = let p = slot_place slots s.child s at in answered_end s.answer s.sent s (answered_at slots p.0 s all p.1)
 outcome slots (sends child ∷ events) d played s at =
@@ -129,7 +140,8 @@ record Plays (s : Slot) (events : List Event) : Type 0 where
   lines : lines_of s.child events ≡ line ∷ []
   ends : slot_after s events ≡ heard_slot line (sent_slot s)
 
-plays : (slots : List Slot) (events : List Event) → IsFresh slots → IsPlayed slots events → (k : ℕ) (s : Slot) → slice_get slots k ≡ Some s
+plays : (slots : List Slot) (events : List Event) → IsFresh slots → IsPlayed slots events
+    → (k : ℕ) (s : Slot) → slice_get slots k ≡ Some s
     → Plays s events
 plays slots events fresh played k s at =
     let o = outcome slots events fresh.apart played s (own_slot slots k s fresh.apart at) in
@@ -141,12 +153,15 @@ plays slots events fresh played k s at =
         → All (λ (t : Slot). (t.sent ≡ false) × (t.answer ≡ None)) slots → (s.sent ≡ false) × (s.answer ≡ None)
     all_at slots k s at all = subst (λ (t : Slot). (t.sent ≡ false) × (t.answer ≡ None)) (get_or_from_slice_get slots k s s at) (all k s (slice_get_within slots k s at))
 
-filter_at : {A B : Type 0} (f g : A → Option B) (xs : List A) → ((k : ℕ) (x : A) → slice_get xs k ≡ Some x → f x ≡ g x)
+filter_at : {A B : Type 0} (f g : A → Option B) (xs : List A)
+    → ((k : ℕ) (x : A) → slice_get xs k ≡ Some x → f x ≡ g x)
     → filter_map f xs ≡ filter_map g xs
 filter_at f g [] same = refl
-filter_at f g (x ∷ xs) same = λ i. cons_option (same 0 x refl i) (filter_at f g xs (λ k y at. same (suc k) y at) i)
+filter_at f g (x ∷ xs) same =
+    λ i. cons_option (same 0 x refl i) (filter_at f g xs (λ k y at. same (suc k) y at) i)
 
-filter_map-map : {A B C : Type 0} (f : B → Option C) (g : A → B) (xs : List A) → filter_map f (map g xs) ≡ filter_map (λ x. f (g x)) xs
+filter_map-map : {A B C : Type 0} (f : B → Option C) (g : A → B) (xs : List A)
+    → filter_map f (map g xs) ≡ filter_map (λ x. f (g x)) xs
 filter_map-map f g [] = refl
 filter_map-map f g (x ∷ xs) = ap (cons_option (f (g x))) (filter_map-map f g xs)
 

@@ -32,13 +32,15 @@ use Rattle.lemmas.proofs.ListTests.{get_there}
 
 -- ---- lists
 
-pub take_next : {A : Type 0} (xs : List A) (k : ℕ) (x : A) → slice_get xs k ≡ Some x → take (k + 1) xs ≡ take k xs ++ x ∷ []
+pub take_next : {A : Type 0} (xs : List A) (k : ℕ) (x : A) → slice_get xs k ≡ Some x
+    → take (k + 1) xs ≡ take k xs ++ x ∷ []
 take_next [] k x at = absurd (cc)
 take_next (y ∷ ys) zero x at = let same : y ≡ x = cc in ap (λ z. z ∷ []) same
 take_next (y ∷ ys) (suc k) x at =
     ap (λ m. take m (y ∷ ys)) (let e : suc k + 1 ≡ suc (k + 1) = omega arith in e) ∙ ap (λ zs. y ∷ zs) (take_next ys k x at)
 
-pub front_at : {A : Type 0} (xs : List A) (n k : ℕ) (x : A) → slice_get (take n xs) k ≡ Some x → slice_get xs k ≡ Some x
+pub front_at : {A : Type 0} (xs : List A) (n k : ℕ) (x : A) → slice_get (take n xs) k ≡ Some x
+    → slice_get xs k ≡ Some x
 front_at [] zero k x at = absurd (cc)
 front_at [] (suc n) k x at = absurd (cc)
 front_at (y ∷ ys) zero k x at = absurd (cc)
@@ -75,7 +77,8 @@ answers_to (entry.End m) n is = let same : n ≡ m = cc in eq-eqb n m same
 answers_to e n is = absurd (cc)
 
 module _ (task : Task) (asked_all : List Instance) (entries : List Entry) (can : CanLearn task asked_all entries) where
-  small_got : (place : ℕ) (n tuples : ℕ) (values : List (List ℕ)) → slice_get entries place ≡ Some (entry.Got n tuples values)
+  small_got : (place : ℕ) (n tuples : ℕ) (values : List (List ℕ))
+      → slice_get entries place ≡ Some (entry.Got n tuples values)
       → (tuples ≤ 16) × (length values ≤ 128)
   small_got place n tuples values at =
       let may : IsRightGot can.version task (take place entries) n tuples values = can.legal place (entry.Got n tuples values) at in
@@ -94,8 +97,10 @@ module _ (task : Task) (asked_all : List Instance) (entries : List Entry) (can :
       let declared = length-map task.problem.objects (λ (d : Declared). d.name) in
       omega (arith, some, objects, declared, length_with_names (declared_names task) (flat_map objects_in front), few_front place)
     where
-      objects_few : (k : ℕ) (e : Entry) → slice_get entries k ≡ Some e → length (objects_in e) ≤ 128 * weight e
-      objects_few k (entry.Got n tuples values) at = omega (arith, (small_got k n tuples values at).1, length-map values generated)
+      objects_few : (k : ℕ) (e : Entry) → slice_get entries k ≡ Some e
+          → length (objects_in e) ≤ 128 * weight e
+      objects_few k (entry.Got n tuples values) at =
+          omega (arith, (small_got k n tuples values at).1, length-map values generated)
       objects_few k e at = omega arith
 
   few_notes : (place : ℕ) → length (notes_of task (take place entries)) ≤ 1600000
@@ -106,19 +111,24 @@ module _ (task : Task) (asked_all : List Instance) (entries : List Entry) (can :
       tuples_few : (tuples : ℕ) (o : Option Asked) → tuples ≤ 16
           → length (option_map_or (λ (a : Asked). replicate tuples (Yielded a.instance)) o []) ≤ 16
       tuples_few tuples None few = omega arith
-      tuples_few tuples (Some a) few = omega (arith, few, length-replicate tuples (Yielded a.instance))
+      tuples_few tuples (Some a) few =
+          omega (arith, few, length-replicate tuples (Yielded a.instance))
 
-      end_few : (o : Option Asked) → length (option_map_or (λ (a : Asked). Ended a.instance ∷ []) o []) ≤ 16
+      end_few : (o : Option Asked)
+          → length (option_map_or (λ (a : Asked). Ended a.instance ∷ []) o []) ≤ 16
       end_few None = omega arith
       end_few (Some a) = omega arith
 
-      notes_few : (front : List Entry) (k : ℕ) (e : Entry) → slice_get entries k ≡ Some e → length (note_of task front e) ≤ 16 * weight e
-      notes_few front k (entry.Got n tuples values) at = tuples_few tuples (asked task front n) (small_got k n tuples values at).0
+      notes_few : (front : List Entry) (k : ℕ) (e : Entry) → slice_get entries k ≡ Some e
+          → length (note_of task front e) ≤ 16 * weight e
+      notes_few front k (entry.Got n tuples values) at =
+          tuples_few tuples (asked task front n) (small_got k n tuples values at).0
       notes_few front k (entry.Value n value) at = end_few (asked task front n)
       notes_few front k (entry.End n) at = end_few (asked task front n)
       notes_few front k e at = omega arith
 
-  constants_named : (place : ℕ) → length task.domain.constants ≤ length (names_of task (take place entries))
+  constants_named : (place : ℕ)
+      → length task.domain.constants ≤ length (names_of task (take place entries))
   constants_named place =
       let front = names_of-front task [] (take place entries) in
       omega (arith, constants_few task can.fit, length-map task.problem.objects (λ (d : Declared). d.name), ap length front.1, length-append (declared_names task) front.0)
@@ -135,7 +145,8 @@ module _ (task : Task) (asked_all : List Instance) (entries : List Entry) (can :
     pub known : known_of task (take (place + 1) entries) ≡ known_with task (known_of task (take place entries)) request e
     pub notes : notes_of task (take (place + 1) entries) ≡ notes_with (notes_of task (take place entries)) request e
 
-  room_after : (place n : ℕ) (e : Entry) (a : Asked) → slice_get entries place ≡ Some e → asked task (take place entries) n ≡ Some a
+  room_after : (place n : ℕ) (e : Entry) (a : Asked) → slice_get entries place ≡ Some e
+      → asked task (take place entries) n ≡ Some a
       → is_answer_to n e ≡ true → MayFollow can.version task (take place entries) e
       → IsRoomAfter (known_of task (take place entries)) (notes_of task (take place entries)) a.stream e
   room_after place n (entry.Got m tuples values) a at was answers may =
@@ -157,7 +168,8 @@ module _ (task : Task) (asked_all : List Instance) (entries : List Entry) (can :
   room_after place n (entry.Pick k) a at was answers may = tt
   room_after place n (entry.Retire k) a at was answers may = tt
 
-  pub answer_at : (place n : ℕ) (e : Entry) → slice_get entries place ≡ Some e → answered_number e ≡ Some n → IsAnswerAt place n e
+  pub answer_at : (place n : ℕ) (e : Entry) → slice_get entries place ≡ Some e
+      → answered_number e ≡ Some n → IsAnswerAt place n e
   answer_at place n e at number =
       let before = take place entries in
       let legal = legal_take can.version task entries place can.legal in
@@ -192,13 +204,15 @@ module _ (task : Task) (asked_all : List Instance) (entries : List Entry) (can :
     pub known : known_of task (take (place + 1) entries) ≡ known_of task (take place entries)
     pub notes : notes_of task (take (place + 1) entries) ≡ notes_of task (take place entries)
 
-  mark_at : (place : ℕ) (e : Entry) → slice_get entries place ≡ Some e → is_mark e ≡ true → AddsNothing place
+  mark_at : (place : ℕ) (e : Entry) → slice_get entries place ≡ Some e → is_mark e ≡ true
+      → AddsNothing place
   mark_at place e at mark =
       let adds = mark_adds can.version task (take place entries) can.fit.problem.objects.names.distinct (legal_take can.version task entries place can.legal) e mark in
       let next = take_next entries place e at in
       record { known = ap (known_of task) next ∙ adds.same.known; notes = ap (notes_of task) next ∙ adds.same.notes }
 
-  pub other_at : (place : ℕ) (e : Entry) → slice_get entries place ≡ Some e → answered_number e ≡ None → AddsNothing place
+  pub other_at : (place : ℕ) (e : Entry) → slice_get entries place ≡ Some e
+      → answered_number e ≡ None → AddsNothing place
   other_at place (entry.Ask number turn call) at none =
       let before = take place entries in
       let legal = legal_take can.version task entries place can.legal in
@@ -218,7 +232,8 @@ module _ (task : Task) (asked_all : List Instance) (entries : List Entry) (can :
   other_at place (entry.Retire n) at none = mark_at place (entry.Retire n) at refl
 
   -- what was asked, as it is read
-  pub request_read : (place n : ℕ) (e : Entry) (h : IsAnswerAt place n e) (i : Instance) (s : Stream) → i ≡ get_or asked_all (n - 1) i
+  pub request_read : (place n : ℕ) (e : Entry) (h : IsAnswerAt place n e) (i : Instance) (s : Stream)
+      → i ≡ get_or asked_all (n - 1) i
       → s ≡ get_or task.streams i.stream s → record { stream = s; instance = i } ≡ h.request
   request_read place n e h i s i_is s_is =
       let instance : i ≡ h.request.instance = i_is ∙ get_or_from_slice_get asked_all (n - 1) h.request.instance i h.is in

@@ -17,7 +17,8 @@ use Rattle.transcript_model.specs.declared.entry.Entry.TheVariants as entry
 use Rattle.task_model.proofs.KnownLemmas.{facts_then}
 
 -- what a tuple certifies, where its outputs have these names, and more names may stand behind them
-tuple_certifies : (task : Task) (names more : List (List ℕ)) (a : Asked) (values : List (List ℕ)) (outputs : List ℕ) → AreDistinct names
+tuple_certifies : (task : Task) (names more : List (List ℕ)) (a : Asked) (values : List (List ℕ)) (outputs : List ℕ)
+    → AreDistinct names
     → AreNamed names outputs values
     → tuple_facts task (with_names names more) a values ≡ certified_by task.domain a.stream a.instance.inputs outputs
 tuple_certifies task names more a values outputs distinct named =
@@ -47,21 +48,25 @@ tuple_learnt task known after a n values outputs names_are distinct named facts_
     λ i. record { names = names i; facts = facts i; values = values_are i }
 
 -- where no tuple is left, all is known
-pub none_left : (task : Task) (known : Known) (a : Asked) (values : List (List ℕ)) → length values ≡ 0
+pub none_left : (task : Task) (known : Known) (a : Asked) (values : List (List ℕ))
+    → length values ≡ 0
     → known ≡ known_with task known a (entry.Got 0 0 values)
 none_left task known a [] e = refl
 none_left task known a (v ∷ vs) e = absurd (cc)
 
 -- ---- counts
 
-pub length_with_names : (names more : List (List ℕ)) → length (with_names names more) ≤ length names + length more
+pub length_with_names : (names more : List (List ℕ))
+    → length (with_names names more) ≤ length names + length more
 length_with_names names [] = omega arith
-length_with_names names (name ∷ more) = omega (arith, length_with_name names name, length_with_names (with_name names name) more)
+length_with_names names (name ∷ more) =
+    omega (arith, length_with_name names name, length_with_names (with_name names name) more)
 
 -- as many tuples are left as are to come
 pub one_less : (n k : ℕ) → k < n → n - k ≡ suc (n - (k + 1))
 one_less n k lt = omega arith
 
 -- one note more in front of those that are left
-pub one_more : {A : Type 0} (xs : List A) (x : A) (n : ℕ) → (xs ++ x ∷ []) ++ replicate n x ≡ xs ++ replicate (suc n) x
+pub one_more : {A : Type 0} (xs : List A) (x : A) (n : ℕ)
+    → (xs ++ x ∷ []) ++ replicate n x ≡ xs ++ replicate (suc n) x
 one_more xs x n = append_assoc xs (x ∷ []) (replicate n x)

@@ -49,22 +49,27 @@ use Rattle.session_core.specs.State.{State, after_close}
 -- ---- lists
 
 distinct_left : {A : Type 0} (xs ys : List A) → AreDistinct (xs ++ ys) → AreDistinct xs
-distinct_left xs ys distinct i j x at_i at_j = distinct i j x (get_append xs ys i x at_i) (get_append xs ys j x at_j)
+distinct_left xs ys distinct i j x at_i at_j =
+    distinct i j x (get_append xs ys i x at_i) (get_append xs ys j x at_j)
 
 distinct_right : {A : Type 0} (xs ys : List A) → AreDistinct (xs ++ ys) → AreDistinct ys
 distinct_right xs ys distinct i j x at_i at_j =
     let same = distinct (length xs + i) (length xs + j) x (get_behind xs ys i x at_i) (get_behind xs ys j x at_j) in
     omega (arith, same)
 
-distinct_apart : {A : Type 0} (xs ys : List A) (x : A) → AreDistinct (xs ++ ys) → Contains xs x → Contains ys x → ⊥
+distinct_apart : {A : Type 0} (xs ys : List A) (x : A) → AreDistinct (xs ++ ys) → Contains xs x
+    → Contains ys x → ⊥
 distinct_apart xs ys x distinct first second =
     let a = place_of xs x first in
     let b = place_of ys x second in
     let same = distinct a.0 (length xs + b.0) x (get_append xs ys a.0 x a.1) (get_behind xs ys b.0 x b.1) in
     omega (arith, same, slice_get_within xs a.0 x a.1)
 
-two_parts : (n : ℕ) (dues : List Due) → instances_of dues ≡ instances_of (take n dues) ++ instances_of (drop n dues)
-two_parts n dues = ap instances_of (sym (take-append-drop n dues)) ∙ map-append (λ (d : Due). d.instance) (take n dues) (drop n dues)
+two_parts : (n : ℕ) (dues : List Due)
+    → instances_of dues ≡ instances_of (take n dues) ++ instances_of (drop n dues)
+two_parts n dues =
+    ap instances_of (sym (take-append-drop n dues))
+    ∙ map-append (λ (d : Due). d.instance) (take n dues) (drop n dues)
 
 -- ---- levels
 
@@ -72,12 +77,14 @@ less_apart : {A : Type 0} (cmp : A → A → Ordering) → IsTotalOrder cmp → 
 less_apart cmp total x less =
     let turned : Less ≡ Greater = sym less ∙ total.antisymm x x ∙ ap ordering_reverse less in absurd (less_greater turned)
 
-ascending_distinct : {A : Type 0} (cmp : A → A → Ordering) → IsTotalOrder cmp → (xs : List A) → AreAscending cmp xs → AreDistinct xs
+ascending_distinct : {A : Type 0} (cmp : A → A → Ordering) → IsTotalOrder cmp → (xs : List A)
+    → AreAscending cmp xs → AreDistinct xs
 ascending_distinct cmp total xs ascends i j x at_i at_j = by (nat_lt i j) refl (nat_lt j i) refl
   where
     by : (a : Bool) → nat_lt i j ≡ a → (b : Bool) → nat_lt j i ≡ b → i ≡ j
     by true lt b e = absurd (less_apart cmp total x (ascends i j x x (ltb-true i j lt) at_i at_j))
-    by false ge true lt = absurd (less_apart cmp total x (ascends j i x x (ltb-true j i lt) at_j at_i))
+    by false ge true lt =
+        absurd (less_apart cmp total x (ascends j i x x (ltb-true j i lt) at_j at_i))
     by false ge false le = omega (arith, ltb-false i j ge, ltb-false j i le)
 
 pub level_ready : (task : Task) (entries : List Entry) (dues : List Due)
@@ -90,7 +97,8 @@ level_ready task entries dues level = record {
 
 -- ---- the next round may begin
 
-pub may_begin : (task : Task) (s : State) (dues : List Due) (count : ℕ) → IsSession task s → s.failed ≡ false → IsLearnt s
+pub may_begin : (task : Task) (s : State) (dues : List Due) (count : ℕ) → IsSession task s
+    → s.failed ≡ false → IsLearnt s
     → AreReady task s.entries dues → IsNextRound s dues count → MayBeginRound task s (take count dues)
 may_begin task s dues count h works learnt ready next =
     let all = ap (λ n. take n s.entries) learnt.all ∙ take-length s.entries in
@@ -120,27 +128,32 @@ may_begin task s dues count h works learnt ready next =
 
 -- ---- what is known stays known
 
-facts_kept : (facts more : List Fact) (fact : Fact) → is_fact facts fact ≡ true → is_fact (with_facts facts more) fact ≡ true
+facts_kept : (facts more : List Fact) (fact : Fact) → is_fact facts fact ≡ true
+    → is_fact (with_facts facts more) fact ≡ true
 facts_kept facts more fact e = (fact_member (with_facts facts more) fact).1 (((with_facts-is facts more).members fact).1 (Contains-append_left facts more fact ((fact_member facts fact).0 e)))
 
 module _ (known after : Known) (kept : (fact : Fact) → is_fact known.facts fact ≡ true → is_fact after.facts fact ≡ true) where
-  types_kept : (objects sorts : List ℕ) → have_types known objects sorts ≡ true → have_types after objects sorts ≡ true
+  types_kept : (objects sorts : List ℕ) → have_types known objects sorts ≡ true
+      → have_types after objects sorts ≡ true
   types_kept [] [] e = refl
   types_kept [] (s ∷ ss) e = e
   types_kept (o ∷ os) [] e = e
   types_kept (o ∷ os) (s ∷ ss) e = and_from _ _ (kept (type_fact s o) (first_so (has_type known o s) (have_types known os ss) e)) (types_kept os ss (second_so (has_type known o s) (have_types known os ss) e))
 
-  patterns_kept : (slots : List ℕ) (ps : List Pattern) → list_all (λ p. is_fact known.facts (fact_of slots p)) ps ≡ true
+  patterns_kept : (slots : List ℕ) (ps : List Pattern)
+      → list_all (λ p. is_fact known.facts (fact_of slots p)) ps ≡ true
       → list_all (λ p. is_fact after.facts (fact_of slots p)) ps ≡ true
   patterns_kept slots [] e = refl
   patterns_kept slots (p ∷ ps) e = and_from _ _ (kept (fact_of slots p) (first_so (is_fact known.facts (fact_of slots p)) _ e)) (patterns_kept slots ps (second_so (is_fact known.facts (fact_of slots p)) _ e))
 
-  reachable_kept : (s : Stream) (i : Instance) → is_reachable s known i ≡ true → is_reachable s after i ≡ true
+  reachable_kept : (s : Stream) (i : Instance) → is_reachable s known i ≡ true
+      → is_reachable s after i ≡ true
   reachable_kept s i e = and_from _ _ (types_kept i.inputs s.inputs (first_so (have_types known i.inputs s.inputs) _ e)) (patterns_kept (slots_of i.inputs) s.domain (second_so (have_types known i.inputs s.inputs) _ e))
 
 -- ---- notes on others
 
-tally_apart : (notes more : List Note) (i : Instance) → All (λ n. ¬ (about n ≡ i)) more → tally_of (notes ++ more) i ≡ tally_of notes i
+tally_apart : (notes more : List Note) (i : Instance) → All (λ n. ¬ (about n ≡ i)) more
+    → tally_of (notes ++ more) i ≡ tally_of notes i
 tally_apart notes [] i all = ap (λ ns. tally_of ns i) (append-nil notes)
 tally_apart notes (m ∷ ms) i all =
     ap (λ ns. tally_of ns i) (sym (append_assoc notes (m ∷ []) ms))
@@ -150,8 +163,10 @@ tally_apart notes (m ∷ ms) i all =
 -- ---- the answers of a round
 
 entry_number : (n : ℕ) (r : Reply) (e : Entry) → entry_of n r ≡ Some e → answered_number e ≡ Some n
-entry_number n (reply.yields tuples values) e is = let same : entry.Got n tuples values ≡ e = cc in ap answered_number (sym same)
-entry_number n (reply.number value) e is = let same : entry.Value n value ≡ e = cc in ap answered_number (sym same)
+entry_number n (reply.yields tuples values) e is =
+    let same : entry.Got n tuples values ≡ e = cc in ap answered_number (sym same)
+entry_number n (reply.number value) e is =
+    let same : entry.Value n value ≡ e = cc in ap answered_number (sym same)
 entry_number n reply.ends e is = let same : entry.End n ≡ e = cc in ap answered_number (sym same)
 entry_number n (reply.bad why) e is = absurd (cc)
 
@@ -162,7 +177,8 @@ record IsAnswerOf (number : ℕ) (dues : List Due) (e : Entry) : Type 0 where
   at : slice_get dues place ≡ Some due
   numbered : answered_number e ≡ Some (number + place)
 
-answer_of_due : (task : Task) (version number : ℕ) (dues : List Due) (slots : List Slot) → AreSlotsFor task version number dues slots
+answer_of_due : (task : Task) (version number : ℕ) (dues : List Due) (slots : List Slot)
+    → AreSlotsFor task version number dues slots
     → (k : ℕ) (e : Entry) → slice_get (answers_of slots) k ≡ Some e → IsAnswerOf number dues e
 answer_of_due task version number [] [] h k e at = absurd (cc)
 answer_of_due task version number [] (s ∷ ss) h k e at = absurd h
@@ -180,17 +196,21 @@ answer_of_due task version number (d ∷ ds) (s ∷ ss) h k e at =
         let n : s.number ≡ number + 0 = h.0.numbered ∙ (let z : number ≡ number + 0 = omega arith in z) in
         record { place = 0; due = d; at = refl; numbered = ap answered_number (sym same) ∙ entry_number s.number (reply_of said.0 s.wanted) a said.1 ∙ ap Some n }
 
-    by : ((j : ℕ) → slice_get (answers_of ss) j ≡ Some e → IsAnswerOf number (d ∷ ds) e) → (o : Option Entry) → s.answer ≡ o → (j : ℕ)
+    by : ((j : ℕ) → slice_get (answers_of ss) j ≡ Some e → IsAnswerOf number (d ∷ ds) e)
+        → (o : Option Entry) → s.answer ≡ o → (j : ℕ)
         → slice_get (cons_option s.answer (answers_of ss)) j ≡ Some e → IsAnswerOf number (d ∷ ds) e
-    by again None is j there = again j (ap (λ o. slice_get (cons_option o (answers_of ss)) j) (sym is) ∙ there)
+    by again None is j there =
+        again j (ap (λ o. slice_get (cons_option o (answers_of ss)) j) (sym is) ∙ there)
     by again (Some a) is zero there = first a is (let one : slice_get (a ∷ answers_of ss) 0 ≡ Some e = ap (λ o. slice_get (cons_option o (answers_of ss)) 0) (sym is) ∙ there in head one)
       where
         head : Some a ≡ Some e → a ≡ e
         head same = cc
-    by again (Some a) is (suc j) there = again j (ap (λ o. slice_get (cons_option o (answers_of ss)) (suc j)) (sym is) ∙ there)
+    by again (Some a) is (suc j) there =
+        again j (ap (λ o. slice_get (cons_option o (answers_of ss)) (suc j)) (sym is) ∙ there)
 
 -- what an answer to this request tells is about its instance
-notes_about : (task : Task) (all : List Entry) (e : Entry) (n : ℕ) (a : Asked) (i : Instance) → answered_number e ≡ Some n
+notes_about : (task : Task) (all : List Entry) (e : Entry) (n : ℕ) (a : Asked) (i : Instance)
+    → answered_number e ≡ Some n
     → asked task all n ≡ Some a → ¬ (a.instance ≡ i) → All (λ m. ¬ (about m ≡ i)) (note_of task all e)
 notes_about task all (entry.Got m tuples values) n a i number was apart =
     let same : m ≡ n = cc in
@@ -249,7 +269,8 @@ module _ (task : Task) (s : State) (open_now : s.is_open ≡ true) (answered : a
     yields_kept : yields_of (notes_of task all) i ≡ yields_of (notes_of task s.entries) i
     yields_kept = ap (λ (t : Tally). t.yields) tally
 
-    due_kept : IsDue task (known_of task s.entries) (notes_of task s.entries) i → IsDue task (known_of task all) (notes_of task all) i
+    due_kept : IsDue task (known_of task s.entries) (notes_of task s.entries) i
+        → IsDue task (known_of task all) (notes_of task all) i
     due_kept due =
         let more = longer s.version task s.entries (s.asks ++ answers_of s.slots) h.fit.problem.objects.names.distinct h.legal in
         let kept : (fact : Fact) → is_fact (known_of task s.entries).facts fact ≡ true → is_fact (known_of task all).facts fact ≡ true = λ fact e. subst (λ fs. is_fact fs fact ≡ true) (sym more.facts) (facts_kept (known_of task s.entries).facts (flat_map (certified task all) (s.asks ++ answers_of s.slots)) fact e) in
@@ -262,7 +283,8 @@ module _ (task : Task) (s : State) (open_now : s.is_open ≡ true) (answered : a
           unfinished = (λ j. ends j || (is_test due.stream && yielded j)) ∙ due.unfinished;
         }
 
-  pub rest_ready : (dues : List Due) (count : ℕ) → s.instances ≡ instances_of (take count dues) → AreReady task s.entries dues
+  pub rest_ready : (dues : List Due) (count : ℕ) → s.instances ≡ instances_of (take count dues)
+      → AreReady task s.entries dues
       → AreReady task (after_close s).entries (drop count dues)
   rest_ready dues count front ready =
       let parts = two_parts count dues in
@@ -275,10 +297,12 @@ module _ (task : Task) (s : State) (open_now : s.is_open ≡ true) (answered : a
         distinct = distinct_right (instances_of (take count dues)) (instances_of (drop count dues)) distinct;
       })
     where
-      turns_kept : (us : List Due) → ((i : Instance) → Contains (instances_of us) i → ¬ (Contains s.instances i))
+      turns_kept : (us : List Due)
+          → ((i : Instance) → Contains (instances_of us) i → ¬ (Contains s.instances i))
           → All (λ (d : Due). d.turn ≡ yields_of (notes_of task s.entries) d.instance) us
           → All (λ (d : Due). d.turn ≡ yields_of (notes_of task all) d.instance) us
-      turns_kept [] apart turns = All-nil (λ (d : Due). d.turn ≡ yields_of (notes_of task all) d.instance)
+      turns_kept [] apart turns =
+          All-nil (λ (d : Due). d.turn ≡ yields_of (notes_of task all) d.instance)
       turns_kept (u ∷ us) apart turns =
           All-cons (λ (d : Due). d.turn ≡ yields_of (notes_of task all) d.instance) u us
           (All-head (λ (d : Due). d.turn ≡ yields_of (notes_of task s.entries) d.instance) u us turns ∙ sym (yields_kept u.instance (apart u.instance (contains_here u.instance (instances_of us)))))

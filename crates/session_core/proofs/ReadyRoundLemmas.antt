@@ -25,12 +25,14 @@ none_fit [] = refl
 none_fit (p ∷ ps) = and_from (nat_le 0 p.workers) _ (le-leb 0 p.workers (omega arith)) (none_fit ps)
 
 -- one ask fits workers, of which each pool has one at least
-pub one_fits : (pools : List Workers) (stream : ℕ) → ((k : ℕ) (p : Workers) → slice_get pools k ≡ Some p → 1 ≤ p.workers)
+pub one_fits : (pools : List Workers) (stream : ℕ)
+    → ((k : ℕ) (p : Workers) → slice_get pools k ≡ Some p → 1 ≤ p.workers)
     → fits_workers pools (stream ∷ []) ≡ true
 one_fits [] stream some = refl
 one_fits (p ∷ ps) stream some = and_from (nat_le (count_by (serves p) (stream ∷ [])) p.workers) _ (le-leb (count_by (serves p) (stream ∷ [])) p.workers (omega (arith, cond_le_one (serves p stream), count_one (serves p) stream, some 0 p refl))) (one_fits ps stream (λ k q at. some (suc k) q at))
 
-pub workers_fit : (pools : List Workers) (streams : List ℕ) → fits_workers pools streams ≡ true → FitWorkers pools streams
+pub workers_fit : (pools : List Workers) (streams : List ℕ) → fits_workers pools streams ≡ true
+    → FitWorkers pools streams
 workers_fit [] streams e k p at = absurd (cc)
 workers_fit (q ∷ qs) streams e zero p at =
     let same : q ≡ p = cc in
@@ -55,7 +57,8 @@ fits_same (p ∷ ps) dues = λ i. nat_le (count_same p dues i) p.workers && fits
 
 -- ---- the next round
 
-instances_taken : (dues : List Due) (n : ℕ) → instances_of (take n dues) ≡ take n (instances_of dues)
+instances_taken : (dues : List Due) (n : ℕ)
+    → instances_of (take n dues) ≡ take n (instances_of dues)
 instances_taken dues zero = refl
 instances_taken [] (suc n) = refl
 instances_taken (d ∷ ds) (suc n) = ap (λ is. d.instance ∷ is) (instances_taken ds n)
@@ -64,11 +67,13 @@ instances_taken (d ∷ ds) (suc n) = ap (λ is. d.instance ∷ is) (instances_ta
 nothing : {A : Type 0} (x : A) (rest : List A) → [] ≡ x ∷ rest → ⊥
 nothing x rest e = absurd (cc)
 
-behind : {A : Type 0} (xs : List A) (k : ℕ) (x : A) (rest : List A) → drop k xs ≡ x ∷ rest → (slice_get xs k ≡ Some x) × (k < length xs)
+behind : {A : Type 0} (xs : List A) (k : ℕ) (x : A) (rest : List A) → drop k xs ≡ x ∷ rest
+    → (slice_get xs k ≡ Some x) × (k < length xs)
 behind [] zero x rest e = absurd (nothing x rest e)
 behind [] (suc k) x rest e = absurd (nothing x rest e)
 behind (y ∷ ys) zero x rest e = let same : y ≡ x = cc in (ap Some same, omega arith)
-behind (y ∷ ys) (suc k) x rest e = let r = behind ys k x rest e in let below : k < length ys = r.1 in (r.0, omega arith)
+behind (y ∷ ys) (suc k) x rest e =
+    let r = behind ys k x rest e in let below : k < length ys = r.1 in (r.0, omega arith)
 
 module _ (pools : List Workers) (dues : List Due) (count : ℕ) (longest : IsLongestFront pools dues count) where
   full_by : (rest : List Due) → drop count dues ≡ rest
@@ -83,7 +88,8 @@ module _ (pools : List Workers) (dues : List Due) (count : ℕ) (longest : IsLon
   is_full = full_by (drop count dues) refl
 
   -- an ask that is there makes a round
-  pub some_front : ((k : ℕ) (p : Workers) → slice_get pools k ≡ Some p → 1 ≤ p.workers) → 0 < length dues → 0 < count
+  pub some_front : ((k : ℕ) (p : Workers) → slice_get pools k ≡ Some p → 1 ≤ p.workers)
+      → 0 < length dues → 0 < count
   some_front some there = by count refl
     where
       by : (n : ℕ) → count ≡ n → 0 < count
@@ -96,7 +102,8 @@ module _ (pools : List Workers) (dues : List Due) (count : ℕ) (longest : IsLon
           absurd (true≢false (sym (ap (λ us. fits_workers pools (streams_of us)) one ∙ fits) ∙ never))
 
 -- the round of those for which calls are left
-pub next_is : (s : State) (dues : List Due) (most count : ℕ) → length s.asked ≤ s.calls → most ≡ min (length dues) (calls_left s)
+pub next_is : (s : State) (dues : List Due) (most count : ℕ) → length s.asked ≤ s.calls
+    → most ≡ min (length dues) (calls_left s)
     → IsLongestFront s.pools (take most dues) count → IsNextRound s dues count
 next_is s dues most count few is longest =
     let least : most ≤ length dues = omega (arith, is) in
@@ -107,12 +114,15 @@ next_is s dues most count few is longest =
     record {
       within = omega (arith, within, least);
       left = omega (arith, within, left, few);
-      fit = fits_same s.pools (take count dues) ∙ ap (λ us. fits_workers s.pools (streams_of us)) (sym front) ∙ longest.fit;
+      fit =
+          fits_same s.pools (take count dues)
+          ∙ ap (λ us. fits_workers s.pools (streams_of us)) (sym front) ∙ longest.fit;
       full = subst (λ (us : List Due). rounds.IsFull (map share_of s.pools) (instances_of (take count dues)) (instances_of (drop count us))) same
           (subst (λ (us : List Due). rounds.IsFull (map share_of s.pools) (instances_of us) (instances_of (drop count (take most dues)))) front (is_full s.pools (take most dues) count longest));
     }
   where
-    as_far : {A : Type 0} (xs : List A) (n left : ℕ) → n ≡ min (length xs) left → take n xs ≡ take left xs
+    as_far : {A : Type 0} (xs : List A) (n left : ℕ) → n ≡ min (length xs) left
+        → take n xs ≡ take left xs
     as_far [] n zero e = take_all n [] (omega arith)
     as_far [] n (suc left) e = take_all n [] (omega arith)
     as_far (x ∷ xs) zero zero e = refl
@@ -122,17 +132,20 @@ next_is s dues most count few is longest =
 
 -- ---- pools one after another
 
-pub one_left : (pools : List Workers) (k : ℕ) (p : Workers) (streams : List ℕ) → k < length pools → p ≡ get_or pools k p
+pub one_left : (pools : List Workers) (k : ℕ) (p : Workers) (streams : List ℕ) → k < length pools
+    → p ≡ get_or pools k p
     → fits_workers (drop k pools) streams ≡ (nat_le (count_by (serves p) streams) p.workers && fits_workers (drop (k + 1) pools) streams)
 one_left pools k p streams lt is = ap (λ ps. fits_workers ps streams) (drop_more pools k p lt ∙ ap (λ q. q ∷ drop (k + 1) pools) (sym is))
 
-pub too_many : (pools : List Workers) (k : ℕ) (p : Workers) (streams : List ℕ) → k < length pools → p ≡ get_or pools k p
+pub too_many : (pools : List Workers) (k : ℕ) (p : Workers) (streams : List ℕ) → k < length pools
+    → p ≡ get_or pools k p
     → p.workers < count_by (serves p) streams → fits_workers (drop k pools) streams ≡ false
 too_many pools k p streams lt is more =
     one_left pools k p streams lt is
     ∙ (λ i. lt-leb (count_by (serves p) streams) p.workers more i && fits_workers (drop (k + 1) pools) streams)
 
-pub few_enough : (pools : List Workers) (k : ℕ) (p : Workers) (streams : List ℕ) → k < length pools → p ≡ get_or pools k p
+pub few_enough : (pools : List Workers) (k : ℕ) (p : Workers) (streams : List ℕ) → k < length pools
+    → p ≡ get_or pools k p
     → count_by (serves p) streams ≤ p.workers → fits_workers (drop k pools) streams ≡ fits_workers (drop (k + 1) pools) streams
 few_enough pools k p streams lt is few =
     one_left pools k p streams lt is

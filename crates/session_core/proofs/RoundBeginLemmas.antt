@@ -39,7 +39,8 @@ module _ (task : Task) (names : List (List ℕ)) where
       ∙ ap (λ es. ask_for task names n u ∷ es) (asks_step (n + 1) us k d at ∙ ap (λ m. asks_from task names (n + 1) (take k us) ++ ask_for task names m d ∷ []) (let e : (n + 1) + k ≡ n + suc k = omega arith in e))
 
   module _ (version : ℕ) (pools : List Workers) where
-    pub slots_step : (n : ℕ) (before : List ℕ) (dues : List Due) (k : ℕ) (d : Due) → slice_get dues k ≡ Some d
+    pub slots_step : (n : ℕ) (before : List ℕ) (dues : List Due) (k : ℕ) (d : Due)
+        → slice_get dues k ≡ Some d
         → slots_from task names version pools n before (take (k + 1) dues) ≡ slots_from task names version pools n before (take k dues) ++ slot_for task names version pools (n + k) (before ++ streams_of (take k dues)) d ∷ []
     slots_step n before [] k d at = absurd (cc)
     slots_step n before (u ∷ us) zero d at =
@@ -65,7 +66,8 @@ module _ (task : Task) (names : List (List ℕ)) where
     fresh_slots n before (d ∷ ds) =
         (record { numbered = refl; wanted = refl; right = λ e is. absurd (cc) }, fresh_slots (n + 1) (before ++ d.instance.stream ∷ []) ds)
 
-    long_slots : (n : ℕ) (before : List ℕ) (dues : List Due) → length (slots_from task names version pools n before dues) ≡ length dues
+    long_slots : (n : ℕ) (before : List ℕ) (dues : List Due)
+        → length (slots_from task names version pools n before dues) ≡ length dues
     long_slots n before [] = refl
     long_slots n before (d ∷ ds) = ap suc (long_slots (n + 1) (before ++ d.instance.stream ∷ []) ds)
 
@@ -92,16 +94,19 @@ server_is (q ∷ qs) stream p e =
       | false ↦ λ _ f. let r = server_is qs stream p f in (suc r.0, r.1, r.2)
     ] refl e
 
-count_head : (p : ℕ → Bool) (x : ℕ) (xs : List ℕ) → count_by p (x ∷ xs) ≡ cond (p x) 1 0 + count_by p xs
+count_head : (p : ℕ → Bool) (x : ℕ) (xs : List ℕ)
+    → count_by p (x ∷ xs) ≡ cond (p x) 1 0 + count_by p xs
 count_head p x xs = count_joined p (x ∷ []) xs ∙ ap (λ n. n + count_by p xs) (count_one p x)
 
 count_front : (p : ℕ → Bool) (xs : List ℕ) (k : ℕ) → count_by p (take k xs) ≤ count_by p xs
 count_front p xs zero = omega arith
 count_front p [] (suc k) = omega arith
-count_front p (x ∷ xs) (suc k) = omega (arith, count_head p x (take k xs), count_head p x xs, count_front p xs k)
+count_front p (x ∷ xs) (suc k) =
+    omega (arith, count_head p x (take k xs), count_head p x xs, count_front p xs k)
 
 -- a member that passes counts from its place on
-count_passes : (p : ℕ → Bool) (xs : List ℕ) (j k x : ℕ) → j < k → slice_get xs j ≡ Some x → p x ≡ true
+count_passes : (p : ℕ → Bool) (xs : List ℕ) (j k x : ℕ) → j < k → slice_get xs j ≡ Some x
+    → p x ≡ true
     → count_by p (take j xs) + 1 ≤ count_by p (take k xs)
 count_passes p [] j k x lt at passes = absurd (cc)
 count_passes p (y ∷ ys) j zero x lt at passes = absurd (omega (arith, lt))
@@ -113,7 +118,8 @@ count_passes p (y ∷ ys) zero (suc k) x lt at passes =
 count_passes p (y ∷ ys) (suc j) (suc k) x lt at passes =
     omega (arith, count_head p y (take j ys), count_head p y (take k ys), count_passes p ys j k x (omega (arith, lt)) at passes)
 
-count_whole : (p : ℕ → Bool) (xs : List ℕ) (j x : ℕ) → slice_get xs j ≡ Some x → p x ≡ true → count_by p (take j xs) + 1 ≤ count_by p xs
+count_whole : (p : ℕ → Bool) (xs : List ℕ) (j x : ℕ) → slice_get xs j ≡ Some x → p x ≡ true
+    → count_by p (take j xs) + 1 ≤ count_by p xs
 count_whole p xs j x at passes = subst (λ ys. count_by p (take j xs) + 1 ≤ count_by p ys) (take-length xs) (count_passes p xs j (length xs) x (slice_get_within xs j x at) at passes)
 
 take_streams : (dues : List Due) (k : ℕ) → streams_of (take k dues) ≡ take k (streams_of dues)
@@ -130,7 +136,8 @@ record Served (pools : List Workers) (dues : List Due) (k : ℕ) (d : Due) : Typ
   child : child_for pools (streams_of (take k dues)) d.instance.stream ≡ pool.first + count_by (serves pool) (take k (streams_of dues))
   inside : count_by (serves pool) (take k (streams_of dues)) + 1 ≤ pool.workers
 
-served_at : (task : Task) (pools : List Workers) (dues : List Due) → AreFitPools task pools → FitWorkers pools (streams_of dues)
+served_at : (task : Task) (pools : List Workers) (dues : List Due) → AreFitPools task pools
+    → FitWorkers pools (streams_of dues)
     → (k : ℕ) (d : Due) → slice_get dues k ≡ Some d → d.instance.stream < length task.streams → Served pools dues k d
 served_at task pools dues fit fits k d at below =
     let found = fit.served d.instance.stream below in
@@ -142,7 +149,9 @@ served_at task pools dues fit fits k d at below =
       place = is.0;
       at = is.1;
       serving = is.2;
-      child = child_is found.0 found.1 ∙ ap (λ xs. found.0.first + count_by (serves found.0) xs) (take_streams dues k);
+      child =
+          child_is found.0 found.1
+          ∙ ap (λ xs. found.0.first + count_by (serves found.0) xs) (take_streams dues k);
       inside = omega (arith, enough, fits is.0 found.0 is.1);
     }
   where
@@ -173,21 +182,26 @@ module _ (task : Task) (s : State) (dues : List Due) (works : s.failed ≡ false
   below_names (n ∷ ns) zero i = omega arith
   below_names (n ∷ ns) (suc o) i = omega (arith, below_names ns o i)
 
-  named_one : (d : Due) → IsDue task s.known s.notes d.instance → IsNamed task s.known.names d.instance
+  named_one : (d : Due) → IsDue task s.known s.notes d.instance
+      → IsNamed task s.known.names d.instance
   named_one d due =
       record {
         stream = slice_get_within task.streams d.instance.stream due.stream due.named;
         inputs = λ k o lt. below_names s.known.names (get_or d.instance.inputs k o) (due_in task s.known s.notes known_coherent d.instance due k o lt);
       }
 
-  pub named_all : (k : ℕ) (d : Due) → k < length dues → IsNamed task s.known.names (get_or dues k d).instance
-  named_all k d lt = named_one (get_or dues k d) (due_at k (get_or dues k d) (slice_get-get_or dues k d lt))
+  pub named_all : (k : ℕ) (d : Due) → k < length dues
+      → IsNamed task s.known.names (get_or dues k d).instance
+  named_all k d lt =
+      named_one (get_or dues k d) (due_at k (get_or dues k d) (slice_get-get_or dues k d lt))
 
   served : (k : ℕ) (d : Due) → slice_get dues k ≡ Some d → Served s.pools dues k d
   served k d at = let due = due_at k d at in served_at task s.pools dues h.pools may.fit k d at (slice_get_within task.streams d.instance.stream due.stream due.named)
 
-  pub children_fit : (k : ℕ) (d : Due) → slice_get dues k ≡ Some d → child_for s.pools (streams_of (take k dues)) d.instance.stream ≤ 16
-  children_fit k d at = let p = served k d at in omega (arith, p.child, p.inside, h.pools.few p.place p.pool p.at)
+  pub children_fit : (k : ℕ) (d : Due) → slice_get dues k ≡ Some d
+      → child_for s.pools (streams_of (take k dues)) d.instance.stream ≤ 16
+  children_fit k d at =
+      let p = served k d at in omega (arith, p.child, p.inside, h.pools.few p.place p.pool p.at)
 
   -- each slot's child is one of a pool
   pub child_served : (names : List (List ℕ)) (version n k c : ℕ)
@@ -229,7 +243,8 @@ module _ (task : Task) (s : State) (dues : List Due) (works : s.failed ≡ false
         | inr over ↦ elim (cases_lt k j) [ inl below ↦ absurd (children_apart names version n k j c below at_k at_j) | inr under ↦ omega (arith, over, under) ]
       ]
 
-  pub begun_sound : (entries_room asked_room : ℕ) → length s.entries + 2 * length dues ≤ entries_room
+  pub begun_sound : (entries_room asked_room : ℕ)
+      → length s.entries + 2 * length dues ≤ entries_room
       → length s.asked + length dues ≤ asked_room → s.calls ≤ 100000 → IsSound (begun task s dues) entries_room asked_room
   begun_sound entries_room asked_room room more calls =
       let names = s.known.names in

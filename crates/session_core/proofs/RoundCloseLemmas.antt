@@ -46,7 +46,8 @@ no_both b t f = absurd (not_both b t f)
 -- each of these numbers waits for an answer, and asks its due's instance
 abbrev pub AllWait : Task → List Entry → ℕ → List Due → Type 0
 AllWait task before n [] = Unit {0}
-AllWait task before n (d ∷ ds) = (is_open before n ≡ true) × Asks task before n d.instance × AllWait task before (n + 1) ds
+AllWait task before n (d ∷ ds) =
+    (is_open before n ≡ true) × Asks task before n d.instance × AllWait task before (n + 1) ds
 
 -- ---- requests
 
@@ -73,10 +74,12 @@ module _ (version : ℕ) (task : Task) (fit : IsFit task) (entries : List Entry)
     count : asks_of after + 1 ≡ n + length dues
     waits : AllWait task after n dues
     keeps : (m : ℕ) → is_open before m ≡ true → is_open after m ≡ true
-    only : (m : ℕ) → is_open after m ≡ true → (is_open before m ≡ true) ⊎ ((n ≤ m) × (m < n + length dues))
+    only : (m : ℕ) → is_open after m ≡ true
+        → (is_open before m ≡ true) ⊎ ((n ≤ m) × (m < n + length dues))
 
   -- the requests of a round, one after another
-  requested : (dues : List Due) (before : List Entry) (n : ℕ) → IsLegal version task before → known_of task before ≡ known_of task entries
+  requested : (dues : List Due) (before : List Entry) (n : ℕ) → IsLegal version task before
+      → known_of task before ≡ known_of task entries
       → notes_of task before ≡ notes_of task entries → n ≡ asks_of before + 1
       → ((i : Instance) → Contains (instances_of dues) i → IsDue task (known_of task entries) (notes_of task entries) i) → All (λ (d : Due). d.turn ≡ yields_of (notes_of task entries) d.instance) dues → AreDistinct (instances_of dues)
       → ((m : ℕ) (a : Asked) → asked task before m ≡ Some a → is_open before m ≡ true → ¬ (Contains (instances_of dues) a.instance))
@@ -140,7 +143,8 @@ module _ (version : ℕ) (task : Task) (fit : IsFit task) (entries : List Entry)
             ];
       })
     where
-      same_instance_of : (o : Option Asked) (a b : Asked) → o ≡ Some a → o ≡ Some b → a.instance ≡ b.instance
+      same_instance_of : (o : Option Asked) (a b : Asked) → o ≡ Some a → o ≡ Some b
+          → a.instance ≡ b.instance
       same_instance_of o a b p q = let f : Some a ≡ Some b = sym p ∙ q in let g : a ≡ b = cc in ap (λ (c : Asked). c.instance) g
 
       still_apart : (m : ℕ) (a : Asked)
@@ -155,27 +159,32 @@ module _ (version : ℕ) (task : Task) (fit : IsFit task) (entries : List Entry)
 -- ---- answers
 
 -- a cost stream's answer is no yield
-ends_no_yield : (given : List (List ℕ)) (t : ℕ) (vs : List (List ℕ)) → reply.end_reply given ≡ reply.yields t vs → ⊥
+ends_no_yield : (given : List (List ℕ)) (t : ℕ) (vs : List (List ℕ))
+    → reply.end_reply given ≡ reply.yields t vs → ⊥
 ends_no_yield [] t vs e = absurd (cc)
 ends_no_yield (f ∷ fs) t vs e = absurd (cc)
 
-choice_no_yield : (b : Bool) (n : ℕ) (why : _) (t : ℕ) (vs : List (List ℕ)) → cond b (reply.number n) (reply.bad why) ≡ reply.yields t vs
+choice_no_yield : (b : Bool) (n : ℕ) (why : _) (t : ℕ) (vs : List (List ℕ))
+    → cond b (reply.number n) (reply.bad why) ≡ reply.yields t vs
     → ⊥
 choice_no_yield true n why t vs e = absurd (cc)
 choice_no_yield false n why t vs e = absurd (cc)
 
-number_no_yield : (given : List (List ℕ)) (t : ℕ) (vs : List (List ℕ)) → reply.number_reply given ≡ reply.yields t vs → ⊥
+number_no_yield : (given : List (List ℕ)) (t : ℕ) (vs : List (List ℕ))
+    → reply.number_reply given ≡ reply.yields t vs → ⊥
 number_no_yield [] t vs e = absurd (cc)
 number_no_yield (f ∷ []) t vs e = choice_no_yield (reply.is_number f) _ _ t vs e
 number_no_yield (f ∷ (g ∷ gs)) t vs e = absurd (cc)
 
-either_no_yield : (a b : Bool) (x y : Reply) (why : _) (t : ℕ) (vs : List (List ℕ)) → (x ≡ reply.yields t vs → ⊥)
+either_no_yield : (a b : Bool) (x y : Reply) (why : _) (t : ℕ) (vs : List (List ℕ))
+    → (x ≡ reply.yields t vs → ⊥)
     → (y ≡ reply.yields t vs → ⊥) → cond a x (cond b y (reply.bad why)) ≡ reply.yields t vs → ⊥
 either_no_yield true b x y why t vs no_x no_y e = no_x e
 either_no_yield false true x y why t vs no_x no_y e = no_y e
 either_no_yield false false x y why t vs no_x no_y e = absurd (cc)
 
-fields_no_yield : (fields : List (List ℕ)) (t : ℕ) (vs : List (List ℕ)) → reply.reply_of_fields wanted.Number fields ≡ reply.yields t vs → ⊥
+fields_no_yield : (fields : List (List ℕ)) (t : ℕ) (vs : List (List ℕ))
+    → reply.reply_of_fields wanted.Number fields ≡ reply.yields t vs → ⊥
 fields_no_yield [] t vs e = absurd (cc)
 fields_no_yield (word ∷ given) t vs e =
     either_no_yield _ _ (reply.end_reply given) (reply.number_reply given) _ t vs (ends_no_yield given t vs) (number_no_yield given t vs) e
@@ -191,7 +200,8 @@ yields_no_number true true n us x y v e = absurd (cc)
 yields_no_number true false n us x y v e = absurd (cc)
 yields_no_number false b n us x y v e = absurd (cc)
 
-either_no_number : (a b : Bool) (x y : Reply) (why : _) (v : ℕ) → (x ≡ reply.number v → ⊥) → (y ≡ reply.number v → ⊥)
+either_no_number : (a b : Bool) (x y : Reply) (why : _) (v : ℕ) → (x ≡ reply.number v → ⊥)
+    → (y ≡ reply.number v → ⊥)
     → cond a x (cond b y (reply.bad why)) ≡ reply.number v → ⊥
 either_no_number true b x y why v no_x no_y e = no_x e
 either_no_number false true x y why v no_x no_y e = no_y e
@@ -208,7 +218,8 @@ wanted_is task version stream s at = rw at refl
 
 module _ (version : ℕ) (task : Task) (fit : IsFit task) where
   -- what a stream's line says may follow
-  says_right : (before : List Entry) (n : ℕ) (s : Stream) (i : Instance) (line : List ℕ) (e : Entry) → is_open before n ≡ true
+  says_right : (before : List Entry) (n : ℕ) (s : Stream) (i : Instance) (line : List ℕ) (e : Entry)
+      → is_open before n ≡ true
       → asked task before n ≡ Some (record { stream = s; instance = i }) → entry_of n (reply_of line (wanted_of version s)) ≡ Some e
       → MayFollow version task before e × (is_answer_to n e ≡ true) × (is_answer e ≡ true)
   says_right before n s i line e waiting request is =
@@ -220,7 +231,8 @@ module _ (version : ℕ) (task : Task) (fit : IsFit task) where
       itself : (n == n) ≡ true
       itself = eq-eqb n n refl
 
-      by_outputs : is_none s.worth ≡ true → (r : Reply) → reply_of line (wanted.Outputs (length s.outputs) (has_several version)) ≡ r
+      by_outputs : is_none s.worth ≡ true → (r : Reply)
+          → reply_of line (wanted.Outputs (length s.outputs) (has_several version)) ≡ r
           → entry_of n r ≡ Some e → MayFollow version task before e × (is_answer_to n e ≡ true) × (is_answer e ≡ true)
       by_outputs none (reply.yields t vs) says said =
           let same : entry.Got n t vs ≡ e = cc in
@@ -231,9 +243,11 @@ module _ (version : ℕ) (task : Task) (fit : IsFit task) where
       by_outputs none reply.ends says said = let same : entry.End n ≡ e = cc in subst (λ x. MayFollow version task before x × (is_answer_to n x ≡ true) × (is_answer x ≡ true)) same (waiting, itself, refl)
       by_outputs none (reply.bad why) says said = absurd (cc)
 
-      by_number : is_none s.worth ≡ false → (r : Reply) → reply_of line wanted.Number ≡ r → entry_of n r ≡ Some e
+      by_number : is_none s.worth ≡ false → (r : Reply) → reply_of line wanted.Number ≡ r
+          → entry_of n r ≡ Some e
           → MayFollow version task before e × (is_answer_to n e ≡ true) × (is_answer e ≡ true)
-      by_number some (reply.yields t vs) says said = absurd (fields_no_yield (reply.fields line) t vs says)
+      by_number some (reply.yields t vs) says said =
+          absurd (fields_no_yield (reply.fields line) t vs says)
       by_number some (reply.number v) says said =
           let same : entry.Value n v ≡ e = cc in
           subst (λ x. MayFollow version task before x × (is_answer_to n x ≡ true) × (is_answer x ≡ true)) same
@@ -248,7 +262,8 @@ module _ (version : ℕ) (task : Task) (fit : IsFit task) where
     requests : (m : ℕ) → asked task after m ≡ asked task before m
 
   -- those that wait still wait where nothing of them changes
-  wait_still : (before after : List Entry) (n k : ℕ) (dues : List Due) → n < k → ((m : ℕ) → ¬ (m ≡ n) → is_open after m ≡ is_open before m)
+  wait_still : (before after : List Entry) (n k : ℕ) (dues : List Due) → n < k
+      → ((m : ℕ) → ¬ (m ≡ n) → is_open after m ≡ is_open before m)
       → ((m : ℕ) → asked task after m ≡ asked task before m) → AllWait task before k dues → AllWait task after k dues
   wait_still before after n k [] below opens requests w = tt
   wait_still before after n k (d ∷ ds) below opens requests w = (
@@ -257,7 +272,8 @@ module _ (version : ℕ) (task : Task) (fit : IsFit task) where
     wait_still before after n (k + 1) ds (omega (arith, below)) opens requests w.2,
   )
 
-  answered_all : (dues : List Due) (slots : List Slot) (before : List Entry) (n : ℕ) → IsLegal version task before
+  answered_all : (dues : List Due) (slots : List Slot) (before : List Entry) (n : ℕ)
+      → IsLegal version task before
       → AllWait task before n dues → AreSlotsFor task version n dues slots → all_answered slots ≡ true
       → ((m : ℕ) → is_open before m ≡ true → (n ≤ m) × (m < n + length dues)) → Answered before (before ++ answers_of slots) (length dues)
   answered_all [] [] before n ok waits h all only =
@@ -311,7 +327,8 @@ two_parts (z ∷ zs) ys (suc k) x at =
       | inr h ↦ inr (h.0, (let e : suc k ≡ suc (length zs) + h.0 = omega (arith, h.1) in e), h.2)
     ]
 
-wait_at : (task : Task) (before : List Entry) (n : ℕ) (dues : List Due) (j : ℕ) (i : Instance) → AllWait task before n dues
+wait_at : (task : Task) (before : List Entry) (n : ℕ) (dues : List Due) (j : ℕ) (i : Instance)
+    → AllWait task before n dues
     → slice_get (instances_of dues) j ≡ Some i → Asks task before (n + j) i
 wait_at task before n [] j i w at = absurd (cc)
 wait_at task before n (d ∷ ds) zero i w at =
@@ -322,7 +339,8 @@ wait_at task before n (d ∷ ds) (suc j) i w at =
     let there : (n + 1) + j ≡ n + suc j = omega arith in
     subst (λ m. Asks task before m i) there (wait_at task before (n + 1) ds j i w.2 at)
 
-no_answers : (task : Task) (names : List (List ℕ)) (n : ℕ) (dues : List Due) → count_by is_answer (asks_from task names n dues) ≡ 0
+no_answers : (task : Task) (names : List (List ℕ)) (n : ℕ) (dues : List Due)
+    → count_by is_answer (asks_from task names n dues) ≡ 0
 no_answers task names n [] = refl
 no_answers task names n (d ∷ ds) =
     count_joined is_answer (ask_for task names n d ∷ []) (asks_from task names (n + 1) ds)
@@ -336,14 +354,16 @@ few_answers (s ∷ ss) =
       | Some e ↦ omega (arith, few_answers ss)
     ]
 
-as_many : (task : Task) (version n : ℕ) (dues : List Due) (slots : List Slot) → AreSlotsFor task version n dues slots
+as_many : (task : Task) (version n : ℕ) (dues : List Due) (slots : List Slot)
+    → AreSlotsFor task version n dues slots
     → length slots ≡ length dues
 as_many task version n [] [] h = refl
 as_many task version n [] (s ∷ ss) h = absurd h
 as_many task version n (d ∷ ds) [] h = absurd h
 as_many task version n (d ∷ ds) (s ∷ ss) h = ap suc (as_many task version (n + 1) ds ss h.1)
 
-pub close_kept : (task : Task) (s : State) → s.is_open ≡ true → all_answered s.slots ≡ true → IsSession task s
+pub close_kept : (task : Task) (s : State) → s.is_open ≡ true → all_answered s.slots ≡ true
+    → IsSession task s
     → IsSession task (after_close s)
 close_kept task s open_now answered h =
     let r = h.round open_now in

@@ -9,7 +9,8 @@ use Rattle.session_core.specs.Learning.{CanLearn}
 use Rattle.session_core.specs.Session.{IsSession, after_learn}
 use Rattle.session_core.specs.State.{State, with_learnt}
 
-learnt_kept : (task : Task) (s : State) (known : Known) (notes : List Note) (learnt : ℕ) (failed : Bool) → IsSession task s
+learnt_kept : (task : Task) (s : State) (known : Known) (notes : List Note) (learnt : ℕ) (failed : Bool)
+    → IsSession task s
     → learnt ≤ length s.entries → (failed ≡ false → known ≡ known_of task (take learnt s.entries))
     → (failed ≡ false → notes ≡ notes_of task (take learnt s.entries)) → IsSession task (with_learnt s known notes learnt failed)
 learnt_kept task s known notes learnt failed h within knows told =
@@ -36,9 +37,11 @@ all_learnt task s h =
 
 pub not_learnt : (task : Task) (s : State) (known : Known) (notes : List Note) → IsSession task s
     → IsSession task (with_learnt s known notes s.learnt true)
-not_learnt task s known notes h = learnt_kept task s known notes s.learnt true h h.learnt (λ e. absurd (cc)) (λ e. absurd (cc))
+not_learnt task s known notes h =
+    learnt_kept task s known notes s.learnt true h h.learnt (λ e. absurd (cc)) (λ e. absurd (cc))
 
 -- what the transcript certifies can be learnt
-pub can_learn : (task : Task) (s : State) → IsSession task s → length s.asked ≤ 100000 → CanLearn task s.asked s.entries
+pub can_learn : (task : Task) (s : State) → IsSession task s → length s.asked ≤ 100000
+    → CanLearn task s.asked s.entries
 can_learn task s h few =
     record { version = s.version; fit = h.fit; legal = h.legal; counted = h.counted; asks = h.asked; answered = h.answered; few = few }

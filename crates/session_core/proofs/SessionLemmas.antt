@@ -24,22 +24,28 @@ abbrev KeepsSlots : Task → ℕ → (Slot → Slot) → Type 0
 KeepsSlots task version f =
     (number : ℕ) (due : Due) (slot : Slot) → IsSlotFor task version number due slot → IsSlotFor task version number due (f slot)
 
-slots_kept : (task : Task) (version : ℕ) (f : Slot → Slot) → KeepsSlots task version f → (number : ℕ) (dues : List Due) (slots : List Slot)
+slots_kept : (task : Task) (version : ℕ) (f : Slot → Slot) → KeepsSlots task version f
+    → (number : ℕ) (dues : List Due) (slots : List Slot)
     → AreSlotsFor task version number dues slots → AreSlotsFor task version number dues (map f slots)
 slots_kept task version f keeps number [] [] h = tt
 slots_kept task version f keeps number [] (s ∷ ss) h = absurd h
 slots_kept task version f keeps number (d ∷ ds) [] h = absurd h
-slots_kept task version f keeps number (d ∷ ds) (s ∷ ss) h = (keeps number d s h.0, slots_kept task version f keeps (number + 1) ds ss h.1)
+slots_kept task version f keeps number (d ∷ ds) (s ∷ ss) h =
+    (keeps number d s h.0, slots_kept task version f keeps (number + 1) ds ss h.1)
 
-at_kept : (task : Task) (version child : ℕ) (f : Slot → Slot) → KeepsSlots task version f → KeepsSlots task version (at_child child f)
+at_kept : (task : Task) (version child : ℕ) (f : Slot → Slot) → KeepsSlots task version f
+    → KeepsSlots task version (at_child child f)
 at_kept task version child f keeps number due slot h =
     elim (is_slot_of child slot) as (λ b. IsSlotFor task version number due (cond b (f slot) slot)) [ true ↦ keeps number due slot h | false ↦ h ]
 
 sent_keeps : (task : Task) (version : ℕ) → KeepsSlots task version sent_slot
-sent_keeps task version number due slot h = record { numbered = h.numbered; wanted = h.wanted; right = h.right }
+sent_keeps task version number due slot h =
+    record { numbered = h.numbered; wanted = h.wanted; right = h.right }
 
-heard_keeps : (task : Task) (version : ℕ) (line : List ℕ) → KeepsSlots task version (heard_slot line)
-heard_keeps task version line number due slot h = record { numbered = h.numbered; wanted = h.wanted; right = λ e is. (line, is) }
+heard_keeps : (task : Task) (version : ℕ) (line : List ℕ)
+    → KeepsSlots task version (heard_slot line)
+heard_keeps task version line number due slot h =
+    record { numbered = h.numbered; wanted = h.wanted; right = λ e is. (line, is) }
 
 -- ---- sends and lines
 
@@ -64,7 +70,8 @@ session_with task s slots failed h round works =
       round = round;
     }
 
-round_with : (task : Task) (s : State) (f : Slot → Slot) (failed : Bool) → KeepsSlots task s.version f → IsRoundOf task s
+round_with : (task : Task) (s : State) (f : Slot → Slot) (failed : Bool)
+    → KeepsSlots task s.version f → IsRoundOf task s
     → IsRoundOf task (with_slots s (map f s.slots) failed)
 round_with task s f failed keeps r =
     record { dues = r.dues; due = r.due; turns = r.turns; distinct = r.distinct; instances = r.instances; asks = r.asks; slots = slots_kept task s.version f keeps (length s.asked + 1) r.dues s.slots r.slots }
@@ -74,12 +81,14 @@ pub sent_kept : (task : Task) (s : State) (child : ℕ) → IsSession task s
 sent_kept task s child h =
     session_with task s (map (at_child child sent_slot) s.slots) s.failed h (λ e. round_with task s (at_child child sent_slot) s.failed (at_kept task s.version child sent_slot (sent_keeps task s.version)) (h.round e)) (λ e. e)
 
-pub line_kept : (task : Task) (s : State) (child : ℕ) (line : List ℕ) (failed : Bool) → s.failed ≡ false → IsSession task s
+pub line_kept : (task : Task) (s : State) (child : ℕ) (line : List ℕ) (failed : Bool)
+    → s.failed ≡ false → IsSession task s
     → IsSession task (with_slots s (map (at_child child (heard_slot line)) s.slots) failed)
 line_kept task s child line failed works h =
     session_with task s (map (at_child child (heard_slot line)) s.slots) failed h (λ e. round_with task s (at_child child (heard_slot line)) failed (at_kept task s.version child (heard_slot line) (heard_keeps task s.version line)) (h.round e)) (λ _. works)
 
-pub failure_kept : (task : Task) (s : State) → IsSession task s → IsSession task (with_slots s s.slots true)
+pub failure_kept : (task : Task) (s : State) → IsSession task s
+    → IsSession task (with_slots s s.slots true)
 failure_kept task s h =
     session_with task s s.slots true h
     (λ e. let r = h.round e in record { dues = r.dues; due = r.due; turns = r.turns; distinct = r.distinct; instances = r.instances; asks = r.asks; slots = r.slots })
@@ -87,7 +96,8 @@ failure_kept task s h =
 
 -- ---- marks
 
-mark_follows : (version : ℕ) (task : Task) (before : List Entry) (e : Entry) → is_mark e ≡ true → MayFollow version task before e
+mark_follows : (version : ℕ) (task : Task) (before : List Entry) (e : Entry) → is_mark e ≡ true
+    → MayFollow version task before e
 mark_follows version task before (entry.Ask number turn call) m = absurd (cc)
 mark_follows version task before (entry.Got number tuples values) m = absurd (cc)
 mark_follows version task before (entry.Value number value) m = absurd (cc)
@@ -111,15 +121,18 @@ mark_answers entry.Reset m = refl
 mark_answers (entry.Pick n) m = refl
 mark_answers (entry.Retire n) m = refl
 
-pub count_joined : {A : Type 0} (p : A → Bool) (xs ys : List A) → count_by p (xs ++ ys) ≡ count_by p xs + count_by p ys
+pub count_joined : {A : Type 0} (p : A → Bool) (xs ys : List A)
+    → count_by p (xs ++ ys) ≡ count_by p xs + count_by p ys
 count_joined p xs ys = sum_by-append (λ y. cond (p y) 1 0) xs ys
 
 pub count_one : {A : Type 0} (p : A → Bool) (x : A) → count_by p (x ∷ []) ≡ cond (p x) 1 0
 count_one p x = zero-add (cond (p x) 1 0)
 
-asks_kept : (task : Task) (before after : List Entry) → ((n : ℕ) → asked task after n ≡ asked task before n) → (n : ℕ) (i : Instance)
+asks_kept : (task : Task) (before after : List Entry)
+    → ((n : ℕ) → asked task after n ≡ asked task before n) → (n : ℕ) (i : Instance)
     → Asks task before n i → Asks task after n i
-asks_kept task before after same n i a = record { stream = a.stream; streamed = a.streamed; asks = same n ∙ a.asks }
+asks_kept task before after same n i a =
+    record { stream = a.stream; streamed = a.streamed; asks = same n ∙ a.asks }
 
 -- how much is learnt after a mark: as much as before, or all
 pub data Learns (s : State) (learnt : ℕ) : Type 0 where
@@ -127,7 +140,8 @@ pub data Learns (s : State) (learnt : ℕ) : Type 0 where
   all_again : s.learnt ≡ length s.entries → learnt ≡ s.learnt + 1 → Learns s learnt
 
 -- what is said of the learnt front stays, where the mark changes nothing
-front_kept : {A : Type 0} (f : List Entry → A) (s : State) (e : Entry) (learnt : ℕ) → s.learnt ≤ length s.entries → Learns s learnt
+front_kept : {A : Type 0} (f : List Entry → A) (s : State) (e : Entry) (learnt : ℕ)
+    → s.learnt ≤ length s.entries → Learns s learnt
     → f (s.entries ++ e ∷ []) ≡ f s.entries → f (take learnt (s.entries ++ e ∷ [])) ≡ f (take s.learnt s.entries)
 front_kept f s e learnt within (as_before same) more =
     ap f (ap (λ n. take n (s.entries ++ e ∷ [])) same ∙ take-append-le s.learnt s.entries (e ∷ []) within)
@@ -135,11 +149,15 @@ front_kept f s e learnt within (all_again all one) more =
     let whole : learnt ≡ length (s.entries ++ e ∷ []) = one ∙ ap (λ n. n + 1) all ∙ sym (length-append s.entries (e ∷ [])) in
     ap f (ap (λ n. take n (s.entries ++ e ∷ [])) whole ∙ take-length (s.entries ++ e ∷ [])) ∙ more ∙ sym (ap f (ap (λ n. take n s.entries) all ∙ take-length s.entries))
 
-learns_within : (s : State) (e : Entry) (learnt : ℕ) → s.learnt ≤ length s.entries → Learns s learnt → learnt ≤ length (s.entries ++ e ∷ [])
-learns_within s e learnt within (as_before same) = omega (arith, same, within, length-append s.entries (e ∷ []))
-learns_within s e learnt within (all_again all one) = omega (arith, all, one, length-append s.entries (e ∷ []))
+learns_within : (s : State) (e : Entry) (learnt : ℕ) → s.learnt ≤ length s.entries → Learns s learnt
+    → learnt ≤ length (s.entries ++ e ∷ [])
+learns_within s e learnt within (as_before same) =
+    omega (arith, same, within, length-append s.entries (e ∷ []))
+learns_within s e learnt within (all_again all one) =
+    omega (arith, all, one, length-append s.entries (e ∷ []))
 
-pub mark_kept : (task : Task) (s : State) (e : Entry) (learnt : ℕ) → s.is_open ≡ false → is_mark e ≡ true → Learns s learnt
+pub mark_kept : (task : Task) (s : State) (e : Entry) (learnt : ℕ) → s.is_open ≡ false
+    → is_mark e ≡ true → Learns s learnt
     → IsSession task s → IsSession task (after_mark s e learnt)
 mark_kept task s e learnt closed mark learns h =
     let adds = mark_adds s.version task s.entries h.fit.problem.objects.names.distinct h.legal e mark in

@@ -16,7 +16,8 @@ legal_at_first : (version : ℕ) (task : Task) → IsLegal version task []
 legal_at_first version task k e at = absurd (none_at k e at)
 
 -- Of a fit head, where nothing was asked, learnt or noted and what is known is what is known at first.
-pub new_session : (task : Task) (head : Head) (s : State) → IsFit task → IsFitHead task head → IsOf head s → s.entries ≡ [] → s.asked ≡ []
+pub new_session : (task : Task) (head : Head) (s : State) → IsFit task → IsFitHead task head
+    → IsOf head s → s.entries ≡ [] → s.asked ≡ []
     → s.learnt ≡ 0 → s.known ≡ known_of task [] → s.notes ≡ [] → s.is_open ≡ false → IsSession task s
 new_session task head s fit of_task of entries asked learnt known notes closed = record {
   fit = fit;

@@ -11,19 +11,23 @@ use Rattle.session_core.specs.Slots.{Slot, at_child, is_slot_of, slot_of, all_an
 abbrev pub children_of : List Slot → List ℕ
 children_of = map (λ (s : Slot). s.child)
 
-pub map_at : {A B : Type 0} (f g : A → B) (xs : List A) → ((k : ℕ) (x : A) → slice_get xs k ≡ Some x → f x ≡ g x) → map f xs ≡ map g xs
+pub map_at : {A B : Type 0} (f g : A → B) (xs : List A)
+    → ((k : ℕ) (x : A) → slice_get xs k ≡ Some x → f x ≡ g x) → map f xs ≡ map g xs
 map_at f g [] same = refl
 map_at f g (x ∷ xs) same = λ i. same 0 x refl i ∷ map_at f g xs (λ k y at. same (suc k) y at) i
 
 -- ---- a change of one slot
 
-pub at_own : (child : ℕ) (f : Slot → Slot) (s : Slot) → is_slot_of child s ≡ true → at_child child f s ≡ f s
+pub at_own : (child : ℕ) (f : Slot → Slot) (s : Slot) → is_slot_of child s ≡ true
+    → at_child child f s ≡ f s
 at_own child f s e = ap (λ b. cond b (f s) s) e
 
-pub at_other : (child : ℕ) (f : Slot → Slot) (s : Slot) → is_slot_of child s ≡ false → at_child child f s ≡ s
+pub at_other : (child : ℕ) (f : Slot → Slot) (s : Slot) → is_slot_of child s ≡ false
+    → at_child child f s ≡ s
 at_other child f s e = ap (λ b. cond b (f s) s) e
 
-pub child_kept : (child : ℕ) (f : Slot → Slot) → ((s : Slot) → (f s).child ≡ s.child) → (s : Slot) → (at_child child f s).child ≡ s.child
+pub child_kept : (child : ℕ) (f : Slot → Slot) → ((s : Slot) → (f s).child ≡ s.child) → (s : Slot)
+    → (at_child child f s).child ≡ s.child
 child_kept child f keeps s = elim (is_slot_of child s) as (λ b. (cond b (f s) s).child ≡ s.child) [ true ↦ keeps s | false ↦ refl ]
 
 pub children_kept : (g : Slot → Slot) → ((s : Slot) → (g s).child ≡ s.child) → (slots : List Slot)
@@ -31,7 +35,8 @@ pub children_kept : (g : Slot → Slot) → ((s : Slot) → (g s).child ≡ s.ch
 children_kept g keeps slots =
     map-map (λ (s : Slot). s.child) g slots ∙ map_at (λ (s : Slot). (g s).child) (λ (s : Slot). s.child) slots (λ k s at. keeps s)
 
-pub slot_of-map : (g : Slot → Slot) → ((s : Slot) → (g s).child ≡ s.child) → (slots : List Slot) (child : ℕ)
+pub slot_of-map : (g : Slot → Slot) → ((s : Slot) → (g s).child ≡ s.child)
+    → (slots : List Slot) (child : ℕ)
     → slot_of (map g slots) child ≡ option_map g (slot_of slots child)
 slot_of-map g keeps [] child = refl
 slot_of-map g keeps (s ∷ ss) child =
@@ -41,7 +46,8 @@ slot_of-map g keeps (s ∷ ss) child =
       | false ↦ slot_of-map g keeps ss child
     ]
 
-pub slot_child : (slots : List Slot) (child : ℕ) (s : Slot) → slot_of slots child ≡ Some s → s.child ≡ child
+pub slot_child : (slots : List Slot) (child : ℕ) (s : Slot) → slot_of slots child ≡ Some s
+    → s.child ≡ child
 slot_child [] child s e = absurd (cc)
 slot_child (t ∷ ts) child s e =
     elim (is_slot_of child t) as (λ b. is_slot_of child t ≡ b → cond b (Some t) (slot_of ts child) ≡ Some s → s.child ≡ child) [
@@ -50,7 +56,8 @@ slot_child (t ∷ ts) child s e =
     ] refl e
 
 -- where children are distinct, each slot is the one of its child
-pub own_slot : (slots : List Slot) (k : ℕ) (s : Slot) → AreDistinct (children_of slots) → slice_get slots k ≡ Some s
+pub own_slot : (slots : List Slot) (k : ℕ) (s : Slot) → AreDistinct (children_of slots)
+    → slice_get slots k ≡ Some s
     → slot_of slots s.child ≡ Some s
 own_slot [] k s d at = absurd (cc)
 own_slot (t ∷ ts) zero s d at =
@@ -65,16 +72,19 @@ own_slot (t ∷ ts) (suc k) s d at =
     ] refl
 
 -- each slot of an answered round has an answer
-pub answered_at : (slots : List Slot) (k : ℕ) (s : Slot) → all_answered slots ≡ true → slice_get slots k ≡ Some s → is_none s.answer ≡ false
+pub answered_at : (slots : List Slot) (k : ℕ) (s : Slot) → all_answered slots ≡ true
+    → slice_get slots k ≡ Some s → is_none s.answer ≡ false
 answered_at [] k s all at = absurd (cc)
 answered_at (t ∷ ts) zero s all at =
     let same : t ≡ s = cc in
     let here = (and_parts (not (is_none t.answer)) (all_answered ts) all).0 in
     elim (is_none s.answer) as (λ b. not b ≡ true → b ≡ false) [ true ↦ λ e. absurd (cc) | false ↦ λ e. refl ] (ap (λ (u : Slot). not (is_none u.answer)) (sym same) ∙ here)
-answered_at (t ∷ ts) (suc k) s all at = answered_at ts k s (and_parts (not (is_none t.answer)) (all_answered ts) all).1 at
+answered_at (t ∷ ts) (suc k) s all at =
+    answered_at ts k s (and_parts (not (is_none t.answer)) (all_answered ts) all).1 at
 
 -- the place of a child's slot
-pub slot_place : (slots : List Slot) (child : ℕ) (s : Slot) → slot_of slots child ≡ Some s → (k : ℕ) × (slice_get slots k ≡ Some s)
+pub slot_place : (slots : List Slot) (child : ℕ) (s : Slot) → slot_of slots child ≡ Some s
+    → (k : ℕ) × (slice_get slots k ≡ Some s)
 slot_place [] child s e = absurd (cc)
 slot_place (t ∷ ts) child s e =
     elim (is_slot_of child t) as (λ b. cond b (Some t) (slot_of ts child) ≡ Some s → (k : ℕ) × (slice_get (t ∷ ts) k ≡ Some s)) [
@@ -83,7 +93,8 @@ slot_place (t ∷ ts) child s e =
     ] e
 
 -- a write at the place of a child's slot changes the slot of the child alone
-pub set_at_child : (slots : List Slot) (child k : ℕ) (s : Slot) (f : Slot → Slot) → AreDistinct (children_of slots)
+pub set_at_child : (slots : List Slot) (child k : ℕ) (s : Slot) (f : Slot → Slot)
+    → AreDistinct (children_of slots)
     → slice_get slots k ≡ Some s → s.child ≡ child → set slots k (f s) ≡ map (at_child child f) slots
 set_at_child [] child k s f d at own = refl
 set_at_child (t ∷ ts) child zero s f d at own =
@@ -113,12 +124,14 @@ set_at_child (t ∷ ts) child (suc k) s f d at own =
     let here : is_slot_of child t ≡ false = first_apart (is_slot_of child t) refl later in
     λ i. sym (at_other child f t here) i ∷ set_at_child ts child k s f (distinct_tail t.child (children_of ts) d) at own i
   where
-    first_apart : (b : Bool) → is_slot_of child t ≡ b → slice_get (children_of (t ∷ ts)) (suc k) ≡ Some child → is_slot_of child t ≡ false
+    first_apart : (b : Bool) → is_slot_of child t ≡ b
+        → slice_get (children_of (t ∷ ts)) (suc k) ≡ Some child → is_slot_of child t ≡ false
     first_apart true e later = let no : 0 ≡ suc k = d 0 (suc k) child (ap Some (eqb-true t.child child e)) later in absurd (omega arith)
     first_apart false e later = e
 
 -- the slot of the child, where that stands first among those that are left
-pub found_first : (slots : List Slot) (place child : ℕ) (s : Slot) → slice_get slots place ≡ Some s → s.child ≡ child
+pub found_first : (slots : List Slot) (place child : ℕ) (s : Slot) → slice_get slots place ≡ Some s
+    → s.child ≡ child
     → slot_of (drop place slots) child ≡ Some s
 found_first [] place child s at own = absurd (cc)
 found_first (t ∷ ts) zero child s at own =

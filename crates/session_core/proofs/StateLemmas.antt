@@ -20,16 +20,19 @@ module _ (slots : List Slot) (child place : ℕ) (slot old : Slot) (found : slic
       ap (set slots place) (is ∙ ap f read_slot)
       ∙ set_at_child slots child place slot f apart (found ∙ waits) (slot_child slots child slot waits)
 
-pub heard_is : (slots : List Slot) (child : ℕ) (line : List ℕ) (slot : Slot) (why : Option Why) → slot_of slots child ≡ Some slot
+pub heard_is : (slots : List Slot) (child : ℕ) (line : List ℕ) (slot : Slot) (why : Option Why)
+    → slot_of slots child ≡ Some slot
     → why ≡ fault_of (reply_to line slot) → heard_at slots child line ≡ heard_by slot.number why
 heard_is slots child line slot why at is = rw (at, is) refl
 
-pub bad_is : (slots : List Slot) (child : ℕ) (line : List ℕ) (slot : Slot) (why : Option Why) → slot_of slots child ≡ Some slot
+pub bad_is : (slots : List Slot) (child : ℕ) (line : List ℕ) (slot : Slot) (why : Option Why)
+    → slot_of slots child ≡ Some slot
     → why ≡ fault_of (reply_to line slot) → is_bad_at slots child line ≡ is_some why
 bad_is slots child line slot why at is = rw (at, is) refl
 
 -- what holds of every session holds after the change
-pub sound_changed : (s : State) (entries_room asked_room child : ℕ) (f : Slot → Slot) (failed : Bool) → ((t : Slot) → (f t).child ≡ t.child)
+pub sound_changed : (s : State) (entries_room asked_room child : ℕ) (f : Slot → Slot) (failed : Bool)
+    → ((t : Slot) → (f t).child ≡ t.child)
     → IsSound s entries_room asked_room → IsSound (with_slots s (map (at_child child f) s.slots) failed) entries_room asked_room
 sound_changed s entries_room asked_room child f failed keeps h =
     let long = length-map s.slots (at_child child f) in

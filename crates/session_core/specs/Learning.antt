@@ -19,7 +19,8 @@ pub record IsRoomFor (known : Known) (notes : List Note) (stream : Stream) (tupl
   pub few_notes : length notes + tuples < 4294967295
 
 abbrev pub IsRoomAfter : Known → List Note → Stream → Entry → Type 0
-IsRoomAfter known notes stream (entry.Got n tuples values) = IsRoomFor known notes stream tuples values
+IsRoomAfter known notes stream (entry.Got n tuples values) =
+    IsRoomFor known notes stream tuples values
 IsRoomAfter known notes stream (entry.Value n value) = value ≤ 1000000
 IsRoomAfter known notes stream e = Unit {0}
 

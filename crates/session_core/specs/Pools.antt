@@ -33,8 +33,10 @@ pub record HasChild (pool : Workers) (child : ℕ) : Type 0 where
 
 -- Each stream of the task is served by one pool, and pools have children of their own, one at least, with numbers up to 16.
 pub record AreFitPools (task : Task) (all : List Workers) : Type 0 where
-  pub served : (stream : ℕ) → stream < length task.streams → (pool : Workers) × (server all stream ≡ Some pool)
-  pub apart : (j k child : ℕ) (p q : Workers) → slice_get all j ≡ Some p → slice_get all k ≡ Some q → HasChild p child
+  pub served : (stream : ℕ) → stream < length task.streams
+      → (pool : Workers) × (server all stream ≡ Some pool)
+  pub apart : (j k child : ℕ) (p q : Workers) → slice_get all j ≡ Some p → slice_get all k ≡ Some q
+      → HasChild p child
       → HasChild q child → j ≡ k
   pub once : (j k stream : ℕ) (p q : Workers) → slice_get all j ≡ Some p → slice_get all k ≡ Some q
       → serves p stream ≡ true → serves q stream ≡ true → j ≡ k
@@ -43,8 +45,10 @@ pub record AreFitPools (task : Task) (all : List Workers) : Type 0 where
 
 -- no pool has more asks of these streams than workers
 abbrev pub FitWorkers : List Workers → List ℕ → Type 0
-FitWorkers all streams = (k : ℕ) (p : Workers) → slice_get all k ≡ Some p → count_by (serves p) streams ≤ p.workers
+FitWorkers all streams =
+    (k : ℕ) (p : Workers) → slice_get all k ≡ Some p → count_by (serves p) streams ≤ p.workers
 
 -- whether that is so
 abbrev pub fits_workers : List Workers → List ℕ → Bool
-fits_workers all streams = list_all (λ (p : Workers). nat_le (count_by (serves p) streams) p.workers) all
+fits_workers all streams =
+    list_all (λ (p : Workers). nat_le (count_by (serves p) streams) p.workers) all

@@ -119,7 +119,8 @@ begun task s dues =
 
 -- what the whole transcript certifies and tells is known and noted
 abbrev pub after_learn : Task → State → State
-after_learn task s = with_learnt s (known_of task s.entries) (notes_of task s.entries) (length s.entries) false
+after_learn task s =
+    with_learnt s (known_of task s.entries) (notes_of task s.entries) (length s.entries) false
 
 -- ---- faults
 

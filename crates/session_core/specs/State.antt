@@ -52,7 +52,8 @@ after_sent s child = with_slots s (map (at_child child sent_slot) s.slots) s.fai
 
 -- the child's line is taken; a line that is no answer lets the session fail
 abbrev pub after_line : State → ℕ → List ℕ → Bool → State
-after_line s child line is_bad = with_slots s (map (at_child child (heard_slot line)) s.slots) is_bad
+after_line s child line is_bad =
+    with_slots s (map (at_child child (heard_slot line)) s.slots) is_bad
 
 -- the session has failed
 abbrev pub after_failure : State → State

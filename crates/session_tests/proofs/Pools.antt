@@ -8,7 +8,8 @@ use Rattle.task_model.specs.declared.task.Task.{Task}
 use Rattle.session_core.specs.Pools.{AreFitPools, serves, server}
 use Rattle.session_core.specs.declared.pools.Workers.{Workers}
 
-pub numbers_more : (first n : ℕ) → numbers_from first (n + 1) ≡ numbers_from first n ++ (first + n) ∷ []
+pub numbers_more : (first n : ℕ)
+    → numbers_from first (n + 1) ≡ numbers_from first n ++ (first + n) ∷ []
 numbers_more first zero = ap (λ k. k ∷ []) (let e : first ≡ first + 0 = omega arith in e)
 numbers_more first (suc n) =
     ap (numbers_from first) (let e : suc n + 1 ≡ suc (n + 1) = omega arith in e)

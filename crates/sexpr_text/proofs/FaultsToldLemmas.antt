@@ -24,28 +24,37 @@ out_outside ts t (behind_list r st) = beyond r st
 at_is : (end : ℕ) (ts : List Token) (g : TextFault) → FaultAt end before ts g → IsFaultOf end ts g
 at_is end ts (BadByte p) h = h
 at_is end ts (Unclosed p) h = record { at_end = h.at_end; no_list = h.no_rest }
-at_is end ts (Extra p) h = record { token = h.token; at_place = h.at_place; outside = outside_out ts h.token h.out }
-at_is end ts (TooDeep p) h = record { front = h.front; stands = h.stands; deep = omega (arith, h.deep) }
+at_is end ts (Extra p) h =
+    record { token = h.token; at_place = h.at_place; outside = outside_out ts h.token h.out }
+at_is end ts (TooDeep p) h =
+    record { front = h.front; stands = h.stands; deep = omega (arith, h.deep) }
 at_is end ts Memory h = h
 
 is_at : (end : ℕ) (ts : List Token) (g : TextFault) → IsFaultOf end ts g → FaultAt end before ts g
 is_at end ts (BadByte p) h = h
 is_at end ts (Unclosed p) h = record { at_end = h.at_end; no_rest = h.no_list }
-is_at end ts (Extra p) h = record { token = h.token; at_place = h.at_place; out = out_outside ts h.token h.outside }
-is_at end ts (TooDeep p) h = record { front = h.front; stands = h.stands; deep = omega (arith, h.deep) }
+is_at end ts (Extra p) h =
+    record { token = h.token; at_place = h.at_place; out = out_outside ts h.token h.outside }
+is_at end ts (TooDeep p) h =
+    record { front = h.front; stands = h.stands; deep = omega (arith, h.deep) }
 is_at end ts Memory h = h
 
-fault_has : (bytes : List ℕ) (g : TextFault) → FaultAt (length bytes) before (tokens_of bytes) g → HasFault bytes g
+fault_has : (bytes : List ℕ) (g : TextFault) → FaultAt (length bytes) before (tokens_of bytes) g
+    → HasFault bytes g
 fault_has bytes g h = record { tokens = tokens_of bytes; lexed = lexes_tokens 0 bytes; fault = at_is (length bytes) (tokens_of bytes) g h }
 
-has_fault : (bytes : List ℕ) (g : TextFault) → HasFault bytes g → FaultAt (length bytes) before (tokens_of bytes) g
+has_fault : (bytes : List ℕ) (g : TextFault) → HasFault bytes g
+    → FaultAt (length bytes) before (tokens_of bytes) g
 has_fault bytes g h = is_at (length bytes) (tokens_of bytes) g (subst (λ ts. IsFaultOf (length bytes) ts g) (tokens_unique h.lexed) h.fault)
 
-unless_err : (o : Option TextFault) (t : Trees) (f : TextFault) → unless_fault o t ≡ Err f → o ≡ Some f
+unless_err : (o : Option TextFault) (t : Trees) (f : TextFault) → unless_fault o t ≡ Err f
+    → o ≡ Some f
 unless_err None t f e = cc
 unless_err (Some g) t f e = cc
 
-decided_of : (bytes : List ℕ) (o : Option TextFault) → first_fault (length bytes) before (tokens_of bytes) ≡ o → Decided (length bytes) before (tokens_of bytes) o
+decided_of : (bytes : List ℕ) (o : Option TextFault)
+    → first_fault (length bytes) before (tokens_of bytes) ≡ o
+    → Decided (length bytes) before (tokens_of bytes) o
 decided_of bytes o e = subst (Decided (length bytes) before (tokens_of bytes)) e (decided (length bytes) 0 (tokens_of bytes) (ascends_of bytes))
 
 -- A fault that is answered is the least one.

@@ -23,7 +23,9 @@ row_then-nothing (word text place more) = ap (word text place) (row_then-nothing
 row_then-nothing (list items place more) = ap (list items place) (row_then-nothing more)
 
 -- Trees have no fault of their own where they aren't too deep.
-pub same_fault : {t : Trees} {ts us : List Token} (end d : ℕ) → Begins t ts us → depth t + suc d ≤ 64 → first_fault end (inside (suc d)) ts ≡ first_fault end (inside (suc d)) us
+pub same_fault : {t : Trees} {ts us : List Token} (end d : ℕ) → Begins t ts us
+    → depth t + suc d ≤ 64
+    → first_fault end (inside (suc d)) ts ≡ first_fault end (inside (suc d)) us
 same_fault end d with_none low = refl
 same_fault end d (with_word b) low = same_fault end d b low
 same_fault end d (with_list {items} {rest} {place} {close} {ts} {us} b b') low =
@@ -36,10 +38,12 @@ same_fault end d (with_list {items} {rest} {place} {close} {ts} {us} b b') low =
     ∙ same_fault end d b' (omega arith)
 
 -- The trees of tokens begin with those that the tokens begin with.
-same_levels : {t : Trees} {ts us : List Token} → Begins t ts us → levels ts ≡ record { inner = row_then t (levels us).inner; outer = (levels us).outer }
+same_levels : {t : Trees} {ts us : List Token} → Begins t ts us
+    → levels ts ≡ record { inner = row_then t (levels us).inner; outer = (levels us).outer }
 unfolding row_then
 same_levels with_none = refl
-same_levels (with_word {text} {place} b) = ap (λ (l : Levels). record l { inner = word text place l.inner }) (same_levels b)
+same_levels (with_word {text} {place} b) =
+    ap (λ (l : Levels). record l { inner = word text place l.inner }) (same_levels b)
 same_levels (with_list {items} {rest} {place} {close} {ts} {us} b b') =
     ap (λ (l : Levels). opened place l.inner l.outer) (same_levels b)
     ∙ ap (λ i. let l : Levels = record { inner = list i place (levels us).inner; outer = (levels us).outer } in l) (row_then-nothing items)
@@ -48,7 +52,9 @@ same_levels (with_list {items} {rest} {place} {close} {ts} {us} b b') =
 none_left : {ts us : List Token} → Begins nothing ts us → ts ≡ us
 none_left with_none = refl
 
-only_list : {items : Trees} {place : ℕ} {ts : List Token} (end : ℕ) → Begins (list items place nothing) ts [] → depth (list items place nothing) ≤ 64 → unless_fault (first_fault end before ts) (levels ts).inner ≡ Ok (list items place nothing)
+only_list : {items : Trees} {place : ℕ} {ts : List Token} (end : ℕ)
+    → Begins (list items place nothing) ts [] → depth (list items place nothing) ≤ 64
+    → unless_fault (first_fault end before ts) (levels ts).inner ≡ Ok (list items place nothing)
 unfolding row_then
 only_list end (with_list {items} {rest} {place} {close} {ts} {us} b b') low =
     let p : depth items + 1 ≤ max (depth items + 1) 0 = le-max_left (depth items + 1) 0 in
@@ -60,7 +66,8 @@ only_list end (with_list {items} {rest} {place} {close} {ts} {us} b b') low =
     ∙ ap (λ vs. list items place (levels vs).inner) e in
     ap (λ o. unless_fault o (opened place (levels ts).inner (levels ts).outer).inner) f ∙ ap Ok g
 
-only_tokens : (end : ℕ) (ts : List Token) (t : Trees) → IsOneList t → Begins t ts [] → depth t ≤ 64 → unless_fault (first_fault end before ts) (levels ts).inner ≡ Ok t
+only_tokens : (end : ℕ) (ts : List Token) (t : Trees) → IsOneList t → Begins t ts [] → depth t ≤ 64
+    → unless_fault (first_fault end before ts) (levels ts).inner ≡ Ok t
 only_tokens end ts nothing one b low = absurd one
 only_tokens end ts (word text place rest) one b low = absurd one
 only_tokens end ts (list items place (word text p rest)) one b low = absurd one

@@ -13,9 +13,13 @@ use Rattle.sexpr_text.specs.Reading.{before, inside, after, out_of, first_fault,
 -- Tokens of the trees in the innermost of some lists, the `)` of that list, the trees after it, and so on.
 pub data Stacks : ℕ → Trees → List Trees → List Token → Type 0 where
   at_end : Stacks 0 nothing [] []
-  in_list : {d close : ℕ} {inner next : Trees} {outer : List Trees} {ts us : List Token} → Begins inner ts (Token.right close ∷ us) → depth inner + suc d ≤ 64 → Stacks d next outer us → Stacks (suc d) inner (next ∷ outer) ts
+  in_list : {d close : ℕ} {inner next : Trees} {outer : List Trees} {ts us : List Token}
+      → Begins inner ts (Token.right close ∷ us) → depth inner + suc d ≤ 64 → Stacks d next outer us
+      → Stacks (suc d) inner (next ∷ outer) ts
 
-stacks_word : (d : ℕ) (inner : Trees) (outer : List Trees) (ts : List Token) (text : List ℕ) (place : ℕ) → Stacks (suc d) inner outer ts → Stacks (suc d) (word text place inner) outer (Token.word text place ∷ ts)
+stacks_word : (d : ℕ) (inner : Trees) (outer : List Trees) (ts : List Token) (text : List ℕ) (place : ℕ)
+    → Stacks (suc d) inner outer ts
+    → Stacks (suc d) (word text place inner) outer (Token.word text place ∷ ts)
 stacks_word d inner outer ts text place (in_list b low more) = in_list (with_word b) low more
 
 depth_low : (a b d : ℕ) → a + suc (suc d) ≤ 64 → b + suc d ≤ 64 → max (a + 1) b + suc d ≤ 64
@@ -24,11 +28,15 @@ depth_low a b d p q =
     let s : suc d ≤ 64 = omega arith in
     omega arith
 
-stacks_left : (d : ℕ) (inner : Trees) (outer : List Trees) (ts : List Token) (place : ℕ) → Stacks (suc (suc d)) inner outer ts → Stacks (suc d) (opened place inner outer).inner (opened place inner outer).outer (Token.left place ∷ ts)
-stacks_left d inner outer ts place (in_list b low (in_list {inner = next} b' low' more)) = in_list (with_list b b') (depth_low (depth inner) (depth next) d low low') more
+stacks_left : (d : ℕ) (inner : Trees) (outer : List Trees) (ts : List Token) (place : ℕ)
+    → Stacks (suc (suc d)) inner outer ts
+    → Stacks (suc d) (opened place inner outer).inner (opened place inner outer).outer (Token.left place ∷ ts)
+stacks_left d inner outer ts place (in_list b low (in_list {inner = next} b' low' more)) =
+    in_list (with_list b b') (depth_low (depth inner) (depth next) d low low') more
 
 -- no fault where a choice might have one
-choice_none : (v : Bool) (o : Option TextFault) (f : TextFault) → cond v o (Some f) ≡ None → (v ≡ true) × (o ≡ None)
+choice_none : (v : Bool) (o : Option TextFault) (f : TextFault) → cond v o (Some f) ≡ None
+    → (v ≡ true) × (o ≡ None)
 choice_none true o f e = (refl, e)
 choice_none false o f e = cc
 
@@ -37,8 +45,10 @@ out_of-suc d =
     let e : suc (suc d) - 1 ≡ suc d = omega arith in
     ap (λ v. cond v after (inside (suc (suc d) - 1))) (ne_eqb (suc (suc d)) 1 (λ h. omega arith)) ∙ ap inside e
 
-pub deeper : (end d : ℕ) (ts : List Token) → first_fault end (inside (suc d + 1)) ts ≡ first_fault end (inside (suc (suc d))) ts
-deeper end d ts = let e : suc d + 1 ≡ suc (suc d) = omega arith in ap (λ n. first_fault end (inside n) ts) e
+pub deeper : (end d : ℕ) (ts : List Token)
+    → first_fault end (inside (suc d + 1)) ts ≡ first_fault end (inside (suc (suc d))) ts
+deeper end d ts =
+    let e : suc d + 1 ≡ suc (suc d) = omega arith in ap (λ n. first_fault end (inside n) ts) e
 
 after_none : (end : ℕ) (ts : List Token) → first_fault end after ts ≡ None → ts ≡ []
 after_none end [] e = refl
@@ -47,15 +57,19 @@ after_none end (Token.left p ∷ ts) e = cc
 after_none end (Token.right p ∷ ts) e = cc
 after_none end (Token.bad p ∷ ts) e = cc
 
-stacks_end : (ts : List Token) (close : ℕ) → ts ≡ [] → Stacks 1 nothing ((levels ts).inner ∷ (levels ts).outer) (Token.right close ∷ ts)
+stacks_end : (ts : List Token) (close : ℕ) → ts ≡ []
+    → Stacks 1 nothing ((levels ts).inner ∷ (levels ts).outer) (Token.right close ∷ ts)
 stacks_end [] close e = in_list with_none (omega arith) at_end
 stacks_end (t ∷ ts) close e = cc
 
 -- where no token in a list has a fault
-pub found_inside : (end d : ℕ) (ts : List Token) → suc d ≤ 64 → first_fault end (inside (suc d)) ts ≡ None → Stacks (suc d) (levels ts).inner (levels ts).outer ts
+pub found_inside : (end d : ℕ) (ts : List Token) → suc d ≤ 64
+    → first_fault end (inside (suc d)) ts ≡ None
+    → Stacks (suc d) (levels ts).inner (levels ts).outer ts
 found_inside end d [] low e = cc
 found_inside end d (Token.bad p ∷ ts) low e = cc
-found_inside end d (Token.word text p ∷ ts) low e = stacks_word d (levels ts).inner (levels ts).outer ts text p (found_inside end d ts low e)
+found_inside end d (Token.word text p ∷ ts) low e =
+    stacks_word d (levels ts).inner (levels ts).outer ts text p (found_inside end d ts low e)
 found_inside end d (Token.left p ∷ ts) low e =
     let both = choice_none (nat_lt (suc d) 64) (first_fault end (inside (suc d + 1)) ts) (TextFault.TooDeep p) e in
     let more : suc d < 64 = ltb-true (suc d) 64 both.0 in
@@ -70,22 +84,26 @@ pub record IsWhole (ts : List Token) (t : Trees) : Type 0 where
   pub tokens : Begins t ts []
   pub depth : depth t ≤ 64
 
-whole : (inner : Trees) (outer : List Trees) (ts : List Token) (place : ℕ) → Stacks 1 inner outer ts → IsWhole (Token.left place ∷ ts) (opened place inner outer).inner
+whole : (inner : Trees) (outer : List Trees) (ts : List Token) (place : ℕ) → Stacks 1 inner outer ts
+    → IsWhole (Token.left place ∷ ts) (opened place inner outer).inner
 whole inner outer ts place (in_list b low at_end) = record {
   one = tt;
   tokens = with_list b with_none;
   depth = max-le (omega arith) (omega arith);
 }
 
-found_before : (end : ℕ) (ts : List Token) → first_fault end before ts ≡ None → IsWhole ts (levels ts).inner
+found_before : (end : ℕ) (ts : List Token) → first_fault end before ts ≡ None
+    → IsWhole ts (levels ts).inner
 found_before end [] e = cc
 found_before end (Token.bad p ∷ ts) e = cc
 found_before end (Token.word text p ∷ ts) e = cc
 found_before end (Token.right p ∷ ts) e = cc
-found_before end (Token.left p ∷ ts) e = whole (levels ts).inner (levels ts).outer ts p (found_inside end 0 ts (omega arith) e)
+found_before end (Token.left p ∷ ts) e =
+    whole (levels ts).inner (levels ts).outer ts p (found_inside end 0 ts (omega arith) e)
 
 -- an answer that is a tree
-pub unless_ok : (o : Option TextFault) (t u : Trees) → unless_fault o t ≡ Ok u → (o ≡ None) × (t ≡ u)
+pub unless_ok : (o : Option TextFault) (t u : Trees) → unless_fault o t ≡ Ok u
+    → (o ≡ None) × (t ≡ u)
 unless_ok None t u e = (refl, cc)
 unless_ok (Some f) t u e = cc
 

@@ -12,10 +12,12 @@ use Rattle.sexpr_text.specs.Scanning.{folded_word, BeginsWith}
 
 -- a word at a place and the tokens after it
 abbrev pub word_then : List ℕ → ℕ → List ℕ → List Token
-word_then letters place bs = Token.word letters place ∷ tokens false (place + length letters) (drop (length letters) bs)
+word_then letters place bs =
+    Token.word letters place ∷ tokens false (place + length letters) (drop (length letters) bs)
 
 -- the token of a letter
-letter_tokens : (k : Class) (b place : ℕ) (v : Bool) (bs : List ℕ) → is_letter k ≡ true → token_then k b place v (tokens (opens_comment k) (place + 1) bs) ≡ letter_then b place v (tokens false (place + 1) bs)
+letter_tokens : (k : Class) (b place : ℕ) (v : Bool) (bs : List ℕ) → is_letter k ≡ true
+    → token_then k b place v (tokens (opens_comment k) (place + 1) bs) ≡ letter_then b place v (tokens false (place + 1) bs)
 letter_tokens Blank b place v bs e = cc
 letter_tokens Semicolon b place v bs e = cc
 letter_tokens Left b place v bs e = cc
@@ -23,17 +25,21 @@ letter_tokens Right b place v bs e = cc
 letter_tokens Letter b place v bs e = refl
 letter_tokens Bad b place v bs e = cc
 
-folded_word-cons : (b : ℕ) (bs : List ℕ) (v : Bool) → is_letter (class_of b) ≡ v → folded_word (b ∷ bs) ≡ cond v (folded b ∷ folded_word bs) []
+folded_word-cons : (b : ℕ) (bs : List ℕ) (v : Bool) → is_letter (class_of b) ≡ v
+    → folded_word (b ∷ bs) ≡ cond v (folded b ∷ folded_word bs) []
 folded_word-cons b bs v e =
     ap (map folded) (take_while-cons (λ c. is_letter (class_of c)) b bs)
     ∙ ap (λ w. map folded (cond w (b ∷ take_while (λ c. is_letter (class_of c)) bs) [])) e
     ∙ (elim v as (λ w. map folded (cond w (b ∷ take_while (λ c. is_letter (class_of c)) bs) []) ≡ cond w (folded b ∷ folded_word bs) []) [ true ↦ refl | false ↦ refl ])
 
-shifted : (b x place : ℕ) (ls bs : List ℕ) → tokens false (place + 1 + length ls) (drop (length ls) bs) ≡ tokens false (place + length (x ∷ ls)) (drop (length (x ∷ ls)) (b ∷ bs))
+shifted : (b x place : ℕ) (ls bs : List ℕ)
+    → tokens false (place + 1 + length ls) (drop (length ls) bs) ≡ tokens false (place + length (x ∷ ls)) (drop (length (x ∷ ls)) (b ∷ bs))
 shifted b x place ls bs = let f : place + 1 + length ls ≡ place + length (x ∷ ls) = omega arith in ap (λ p. tokens false p (drop (length ls) bs)) f
 
 -- a letter in front of a byte of which it is known whether it is a letter
-after_letter : (b place c : ℕ) (cs : List ℕ) (v : Bool) → is_letter (class_of c) ≡ v → (v ≡ true → tokens false (place + 1) (c ∷ cs) ≡ word_then (folded c ∷ folded_word cs) (place + 1) (c ∷ cs)) → letter_then b place v (tokens false (place + 1) (c ∷ cs)) ≡ word_then (folded b ∷ folded_word (c ∷ cs)) place (b ∷ c ∷ cs)
+after_letter : (b place c : ℕ) (cs : List ℕ) (v : Bool) → is_letter (class_of c) ≡ v
+    → (v ≡ true → tokens false (place + 1) (c ∷ cs) ≡ word_then (folded c ∷ folded_word cs) (place + 1) (c ∷ cs))
+    → letter_then b place v (tokens false (place + 1) (c ∷ cs)) ≡ word_then (folded b ∷ folded_word (c ∷ cs)) place (b ∷ c ∷ cs)
 after_letter b place c cs true e more =
     ap (joined (folded b) place) (more refl)
     ∙ ap (λ ts. Token.word (folded b ∷ folded c ∷ folded_word cs) place ∷ ts) (shifted b (folded b) place (folded c ∷ folded_word cs) (c ∷ cs))
@@ -42,9 +48,12 @@ after_letter b place c cs false e more =
     ap (λ ls. word_then (folded b ∷ ls) place (b ∷ c ∷ cs)) (sym (folded_word-cons c cs false e))
 
 -- Where a letter stands first, its word is the first token.
-pub word_first : (b place : ℕ) (bs : List ℕ) → is_letter (class_of b) ≡ true → tokens false place (b ∷ bs) ≡ word_then (folded b ∷ folded_word bs) place (b ∷ bs)
+pub word_first : (b place : ℕ) (bs : List ℕ) → is_letter (class_of b) ≡ true
+    → tokens false place (b ∷ bs) ≡ word_then (folded b ∷ folded_word bs) place (b ∷ bs)
 word_first b place [] e = letter_tokens (class_of b) b place false [] e
-word_first b place (c ∷ cs) e = letter_tokens (class_of b) b place (begins_word (c ∷ cs)) (c ∷ cs) e ∙ after_letter b place c cs (is_letter (class_of c)) refl (word_first c (place + 1) cs)
+word_first b place (c ∷ cs) e =
+    letter_tokens (class_of b) b place (begins_word (c ∷ cs)) (c ∷ cs) e
+    ∙ after_letter b place c cs (is_letter (class_of c)) refl (word_first c (place + 1) cs)
 
 folded_word-within : (bs : List ℕ) → length (folded_word bs) ≤ length bs
 folded_word-within bs =
@@ -54,14 +63,16 @@ folded_word-within bs =
     let g : prefix_len p bs ≤ length bs = prefix_len-le-length p bs in
     omega arith
 
-begins : (b : ℕ) (bs : List ℕ) → is_letter (class_of b) ≡ true → BeginsWith (lexemes.Word (folded_word (b ∷ bs))) (length (folded_word (b ∷ bs))) (b ∷ bs)
+begins : (b : ℕ) (bs : List ℕ) → is_letter (class_of b) ≡ true
+    → BeginsWith (lexemes.Word (folded_word (b ∷ bs))) (length (folded_word (b ∷ bs))) (b ∷ bs)
 begins b bs e = record {
   within = folded_word-within (b ∷ bs);
   first = λ place. word_first b place bs e ∙ ap (λ ls. word_then ls place (b ∷ bs)) (sym (folded_word-cons b bs true e));
 }
 
 -- Bytes that begin with a letter begin with its word.
-pub word_begins : (bs text : List ℕ) (taken : ℕ) → 0 < length bs → Letter ≡ class_of (get_or bs 0 0) → text ≡ folded_word bs → taken ≡ length text → BeginsWith (lexemes.Word text) taken bs
+pub word_begins : (bs text : List ℕ) (taken : ℕ) → 0 < length bs → Letter ≡ class_of (get_or bs 0 0)
+    → text ≡ folded_word bs → taken ≡ length text → BeginsWith (lexemes.Word text) taken bs
 word_begins [] text taken some e f g = absurd (omega arith)
 word_begins (b ∷ bs) text taken some e f g =
     subst (λ n. BeginsWith (lexemes.Word text) n (b ∷ bs)) (sym g)

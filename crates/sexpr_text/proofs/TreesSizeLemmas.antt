@@ -27,11 +27,13 @@ weight-joined b place (Token.left p ∷ ts) = omega arith
 weight-joined b place (Token.right p ∷ ts) = omega arith
 weight-joined b place (Token.bad p ∷ ts) = omega arith
 
-weight-letter_then : (b place : ℕ) (v : Bool) (ts : List Token) → weight (letter_then b place v ts) ≤ 1 + weight ts
+weight-letter_then : (b place : ℕ) (v : Bool) (ts : List Token)
+    → weight (letter_then b place v ts) ≤ 1 + weight ts
 weight-letter_then b place true ts = weight-joined (folded b) place ts
 weight-letter_then b place false ts = omega arith
 
-weight-token_then : (k : Class) (b place : ℕ) (v : Bool) (ts : List Token) → weight (token_then k b place v ts) ≤ 1 + weight ts
+weight-token_then : (k : Class) (b place : ℕ) (v : Bool) (ts : List Token)
+    → weight (token_then k b place v ts) ≤ 1 + weight ts
 weight-token_then Blank b place v ts = omega arith
 weight-token_then Semicolon b place v ts = omega arith
 weight-token_then Left b place v ts = omega arith
@@ -39,10 +41,12 @@ weight-token_then Right b place v ts = omega arith
 weight-token_then Letter b place v ts = weight-letter_then b place v ts
 weight-token_then Bad b place v ts = omega arith
 
-weight-tokens : (in_comment : Bool) (place : ℕ) (bs : List ℕ) → weight (tokens in_comment place bs) ≤ length bs
+weight-tokens : (in_comment : Bool) (place : ℕ) (bs : List ℕ)
+    → weight (tokens in_comment place bs) ≤ length bs
 weight-tokens true place [] = omega arith
 weight-tokens false place [] = omega arith
-weight-tokens true place (b ∷ bs) = let p = weight-tokens (not (b == 10)) (place + 1) bs in omega arith
+weight-tokens true place (b ∷ bs) =
+    let p = weight-tokens (not (b == 10)) (place + 1) bs in omega arith
 weight-tokens false place (b ∷ bs) =
     let ts : List Token = tokens (opens_comment (class_of b)) (place + 1) bs in
     let p = weight-tokens (opens_comment (class_of b)) (place + 1) bs in

@@ -100,7 +100,9 @@ fault_number Memory = 5
 
 -- The one has the lesser place, or at one place the lesser number, if they aren't the same.
 abbrev pub ComesFirst : TextFault → TextFault → Type 0
-ComesFirst f g = (fault_place f < fault_place g) ⊎ ((fault_place f ≡ fault_place g) × (fault_number f ≤ fault_number g))
+ComesFirst f g =
+    (fault_place f < fault_place g)
+    ⊎ ((fault_place f ≡ fault_place g) × (fault_number f ≤ fault_number g))
 
 -- The text has this fault, and any other that it has comes after it.
 pub record IsLeastFault (bytes : List ℕ) (f : TextFault) : Type 0 where

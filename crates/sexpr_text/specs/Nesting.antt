@@ -38,7 +38,8 @@ pub record ClosesInside (old new : Nest) : Type 0 where
 
 pub record ClosesWhole (old : Nest) (t : Tree) : Type 0 where
   pub count : open_count old ≡ 1
-  pub same : (l : Levels) → nested old (closing l) ≡ record { inner = tree_then t l.inner; outer = l.outer }
+  pub same : (l : Levels)
+      → nested old (closing l) ≡ record { inner = tree_then t l.inner; outer = l.outer }
 
 -- The innermost list was closed, and perhaps it was the outermost.
 abbrev pub Closes : Nest → Closed → Type 0

@@ -29,7 +29,8 @@ first_fault end before (Token.left place ∷ ts) = first_fault end (inside 1) ts
 first_fault end before (t ∷ ts) = Some (outside_fault t)
 first_fault end (inside d) [] = Some (Unclosed end)
 first_fault end (inside d) (Token.word text place ∷ ts) = first_fault end (inside d) ts
-first_fault end (inside d) (Token.left place ∷ ts) = if nat_lt d 64 then first_fault end (inside (d + 1)) ts else Some (TooDeep place)
+first_fault end (inside d) (Token.left place ∷ ts) =
+    if nat_lt d 64 then first_fault end (inside (d + 1)) ts else Some (TooDeep place)
 first_fault end (inside d) (Token.right place ∷ ts) = first_fault end (out_of d) ts
 first_fault end (inside d) (Token.bad place ∷ ts) = Some (BadByte place)
 first_fault end after [] = None
@@ -48,9 +49,11 @@ opened place inner (next ∷ outer) = record { inner = list inner place next; ou
 -- The trees of tokens, from right to left: a `)` begins a list, and the `(` before it ends that list.
 abbrev pub levels : List Token → Levels
 levels [] = record { inner = nothing; outer = [] }
-levels (Token.word text place ∷ ts) = record (levels ts) { inner = word text place (levels ts).inner }
+levels (Token.word text place ∷ ts) =
+    record (levels ts) { inner = word text place (levels ts).inner }
 levels (Token.left place ∷ ts) = opened place (levels ts).inner (levels ts).outer
-levels (Token.right place ∷ ts) = record { inner = nothing; outer = (levels ts).inner ∷ (levels ts).outer }
+levels (Token.right place ∷ ts) =
+    record { inner = nothing; outer = (levels ts).inner ∷ (levels ts).outer }
 levels (Token.bad place ∷ ts) = levels ts
 
 abbrev pub unless_fault : Option TextFault → Trees → Result Trees TextFault

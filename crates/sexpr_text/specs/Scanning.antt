@@ -39,4 +39,5 @@ folded_word bs = map folded (take_while (λ b. is_letter (class_of b)) bs)
 -- The first token of these bytes takes this many of them, whatever the place that they begin at.
 pub record BeginsWith (lexeme : Lexeme) (taken : ℕ) (bs : List ℕ) : Type 0 where
   pub within : taken ≤ length bs
-  pub first : (place : ℕ) → tokens false place bs ≡ token_of lexeme place ∷ tokens false (place + taken) (drop taken bs)
+  pub first : (place : ℕ)
+      → tokens false place bs ≡ token_of lexeme place ∷ tokens false (place + taken) (drop taken bs)

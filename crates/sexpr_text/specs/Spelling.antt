@@ -8,8 +8,11 @@ use Rattle.sexpr_text.specs.Trees.{Trees, nothing, word, list, depth}
 -- the tokens of its trees and a `)`.
 pub data Begins : Trees → List Token → List Token → Type 0 where
   with_none : {ts : List Token} → Begins nothing ts ts
-  with_word : {text : List ℕ} {place : ℕ} {rest : Trees} {ts us : List Token} → Begins rest ts us → Begins (word text place rest) (Token.word text place ∷ ts) us
-  with_list : {items rest : Trees} {place close : ℕ} {ts us vs : List Token} → Begins items ts (Token.right close ∷ us) → Begins rest us vs → Begins (list items place rest) (Token.left place ∷ ts) vs
+  with_word : {text : List ℕ} {place : ℕ} {rest : Trees} {ts us : List Token} → Begins rest ts us
+      → Begins (word text place rest) (Token.word text place ∷ ts) us
+  with_list : {items rest : Trees} {place close : ℕ} {ts us vs : List Token}
+      → Begins items ts (Token.right close ∷ us) → Begins rest us vs
+      → Begins (list items place rest) (Token.left place ∷ ts) vs
 
 -- one list alone
 abbrev pub IsOneList : Trees → Type 0

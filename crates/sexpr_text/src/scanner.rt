@@ -79,7 +79,8 @@ impl<'a> Scanner<'a> {
 /// How many bytes stand before the first token: white space and comments.
 fn blanks_before(rest: &[u8]) -> usize
     ensures within { result ≤ length rest.now }
-    ensures same { (place : ℕ) → tokens false place rest.now ≡ tokens false (place + result) (drop result rest.now) }
+    ensures same { (place : ℕ) → tokens false place rest.now
+        ≡ tokens false (place + result) (drop result rest.now) }
     ensures stops { IsAtToken (drop result rest.now) }
 {
     let mut in_comment = false;

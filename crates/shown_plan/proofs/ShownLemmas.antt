@@ -24,13 +24,15 @@ module _ (task : Task) (known : Known) (coherent : IsCoherent known) where
   typed_in object sort e =
       All-contains (λ (f : Fact). All (IsIn known.names) f.args) known.facts (type_fact sort object) coherent.objects ((fact_member known.facts (type_fact sort object)).0 e) 0 object (omega arith)
 
-  args_in : (objects sorts : List ℕ) → have_types known objects sorts ≡ true → All (IsIn known.names) objects
+  args_in : (objects sorts : List ℕ) → have_types known objects sorts ≡ true
+      → All (IsIn known.names) objects
   args_in [] sorts e = All-nil (IsIn known.names)
   args_in (o ∷ os) [] e = absurd (cc)
   args_in (o ∷ os) (s ∷ ss) e = All-cons (IsIn known.names) o os (typed_in o s (first_so (has_type known o s) (have_types known os ss) e)) (args_in os ss (second_so (has_type known o s) (have_types known os ss) e))
 
   -- the steps of a plan that can be executed
-  pub named_steps : (before after : Atoms) (steps : List GroundAction) (total : ℕ) → Executes task known before steps after total
+  pub named_steps : (before after : Atoms) (steps : List GroundAction) (total : ℕ)
+      → Executes task known before steps after total
       → AreNamedSteps task known.names steps
   named_steps before after [] total e = record { actions = All-nil _; objects = All-nil _ }
   named_steps before after (step ∷ steps) total e =
@@ -42,7 +44,8 @@ module _ (task : Task) (known : Known) (coherent : IsCoherent known) where
       }
 
   -- the steps of a valid plan
-  pub valid_named : (steps : List GroundAction) (cost : ℕ) → IsValid task known steps cost → AreNamedSteps task known.names steps
+  pub valid_named : (steps : List GroundAction) (cost : ℕ) → IsValid task known steps cost
+      → AreNamedSteps task known.names steps
   valid_named steps cost v = named_steps _ v.0 steps cost v.1
 
 -- an outcome that shows a valid plan is true

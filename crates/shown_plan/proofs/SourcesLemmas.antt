@@ -17,22 +17,26 @@ value_next entries e n value = list_any-append _ entries (e ∷ [])
 
 module _ (entries : List Entry) (e : Entry) (value : List ℕ) where
   -- what is there before is there after
-  value_before : (n : ℕ) → has_value entries n value ≡ true → has_value (entries ++ e ∷ []) n value ≡ true
+  value_before : (n : ℕ) → has_value entries n value ≡ true
+      → has_value (entries ++ e ∷ []) n value ≡ true
   value_before n h = value_next entries e n value ∙ or_left _ _ h
 
-  value_here : (n : ℕ) → has_value (e ∷ []) n value ≡ true → has_value (entries ++ e ∷ []) n value ≡ true
+  value_here : (n : ℕ) → has_value (e ∷ []) n value ≡ true
+      → has_value (entries ++ e ∷ []) n value ≡ true
   value_here n h = value_next entries e n value ∙ or_right _ _ h
 
   value_cases : (n : ℕ) → has_value (entries ++ e ∷ []) n value ≡ true
       → (has_value entries n value ≡ true) ⊎ (has_value (e ∷ []) n value ≡ true)
   value_cases n h = or_cases _ _ (sym (value_next entries e n value) ∙ h)
 
-  none_next : ((n : ℕ) → has_value entries n value ≡ false) → ((n : ℕ) → has_value (e ∷ []) n value ≡ false) → (n : ℕ)
+  none_next : ((n : ℕ) → has_value entries n value ≡ false)
+      → ((n : ℕ) → has_value (e ∷ []) n value ≡ false) → (n : ℕ)
       → has_value (entries ++ e ∷ []) n value ≡ false
   none_next before here n = value_next entries e n value ∙ (λ i. before n i || here n i)
 
   -- the entry doesn't have the value
-  kept_none : (source : Source) → IsSource entries value source → ((n : ℕ) → has_value (e ∷ []) n value ≡ false)
+  kept_none : (source : Source) → IsSource entries value source
+      → ((n : ℕ) → has_value (e ∷ []) n value ≡ false)
       → IsSource (entries ++ e ∷ []) value source
   kept_none source s here = record {
     there = value_before source.number s.there;
@@ -41,7 +45,8 @@ module _ (entries : List Entry) (e : Entry) (value : List ℕ) where
   }
 
   -- the entry has the value, for no lesser request
-  kept_some : (source found : Source) → IsSource entries value source → IsSourceIn e value found → source.number ≤ found.number
+  kept_some : (source found : Source) → IsSource entries value source → IsSourceIn e value found
+      → source.number ≤ found.number
       → IsSource (entries ++ e ∷ []) value source
   kept_some source found s f le = record {
     there = value_before source.number s.there;
@@ -50,7 +55,8 @@ module _ (entries : List Entry) (e : Entry) (value : List ℕ) where
   }
 
   -- the entry has the value, for the least request
-  taken : (found : Source) → IsSourceIn e value found → ((n : ℕ) → has_value entries n value ≡ true → found.number ≤ n)
+  taken : (found : Source) → IsSourceIn e value found
+      → ((n : ℕ) → has_value entries n value ≡ true → found.number ≤ n)
       → IsSource (entries ++ e ∷ []) value found
   taken found f before = record {
     there = value_here found.number (f.there found.number ∙ eq-eqb found.number found.number refl);
@@ -63,10 +69,14 @@ module _ (entries : List Entry) (e : Entry) (value : List ℕ) where
       → IfSome result (λ (least : Source). IfSome best (λ (source : Source). least.number ≤ source.number))
       → IfSome result (λ (least : Source). IfSome found (λ (source : Source). least.number ≤ source.number))
       → IfNone result ((best ≡ None) × (found ≡ None)) → IsBest (entries ++ e ∷ []) value result
-  best_next None None None b none some one lb lf nn = record { some = tt; none = none_next b.none none }
-  best_next None None (Some r) b none some one lb lf nn = elim one [ inl h ↦ absurd (cc) | inr h ↦ absurd (cc) ]
-  best_next (Some s) found None b none some one lb lf nn = let no : Some s ≡ None = nn.0 in absurd (cc)
-  best_next None (Some f) None b none some one lb lf nn = let no : Some f ≡ None = nn.1 in absurd (cc)
+  best_next None None None b none some one lb lf nn =
+      record { some = tt; none = none_next b.none none }
+  best_next None None (Some r) b none some one lb lf nn =
+      elim one [ inl h ↦ absurd (cc) | inr h ↦ absurd (cc) ]
+  best_next (Some s) found None b none some one lb lf nn =
+      let no : Some s ≡ None = nn.0 in absurd (cc)
+  best_next None (Some f) None b none some one lb lf nn =
+      let no : Some f ≡ None = nn.1 in absurd (cc)
   best_next None (Some f) (Some r) b none some one lb lf nn = elim one [
     | inl h ↦ absurd (cc)
     | inr h ↦ let same : r ≡ f = cc in record { some = subst (IsSource (entries ++ e ∷ []) value) (sym same) (taken f some (λ n there. absurd (both_ways _ (b.none n) there))); none = tt }
@@ -80,6 +90,8 @@ module _ (entries : List Entry) (e : Entry) (value : List ℕ) where
     | inr h ↦ let same : r ≡ f = cc in record { some = subst (IsSource (entries ++ e ∷ []) value) (sym same) (taken f some (λ n there. let below : f.number ≤ s.number = subst (λ (x : Source). x.number ≤ s.number) same lb in omega (arith, below, b.some.first n there))); none = tt }
   ]
 
-pub next_entry : (entries : List Entry) (i : ℕ) (e : Entry) → i < length entries → e ≡ get_or entries i e
+pub next_entry : (entries : List Entry) (i : ℕ) (e : Entry) → i < length entries
+    → e ≡ get_or entries i e
     → take (i + 1) entries ≡ take i entries ++ e ∷ []
-next_entry entries i e lt is = take_more entries i e lt ∙ ap (λ x. take i entries ++ x ∷ []) (sym is)
+next_entry entries i e lt is =
+    take_more entries i e lt ∙ ap (λ x. take i entries ++ x ∷ []) (sym is)

@@ -38,22 +38,27 @@ module _ {K : Type 0} (shows : K → List ℕ) where
   pub insert_adds : (keys : List K) (k : K) (q : List ℕ)
       → is_among (map shows (insert_key by_name keys k)) q ≡ (same_numbers q (shows k) || is_among (map shows keys) q)
   insert_adds [] k q = refl
-  insert_adds (x ∷ xs) k q = put q k x xs (insert_key by_name xs k) (by_name k x) refl (insert_adds xs k q)
+  insert_adds (x ∷ xs) k q =
+      put q k x xs (insert_key by_name xs k) (by_name k x) refl (insert_adds xs k q)
 
   -- ---- ascending names
 
-  after_first : (x : K) (xs : List K) (j : ℕ) (b : List ℕ) → AllByRecursion (λ y. by_name x y ≡ Less) xs
+  after_first : (x : K) (xs : List K) (j : ℕ) (b : List ℕ)
+      → AllByRecursion (λ y. by_name x y ≡ Less) xs
       → slice_get (map shows xs) j ≡ Some b → slice_cmp nat_cmp (shows x) b ≡ Less
   after_first x [] j b all e = absurd (cc)
-  after_first x (y ∷ ys) zero b all e = subst (λ n. slice_cmp nat_cmp (shows x) n ≡ Less) (same_Some (shows y) b e) all.0
+  after_first x (y ∷ ys) zero b all e =
+      subst (λ n. slice_cmp nat_cmp (shows x) n ≡ Less) (same_Some (shows y) b e) all.0
   after_first x (y ∷ ys) (suc j) b all e = after_first x ys j b all.1 e
 
-  pub ascending : (keys : List K) → IsStrictlySortedBy by_name keys → AreAscending (slice_cmp nat_cmp) (map shows keys)
+  pub ascending : (keys : List K) → IsStrictlySortedBy by_name keys
+      → AreAscending (slice_cmp nat_cmp) (map shows keys)
   ascending [] s i j a b lt at_i at_j = absurd (cc)
   ascending (x ∷ xs) s i zero a b lt at_i at_j = absurd (omega (arith, lt))
   ascending (x ∷ xs) s zero (suc j) a b lt at_i at_j =
       subst (λ n. slice_cmp nat_cmp n b ≡ Less) (same_Some (shows x) a at_i) (after_first x xs j b (sorted_head by_name x xs s) at_j)
-  ascending (x ∷ xs) s (suc i) (suc j) a b lt at_i at_j = ascending xs (sorted_tail by_name x xs s) i j a b (omega (arith, lt)) at_i at_j
+  ascending (x ∷ xs) s (suc i) (suc j) a b lt at_i at_j =
+      ascending xs (sorted_tail by_name x xs s) i j a b (omega (arith, lt)) at_i at_j
 
 -- ---- generated names
 

@@ -33,18 +33,22 @@ use Rattle.shown_plan.specs.declared.source.Source.{Source}
 numbers_equivalence : IsEquivalence same_numbers
 numbers_equivalence = decided same_numbers numbers_decided
 
-among_from : (names : List (List ℕ)) (name : List ℕ) → is_among names name ≡ true → Contains names name
+among_from : (names : List (List ℕ)) (name : List ℕ) → is_among names name ≡ true
+    → Contains names name
 among_from names name e = Contains-from_any (λ x y. (numbers_decided x y).0) name names e
 
-among_is : (names : List (List ℕ)) (name : List ℕ) → Contains names name → is_among names name ≡ true
+among_is : (names : List (List ℕ)) (name : List ℕ) → Contains names name
+    → is_among names name ≡ true
 among_is names name c = list_any-from_Contains numbers_equivalence name names c
 
 -- ---- entries
 
-even_entry : (version : ℕ) (task : Task) (before : List Entry) (e : Entry) → MayFollow version task before e → IsEven e
+even_entry : (version : ℕ) (task : Task) (before : List Entry) (e : Entry)
+    → MayFollow version task before e → IsEven e
 even_entry version task before entry.Level h = tt
 even_entry version task before (entry.Ask number turn call) h = tt
-even_entry version task before (entry.Got number tuples values) h = (h.right.some, length h.request.stream.outputs, h.right.count)
+even_entry version task before (entry.Got number tuples values) h =
+    (h.right.some, length h.request.stream.outputs, h.right.count)
 even_entry version task before (entry.Value number value) h = tt
 even_entry version task before (entry.End number) h = tt
 even_entry version task before (entry.Dream uses steps) h = tt
@@ -53,13 +57,15 @@ even_entry version task before entry.Reset h = tt
 even_entry version task before (entry.Pick number) h = tt
 even_entry version task before (entry.Retire number) h = tt
 
-pub even_entries : (version : ℕ) (task : Task) (entries : List Entry) → IsLegal version task entries → All IsEven entries
+pub even_entries : (version : ℕ) (task : Task) (entries : List Entry) → IsLegal version task entries
+    → All IsEven entries
 even_entries version task entries legal k d lt =
     even_entry version task (take k entries) (get_or entries k d) (legal k (get_or entries k d) (slice_get-get_or entries k d lt))
 
 -- ---- generated names
 
-hash_value : (name : List ℕ) → is_generated name ≡ true → (value : List ℕ) × (name ≡ generated value)
+hash_value : (name : List ℕ) → is_generated name ≡ true
+    → (value : List ℕ) × (name ≡ generated value)
 hash_value [] e = absurd (cc)
 hash_value (byte ∷ bytes) e = (bytes, ap (λ b. b ∷ bytes) (eqb-true byte 35 e))
 
@@ -67,7 +73,8 @@ hash_value (byte ∷ bytes) e = (bytes, ap (λ b. b ∷ bytes) (eqb-true byte 35
 no_hash : (value : List ℕ) → is_name (generated value) ≡ true → ⊥
 no_hash value e = cc
 
-given_by : (entries : List Entry) (e : Entry) (name : List ℕ) → Contains entries e → Contains (objects_in e) name → IsGiven entries name
+given_by : (entries : List Entry) (e : Entry) (name : List ℕ) → Contains entries e
+    → Contains (objects_in e) name → IsGiven entries name
 given_by entries (entry.Got number tuples values) name there c =
     let v = mapped_from generated values name c in
     record {
@@ -86,14 +93,16 @@ given_by entries entry.Reset name there c = absurd (omega (arith, c.1))
 given_by entries (entry.Pick number) name there c = absurd (omega (arith, c.1))
 given_by entries (entry.Retire number) name there c = absurd (omega (arith, c.1))
 
-given_in : (task : Task) (fit : IsFit task) (entries : List Entry) (name : List ℕ) → is_generated name ≡ true
+given_in : (task : Task) (fit : IsFit task) (entries : List Entry) (name : List ℕ)
+    → is_generated name ≡ true
     → Contains (names_of task entries) name → IsGiven entries name
-given_in task fit entries name hash c = elim (with_names_from (declared_names task) (flat_map objects_in entries) name c) [
-  | inl old ↦
-      let v = hash_value name hash in
-      absurd (no_hash v.0 (subst (λ n. is_name n ≡ true) v.1 (all_pass is_name (declared_names task) name fit.problem.objects.names.each old)))
-  | inr new ↦ let e = from_flat_map objects_in entries name new in given_by entries e.0 name e.1 e.2
-]
+given_in task fit entries name hash c =
+    elim (with_names_from (declared_names task) (flat_map objects_in entries) name c) [
+      | inl old ↦
+          let v = hash_value name hash in
+          absurd (no_hash v.0 (subst (λ n. is_name n ≡ true) v.1 (all_pass is_name (declared_names task) name fit.problem.objects.names.each old)))
+      | inr new ↦ let e = from_flat_map objects_in entries name new in given_by entries e.0 name e.1 e.2
+    ]
 
 -- ---- calls
 
@@ -108,7 +117,8 @@ stands calls name e =
     let any = Any-from_list_any (λ (c : Call). is_among c.args name) calls e in
     record { call = any.1; there = (any.0, any.2, any.3); here = among_from any.1.args name any.4 }
 
-stands_back : (calls : List Call) (name : List ℕ) (call : Call) → Contains calls call → Contains call.args name
+stands_back : (calls : List Call) (name : List ℕ) (call : Call) → Contains calls call
+    → Contains call.args name
     → stands_in calls name ≡ true
 stands_back calls name call there here =
     list_any_at (λ (c : Call). is_among c.args name) calls there.0 call there.1 (subst (λ (c : Call). is_among c.args name ≡ true) (sym there.2) (among_is call.args name here))
@@ -124,7 +134,8 @@ used_is calls name = (
 )
 
 -- a name that stands in the calls of named steps is in the table
-named_in : (task : Task) (names : List (List ℕ)) (steps : List GroundAction) (name : List ℕ) → AreNamedSteps task names steps
+named_in : (task : Task) (names : List (List ℕ)) (steps : List GroundAction) (name : List ℕ)
+    → AreNamedSteps task names steps
     → Stands (map (call_of_step task names) steps) name → Contains names name
 named_in task names steps name named s =
     let step = mapped_from (call_of_step task names) steps s.call s.there in
@@ -152,13 +163,16 @@ each_used calls keys each name = (
 -- ---- origins
 
 -- the name without its `#`
-pub value_is : (name value : List ℕ) → name ≡ generated value → take (length name - 1) (drop 1 name) ≡ value
+pub value_is : (name value : List ℕ) → name ≡ generated value
+    → take (length name - 1) (drop 1 name) ≡ value
 value_is name value e = subst (λ n. take (length n - 1) (drop 1 n) ≡ value) (sym e) (take_all (suc (length value) - 1) value (omega arith))
 
-pub has_source : (entries : List Entry) (value : List ℕ) (n : ℕ) → IsBest entries value None → has_value entries n value ≡ true → ⊥
+pub has_source : (entries : List Entry) (value : List ℕ) (n : ℕ) → IsBest entries value None
+    → has_value entries n value ≡ true → ⊥
 has_source entries value n best there = both_ways _ (best.none n) there
 
-pub origin_is : (version : ℕ) (entries : List Entry) (object value : List ℕ) (source : Source) (tuple : ℕ) → object ≡ generated value
+pub origin_is : (version : ℕ) (entries : List Entry) (object value : List ℕ) (source : Source) (tuple : ℕ)
+    → object ≡ generated value
     → IsSource entries value source → (version ≡ 1 → tuple ≡ 1) → (¬ (version ≡ 1) → tuple ≡ source.tuple)
     → IsOrigin version entries (record { object = object; number = source.number; tuple = tuple })
 origin_is version entries object value source tuple named s one first = record {

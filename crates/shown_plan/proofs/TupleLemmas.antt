@@ -26,7 +26,8 @@ pub record IsFront {A : Type 0} (p : A → Bool) (w j : ℕ) (xs : List A) : Typ
   pub found : position_from p j xs ≡ Some (j + more)
   pub within : more < w
 
-in_front : {A : Type 0} (p : A → Bool) (w j : ℕ) (xs : List A) → list_any p (take w xs) ≡ true → IsFront p w j xs
+in_front : {A : Type 0} (p : A → Bool) (w j : ℕ) (xs : List A) → list_any p (take w xs) ≡ true
+    → IsFront p w j xs
 in_front p zero j xs e = absurd (cc)
 in_front p (suc w) j [] e = absurd (cc)
 in_front p (suc w) j (x ∷ xs) e =
@@ -64,7 +65,8 @@ first_tuple_is p w t vs e =
     position_from-zero (list_any p) (tuples_in w t vs) ∙ tuples_from p w t 0 vs e ∙ ap (option_map (λ k. k / w)) (ap (λ j. position_from p j vs) none ∙ sym (position_from-zero p vs))
 
 -- a value is found where one passes
-found_from : {A : Type 0} (p : A → Bool) (j : ℕ) (xs : List A) → is_some (position_from p j xs) ≡ list_any p xs
+found_from : {A : Type 0} (p : A → Bool) (j : ℕ) (xs : List A)
+    → is_some (position_from p j xs) ≡ list_any p xs
 found_from p j [] = refl
 found_from p j (x ∷ xs) =
     elim (p x) as (λ b. is_some (cond b (Some j) (position_from p (j + 1) xs)) ≡ (b || list_any p xs)) [
@@ -76,7 +78,8 @@ pub found_is : {A : Type 0} (p : A → Bool) (xs : List A) → is_some (position
 found_is p xs = ap is_some (position_from-zero p xs) ∙ found_from p 0 xs
 
 -- so many tuples of one length
-pub width_is : (size tuples width : ℕ) → 1 ≤ tuples → size ≡ tuples * width → size ≡ tuples * (size / tuples)
+pub width_is : (size tuples width : ℕ) → 1 ≤ tuples → size ≡ tuples * width
+    → size ≡ tuples * (size / tuples)
 width_is size tuples width some e =
     let turned : width * tuples + 0 ≡ size = omega (arith, e, mul_comm tuples width) in
     let is : size / tuples ≡ width = ap (λ n. n / tuples) (sym turned) ∙ div-mul-add width tuples 0 (omega arith) in

@@ -24,7 +24,8 @@ stands_in calls name = list_any (λ (c : Call). is_among c.args name) calls
 
 -- a yield has tuples, and as many values in each
 abbrev pub IsEven : Entry → Type 0
-IsEven (entry.Got number tuples values) = (1 ≤ tuples) × (width : ℕ) × (length values ≡ tuples * width)
+IsEven (entry.Got number tuples values) =
+    (1 ≤ tuples) × (width : ℕ) × (length values ≡ tuples * width)
 IsEven e = Unit {0}
 
 -- a yield has the value, and a request has it

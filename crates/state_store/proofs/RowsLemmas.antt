@@ -26,31 +26,40 @@ from_list-items s = same_atoms (from_list (items s)) s (λ q. contains-from_list
 -- ---- more atoms
 
 module _ (atoms more : List Atom) where
-  pub atoms_of-grown : (row : List ℕ) → All (λ n. n < length atoms) row → atoms_of (atoms ++ more) row ≡ atoms_of atoms row
+  pub atoms_of-grown : (row : List ℕ) → All (λ n. n < length atoms) row
+      → atoms_of (atoms ++ more) row ≡ atoms_of atoms row
   atoms_of-grown [] known = refl
   atoms_of-grown (n ∷ row) known =
       let here : get_or (atoms ++ more) n no_atom ≡ get_or atoms n no_atom = get_or_append_left atoms more no_atom n (All-head (λ n. n < length atoms) n row known) in
       λ i. here i ∷ atoms_of-grown row (All-tail (λ n. n < length atoms) n row known) i
 
-  pub known_grown : (row : List ℕ) → All (λ n. n < length atoms) row → All (λ n. n < length (atoms ++ more)) row
+  pub known_grown : (row : List ℕ) → All (λ n. n < length atoms) row
+      → All (λ n. n < length (atoms ++ more)) row
   known_grown row known = All-weaker (λ n. n < length atoms) (λ n. n < length (atoms ++ more)) (λ n h. omega (arith, length-append atoms more)) row known
 
   row_grown : (row : List ℕ) → IsRow atoms row → IsRow (atoms ++ more) row
   row_grown row is = record {
     known = known_grown row is.known;
-    in_order = atoms_of-grown row is.known ∙ is.in_order ∙ ap (λ xs. items (from_list xs)) (sym (atoms_of-grown row is.known));
+    in_order =
+        atoms_of-grown row is.known ∙ is.in_order
+        ∙ ap (λ xs. items (from_list xs)) (sym (atoms_of-grown row is.known));
   }
 
-  states_of-more : (rows : List (List ℕ)) → ((k : ℕ) (row : List ℕ) → slice_get rows k ≡ Some row → IsRow atoms row) → states_of (atoms ++ more) rows ≡ states_of atoms rows
+  states_of-more : (rows : List (List ℕ))
+      → ((k : ℕ) (row : List ℕ) → slice_get rows k ≡ Some row → IsRow atoms row)
+      → states_of (atoms ++ more) rows ≡ states_of atoms rows
   states_of-more [] each = refl
   states_of-more (row ∷ rows) each =
       let here : state_of (atoms ++ more) row ≡ state_of atoms row = ap from_list (atoms_of-grown row (each 0 row refl).known) in
       λ i. here i ∷ states_of-more rows (λ k. each (suc k)) i
 
-pub states_of-grown : (old new : List Atom) (rows : List (List ℕ)) → Grows old new → AreRows old rows → states_of new rows ≡ states_of old rows
-states_of-grown old new rows grows are = ap (λ atoms. states_of atoms rows) grows.1 ∙ states_of-more old grows.0 rows are.each
+pub states_of-grown : (old new : List Atom) (rows : List (List ℕ)) → Grows old new
+    → AreRows old rows → states_of new rows ≡ states_of old rows
+states_of-grown old new rows grows are =
+    ap (λ atoms. states_of atoms rows) grows.1 ∙ states_of-more old grows.0 rows are.each
 
-pub rows_grown : (old new : List Atom) (rows : List (List ℕ)) → Grows old new → AreDistinct new → AreRows old rows → AreRows new rows
+pub rows_grown : (old new : List Atom) (rows : List (List ℕ)) → Grows old new → AreDistinct new
+    → AreRows old rows → AreRows new rows
 rows_grown old new rows grows distinct are = record {
   numbered = distinct;
   each = λ k row at. subst (λ atoms. IsRow atoms row) (sym grows.1) (row_grown old grows.0 row (are.each k row at));
@@ -73,7 +82,8 @@ grows_on a b c first second = (first.0 ++ second.0, second.1 ∙ ap (λ xs. xs +
 
 -- ---- distinct atoms
 
-all_at : {A : Type 0} (P : A → Type 0) (xs : List A) (i : ℕ) (x : A) → AllByRecursion P xs → slice_get xs i ≡ Some x → P x
+all_at : {A : Type 0} (P : A → Type 0) (xs : List A) (i : ℕ) (x : A) → AllByRecursion P xs
+    → slice_get xs i ≡ Some x → P x
 all_at P [] i x all e = absurd (cc)
 all_at P (y ∷ ys) zero x all e = subst P (same y x e) all.0
   where
@@ -94,11 +104,14 @@ distinct_of [] is i j x e f = absurd (cc)
 distinct_of (k ∷ ks) is zero zero x e f = refl
 distinct_of (k ∷ ks) is zero (suc j) x e f = absurd (apart k x (all_at (λ y. same_atom k y ≡ false) ks j x (IsDistinct-head same_atom k ks is) f) e)
 distinct_of (k ∷ ks) is (suc i) zero x e f = absurd (apart k x (all_at (λ y. same_atom k y ≡ false) ks i x (IsDistinct-head same_atom k ks is) e) f)
-distinct_of (k ∷ ks) is (suc i) (suc j) x e f = ap suc (distinct_of ks (IsDistinct-tail same_atom k ks is) i j x e f)
+distinct_of (k ∷ ks) is (suc i) (suc j) x e f =
+    ap suc (distinct_of ks (IsDistinct-tail same_atom k ks is) i j x e f)
 
 -- ---- one row a state
 
-same_numbers : (atoms : List Atom) → AreDistinct atoms → (xs ys : List ℕ) → All (λ n. n < length atoms) xs → All (λ n. n < length atoms) ys → atoms_of atoms xs ≡ atoms_of atoms ys → xs ≡ ys
+same_numbers : (atoms : List Atom) → AreDistinct atoms → (xs ys : List ℕ)
+    → All (λ n. n < length atoms) xs → All (λ n. n < length atoms) ys
+    → atoms_of atoms xs ≡ atoms_of atoms ys → xs ≡ ys
 same_numbers atoms distinct [] [] kx ky e = refl
 same_numbers atoms distinct [] (y ∷ ys) kx ky e = absurd (omega (arith, ap length e))
 same_numbers atoms distinct (x ∷ xs) [] kx ky e = absurd (omega (arith, ap length e))
@@ -109,30 +122,35 @@ same_numbers atoms distinct (x ∷ xs) (y ∷ ys) kx ky e =
     let rest : xs ≡ ys = same_numbers atoms distinct xs ys (All-tail (λ n. n < length atoms) x xs kx) (All-tail (λ n. n < length atoms) y ys ky) (ap (drop 1) e) in
     λ i. here i ∷ rest i
 
-same_row : (atoms : List Atom) → AreDistinct atoms → (r s : List ℕ) → IsRow atoms r → IsRow atoms s → state_of atoms r ≡ state_of atoms s → r ≡ s
+same_row : (atoms : List Atom) → AreDistinct atoms → (r s : List ℕ) → IsRow atoms r → IsRow atoms s
+    → state_of atoms r ≡ state_of atoms s → r ≡ s
 same_row atoms distinct r s is_r is_s e = same_numbers atoms distinct r s is_r.known is_s.known (is_r.in_order ∙ ap items e ∙ sym is_s.in_order)
 
 equal_rows : (xs ys : List ℕ) → pointwise nat_eq xs ys ≡ true → xs ≡ ys
 equal_rows xs ys e = (numbers_decided xs ys).0 e
 
 -- the row of a state's atoms
-pub row_of : (atoms : List Atom) (row : List ℕ) (state : Atoms) → All (λ n. n < length atoms) row → atoms_of atoms row ≡ items state → (state_of atoms row ≡ state) × IsRow atoms row
+pub row_of : (atoms : List Atom) (row : List ℕ) (state : Atoms) → All (λ n. n < length atoms) row
+    → atoms_of atoms row ≡ items state → (state_of atoms row ≡ state) × IsRow atoms row
 row_of atoms row state known e =
     let is : state_of atoms row ≡ state = ap from_list e ∙ from_list-items state in
     (is, record { known = known; in_order = e ∙ ap items (sym is) })
 
 module _ (atoms : List Atom) (rows : List (List ℕ)) (are : AreRows atoms rows) (row : List ℕ) (is : IsRow atoms row) where
-  pub row_there : list_any (pointwise nat_eq row) rows ≡ true → Contains (states_of atoms rows) (state_of atoms row)
+  pub row_there : list_any (pointwise nat_eq row) rows ≡ true
+      → Contains (states_of atoms rows) (state_of atoms row)
   row_there found =
       let at = place_of rows row (Contains-from_any equal_rows row rows found) in
       member_at (states_of atoms rows) at.0 (state_of atoms row) (slice_get-map (state_of atoms) rows at.0 ∙ ap (option_map (state_of atoms)) at.1)
 
-  pub row_absent : list_any (pointwise nat_eq row) rows ≡ false → ¬ (Contains (states_of atoms rows) (state_of atoms row))
+  pub row_absent : list_any (pointwise nat_eq row) rows ≡ false
+      → ¬ (Contains (states_of atoms rows) (state_of atoms row))
   row_absent none c =
       let at = place_of (states_of atoms rows) (state_of atoms row) c in
       by at.0 (slice_get rows at.0) refl (sym (slice_get-map (state_of atoms) rows at.0) ∙ at.1)
     where
-      by : (k : ℕ) (o : Option (List ℕ)) → slice_get rows k ≡ o → option_map (state_of atoms) o ≡ Some (state_of atoms row) → ⊥
+      by : (k : ℕ) (o : Option (List ℕ)) → slice_get rows k ≡ o
+          → option_map (state_of atoms) o ≡ Some (state_of atoms row) → ⊥
       by k None e f = absurd (cc)
       by k (Some r) e f =
           let same : r ≡ row = same_row atoms are.numbered r row (are.each k r e) is (cc) in
@@ -141,7 +159,8 @@ module _ (atoms : List Atom) (rows : List (List ℕ)) (are : AreRows atoms rows)
 
   -- ---- the row put in: the rows are the same where it was found
 
-  pub rows_with : (found : Bool) → list_any (pointwise nat_eq row) rows ≡ found → length (states_of atoms rows) < 200001 → AreRows atoms (cond found rows (rows ++ row ∷ []))
+  pub rows_with : (found : Bool) → list_any (pointwise nat_eq row) rows ≡ found
+      → length (states_of atoms rows) < 200001 → AreRows atoms (cond found rows (rows ++ row ∷ []))
   rows_with true e few = are
   rows_with false e few = record {
     numbered = are.numbered;
@@ -152,45 +171,58 @@ module _ (atoms : List Atom) (rows : List (List ℕ)) (are : AreRows atoms rows)
     });
   }
 
-  pub states_with : (found : Bool) → states_of atoms (cond found rows (rows ++ row ∷ [])) ≡ cond (not found) (states_of atoms rows ++ state_of atoms row ∷ []) (states_of atoms rows)
+  pub states_with : (found : Bool)
+      → states_of atoms (cond found rows (rows ++ row ∷ [])) ≡ cond (not found) (states_of atoms rows ++ state_of atoms row ∷ []) (states_of atoms rows)
   states_with true = refl
   states_with false = map_push (state_of atoms) rows row
 
-  pub new_only : (found : Bool) → list_any (pointwise nat_eq row) rows ≡ found → IsTrue (not found) ↔ ¬ (Contains (states_of atoms rows) (state_of atoms row))
+  pub new_only : (found : Bool) → list_any (pointwise nat_eq row) rows ≡ found
+      → IsTrue (not found) ↔ ¬ (Contains (states_of atoms rows) (state_of atoms row))
   new_only true e = (λ t. absurd (cc), λ n. absurd (n (row_there e)))
   new_only false e = (λ t. row_absent e, λ n. refl)
 
-any_mapped : {A B : Type 0} (f : A → B) (test : B → Bool) (xs : List A) → list_any (λ x. test (f x)) xs ≡ list_any test (map f xs)
+any_mapped : {A B : Type 0} (f : A → B) (test : B → Bool) (xs : List A)
+    → list_any (λ x. test (f x)) xs ≡ list_any test (map f xs)
 any_mapped f test [] = refl
 any_mapped f test (x ∷ xs) = ap (λ b. test (f x) || b) (any_mapped f test xs)
 
 -- the rows of a set of keys that may have got one more
-pub keys_with : {V : Type 0} (row_in : V → List ℕ) (old new : List V) (key : V) → new ≡ cond (list_any (λ k. pointwise nat_eq (row_in key) (row_in k)) old) old (old ++ key ∷ []) → map row_in new ≡ cond (list_any (pointwise nat_eq (row_in key)) (map row_in old)) (map row_in old) (map row_in old ++ row_in key ∷ [])
+pub keys_with : {V : Type 0} (row_in : V → List ℕ) (old new : List V) (key : V)
+    → new ≡ cond (list_any (λ k. pointwise nat_eq (row_in key) (row_in k)) old) old (old ++ key ∷ [])
+    → map row_in new ≡ cond (list_any (pointwise nat_eq (row_in key)) (map row_in old)) (map row_in old) (map row_in old ++ row_in key ∷ [])
 keys_with row_in old new key is =
     ap (map row_in) is ∙ by (list_any (λ k. pointwise nat_eq (row_in key) (row_in k)) old)
     ∙ ap (λ b. cond b (map row_in old) (map row_in old ++ row_in key ∷ [])) (any_mapped row_in (pointwise nat_eq (row_in key)) old)
   where
-    by : (b : Bool) → map row_in (cond b old (old ++ key ∷ [])) ≡ cond b (map row_in old) (map row_in old ++ row_in key ∷ [])
+    by : (b : Bool)
+        → map row_in (cond b old (old ++ key ∷ [])) ≡ cond b (map row_in old) (map row_in old ++ row_in key ∷ [])
     by true = refl
     by false = map_push row_in old key
 
-pub found_in : {V : Type 0} (row_in : V → List ℕ) (old : List V) (key : V) → list_any (λ k. pointwise nat_eq (row_in key) (row_in k)) old ≡ list_any (pointwise nat_eq (row_in key)) (map row_in old)
+pub found_in : {V : Type 0} (row_in : V → List ℕ) (old : List V) (key : V)
+    → list_any (λ k. pointwise nat_eq (row_in key) (row_in k)) old ≡ list_any (pointwise nat_eq (row_in key)) (map row_in old)
 found_in row_in old key = any_mapped row_in (pointwise nat_eq (row_in key)) old
 
 -- the state of a key that equals the one that was put in
-pub state_at : {V : Type 0} (row_in : V → List ℕ) (atoms : List Atom) (keys : List V) (key : V) (place : ℕ) → (k : V) × (slice_get keys place ≡ Some k) × (pointwise nat_eq (row_in key) (row_in k) ≡ true) → slice_get (states_of atoms (map row_in keys)) place ≡ Some (state_of atoms (row_in key))
+pub state_at : {V : Type 0} (row_in : V → List ℕ) (atoms : List Atom) (keys : List V) (key : V) (place : ℕ)
+    → (k : V) × (slice_get keys place ≡ Some k) × (pointwise nat_eq (row_in key) (row_in k) ≡ true)
+    → slice_get (states_of atoms (map row_in keys)) place ≡ Some (state_of atoms (row_in key))
 state_at row_in atoms keys key place stored =
     slice_get-map (state_of atoms) (map row_in keys) place ∙ ap (option_map (state_of atoms)) (slice_get-map row_in keys place ∙ ap (option_map row_in) stored.1)
     ∙ ap (λ r. Some (state_of atoms r)) (sym (equal_rows (row_in key) (row_in stored.0) stored.2))
 
 -- ---- the row of a list of atoms, one atom after another
 
-pub numbers_more : (old new : List Atom) (row : List ℕ) (n : ℕ) (atom : Atom) → Grows old new → All (λ n. n < length old) row → slice_get new n ≡ Some atom → atoms_of new (row ++ n ∷ []) ≡ atoms_of old row ++ atom ∷ []
+pub numbers_more : (old new : List Atom) (row : List ℕ) (n : ℕ) (atom : Atom) → Grows old new
+    → All (λ n. n < length old) row → slice_get new n ≡ Some atom
+    → atoms_of new (row ++ n ∷ []) ≡ atoms_of old row ++ atom ∷ []
 numbers_more old new row n atom grows known at =
     let same : atoms_of new row ≡ atoms_of old row = ap (λ atoms. atoms_of atoms row) grows.1 ∙ atoms_of-grown old grows.0 row known in
     map_push (λ n. get_or new n no_atom) row n ∙ (λ i. same i ++ get_or_from_slice_get new n atom no_atom at i ∷ [])
 
-pub known_more : (old new : List Atom) (row : List ℕ) (n : ℕ) (atom : Atom) → Grows old new → All (λ n. n < length old) row → slice_get new n ≡ Some atom → All (λ n. n < length new) (row ++ n ∷ [])
+pub known_more : (old new : List Atom) (row : List ℕ) (n : ℕ) (atom : Atom) → Grows old new
+    → All (λ n. n < length old) row → slice_get new n ≡ Some atom
+    → All (λ n. n < length new) (row ++ n ∷ [])
 known_more old new row n atom grows known at =
     All-push (λ n. n < length new) row n (subst (λ atoms. All (λ n. n < length atoms) row) (sym grows.1) (known_grown old grows.0 row known)) (slice_get_within new n atom at)
 
@@ -200,7 +232,9 @@ on_err (Ok x) P p = tt
 on_err (Err e) P p = p
 
 -- the row at a place
-pub row_at : {V : Type 0} (row_in : V → List ℕ) (atoms : List Atom) (keys : List V) (key : V) (place : ℕ) → place < length (states_of atoms (map row_in keys)) → key ≡ get_or keys place key → slice_get (map row_in keys) place ≡ Some (row_in key)
+pub row_at : {V : Type 0} (row_in : V → List ℕ) (atoms : List Atom) (keys : List V) (key : V) (place : ℕ)
+    → place < length (states_of atoms (map row_in keys)) → key ≡ get_or keys place key
+    → slice_get (map row_in keys) place ≡ Some (row_in key)
 row_at row_in atoms keys key place within is =
     let inside : place < length keys = omega (arith, length-map (map row_in keys) (state_of atoms), length-map keys row_in) in
     slice_get-map row_in keys place ∙ ap (option_map row_in) (slice_get-get_or keys place key inside ∙ ap Some (sym is))

@@ -61,7 +61,8 @@ impl StateStore {
         requires { length self.old < 200001 }
         ensures place { IfOk result (λ found. slice_get self.new found.0 ≡ Some state) }
         ensures fresh { IfOk result (λ found. IsTrue found.1 ↔ ¬ (Contains self.old state)) }
-        ensures states { IfOk result (λ found. self.new ≡ (if found.1 then self.old ++ state ∷ [] else self.old)) }
+        ensures states { IfOk result
+            (λ found. self.new ≡ (if found.1 then self.old ++ state ∷ [] else self.old)) }
         ensures distinct { AreDistinct self.new }
         ensures err { OnErr result (self.new ≡ self.old) }
     {

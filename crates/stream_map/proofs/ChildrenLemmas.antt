@@ -23,7 +23,9 @@ is_right pool e = record {
 
 -- the child of the grid, or numbers from the first one on, up to 15
 abbrev pub IsPlaced : ℕ → List Spelled → PlainPool → Type 0
-IsPlaced next pools p = ((p.first ≡ 16) × (p.workers ≡ 1) × (1 ≤ count_by is_grid pools)) ⊎ ((next ≤ p.first) × (p.first + p.workers ≤ 16) × (1 ≤ p.workers))
+IsPlaced next pools p =
+    ((p.first ≡ 16) × (p.workers ≡ 1) × (1 ≤ count_by is_grid pools))
+    ⊎ ((next ≤ p.first) × (p.first + p.workers ≤ 16) × (1 ≤ p.workers))
 
 -- no wrong numbers, and children below 16
 pub record AreRight (next : ℕ) (pools : List Spelled) : Type 0 where
@@ -39,10 +41,12 @@ right_false : (a b : Bool) → (a || b) ≡ false → b ≡ false
 right_false true b e = absurd (true≢false e)
 right_false false b e = e
 
-count-cons : (pool : Spelled) (pools : List Spelled) → count_by is_grid (pool ∷ pools) ≡ cond (is_grid pool) 1 0 + count_by is_grid pools
+count-cons : (pool : Spelled) (pools : List Spelled)
+    → count_by is_grid (pool ∷ pools) ≡ cond (is_grid pool) 1 0 + count_by is_grid pools
 count-cons pool pools = sum_by-cons (λ (s : Spelled). cond (is_grid s) 1 0) pool pools
 
-rest_right : (next : ℕ) (pool : Spelled) (pools : List Spelled) → AreRight next (pool ∷ pools) → AreRight (next + own_workers pool) pools
+rest_right : (next : ℕ) (pool : Spelled) (pools : List Spelled) → AreRight next (pool ∷ pools)
+    → AreRight (next + own_workers pool) pools
 rest_right next pool pools right = record {
   numbers = right_false (has_wrong_number pool) _ right.numbers;
   grids = omega (arith, right.grids, count-cons pool pools);
@@ -53,7 +57,8 @@ module _ (names : List (List ℕ)) where
   abbrev made : Bool → ℕ → Spelled → PlainPool
   made grid next pool = record { first = cond grid 16 next; workers = pool.workers; streams = places_of names pool; words = pool.run }
 
-  head_placed : (next : ℕ) (pool : Spelled) (pools : List Spelled) → AreRight next (pool ∷ pools) → (b : Bool) → is_grid pool ≡ b → IsPlaced next (pool ∷ pools) (made b next pool)
+  head_placed : (next : ℕ) (pool : Spelled) (pools : List Spelled) → AreRight next (pool ∷ pools)
+      → (b : Bool) → is_grid pool ≡ b → IsPlaced next (pool ∷ pools) (made b next pool)
   head_placed next pool pools right true is =
       let well = is_right pool (left_false (has_wrong_number pool) _ right.numbers) in
       let counted : count_by is_grid (pool ∷ pools) ≡ 1 + count_by is_grid pools = count-cons pool pools ∙ ap (λ b. cond b 1 0 + count_by is_grid pools) is in
@@ -63,7 +68,8 @@ module _ (names : List (List ℕ)) where
       let own : own_workers pool ≡ pool.workers = ap (λ b. cond b 0 pool.workers) is in
       inr (omega arith, omega (arith, right.workers, sum_by-cons own_workers pool pools, own), well.some)
 
-  pub placed : (next : ℕ) (pools : List Spelled) → AreRight next pools → (k : ℕ) (p : PlainPool) → slice_get (numbered names next pools) k ≡ Some p → IsPlaced next pools p
+  pub placed : (next : ℕ) (pools : List Spelled) → AreRight next pools → (k : ℕ) (p : PlainPool)
+      → slice_get (numbered names next pools) k ≡ Some p → IsPlaced next pools p
   placed next [] right k p at = absurd (cc)
   placed next (pool ∷ pools) right zero p at =
       let is : made (is_grid pool) next pool ≡ p = same_Some (made (is_grid pool) next pool) p at in
@@ -76,7 +82,8 @@ module _ (names : List (List ℕ)) where
       ]
 
   -- the first pool and a later one have no child in common
-  later_apart : (next : ℕ) (pool : Spelled) (pools : List Spelled) → AreRight next (pool ∷ pools) → (b : Bool) → is_grid pool ≡ b → (k child : ℕ) (q : PlainPool)
+  later_apart : (next : ℕ) (pool : Spelled) (pools : List Spelled) → AreRight next (pool ∷ pools)
+      → (b : Bool) → is_grid pool ≡ b → (k child : ℕ) (q : PlainPool)
       → slice_get (numbered names (next + own_workers pool) pools) k ≡ Some q → HasChild (made b next pool) child → HasChild q child → ⊥
   later_apart next pool pools right true is k child q at in_p in_q =
       let well = is_right pool (left_false (has_wrong_number pool) _ right.numbers) in
@@ -92,7 +99,9 @@ module _ (names : List (List ℕ)) where
         | inr h ↦ omega (arith, h.0, in_p.to, in_q.from, own)
       ]
 
-  pub children_apart : (next : ℕ) (pools : List Spelled) → AreRight next pools → (j k child : ℕ) (p q : PlainPool) → slice_get (numbered names next pools) j ≡ Some p → slice_get (numbered names next pools) k ≡ Some q
+  pub children_apart : (next : ℕ) (pools : List Spelled) → AreRight next pools
+      → (j k child : ℕ) (p q : PlainPool) → slice_get (numbered names next pools) j ≡ Some p
+      → slice_get (numbered names next pools) k ≡ Some q
       → HasChild p child → HasChild q child → j ≡ k
   children_apart next [] right j k child p q at_j at_k in_p in_q = absurd (cc)
   children_apart next (pool ∷ pools) right zero zero child p q at_j at_k in_p in_q = refl
@@ -109,13 +118,19 @@ module _ (names : List (List ℕ)) where
 
 -- ---- one pool more
 
-pub placed_more : (names : List (List ℕ)) (done all : List PlainPool) (next after : ℕ) (text : Spelled) (rest : List Spelled) (p : PlainPool) → done ++ numbered names next (text ∷ rest) ≡ all
+pub placed_more : (names : List (List ℕ)) (done all : List PlainPool) (next after : ℕ) (text : Spelled) (rest : List Spelled) (p : PlainPool)
+    → done ++ numbered names next (text ∷ rest) ≡ all
     → p ≡ record { first = cond (is_grid text) 16 next; workers = text.workers; streams = places_of names text; words = text.run } → after ≡ next + own_workers text → done ++ p ∷ [] ++ numbered names after rest ≡ all
 placed_more names done all next after text rest p so_far is then =
     append_assoc done (p ∷ []) (numbered names after rest) ∙ (λ i. done ++ (is i ∷ numbered names (then i) rest)) ∙ so_far
 
-pub numbers_left : (text : Spelled) (rest : List Spelled) → list_any has_wrong_number (text ∷ rest) ≡ false → (has_wrong_number text ≡ false) × (list_any has_wrong_number rest ≡ false)
-numbers_left text rest e = (left_false (has_wrong_number text) _ e, right_false (has_wrong_number text) _ e)
+pub numbers_left : (text : Spelled) (rest : List Spelled)
+    → list_any has_wrong_number (text ∷ rest) ≡ false
+    → (has_wrong_number text ≡ false) × (list_any has_wrong_number rest ≡ false)
+numbers_left text rest e =
+    (left_false (has_wrong_number text) _ e, right_false (has_wrong_number text) _ e)
 
-pub workers_left : (next after : ℕ) (text : Spelled) (rest : List Spelled) → next + sum_by own_workers (text ∷ rest) ≤ 16 → after ≡ next + own_workers text → after + sum_by own_workers rest ≤ 16
+pub workers_left : (next after : ℕ) (text : Spelled) (rest : List Spelled)
+    → next + sum_by own_workers (text ∷ rest) ≤ 16 → after ≡ next + own_workers text
+    → after + sum_by own_workers rest ≤ 16
 workers_left next after text rest few is = omega (arith, few, is, sum_by-cons own_workers text rest)

@@ -34,17 +34,20 @@ module _ {A B : Type 0} (f : A → Option B) where
   abbrev first_with : Option B → Option (List B) → Option (List B)
   first_with first rest = option_and_then (λ y. option_map (λ zs. y ∷ zs) rest) first
 
-  given_more : (first : Option B) (rest : Option (List B)) (xs : List A) (ys : List B) → ((zs : List B) → rest ≡ Some zs → AreGiven xs zs)
+  given_more : (first : Option B) (rest : Option (List B)) (xs : List A) (ys : List B)
+      → ((zs : List B) → rest ≡ Some zs → AreGiven xs zs)
       → first_with first rest ≡ Some ys → (cons_option first (filter_map f xs) ≡ ys) × ((is_none first || list_any (λ x. is_none (f x)) xs) ≡ false)
   given_more None rest xs ys later e = absurd (cc)
   given_more (Some y) None xs ys later e = absurd (cc)
-  given_more (Some y) (Some zs) xs ys later e = let g = later zs refl in (ap (λ ws. y ∷ ws) g.0 ∙ same_Some (y ∷ zs) ys e, g.1)
+  given_more (Some y) (Some zs) xs ys later e =
+      let g = later zs refl in (ap (λ ws. y ∷ ws) g.0 ∙ same_Some (y ∷ zs) ys e, g.1)
 
   pub each_given : (xs : List A) (ys : List B) → each_of f xs ≡ Some ys → AreGiven xs ys
   each_given [] ys e = (same_Some [] ys e, refl)
   each_given (x ∷ xs) ys e = given_more (f x) (each_of f xs) xs ys (λ zs h. each_given xs zs h) e
 
-  none_more : (first : Option B) (rest : Option (List B)) (xs : List A) → (rest ≡ None → list_any (λ x. is_none (f x)) xs ≡ true)
+  none_more : (first : Option B) (rest : Option (List B)) (xs : List A)
+      → (rest ≡ None → list_any (λ x. is_none (f x)) xs ≡ true)
       → first_with first rest ≡ None → (is_none first || list_any (λ x. is_none (f x)) xs) ≡ true
   none_more None rest xs later e = refl
   none_more (Some y) None xs later e = later refl
@@ -56,40 +59,50 @@ module _ {A B : Type 0} (f : A → Option B) where
 
 -- ---- tables of names
 
-prefix_mapped : {A B : Type 0} (f : A → B) (p : B → Bool) (xs : List A) → position_or_len (λ x. p (f x)) xs ≡ position_or_len p (map f xs)
+prefix_mapped : {A B : Type 0} (f : A → B) (p : B → Bool) (xs : List A)
+    → position_or_len (λ x. p (f x)) xs ≡ position_or_len p (map f xs)
 prefix_mapped f p [] = refl
 prefix_mapped f p (x ∷ xs) = ap (λ n. cond (not (p (f x))) (1 + n) 0) (prefix_mapped f p xs)
 
-pub position_mapped : {A B : Type 0} (f : A → B) (p : B → Bool) (xs : List A) → position (λ x. p (f x)) xs ≡ position p (map f xs)
+pub position_mapped : {A B : Type 0} (f : A → B) (p : B → Bool) (xs : List A)
+    → position (λ x. p (f x)) xs ≡ position p (map f xs)
 position_mapped f p xs = λ i. cond (nat_lt (prefix_mapped f p xs i) (sym (length-map xs f) i)) (Some (prefix_mapped f p xs i)) None
 
-pub any_mapped : {A B : Type 0} (f : A → B) (p : B → Bool) (xs : List A) → list_any (λ x. p (f x)) xs ≡ list_any p (map f xs)
+pub any_mapped : {A B : Type 0} (f : A → B) (p : B → Bool) (xs : List A)
+    → list_any (λ x. p (f x)) xs ≡ list_any p (map f xs)
 any_mapped f p [] = refl
 any_mapped f p (x ∷ xs) = ap (λ b. p (f x) || b) (any_mapped f p xs)
 
-mapped_push : {A B : Type 0} (f : A → B) (xs : List A) (x : A) → map f (xs ++ x ∷ []) ≡ map f xs ++ f x ∷ []
+mapped_push : {A B : Type 0} (f : A → B) (xs : List A) (x : A)
+    → map f (xs ++ x ∷ []) ≡ map f xs ++ f x ∷ []
 mapped_push f [] x = refl
 mapped_push f (y ∷ ys) x = ap (λ zs. f y ∷ zs) (mapped_push f ys x)
 
 -- a name isn't among those before it, where it stands nowhere there
-absent : (names : List (List ℕ)) (i : ℕ) (name : List ℕ) → ((j : ℕ) → j < i → slice_get names j ≡ Some name → ⊥) → list_any (bytes_eq name) (take i names) ≡ false
+absent : (names : List (List ℕ)) (i : ℕ) (name : List ℕ)
+    → ((j : ℕ) → j < i → slice_get names j ≡ Some name → ⊥)
+    → list_any (bytes_eq name) (take i names) ≡ false
 absent names zero name apart = refl
 absent [] (suc i) name apart = refl
 absent (n ∷ ns) (suc i) name apart =
     let gone : list_any (bytes_eq name) (take i ns) ≡ false = absent ns i name (λ j below at. apart (suc j) (omega (arith, below)) at) in
     not_first (bytes_eq name n) refl gone
   where
-    not_first : (b : Bool) → bytes_eq name n ≡ b → list_any (bytes_eq name) (take i ns) ≡ false → (bytes_eq name n || list_any (bytes_eq name) (take i ns)) ≡ false
-    not_first true is gone = absurd (apart 0 (omega arith) (ap Some (sym ((bytes_eq-Decides name n).0 is))))
+    not_first : (b : Bool) → bytes_eq name n ≡ b → list_any (bytes_eq name) (take i ns) ≡ false
+        → (bytes_eq name n || list_any (bytes_eq name) (take i ns)) ≡ false
+    not_first true is gone =
+        absurd (apart 0 (omega arith) (ap Some (sym ((bytes_eq-Decides name n).0 is))))
     not_first false is gone = ap (λ b. b || list_any (bytes_eq name) (take i ns)) is ∙ gone
 
-taken : (names : List (List ℕ)) (i : ℕ) (name : List ℕ) → slice_get names i ≡ Some name → take (i + 1) names ≡ take i names ++ name ∷ []
+taken : (names : List (List ℕ)) (i : ℕ) (name : List ℕ) → slice_get names i ≡ Some name
+    → take (i + 1) names ≡ take i names ++ name ∷ []
 taken names i name here =
     let within = slice_get_within names i name here in
     take_more names i name within ∙ ap (λ n. take i names ++ n ∷ []) (get_or_from_slice_get names i name name here)
 
 -- a key that isn't there is put behind the others
-pub key_pushed : {A : Type 0} (f : A → List ℕ) (old new : List A) (key : A) (names : List (List ℕ)) (i : ℕ) → map f old ≡ take i names → slice_get names i ≡ Some (f key)
+pub key_pushed : {A : Type 0} (f : A → List ℕ) (old new : List A) (key : A) (names : List (List ℕ)) (i : ℕ)
+    → map f old ≡ take i names → slice_get names i ≡ Some (f key)
     → ((j : ℕ) → j < i → slice_get names j ≡ Some (f key) → ⊥) → new ≡ cond (list_any (λ k. bytes_eq (f key) (f k)) old) old (old ++ key ∷ []) → map f new ≡ take (i + 1) names
 key_pushed f old new key names i same here apart grown =
     let gone = any_mapped f (bytes_eq (f key)) old ∙ ap (list_any (bytes_eq (f key))) same ∙ absent names i (f key) apart in
@@ -110,7 +123,8 @@ all_cons : {A : Type 0} (P : A → Type 0) (x : A) (xs : List A) → P x → All
 all_cons P x xs here later zero d lt = here
 all_cons P x xs here later (suc i) d lt = later i d (omega (arith, lt))
 
-place_below : (names : List (List ℕ)) (name : List ℕ) (k : ℕ) → place_of names name ≡ Some k → k < length names
+place_below : (names : List (List ℕ)) (name : List ℕ) (k : ℕ) → place_of names name ≡ Some k
+    → k < length names
 place_below names name k is =
     let at = position_at (bytes_eq name) names k is in
     slice_get_within names k at.0 at.1
@@ -119,13 +133,15 @@ module _ (names : List (List ℕ)) where
   abbrev Below : ℕ → Type 0
   Below k = k < length names
 
-  with_place : (name : List ℕ) (rest : List ℕ) → All Below rest → (o : Option ℕ) → place_of names name ≡ o → All Below (cons_option o rest)
+  with_place : (name : List ℕ) (rest : List ℕ) → All Below rest → (o : Option ℕ)
+      → place_of names name ≡ o → All Below (cons_option o rest)
   with_place name rest later None is = later
   with_place name rest later (Some k) is = all_cons Below k rest (place_below names name k is) later
 
   pub places_below : (ns : List (List ℕ)) → All Below (filter_map (place_of names) ns)
   places_below [] = all_nil Below
-  places_below (n ∷ ns) = with_place n (filter_map (place_of names) ns) (places_below ns) (place_of names n) refl
+  places_below (n ∷ ns) =
+      with_place n (filter_map (place_of names) ns) (places_below ns) (place_of names n) refl
 
   pub all_below : (pools : List Spelled) → All Below (places_in names pools)
   all_below [] = all_nil Below
@@ -133,42 +149,56 @@ module _ (names : List (List ℕ)) where
 
   -- ---- streams of pools
 
-  flat_plain : (pools : List Pool) → streams_in pools ≡ flat_map (λ (p : PlainPool). p.streams) (map plain pools)
+  flat_plain : (pools : List Pool)
+      → streams_in pools ≡ flat_map (λ (p : PlainPool). p.streams) (map plain pools)
   flat_plain [] = refl
   flat_plain (p ∷ ps) = ap (λ ks. p.streams ++ ks) (flat_plain ps)
 
-  pub flat_numbered : (next : ℕ) (pools : List Spelled) → flat_map (λ (p : PlainPool). p.streams) (numbered names next pools) ≡ places_in names pools
+  pub flat_numbered : (next : ℕ) (pools : List Spelled)
+      → flat_map (λ (p : PlainPool). p.streams) (numbered names next pools) ≡ places_in names pools
   flat_numbered next [] = refl
-  flat_numbered next (p ∷ ps) = ap (λ ks. places_of names p ++ ks) (flat_numbered (next + own_workers p) ps)
+  flat_numbered next (p ∷ ps) =
+      ap (λ ks. places_of names p ++ ks) (flat_numbered (next + own_workers p) ps)
 
-  pub streams_numbered : (pools : List Pool) (next : ℕ) (texts : List Spelled) → map plain pools ≡ numbered names next texts → streams_in pools ≡ places_in names texts
-  streams_numbered pools next texts are = flat_plain pools ∙ ap (flat_map (λ (p : PlainPool). p.streams)) are ∙ flat_numbered next texts
+  pub streams_numbered : (pools : List Pool) (next : ℕ) (texts : List Spelled)
+      → map plain pools ≡ numbered names next texts → streams_in pools ≡ places_in names texts
+  streams_numbered pools next texts are =
+      flat_plain pools ∙ ap (flat_map (λ (p : PlainPool). p.streams)) are ∙ flat_numbered next texts
 
 -- ---- sums of workers
 
 abbrev own_sum : List PoolText → ℕ
 own_sum pools = sum_by own_workers (map shown pools)
 
-pub own_left : (pools : List PoolText) (i : ℕ) (x : PoolText) → i < length pools → x ≡ get_or pools i x → sum_by own_workers (map shown (drop i pools)) ≡ own_workers (shown x) + sum_by own_workers (map shown (drop (i + 1) pools))
+pub own_left : (pools : List PoolText) (i : ℕ) (x : PoolText) → i < length pools
+    → x ≡ get_or pools i x
+    → sum_by own_workers (map shown (drop i pools)) ≡ own_workers (shown x) + sum_by own_workers (map shown (drop (i + 1) pools))
 own_left pools i x within is =
     at_drop_more own_sum pools i x within ∙ ap (λ v. own_sum (v ∷ drop (i + 1) pools)) (sym is) ∙ sum_by-cons own_workers (shown x) (map shown (drop (i + 1) pools))
 
 -- the name of the stream at a place
-pub name_at : (names : List (List ℕ)) (streams : List Stream) (i : ℕ) (stream : Stream) → map (λ (s : Stream). s.name) streams ≡ names → i < length streams → stream ≡ get_or streams i stream → slice_get names i ≡ Some stream.name
-name_at names streams i stream are within is = ap (λ ns. slice_get ns i) (sym are) ∙ mapped_at streams i within is
+pub name_at : (names : List (List ℕ)) (streams : List Stream) (i : ℕ) (stream : Stream)
+    → map (λ (s : Stream). s.name) streams ≡ names → i < length streams
+    → stream ≡ get_or streams i stream → slice_get names i ≡ Some stream.name
+name_at names streams i stream are within is =
+    ap (λ ns. slice_get ns i) (sym are) ∙ mapped_at streams i within is
   where
-    mapped_at : (ss : List Stream) (k : ℕ) → k < length ss → stream ≡ get_or ss k stream → slice_get (map (λ (s : Stream). s.name) ss) k ≡ Some stream.name
+    mapped_at : (ss : List Stream) (k : ℕ) → k < length ss → stream ≡ get_or ss k stream
+        → slice_get (map (λ (s : Stream). s.name) ss) k ≡ Some stream.name
     mapped_at [] k within is = absurd (omega (arith, within))
     mapped_at (s ∷ ss) zero within is = ap (λ (x : Stream). Some x.name) (sym is)
     mapped_at (s ∷ ss) (suc k) within is = mapped_at ss k (omega (arith, within)) is
 
 -- ---- the fault
 
-pub fault_is : (names : List (List ℕ)) (texts : List Spelled) (o : Option MapFault) → have_wrong_workers texts ≡ false → list_any (names_unknown names) texts ≡ false → o ≡ served_fault (length names) (places_in names texts) → fault_of names texts ≡ o
+pub fault_is : (names : List (List ℕ)) (texts : List Spelled) (o : Option MapFault)
+    → have_wrong_workers texts ≡ false → list_any (names_unknown names) texts ≡ false
+    → o ≡ served_fault (length names) (places_in names texts) → fault_of names texts ≡ o
 fault_is names texts o right known is =
     (λ i. cond (right i) (Some Workers) (cond (known i) (Some Unknown) (served_fault (length names) (places_in names texts)))) ∙ sym is
 
-pub refused_from : (names : List (List ℕ)) (texts : List Spelled) (why : MapFault) → fault_of names texts ≡ Some why → Refused names (Some texts) why
+pub refused_from : (names : List (List ℕ)) (texts : List Spelled) (why : MapFault)
+    → fault_of names texts ≡ Some why → Refused names (Some texts) why
 refused_from names texts Json e = e
 refused_from names texts Shape e = e
 refused_from names texts Workers e = e

@@ -10,7 +10,9 @@ begins pool = begins_grid (map string_bytes pool.argv)
 
 -- the pools that were passed aren't the grid's
 abbrev pub ArePassed : List Pool → ℕ → Type 0
-ArePassed pools i = (text : List ℕ) → with_text text (map plain pools) ≡ map plain (take i pools) ++ with_text text (map plain (drop i pools))
+ArePassed pools i =
+    (text : List ℕ)
+    → with_text text (map plain pools) ≡ map plain (take i pools) ++ with_text text (map plain (drop i pools))
 
 pub none_passed : (pools : List Pool) → ArePassed pools 0
 none_passed pools text = refl
@@ -42,6 +44,7 @@ module _ (pools : List Pool) (i : ℕ) (pool : Pool) (within : i < length pools)
         ∙ ap (λ n. map plain (take i pools ++ other ∷ drop n pools)) (add-one i);
   }
 
-pub all_passed : (pools : List Pool) (i : ℕ) → length pools ≤ i → ArePassed pools i → (text : List ℕ) → with_text text (map plain pools) ≡ map plain pools
+pub all_passed : (pools : List Pool) (i : ℕ) → length pools ≤ i → ArePassed pools i
+    → (text : List ℕ) → with_text text (map plain pools) ≡ map plain pools
 all_passed pools i past passed text =
     passed text ∙ at_drop_all (λ ps. map plain (take i pools) ++ with_text text (map plain ps)) pools i past ∙ append-nil (map plain (take i pools)) ∙ ap (map plain) (take_all i pools past)

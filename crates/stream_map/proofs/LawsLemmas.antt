@@ -26,15 +26,18 @@ use borrow.Author.Tests.{leb-true}
 
 -- ---- no fault
 
-no_wrong_workers : (b : Bool) (o : Option MapFault) → cond b (Some Workers) o ≡ None → (b ≡ false) × (o ≡ None)
+no_wrong_workers : (b : Bool) (o : Option MapFault) → cond b (Some Workers) o ≡ None
+    → (b ≡ false) × (o ≡ None)
 no_wrong_workers true o e = absurd (cc)
 no_wrong_workers false o e = (refl, e)
 
-no_unknown : (b : Bool) (o : Option MapFault) → cond b (Some Unknown) o ≡ None → (b ≡ false) × (o ≡ None)
+no_unknown : (b : Bool) (o : Option MapFault) → cond b (Some Unknown) o ≡ None
+    → (b ≡ false) × (o ≡ None)
 no_unknown true o e = absurd (cc)
 no_unknown false o e = (refl, e)
 
-all_served : (b c : Bool) → cond b (Some Doubled) (cond c (Some Unserved) None) ≡ None → (b ≡ false) × (c ≡ false)
+all_served : (b c : Bool) → cond b (Some Doubled) (cond c (Some Unserved) None) ≡ None
+    → (b ≡ false) × (c ≡ false)
 all_served true c e = absurd (cc)
 all_served false true e = absurd (cc)
 all_served false false e = (refl, refl)
@@ -58,7 +61,8 @@ right_workers pools e =
     let few = not_more 16 (sum_by own_workers pools) parts.2 in
     record { numbers = parts.0; grids = not_more 1 (count_by is_grid pools) parts.1; workers = omega (arith, few) }
 
-pub no_fault : (names : List (List ℕ)) (pools : List Spelled) → fault_of names pools ≡ None → NoFault names pools
+pub no_fault : (names : List (List ℕ)) (pools : List Spelled) → fault_of names pools ≡ None
+    → NoFault names pools
 no_fault names pools e =
     let first = no_wrong_workers (have_wrong_workers pools) _ e in
     let second = no_unknown (list_any (names_unknown names) pools) _ first.1 in
@@ -67,14 +71,17 @@ no_fault names pools e =
 
 -- ---- pools as lists
 
-all_of : {A : Type 0} (P : A → Type 0) (xs : List A) → ((k : ℕ) (x : A) → slice_get xs k ≡ Some x → P x) → All P xs
+all_of : {A : Type 0} (P : A → Type 0) (xs : List A)
+    → ((k : ℕ) (x : A) → slice_get xs k ≡ Some x → P x) → All P xs
 all_of P xs each k d lt = each k (get_or xs k d) (slice_get-get_or xs k d lt)
 
-contains : (stream : ℕ) (streams : List ℕ) → is_among stream streams ≡ true → Contains streams stream
+contains : (stream : ℕ) (streams : List ℕ) → is_among stream streams ≡ true
+    → Contains streams stream
 contains stream [] e = absurd (true≢false (sym e))
 contains stream (s ∷ ss) e = here (s == stream) refl (λ h. contains stream ss h) e
   where
-    here : (b : Bool) → (s == stream) ≡ b → (is_among stream ss ≡ true → Contains ss stream) → (b || is_among stream ss) ≡ true → Contains (s ∷ ss) stream
+    here : (b : Bool) → (s == stream) ≡ b → (is_among stream ss ≡ true → Contains ss stream)
+        → (b || is_among stream ss) ≡ true → Contains (s ∷ ss) stream
     here true is later e = (0, omega arith, eqb-true s stream is)
     here false is later e = let found = later e in (suc found.0, omega (arith, found.1), found.2)
 
@@ -82,7 +89,9 @@ contains stream (s ∷ ss) e = here (s == stream) refl (λ h. contains stream ss
 abbrev pub AreStarted : List Spelled → Type 0
 AreStarted pools = (k : ℕ) (s : Spelled) → slice_get pools k ≡ Some s → 1 ≤ length s.run
 
-spelled_at : (names : List (List ℕ)) (next : ℕ) (pools : List Spelled) (k : ℕ) (p : PlainPool) → slice_get (numbered names next pools) k ≡ Some p → (s : Spelled) × (slice_get pools k ≡ Some s) × (p.words ≡ s.run) × (p.streams ≡ places_of names s)
+spelled_at : (names : List (List ℕ)) (next : ℕ) (pools : List Spelled) (k : ℕ) (p : PlainPool)
+    → slice_get (numbered names next pools) k ≡ Some p
+    → (s : Spelled) × (slice_get pools k ≡ Some s) × (p.words ≡ s.run) × (p.streams ≡ places_of names s)
 spelled_at names next [] k p at = absurd (cc)
 spelled_at names next (s ∷ ss) zero p at = let is = sym (same_Some _ p at) in (s, refl, ap (λ (q : PlainPool). q.words) is, ap (λ (q : PlainPool). q.streams) is)
 spelled_at names next (s ∷ ss) (suc k) p at = spelled_at names (next + own_workers s) ss k p at
@@ -126,11 +135,13 @@ module _ (task : Task) (pools : List Spelled) (none : NoFault (stream_names task
 
 -- ---- programs have words
 
-and_then_some : {A B : Type 0} (f : A → Option B) (o : Option A) (y : B) → option_and_then f o ≡ Some y → (x : A) × (o ≡ Some x) × (f x ≡ Some y)
+and_then_some : {A B : Type 0} (f : A → Option B) (o : Option A) (y : B)
+    → option_and_then f o ≡ Some y → (x : A) × (o ≡ Some x) × (f x ≡ Some y)
 and_then_some f None y e = absurd (cc)
 and_then_some f (Some x) y e = (x, refl, e)
 
-where_true : {A : Type 0} (b : Bool) (o : Option A) (y : A) → cond b o None ≡ Some y → (b ≡ true) × (o ≡ Some y)
+where_true : {A : Type 0} (b : Bool) (o : Option A) (y : A) → cond b o None ≡ Some y
+    → (b ≡ true) × (o ≡ Some y)
 where_true true o y e = (refl, e)
 where_true false o y e = absurd (cc)
 
@@ -140,7 +151,8 @@ program_starts words run e =
     let some = leb-true 1 (length words) (first_so (nat_le 1 (length words)) (nat_le (length words) 64) (first_so (nat_le 1 (length words) && nat_le (length words) 64) _ parts.0)) in
     omega (arith, some, ap length (same_Some words run parts.1))
 
-run_of : (run : Option (List (List ℕ))) (workers : Option ℕ) (streams : Option (List (List ℕ))) (s : Spelled) → pool_with run workers streams ≡ Some s → run ≡ Some s.run
+run_of : (run : Option (List (List ℕ))) (workers : Option ℕ) (streams : Option (List (List ℕ))) (s : Spelled)
+    → pool_with run workers streams ≡ Some s → run ≡ Some s.run
 run_of None workers streams s e = absurd (cc)
 run_of (Some r) None streams s e = absurd (cc)
 run_of (Some r) (Some w) None s e = absurd (cc)
@@ -165,11 +177,13 @@ module _ {A B : Type 0} (f : A → Option B) where
   cons_at x z zs is later zero y at = (x, is ∙ at)
   cons_at x z zs is later (suc k) y at = later k y at
 
-  more_at : (x : A) (first : Option B) (rest : Option (List B)) (ys : List B) → f x ≡ first → ((zs : List B) → rest ≡ Some zs → AreGivenAt zs)
+  more_at : (x : A) (first : Option B) (rest : Option (List B)) (ys : List B) → f x ≡ first
+      → ((zs : List B) → rest ≡ Some zs → AreGivenAt zs)
       → option_and_then (λ y. option_map (λ zs. y ∷ zs) rest) first ≡ Some ys → AreGivenAt ys
   more_at x None rest ys is later e = absurd (cc)
   more_at x (Some z) None ys is later e = absurd (cc)
-  more_at x (Some z) (Some zs) ys is later e = subst AreGivenAt (same_Some (z ∷ zs) ys e) (cons_at x z zs is (later zs refl))
+  more_at x (Some z) (Some zs) ys is later e =
+      subst AreGivenAt (same_Some (z ∷ zs) ys e) (cons_at x z zs is (later zs refl))
 
   nothing_at : AreGivenAt []
   nothing_at k y at = absurd (cc)
@@ -190,16 +204,20 @@ none_start : AreStarted []
 none_start k s at = absurd (cc)
 
 one_starts : (pool : Spelled) → 1 ≤ length pool.run → AreStarted (pool ∷ [])
-one_starts pool some zero s at = omega (arith, some, ap (λ (p : Spelled). length p.run) (same_Some pool s at))
+one_starts pool some zero s at =
+    omega (arith, some, ap (λ (p : Spelled). length p.run) (same_Some pool s at))
 one_starts pool some (suc k) s at = absurd (cc)
 
-words_start : (task : Task) (words : List (List ℕ)) (workers : ℕ) (pools : List Spelled) → words_form task words workers ≡ Some pools → AreStarted pools
+words_start : (task : Task) (words : List (List ℕ)) (workers : ℕ) (pools : List Spelled)
+    → words_form task words workers ≡ Some pools → AreStarted pools
 words_start task words workers pools = first (length task.streams == 0) (length words == 0)
   where
     pool : Spelled
     pool = record { run = words; workers = workers; streams = stream_names task }
 
-    first : (a b : Bool) → cond a (Some []) (cond b (Some []) (cond (is_program words) (Some (pool ∷ [])) None)) ≡ Some pools → AreStarted pools
+    first : (a b : Bool)
+        → cond a (Some []) (cond b (Some []) (cond (is_program words) (Some (pool ∷ [])) None)) ≡ Some pools
+        → AreStarted pools
     first true b e = subst AreStarted (same_Some [] pools e) none_start
     first false true e = subst AreStarted (same_Some [] pools e) none_start
     first false false e =
@@ -209,7 +227,9 @@ words_start task words workers pools = first (length task.streams == 0) (length 
 
 -- ---- the laws
 
-accepted_whole : (task : Task) (form : Option (List Spelled)) (pools : List Pool) → ((spelled : List Spelled) → form ≡ Some spelled → AreStarted spelled) → Accepted task form pools → AreWhole task (map plain pools)
+accepted_whole : (task : Task) (form : Option (List Spelled)) (pools : List Pool)
+    → ((spelled : List Spelled) → form ≡ Some spelled → AreStarted spelled)
+    → Accepted task form pools → AreWhole task (map plain pools)
 accepted_whole task form pools starts accepted =
     let P : List PlainPool → Type 0 = AreWhole task in
     subst P (sym accepted.pools_are) (whole task accepted.spelled (no_fault (stream_names task) accepted.spelled accepted.right) (starts accepted.spelled accepted.form_is))
@@ -232,7 +252,8 @@ record IsAlike (p q : PlainPool) : Type 0 where
 alike_itself : (p : PlainPool) → IsAlike p p
 alike_itself p = record { first = refl; workers = refl; streams = refl; words = refl }
 
-second_length : (text : List ℕ) (words : List (List ℕ)) → length words ≡ length (with_second text words)
+second_length : (text : List ℕ) (words : List (List ℕ))
+    → length words ≡ length (with_second text words)
 second_length text [] = refl
 second_length text (word ∷ []) = refl
 second_length text (word ∷ file ∷ words) = refl
@@ -242,37 +263,47 @@ module _ (text : List ℕ) where
   changed p = record p { words = with_second text p.words }
 
   alike_changed : (p : PlainPool) → IsAlike p (changed p)
-  alike_changed p = record { first = refl; workers = refl; streams = refl; words = second_length text p.words }
+  alike_changed p =
+      record { first = refl; workers = refl; streams = refl; words = second_length text p.words }
 
   abbrev either_text : Bool → PlainPool → List PlainPool → List PlainPool
   either_text b p ps = cond b (changed p ∷ ps) (p ∷ with_text text ps)
 
   -- the pool at a place was there, but for its words
-  was_at : (pools : List PlainPool) (k : ℕ) (q : PlainPool) → slice_get (with_text text pools) k ≡ Some q → (p : PlainPool) × (slice_get pools k ≡ Some p) × IsAlike p q
+  was_at : (pools : List PlainPool) (k : ℕ) (q : PlainPool)
+      → slice_get (with_text text pools) k ≡ Some q
+      → (p : PlainPool) × (slice_get pools k ≡ Some p) × IsAlike p q
   was_at [] k q at = absurd (cc)
   was_at (p ∷ ps) k q at = at_either (begins_grid p.words) k at (λ n h. was_at ps n q h)
     where
-      at_either : (b : Bool) (n : ℕ) → slice_get (either_text b p ps) n ≡ Some q → ((m : ℕ) → slice_get (with_text text ps) m ≡ Some q → (r : PlainPool) × (slice_get ps m ≡ Some r) × IsAlike r q)
+      at_either : (b : Bool) (n : ℕ) → slice_get (either_text b p ps) n ≡ Some q
+          → ((m : ℕ) → slice_get (with_text text ps) m ≡ Some q → (r : PlainPool) × (slice_get ps m ≡ Some r) × IsAlike r q)
           → (r : PlainPool) × (slice_get (p ∷ ps) n ≡ Some r) × IsAlike r q
-      at_either true zero e later = (p, refl, subst (IsAlike p) (same_Some (changed p) q e) (alike_changed p))
+      at_either true zero e later =
+          (p, refl, subst (IsAlike p) (same_Some (changed p) q e) (alike_changed p))
       at_either true (suc n) e later = (q, e, alike_itself q)
       at_either false zero e later = (p, refl, subst (IsAlike p) (same_Some p q e) (alike_itself p))
       at_either false (suc n) e later = later n e
 
   -- and each is still there
-  is_at : (pools : List PlainPool) (k : ℕ) (p : PlainPool) → slice_get pools k ≡ Some p → (q : PlainPool) × (slice_get (with_text text pools) k ≡ Some q) × IsAlike p q
+  is_at : (pools : List PlainPool) (k : ℕ) (p : PlainPool) → slice_get pools k ≡ Some p
+      → (q : PlainPool) × (slice_get (with_text text pools) k ≡ Some q) × IsAlike p q
   is_at [] k p at = absurd (cc)
   is_at (p ∷ ps) k r at = at_either (begins_grid p.words) k at (λ n h. is_at ps n r h)
     where
-      at_either : (b : Bool) (n : ℕ) → slice_get (p ∷ ps) n ≡ Some r → ((m : ℕ) → slice_get ps m ≡ Some r → (q : PlainPool) × (slice_get (with_text text ps) m ≡ Some q) × IsAlike r q)
+      at_either : (b : Bool) (n : ℕ) → slice_get (p ∷ ps) n ≡ Some r
+          → ((m : ℕ) → slice_get ps m ≡ Some r → (q : PlainPool) × (slice_get (with_text text ps) m ≡ Some q) × IsAlike r q)
           → (q : PlainPool) × (slice_get (either_text b p ps) n ≡ Some q) × IsAlike r q
       at_either true zero e later = (changed p, refl, subst (λ (x : PlainPool). IsAlike x (changed p)) (same_Some p r e) (alike_changed p))
       at_either true (suc n) e later = (r, e, alike_itself r)
-      at_either false zero e later = (p, refl, subst (λ (x : PlainPool). IsAlike x p) (same_Some p r e) (alike_itself p))
+      at_either false zero e later =
+          (p, refl, subst (λ (x : PlainPool). IsAlike x p) (same_Some p r e) (alike_itself p))
       at_either false (suc n) e later = later n e
 
-at_of : {A : Type 0} (P : A → Type 0) (xs : List A) → All P xs → (k : ℕ) (x : A) → slice_get xs k ≡ Some x → P x
-at_of P xs all k x at = subst P (get_or_from_slice_get xs k x x at) (all k x (slice_get_within xs k x at))
+at_of : {A : Type 0} (P : A → Type 0) (xs : List A) → All P xs → (k : ℕ) (x : A)
+    → slice_get xs k ≡ Some x → P x
+at_of P xs all k x at =
+    subst P (get_or_from_slice_get xs k x x at) (all k x (slice_get_within xs k x at))
 
 had_child : (p q : PlainPool) (child : ℕ) → IsAlike p q → HasChild q child → HasChild p child
 had_child p q child alike has = record { from = omega (arith, has.from, alike.first); to = omega (arith, has.to, alike.first, alike.workers) }

@@ -49,5 +49,6 @@ with_text text (pool ∷ pools) =
 -- The first pool that begins with `@grid` stands at this place.
 pub record IsGridPlace (pools : List Pool) (place : ℕ) : Type 0 where
   pub within : place < length pools
-  pub replaced : (text : List ℕ) (pool : Pool) (d : Pool) → plain pool ≡ (record (plain (slice_index_or pools place d)) { words = with_second text (plain (slice_index_or pools place d)).words })
+  pub replaced : (text : List ℕ) (pool : Pool) (d : Pool)
+      → plain pool ≡ (record (plain (slice_index_or pools place d)) { words = with_second text (plain (slice_index_or pools place d)).words })
       → with_text text (map plain pools) ≡ map plain (take place pools ++ pool ∷ drop (suc place) pools)

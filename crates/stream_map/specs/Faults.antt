@@ -14,14 +14,18 @@ is_grid pool = begins_grid pool.run
 
 -- another number than 1 to 16, or for the grid another than 1
 abbrev pub has_wrong_number : Spelled → Bool
-has_wrong_number pool = not (nat_le 1 pool.workers && nat_le pool.workers 16) || (is_grid pool && not (pool.workers == 1))
+has_wrong_number pool =
+    not (nat_le 1 pool.workers && nat_le pool.workers 16)
+    || (is_grid pool && not (pool.workers == 1))
 
 -- how many numbers of children below 16 it takes
 abbrev pub own_workers : Spelled → ℕ
 own_workers pool = if is_grid pool then 0 else pool.workers
 
 abbrev pub have_wrong_workers : List Spelled → Bool
-have_wrong_workers pools = list_any has_wrong_number pools || nat_lt 1 (count_by is_grid pools) || nat_lt 16 (sum_by own_workers pools)
+have_wrong_workers pools =
+    list_any has_wrong_number pools || nat_lt 1 (count_by is_grid pools)
+    || nat_lt 16 (sum_by own_workers pools)
 
 -- ---- streams
 

@@ -40,7 +40,8 @@ unfoldable pub is_map_key : List ℕ → Bool
 is_map_key key = bytes_eq key (codes "pools")
 
 unfoldable pub is_pool_key : List ℕ → Bool
-is_pool_key key = bytes_eq key (codes "run") || bytes_eq key (codes "workers") || bytes_eq key (codes "streams")
+is_pool_key key =
+    bytes_eq key (codes "run") || bytes_eq key (codes "workers") || bytes_eq key (codes "streams")
 
 -- ---- pools
 
@@ -89,7 +90,8 @@ pool_of d =
 
 -- The pools of a map, or nothing where the data are no map.
 abbrev pub map_of : Data → Option (List Spelled)
-map_of d = if has_only is_map_key d then option_and_then (listed pool_of) (get (codes "pools") d) else None
+map_of d =
+    if has_only is_map_key d then option_and_then (listed pool_of) (get (codes "pools") d) else None
 
 -- ---- words in place of a map
 

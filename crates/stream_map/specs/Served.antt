@@ -10,15 +10,19 @@ is_among stream streams = list_any (λ s. s == stream) streams
 -- one of the second list stands before itself, in either list
 abbrev pub has_repeat : List ℕ → List ℕ → Bool
 has_repeat before [] = false
-has_repeat before (stream ∷ streams) = is_among stream before || has_repeat (before ++ stream ∷ []) streams
+has_repeat before (stream ∷ streams) =
+    is_among stream before || has_repeat (before ++ stream ∷ []) streams
 
 -- one of so many streams isn't among these
 abbrev pub has_missing : ℕ → List ℕ → Bool
-has_missing count streams = list_any (λ stream. not (is_among stream streams)) (numbers_from 0 count)
+has_missing count streams =
+    list_any (λ stream. not (is_among stream streams)) (numbers_from 0 count)
 
 -- a mark for each stream, which tells whether it is among these
 abbrev pub AreMarks : List ℕ → List Bool → Type 0
-AreMarks streams marks = (stream : ℕ) (d : Bool) → stream < length marks → slice_index_or marks stream d ≡ is_among stream streams
+AreMarks streams marks =
+    (stream : ℕ) (d : Bool) → stream < length marks
+    → slice_index_or marks stream d ≡ is_among stream streams
 
 -- the streams of these pools
 abbrev pub streams_in : List Pool → List ℕ

@@ -11,7 +11,8 @@ pub record Spelled : Type 0 where
 
 -- the pool that the code holds
 abbrev pub shown : PoolText → Spelled
-shown pool = record { run = map string_bytes pool.run; workers = pool.workers; streams = pool.streams }
+shown pool =
+    record { run = map string_bytes pool.run; workers = pool.workers; streams = pool.streams }
 
 unfoldable pub is_grid_word : List ℕ → Bool
 is_grid_word word = bytes_eq word (codes "@grid")
@@ -23,4 +24,6 @@ begins_grid (word ∷ words) = is_grid_word word
 
 -- 1 to 64 words; behind `@grid` stands one, the file
 abbrev pub is_program : List (List ℕ) → Bool
-is_program words = nat_le 1 (length words) && nat_le (length words) 64 && (not (begins_grid words) || (length words == 2))
+is_program words =
+    nat_le 1 (length words) && nat_le (length words) 64
+    && (not (begins_grid words) || (length words == 2))

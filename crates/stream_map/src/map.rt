@@ -39,7 +39,13 @@ fn pool_of_all(
     argv: &[String],
     workers: u8,
 ) -> Result<PoolText, AllocError>
-    ensures { IfOk result (λ pool. shown pool ≡ record { run = map string_bytes argv.now; workers = workers; streams = stream_names task.now }) }
+    ensures { IfOk result (λ pool. shown pool
+        ≡ record {
+          run = map string_bytes argv.now;
+          workers = workers;
+          streams = stream_names
+              task.now;
+        }) }
 {
     let mut run = Vec::with_capacity(alloc, argv.len())?;
     for word in argv {

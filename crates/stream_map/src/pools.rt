@@ -44,7 +44,8 @@ fn placed_pools(
 ) -> Result<Vec<Pool>, MapFault>
     requires few { length names.now ≤ 8388608 }
     requires workers { have_wrong_workers (map shown texts.items) ≡ false }
-    ensures known { OnOk result (list_any (names_unknown names.now) (map shown texts.items) ≡ false) }
+    ensures known { OnOk result (list_any (names_unknown names.now) (map shown texts.items)
+        ≡ false) }
     ensures pools { IfOk result
         (λ pools. map plain pools.items ≡ numbered names.now 0 (map shown texts.items)) }
     ensures unknown { IfErr result
@@ -85,7 +86,8 @@ pub(crate) fn pools_of(
     ensures right { OnOk result (fault_of (stream_names task.now) (map shown texts.items) ≡ None) }
     ensures pools { IfOk result
         (λ pools. map plain pools ≡ numbered (stream_names task.now) 0 (map shown texts.items)) }
-    ensures refused { IfErr result (Refused (stream_names task.now) (Some (map shown texts.items))) }
+    ensures refused { IfErr result (Refused (stream_names task.now)
+        (Some (map shown texts.items))) }
 {
     if have_wrong_workers(texts.as_slice()) {
         return Err(MapFault::Workers);

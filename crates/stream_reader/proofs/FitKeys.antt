@@ -31,7 +31,8 @@ IsKey key.Domain = Unit {0}
 IsKey key.Certified = Unit {0}
 IsKey key.Value = Unit {0}
 
-key_clean : (k : Key) (at : ℕ) (valued : Key → List Fault) → by_key k at valued ≡ [] → IsKey k × (valued k ≡ [])
+key_clean : (k : Key) (at : ℕ) (valued : Key → List Fault) → by_key k at valued ≡ []
+    → IsKey k × (valued k ≡ [])
 key_clean key.Unknown at valued e = absurd (some_fault (unsupported at) [] e)
 key_clean key.NoKey at valued e = absurd (some_fault (shape at) [] e)
 key_clean key.Parameters at valued e = (tt, e)
@@ -60,7 +61,8 @@ module _ (v : Vocabulary) (roles : List Role) (scopes : Scopes) (keyed : Keyed) 
   abbrev pub IsThere : List ℕ → Key → ℕ → Trees → Type 0
   IsThere w k most keys = IsAbsent w keys ⊎ IsValue k most (value_at w keys)
 
-  less : (w : List ℕ) (k : Key) (few most : ℕ) (keys : Trees) → few ≤ most → IsThere w k few keys → IsThere w k most keys
+  less : (w : List ℕ) (k : Key) (few most : ℕ) (keys : Trees) → few ≤ most → IsThere w k few keys
+      → IsThere w k most keys
   less w k few most keys h (inl gone) = inl gone
   less w k few most keys h (inr is) = inr (record { real = is.real; place = is.place; formed = is.formed; named = is.named; small = omega (arith, is.small) })
 
@@ -90,7 +92,9 @@ module _ (v : Vocabulary) (roles : List Role) (scopes : Scopes) (keyed : Keyed) 
       ]
 
   -- the value of a word's key, if the word is there
-  pub find : (w : List ℕ) (k : Key) (before : Key) (place : ℕ) (keys : Trees) → key_of keyed w ≡ k → keys_faults keyed place keys ≡ [] → keys_names v roles scopes keyed before keys ≡ [] → IsThere w k (size keys) keys
+  pub find : (w : List ℕ) (k : Key) (before : Key) (place : ℕ) (keys : Trees) → key_of keyed w ≡ k
+      → keys_faults keyed place keys ≡ [] → keys_names v roles scopes keyed before keys ≡ []
+      → IsThere w k (size keys) keys
   find w k before place nothing key e f = inl (record { none = refl; nothing = refl })
   find w k before place (list items at rest) key e f = absurd (some_fault (shape at) [] e)
   find w k before place (word text at nothing) key e f = absurd (some_fault (shape place) [] (key_clean (key_of keyed text) at (λ k. valued_faults keyed place k nothing) e).1)

@@ -48,7 +48,8 @@ ninth_by true before at w ws spot rest h e more =
     let next = more (before + 1) (omega (arith, room, h)) parts.1 in
     omega (arith, next)
 
-few_words : (before : ℕ) (spot : Spot) (ts : Trees) → before ≤ 8 → ninth_names before spot ts ≡ [] → before + length (named_words spot ts) ≤ 8
+few_words : (before : ℕ) (spot : Spot) (ts : Trees) → before ≤ 8 → ninth_names before spot ts ≡ []
+    → before + length (named_words spot ts) ≤ 8
 few_words before spot nothing h e = omega arith
 few_words before spot (list items at rest) h e = omega arith
 few_words before spot (word w at rest) h e = ninth_by (is_named spot w) before at w (named_words (after_word spot w) rest) (after_word spot w) rest h e (λ n k f. few_words n (after_word spot w) rest k f)
@@ -99,7 +100,8 @@ module _ (d : Domain) (v : Vocabulary) (over : IsFitDomain d) (known : AreKnown 
         let long : length input_sorts + length output_sorts ≡ length scopes.all = (λ i. sorts_as_long v.sorts inputs i + sorts_as_long v.sorts outputs i) ∙ sym (length-append (named_words Start inputs) (named_words Start outputs)) in
         subst (λ n. AreFilled (numbers_from 0 n) (length scopes.all)) (sym long) (filled_first (length scopes.all))
 
-    sorts_fit : (ts : Trees) → AreFew v ts → (nat_le (length (named_sorts v.sorts Start 0 ts)) 8 ≡ true) × (are_places (length d.sorts) (named_sorts v.sorts Start 0 ts) ≡ true)
+    sorts_fit : (ts : Trees) → AreFew v ts
+        → (nat_le (length (named_sorts v.sorts Start 0 ts)) 8 ≡ true) × (are_places (length d.sorts) (named_sorts v.sorts Start 0 ts) ≡ true)
     sorts_fit ts are = (
       le-leb (length (named_sorts v.sorts Start 0 ts)) 8 (omega (arith, are.few, sorts_as_long v.sorts ts)),
       subst (λ n. are_places n (named_sorts v.sorts Start 0 ts) ≡ true) known.sorts (few_places v.sorts known.some ts (omega (arith, are.few)) are.known),
@@ -110,13 +112,17 @@ module _ (d : Domain) (v : Vocabulary) (over : IsFitDomain d) (known : AreKnown 
       good : AreGood d v over known scope filled slots (patterns_of v scope ts)
       short : length (patterns_of v scope ts) ≤ 8388608
 
-    atoms_from : (scope : List (List ℕ)) (filled : List ℕ) (slots : AreFilled filled (length scope)) (place : ℕ) (ts : Trees) → size ts ≤ 8388607 → stream_atoms_faults place ts ≡ [] → atoms_names v d.roles scope place ts ≡ [] → AreAtoms scope filled slots ts
+    atoms_from : (scope : List (List ℕ)) (filled : List ℕ) (slots : AreFilled filled (length scope)) (place : ℕ) (ts : Trees)
+        → size ts ≤ 8388607 → stream_atoms_faults place ts ≡ []
+        → atoms_names v d.roles scope place ts ≡ [] → AreAtoms scope filled slots ts
     atoms_from scope filled slots place ts h e f =
         let formed : atoms_faults place ts ≡ [] = append_nil_second _ (atoms_faults place ts) e in
         record { good = atoms_good d v over known scope filled slots place ts formed f; short = omega (arith, patterns_length v scope ts, h) }
 
-    no_atoms : (scope : List (List ℕ)) (filled : List ℕ) (slots : AreFilled filled (length scope)) → AreAtoms scope filled slots nothing
-    no_atoms scope filled slots = record { good = record { fit = refl; static = refl }; short = omega arith }
+    no_atoms : (scope : List (List ℕ)) (filled : List ℕ) (slots : AreFilled filled (length scope))
+        → AreAtoms scope filled slots nothing
+    no_atoms scope filled slots =
+        record { good = record { fit = refl; static = refl }; short = omega arith }
 
     -- all parts but the function term
     record HaveParts : Type 0 where
@@ -125,7 +131,9 @@ module _ (d : Domain) (v : Vocabulary) (over : IsFitDomain d) (known : AreKnown 
       domain : AreAtoms scopes.inputs input_slots input_filled (value_at (codes ":domain") keys)
       certified : AreAtoms scopes.all all_slots all_filled (value_at (codes ":certified") keys)
 
-    parts_fit : (kind : Keyed) (name : List ℕ) → HaveParts → is_fit_worth d (stream_of v kind name keys) ≡ true → is_fit_stream d (stream_of v kind name keys) ≡ true
+    parts_fit : (kind : Keyed) (name : List ℕ) → HaveParts
+        → is_fit_worth d (stream_of v kind name keys) ≡ true
+        → is_fit_stream d (stream_of v kind name keys) ≡ true
     parts_fit kind name parts worth =
         let ins = sorts_fit inputs parts.inputs in
         let outs = sorts_fit outputs parts.outputs in
@@ -135,29 +143,38 @@ module _ (d : Domain) (v : Vocabulary) (over : IsFitDomain d) (known : AreKnown 
 
     -- ---- what the keys give
 
-    few_at : (kind : Keyed) (w : List ℕ) (most : ℕ) → IsThere v d.roles scopes kind w key.Inputs most keys → AreFew v (value_at w keys)
+    few_at : (kind : Keyed) (w : List ℕ) (most : ℕ)
+        → IsThere v d.roles scopes kind w key.Inputs most keys → AreFew v (value_at w keys)
     few_at kind w most (inl gone) = subst (AreFew v) (sym gone.nothing) (few_none v)
     few_at kind w most (inr is) = few_from v (value_at w keys) is.named
 
-    few_out : (kind : Keyed) (w : List ℕ) (most : ℕ) → IsThere v d.roles scopes kind w key.Outputs most keys → AreFew v (value_at w keys)
+    few_out : (kind : Keyed) (w : List ℕ) (most : ℕ)
+        → IsThere v d.roles scopes kind w key.Outputs most keys → AreFew v (value_at w keys)
     few_out kind w most (inl gone) = subst (AreFew v) (sym gone.nothing) (few_none v)
     few_out kind w most (inr is) = few_from v (value_at w keys) is.named
 
-    domain_at : (kind : Keyed) (w : List ℕ) → IsThere v d.roles scopes kind w key.Domain (size keys) keys → AreAtoms scopes.inputs input_slots input_filled (value_at w keys)
+    domain_at : (kind : Keyed) (w : List ℕ)
+        → IsThere v d.roles scopes kind w key.Domain (size keys) keys
+        → AreAtoms scopes.inputs input_slots input_filled (value_at w keys)
     domain_at kind w (inl gone) = subst (AreAtoms scopes.inputs input_slots input_filled) (sym gone.nothing) (no_atoms scopes.inputs input_slots input_filled)
     domain_at kind w (inr is) = atoms_from scopes.inputs input_slots input_filled is.place (value_at w keys) (omega (arith, is.small, few)) is.formed is.named
 
-    certified_at : (kind : Keyed) (w : List ℕ) → IsThere v d.roles scopes kind w key.Certified (size keys) keys → AreAtoms scopes.all all_slots all_filled (value_at w keys)
+    certified_at : (kind : Keyed) (w : List ℕ)
+        → IsThere v d.roles scopes kind w key.Certified (size keys) keys
+        → AreAtoms scopes.all all_slots all_filled (value_at w keys)
     certified_at kind w (inl gone) = subst (AreAtoms scopes.all all_slots all_filled) (sym gone.nothing) (no_atoms scopes.all all_slots all_filled)
     certified_at kind w (inr is) = atoms_from scopes.all all_slots all_filled is.place (value_at w keys) (omega (arith, is.small, few)) is.formed is.named
 
-    absent_at : (kind : Keyed) (w : List ℕ) (most : ℕ) → IsThere v d.roles scopes kind w key.Unknown most keys → value_at w keys ≡ nothing
+    absent_at : (kind : Keyed) (w : List ℕ) (most : ℕ)
+        → IsThere v d.roles scopes kind w key.Unknown most keys → value_at w keys ≡ nothing
     absent_at kind w most (inl gone) = gone.nothing
     absent_at kind w most (inr is) = absurd is.real
 
     -- ---- streams and cost streams
 
-    pub stream_fit : (name : List ℕ) (place : ℕ) → keys_faults keyed.Stream place keys ≡ [] → keys_names v d.roles scopes keyed.Stream key.NoKey keys ≡ [] → is_fit_stream d (stream_of v keyed.Stream name keys) ≡ true
+    pub stream_fit : (name : List ℕ) (place : ℕ) → keys_faults keyed.Stream place keys ≡ []
+        → keys_names v d.roles scopes keyed.Stream key.NoKey keys ≡ []
+        → is_fit_stream d (stream_of v keyed.Stream name keys) ≡ true
     stream_fit name place e f =
         parts_fit keyed.Stream name (record {
           inputs = few_at keyed.Stream (codes ":inputs") (size keys) (find v d.roles scopes keyed.Stream (codes ":inputs") key.Inputs key.NoKey place keys stream_inputs e f);
@@ -166,14 +183,23 @@ module _ (d : Domain) (v : Vocabulary) (over : IsFitDomain d) (known : AreKnown 
           certified = certified_at keyed.Stream (codes ":certified") (find v d.roles scopes keyed.Stream (codes ":certified") key.Certified key.NoKey place keys stream_certified e f);
         }) refl
 
-    value_there : (w : List ℕ) (most : ℕ) → has_word w keys ≡ true → IsThere v d.roles scopes keyed.CostStream w key.Value most keys → IsValue v d.roles scopes keyed.CostStream key.Value most (value_at w keys)
-    value_there w most has (inl gone) = absurd (let no_word : has_word w keys ≡ false = gone.none in cc)
+    value_there : (w : List ℕ) (most : ℕ) → has_word w keys ≡ true
+        → IsThere v d.roles scopes keyed.CostStream w key.Value most keys
+        → IsValue v d.roles scopes keyed.CostStream key.Value most (value_at w keys)
+    value_there w most has (inl gone) =
+        absurd (let no_word : has_word w keys ≡ false = gone.none in cc)
     value_there w most has (inr is) = is
 
-    worth_is : (s : stream.Stream) (worth : Worth) → s.worth ≡ Some worth → s.outputs ≡ [] → s.certified ≡ [] → is_fit_application d.functions (length d.constants) (numbers_from 0 (length s.inputs)) worth.func worth.args ≡ true → is_fit_worth d s ≡ true
+    worth_is : (s : stream.Stream) (worth : Worth) → s.worth ≡ Some worth → s.outputs ≡ []
+        → s.certified ≡ []
+        → is_fit_application d.functions (length d.constants) (numbers_from 0 (length s.inputs)) worth.func worth.args ≡ true
+        → is_fit_worth d s ≡ true
     worth_is s worth e f g h = rw (e, f, g) h
 
-    pub cost_fit : (name : List ℕ) (place : ℕ) → has_word (codes ":value") keys ≡ true → keys_faults keyed.CostStream place keys ≡ [] → keys_names v d.roles scopes keyed.CostStream key.NoKey keys ≡ [] → is_fit_stream d (stream_of v keyed.CostStream name keys) ≡ true
+    pub cost_fit : (name : List ℕ) (place : ℕ) → has_word (codes ":value") keys ≡ true
+        → keys_faults keyed.CostStream place keys ≡ []
+        → keys_names v d.roles scopes keyed.CostStream key.NoKey keys ≡ []
+        → is_fit_stream d (stream_of v keyed.CostStream name keys) ≡ true
     cost_fit name place has e f =
         let value = value_there (codes ":value") (size keys) has (find v d.roles scopes keyed.CostStream (codes ":value") key.Value key.NoKey place keys cost_value e f) in
         let no_outputs : outputs ≡ nothing = absent_at keyed.CostStream (codes ":outputs") (size keys) (find v d.roles scopes keyed.CostStream (codes ":outputs") key.Unknown key.NoKey place keys cost_outputs e f) in

@@ -44,7 +44,8 @@ use Rattle.stream_reader.proofs.FitNames.{names_distinct, stream_names as names_
 
 -- ---- how many
 
-short_by : (v : Vocabulary) (o : Option Keyed) (items : Trees) (ss : List stream.Stream) (n m : ℕ) → length ss ≤ n → length (item_streams v o items ++ ss) ≤ m + 2 + n
+short_by : (v : Vocabulary) (o : Option Keyed) (items : Trees) (ss : List stream.Stream) (n m : ℕ)
+    → length ss ≤ n → length (item_streams v o items ++ ss) ≤ m + 2 + n
 short_by v None items ss n m h = omega arith
 short_by v (Some kind) items ss n m h = omega arith
 
@@ -65,10 +66,12 @@ module _ (d : Domain) (v : Vocabulary) (over : IsFitDomain d) (known : AreKnown 
   none_good : AreGood []
   none_good = record { names = refl; fit = refl }
 
-  one_good : (s : stream.Stream) → is_name s.name ≡ true → is_fit_stream d s ≡ true → AreGood (s ∷ [])
+  one_good : (s : stream.Stream) → is_name s.name ≡ true → is_fit_stream d s ≡ true
+      → AreGood (s ∷ [])
   one_good s n f = record { names = and_from (is_name s.name) true n refl; fit = and_from (is_fit_stream d s) true f refl }
 
-  names_append : (ss rest : List stream.Stream) → names_of_streams (ss ++ rest) ≡ names_of_streams ss ++ names_of_streams rest
+  names_append : (ss rest : List stream.Stream)
+      → names_of_streams (ss ++ rest) ≡ names_of_streams ss ++ names_of_streams rest
   names_append [] rest = refl
   names_append (s ∷ ss) rest = ap (λ ns. s.name ∷ ns) (names_append ss rest)
 
@@ -81,21 +84,25 @@ module _ (d : Domain) (v : Vocabulary) (over : IsFitDomain d) (known : AreKnown 
     name : is_name (head_of rest) ≡ true
     formed : keys_faults kind place (tail_of rest) ≡ []
 
-  keyed_from : (kind : Keyed) (place : ℕ) (rest : Trees) → keyed_faults kind place rest ≡ [] → IsKeyed kind rest
+  keyed_from : (kind : Keyed) (place : ℕ) (rest : Trees) → keyed_faults kind place rest ≡ []
+      → IsKeyed kind rest
   keyed_from kind place nothing e = absurd (some_fault (shape place) [] e)
   keyed_from kind place (list items at rest) e = absurd (some_fault (shape at) [] e)
   keyed_from kind place (word w at rest) e = let c = chosen (is_of Name w) (keys_faults kind place rest) (shape at) [] e in record { place = place; name = c.0; formed = c.1 }
 
-  keys_clean : (kind : Keyed) (keys : Trees) → stream_names v d.roles kind keys ≡ [] → keys_names v d.roles (scopes_of keys) kind key.NoKey keys ≡ []
+  keys_clean : (kind : Keyed) (keys : Trees) → stream_names v d.roles kind keys ≡ []
+      → keys_names v d.roles (scopes_of keys) kind key.NoKey keys ≡ []
   keys_clean kind keys e = (none_both (repeated_names [] keys ++ second_variables kind [] key.NoKey keys) (keys_names v d.roles (scopes_of keys) kind key.NoKey keys) e).1
 
   -- the word `:value` is no name, so it is a key
-  value_key : (rest : Trees) → is_name (head_of rest) ≡ true → has_word (codes ":value") rest ≡ true → has_word (codes ":value") (tail_of rest) ≡ true
+  value_key : (rest : Trees) → is_name (head_of rest) ≡ true → has_word (codes ":value") rest ≡ true
+      → has_word (codes ":value") (tail_of rest) ≡ true
   value_key nothing n h = h
   value_key (list items at rest) n h = h
   value_key (word w at rest) n h = by (bytes_eq w (codes ":value")) refl h
     where
-      by : (b : Bool) → bytes_eq w (codes ":value") ≡ b → (b || has_word (codes ":value") rest) ≡ true → has_word (codes ":value") rest ≡ true
+      by : (b : Bool) → bytes_eq w (codes ":value") ≡ b
+          → (b || has_word (codes ":value") rest) ≡ true → has_word (codes ":value") rest ≡ true
       by false e g = g
       by true e g =
           let same : w ≡ codes ":value" = (bytes_eq-Decides w (codes ":value")).0 e in
@@ -106,7 +113,10 @@ module _ (d : Domain) (v : Vocabulary) (over : IsFitDomain d) (known : AreKnown 
   has_value true place e = refl
   has_value false place e = absurd (some_fault (shape place) [] e)
 
-  item_good : (it : Item) (place at : ℕ) (rest : Trees) → size rest ≤ 8388607 → body_faults it place at rest ≡ [] → item_names v d.roles (stream_kind it) (tail_of rest) ≡ [] → AreGood (item_streams v (stream_kind it) rest)
+  item_good : (it : Item) (place at : ℕ) (rest : Trees) → size rest ≤ 8388607
+      → body_faults it place at rest ≡ []
+      → item_names v d.roles (stream_kind it) (tail_of rest) ≡ []
+      → AreGood (item_streams v (stream_kind it) rest)
   item_good item.Stream place at rest h e f =
       let is = keyed_from keyed.Stream place rest e in
       one_good (stream_of v keyed.Stream (head_of rest) (tail_of rest)) is.name (stream_fit d v over known (tail_of rest) (omega (arith, tail_small rest, h)) (head_of rest) is.place is.formed (keys_clean keyed.Stream (tail_of rest) f))
@@ -117,12 +127,17 @@ module _ (d : Domain) (v : Vocabulary) (over : IsFitDomain d) (known : AreKnown 
       (cost_fit d v over known (tail_of rest) (omega (arith, tail_small rest, h)) (head_of rest) is.place (value_key rest is.name (has_value (has_word (codes ":value") rest) place parts.0)) is.formed (keys_clean keyed.CostStream (tail_of rest) f))
   item_good it place at rest h e f = none_good
 
-  list_good : (place : ℕ) (items : Trees) → size items ≤ 8388607 → item_faults text.Streams place items ≡ [] → item_names v d.roles (kind_of items) (tail_of (tail_of items)) ≡ [] → AreGood (item_streams v (kind_of items) (tail_of items))
+  list_good : (place : ℕ) (items : Trees) → size items ≤ 8388607
+      → item_faults text.Streams place items ≡ []
+      → item_names v d.roles (kind_of items) (tail_of (tail_of items)) ≡ []
+      → AreGood (item_streams v (kind_of items) (tail_of items))
   list_good place nothing h e f = absurd (some_fault (shape place) [] e)
   list_good place (list items at rest) h e f = absurd (some_fault (shape at) [] e)
-  list_good place (word w at rest) h e f = item_good (item_of text.Streams w) place at rest (omega arith) e f
+  list_good place (word w at rest) h e f =
+      item_good (item_of text.Streams w) place at rest (omega arith) e f
 
-  all_good : (body : Trees) → size body ≤ 8388607 → items_faults text.Streams body ≡ [] → items_names v d.roles body ≡ [] → AreGood (streams_of v body)
+  all_good : (body : Trees) → size body ≤ 8388607 → items_faults text.Streams body ≡ []
+      → items_names v d.roles body ≡ [] → AreGood (streams_of v body)
   all_good nothing h e f = none_good
   all_good (word w at rest) h e f = absurd (some_fault (shape at) [] e)
   all_good (list items at rest) h e f =
@@ -132,12 +147,15 @@ module _ (d : Domain) (v : Vocabulary) (over : IsFitDomain d) (known : AreKnown 
 
 -- ---- all
 
-formed_items : (t : Trees) → form_faults text.Streams t ≡ [] → items_faults text.Streams (body_of t) ≡ []
+formed_items : (t : Trees) → form_faults text.Streams t ≡ []
+    → items_faults text.Streams (body_of t) ≡ []
 formed_items nothing e = refl
 formed_items (word w at rest) e = absurd (some_fault (shape at) [] e)
 formed_items (list items at rest) e = (titled text.Streams items at rest e).items
 
-spelled_fit : (d : Domain) (t : Trees) (problem : Problem) → IsFitDomain d → IsBounded t → AreRead d t (spelled d t) → AreFitStreams (record { domain = d; problem = problem; streams = spelled d t })
+spelled_fit : (d : Domain) (t : Trees) (problem : Problem) → IsFitDomain d → IsBounded t
+    → AreRead d t (spelled d t)
+    → AreFitStreams (record { domain = d; problem = problem; streams = spelled d t })
 spelled_fit d t problem over bounded read =
     let v : Vocabulary = vocabulary_of d in
     let parts = none_both (items_names v d.roles (body_of t)) (second_streams [] (body_of t)) read.named.named in
@@ -150,12 +168,15 @@ spelled_fit d t problem over bounded read =
     }
 
 -- over a fit domain
-pub read_streams_fit : (d : Domain) (t : Trees) (streams : List stream.Stream) → IsFitDomain d → IsBounded t → AreRead d t streams → AreFitOver d streams
+pub read_streams_fit : (d : Domain) (t : Trees) (streams : List stream.Stream) → IsFitDomain d
+    → IsBounded t → AreRead d t streams → AreFitOver d streams
 read_streams_fit d t streams over bounded read problem =
     let same : streams ≡ spelled d t = read.named.streams in
     subst (λ ss. AreFitStreams (record { domain = d; problem = problem; streams = ss })) (sym same) (spelled_fit d t problem over bounded (record { formed = read.formed; named = record { named = read.named.named; acyclic = read.named.acyclic; streams = refl } }))
 
 -- where they were read
-pub fit_if_read : (d : Domain) (t : Trees) (result : Result (List stream.Stream) InputFault) → StreamsRead d t result → IfOk result (λ streams. IsFitDomain d → IsBounded t → AreFitOver d streams)
+pub fit_if_read : (d : Domain) (t : Trees) (result : Result (List stream.Stream) InputFault)
+    → StreamsRead d t result
+    → IfOk result (λ streams. IsFitDomain d → IsBounded t → AreFitOver d streams)
 fit_if_read d t (Ok streams) read = λ over bounded. read_streams_fit d t streams over bounded read
 fit_if_read d t (Err fault) read = tt

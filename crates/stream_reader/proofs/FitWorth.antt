@@ -31,12 +31,16 @@ use Rattle.stream_reader.proofs.TablesDomainLemmas.{AreKnown, listed, signature_
 
 -- ---- the total cost alone is refused
 
-not_alone : (b : Bool) (place : ℕ) (ts : Trees) → cond b (unsupported place ∷ []) (application_faults Name Term place ts) ≡ [] → (b ≡ false) × (application_faults Name Term place ts ≡ [])
+not_alone : (b : Bool) (place : ℕ) (ts : Trees)
+    → cond b (unsupported place ∷ []) (application_faults Name Term place ts) ≡ []
+    → (b ≡ false) × (application_faults Name Term place ts ≡ [])
 not_alone true place ts e = absurd (some_fault (unsupported place) [] e)
 not_alone false place ts e = (refl, e)
 
-alone : (w : List ℕ) (at : ℕ) (rest : Trees) → w ≡ codes "total-cost" → width rest ≡ 0 → is_total_cost_alone (word w at rest) ≡ true
-alone w at nothing same none = and_from (is_total_cost w) true ((bytes_eq-Decides w (codes "total-cost")).1 same) refl
+alone : (w : List ℕ) (at : ℕ) (rest : Trees) → w ≡ codes "total-cost" → width rest ≡ 0
+    → is_total_cost_alone (word w at rest) ≡ true
+alone w at nothing same none =
+    and_from (is_total_cost w) true ((bytes_eq-Decides w (codes "total-cost")).1 same) refl
 alone w at (word x at' rest) same none = absurd (omega arith)
 alone w at (list items at' rest) same none = absurd (omega arith)
 
@@ -58,21 +62,25 @@ module _ (gs : List Signature) where
     pub place : declared_place pushed w ≡ declared_place first_ones w
     pub arity : arity_of first_ones w ≡ Some count
 
-  front : (w : List ℕ) (count : ℕ) → has_name w (signature_names gs) ≡ true → IsUsable pushed w count → IsFront w count
+  front : (w : List ℕ) (count : ℕ) → has_name w (signature_names gs) ≡ true
+      → IsUsable pushed w count → IsFront w count
   front w count there used =
       let same : declared_place pushed w ≡ declared_place first_ones w = ap (λ o. unwrap_or o 0) (place_push w (codes "total-cost") (signature_names gs) there) in
       let inside = slice_get_within (signature_names gs) (declared_place first_ones w) w (place_holds w (signature_names gs) there) in
       let at : slice_get (signature_arities gs ++ 0 ∷ []) (declared_place first_ones w) ≡ Some count = ap (slice_get (signature_arities gs ++ 0 ∷ [])) (sym same) ∙ used.arity in
       record {
         place = same;
-        arity = ap (arity_at first_ones) (place_some w (signature_names gs) there) ∙ elim (push_cases (signature_arities gs) 0 (declared_place first_ones w) count at) [
-          | inl h ↦ h
-          | inr h ↦ absurd (omega (arith, h.0, inside, even gs))
-        ];
+        arity =
+            ap (arity_at first_ones) (place_some w (signature_names gs) there)
+            ∙ elim (push_cases (signature_arities gs) 0 (declared_place first_ones w) count at) [
+              | inl h ↦ h
+              | inr h ↦ absurd (omega (arith, h.0, inside, even gs))
+            ];
       }
 
   -- no other name is used but the total cost, alone
-  behind : (w : List ℕ) (count : ℕ) → has_name w (signature_names gs) ≡ false → IsUsable pushed w count → (w ≡ codes "total-cost") × (count ≡ 0)
+  behind : (w : List ℕ) (count : ℕ) → has_name w (signature_names gs) ≡ false
+      → IsUsable pushed w count → (w ≡ codes "total-cost") × (count ≡ 0)
   behind w count absent used =
       elim (push_cases (signature_names gs) (codes "total-cost") (declared_place pushed w) w (place_holds w (signature_names gs ++ codes "total-cost" ∷ []) used.there)) [
         | inl h ↦ absurd (let there : has_name w (signature_names gs) ≡ true = any_passes_from_place (bytes_eq w) (signature_names gs) (declared_place pushed w) w h ((bytes_eq-Decides w w).1 refl) in cc)
@@ -86,7 +94,8 @@ module _ (gs : List Signature) where
             | inr h ↦ h.1
           ]
 
-  used_front : (w : List ℕ) (at : ℕ) (rest : Trees) → is_total_cost_alone (word w at rest) ≡ false → IsUsable pushed w (width rest) → IsFront w (width rest)
+  used_front : (w : List ℕ) (at : ℕ) (rest : Trees) → is_total_cost_alone (word w at rest) ≡ false
+      → IsUsable pushed w (width rest) → IsFront w (width rest)
   used_front w at rest other used =
       elim (cases_Bool (has_name w (signature_names gs))) [
         | inl there ↦ front w (width rest) there used
@@ -108,15 +117,22 @@ module _ (d : Domain) (v : Vocabulary) (known : AreKnown d v) (scope : List (Lis
   itself = record { names = refl; arities = refl }
 
   -- a term of the domain's own functions
-  own_fit : (place : ℕ) (ts : Trees) → application_faults Name Term place ts ≡ [] → application_names own v.objects scope place ts ≡ [] → is_fit_application d.functions (length d.constants) filled (declared_place own (head_of ts)) (terms_of v.objects scope (tail_of ts)) ≡ true
+  own_fit : (place : ℕ) (ts : Trees) → application_faults Name Term place ts ≡ []
+      → application_names own v.objects scope place ts ≡ []
+      → is_fit_application d.functions (length d.constants) filled (declared_place own (head_of ts)) (terms_of v.objects scope (tail_of ts)) ≡ true
   own_fit place ts e f =
       (λ i. is_fit_application (vocabularies.listed d.functions own itself i) (known.objects i) filled (declared_place own (head_of ts)) (terms_of v.objects scope (tail_of ts)))
       ∙ application_fits own v.objects scope filled slots Name Term place ts e f
 
   abbrev IsFit : Signed → Trees → Type 0
-  IsFit s ts = is_fit_application d.functions (length d.constants) filled (declared_place s (head_of ts)) (terms_of v.objects scope (tail_of ts)) ≡ true
+  IsFit s ts =
+      is_fit_application d.functions (length d.constants) filled (declared_place s (head_of ts)) (terms_of v.objects scope (tail_of ts))
+      ≡ true
 
-  pushed_fit : (place : ℕ) (ts : Trees) → is_total_cost_alone ts ≡ false → application_faults Name Term place ts ≡ [] → application_names (pushed d.functions) v.objects scope place ts ≡ [] → IsFit (pushed d.functions) ts
+  pushed_fit : (place : ℕ) (ts : Trees) → is_total_cost_alone ts ≡ false
+      → application_faults Name Term place ts ≡ []
+      → application_names (pushed d.functions) v.objects scope place ts ≡ []
+      → IsFit (pushed d.functions) ts
   pushed_fit place nothing other e f = absurd (some_fault (shape place) [] e)
   pushed_fit place (list items at rest) other e f = absurd (some_fault (shape at) [] e)
   pushed_fit place (word w at rest) other e f =
@@ -125,12 +141,16 @@ module _ (d : Domain) (v : Vocabulary) (known : AreKnown d v) (scope : List (Lis
       let clean : application_names own v.objects scope place (word w at rest) ≡ [] = (λ i. use_names (is.arity i) (width rest) at place ++ terms_names v.objects scope rest) ∙ (λ i. arity_fits (width rest) place i ++ parts.1 i) in
       ap (λ n. is_fit_application d.functions (length d.constants) filled n (terms_of v.objects scope rest)) is.place ∙ own_fit place (word w at rest) e clean
 
-  fit_by : (b : Bool) (place : ℕ) (ts : Trees) → is_total_cost_alone ts ≡ false → application_faults Name Term place ts ≡ [] → application_names (cond b own (pushed d.functions)) v.objects scope place ts ≡ [] → IsFit (cond b own (pushed d.functions)) ts
+  fit_by : (b : Bool) (place : ℕ) (ts : Trees) → is_total_cost_alone ts ≡ false
+      → application_faults Name Term place ts ≡ []
+      → application_names (cond b own (pushed d.functions)) v.objects scope place ts ≡ []
+      → IsFit (cond b own (pushed d.functions)) ts
   fit_by true place ts other e f = own_fit place ts e f
   fit_by false place ts other e f = pushed_fit place ts other e f
 
   -- a term without faults, other than the total cost alone
-  pub worth_fit : (place : ℕ) (ts : Trees) → worth_faults place ts ≡ [] → application_names v.functions v.objects scope place ts ≡ [] → IsFit v.functions ts
+  pub worth_fit : (place : ℕ) (ts : Trees) → worth_faults place ts ≡ []
+      → application_names v.functions v.objects scope place ts ≡ [] → IsFit v.functions ts
   worth_fit place ts e f =
       let form = not_alone (is_total_cost_alone ts) place ts e in
       subst (λ s. IsFit s ts) (sym known.functions)

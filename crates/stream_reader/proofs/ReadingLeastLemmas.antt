@@ -19,7 +19,8 @@ use Rattle.name_tables.specs.Texts.{body_of}
 -- over the names of the domain and the items of the text
 module _ (d : Domain) (t b : Trees) (v : Vocabulary) (eb : b ≡ body_of t) (ev : v ≡ vocabulary_of d) where
   same_names : plain_names v d.roles b ≡ stream_file_names d t
-  same_names = ap (λ w. plain_names w d.roles b) ev ∙ ap (λ c. plain_names (vocabulary_of d) d.roles c) eb
+  same_names =
+      ap (λ w. plain_names w d.roles b) ev ∙ ap (λ c. plain_names (vocabulary_of d) d.roles c) eb
 
   same_streams : streams_of v b ≡ spelled d t
   same_streams = ap (λ w. streams_of w b) ev ∙ ap (λ c. streams_of (vocabulary_of d) c) eb
@@ -31,13 +32,16 @@ module _ (d : Domain) (t b : Trees) (v : Vocabulary) (eb : b ≡ body_of t) (ev 
   no_names e = none_is_none (stream_file_names d t) (sym (e ∙ ap least_fault same_names))
 
   module _ (ss : List stream.Stream) (es : ss ≡ streams_of v b) where
-    over_text : (fs : List Fault) → CycleFaults StreamCycle (edges_of d ss) (candidates_of 0 b) fs → AreCycleFaults d t fs
+    over_text : (fs : List Fault) → CycleFaults StreamCycle (edges_of d ss) (candidates_of 0 b) fs
+        → AreCycleFaults d t fs
     over_text fs w = subst (λ c. CycleFaults StreamCycle (edges_of d (spelled d t)) (candidates_of 0 c) fs) eb (subst (λ xs. CycleFaults StreamCycle (edges_of d xs) (candidates_of 0 b) fs) (es ∙ same_streams) w)
 
-    pub cycle_fault : (f : Fault) → None ≡ least_fault (plain_names v d.roles b) → AnswersAcyclic d ss b (Some f) → IsNameFault d t f
+    pub cycle_fault : (f : Fault) → None ≡ least_fault (plain_names v d.roles b)
+        → AnswersAcyclic d ss b (Some f) → IsNameFault d t f
     cycle_fault f e a = of_cycles (no_names e) (over_text a.faults a.right) (sym a.least)
 
-    pub all_named : None ≡ least_fault (plain_names v d.roles b) → AnswersAcyclic d ss b None → AreNamed d t ss
+    pub all_named : None ≡ least_fault (plain_names v d.roles b) → AnswersAcyclic d ss b None
+        → AreNamed d t ss
     all_named e a = record {
       named = no_names e;
       acyclic = subst (AreCycleFaults d t) (none_is_none a.faults (sym a.least)) (over_text a.faults a.right);

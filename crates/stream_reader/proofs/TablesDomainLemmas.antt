@@ -18,16 +18,23 @@ use Rattle.stream_reader.specs.Tables.{constants_from, no_signatures, signatures
 abbrev sort_names : List sort.Sort → List (List ℕ)
 sort_names ss = map (λ (s : sort.Sort). s.name) ss
 
-sorts_all : (names : List (List ℕ)) (ss : List sort.Sort) → AreFresh names (sort_names ss) → sorts_from names ss ≡ names ++ sort_names ss
+sorts_all : (names : List (List ℕ)) (ss : List sort.Sort) → AreFresh names (sort_names ss)
+    → sorts_from names ss ≡ names ++ sort_names ss
 sorts_all names [] f = sym (append-nil names)
-sorts_all names (s ∷ ss) f = ap (λ ns. sorts_from ns ss) (name_new names s.name f.0) ∙ sorts_all (names ++ s.name ∷ []) ss f.1 ∙ append_assoc names (s.name ∷ []) (sort_names ss)
+sorts_all names (s ∷ ss) f =
+    ap (λ ns. sorts_from ns ss) (name_new names s.name f.0)
+    ∙ sorts_all (names ++ s.name ∷ []) ss f.1 ∙ append_assoc names (s.name ∷ []) (sort_names ss)
 
 abbrev constant_names : List declared.Declared → List (List ℕ)
 constant_names cs = map (λ (c : declared.Declared). c.name) cs
 
-constants_all : (names : List (List ℕ)) (cs : List declared.Declared) → AreFresh names (constant_names cs) → constants_from names cs ≡ names ++ constant_names cs
+constants_all : (names : List (List ℕ)) (cs : List declared.Declared)
+    → AreFresh names (constant_names cs) → constants_from names cs ≡ names ++ constant_names cs
 constants_all names [] f = sym (append-nil names)
-constants_all names (c ∷ cs) f = ap (λ ns. constants_from ns cs) (name_new names c.name f.0) ∙ constants_all (names ++ c.name ∷ []) cs f.1 ∙ append_assoc names (c.name ∷ []) (constant_names cs)
+constants_all names (c ∷ cs) f =
+    ap (λ ns. constants_from ns cs) (name_new names c.name f.0)
+    ∙ constants_all (names ++ c.name ∷ []) cs f.1
+    ∙ append_assoc names (c.name ∷ []) (constant_names cs)
 
 -- ---- predicates and functions
 
@@ -37,8 +44,10 @@ signature_names gs = map (λ (g : Signature). g.name) gs
 abbrev pub signature_arities : List Signature → List ℕ
 signature_arities gs = map (λ (g : Signature). g.arity) gs
 
-signatures_all : (s : Signed) (gs : List Signature) → AreFresh s.names (signature_names gs) → signatures_from s gs ≡ record { names = s.names ++ signature_names gs; arities = s.arities ++ signature_arities gs }
-signatures_all s [] f = λ i. record { names = sym (append-nil s.names) i; arities = sym (append-nil s.arities) i }
+signatures_all : (s : Signed) (gs : List Signature) → AreFresh s.names (signature_names gs)
+    → signatures_from s gs ≡ record { names = s.names ++ signature_names gs; arities = s.arities ++ signature_arities gs }
+signatures_all s [] f =
+    λ i. record { names = sym (append-nil s.names) i; arities = sym (append-nil s.arities) i }
 signatures_all s (g ∷ gs) f =
     ap (λ r. signatures_from r gs) (signature_new s g.name g.arity f.0) ∙ signatures_all (record { names = s.names ++ g.name ∷ []; arities = s.arities ++ g.arity ∷ [] }) gs f.1
     ∙ (λ i. record { names = append_assoc s.names (g.name ∷ []) (signature_names gs) i; arities = append_assoc s.arities (g.arity ∷ []) (signature_arities gs) i })
@@ -47,7 +56,8 @@ abbrev pub listed : List Signature → Signed
 listed gs = record { names = signature_names gs; arities = signature_arities gs }
 
 is_listed : (gs : List Signature) (s : Signed) → s ≡ listed gs → AreSigned gs s
-is_listed gs s e = record { names = ap (λ (r : Signed). r.names) e; arities = ap (λ (r : Signed). r.arities) e }
+is_listed gs s e =
+    record { names = ap (λ (r : Signed). r.names) e; arities = ap (λ (r : Signed). r.arities) e }
 
 -- ---- all
 

@@ -7,4 +7,6 @@ use Rattle.task_model.specs.declared.task.Problem.{Problem}
 
 -- The streams are fit for tasks of this domain, whatever their problem is.
 abbrev pub AreFitOver : Domain → List Stream → Type 0
-AreFitOver d streams = (problem : Problem) → AreFitStreams (record { domain = d; problem = problem; streams = streams })
+AreFitOver d streams =
+    (problem : Problem)
+    → AreFitStreams (record { domain = d; problem = problem; streams = streams })

@@ -39,7 +39,8 @@ value_names v roles scopes key.Inputs place items = variables_names v items
 value_names v roles scopes key.Outputs place items = variables_names v items
 value_names v roles scopes key.Domain place items = atoms_names v roles scopes.inputs place items
 value_names v roles scopes key.Certified place items = atoms_names v roles scopes.all place items
-value_names v roles scopes key.Value place items = application_names v.functions v.objects scopes.inputs place items
+value_names v roles scopes key.Value place items =
+    application_names v.functions v.objects scopes.inputs place items
 value_names v roles scopes key.Parameters place items = []
 value_names v roles scopes key.Precondition place items = []
 value_names v roles scopes key.Effect place items = []
@@ -49,8 +50,10 @@ value_names v roles scopes key.NoKey place items = []
 -- keys and their values; the key before a value is the word before it
 abbrev pub keys_names : Vocabulary → List Role → Scopes → Keyed → Key → Trees → List Fault
 keys_names v roles scopes keyed k nothing = []
-keys_names v roles scopes keyed k (word text at rest) = keys_names v roles scopes keyed (key_of keyed text) rest
-keys_names v roles scopes keyed k (list items at rest) = value_names v roles scopes k at items ++ keys_names v roles scopes keyed k rest
+keys_names v roles scopes keyed k (word text at rest) =
+    keys_names v roles scopes keyed (key_of keyed text) rest
+keys_names v roles scopes keyed k (list items at rest) =
+    value_names v roles scopes k at items ++ keys_names v roles scopes keyed k rest
 
 -- the key of inputs or of outputs
 abbrev pub has_variables : Key → Bool
@@ -61,7 +64,8 @@ has_variables _ = false
 -- no variable stands twice among inputs and outputs, where these were seen before
 abbrev pub second_variables : Keyed → List (List ℕ) → Key → Trees → List Fault
 second_variables keyed seen k nothing = []
-second_variables keyed seen k (word text at rest) = second_variables keyed seen (key_of keyed text) rest
+second_variables keyed seen k (word text at rest) =
+    second_variables keyed seen (key_of keyed text) rest
 second_variables keyed seen k (list items at rest) =
     (if has_variables k then doubles_names seen Start items else []) ++ second_variables keyed (if has_variables k then seen_after seen Start items else seen) k rest
 
@@ -69,7 +73,9 @@ second_variables keyed seen k (list items at rest) =
 
 -- the keys of a stream
 abbrev pub stream_names : Vocabulary → List Role → Keyed → Trees → List Fault
-stream_names v roles keyed keys = repeated_names [] keys ++ second_variables keyed [] key.NoKey keys ++ keys_names v roles (scopes_of keys) keyed key.NoKey keys
+stream_names v roles keyed keys =
+    repeated_names [] keys ++ second_variables keyed [] key.NoKey keys
+    ++ keys_names v roles (scopes_of keys) keyed key.NoKey keys
 
 -- a list of a stream file, if it is a stream
 abbrev pub item_names : Vocabulary → List Role → Option Keyed → Trees → List Fault
@@ -79,13 +85,16 @@ item_names v roles (Some keyed) keys = stream_names v roles keyed keys
 abbrev pub items_names : Vocabulary → List Role → Trees → List Fault
 items_names v roles nothing = []
 items_names v roles (word text at rest) = items_names v roles rest
-items_names v roles (list items at rest) = item_names v roles (kind_of items) (keys_of items) ++ items_names v roles rest
+items_names v roles (list items at rest) =
+    item_names v roles (kind_of items) (keys_of items) ++ items_names v roles rest
 
 -- no two streams have one name, where these were seen before; streams and cost streams share their names
 abbrev pub second_streams : List (List ℕ) → Trees → List Fault
 second_streams seen nothing = []
 second_streams seen (word text at rest) = second_streams seen rest
-second_streams seen (list items at rest) = unless (not (has_name (head_of (tail_of items)) seen)) Duplicate at ++ second_streams (with_name seen (head_of (tail_of items))) rest
+second_streams seen (list items at rest) =
+    unless (not (has_name (head_of (tail_of items)) seen)) Duplicate at
+    ++ second_streams (with_name seen (head_of (tail_of items))) rest
 
 -- all name faults but for those of streams that lead to themselves
 abbrev pub plain_names : Vocabulary → List Role → Trees → List Fault

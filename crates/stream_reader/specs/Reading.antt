@@ -29,12 +29,14 @@ spelled d t = streams_of (vocabulary_of d) (body_of t)
 
 -- these are all faults of streams that lead to themselves
 abbrev pub AreCycleFaults : Domain → Trees → List Fault → Type 0
-AreCycleFaults d t faults = CycleFaults StreamCycle (edges_of d (spelled d t)) (candidates_of 0 (body_of t)) faults
+AreCycleFaults d t faults =
+    CycleFaults StreamCycle (edges_of d (spelled d t)) (candidates_of 0 (body_of t)) faults
 
 -- The name fault is answered: the least but for cycles, and where there is none of them, the least of cycles.
 pub data IsNameFault (d : Domain) (t : Trees) (f : Fault) : Type 0 where
   of_names : least_fault (stream_file_names d t) ≡ Some f → IsNameFault d t f
-  of_cycles : {faults : List Fault} → stream_file_names d t ≡ [] → AreCycleFaults d t faults → least_fault faults ≡ Some f → IsNameFault d t f
+  of_cycles : {faults : List Fault} → stream_file_names d t ≡ [] → AreCycleFaults d t faults
+      → least_fault faults ≡ Some f → IsNameFault d t f
 
 -- there is no name fault, and these are the streams
 pub record AreNamed (d : Domain) (t : Trees) (ss : List stream.Stream) : Type 0 where
@@ -60,9 +62,11 @@ pub record AreRead (d : Domain) (t : Trees) (ss : List stream.Stream) : Type 0 w
 -- Streams are read where there is no fault, and a fault is the answered one. Memory is free.
 abbrev pub StreamsRead : Domain → Trees → Result (List stream.Stream) InputFault → Type 0
 StreamsRead d t (Ok ss) = AreRead d t ss
-StreamsRead d t (Err (input.At place kind)) = AreStreamsAnswered d t (record { place = place; kind = kind })
+StreamsRead d t (Err (input.At place kind)) =
+    AreStreamsAnswered d t (record { place = place; kind = kind })
 StreamsRead d t (Err input.Memory) = Unit {0}
 
 -- the answered one of the faults of cycles, where these are the streams
 abbrev pub AnswersAcyclic : Domain → List stream.Stream → Trees → Option Fault → Type 0
-AnswersAcyclic d ss body answered = AnswersCycles StreamCycle (edges_of d ss) (candidates_of 0 body) None answered
+AnswersAcyclic d ss body answered =
+    AnswersCycles StreamCycle (edges_of d ss) (candidates_of 0 body) None answered

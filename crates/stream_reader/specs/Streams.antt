@@ -41,4 +41,5 @@ item_streams v (Some keyed) items = stream_of v keyed (head_of items) (tail_of i
 abbrev pub streams_of : Vocabulary → Trees → List stream.Stream
 streams_of v nothing = []
 streams_of v (word text at rest) = streams_of v rest
-streams_of v (list items at rest) = item_streams v (kind_of items) (tail_of items) ++ streams_of v rest
+streams_of v (list items at rest) =
+    item_streams v (kind_of items) (tail_of items) ++ streams_of v rest

@@ -67,5 +67,7 @@ abbrev pub scopes_of : Trees → Scopes
 scopes_of keys =
     record {
       inputs = named_words Start (value_at (codes ":inputs") keys);
-      all = named_words Start (value_at (codes ":inputs") keys) ++ named_words Start (value_at (codes ":outputs") keys);
+      all =
+          named_words Start (value_at (codes ":inputs") keys)
+          ++ named_words Start (value_at (codes ":outputs") keys);
     }

@@ -41,7 +41,8 @@ fn check_atom(
     items: &[Tree],
     so_far: Option<Fault>,
 ) -> Result<Option<Fault>, AllocError>
-    ensures { IfOk result (λ f. f ≡ first so_far (specs.atom_names names.now roles.now scope.now place (trees items.now))) }
+    ensures { IfOk result (λ f. f ≡ first so_far
+        (specs.atom_names names.now roles.now scope.now place (trees items.now))) }
 {
     let found = check_application(
         &names.predicates,
@@ -65,7 +66,8 @@ pub(crate) fn check_atoms(
     items: &[Tree],
     so_far: Option<Fault>,
 ) -> Result<Option<Fault>, AllocError>
-    ensures { IfOk result (λ f. f ≡ first so_far (specs.atoms_names names.now roles.now scope.now place (trees items.now))) }
+    ensures { IfOk result (λ f. f ≡ first so_far
+        (specs.atoms_names names.now roles.now scope.now place (trees items.now))) }
 {
     match front_of(items) {
         Front::End | Front::List { .. } => Ok(so_far),
@@ -88,7 +90,8 @@ fn check_atom_rows(
     items: &[Tree],
     so_far: Option<Fault>,
 ) -> Result<Option<Fault>, AllocError>
-    ensures { IfOk result (λ f. f ≡ first so_far (specs.atom_rows_names names.now roles.now scope.now (trees items.now))) }
+    ensures { IfOk result (λ f. f ≡ first so_far
+        (specs.atom_rows_names names.now roles.now scope.now (trees items.now))) }
 {
     let mut left = items;
     let mut found = so_far;
@@ -113,7 +116,8 @@ fn add_patterns(
     list: &mut Vec<Pattern>,
     items: &[Tree],
 ) -> Result<(), AllocError>
-    ensures { OnOk result (list.new.items ≡ list.old.items ++ specs.patterns_of names.now scope.now (trees items.now)) }
+    ensures { OnOk result (list.new.items ≡ list.old.items
+        ++ specs.patterns_of names.now scope.now (trees items.now)) }
 {
     match front_of(items) {
         Front::End | Front::List { .. } => Ok(()),
@@ -137,7 +141,8 @@ fn add_row_patterns(
     list: &mut Vec<Pattern>,
     items: &[Tree],
 ) -> Result<(), AllocError>
-    ensures { OnOk result (list.new.items ≡ list.old.items ++ specs.row_patterns names.now scope.now (trees items.now)) }
+    ensures { OnOk result (list.new.items ≡ list.old.items
+        ++ specs.row_patterns names.now scope.now (trees items.now)) }
 {
     let mut left = items;
     'parts: loop {
@@ -159,7 +164,8 @@ pub(crate) fn patterns_of(
     scope: &Scope,
     items: &[Tree],
 ) -> Result<Vec<Pattern>, AllocError>
-    ensures { IfOk result (λ list. list.items ≡ specs.patterns_of names.now scope.now (trees items.now)) }
+    ensures { IfOk result (λ list. list.items
+        ≡ specs.patterns_of names.now scope.now (trees items.now)) }
 {
     let mut list = Vec::new(alloc);
     add_patterns(alloc, names, scope, &mut list, items)?;

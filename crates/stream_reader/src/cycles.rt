@@ -20,7 +20,8 @@ fn add_next(
     second: &Stream,
     place: usize,
 ) -> Result<(), AllocError>
-    ensures { OnOk result (numbers.new.items ≡ numbers.old.items ++ specs.next_one domain.now first.now second.now place) }
+    ensures { OnOk result (numbers.new.items ≡ numbers.old.items
+        ++ specs.next_one domain.now first.now second.now place) }
 {
     if stream_leads(domain, first, second) {
         numbers.push(number(place)?)?;

@@ -49,7 +49,8 @@ fn check_variables(
     items: &[Tree],
     so_far: Option<Fault>,
 ) -> Result<Option<Fault>, AllocError>
-    ensures { IfOk result (λ f. f ≡ first so_far (specs.variables_names names.now (trees items.now))) }
+    ensures { IfOk result (λ f. f ≡ first so_far
+        (specs.variables_names names.now (trees items.now))) }
 {
     let typed = check_types(&names.sorts, items, so_far);
     check_ninth(items, typed)
@@ -65,7 +66,8 @@ fn check_value(
     items: &[Tree],
     so_far: Option<Fault>,
 ) -> Result<Option<Fault>, AllocError>
-    ensures { IfOk result (λ f. f ≡ first so_far (specs.value_names names.now roles.now scopes.now key place (trees items.now))) }
+    ensures { IfOk result (λ f. f ≡ first so_far
+        (specs.value_names names.now roles.now scopes.now key place (trees items.now))) }
 {
     match key {
         Key::Inputs | Key::Outputs => check_variables(names, items, so_far),
@@ -92,7 +94,8 @@ fn check_keys(
     items: &[Tree],
     so_far: Option<Fault>,
 ) -> Result<Option<Fault>, AllocError>
-    ensures { IfOk result (λ f. f ≡ first so_far (specs.keys_names names.now roles.now scopes.now keyed NoKey (trees items.now))) }
+    ensures { IfOk result (λ f. f ≡ first so_far
+        (specs.keys_names names.now roles.now scopes.now keyed NoKey (trees items.now))) }
 {
     let mut left = items;
     let mut found = so_far;
@@ -126,7 +129,8 @@ fn check_second_variables(
     items: &[Tree],
     so_far: Option<Fault>,
 ) -> Result<Option<Fault>, AllocError>
-    ensures { IfOk result (λ f. f ≡ first so_far (specs.second_variables keyed [] NoKey (trees items.now))) }
+    ensures { IfOk result (λ f. f ≡ first so_far
+        (specs.second_variables keyed [] NoKey (trees items.now))) }
 {
     let mut seen = NameTable::new(alloc);
     let mut left = items;
@@ -158,7 +162,8 @@ fn check_stream(
     keys: &[Tree],
     so_far: Option<Fault>,
 ) -> Result<Option<Fault>, AllocError>
-    ensures { IfOk result (λ f. f ≡ first so_far (specs.stream_names names.now roles.now keyed (trees keys.now))) }
+    ensures { IfOk result (λ f. f ≡ first so_far
+        (specs.stream_names names.now roles.now keyed (trees keys.now))) }
 {
     let mut seen = NameTable::new(alloc);
     let once = check_repeated(&mut seen, keys, so_far)?;
@@ -176,7 +181,8 @@ fn check_item(
     keys: &[Tree],
     so_far: Option<Fault>,
 ) -> Result<Option<Fault>, AllocError>
-    ensures { IfOk result (λ f. f ≡ first so_far (specs.item_names names.now roles.now kind (trees keys.now))) }
+    ensures { IfOk result (λ f. f ≡ first so_far
+        (specs.item_names names.now roles.now kind (trees keys.now))) }
 {
     match kind {
         None => Ok(so_far),
@@ -192,7 +198,8 @@ fn check_items(
     items: &[Tree],
     so_far: Option<Fault>,
 ) -> Result<Option<Fault>, AllocError>
-    ensures { IfOk result (λ f. f ≡ first so_far (specs.items_names names.now roles.now (trees items.now))) }
+    ensures { IfOk result (λ f. f ≡ first so_far
+        (specs.items_names names.now roles.now (trees items.now))) }
 {
     let mut left = items;
     let mut found = so_far;
@@ -240,7 +247,8 @@ pub(crate) fn check_plain(
     roles: &[Role],
     body: &[Tree],
 ) -> Result<Option<Fault>, AllocError>
-    ensures { IfOk result (λ f. f ≡ least_fault (specs.plain_names names.now roles.now (trees body.now))) }
+    ensures { IfOk result (λ f. f ≡ least_fault
+        (specs.plain_names names.now roles.now (trees body.now))) }
 {
     let used = check_items(alloc, names, roles, body, None)?;
     check_second_streams(alloc, body, used)

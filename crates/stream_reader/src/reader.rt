@@ -63,7 +63,8 @@ fn read(alloc: Global, domain: &Domain, text: &Tree) -> Result<Seq<Stream>, Inpu
 pub fn read_streams(alloc: Global, domain: &Domain, text: &Tree) -> Result<Seq<Stream>, InputFault>
     ensures reads { specs.StreamsRead domain.now (tree text.now) result }
     // Over a fit domain, the streams of a tree as texts of at most 4 MiB give it are fit.
-    ensures fit { IfOk result (λ streams. IsFitDomain domain.now → IsBounded (tree text.now) → AreFitOver domain.now streams) }
+    ensures fit { IfOk result (λ streams. IsFitDomain domain.now → IsBounded (tree text.now)
+        → AreFitOver domain.now streams) }
 {
     read(alloc, domain, text)
 }

@@ -19,7 +19,8 @@ fn worth_of(
     keyed: Keyed,
     items: &[Tree],
 ) -> Result<Option<Worth>, AllocError>
-    ensures { IfOk result (λ worth. worth ≡ specs.worth_of names.now inputs.now keyed (trees items.now)) }
+    ensures { IfOk result (λ worth. worth
+        ≡ specs.worth_of names.now inputs.now keyed (trees items.now)) }
 {
     match keyed {
         Keyed::Action | Keyed::Stream => Ok(None),
@@ -42,7 +43,8 @@ fn stream_of(
     name: &[u8],
     keys: &[Tree],
 ) -> Result<Stream, AllocError>
-    ensures { IfOk result (λ stream. stream ≡ specs.stream_of names.now keyed name.now (trees keys.now)) }
+    ensures { IfOk result (λ stream. stream
+        ≡ specs.stream_of names.now keyed name.now (trees keys.now)) }
 {
     let scopes = scopes_of(alloc, keys)?;
     let inputs = named_sorts(alloc, &names.sorts, value_at(b":inputs", keys))?;
@@ -74,7 +76,8 @@ fn add_item(
     kind: Option<Keyed>,
     items: &[Tree],
 ) -> Result<(), AllocError>
-    ensures { OnOk result (list.new.items ≡ list.old.items ++ specs.item_streams names.now kind (trees items.now)) }
+    ensures { OnOk result (list.new.items ≡ list.old.items
+        ++ specs.item_streams names.now kind (trees items.now)) }
 {
     match kind {
         None => Ok(()),

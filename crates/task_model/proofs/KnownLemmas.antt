@@ -45,12 +45,15 @@ fact_decided a b = (facts_same a b, λ e. subst (λ x. same_fact a x ≡ true) e
 pub facts_equivalence : IsEquivalence same_fact
 facts_equivalence = decided same_fact fact_decided
 
-pub fact_member : (facts : List Fact) (fact : Fact) → (is_fact facts fact ≡ true) ↔ Contains facts fact
-fact_member facts fact = (Contains-from_any facts_same fact facts, list_any-from_Contains facts_equivalence fact facts)
+pub fact_member : (facts : List Fact) (fact : Fact)
+    → (is_fact facts fact ≡ true) ↔ Contains facts fact
+fact_member facts fact =
+    (Contains-from_any facts_same fact facts, list_any-from_Contains facts_equivalence fact facts)
 
 -- ---- one fact more
 
-pub with_fact-is : (facts : List Fact) (fact : Fact) → AddsFacts facts (fact ∷ []) (with_fact facts fact)
+pub with_fact-is : (facts : List Fact) (fact : Fact)
+    → AddsFacts facts (fact ∷ []) (with_fact facts fact)
 with_fact-is facts fact =
     elim (is_fact facts fact) as (λ b. is_fact facts fact ≡ b → AddsFacts facts (fact ∷ []) (cond b facts (facts ++ fact ∷ []))) [
       | true ↦ λ there. record {
@@ -59,11 +62,13 @@ with_fact-is facts fact =
       }
       | false ↦ λ absent. record {
         members = λ q. (λ m. m, λ m. m);
-        distinct = λ d. distinct_push facts fact d (λ m. not_both _ ((fact_member facts fact).1 m) absent);
+        distinct =
+            λ d. distinct_push facts fact d (λ m. not_both _ ((fact_member facts fact).1 m) absent);
       }
     ] refl
   where
-    only : (facts : List Fact) (fact q : Fact) → is_fact facts fact ≡ true → Contains (fact ∷ []) q → Contains facts q
+    only : (facts : List Fact) (fact q : Fact) → is_fact facts fact ≡ true → Contains (fact ∷ []) q
+        → Contains facts q
     only facts fact q there m =
         let found : (same_fact q fact || false) ≡ true = list_any-from_Contains facts_equivalence q (fact ∷ []) m in
         let same : q ≡ fact = facts_same q fact (from_or_false (same_fact q fact) found) in
@@ -71,7 +76,8 @@ with_fact-is facts fact =
 
 -- ---- many facts more
 
-from_left : (xs ys more : List Fact) (q : Fact) → (Contains xs q → Contains ys q) → Contains (xs ++ more) q → Contains (ys ++ more) q
+from_left : (xs ys more : List Fact) (q : Fact) → (Contains xs q → Contains ys q)
+    → Contains (xs ++ more) q → Contains (ys ++ more) q
 from_left xs ys more q goes m =
     elim (Contains-append_cases xs more q m) [ inl h ↦ Contains-append_left ys more q (goes h) | inr h ↦ Contains-append_right ys more q h ]
 
@@ -92,7 +98,8 @@ with_facts-is facts (fact ∷ more) =
       distinct = λ d. rest.distinct (one.distinct d);
     }
 
-pub facts_then : (facts first second : List Fact) → with_facts facts (first ++ second) ≡ with_facts (with_facts facts first) second
+pub facts_then : (facts first second : List Fact)
+    → with_facts facts (first ++ second) ≡ with_facts (with_facts facts first) second
 facts_then facts [] second = refl
 facts_then facts (f ∷ first) second = facts_then (with_fact facts f) first second
 
@@ -124,4 +131,5 @@ object_itself sort object = ap (λ b. cond b (Some object) None) (eq-eqb sort so
 pub in_names : (names : List (List ℕ)) (object : ℕ) → object < length names → IsIn names object
 in_names [] object lt = absurd (omega arith)
 in_names (n ∷ ns) zero lt = refl
-in_names (n ∷ ns) (suc object) lt = let below : object < length ns = omega arith in in_names ns object below
+in_names (n ∷ ns) (suc object) lt =
+    let below : object < length ns = omega arith in in_names ns object below

@@ -44,19 +44,25 @@ marked : (x : Option (Unit {0})) → x ≡ mark (is_some x)
 marked None = refl
 marked (Some u) = refl
 
-pub contains-insert : (s : Atoms) (k q : Atom) → contains (insert s k) q ≡ (eq_by_cmp atom_cmp q k || contains s q)
+pub contains-insert : (s : Atoms) (k q : Atom)
+    → contains (insert s k) q ≡ (eq_by_cmp atom_cmp q k || contains s q)
 contains-insert s k q = ap is_some (finite.get-insert atoms_total s k tt q) ∙ or_else _ _
 
-pub contains-remove : (s : Atoms) (k q : Atom) → contains (remove s k) q ≡ (not (eq_by_cmp atom_cmp q k) && contains s q)
+pub contains-remove : (s : Atoms) (k q : Atom)
+    → contains (remove s k) q ≡ (not (eq_by_cmp atom_cmp q k) && contains s q)
 contains-remove s k q = ap is_some (finite.get-remove atoms_total s k q) ∙ unless _ _
 
-pub contains-from_list : (ks : List Atom) (q : Atom) → contains (from_list ks) q ≡ list_any (eq_by_cmp atom_cmp q) ks
+pub contains-from_list : (ks : List Atom) (q : Atom)
+    → contains (from_list ks) q ≡ list_any (eq_by_cmp atom_cmp q) ks
 contains-from_list [] q = contains-empty q
-contains-from_list (k ∷ ks) q = contains-insert (from_list ks) k q ∙ ap (λ b. eq_by_cmp atom_cmp q k || b) (contains-from_list ks q)
+contains-from_list (k ∷ ks) q =
+    contains-insert (from_list ks) k q
+    ∙ ap (λ b. eq_by_cmp atom_cmp q k || b) (contains-from_list ks q)
 
 -- two sets with the same members are equal
 pub same_atoms : (s t : Atoms) → ((q : Atom) → contains s q ≡ contains t q) → s ≡ t
-same_atoms s t same = finite.same_map atoms_total atoms_tied s t (λ q. marked _ ∙ ap mark (same q) ∙ sym (marked _))
+same_atoms s t same =
+    finite.same_map atoms_total atoms_tied s t (λ q. marked _ ∙ ap mark (same q) ∙ sym (marked _))
 
 pub turn : (k q : Atom) → eq_by_cmp atom_cmp k q ≡ eq_by_cmp atom_cmp q k
 turn k q = (eq_by_cmp_equiv atoms_total).symm k q
@@ -71,12 +77,14 @@ put_first : (k : Atom) (es : List Atom) → AllByRecursion (λ q. atom_cmp k q �
 put_first k [] below = refl
 put_first k (e ∷ es) below = rw below.0
 
-pub entries-from_list : (ks : List Atom) → IsStrictlySortedBy atom_cmp ks → finite.entries (from_list ks) ≡ map pair ks
+pub entries-from_list : (ks : List Atom) → IsStrictlySortedBy atom_cmp ks
+    → finite.entries (from_list ks) ≡ map pair ks
 unfolding IsStrictlySortedBy
 entries-from_list [] sorted = empty_entries
   where
     empty_entries : finite.entries empty ≡ []
-    empty_entries = nil_from_length _ (sym (finite.len-entries empty) ∙ finite.len-empty atom_cmp (Unit {0}))
+    empty_entries =
+        nil_from_length _ (sym (finite.len-entries empty) ∙ finite.len-empty atom_cmp (Unit {0}))
 entries-from_list (k ∷ ks) sorted =
     finite.entries-insert atoms_total (from_list ks) k tt ∙ ap (finite.put atom_cmp k tt) (entries-from_list ks sorted.1)
     ∙ put_first k ks sorted.0
@@ -92,8 +100,10 @@ pairs_length (k ∷ ks) = ap suc (pairs_length ks)
 pub items-from_list : (ks : List Atom) → IsStrictlySortedBy atom_cmp ks → items (from_list ks) ≡ ks
 items-from_list ks sorted = ap (map (λ e. e.0)) (entries-from_list ks sorted) ∙ firsts ks
 
-pub len-from_list : (ks : List Atom) → IsStrictlySortedBy atom_cmp ks → len (from_list ks) ≡ length ks
-len-from_list ks sorted = finite.len-entries (from_list ks) ∙ ap length (entries-from_list ks sorted) ∙ pairs_length ks
+pub len-from_list : (ks : List Atom) → IsStrictlySortedBy atom_cmp ks
+    → len (from_list ks) ≡ length ks
+len-from_list ks sorted =
+    finite.len-entries (from_list ks) ∙ ap length (entries-from_list ks sorted) ∙ pairs_length ks
 
 -- ---- one atom after another
 

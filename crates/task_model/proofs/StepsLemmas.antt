@@ -12,7 +12,8 @@ use Rattle.task_model.specs.declared.task.Task.{Task}
 module _ (task : Task) (known : Known) where
   pub parts_of_whole : (before after : Atoms) (first second : List GroundAction) (total : ℕ)
       → Executes task known before (first ++ second) after total → ExecutesInParts task known before first second after total
-  parts_of_whole before after [] second total whole = (before, 0, total, (refl, refl), whole, omega arith)
+  parts_of_whole before after [] second total whole =
+      (before, 0, total, (refl, refl), whole, omega arith)
   parts_of_whole before after (step ∷ first) second total whole =
       let parts = parts_of_whole whole.0 after first second whole.2 whole.4 in
       let sum : total ≡ whole.1 + parts.1 + parts.2 = omega (arith, whole.5, parts.5) in
@@ -30,7 +31,8 @@ module _ (task : Task) (known : Known) where
       let sum : total ≡ front.1 + (front.2 + parts.2) = omega (arith, parts.5, front.5) in
       (front.0, front.1, front.2 + parts.2, front.3, rest, sum)
 
-  pub step_determined : (before a b : Atoms) (step : GroundAction) (m n : ℕ) → IsStep task known before step a m
+  pub step_determined : (before a b : Atoms) (step : GroundAction) (m n : ℕ)
+      → IsStep task known before step a m
       → IsStep task known before step b n → (a ≡ b) × (m ≡ n)
   step_determined before a b step m n p q =
       let action : p.action ≡ q.action = same_Some _ _ (sym p.named ∙ q.named) in
@@ -38,7 +40,8 @@ module _ (task : Task) (known : Known) where
       let costs : m ≡ n = same_Some _ _ (sym p.costs ∙ ap (λ x. cost_of task known x step.args) action ∙ q.costs) in
       (states, costs)
 
-  pub execution_determined : (before : Atoms) (steps : List GroundAction) (a b : Atoms) (m n : ℕ) → Executes task known before steps a m
+  pub execution_determined : (before : Atoms) (steps : List GroundAction) (a b : Atoms) (m n : ℕ)
+      → Executes task known before steps a m
       → Executes task known before steps b n → (a ≡ b) × (m ≡ n)
   execution_determined before [] a b m n p q = (sym p.0 ∙ q.0, p.1 ∙ sym q.1)
   execution_determined before (step ∷ steps) a b m n p q =

@@ -13,10 +13,12 @@ use Rattle.task_model.proofs.KnownLemmas.{numbers_decided}
 
 -- ---- names of objects
 
-pub named_at : (names : List (List ℕ)) (o : ℕ) → IsIn names o → slice_get names o ≡ Some (name_at names o)
+pub named_at : (names : List (List ℕ)) (o : ℕ) → IsIn names o
+    → slice_get names o ≡ Some (name_at names o)
 named_at names o known = by (slice_get names o) refl known
   where
-    by : (s : Option (List ℕ)) → slice_get names o ≡ s → IsSome s → slice_get names o ≡ Some (name_at names o)
+    by : (s : Option (List ℕ)) → slice_get names o ≡ s → IsSome s
+        → slice_get names o ≡ Some (name_at names o)
     by None e none = absurd (cc)
     by (Some n) e some = e ∙ ap Some (sym (ap (λ (t : Option (List ℕ)). unwrap_or t []) e))
 
@@ -29,7 +31,8 @@ instances_same a b e =
     λ i. record { stream = eqb-true a.stream b.stream stream i; inputs = (numbers_decided a.inputs b.inputs).0 inputs i }
 
 pub instance_itself : (a : Instance) → same_instance a a ≡ true
-instance_itself a = and_from _ _ (eq-eqb a.stream a.stream refl) ((numbers_decided a.inputs a.inputs).1 refl)
+instance_itself a =
+    and_from _ _ (eq-eqb a.stream a.stream refl) ((numbers_decided a.inputs a.inputs).1 refl)
 
 pub instances_apart : (i other : Instance) → ¬ (i ≡ other) → same_instance i other ≡ false
 instances_apart i other apart = elim (same_instance i other) as (λ b. same_instance i other ≡ b → b ≡ false) [ true ↦ λ e. absurd (apart (instances_same i other e)) | false ↦ λ _. refl ] refl
@@ -40,7 +43,8 @@ pub instances_total : (names : List (List ℕ)) → IsTotalOrder (instance_cmp n
 instances_total names = then_total (on_total (λ (i : Instance). i.stream) nat_cmp_total) (on_total (λ (i : Instance). map (name_at names) i.inputs) (lists_total nat_list_cmp_total))
 
 -- all that is due is one list
-pub due_once : (task : Task) (known : Known) (notes : List Note) (xs ys : List Instance) → AreDue task known notes xs
+pub due_once : (task : Task) (known : Known) (notes : List Note) (xs ys : List Instance)
+    → AreDue task known notes xs
     → AreDue task known notes ys → xs ≡ ys
 due_once task known notes xs ys first second =
     same_list (instance_cmp known.names) (instances_total known.names) xs ys first.ascend second.ascend (λ i m. (second.each i).1 ((first.each i).0 m)) (λ i m. (first.each i).1 ((second.each i).0 m))
@@ -56,7 +60,8 @@ not_false true e = absurd (cc)
 not_false false e = refl
 
 module _ (task : Task) (known : Known) (notes : List Note) (i : Instance) where
-  due_at : (found : Option Stream) → slice_get task.streams i.stream ≡ found → is_due task known notes i ≡ true → IsDue task known notes i
+  due_at : (found : Option Stream) → slice_get task.streams i.stream ≡ found
+      → is_due task known notes i ≡ true → IsDue task known notes i
   due_at None is e = let r : false ≡ true = rw is at e in absurd (cc)
   due_at (Some s) is e =
       let r : is_due_at known notes s i ≡ true = rw is at e in
@@ -78,7 +83,8 @@ module _ (task : Task) (known : Known) (notes : List Note) (i : Instance) where
 
 module _ (task : Task) (known : Known) (notes : List Note) where
   -- where the list of all that are due is empty, nothing is due
-  pub nothing_due : (instances : List Instance) → AreDue task known notes instances → instances ≡ [] → NothingIsDue task known notes
+  pub nothing_due : (instances : List Instance) → AreDue task known notes instances → instances ≡ []
+      → NothingIsDue task known notes
   nothing_due instances due empty i d =
       let there : Contains [] i = subst (λ xs. Contains xs i) empty ((due.each i).1 d) in
       absurd (omega (arith, there.1))

@@ -4,7 +4,8 @@ use Rattle.std.specs.Cmp.{second_so}
 use Rattle.task_model.specs.Known.{Known}
 use Rattle.task_model.specs.Truth.{has_type, have_types}
 
-pub have_types-length : (known : Known) (objects sorts : List ℕ) → have_types known objects sorts ≡ true → length objects ≡ length sorts
+pub have_types-length : (known : Known) (objects sorts : List ℕ)
+    → have_types known objects sorts ≡ true → length objects ≡ length sorts
 have_types-length known [] [] e = refl
 have_types-length known [] (s ∷ ss) e = absurd (cc)
 have_types-length known (o ∷ os) [] e = absurd (cc)

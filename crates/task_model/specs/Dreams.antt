@@ -27,7 +27,8 @@ entry_facts task entry = at_stream task entry.instance.stream [] (λ stream. cer
 
 -- an entry of a cost stream gives its term the value 0
 abbrev pub entry_values : Task → Entry → List Valued
-entry_values task entry = at_stream task entry.instance.stream [] (λ stream. worth_by stream entry.instance.inputs 0)
+entry_values task entry =
+    at_stream task entry.instance.stream [] (λ stream. worth_by stream entry.instance.inputs 0)
 
 -- ---- placeholders
 
@@ -43,7 +44,8 @@ placeholders j i (suc n) = placeholder j i ∷ placeholders j (i + 1) n
 -- the names of the outputs of entries, the first of which is the j-th
 abbrev pub entry_names : ℕ → List Entry → List (List ℕ)
 entry_names j [] = []
-entry_names j (entry ∷ entries) = placeholders j 1 (length entry.outputs) ++ entry_names (j + 1) entries
+entry_names j (entry ∷ entries) =
+    placeholders j 1 (length entry.outputs) ++ entry_names (j + 1) entries
 
 -- The outputs are objects of their own: those after the table of names and the earlier entries' outputs.
 abbrev pub HasFreshOutputs : Task → Known → List Entry → Entry → Type 0
@@ -69,7 +71,8 @@ pub record IsPass (task : Task) (known : Known) (notes : List Note) (tried : Lis
   pub each : (i : Instance)
       → Contains (instances_of more) i ↔ (IsDue task (supposing task known old old) notes i × (list_any (same_instance i) tried ≡ false) × (list_any (same_instance i) (instances_of old) ≡ false))
   pub ascend : AreAscending (instance_cmp (supposing task known old old).names) (instances_of more)
-  pub fresh : (k : ℕ) (e : Entry) → slice_get more k ≡ Some e → HasFreshOutputs task known (old ++ take k more) e
+  pub fresh : (k : ℕ) (e : Entry) → slice_get more k ≡ Some e
+      → HasFreshOutputs task known (old ++ take k more) e
 
 -- the list after so many passes, from the empty list
 abbrev pub AreSupposed : Task → Known → List Note → List Instance → ℕ → List Entry → Type 0
@@ -86,7 +89,8 @@ module _ (task : Task) (known : Known) (list : List Entry) where
 
   -- each entry has support among those before it
   abbrev pub HaveSupport : List Entry → Type 0
-  HaveSupport entries = (k : ℕ) (e : Entry) → slice_get entries k ≡ Some e → is_supported (take k entries) e ≡ true
+  HaveSupport entries =
+      (k : ℕ) (e : Entry) → slice_get entries k ≡ Some e → is_supported (take k entries) e ≡ true
 
   -- the kept entries, and then those of the rest that still have support behind what is kept
   abbrev pub supported_after : List Entry → List Entry → List Entry

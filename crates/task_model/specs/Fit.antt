@@ -77,7 +77,8 @@ is_fit_application signatures objects filled place args =
     has_arity signatures place (length args) && list_all (is_fit_term objects filled) args
 
 abbrev pub is_fit_pattern : Domain → ℕ → List ℕ → Pattern → Bool
-is_fit_pattern domain objects filled p = is_fit_application domain.predicates objects filled p.pred p.args
+is_fit_pattern domain objects filled p =
+    is_fit_application domain.predicates objects filled p.pred p.args
 
 abbrev pub are_fit_patterns : Domain → ℕ → List ℕ → List Pattern → Bool
 are_fit_patterns domain objects filled patterns =
@@ -143,7 +144,8 @@ abbrev mutual
 
 -- an item that heads the first has the second in its body
 abbrev pub depends : Domain → ℕ → ℕ → Bool
-depends domain head pred = list_any (λ (d : rule.Derived). (d.pred == head) && mentions pred d.body) domain.derived
+depends domain head pred =
+    list_any (λ (d : rule.Derived). (d.pred == head) && mentions pred d.body) domain.derived
 
 abbrev pub is_derived_role : Role → Bool
 is_derived_role Derived = true
@@ -162,8 +164,10 @@ pub record AreFitSorts (all : List sorts.Sort) : Type 0 where
   pub first : slice_get all 0 ≡ Some (record { name = codes "object"; above = [] })
   pub short : is_short all ≡ true
   pub places : list_all (λ (s : sorts.Sort). are_places (length all) s.above) all ≡ true
-  pub proper : (k : ℕ) (s : sorts.Sort) → slice_get all k ≡ Some s → list_any (λ a. a == k) s.above ≡ false
-  pub closed : (k a b : ℕ) (s t : sorts.Sort) → slice_get all k ≡ Some s → list_any (λ n. n == a) s.above ≡ true
+  pub proper : (k : ℕ) (s : sorts.Sort) → slice_get all k ≡ Some s
+      → list_any (λ a. a == k) s.above ≡ false
+  pub closed : (k a b : ℕ) (s t : sorts.Sort) → slice_get all k ≡ Some s
+      → list_any (λ n. n == a) s.above ≡ true
       → slice_get all a ≡ Some t → list_any (λ n. n == b) t.above ≡ true → list_any (λ n. n == b) s.above ≡ true
 
 pub record AreFitSignatures (all : List Signature) : Type 0 where
@@ -245,7 +249,8 @@ pub record IsFitProblem (task : Task) : Type 0 where
 -- ---- streams
 
 abbrev pub are_static_patterns : Domain → List Pattern → Bool
-are_static_patterns domain patterns = list_all (λ (p : Pattern). is_static_role (role_of domain p.pred)) patterns
+are_static_patterns domain patterns =
+    list_all (λ (p : Pattern). is_static_role (role_of domain p.pred)) patterns
 
 -- a cost stream has no outputs and certifies no atoms
 abbrev pub is_fit_worth : Domain → Stream → Bool

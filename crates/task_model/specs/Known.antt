@@ -84,7 +84,8 @@ same_value a b = (a.func == b.func) && same_numbers a.args b.args && (a.value ==
 
 -- the values with this one behind them, unless it is there
 abbrev pub with_value : List Valued → Valued → List Valued
-with_value values value = if list_any (same_value value) values then values else values ++ value ∷ []
+with_value values value =
+    if list_any (same_value value) values then values else values ++ value ∷ []
 
 -- the values with each of these behind them in turn
 abbrev pub with_values : List Valued → List Valued → List Valued
@@ -106,7 +107,8 @@ is_value_of func args v = (v.func == func) && same_numbers v.args args
 
 -- the least of the values that are known of a function term
 abbrev pub value_of : List Valued → ℕ → List ℕ → Option ℕ
-value_of values func args = least (map (λ (v : Valued). v.value) (filter (is_value_of func args) values))
+value_of values func args =
+    least (map (λ (v : Valued). v.value) (filter (is_value_of func args) values))
 
 -- ---- what holds of all that is known
 

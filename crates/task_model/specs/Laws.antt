@@ -46,7 +46,8 @@ EffectsAreExact =
     (action : Action) (args : List ℕ) (state : Atoms) (q : atoms.Atom) → contains (effect_of action args state) q ≡ (list_any (eq_by_cmp atom_cmp q) (map (atom_of (slots_of args)) action.adds) || (not (list_any (eq_by_cmp atom_cmp q) (map (atom_of (slots_of args)) action.deletes)) && contains state q))
 
 -- the steps, executed in two parts
-abbrev pub ExecutesInParts : Task → Known → Atoms → List GroundAction → List GroundAction → Atoms → ℕ → Type 0
+abbrev pub ExecutesInParts : Task → Known → Atoms → List GroundAction → List GroundAction → Atoms
+    → ℕ → Type 0
 ExecutesInParts task known before first second after total =
     (middle : Atoms) × (cost : ℕ) × (rest : ℕ) × Executes task known before first middle cost × Executes task known middle second after rest × (total ≡ cost + rest)
 
@@ -62,7 +63,8 @@ ExecutionIsDetermined =
 
 -- No steps reach the initial state.
 abbrev pub InitialStateIsReached : Type 0
-InitialStateIsReached = (task : Task) (known : Known) → IsReachedWithin task known 0 (initial_state task)
+InitialStateIsReached =
+    (task : Task) (known : Known) → IsReachedWithin task known 0 (initial_state task)
 
 -- Where more than some number of states are reached, more than any smaller number are, within a number of steps too.
 pub record MoreThanFewer (task : Task) (known : Known) (fewer most : ℕ) : Type 0 where
@@ -78,7 +80,8 @@ MoreIsMoreThanFewer =
 
 -- Whether a fact is in a list is decided.
 abbrev pub FactsAreDecided : Type 0
-FactsAreDecided = (facts : List Fact) (fact : Fact) → (is_fact facts fact ≡ true) ↔ Contains facts fact
+FactsAreDecided =
+    (facts : List Fact) (fact : Fact) → (is_fact facts fact ≡ true) ↔ Contains facts fact
 
 -- Facts put behind others leave all distinct, and nothing else is there.
 pub record AddsFacts (facts more after : List Fact) : Type 0 where

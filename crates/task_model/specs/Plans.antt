@@ -32,7 +32,8 @@ IsSolvable task known = (steps : List GroundAction) × (cost : ℕ) × IsValid t
 pub record IsLeastCost (task : Task) (known : Known) (cost : ℕ) : Type 0 where
   pub steps : List GroundAction
   pub valid : IsValid task known steps cost
-  pub least : (others : List GroundAction) (other : ℕ) → IsValid task known others other → cost ≤ other
+  pub least : (others : List GroundAction) (other : ℕ) → IsValid task known others other
+      → cost ≤ other
 
 -- some steps lead from the initial state to this one
 abbrev pub IsReached : Task → Known → Atoms → Type 0
@@ -47,7 +48,8 @@ IsReachedWithin task known most state =
 
 -- more than so many states are such
 abbrev pub MoreThan : ℕ → (Atoms → Type 0) → Type 0
-MoreThan most IsSuch = (states : List Atoms) × (most < length states) × AreDistinct states × All IsSuch states
+MoreThan most IsSuch =
+    (states : List Atoms) × (most < length states) × AreDistinct states × All IsSuch states
 
 -- More than so many states are reached, and so many also within the number of steps of any plan.
 pub record IsFar (task : Task) (known : Known) (most : ℕ) : Type 0 where

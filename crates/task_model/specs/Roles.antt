@@ -19,4 +19,5 @@ is_changed domain pred =
 
 -- derived where an item heads it, else a fluent where an effect has it, else static
 unfoldable pub role_of : Domain → ℕ → Role
-role_of domain pred = if is_derived domain pred then Derived else (if is_changed domain pred then Fluent else Static)
+role_of domain pred =
+    if is_derived domain pred then Derived else (if is_changed domain pred then Fluent else Static)

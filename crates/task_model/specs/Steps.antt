@@ -36,11 +36,13 @@ sum_of (Some m) None = None
 -- the sum of the terms, where all have a value
 abbrev pub terms_cost : Known → List ℕ → List CostTerm → Option ℕ
 terms_cost known slots [] = Some 0
-terms_cost known slots (term ∷ terms) = sum_of (term_cost known slots term) (terms_cost known slots terms)
+terms_cost known slots (term ∷ terms) =
+    sum_of (term_cost known slots term) (terms_cost known slots terms)
 
 -- the sum of its terms where the total cost is counted, and 1 where it isn't
 abbrev pub cost_of : Task → Known → Action → List ℕ → Option ℕ
-cost_of task known action args = if task.problem.metric then terms_cost known (slots_of args) action.costs else Some 1
+cost_of task known action args =
+    if task.problem.metric then terms_cost known (slots_of args) action.costs else Some 1
 
 -- ---- the step
 

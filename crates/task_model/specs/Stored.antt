@@ -85,7 +85,8 @@ inj_terms : (ss ts : List Term) → code_terms ss ≡ code_terms ts → ss ≡ t
 inj_terms ss ts e = sym (back_terms-code_terms ss) ∙ ap back_terms e ∙ back_terms-code_terms ts
 
 inj_numbers : (ms ns : List ℕ) → code_numbers ms ≡ code_numbers ns → ms ≡ ns
-inj_numbers ms ns e = sym (back_numbers-code_numbers ms) ∙ ap back_numbers e ∙ back_numbers-code_numbers ns
+inj_numbers ms ns e =
+    sym (back_numbers-code_numbers ms) ∙ ap back_numbers e ∙ back_numbers-code_numbers ns
 
 mutual
   inj_condition : (x y : Condition) → code_condition x ≡ code_condition y → x ≡ y

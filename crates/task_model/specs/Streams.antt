@@ -97,7 +97,8 @@ at_stream {A} task place other said = of (slice_get task.streams place)
 
 -- the instance is reachable and hasn't finished, where it is one of this stream
 abbrev pub is_due_at : Known → List Note → Stream → Instance → Bool
-is_due_at known notes stream instance = is_reachable stream known instance && not (is_finished stream notes instance)
+is_due_at known notes stream instance =
+    is_reachable stream known instance && not (is_finished stream notes instance)
 
 -- the instance is of a stream of the task, is reachable and hasn't finished
 abbrev pub is_due : Task → Known → List Note → Instance → Bool

@@ -65,7 +65,8 @@ has_type known object sort = is_fact known.facts (type_fact sort object)
 -- there are as many objects as types, and each has its type
 abbrev pub have_types : Known → List ℕ → List ℕ → Bool
 have_types known [] [] = true
-have_types known (object ∷ objects) (sort ∷ sorts) = has_type known object sort && have_types known objects sorts
+have_types known (object ∷ objects) (sort ∷ sorts) =
+    has_type known object sort && have_types known objects sorts
 have_types known [] (sort ∷ sorts) = false
 have_types known (object ∷ objects) [] = false
 
@@ -87,4 +88,5 @@ module _ (domain : Domain) (known : Known) (state : Atoms) where
 
   -- as deep as there are items, which is enough where no derived predicate depends on itself
   abbrev pub is_true : Condition → List ℕ → Bool
-  is_true condition slots = truth (atom_at (length domain.derived)) (objects_of known.facts) condition slots
+  is_true condition slots =
+      truth (atom_at (length domain.derived)) (objects_of known.facts) condition slots

@@ -15,6 +15,7 @@ view_of (node.Any parts) = plain.Any (parts_of parts.items)
 view_of (node.Not part) = plain.Not part.value
 view_of (node.Exists first sorts body) = plain.Exists first sorts body.value
 
-pub most_le_sizes : (parts : List Condition) → most (λ k. size_of k + 1) parts ≤ sizes_of (parts_of parts) + 1
+pub most_le_sizes : (parts : List Condition)
+    → most (λ k. size_of k + 1) parts ≤ sizes_of (parts_of parts) + 1
 most_le_sizes [] = omega arith
 most_le_sizes (part ∷ parts) = omega (arith, most_le_sizes parts)

@@ -32,7 +32,8 @@ tree_of bytes t short read =
 
 -- ---- each text
 
-pub domain_fit : (bytes : List ℕ) (d : Domain) → IsShort bytes → SpellsDomain bytes d → IsFitDomain d
+pub domain_fit : (bytes : List ℕ) (d : Domain) → IsShort bytes → SpellsDomain bytes d
+    → IsFitDomain d
 domain_fit bytes d short is =
     let tree = tree_of bytes is.tree short is.spelled in
     fit_domain is.tree d tree.there is.holds tree.bounded
@@ -40,12 +41,14 @@ domain_fit bytes d short is =
 fit_read : (d : Domain) → HasShortText d → IsFitRead d
 fit_read d is = record { text = is.spelled.tree; bounded = (tree_of is.bytes is.spelled.tree is.short is.spelled.spelled).bounded; read = is.spelled.holds; fit = domain_fit is.bytes d is.short is.spelled }
 
-pub problem_fit : (d : Domain) (bytes : List ℕ) (p : Problem) → HasShortText d → IsShort bytes → SpellsProblem d bytes p → IsFitOver d p
+pub problem_fit : (d : Domain) (bytes : List ℕ) (p : Problem) → HasShortText d → IsShort bytes
+    → SpellsProblem d bytes p → IsFitOver d p
 problem_fit d bytes p over short is =
     let tree = tree_of bytes is.tree short is.spelled in
     read_problems_fit d is.tree p (fit_read d over) tree.bounded tree.there is.holds
 
-pub streams_fit : (d : Domain) (bytes : List ℕ) (ss : List Stream) → HasShortText d → IsShort bytes → SpellsStreams d bytes ss
+pub streams_fit : (d : Domain) (bytes : List ℕ) (ss : List Stream) → HasShortText d → IsShort bytes
+    → SpellsStreams d bytes ss
     → AreFitOver d ss
 streams_fit d bytes ss over short is =
     read_streams_fit d is.tree ss (domain_fit over.bytes d over.short over.spelled) (tree_of bytes is.tree short is.spelled).bounded is.holds
@@ -57,6 +60,8 @@ spelled_tasks_fit domain_bytes problem_bytes stream_bytes task first second thir
     let over : HasShortText task.domain = record { bytes = domain_bytes; short = first; spelled = is.domain } in
     record {
       domain = domain_fit domain_bytes task.domain first is.domain;
-      problem = problem_fit task.domain problem_bytes task.problem over second is.problem task.streams;
-      streams = streams_fit task.domain stream_bytes task.streams over third is.streams task.problem;
+      problem =
+          problem_fit task.domain problem_bytes task.problem over second is.problem task.streams;
+      streams =
+          streams_fit task.domain stream_bytes task.streams over third is.streams task.problem;
     }

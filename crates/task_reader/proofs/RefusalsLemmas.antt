@@ -15,7 +15,8 @@ use Rattle.task_reader.specs.Refusals.{IsRefused, Refuses, of_input, of_text}
 use Rattle.task_reader.specs.Texts.{RefusesDomain, RefusesProblem, RefusesStreams}
 
 -- bytes that are no tree
-pub no_tree : (IsAnswered : Trees → Fault → Type 0) (bytes : List ℕ) (fault : TextFault) → Fails fault (reading bytes)
+pub no_tree : (IsAnswered : Trees → Fault → Type 0) (bytes : List ℕ) (fault : TextFault)
+    → Fails fault (reading bytes)
     → Refuses (IsRefused IsAnswered bytes) (of_text fault)
 no_tree answered bytes (text.BadByte place) failed = failed
 no_tree answered bytes (text.Unclosed place) failed = failed
@@ -23,17 +24,23 @@ no_tree answered bytes (text.Extra place) failed = failed
 no_tree answered bytes (text.TooDeep place) failed = failed
 no_tree answered bytes text.Memory failed = tt
 
-pub no_domain : (bytes : List ℕ) (t : Trees) → reading bytes ≡ Ok t → (fault : InputFault) → domains.DomainReads t (Err fault)
+pub no_domain : (bytes : List ℕ) (t : Trees) → reading bytes ≡ Ok t → (fault : InputFault)
+    → domains.DomainReads t (Err fault)
     → Refuses (RefusesDomain bytes) (of_input fault)
-no_domain bytes t spelled (input.At place kind) answered = record { tree = t; spelled = spelled; holds = answered }
+no_domain bytes t spelled (input.At place kind) answered =
+    record { tree = t; spelled = spelled; holds = answered }
 no_domain bytes t spelled input.Memory answered = tt
 
-pub no_problem : (d : Domain) (bytes : List ℕ) (t : Trees) → reading bytes ≡ Ok t → (fault : InputFault)
+pub no_problem : (d : Domain) (bytes : List ℕ) (t : Trees) → reading bytes ≡ Ok t
+    → (fault : InputFault)
     → problems.ProblemReads d t (Err fault) → Refuses (RefusesProblem d bytes) (of_input fault)
-no_problem d bytes t spelled (input.At place kind) answered = record { tree = t; spelled = spelled; holds = answered }
+no_problem d bytes t spelled (input.At place kind) answered =
+    record { tree = t; spelled = spelled; holds = answered }
 no_problem d bytes t spelled input.Memory answered = tt
 
-pub no_streams : (d : Domain) (bytes : List ℕ) (t : Trees) → reading bytes ≡ Ok t → (fault : InputFault)
+pub no_streams : (d : Domain) (bytes : List ℕ) (t : Trees) → reading bytes ≡ Ok t
+    → (fault : InputFault)
     → streams.StreamsRead d t (Err fault) → Refuses (RefusesStreams d bytes) (of_input fault)
-no_streams d bytes t spelled (input.At place kind) answered = record { tree = t; spelled = spelled; holds = answered }
+no_streams d bytes t spelled (input.At place kind) answered =
+    record { tree = t; spelled = spelled; holds = answered }
 no_streams d bytes t spelled input.Memory answered = tt

@@ -14,8 +14,10 @@ TextsSpellOneTask =
 -- None of the texts is refused, whichever fault one looks for.
 pub record AreNotRefused (domain_bytes problem_bytes stream_bytes : List ℕ) : Type 0 where
   pub first : (kind : FaultKind) (place : ℕ) → ¬ (RefusesDomain domain_bytes kind place)
-  pub second : (kind : FaultKind) (place : ℕ) → ¬ (RefusesSecond domain_bytes problem_bytes kind place)
-  pub third : (kind : FaultKind) (place : ℕ) → ¬ (RefusesThird domain_bytes problem_bytes stream_bytes kind place)
+  pub second : (kind : FaultKind) (place : ℕ)
+      → ¬ (RefusesSecond domain_bytes problem_bytes kind place)
+  pub third : (kind : FaultKind) (place : ℕ)
+      → ¬ (RefusesThird domain_bytes problem_bytes stream_bytes kind place)
 
 -- where three texts spell a task, that is so
 abbrev pub SpelledTextsAreNotRefused : Type 0

@@ -31,7 +31,8 @@ use Rattle.lemmas.proofs.Members.{get_at_length}
 
 -- ---- lists
 
-any_push : {A : Type 0} (p : A → Bool) (xs : List A) (x : A) → list_any p (xs ++ x ∷ []) ≡ (list_any p xs || p x)
+any_push : {A : Type 0} (p : A → Bool) (xs : List A) (x : A)
+    → list_any p (xs ++ x ∷ []) ≡ (list_any p xs || p x)
 any_push p [] x = or_false (p x)
 any_push p (y ∷ ys) x = ap (λ b. p y || b) (any_push p ys x) ∙ or_assoc (p y) (list_any p ys) (p x)
 
@@ -42,7 +43,8 @@ at_push [] x y (suc k) at = absurd (cc)
 at_push (z ∷ zs) x y zero at = inl at
 at_push (z ∷ zs) x y (suc k) at = by (at_push zs x y k at)
   where
-    by : (slice_get zs k ≡ Some y) ⊎ ((k ≡ length zs) × (x ≡ y)) → (slice_get zs k ≡ Some y) ⊎ ((suc k ≡ suc (length zs)) × (x ≡ y))
+    by : (slice_get zs k ≡ Some y) ⊎ ((k ≡ length zs) × (x ≡ y))
+        → (slice_get zs k ≡ Some y) ⊎ ((suc k ≡ suc (length zs)) × (x ≡ y))
     by (inl e) = inl e
     by (inr (e, same)) = inr (ap suc e, same)
 
@@ -55,24 +57,31 @@ Without n k m ms first here same =
     has_number (without n ms) k ≡ (has_number ms k && not same)
     → has_number (cond (not first) (m ∷ without n ms) (without n ms)) k ≡ ((here || has_number ms k) && not same)
 
-without_by : (n k m : ℕ) (ms : List ℕ) (first here same : Bool) → (n == m) ≡ first → (k == m) ≡ here → (k == n) ≡ same
+without_by : (n k m : ℕ) (ms : List ℕ) (first here same : Bool) → (n == m) ≡ first → (k == m) ≡ here
+    → (k == n) ≡ same
     → Without n k m ms first here same
 without_by n k m ms true true true e f g rest = rest ∙ and_false (has_number ms k)
 without_by n k m ms true true false e f g rest = absurd (true≢false (sym (not_same n k m e f) ∙ g))
 without_by n k m ms true false same e f g rest = rest
-without_by n k m ms false true true e f g rest = absurd (true≢false (sym (eq-eqb n m (sym (eqb-true k n g) ∙ eqb-true k m f)) ∙ e))
+without_by n k m ms false true true e f g rest =
+    absurd (true≢false (sym (eq-eqb n m (sym (eqb-true k n g) ∙ eqb-true k m f)) ∙ e))
 without_by n k m ms false true false e f g rest = ap (λ b. b || has_number (without n ms) k) f
-without_by n k m ms false false same e f g rest = ap (λ b. b || has_number (without n ms) k) f ∙ rest
+without_by n k m ms false false same e f g rest =
+    ap (λ b. b || has_number (without n ms) k) f ∙ rest
 
-among_without : (n k : ℕ) (ms : List ℕ) → has_number (without n ms) k ≡ (has_number ms k && not (k == n))
+among_without : (n k : ℕ) (ms : List ℕ)
+    → has_number (without n ms) k ≡ (has_number ms k && not (k == n))
 among_without n k [] = refl
-among_without n k (m ∷ ms) = without_by n k m ms (n == m) (k == m) (k == n) refl refl refl (among_without n k ms)
+among_without n k (m ∷ ms) =
+    without_by n k m ms (n == m) (k == m) (k == n) refl refl refl (among_without n k ms)
 
 some_count : {A : Type 0} (p : A → Bool) (xs : List A) → list_any p xs ≡ true → 1 ≤ count_by p xs
 some_count p [] e = absurd (true≢false (sym e))
-some_count p (x ∷ xs) e = omega (arith, count_joined p (x ∷ []) xs, count_one p x, by (p x) (some_count p xs) e)
+some_count p (x ∷ xs) e =
+    omega (arith, count_joined p (x ∷ []) xs, count_one p x, by (p x) (some_count p xs) e)
   where
-    by : (b : Bool) → (list_any p xs ≡ true → 1 ≤ count_by p xs) → (b || list_any p xs) ≡ true → 1 ≤ cond {A = ℕ} b 1 0 + count_by p xs
+    by : (b : Bool) → (list_any p xs ≡ true → 1 ≤ count_by p xs) → (b || list_any p xs) ≡ true
+        → 1 ≤ cond {A = ℕ} b 1 0 + count_by p xs
     by true rest e = omega arith
     by false rest e = omega (arith, rest e)
 
@@ -115,7 +124,9 @@ ask_kept version turn task before call l new i h right named facts queue asked_i
       answered = omega (arith, ap length unanswered_is, length-append l.unanswered.items (number ∷ []), h.answered, adds.asks, count_joined is_answer before (e ∷ []), count_one is_answer e);
     }
   where
-    asks_by : (k : ℕ) (j : Instance) → (slice_get l.asked.items k ≡ Some j) ⊎ ((k ≡ length l.asked.items) × (i ≡ j)) → (stream : Stream)
+    asks_by : (k : ℕ) (j : Instance)
+        → (slice_get l.asked.items k ≡ Some j) ⊎ ((k ≡ length l.asked.items) × (i ≡ j))
+        → (stream : Stream)
         → slice_get task.streams i.stream ≡ Some stream
         → asked task (before ++ entry.Ask (length l.asked.items + 1) turn call ∷ []) (length l.asked.items + 1) ≡ Some (record { stream = stream; instance = i })
         → Asks task (before ++ entry.Ask (length l.asked.items + 1) turn call ∷ []) (k + 1) j
@@ -136,11 +147,15 @@ is_answer_so entry.Reset n e = absurd (cc)
 is_answer_so (entry.Pick m) n e = absurd (cc)
 is_answer_so (entry.Retire m) n e = absurd (cc)
 
-waits_for : (version : ℕ) (task : Task) (before : List Entry) (e : Entry) (n : ℕ) → answered_number e ≡ Some n
+waits_for : (version : ℕ) (task : Task) (before : List Entry) (e : Entry) (n : ℕ)
+    → answered_number e ≡ Some n
     → MayFollow version task before e → is_open before n ≡ true
-waits_for version task before (entry.Got m tuples values) n e may = let same : m ≡ n = cc in ap (is_open before) (sym same) ∙ may.waiting
-waits_for version task before (entry.Value m value) n e may = let same : m ≡ n = cc in ap (is_open before) (sym same) ∙ may.waiting
-waits_for version task before (entry.End m) n e may = let same : m ≡ n = cc in ap (is_open before) (sym same) ∙ may
+waits_for version task before (entry.Got m tuples values) n e may =
+    let same : m ≡ n = cc in ap (is_open before) (sym same) ∙ may.waiting
+waits_for version task before (entry.Value m value) n e may =
+    let same : m ≡ n = cc in ap (is_open before) (sym same) ∙ may.waiting
+waits_for version task before (entry.End m) n e may =
+    let same : m ≡ n = cc in ap (is_open before) (sym same) ∙ may
 waits_for version task before (entry.Ask m turn call) n e may = absurd (cc)
 waits_for version task before entry.Level n e may = absurd (cc)
 waits_for version task before (entry.Dream uses steps) n e may = absurd (cc)
@@ -194,7 +209,8 @@ module _ (version : ℕ) (task : Task) (before : List Entry) (l : Ledger) (e : E
       let same : n ≡ n - 1 + 1 = omega (arith, w.some) in
       (record { stream = a.stream; instance = w.request.instance }, ap (asked task before) same ∙ a.asks)
 
-  pub answer_kept : (new : Ledger) (a : Asked) → asked task before n ≡ Some a → new.facts.known ≡ known_of task (before ++ e ∷ [])
+  pub answer_kept : (new : Ledger) (a : Asked) → asked task before n ≡ Some a
+      → new.facts.known ≡ known_of task (before ++ e ∷ [])
       → new.queue ≡ notes_of task (before ++ e ∷ []) → new.asked.items ≡ l.asked.items → new.unanswered.items ≡ without n l.unanswered.items
       → IsLedger version task (before ++ e ∷ []) new
   answer_kept new a was known notes asked_is unanswered_is =
@@ -212,6 +228,7 @@ module _ (version : ℕ) (task : Task) (before : List Entry) (l : Ledger) (e : E
 
 -- ---- results
 
-pub on_both : {T E : Type 0} (r : Result T E) {A B C : Type 0} → OnOk r A → OnOk r B → (A → B → C) → OnOk r C
+pub on_both : {T E : Type 0} (r : Result T E) {A B C : Type 0} → OnOk r A → OnOk r B → (A → B → C)
+    → OnOk r C
 on_both (Ok t) a b f = f a b
 on_both (Err e) a b f = tt

@@ -5,11 +5,13 @@ use Rattle.lemmas.proofs.Members.{member_at}
 use Rattle.transcript_model.proofs.NamesLemmas.{place_at}
 use Rattle.transcript_model.specs.Names.{place_of, places_of}
 
-nothing : (o : Option ℕ) → option_and_then (λ object. option_map (λ (objects : List ℕ). object ∷ objects) None) o ≡ None
+nothing : (o : Option ℕ)
+    → option_and_then (λ object. option_map (λ (objects : List ℕ). object ∷ objects) None) o ≡ None
 nothing None = refl
 nothing (Some a) = refl
 
-no_place : (names : List (List ℕ)) (name : List ℕ) → ¬ (Contains names name) → place_of names name ≡ None
+no_place : (names : List (List ℕ)) (name : List ℕ) → ¬ (Contains names name)
+    → place_of names name ≡ None
 no_place names name absent = by (place_of names name) refl
   where
     by : (o : Option ℕ) → place_of names name ≡ o → place_of names name ≡ None
@@ -17,7 +19,8 @@ no_place names name absent = by (place_of names name) refl
     by (Some k) e = absurd (absent (member_at names k name (place_at names name k e)))
 
 -- where one of the names is unknown, they have no places
-pub no_places : (names more : List (List ℕ)) (k : ℕ) (name : List ℕ) → slice_get more k ≡ Some name → ¬ (Contains names name)
+pub no_places : (names more : List (List ℕ)) (k : ℕ) (name : List ℕ) → slice_get more k ≡ Some name
+    → ¬ (Contains names name)
     → places_of names more ≡ None
 no_places names [] k name at absent = absurd (cc)
 no_places names (first ∷ more) zero name at absent =
@@ -27,7 +30,8 @@ no_places names (first ∷ more) (suc k) name at absent =
     ap (λ os. option_and_then (λ object. option_map (λ objects. object ∷ objects) os) (place_of names first)) (no_places names more k name at absent) ∙ nothing (place_of names first)
 
 -- one object more
-pub places_push : (names more : List (List ℕ)) (objects : List ℕ) (k o : ℕ) (name : List ℕ) → k < length more → name ≡ get_or more k name
+pub places_push : (names more : List (List ℕ)) (objects : List ℕ) (k o : ℕ) (name : List ℕ)
+    → k < length more → name ≡ get_or more k name
     → map (slice_get names) objects ≡ map Some (take k more) → slice_get names o ≡ Some name
     → map (slice_get names) (objects ++ o ∷ []) ≡ map Some (take (k + 1) more)
 places_push names more objects k o name lt is so_far here =

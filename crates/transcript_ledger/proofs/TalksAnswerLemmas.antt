@@ -19,7 +19,8 @@ use Rattle.std.proofs.lemmas.Bool.{and_from, not-true, false≢true}
 use Rattle.lemmas.proofs.Options.{same_some}
 use Rattle.lemmas.proofs.ListTests.{get_there}
 
-all_pass : (p : List ℕ → Bool) (xs : List (List ℕ)) → All (λ v. p v ≡ true) xs → list_all p xs ≡ true
+all_pass : (p : List ℕ → Bool) (xs : List (List ℕ)) → All (λ v. p v ≡ true) xs
+    → list_all p xs ≡ true
 all_pass p [] every = refl
 all_pass p (x ∷ xs) every =
     and_from (p x) (list_all p xs) (All-head (λ v. p v ≡ true) x xs every) (all_pass p xs (All-tail (λ v. p v ≡ true) x xs every))
@@ -32,7 +33,8 @@ not_several version e = by (version == 1) refl e
     by false is e = absurd (false≢true (sym e))
 
 -- tuples of a formed yield that are as wide as the stream says
-right : (version tuples width : ℕ) (values : List (List ℕ)) → AreTuples version tuples values → length values ≡ tuples * width
+right : (version tuples width : ℕ) (values : List (List ℕ)) → AreTuples version tuples values
+    → length values ≡ tuples * width
     → IsRight width (has_several version) tuples values
 right version tuples width values formed count = record {
   some = formed.some;
@@ -60,7 +62,8 @@ module _ (version : ℕ) (task : Task) (before : List Entry) (l : Ledger) (h : I
       record { request = record { stream = its.stream; instance = there.0 }; at = there.1; streamed = its.streamed; of = ap (asked task before) back ∙ its.asks }
 
   -- the test is that of the stream that was asked
-  test_is : (n : ℕ) (e : Entry) → is_open before n ≡ true → (f : Found n) → may_answer task l n e ≡ may_give f.request.stream e
+  test_is : (n : ℕ) (e : Entry) → is_open before n ≡ true → (f : Found n)
+      → may_answer task l n e ≡ may_give f.request.stream e
   test_is n e waits f =
       let among : has_number l.unanswered.items n ≡ true = h.unanswered n ∙ waits in
       let at : slice_get l.asked.items (n - 1) ≡ Some f.request.instance = f.at in
@@ -74,7 +77,8 @@ module _ (version : ℕ) (task : Task) (before : List Entry) (l : Ledger) (h : I
       by true is = sym (h.unanswered n) ∙ is
       by false is = let r : false ≡ true = rw is at passed in absurd (false≢true r)
 
-  gives : (n : ℕ) (e : Entry) → IsFormedEntry version e → answered_number e ≡ Some n → is_open before n ≡ true → (f : Found n)
+  gives : (n : ℕ) (e : Entry) → IsFormedEntry version e → answered_number e ≡ Some n
+      → is_open before n ≡ true → (f : Found n)
       → may_give f.request.stream e ≡ true → MayFollow version task before e
   gives n (entry.Got m tuples values) formed is waits f given =
       let same : m ≡ n = cc in
@@ -84,7 +88,8 @@ module _ (version : ℕ) (task : Task) (before : List Entry) (l : Ledger) (h : I
       let same : m ≡ n = cc in
       subst (λ k. MayFollow version task before (entry.Value k value)) (sym same)
       (record { waiting = waits; request = f.request; of = f.of; cost = not-true (is_none f.request.stream.worth) given; few = formed.1 })
-  gives n (entry.End m) formed is waits f given = let same : m ≡ n = cc in ap (is_open before) same ∙ waits
+  gives n (entry.End m) formed is waits f given =
+      let same : m ≡ n = cc in ap (is_open before) same ∙ waits
   gives n (entry.Ask m turn call) formed is waits f given = absurd (cc)
   gives n entry.Level formed is waits f given = absurd (cc)
   gives n (entry.Dream uses steps) formed is waits f given = absurd (cc)
@@ -93,14 +98,16 @@ module _ (version : ℕ) (task : Task) (before : List Entry) (l : Ledger) (h : I
   gives n (entry.Pick m) formed is waits f given = absurd (cc)
   gives n (entry.Retire m) formed is waits f given = absurd (cc)
 
-  pub may_be_given : (n : ℕ) (e : Entry) → IsFormedEntry version e → answered_number e ≡ Some n → may_answer task l n e ≡ true
+  pub may_be_given : (n : ℕ) (e : Entry) → IsFormedEntry version e → answered_number e ≡ Some n
+      → may_answer task l n e ≡ true
       → MayFollow version task before e
   may_be_given n e formed is passed =
       let waits = is_waiting n e passed in
       let f = found n waits in
       gives n e formed is waits f (sym (test_is n e waits f) ∙ passed)
 
-  given_by : (n : ℕ) (e : Entry) → answered_number e ≡ Some n → MayFollow version task before e → (f : Found n)
+  given_by : (n : ℕ) (e : Entry) → answered_number e ≡ Some n → MayFollow version task before e
+      → (f : Found n)
       → may_give f.request.stream e ≡ true
   given_by n (entry.Got m tuples values) is may f =
       let same : m ≡ n = cc in
@@ -119,9 +126,12 @@ module _ (version : ℕ) (task : Task) (before : List Entry) (l : Ledger) (h : I
   given_by n (entry.Pick m) is may f = absurd (cc)
   given_by n (entry.Retire m) is may f = absurd (cc)
 
-  waits_for : (n : ℕ) (e : Entry) → answered_number e ≡ Some n → MayFollow version task before e → is_open before n ≡ true
-  waits_for n (entry.Got m tuples values) is may = let same : m ≡ n = cc in ap (is_open before) (sym same) ∙ may.waiting
-  waits_for n (entry.Value m value) is may = let same : m ≡ n = cc in ap (is_open before) (sym same) ∙ may.waiting
+  waits_for : (n : ℕ) (e : Entry) → answered_number e ≡ Some n → MayFollow version task before e
+      → is_open before n ≡ true
+  waits_for n (entry.Got m tuples values) is may =
+      let same : m ≡ n = cc in ap (is_open before) (sym same) ∙ may.waiting
+  waits_for n (entry.Value m value) is may =
+      let same : m ≡ n = cc in ap (is_open before) (sym same) ∙ may.waiting
   waits_for n (entry.End m) is may = let same : m ≡ n = cc in ap (is_open before) (sym same) ∙ may
   waits_for n (entry.Ask m turn call) is may = absurd (cc)
   waits_for n entry.Level is may = absurd (cc)
@@ -131,7 +141,8 @@ module _ (version : ℕ) (task : Task) (before : List Entry) (l : Ledger) (h : I
   waits_for n (entry.Pick m) is may = absurd (cc)
   waits_for n (entry.Retire m) is may = absurd (cc)
 
-  pub must_be_given : (n : ℕ) (e : Entry) → answered_number e ≡ Some n → MayFollow version task before e → may_answer task l n e ≡ true
+  pub must_be_given : (n : ℕ) (e : Entry) → answered_number e ≡ Some n
+      → MayFollow version task before e → may_answer task l n e ≡ true
   must_be_given n e is may =
       let waits = waits_for n e is may in
       let f = found n waits in

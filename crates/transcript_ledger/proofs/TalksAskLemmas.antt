@@ -29,7 +29,8 @@ use Rattle.lemmas.proofs.ListTests.{get_there}
 -- ---- open requests
 
 -- an open request was made
-pub opened : (version : ℕ) (task : Task) (before : List Entry) (n : ℕ) → IsLegal version task before → is_open before n ≡ true
+pub opened : (version : ℕ) (task : Task) (before : List Entry) (n : ℕ) → IsLegal version task before
+    → is_open before n ≡ true
     → (1 ≤ n) × (n ≤ asks_of before)
 opened version task before n legal waits =
     let made = first_request before n (first_so (list_any (is_ask_of n) before) (not (list_any (is_answer_to n) before)) waits) in
@@ -50,11 +51,13 @@ such : {A : Type 0} (p : A → Bool) (xs : List A) → list_any p xs ≡ true �
 such p [] e = absurd (false≢true e)
 such p (y ∷ ys) e = by (p y) refl e (such p ys)
   where
-    by : (b : Bool) → p y ≡ b → (b || list_any p ys) ≡ true → (list_any p ys ≡ true → HasSuch p ys) → HasSuch p (y ∷ ys)
+    by : (b : Bool) → p y ≡ b → (b || list_any p ys) ≡ true → (list_any p ys ≡ true → HasSuch p ys)
+        → HasSuch p (y ∷ ys)
     by true is e rest = record { place = 0; member = y; at = refl; passes_it = is }
     by false is e rest = let r = rest e in record { place = suc r.place; member = r.member; at = r.at; passes_it = r.passes_it }
 
-asked_yes : (asked_all : List Instance) (i j : Instance) (n : ℕ) → slice_get asked_all (n - 1) ≡ Some j → j ≡ i
+asked_yes : (asked_all : List Instance) (i j : Instance) (n : ℕ)
+    → slice_get asked_all (n - 1) ≡ Some j → j ≡ i
     → asked_it asked_all i n ≡ true
 asked_yes asked_all i j n at same = let r : same_instance j i ≡ true = itself in rw at r
   where
@@ -67,10 +70,12 @@ asked_yes asked_all i j n at same = let r : same_instance j i ≡ true = itself 
         ap (λ (k : Instance). same_instance k i) same
         ∙ and_from (i.stream == i.stream) (same_numbers i.inputs i.inputs) (eq-eqb i.stream i.stream refl) (numbers i.inputs)
 
-asked_is : (asked_all : List Instance) (i : Instance) (n : ℕ) (o : Option Instance) → slice_get asked_all (n - 1) ≡ o
+asked_is : (asked_all : List Instance) (i : Instance) (n : ℕ) (o : Option Instance)
+    → slice_get asked_all (n - 1) ≡ o
     → asked_it asked_all i n ≡ true → (j : Instance) × (slice_get asked_all (n - 1) ≡ Some j) × (j ≡ i)
 asked_is asked_all i n None at e = let r : false ≡ true = rw at at e in absurd (false≢true r)
-asked_is asked_all i n (Some j) at e = let r : same_instance j i ≡ true = rw at at e in (j, at, instances_same j i r)
+asked_is asked_all i n (Some j) at e =
+    let r : same_instance j i ≡ true = rw at at e in (j, at, instances_same j i r)
 
 -- ---- the tests
 

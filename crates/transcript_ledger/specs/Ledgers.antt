@@ -32,6 +32,7 @@ pub record IsLedger (version : ℕ) (task : Task) (entries : List Entry) (l : Le
   pub known : l.facts.known ≡ known_of task entries
   pub notes : l.queue ≡ notes_of task entries
   pub counted : length l.asked.items ≡ asks_of entries
-  pub asks : (k : ℕ) (i : Instance) → slice_get l.asked.items k ≡ Some i → Asks task entries (k + 1) i
+  pub asks : (k : ℕ) (i : Instance) → slice_get l.asked.items k ≡ Some i
+      → Asks task entries (k + 1) i
   pub unanswered : (n : ℕ) → has_number l.unanswered.items n ≡ is_open entries n
   pub answered : count_by is_answer entries + length l.unanswered.items ≤ asks_of entries

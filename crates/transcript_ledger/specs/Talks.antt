@@ -31,7 +31,8 @@ may_give stream e = true
 
 -- the request of this number is open, and its stream may give this answer
 abbrev pub may_answer : Task → Ledger → ℕ → Entry → Bool
-may_answer task l number e = has_number l.unanswered.items number && asked (slice_get l.asked.items (number - 1))
+may_answer task l number e =
+    has_number l.unanswered.items number && asked (slice_get l.asked.items (number - 1))
   where
     streamed : Option Stream → Bool
     streamed (Some stream) = may_give stream e
@@ -45,7 +46,8 @@ may_answer task l number e = has_number l.unanswered.items number && asked (slic
 abbrev pub IsAskedBy : ℕ → Task → List Entry → ℕ → ℕ → Call → Option Instance → Type 0
 IsAskedBy calls task before number turn call (Some i) =
     IsRightAsk task before number turn call × (number ≤ calls) × (instance_of task (names_of task before) call ≡ Some i)
-IsAskedBy calls task before number turn call None = ¬ (IsRightAsk task before number turn call × (number ≤ calls))
+IsAskedBy calls task before number turn call None =
+    ¬ (IsRightAsk task before number turn call × (number ≤ calls))
 
 -- the request of these fields is the one of this number, of this instance
 abbrev pub is_same_request : Task → List (List ℕ) → List Note → ℕ → Instance → ℕ → ℕ → Call → Bool

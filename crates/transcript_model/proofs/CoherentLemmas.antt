@@ -39,9 +39,11 @@ use Rattle.transcript_model.proofs.NamesLemmas.{and_then_some, map_some, with_na
 
 -- ---- values
 
-with_values-distinct : (values more : List Valued) → AreDistinct values → AreDistinct (with_values values more)
+with_values-distinct : (values more : List Valued) → AreDistinct values
+    → AreDistinct (with_values values more)
 with_values-distinct values [] distinct = distinct
-with_values-distinct values (v ∷ more) distinct = with_values-distinct (with_value values v) more one
+with_values-distinct values (v ∷ more) distinct =
+    with_values-distinct (with_value values v) more one
   where
     one : AreDistinct (with_value values v)
     one =
@@ -50,7 +52,8 @@ with_values-distinct values (v ∷ more) distinct = with_values-distinct (with_v
           | false ↦ λ absent. distinct_push values v distinct (λ m. not_both _ (list_any-from_Contains values_equivalence v values m) absent)
         ] refl
 
-with_values-all : (P : Valued → Type 0) (values more : List Valued) → All P values → All P more → All P (with_values values more)
+with_values-all : (P : Valued → Type 0) (values more : List Valued) → All P values → All P more
+    → All P (with_values values more)
 with_values-all P values [] all more = all
 with_values-all P values (v ∷ vs) all more =
     with_values-all P (with_value values v) vs (one (All-contains P (v ∷ vs) v more (0, omega arith, refl))) (λ k d lt. more (suc k) d (omega arith))
@@ -64,22 +67,26 @@ with_values-all P values (v ∷ vs) all more =
 
 -- ---- places
 
-places_in : (names more : List (List ℕ)) (objects : List ℕ) → places_of names more ≡ Some objects → All (IsIn names) objects
-places_in names [] objects e = let none : [] ≡ objects = cc in subst (All (IsIn names)) none (All-nil (IsIn names))
+places_in : (names more : List (List ℕ)) (objects : List ℕ) → places_of names more ≡ Some objects
+    → All (IsIn names) objects
+places_in names [] objects e =
+    let none : [] ≡ objects = cc in subst (All (IsIn names)) none (All-nil (IsIn names))
 places_in names (name ∷ more) objects e =
     let first = and_then_some (λ object. option_map (λ objects. object ∷ objects) (places_of names more)) (place_of names name) objects e in
     let rest = map_some (λ objects. first.0 ∷ objects) (places_of names more) objects first.2 in
     let here : IsIn names first.0 = in_names names first.0 (slice_get_within names first.0 name (place_at names name first.0 first.1)) in
     subst (All (IsIn names)) rest.2 (All-cons (IsIn names) first.0 rest.0 here (places_in names more rest.0 rest.1))
 
-places_many : (names more : List (List ℕ)) (objects : List ℕ) → places_of names more ≡ Some objects → length objects ≡ length more
+places_many : (names more : List (List ℕ)) (objects : List ℕ) → places_of names more ≡ Some objects
+    → length objects ≡ length more
 places_many names [] objects e = let none : [] ≡ objects = cc in ap length (sym none)
 places_many names (name ∷ more) objects e =
     let first = and_then_some (λ object. option_map (λ objects. object ∷ objects) (places_of names more)) (place_of names name) objects e in
     let rest = map_some (λ objects. first.0 ∷ objects) (places_of names more) objects first.2 in
     ap length (sym rest.2) ∙ ap suc (places_many names more rest.0 rest.1)
 
-instance_in : (task : Task) (names : List (List ℕ)) (call : Call) (i : Instance) → instance_of task names call ≡ Some i
+instance_in : (task : Task) (names : List (List ℕ)) (call : Call) (i : Instance)
+    → instance_of task names call ≡ Some i
     → All (IsIn names) i.inputs
 instance_in task names call i e =
     let stream = and_then_some (λ stream. option_map (λ inputs. record { stream = stream; inputs = inputs }) (places_of names call.args)) (stream_named task call.name) i e in
@@ -105,7 +112,8 @@ asked_streamed task i a e =
     (subst (λ (x : Asked). slice_get task.streams x.instance.stream ≡ Some x.stream) stream.2 stream.1, ap (λ (x : Asked). x.instance) stream.2)
 
 module _ (version : ℕ) (task : Task) (entries : List Entry) (fit : IsFit task) (legal : IsLegal version task entries) where
-  pub asked_is : (n : ℕ) (a : Asked) → asked task entries n ≡ Some a → IsAsked task (names_of task entries) a
+  pub asked_is : (n : ℕ) (a : Asked) → asked task entries n ≡ Some a
+      → IsAsked task (names_of task entries) a
   asked_is n a e =
       let whole = and_then_some (asked_of task) (option_and_then (instance_of task (names_of task entries)) (call_of entries n)) a e in
       let call = and_then_some (instance_of task (names_of task entries)) (call_of entries n) whole.0 whole.1 in
@@ -132,14 +140,16 @@ module _ (version : ℕ) (task : Task) (entries : List Entry) (fit : IsFit task)
       let front = with_names-front (declared_names task) (flat_map objects_in entries) in
       omega (arith, ap length front.1, length-append (declared_names task) front.0, length-map task.problem.objects (λ (d : Declared). d.name))
 
-  tuple_named : (a : Asked) (tuple : List (List ℕ)) → IsAsked task (names_of task entries) a → length tuple ≡ length a.stream.outputs
+  tuple_named : (a : Asked) (tuple : List (List ℕ)) → IsAsked task (names_of task entries) a
+      → length tuple ≡ length a.stream.outputs
       → AreNamed (names_of task entries) tuple → All (IsNamed (names_of task entries)) (tuple_facts task (names_of task entries) a tuple)
   tuple_named a tuple is many named =
       let places = named_places (names_of task entries) tuple named in
       let as_many : length places.0 ≡ length a.stream.outputs = places_many (names_of task entries) (map generated tuple) places.0 places.1 ∙ length-map tuple generated ∙ many in
       rw places.1 (certified_named (names_of task entries) task a.stream a.instance.inputs places.0 fit (fit_stream_at task a.instance.stream a.stream fit is.streamed) enough is.many as_many is.named (places_in (names_of task entries) (map generated tuple) places.0 places.1))
 
-  yield_named : (a : Asked) (width tuples : ℕ) (values : List (List ℕ)) → IsAsked task (names_of task entries) a
+  yield_named : (a : Asked) (width tuples : ℕ) (values : List (List ℕ))
+      → IsAsked task (names_of task entries) a
       → width ≡ length a.stream.outputs → length values ≡ tuples * width → AreNamed (names_of task entries) values
       → All (IsNamed (names_of task entries)) (flat_map (tuple_facts task (names_of task entries) a) (tuples_in width tuples values))
   yield_named a width zero values is same many named = All-nil (IsNamed (names_of task entries))
@@ -152,7 +162,8 @@ module _ (version : ℕ) (task : Task) (entries : List Entry) (fit : IsFit task)
       (tuple_named a (take width values) is (first ∙ same) (λ v m. named v (subst (λ vs. Contains vs v) parts (Contains-append_left (take width values) (drop width values) v m))))
       (yield_named a width tuples (drop width values) is same later (λ v m. named v (subst (λ vs. Contains vs v) parts (Contains-append_right (take width values) (drop width values) v m))))
 
-  certified_each : (k : ℕ) (e : Entry) → slice_get entries k ≡ Some e → All (IsNamed (names_of task entries)) (certified task entries e)
+  certified_each : (k : ℕ) (e : Entry) → slice_get entries k ≡ Some e
+      → All (IsNamed (names_of task entries)) (certified task entries e)
   certified_each k (entry.Got n tuples values) at = got (legal k (entry.Got n tuples values) at)
     where
       got : IsRightGot version task (take k entries) n tuples values
@@ -162,10 +173,12 @@ module _ (version : ℕ) (task : Task) (entries : List Entry) (fit : IsFit task)
           rw was (yield_named right.request (length right.request.stream.outputs) tuples values (asked_is n right.request was) refl right.right.count (values_named task entries k n tuples values fit.problem.objects.names.distinct at))
   certified_each k e at = All-nil (IsNamed (names_of task entries))
 
-  told_each : (k : ℕ) (e : Entry) → slice_get entries k ≡ Some e → All (λ (v : Valued). v.value ≤ 1000000) (told_value task entries e)
+  told_each : (k : ℕ) (e : Entry) → slice_get entries k ≡ Some e
+      → All (λ (v : Valued). v.value ≤ 1000000) (told_value task entries e)
   told_each k (entry.Value n value) at = told (legal k (entry.Value n value) at)
     where
-      worth_small : (s : Stream) (inputs : List ℕ) (w : Option Worth) → s.worth ≡ w → value ≤ 1000000
+      worth_small : (s : Stream) (inputs : List ℕ) (w : Option Worth) → s.worth ≡ w
+          → value ≤ 1000000
           → All (λ (v : Valued). v.value ≤ 1000000) (worth_by s inputs value)
       worth_small s inputs None e few = rw e (All-nil (λ (v : Valued). v.value ≤ 1000000))
       worth_small s inputs (Some w) e few = rw e (all_one (λ (v : Valued). v.value ≤ 1000000) _ few)
@@ -178,7 +191,8 @@ module _ (version : ℕ) (task : Task) (entries : List Entry) (fit : IsFit task)
   values_at_first : All (λ (v : Valued). v.value ≤ 1000000) task.problem.values
   values_at_first = passes_all (is_fit_value task.domain (length task.problem.objects)) (λ (v : Valued). v.value ≤ 1000000) task.problem.values small (second_so (is_short task.problem.values) (list_all (is_fit_value task.domain (length task.problem.objects)) task.problem.values) fit.problem.values)
     where
-      small : (v : Valued) → is_fit_value task.domain (length task.problem.objects) v ≡ true → v.value ≤ 1000000
+      small : (v : Valued) → is_fit_value task.domain (length task.problem.objects) v ≡ true
+          → v.value ≤ 1000000
       small v fits =
           let a = has_arity task.domain.functions v.func (length v.args) in
           let b = list_all (λ o. nat_lt o (length task.problem.objects)) v.args in

@@ -22,7 +22,8 @@ grows version task entries = record {
   last = λ e legal. subst (λ before. MayFollow version task before e) (take-append_seam entries (e ∷ [])) (legal (length entries) e (get_at_length entries e));
 }
   where
-    next : (e : Entry) → IsLegal version task entries → MayFollow version task entries e → (k : ℕ) (x : Entry)
+    next : (e : Entry) → IsLegal version task entries → MayFollow version task entries e
+        → (k : ℕ) (x : Entry)
         → slice_get (entries ++ e ∷ []) k ≡ Some x → (slice_get entries k ≡ Some x) ⊎ ((k ≡ length entries) × (x ≡ e))
         → MayFollow version task (take k (entries ++ e ∷ [])) x
     next e legal may k x at (inl there) =
@@ -45,7 +46,8 @@ nth_request (entry.Ask n turn call ∷ xs) (suc m) lt =
     (suc r.0, r.1, r.2, r.3, r.4, omega (arith, asks_more (first ∷ []) (take r.0 xs), r.5))
 nth_request (x ∷ xs) m lt = let r = nth_request xs m lt in (suc r.0, r.1, r.2, r.3, r.4, r.5)
 
-pub request_asks : (version : ℕ) (task : Task) (entries : List Entry) (n : ℕ) → IsLegal version task entries → 0 < n
+pub request_asks : (version : ℕ) (task : Task) (entries : List Entry) (n : ℕ)
+    → IsLegal version task entries → 0 < n
     → n < asks_of entries + 1 → (a : Asked) × (asked task entries n ≡ Some a)
 request_asks version task entries n legal some most = from n some most
   where

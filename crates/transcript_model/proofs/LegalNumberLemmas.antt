@@ -18,7 +18,8 @@ pub asks_more : (xs ys : List Entry) → asks_of (xs ++ ys) ≡ asks_of xs + ask
 asks_more xs ys = sum_by-append (λ e. cond (is_ask e) 1 0) xs ys
 
 -- there are more requests after a request
-pub asks_rise : (xs : List Entry) (j k n turn : ℕ) (call : Call) → slice_get xs j ≡ Some (entry.Ask n turn call) → j < k
+pub asks_rise : (xs : List Entry) (j k n turn : ℕ) (call : Call)
+    → slice_get xs j ≡ Some (entry.Ask n turn call) → j < k
     → asks_of (take j xs) + 1 ≤ asks_of (take k xs)
 asks_rise [] j k n turn call at lt = absurd (cc)
 asks_rise (x ∷ xs) j zero n turn call at lt = absurd (omega arith)
@@ -31,14 +32,16 @@ asks_rise (x ∷ xs) (suc j) (suc k) n turn call at lt =
     omega (arith, asks_more (x ∷ []) (take j xs), asks_more (x ∷ []) (take k xs), asks_rise xs j k n turn call at below)
 
 module _ (version : ℕ) (task : Task) where
-  pub request_number : (entries : List Entry) (j n turn : ℕ) (call : Call) → IsLegal version task entries
+  pub request_number : (entries : List Entry) (j n turn : ℕ) (call : Call)
+      → IsLegal version task entries
       → slice_get entries j ≡ Some (entry.Ask n turn call) → n ≡ asks_of (take j entries) + 1
   request_number entries j n turn call legal at = right (legal j (entry.Ask n turn call) at)
     where
       right : IsRightAsk task (take j entries) n turn call → n ≡ asks_of (take j entries) + 1
       right r = r.next
 
-  pub numbers_own : (entries : List Entry) (j k n turn other : ℕ) (call again : Call) → IsLegal version task entries
+  pub numbers_own : (entries : List Entry) (j k n turn other : ℕ) (call again : Call)
+      → IsLegal version task entries
       → slice_get entries j ≡ Some (entry.Ask n turn call) → slice_get entries k ≡ Some (entry.Ask n other again) → j ≡ k
   numbers_own entries j k n turn other call again legal first second =
       elim (nat_lt j k) as (λ b. nat_lt j k ≡ b → j ≡ k) [
@@ -51,7 +54,8 @@ module _ (version : ℕ) (task : Task) where
       ] refl
 
   -- a request that was made has a number of at most as many as there are
-  pub number_below : (entries : List Entry) (n : ℕ) → IsLegal version task entries → list_any (is_ask_of n) entries ≡ true
+  pub number_below : (entries : List Entry) (n : ℕ) → IsLegal version task entries
+      → list_any (is_ask_of n) entries ≡ true
       → (0 < n) × (n ≤ asks_of entries)
   number_below entries n legal there =
       let first = first_request entries n there in
@@ -59,7 +63,8 @@ module _ (version : ℕ) (task : Task) where
       let rise = asks_rise entries first.0 (length entries) n first.1 first.2 first.3 (slice_get_within entries first.0 _ first.3) in
       (omega (arith, is), omega (arith, is, rise, ap asks_of (take-length entries)))
 
-  pub next_is_fresh : (entries : List Entry) → IsLegal version task entries → list_any (is_ask_of (asks_of entries + 1)) entries ≡ false
+  pub next_is_fresh : (entries : List Entry) → IsLegal version task entries
+      → list_any (is_ask_of (asks_of entries + 1)) entries ≡ false
   next_is_fresh entries legal =
       elim (list_any (is_ask_of (asks_of entries + 1)) entries) as (λ b. list_any (is_ask_of (asks_of entries + 1)) entries ≡ b → b ≡ false) [
         | true ↦ λ there. absurd (omega (arith, (number_below entries (asks_of entries + 1) legal there).1))
@@ -67,14 +72,19 @@ module _ (version : ℕ) (task : Task) where
       ] refl
 
   -- what answers a request comes behind it, while it is open
-  pub waiting_of : (before : List Entry) (n : ℕ) (e : Entry) → MayFollow version task before e → is_answer_to n e ≡ true
+  pub waiting_of : (before : List Entry) (n : ℕ) (e : Entry) → MayFollow version task before e
+      → is_answer_to n e ≡ true
       → is_open before n ≡ true
-  waiting_of before n (entry.Got number tuples values) may same = ap (is_open before) (eqb-true n number same) ∙ may.waiting
-  waiting_of before n (entry.Value number value) may same = ap (is_open before) (eqb-true n number same) ∙ may.waiting
-  waiting_of before n (entry.End number) may same = ap (is_open before) (eqb-true n number same) ∙ may
+  waiting_of before n (entry.Got number tuples values) may same =
+      ap (is_open before) (eqb-true n number same) ∙ may.waiting
+  waiting_of before n (entry.Value number value) may same =
+      ap (is_open before) (eqb-true n number same) ∙ may.waiting
+  waiting_of before n (entry.End number) may same =
+      ap (is_open before) (eqb-true n number same) ∙ may
   waiting_of before n e may same = absurd (cc)
 
-  pub answer_asked : (entries : List Entry) (n : ℕ) → IsLegal version task entries → list_any (is_answer_to n) entries ≡ true
+  pub answer_asked : (entries : List Entry) (n : ℕ) → IsLegal version task entries
+      → list_any (is_answer_to n) entries ≡ true
       → list_any (is_ask_of n) entries ≡ true
   answer_asked entries n legal there =
       let at = any_found (is_answer_to n) entries there in

@@ -31,7 +31,8 @@ use Rattle.transcript_model.proofs.LegalStepLemmas.{request_adds, answer_adds}
 
 -- ---- lists cut at a member
 
-pub cut_at : {A : Type 0} (xs : List A) (k : ℕ) (x : A) → slice_get xs k ≡ Some x → xs ≡ take k xs ++ x ∷ drop (suc k) xs
+pub cut_at : {A : Type 0} (xs : List A) (k : ℕ) (x : A) → slice_get xs k ≡ Some x
+    → xs ≡ take k xs ++ x ∷ drop (suc k) xs
 cut_at [] k x at = absurd (cc)
 cut_at (y ∷ ys) zero x at = let same : y ≡ x = cc in ap (λ z. z ∷ ys) same
 cut_at (y ∷ ys) (suc k) x at = ap (λ zs. y ∷ zs) (cut_at ys k x at)
@@ -40,9 +41,11 @@ take_twice : {A : Type 0} (xs : List A) (j k : ℕ) → j ≤ k → take j (take
 take_twice xs zero k le = refl
 take_twice xs (suc j) zero le = absurd (omega arith)
 take_twice [] (suc j) (suc k) le = refl
-take_twice (x ∷ xs) (suc j) (suc k) le = let below : j ≤ k = omega arith in ap (λ ys. x ∷ ys) (take_twice xs j k below)
+take_twice (x ∷ xs) (suc j) (suc k) le =
+    let below : j ≤ k = omega arith in ap (λ ys. x ∷ ys) (take_twice xs j k below)
 
-from_taken : {A : Type 0} (xs : List A) (j k : ℕ) (x : A) → slice_get (take k xs) j ≡ Some x → slice_get xs j ≡ Some x
+from_taken : {A : Type 0} (xs : List A) (j k : ℕ) (x : A) → slice_get (take k xs) j ≡ Some x
+    → slice_get xs j ≡ Some x
 from_taken [] j zero x at = absurd (cc)
 from_taken [] j (suc k) x at = absurd (cc)
 from_taken (y ∷ ys) j zero x at = absurd (cc)
@@ -54,10 +57,12 @@ joined xs ys x = sym (append_assoc xs (x ∷ []) ys)
 
 -- ---- notes
 
-yields_more : (xs ys : List Note) (i : Instance) → yields_of (xs ++ ys) i ≡ yields_of xs i + yields_of ys i
+yields_more : (xs ys : List Note) (i : Instance)
+    → yields_of (xs ++ ys) i ≡ yields_of xs i + yields_of ys i
 yields_more xs ys i = sum_by-append (λ n. cond (is_yield_of i n) 1 0) xs ys
 
-some_yields : (tuples : ℕ) (i : Instance) → 1 ≤ tuples → 1 ≤ yields_of (replicate tuples (Yielded i)) i
+some_yields : (tuples : ℕ) (i : Instance) → 1 ≤ tuples
+    → 1 ≤ yields_of (replicate tuples (Yielded i)) i
 some_yields zero i some = absurd (omega arith)
 some_yields (suc t) i some =
     let one : yields_of (Yielded i ∷ []) i ≡ 1 = rw (instance_itself i) refl in
@@ -70,7 +75,8 @@ pub record IsTold (before after : List Note) (i : Instance) (told : Bool) : Type
 
 module _ (version : ℕ) (task : Task) (distinct : AreDistinct (declared_names task)) where
   -- an answer tells its request's instance
-  told_by : (before later : List Entry) (e : Entry) (n : ℕ) (a : Asked) → IsLegal version task (before ++ e ∷ later)
+  told_by : (before later : List Entry) (e : Entry) (n : ℕ) (a : Asked)
+      → IsLegal version task (before ++ e ∷ later)
       → MayFollow version task before e → is_answer_to n e ≡ true → asked task before n ≡ Some a
       → (told : Bool) × IsTold (notes_of task before) (notes_of task (before ++ e ∷ later)) a.instance told
   told_by before later e n a legal may answers was =
@@ -80,26 +86,31 @@ module _ (version : ℕ) (task : Task) (distinct : AreDistinct (declared_names t
       let whole : notes_of task (before ++ e ∷ later) ≡ notes_with (notes_of task before) a e ++ flat_map (note_of task ((before ++ e ∷ []) ++ later)) later = ap (notes_of task) (joined before later e) ∙ (longer version task (before ++ e ∷ []) later distinct one).notes ∙ ap (λ ns. ns ++ flat_map (note_of task ((before ++ e ∷ []) ++ later)) later) here.notes in
       by_kind e may answers (flat_map (note_of task ((before ++ e ∷ []) ++ later)) later) whole
     where
-      ended : (rest : List Note) (after : List Note) → after ≡ (notes_of task before ++ Ended a.instance ∷ []) ++ rest
+      ended : (rest : List Note) (after : List Note)
+          → after ≡ (notes_of task before ++ Ended a.instance ∷ []) ++ rest
           → list_any (is_end_of a.instance) after ≡ true
       ended rest after is =
           let last : list_any (is_end_of a.instance) (Ended a.instance ∷ []) ≡ true = rw (instance_itself a.instance) refl in
           let before_rest : list_any (is_end_of a.instance) (notes_of task before ++ Ended a.instance ∷ []) ≡ true = rw (list_any-append (is_end_of a.instance) (notes_of task before) (Ended a.instance ∷ []), last) (or_true (list_any (is_end_of a.instance) (notes_of task before))) in
           rw (is, list_any-append (is_end_of a.instance) (notes_of task before ++ Ended a.instance ∷ []) rest, before_rest) refl
 
-      by_kind : (e : Entry) → MayFollow version task before e → is_answer_to n e ≡ true → (rest : List Note)
+      by_kind : (e : Entry) → MayFollow version task before e → is_answer_to n e ≡ true
+          → (rest : List Note)
           → notes_of task (before ++ e ∷ later) ≡ notes_with (notes_of task before) a e ++ rest
           → (told : Bool) × IsTold (notes_of task before) (notes_of task (before ++ e ∷ later)) a.instance told
       by_kind (entry.Got m tuples values) may answers rest whole =
           let more : yields_of (notes_of task (before ++ entry.Got m tuples values ∷ later)) a.instance ≡ yields_of (notes_of task before) a.instance + yields_of (replicate tuples (Yielded a.instance)) a.instance + yields_of rest a.instance =
           ap (λ ns. yields_of ns a.instance) whole ∙ yields_more (notes_of task before ++ replicate tuples (Yielded a.instance)) rest a.instance ∙ ap (λ y. y + yields_of rest a.instance) (yields_more (notes_of task before) (replicate tuples (Yielded a.instance)) a.instance) in
           (true, record { yield = λ _. omega (arith, more, some_yields tuples a.instance may.right.some); ended = λ no_end. absurd (cc) })
-      by_kind (entry.Value m value) may answers rest whole = (false, record { yield = λ t. absurd (cc); ended = λ _. ended rest _ whole })
-      by_kind (entry.End m) may answers rest whole = (false, record { yield = λ t. absurd (cc); ended = λ _. ended rest _ whole })
+      by_kind (entry.Value m value) may answers rest whole =
+          (false, record { yield = λ t. absurd (cc); ended = λ _. ended rest _ whole })
+      by_kind (entry.End m) may answers rest whole =
+          (false, record { yield = λ t. absurd (cc); ended = λ _. ended rest _ whole })
       by_kind e may answers rest whole = absurd (cc)
 
   -- what the request at a place asks, by the names before it
-  asked_from : (entries : List Entry) (j n turn : ℕ) (call : Call) (i : Instance) → IsLegal version task entries
+  asked_from : (entries : List Entry) (j n turn : ℕ) (call : Call) (i : Instance)
+      → IsLegal version task entries
       → slice_get entries j ≡ Some (entry.Ask n turn call) → instance_of task (names_of task (take j entries)) call ≡ Some i
       → (stream : Stream) × (asked task entries n ≡ Some (record { stream = stream; instance = i }))
   asked_from entries j n turn call i legal at named =
@@ -123,7 +134,8 @@ module _ (version : ℕ) (task : Task) (distinct : AreDistinct (declared_names t
       omega (arith, ap (λ ns. yields_of ns i) whole, yields_more (notes_of task (take j entries)) (flat_map (note_of task (take j entries ++ drop j entries)) (drop j entries)) i)
 
   -- the answer to a request that isn't open comes behind it, and has told its instance
-  told_since : (entries : List Entry) (j n turn : ℕ) (call : Call) (i : Instance) → IsLegal version task entries
+  told_since : (entries : List Entry) (j n turn : ℕ) (call : Call) (i : Instance)
+      → IsLegal version task entries
       → slice_get entries j ≡ Some (entry.Ask n turn call) → instance_of task (names_of task (take j entries)) call ≡ Some i
       → is_open entries n ≡ false → (told : Bool) × IsTold (notes_of task (take j entries)) (notes_of task entries) i told
   told_since entries j n turn call i legal there named closed =
@@ -152,7 +164,8 @@ module _ (version : ℕ) (task : Task) (distinct : AreDistinct (declared_names t
       answers false answer a c = absurd (cc)
 
   -- the request at an earlier place keeps a later one from asking the same
-  pub not_again : (entries : List Entry) (j k n m turn : ℕ) (call again : Call) (i : Instance) → IsLegal version task entries
+  pub not_again : (entries : List Entry) (j k n m turn : ℕ) (call again : Call) (i : Instance)
+      → IsLegal version task entries
       → slice_get entries j ≡ Some (entry.Ask n turn call) → slice_get entries k ≡ Some (entry.Ask m turn again)
       → instance_of task (names_of task (take j entries)) call ≡ Some i → instance_of task (names_of task (take k entries)) again ≡ Some i
       → j < k → ⊥
@@ -180,7 +193,8 @@ module _ (version : ℕ) (task : Task) (distinct : AreDistinct (declared_names t
             absurd (cc)
       ] told.1
 
-  pub not_twice : (entries : List Entry) (j k n m turn : ℕ) (call again : Call) (i : Instance) → IsLegal version task entries
+  pub not_twice : (entries : List Entry) (j k n m turn : ℕ) (call again : Call) (i : Instance)
+      → IsLegal version task entries
       → slice_get entries j ≡ Some (entry.Ask n turn call) → slice_get entries k ≡ Some (entry.Ask m turn again)
       → instance_of task (names_of task (take j entries)) call ≡ Some i → instance_of task (names_of task (take k entries)) again ≡ Some i
       → j ≡ k

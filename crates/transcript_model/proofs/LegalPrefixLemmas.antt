@@ -25,38 +25,48 @@ use Rattle.transcript_model.proofs.NamesLemmas.{and_then_some, with_names-front,
 
 -- ---- lists
 
-pub flat_map-at : {A B : Type 0} (f g : A → List B) (xs : List A) → ((k : ℕ) (x : A) → slice_get xs k ≡ Some x → f x ≡ g x)
+pub flat_map-at : {A B : Type 0} (f g : A → List B) (xs : List A)
+    → ((k : ℕ) (x : A) → slice_get xs k ≡ Some x → f x ≡ g x)
     → flat_map f xs ≡ flat_map g xs
 flat_map-at f g [] same = refl
-flat_map-at f g (x ∷ xs) same = rw (same 0 x refl, flat_map-at f g xs (λ k y at. same (suc k) y at)) refl
+flat_map-at f g (x ∷ xs) same =
+    rw (same 0 x refl, flat_map-at f g xs (λ k y at. same (suc k) y at)) refl
 
-member_mapped : {A B : Type 0} (f : A → B) (xs : List A) (x : A) → Contains xs x → Contains (map f xs) (f x)
+member_mapped : {A B : Type 0} (f : A → B) (xs : List A) (x : A) → Contains xs x
+    → Contains (map f xs) (f x)
 member_mapped f xs x m = let at = place_in xs x m in member_at (map f xs) at.0 (f x) (slice_get-map f xs at.0 ∙ ap (option_map f) at.1)
 
-member_joined : {A B : Type 0} (f : A → List B) (xs : List A) (k : ℕ) (x : A) (y : B) → slice_get xs k ≡ Some x → Contains (f x) y
+member_joined : {A B : Type 0} (f : A → List B) (xs : List A) (k : ℕ) (x : A) (y : B)
+    → slice_get xs k ≡ Some x → Contains (f x) y
     → Contains (flat_map f xs) y
 member_joined f [] k x y at m = absurd (cc)
 member_joined f (z ∷ zs) zero x y at m =
     let same : x ≡ z = cc in Contains-append_left (f z) (flat_map f zs) y (subst (λ w. Contains (f w) y) same m)
-member_joined f (z ∷ zs) (suc k) x y at m = Contains-append_right (f z) (flat_map f zs) y (member_joined f zs k x y at m)
+member_joined f (z ∷ zs) (suc k) x y at m =
+    Contains-append_right (f z) (flat_map f zs) y (member_joined f zs k x y at m)
 
 -- ---- names
 
-pub names_of-more : (task : Task) (xs ys : List Entry) → names_of task (xs ++ ys) ≡ with_names (names_of task xs) (flat_map objects_in ys)
+pub names_of-more : (task : Task) (xs ys : List Entry)
+    → names_of task (xs ++ ys) ≡ with_names (names_of task xs) (flat_map objects_in ys)
 names_of-more task xs ys =
     ap (with_names (declared_names task)) (flat_map-append objects_in xs ys)
     ∙ with_names-then (declared_names task) (flat_map objects_in xs) (flat_map objects_in ys)
 
-pub names_of-front : (task : Task) (xs ys : List Entry) → (added : List (List ℕ)) × (names_of task (xs ++ ys) ≡ names_of task xs ++ added)
+pub names_of-front : (task : Task) (xs ys : List Entry)
+    → (added : List (List ℕ)) × (names_of task (xs ++ ys) ≡ names_of task xs ++ added)
 names_of-front task xs ys =
     let front = with_names-front (names_of task xs) (flat_map objects_in ys) in (front.0, names_of-more task xs ys ∙ front.1)
 
-pub names_of-distinct : (task : Task) (entries : List Entry) → AreDistinct (declared_names task) → AreDistinct (names_of task entries)
-names_of-distinct task entries distinct = with_names-distinct (declared_names task) (flat_map objects_in entries) distinct
+pub names_of-distinct : (task : Task) (entries : List Entry) → AreDistinct (declared_names task)
+    → AreDistinct (names_of task entries)
+names_of-distinct task entries distinct =
+    with_names-distinct (declared_names task) (flat_map objects_in entries) distinct
 
 -- ---- requests
 
-pub call_of-kept : (xs ys : List Entry) (n : ℕ) (call : Call) → call_of xs n ≡ Some call → call_of (xs ++ ys) n ≡ Some call
+pub call_of-kept : (xs ys : List Entry) (n : ℕ) (call : Call) → call_of xs n ≡ Some call
+    → call_of (xs ++ ys) n ≡ Some call
 call_of-kept [] ys n call e = absurd (cc)
 call_of-kept (x ∷ xs) ys n call e =
     elim (call_in n x) as (λ o. option_or o (call_of xs n) ≡ Some call → option_or o (call_of (xs ++ ys) n) ≡ Some call) [
@@ -64,7 +74,8 @@ call_of-kept (x ∷ xs) ys n call e =
       | Some c ↦ λ h. h
     ] e
 
-pub asked-kept : (task : Task) (xs ys : List Entry) (n : ℕ) (a : Asked) → asked task xs n ≡ Some a → asked task (xs ++ ys) n ≡ Some a
+pub asked-kept : (task : Task) (xs ys : List Entry) (n : ℕ) (a : Asked) → asked task xs n ≡ Some a
+    → asked task (xs ++ ys) n ≡ Some a
 asked-kept task xs ys n a e =
     let whole = and_then_some (asked_of task) (option_and_then (instance_of task (names_of task xs)) (call_of xs n)) a e in
     let call = and_then_some (instance_of task (names_of task xs)) (call_of xs n) whole.0 whole.1 in
@@ -72,7 +83,8 @@ asked-kept task xs ys n a e =
     let later : instance_of task (names_of task (xs ++ ys)) call.0 ≡ Some whole.0 = subst (λ names. instance_of task names call.0 ≡ Some whole.0) (sym front.1) (instance_kept task (names_of task xs) front.0 call.0 whole.0 call.2) in
     rw (call_of-kept xs ys n call.0 call.1, later) whole.2
 
-pub asked-later : (task : Task) (entries : List Entry) (k n : ℕ) (a : Asked) → asked task (take k entries) n ≡ Some a
+pub asked-later : (task : Task) (entries : List Entry) (k n : ℕ) (a : Asked)
+    → asked task (take k entries) n ≡ Some a
     → asked task entries n ≡ Some a
 asked-later task entries k n a e =
     subst (λ all. asked task all n ≡ Some a) (take-append-drop k entries) (asked-kept task (take k entries) (drop k entries) n a e)
@@ -96,12 +108,14 @@ module _ (version : ℕ) (task : Task) where
       let below = slice_get_within xs k e at in
       subst (λ before. MayFollow version task before e) (take-append-le k xs ys (omega arith)) (legal k e (get_append xs ys k e at))
 
-  pub legal_take : (entries : List Entry) (k : ℕ) → IsLegal version task entries → IsLegal version task (take k entries)
+  pub legal_take : (entries : List Entry) (k : ℕ) → IsLegal version task entries
+      → IsLegal version task (take k entries)
   legal_take entries k legal =
       legal_front (take k entries) (drop k entries) (subst (IsLegal version task) (sym (take-append-drop k entries)) legal)
 
   -- what a request asks is known
-  pub request_known : (entries : List Entry) (n : ℕ) → IsLegal version task entries → list_any (is_ask_of n) entries ≡ true
+  pub request_known : (entries : List Entry) (n : ℕ) → IsLegal version task entries
+      → list_any (is_ask_of n) entries ≡ true
       → (a : Asked) × (asked task entries n ≡ Some a)
   request_known entries n legal there =
       let first = first_request entries n there in
@@ -112,7 +126,8 @@ module _ (version : ℕ) (task : Task) where
       (record { stream = right.due.stream; instance = right.instance }, rw (first.4, later, right.due.named) refl)
 
   -- the request that an entry answers is known before it
-  pub answered_before : (entries : List Entry) (n : ℕ) (e : Entry) → IsLegal version task entries → MayFollow version task entries e
+  pub answered_before : (entries : List Entry) (n : ℕ) (e : Entry) → IsLegal version task entries
+      → MayFollow version task entries e
       → is_answer_to n e ≡ true → (a : Asked) × (asked task entries n ≡ Some a)
   answered_before entries n (entry.Got number tuples values) legal may same =
       (may.request, ap (asked task entries) (eqb-true n number same) ∙ may.of)
@@ -121,20 +136,23 @@ module _ (version : ℕ) (task : Task) where
   answered_before entries n (entry.End number) legal may same = request_known entries n legal (ap (λ m. list_any (is_ask_of m) entries) (eqb-true n number same) ∙ first_so (list_any (is_ask_of number) entries) _ may)
   answered_before entries n e legal may same = absurd (cc)
 
-  pub answered : (entries : List Entry) (k n : ℕ) (e : Entry) → IsLegal version task entries → slice_get entries k ≡ Some e
+  pub answered : (entries : List Entry) (k n : ℕ) (e : Entry) → IsLegal version task entries
+      → slice_get entries k ≡ Some e
       → is_answer_to n e ≡ true → (a : Asked) × (asked task entries n ≡ Some a)
   answered entries k n e legal at same = let r = answered_before (take k entries) n e (legal_take entries k legal) (legal k e at) same in (r.0, asked-later task entries k n r.0 r.1)
 
 -- ---- facts and values
 
-pub values_then : (values first second : List Valued) → with_values values (first ++ second) ≡ with_values (with_values values first) second
+pub values_then : (values first second : List Valued)
+    → with_values values (first ++ second) ≡ with_values (with_values values first) second
 values_then values [] second = refl
 values_then values (v ∷ first) second = values_then (with_value values v) first second
 
 -- ---- what answers certify
 
 abbrev pub AreNamed : List (List ℕ) → List (List ℕ) → Type 0
-AreNamed names values = (value : List ℕ) → Contains values value → (k : ℕ) × (place_of names (generated value) ≡ Some k)
+AreNamed names values =
+    (value : List ℕ) → Contains values value → (k : ℕ) × (place_of names (generated value) ≡ Some k)
 
 pub named_places : (names values : List (List ℕ)) → AreNamed names values
     → (places : List ℕ) × (places_of names (map generated values) ≡ Some places)
@@ -144,13 +162,15 @@ named_places names (value ∷ values) named =
     let rest = named_places names values (λ v m. named v (Contains-append_right (value ∷ []) values v m)) in
     (first.0 ∷ rest.0, rw (first.1, rest.1) refl)
 
-tuple_kept : (task : Task) (names added : List (List ℕ)) (a : Asked) (tuple : List (List ℕ)) → AreNamed names tuple
+tuple_kept : (task : Task) (names added : List (List ℕ)) (a : Asked) (tuple : List (List ℕ))
+    → AreNamed names tuple
     → tuple_facts task names a tuple ≡ tuple_facts task (names ++ added) a tuple
 tuple_kept task names added a tuple named =
     let places = named_places names tuple named in
     rw (places.1, places_kept names added (map generated tuple) places.0 places.1) refl
 
-yield_kept : (task : Task) (names added : List (List ℕ)) (a : Asked) (width tuples : ℕ) (values : List (List ℕ)) → AreNamed names values
+yield_kept : (task : Task) (names added : List (List ℕ)) (a : Asked) (width tuples : ℕ) (values : List (List ℕ))
+    → AreNamed names values
     → flat_map (tuple_facts task names a) (tuples_in width tuples values) ≡ flat_map (tuple_facts task (names ++ added) a) (tuples_in width tuples values)
 yield_kept task names added a width zero values named = refl
 yield_kept task names added a width (suc tuples) values named =
@@ -160,13 +180,15 @@ yield_kept task names added a width (suc tuples) values named =
     rw (front, rest) refl
 
 -- the values of a transcript's yields have their objects in its table of names
-pub values_named : (task : Task) (entries : List Entry) (k number tuples : ℕ) (values : List (List ℕ)) → AreDistinct (declared_names task)
+pub values_named : (task : Task) (entries : List Entry) (k number tuples : ℕ) (values : List (List ℕ))
+    → AreDistinct (declared_names task)
     → slice_get entries k ≡ Some (entry.Got number tuples values) → AreNamed (names_of task entries) values
 values_named task entries k number tuples values distinct at value m =
     place_found (names_of task entries) (generated value) (names_of-distinct task entries distinct) (with_names-has (declared_names task) (flat_map objects_in entries) (generated value) (member_joined objects_in entries k (entry.Got number tuples values) (generated value) at (member_mapped generated values value m)))
 
 module _ (version : ℕ) (task : Task) (entries more : List Entry) (distinct : AreDistinct (declared_names task)) (legal : IsLegal version task entries) where
-  certified_same : (k : ℕ) (e : Entry) → slice_get entries k ≡ Some e → certified task (entries ++ more) e ≡ certified task entries e
+  certified_same : (k : ℕ) (e : Entry) → slice_get entries k ≡ Some e
+      → certified task (entries ++ more) e ≡ certified task entries e
   certified_same k (entry.Got n tuples values) at =
       let a = answered version task entries k n (entry.Got n tuples values) legal at (eq-eqb n n refl) in
       let front = names_of-front task entries more in
@@ -174,13 +196,15 @@ module _ (version : ℕ) (task : Task) (entries more : List Entry) (distinct : A
       rw (asked-kept task entries more n a.0 a.1, a.1) (ap (λ names. yield_facts task names a.0 tuples values) front.1 ∙ sym kept)
   certified_same k e at = refl
 
-  told_same : (k : ℕ) (e : Entry) → slice_get entries k ≡ Some e → told_value task (entries ++ more) e ≡ told_value task entries e
+  told_same : (k : ℕ) (e : Entry) → slice_get entries k ≡ Some e
+      → told_value task (entries ++ more) e ≡ told_value task entries e
   told_same k (entry.Value n value) at =
       let a = answered version task entries k n (entry.Value n value) legal at (eq-eqb n n refl) in
       rw (asked-kept task entries more n a.0 a.1, a.1) refl
   told_same k e at = refl
 
-  note_same : (k : ℕ) (e : Entry) → slice_get entries k ≡ Some e → note_of task (entries ++ more) e ≡ note_of task entries e
+  note_same : (k : ℕ) (e : Entry) → slice_get entries k ≡ Some e
+      → note_of task (entries ++ more) e ≡ note_of task entries e
   note_same k (entry.Got n tuples values) at =
       let a = answered version task entries k n (entry.Got n tuples values) legal at (eq-eqb n n refl) in
       rw (asked-kept task entries more n a.0 a.1, a.1) refl
@@ -192,9 +216,12 @@ module _ (version : ℕ) (task : Task) (entries more : List Entry) (distinct : A
       rw (asked-kept task entries more n a.0 a.1, a.1) refl
   note_same k e at = refl
 
-  in_front : {A : Type 0} (f g : Entry → List A) → ((k : ℕ) (e : Entry) → slice_get entries k ≡ Some e → f e ≡ g e)
+  in_front : {A : Type 0} (f g : Entry → List A)
+      → ((k : ℕ) (e : Entry) → slice_get entries k ≡ Some e → f e ≡ g e)
       → flat_map f (entries ++ more) ≡ flat_map g entries ++ flat_map f more
-  in_front f g same = flat_map-append f entries more ∙ ap (λ front. front ++ flat_map f more) (flat_map-at f g entries same)
+  in_front f g same =
+      flat_map-append f entries more
+      ∙ ap (λ front. front ++ flat_map f more) (flat_map-at f g entries same)
 
   pub longer : Continues task entries more
   longer = record {

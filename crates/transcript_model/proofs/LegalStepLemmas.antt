@@ -24,7 +24,8 @@ use Rattle.transcript_model.proofs.LegalPrefixLemmas.{longer, asked-kept, reques
 
 -- ---- parts
 
-call_of-then : (xs ys : List Entry) (n : ℕ) → call_of (xs ++ ys) n ≡ option_or (call_of xs n) (call_of ys n)
+call_of-then : (xs ys : List Entry) (n : ℕ)
+    → call_of (xs ++ ys) n ≡ option_or (call_of xs n) (call_of ys n)
 call_of-then [] ys n = refl
 call_of-then (x ∷ xs) ys n =
     elim (call_in n x) as (λ o. option_or o (call_of (xs ++ ys) n) ≡ option_or (option_or o (call_of xs n)) (call_of ys n)) [
@@ -48,7 +49,8 @@ no_true_false b t f = absurd (cc)
 module _ (version : ℕ) (task : Task) (before : List Entry) (distinct : AreDistinct (declared_names task)) (legal : IsLegal version task before) where
   -- ---- marks
 
-  same_known : (e : Entry) → objects_in e ≡ [] → certified task (before ++ e ∷ []) e ≡ [] → told_value task (before ++ e ∷ []) e ≡ []
+  same_known : (e : Entry) → objects_in e ≡ [] → certified task (before ++ e ∷ []) e ≡ []
+      → told_value task (before ++ e ∷ []) e ≡ []
       → note_of task (before ++ e ∷ []) e ≡ [] → ChangesNothing task before (before ++ e ∷ [])
   same_known e names facts values notes =
       let c = longer version task before (e ∷ []) distinct legal in
@@ -57,18 +59,22 @@ module _ (version : ℕ) (task : Task) (before : List Entry) (distinct : AreDist
       let same_values : (known_of task (before ++ e ∷ [])).values ≡ (known_of task before).values = c.values ∙ ap (λ vs. with_values (known_of task before).values (vs ++ [])) values in
       record {
         known = λ i. record { names = same_names i; facts = same_facts i; values = same_values i };
-        notes = c.notes ∙ ap (λ ns. notes_of task before ++ (ns ++ [])) notes ∙ append-nil (notes_of task before);
+        notes =
+            c.notes ∙ ap (λ ns. notes_of task before ++ (ns ++ [])) notes
+            ∙ append-nil (notes_of task before);
       }
 
   -- where no call is new, what was asked is the same
-  same_asked : (e : Entry) (n : ℕ) → call_in n e ≡ None → asked task (before ++ e ∷ []) n ≡ asked task before n
+  same_asked : (e : Entry) (n : ℕ) → call_in n e ≡ None
+      → asked task (before ++ e ∷ []) n ≡ asked task before n
   same_asked e n none =
       elim (list_any (is_ask_of n) before) as (λ b. list_any (is_ask_of n) before ≡ b → asked task (before ++ e ∷ []) n ≡ asked task before n) [
         | true ↦ λ there. let a = request_known version task before n legal there in asked-kept task before (e ∷ []) n a.0 a.1 ∙ sym a.1
         | false ↦ λ absent. let old = no_call before n absent in let new : call_of (before ++ e ∷ []) n ≡ None = rw (call_of-then before (e ∷ []) n, old, none) refl in rw (new, old) refl
       ] refl
 
-  mark_open : (e : Entry) (n : ℕ) → is_ask_of n e ≡ false → is_answer_to n e ≡ false → is_open (before ++ e ∷ []) n ≡ is_open before n
+  mark_open : (e : Entry) (n : ℕ) → is_ask_of n e ≡ false → is_answer_to n e ≡ false
+      → is_open (before ++ e ∷ []) n ≡ is_open before n
   mark_open e n ask answer =
       rw (list_any-append (is_ask_of n) before (e ∷ []), list_any-append (is_answer_to n) before (e ∷ []), ask, answer, or_false (list_any (is_ask_of n) before), or_false (list_any (is_answer_to n) before)) refl
 
@@ -122,7 +128,8 @@ module _ (version : ℕ) (task : Task) (before : List Entry) (distinct : AreDist
 
   -- ---- requests
 
-  pub request_adds : (number turn : ℕ) (call : Call) (stream : Stream) (i : Instance) → IsRightAsk task before number turn call
+  pub request_adds : (number turn : ℕ) (call : Call) (stream : Stream) (i : Instance)
+      → IsRightAsk task before number turn call
       → list_any (is_ask_of number) before ≡ false → instance_of task (names_of task before) call ≡ Some i
       → slice_get task.streams i.stream ≡ Some stream
       → AddsRequest task before (before ++ entry.Ask number turn call ∷ []) number (record { stream = stream; instance = i })
@@ -148,7 +155,8 @@ module _ (version : ℕ) (task : Task) (before : List Entry) (distinct : AreDist
           ] refl
 
       -- an answer to a number that no request has
-      asked_open : (n : ℕ) → is_open (before ++ entry.Ask number turn call ∷ []) n ≡ (is_open before n || (n == number))
+      asked_open : (n : ℕ)
+          → is_open (before ++ entry.Ask number turn call ∷ []) n ≡ (is_open before n || (n == number))
       asked_open n =
           rw (list_any-append (is_ask_of n) before (entry.Ask number turn call ∷ []), list_any-append (is_answer_to n) before (entry.Ask number turn call ∷ []), or_false (n == number), or_false (list_any (is_answer_to n) before)) (open_or (list_any (is_ask_of n) before) (list_any (is_answer_to n) before) (n == number) unanswered)
         where
@@ -172,18 +180,21 @@ module _ (version : ℕ) (task : Task) (before : List Entry) (distinct : AreDist
 
   -- ---- answers
 
-  answer_open : (e : Entry) (n number : ℕ) → is_ask_of n e ≡ false → is_answer_to n e ≡ (n == number)
+  answer_open : (e : Entry) (n number : ℕ) → is_ask_of n e ≡ false
+      → is_answer_to n e ≡ (n == number)
       → is_open (before ++ e ∷ []) n ≡ (is_open before n && not (n == number))
   answer_open e n number ask answer =
       rw (list_any-append (is_ask_of n) before (e ∷ []), list_any-append (is_answer_to n) before (e ∷ []), ask, answer, or_false (list_any (is_ask_of n) before), or_false (n == number)) (open_not (list_any (is_ask_of n) before) (list_any (is_answer_to n) before) (n == number))
     where
-      open_not : (ask answer this : Bool) → (ask && not (answer || this)) ≡ ((ask && not answer) && not this)
+      open_not : (ask answer this : Bool)
+          → (ask && not (answer || this)) ≡ ((ask && not answer) && not this)
       open_not true true this = refl
       open_not true false this = refl
       open_not false answer this = refl
 
   module _ (number : ℕ) (a : Asked) (was : asked task before number ≡ Some a) where
-    got_adds : (tuples : ℕ) (values : List (List ℕ)) → AddsAnswer task before (entry.Got number tuples values) number a
+    got_adds : (tuples : ℕ) (values : List (List ℕ))
+        → AddsAnswer task before (entry.Got number tuples values) number a
     got_adds tuples values =
         let e = entry.Got number tuples values in
         let c = longer version task before (e ∷ []) distinct legal in
@@ -194,7 +205,9 @@ module _ (version : ℕ) (task : Task) (before : List Entry) (distinct : AreDist
         let noted : note_of task (before ++ e ∷ []) e ≡ replicate tuples (Yielded a.instance) = rw new refl in
         record {
           known = λ i. record { names = names i; facts = facts i; values = c.values i };
-          notes = c.notes ∙ ap (λ ns. notes_of task before ++ ns) (append-nil (note_of task (before ++ e ∷ []) e) ∙ noted);
+          notes =
+              c.notes
+              ∙ ap (λ ns. notes_of task before ++ ns) (append-nil (note_of task (before ++ e ∷ []) e) ∙ noted);
           asks = same_asks e refl;
           requests = λ n. same_asked e n refl;
           waiting = λ n. answer_open e n number refl refl;
@@ -210,7 +223,9 @@ module _ (version : ℕ) (task : Task) (before : List Entry) (distinct : AreDist
         let noted : note_of task (before ++ e ∷ []) e ≡ Ended a.instance ∷ [] = rw new refl in
         record {
           known = λ i. record { names = c.names i; facts = c.facts i; values = values i };
-          notes = c.notes ∙ ap (λ ns. notes_of task before ++ ns) (append-nil (note_of task (before ++ e ∷ []) e) ∙ noted);
+          notes =
+              c.notes
+              ∙ ap (λ ns. notes_of task before ++ ns) (append-nil (note_of task (before ++ e ∷ []) e) ∙ noted);
           asks = same_asks e refl;
           requests = λ n. same_asked e n refl;
           waiting = λ n. answer_open e n number refl refl;
@@ -224,7 +239,9 @@ module _ (version : ℕ) (task : Task) (before : List Entry) (distinct : AreDist
         let noted : note_of task (before ++ e ∷ []) e ≡ Ended a.instance ∷ [] = rw new refl in
         record {
           known = λ i. record { names = c.names i; facts = c.facts i; values = c.values i };
-          notes = c.notes ∙ ap (λ ns. notes_of task before ++ ns) (append-nil (note_of task (before ++ e ∷ []) e) ∙ noted);
+          notes =
+              c.notes
+              ∙ ap (λ ns. notes_of task before ++ ns) (append-nil (note_of task (before ++ e ∷ []) e) ∙ noted);
           asks = same_asks e refl;
           requests = λ n. same_asked e n refl;
           waiting = λ n. answer_open e n number refl refl;
@@ -235,5 +252,6 @@ module _ (version : ℕ) (task : Task) (before : List Entry) (distinct : AreDist
         subst (λ m. AddsAnswer task before (entry.Got m tuples values) number a) (eqb-true number n same) (got_adds tuples values)
     answer_adds (entry.Value n value) same =
         subst (λ m. AddsAnswer task before (entry.Value m value) number a) (eqb-true number n same) (value_adds value)
-    answer_adds (entry.End n) same = subst (λ m. AddsAnswer task before (entry.End m) number a) (eqb-true number n same) end_adds
+    answer_adds (entry.End n) same =
+        subst (λ m. AddsAnswer task before (entry.End m) number a) (eqb-true number n same) end_adds
     answer_adds e same = absurd (cc)

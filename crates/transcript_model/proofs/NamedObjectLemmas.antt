@@ -28,12 +28,14 @@ use Rattle.task_model.specs.declared.task.Valued.{Valued}
 
 -- ---- lists
 
-pub all_joined : {A B : Type 0} (P : B → Type 0) (f : A → List B) (xs : List A) → ((k : ℕ) (x : A) → slice_get xs k ≡ Some x → All P (f x))
+pub all_joined : {A B : Type 0} (P : B → Type 0) (f : A → List B) (xs : List A)
+    → ((k : ℕ) (x : A) → slice_get xs k ≡ Some x → All P (f x))
     → All P (flat_map f xs)
 all_joined P f [] each = All-nil P
 all_joined P f (x ∷ xs) each = All-append P (f x) (flat_map f xs) (each 0 x refl) (all_joined P f xs (λ k y at. each (suc k) y at))
 
-pub passes_all : {A : Type 0} (p : A → Bool) (P : A → Type 0) (xs : List A) → ((x : A) → p x ≡ true → P x) → list_all p xs ≡ true → All P xs
+pub passes_all : {A : Type 0} (p : A → Bool) (P : A → Type 0) (xs : List A)
+    → ((x : A) → p x ≡ true → P x) → list_all p xs ≡ true → All P xs
 passes_all p P xs so e k d lt = so _ (AllPass-from_list_all p xs e k d lt)
 
 -- ---- names
@@ -41,7 +43,8 @@ passes_all p P xs so e k d lt = so _ (AllPass-from_list_all p xs e k d lt)
 abbrev pub IsNamed : List (List ℕ) → Fact → Type 0
 IsNamed names f = All (IsIn names) f.args
 
-type_named : (names : List (List ℕ)) (sort object : ℕ) → IsIn names object → IsNamed names (type_fact sort object)
+type_named : (names : List (List ℕ)) (sort object : ℕ) → IsIn names object
+    → IsNamed names (type_fact sort object)
 type_named names sort object there = all_one (IsIn names) object there
 
 types_named : (names : List (List ℕ)) (domain : Domain) (sort object : ℕ) → IsIn names object
@@ -50,7 +53,8 @@ types_named names domain sort object there = All-map (IsNamed names) (λ s. type
 
 -- ---- what is known at first
 
-declared_named : (names : List (List ℕ)) (domain : Domain) (object : ℕ) (ds : List Declared) → object + length ds ≤ length names
+declared_named : (names : List (List ℕ)) (domain : Domain) (object : ℕ) (ds : List Declared)
+    → object + length ds ≤ length names
     → All (IsNamed names) (declared_types domain object ds)
 declared_named names domain object [] le = All-nil (IsNamed names)
 declared_named names domain object (d ∷ ds) le =
@@ -59,12 +63,14 @@ declared_named names domain object (d ∷ ds) le =
     All-append (IsNamed names) (flat_map (λ sort. type_facts domain sort object) (d.sorts ++ 0 ∷ [])) (declared_types domain (object + 1) ds) (all_joined (IsNamed names) (λ sort. type_facts domain sort object) (d.sorts ++ 0 ∷ []) (λ k sort at. types_named names domain sort object (in_names names object here)))
     (declared_named names domain (object + 1) ds rest)
 
-objects_named : (names : List (List ℕ)) (most : ℕ) (objects : List ℕ) → most ≤ length names → list_all (λ o. nat_lt o most) objects ≡ true
+objects_named : (names : List (List ℕ)) (most : ℕ) (objects : List ℕ) → most ≤ length names
+    → list_all (λ o. nat_lt o most) objects ≡ true
     → All (IsIn names) objects
 objects_named names most objects le all =
     passes_all (λ o. nat_lt o most) (IsIn names) objects (λ o lt. in_names names o (omega (arith, ltb-true o most lt))) all
 
-fact_named : (names : List (List ℕ)) (domain : Domain) (objects : ℕ) (fact : Fact) → objects ≤ length names
+fact_named : (names : List (List ℕ)) (domain : Domain) (objects : ℕ) (fact : Fact)
+    → objects ≤ length names
     → is_fit_fact domain objects fact ≡ true → IsNamed names fact
 fact_named names domain objects fact le e =
     let a = is_predicate fact.kind in
@@ -73,7 +79,8 @@ fact_named names domain objects fact le e =
     let d = not (is_derived_role (role_of domain fact.name)) in
     objects_named names objects fact.args le (second_so (a && b) c (first_so (a && b && c) d e))
 
-pub with_facts-all : (P : Fact → Type 0) (facts more : List Fact) → All P facts → All P more → All P (with_facts facts more)
+pub with_facts-all : (P : Fact → Type 0) (facts more : List Fact) → All P facts → All P more
+    → All P (with_facts facts more)
 with_facts-all P facts [] all more = all
 with_facts-all P facts (f ∷ fs) all more =
     with_facts-all P (with_fact facts f) fs (one (All-contains P (f ∷ fs) f more (0, omega arith, refl))) (λ k d lt. more (suc k) d (omega arith))
@@ -85,7 +92,8 @@ with_facts-all P facts (f ∷ fs) all more =
           | false ↦ All-append P facts (f ∷ []) all (all_one P f p)
         ]
 
-pub initial_named : (names : List (List ℕ)) (task : Task) → IsFit task → length task.problem.objects ≤ length names
+pub initial_named : (names : List (List ℕ)) (task : Task) → IsFit task
+    → length task.problem.objects ≤ length names
     → All (IsNamed names) (initial_facts task)
 initial_named names task fit le =
     let listed : length task.problem.objects ≤ length names = le in
@@ -96,20 +104,24 @@ initial_named names task fit le =
 
 -- ---- what a yield certifies
 
-pub term_named : (names : List (List ℕ)) (constants : ℕ) (objects : List ℕ) (t : Term) → constants ≤ length names → All (IsIn names) objects
+pub term_named : (names : List (List ℕ)) (constants : ℕ) (objects : List ℕ) (t : Term)
+    → constants ≤ length names → All (IsIn names) objects
     → is_fit_term constants (numbers_from 0 (length objects)) t ≡ true → IsIn names (object_of (slots_of objects) t)
 term_named names constants objects (Slot n) le all e =
     let below : n < length objects = omega (arith, below_in_numbers 0 (length objects) n e) in
     let is : slice_index (slots_of objects) n ≡ get_or objects n 0 = get_or_append_left objects (replicate (16 - length objects) 0) 0 n below in
     subst (IsIn names) (sym is) (all n 0 below)
-term_named names constants objects (Object o) le all e = in_names names o (omega (arith, ltb-true o constants e))
+term_named names constants objects (Object o) le all e =
+    in_names names o (omega (arith, ltb-true o constants e))
 
-pub terms_named : (names : List (List ℕ)) (constants : ℕ) (objects : List ℕ) (terms : List Term) → constants ≤ length names
+pub terms_named : (names : List (List ℕ)) (constants : ℕ) (objects : List ℕ) (terms : List Term)
+    → constants ≤ length names
     → All (IsIn names) objects → list_all (is_fit_term constants (numbers_from 0 (length objects))) terms ≡ true
     → All (IsIn names) (objects_at (slots_of objects) terms)
 terms_named names constants objects terms le all e = All-map (IsIn names) (object_of (slots_of objects)) terms (passes_all (is_fit_term constants (numbers_from 0 (length objects))) (λ t. IsIn names (object_of (slots_of objects) t)) terms (λ t fits. term_named names constants objects t le all fits) e)
 
-output_types_named : (names : List (List ℕ)) (domain : Domain) (sorts objects : List ℕ) → All (IsIn names) objects
+output_types_named : (names : List (List ℕ)) (domain : Domain) (sorts objects : List ℕ)
+    → All (IsIn names) objects
     → All (IsNamed names) (output_types domain sorts objects)
 output_types_named names domain [] objects all = All-nil (IsNamed names)
 output_types_named names domain (sort ∷ sorts) [] all = All-nil (IsNamed names)
@@ -145,23 +157,27 @@ stream_parts domain s e =
       worth = second_so (a && b && c && d && f && g && h && i) w e;
     }
 
-pub constants_few : (task : Task) → IsFit task → length task.domain.constants ≤ length task.problem.objects
+pub constants_few : (task : Task) → IsFit task
+    → length task.domain.constants ≤ length task.problem.objects
 constants_few task fit =
     let same : length (map (λ (d : Declared). d.name) task.domain.constants) ≡ length (take (length task.domain.constants) (declared_names task)) = ap length fit.problem.constants_first in
     omega (arith, same, length-map task.domain.constants (λ (d : Declared). d.name), length-take (length task.domain.constants) (declared_names task), length-map task.problem.objects (λ (d : Declared). d.name))
 
-pub fit_stream_at : (task : Task) (k : ℕ) (s : Stream) → IsFit task → slice_get task.streams k ≡ Some s → is_fit_stream task.domain s ≡ true
+pub fit_stream_at : (task : Task) (k : ℕ) (s : Stream) → IsFit task
+    → slice_get task.streams k ≡ Some s → is_fit_stream task.domain s ≡ true
 fit_stream_at task k s fit at =
     found task.streams k (second_so (is_short task.streams) (list_all (is_fit_stream task.domain) task.streams) fit.streams.each) at
   where
-    found : (streams : List Stream) (k : ℕ) → list_all (is_fit_stream task.domain) streams ≡ true → slice_get streams k ≡ Some s
+    found : (streams : List Stream) (k : ℕ) → list_all (is_fit_stream task.domain) streams ≡ true
+        → slice_get streams k ≡ Some s
         → is_fit_stream task.domain s ≡ true
     found [] k all at = absurd (cc)
     found (t ∷ ts) zero all at = let same : t ≡ s = cc in subst (λ x. is_fit_stream task.domain x ≡ true) same (first_so (is_fit_stream task.domain t) (list_all (is_fit_stream task.domain) ts) all)
     found (t ∷ ts) (suc k) all at = found ts k (second_so (is_fit_stream task.domain t) (list_all (is_fit_stream task.domain) ts) all) at
 
 -- What a yield of a stream of the task certifies is of objects with names, where its inputs and outputs have names.
-pub certified_named : (names : List (List ℕ)) (task : Task) (s : Stream) (inputs outputs : List ℕ) → IsFit task
+pub certified_named : (names : List (List ℕ)) (task : Task) (s : Stream) (inputs outputs : List ℕ)
+    → IsFit task
     → is_fit_stream task.domain s ≡ true → length task.problem.objects ≤ length names → length inputs ≡ length s.inputs
     → length outputs ≡ length s.outputs → All (IsIn names) inputs → All (IsIn names) outputs
     → All (IsNamed names) (certified_by task.domain s inputs outputs)
@@ -172,10 +188,12 @@ certified_named names task s inputs outputs fit fits le ins outs all_in all_out 
     All-append (IsNamed names) (output_types task.domain s.outputs outputs) (map (fact_of (slots_of (inputs ++ outputs))) s.certified) (output_types_named names task.domain s.outputs outputs all_out)
     (patterns_named names task.domain (length task.domain.constants) (inputs ++ outputs) s.certified (omega (arith, constants_few task fit)) (All-append (IsIn names) inputs outputs all_in all_out) slots)
 
-worth_shape : (names : List (List ℕ)) (task : Task) (s : Stream) (inputs : List ℕ) (value : ℕ) → length task.domain.constants ≤ length names
+worth_shape : (names : List (List ℕ)) (task : Task) (s : Stream) (inputs : List ℕ) (value : ℕ)
+    → length task.domain.constants ≤ length names
     → length inputs ≡ length s.inputs → All (IsIn names) inputs → (w : Option Worth) → s.worth ≡ w → is_fit_worth task.domain s ≡ true
     → All (λ (v : Valued). All (IsIn names) v.args) (worth_by s inputs value)
-worth_shape names task s inputs value le ins all None e fits = rw e (All-nil (λ (v : Valued). All (IsIn names) v.args))
+worth_shape names task s inputs value le ins all None e fits =
+    rw e (All-nil (λ (v : Valued). All (IsIn names) v.args))
 worth_shape names task s inputs value le ins all (Some w) e fits =
     let filled = numbers_from 0 (length s.inputs) in
     let application = is_fit_application task.domain.functions (length task.domain.constants) filled w.func w.args in
@@ -185,7 +203,8 @@ worth_shape names task s inputs value le ins all (Some w) e fits =
     rw e (all_one (λ (v : Valued). All (IsIn names) v.args) _ (terms_named names (length task.domain.constants) inputs w.args le all slots))
 
 -- the arguments of the term that a cost stream gives a value have names
-pub worth_named : (names : List (List ℕ)) (task : Task) (s : Stream) (inputs : List ℕ) (value : ℕ) → IsFit task
+pub worth_named : (names : List (List ℕ)) (task : Task) (s : Stream) (inputs : List ℕ) (value : ℕ)
+    → IsFit task
     → is_fit_stream task.domain s ≡ true → length task.problem.objects ≤ length names → length inputs ≡ length s.inputs
     → All (IsIn names) inputs → All (λ (v : Valued). All (IsIn names) v.args) (worth_by s inputs value)
 worth_named names task s inputs value fit fits le ins all = worth_shape names task s inputs value (omega (arith, constants_few task fit)) ins all s.worth refl (stream_parts task.domain s fits).worth

@@ -20,12 +20,14 @@ use Rattle.lemmas.proofs.Numbers.{suc_same}
 
 -- ---- options
 
-pub and_then_some : {A B : Type 0} (f : A → Option B) (o : Option A) (b : B) → option_and_then f o ≡ Some b
+pub and_then_some : {A B : Type 0} (f : A → Option B) (o : Option A) (b : B)
+    → option_and_then f o ≡ Some b
     → (a : A) × (o ≡ Some a) × (f a ≡ Some b)
 and_then_some f None b e = absurd (cc)
 and_then_some f (Some a) b e = (a, refl, e)
 
-pub map_some : {A B : Type 0} (f : A → B) (o : Option A) (b : B) → option_map f o ≡ Some b → (a : A) × (o ≡ Some a) × (f a ≡ b)
+pub map_some : {A B : Type 0} (f : A → B) (o : Option A) (b : B) → option_map f o ≡ Some b
+    → (a : A) × (o ≡ Some a) × (f a ≡ b)
 map_some f None b e = absurd (cc)
 map_some f (Some a) b e = (a, refl, cc)
 
@@ -33,7 +35,8 @@ map_some f (Some a) b e = (a, refl, cc)
 
 -- ---- positions
 
-from_kept : {A : Type 0} (p : A → Bool) (i : ℕ) (xs ys : List A) (k : ℕ) → position_from p i xs ≡ Some k
+from_kept : {A : Type 0} (p : A → Bool) (i : ℕ) (xs ys : List A) (k : ℕ)
+    → position_from p i xs ≡ Some k
     → position_from p i (xs ++ ys) ≡ Some k
 from_kept p i [] ys k e = absurd (cc)
 from_kept p i (x ∷ xs) ys k e =
@@ -52,7 +55,8 @@ from_at p i (x ∷ xs) k e =
     ] refl e
 
 -- the only place that passes is found
-from_only : {A : Type 0} (p : A → Bool) (i : ℕ) (xs : List A) (j : ℕ) (x : A) → slice_get xs j ≡ Some x → p x ≡ true
+from_only : {A : Type 0} (p : A → Bool) (i : ℕ) (xs : List A) (j : ℕ) (x : A)
+    → slice_get xs j ≡ Some x → p x ≡ true
     → ((m : ℕ) (y : A) → slice_get xs m ≡ Some y → p y ≡ true → m ≡ j) → position_from p i xs ≡ Some (i + j)
 from_only p i [] j x e t only = absurd (cc)
 from_only p i (z ∷ zs) zero x e t only =
@@ -64,8 +68,10 @@ from_only p i (z ∷ zs) (suc j) x e t only =
       | false ↦ λ here. let sum : (i + 1) + j ≡ i + suc j = omega arith in from_only p (i + 1) zs j x e t (λ m y at passes. suc_same m j (only (suc m) y at passes)) ∙ ap Some sum
     ] refl
 
-pub position_kept : {A : Type 0} (p : A → Bool) (xs ys : List A) (k : ℕ) → position p xs ≡ Some k → position p (xs ++ ys) ≡ Some k
-position_kept p xs ys k e = position_from-zero p (xs ++ ys) ∙ from_kept p 0 xs ys k (sym (position_from-zero p xs) ∙ e)
+pub position_kept : {A : Type 0} (p : A → Bool) (xs ys : List A) (k : ℕ) → position p xs ≡ Some k
+    → position p (xs ++ ys) ≡ Some k
+position_kept p xs ys k e =
+    position_from-zero p (xs ++ ys) ∙ from_kept p 0 xs ys k (sym (position_from-zero p xs) ∙ e)
 
 pub position_at : {A : Type 0} (p : A → Bool) (xs : List A) (k : ℕ) → position p xs ≡ Some k
     → (x : A) × (slice_get xs k ≡ Some x) × (p x ≡ true)
@@ -74,58 +80,69 @@ position_at p xs k e =
     let same : r.0 ≡ k = omega (arith, r.2) in
     (r.1, subst (λ j. slice_get xs j ≡ Some r.1) same r.3, r.4)
 
-pub position_only : {A : Type 0} (p : A → Bool) (xs : List A) (j : ℕ) (x : A) → slice_get xs j ≡ Some x → p x ≡ true
+pub position_only : {A : Type 0} (p : A → Bool) (xs : List A) (j : ℕ) (x : A)
+    → slice_get xs j ≡ Some x → p x ≡ true
     → ((m : ℕ) (y : A) → slice_get xs m ≡ Some y → p y ≡ true → m ≡ j) → position p xs ≡ Some j
 position_only p xs j x e t only =
     let none : 0 + j ≡ j = omega arith in position_from-zero p xs ∙ from_only p 0 xs j x e t only ∙ ap Some none
 
 -- ---- names
 
-pub place_at : (names : List (List ℕ)) (name : List ℕ) (k : ℕ) → place_of names name ≡ Some k → slice_get names k ≡ Some name
+pub place_at : (names : List (List ℕ)) (name : List ℕ) (k : ℕ) → place_of names name ≡ Some k
+    → slice_get names k ≡ Some name
 place_at names name k e = let r = position_at (same_numbers name) names k e in r.1 ∙ ap Some (sym ((numbers_decided name r.0).0 r.2))
 
-pub place_only : (names : List (List ℕ)) (name : List ℕ) (k : ℕ) → AreDistinct names → slice_get names k ≡ Some name
+pub place_only : (names : List (List ℕ)) (name : List ℕ) (k : ℕ) → AreDistinct names
+    → slice_get names k ≡ Some name
     → place_of names name ≡ Some k
 place_only names name k distinct at = position_only (same_numbers name) names k name at ((numbers_decided name name).1 refl) (λ m y there same. distinct m k name (there ∙ ap Some (sym ((numbers_decided name y).0 same))) at)
 
 -- names behind the others leave them in front
-pub with_name-front : (names : List (List ℕ)) (name : List ℕ) → (more : List (List ℕ)) × (with_name names name ≡ names ++ more)
+pub with_name-front : (names : List (List ℕ)) (name : List ℕ)
+    → (more : List (List ℕ)) × (with_name names name ≡ names ++ more)
 with_name-front names name =
     elim (list_any (same_numbers name) names) as (λ b. (more : List (List ℕ)) × (cond b names (names ++ name ∷ []) ≡ names ++ more)) [
       | true ↦ ([], sym (append-nil names))
       | false ↦ (name ∷ [], refl)
     ]
 
-pub with_names-front : (names more : List (List ℕ)) → (added : List (List ℕ)) × (with_names names more ≡ names ++ added)
+pub with_names-front : (names more : List (List ℕ))
+    → (added : List (List ℕ)) × (with_names names more ≡ names ++ added)
 with_names-front names [] = ([], sym (append-nil names))
 with_names-front names (name ∷ more) =
     let one = with_name-front names name in
     let rest = with_names-front (with_name names name) more in
     (one.0 ++ rest.0, rest.1 ∙ ap (λ ns. ns ++ rest.0) one.1 ∙ append_assoc names one.0 rest.0)
 
-pub with_names-then : (names first second : List (List ℕ)) → with_names names (first ++ second) ≡ with_names (with_names names first) second
+pub with_names-then : (names first second : List (List ℕ))
+    → with_names names (first ++ second) ≡ with_names (with_names names first) second
 with_names-then names [] second = refl
 with_names-then names (name ∷ first) second = with_names-then (with_name names name) first second
 
 names_equivalence : IsEquivalence same_numbers
 names_equivalence = decided same_numbers numbers_decided
 
-pub name_member : (names : List (List ℕ)) (name : List ℕ) → list_any (same_numbers name) names ≡ true → Contains names name
+pub name_member : (names : List (List ℕ)) (name : List ℕ)
+    → list_any (same_numbers name) names ≡ true → Contains names name
 name_member names name e = Contains-from_any (λ x y. (numbers_decided x y).0) name names e
 
-with_name-distinct : (names : List (List ℕ)) (name : List ℕ) → AreDistinct names → AreDistinct (with_name names name)
+with_name-distinct : (names : List (List ℕ)) (name : List ℕ) → AreDistinct names
+    → AreDistinct (with_name names name)
 with_name-distinct names name distinct =
     elim (list_any (same_numbers name) names) as (λ b. list_any (same_numbers name) names ≡ b → AreDistinct (cond b names (names ++ name ∷ []))) [
       | true ↦ λ _. distinct
       | false ↦ λ absent. distinct_push names name distinct (λ m. not_both _ (list_any-from_Contains names_equivalence name names m) absent)
     ] refl
 
-pub with_names-distinct : (names more : List (List ℕ)) → AreDistinct names → AreDistinct (with_names names more)
+pub with_names-distinct : (names more : List (List ℕ)) → AreDistinct names
+    → AreDistinct (with_names names more)
 with_names-distinct names [] distinct = distinct
-with_names-distinct names (name ∷ more) distinct = with_names-distinct (with_name names name) more (with_name-distinct names name distinct)
+with_names-distinct names (name ∷ more) distinct =
+    with_names-distinct (with_name names name) more (with_name-distinct names name distinct)
 
 -- each of the names is in the table behind which they were put
-pub with_names-has : (names more : List (List ℕ)) (name : List ℕ) → Contains more name → Contains (with_names names more) name
+pub with_names-has : (names more : List (List ℕ)) (name : List ℕ) → Contains more name
+    → Contains (with_names names more) name
 with_names-has names [] name m = absurd (omega (arith, m.1))
 with_names-has names (first ∷ more) name m =
     elim (Contains-append_cases (first ∷ []) more name m) [
@@ -150,11 +167,13 @@ with_names-has names (first ∷ more) name m =
 -- a name of the table has a place
 pub place_found : (names : List (List ℕ)) (name : List ℕ) → AreDistinct names → Contains names name
     → (k : ℕ) × (place_of names name ≡ Some k)
-place_found names name distinct m = let at = place_in names name m in (at.0, place_only names name at.0 distinct at.1)
+place_found names name distinct m =
+    let at = place_in names name m in (at.0, place_only names name at.0 distinct at.1)
 
 -- ---- many places
 
-pub places_kept : (names added more : List (List ℕ)) (places : List ℕ) → places_of names more ≡ Some places
+pub places_kept : (names added more : List (List ℕ)) (places : List ℕ)
+    → places_of names more ≡ Some places
     → places_of (names ++ added) more ≡ Some places
 places_kept names added [] places e = e
 places_kept names added (name ∷ more) places e =
@@ -162,7 +181,8 @@ places_kept names added (name ∷ more) places e =
     let rest = map_some (λ objects. first.0 ∷ objects) (places_of names more) places first.2 in
     rw (position_kept (same_numbers name) names added first.0 first.1, places_kept names added more rest.0 rest.1) (ap Some rest.2)
 
-pub instance_kept : (task : Task) (names added : List (List ℕ)) (call : Call) (i : Instance) → instance_of task names call ≡ Some i
+pub instance_kept : (task : Task) (names added : List (List ℕ)) (call : Call) (i : Instance)
+    → instance_of task names call ≡ Some i
     → instance_of task (names ++ added) call ≡ Some i
 instance_kept task names added call i e =
     let stream = and_then_some (λ stream. option_map (λ inputs. record { stream = stream; inputs = inputs }) (places_of names call.args)) (stream_named task call.name) i e in

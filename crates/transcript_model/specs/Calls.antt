@@ -16,4 +16,5 @@ action_name task action = of (slice_get task.domain.actions action)
 
 -- a step, with the names of its objects
 abbrev pub call_of_step : Task → List (List ℕ) → GroundAction → Call
-call_of_step task names step = record { name = action_name task step.action; args = map (name_at names) step.args }
+call_of_step task names step =
+    record { name = action_name task step.action; args = map (name_at names) step.args }

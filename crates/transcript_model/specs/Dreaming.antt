@@ -37,7 +37,8 @@ pub record MoreAreSupposed (most : ℕ) (task : Task) (known : Known) (notes : L
 module _ (limits : Limits) (task : Task) (before : List Entry) (tried : List Instance) where
   -- the supposed entries after the transcript
   abbrev pub AreSupposedAfter : List dreams.Entry → Type 0
-  AreSupposedAfter list = AreSupposed task (known_of task before) (notes_of task before) tried limits.depth list
+  AreSupposedAfter list =
+      AreSupposed task (known_of task before) (notes_of task before) tried limits.depth list
 
   -- no plan rests on what is supposed after the transcript
   abbrev pub HasNoDreamAfter : Type 0
@@ -71,7 +72,8 @@ tuple_in task entries n width e = None
 
 -- the objects that this request's answer gave for its entry's placeholders
 abbrev pub first_tuple : Task → List Entry → Sent → Option (List ℕ)
-first_tuple task entries s = slice_get (filter_map (tuple_in task entries s.number (length s.outputs)) entries) 0
+first_tuple task entries s =
+    slice_get (filter_map (tuple_in task entries s.number (length s.outputs)) entries) 0
 
 -- the object in the place of this placeholder
 abbrev pub paired : List ℕ → List ℕ → ℕ → Option ℕ

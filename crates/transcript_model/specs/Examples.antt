@@ -20,7 +20,8 @@ use Rattle.transcript_model.specs.declared.entry.Entry.TheVariants as entry
 
 -- one block, `cup`, and streams that look for blocks, that test one, and that give a price
 abbrev pub task : Task
-task = record examples.task { streams = examples.looking ∷ examples.testing ∷ examples.pricing ∷ [] }
+task =
+    record examples.task { streams = examples.looking ∷ examples.testing ∷ examples.pricing ∷ [] }
 
 abbrev pub look_at_cup : Call
 look_at_cup = record { name = codes "look"; args = codes "cup" ∷ [] }

@@ -38,7 +38,8 @@ pub record Continues (task : Task) (entries more : List Entry) : Type 0 where
   pub names : names_of task (entries ++ more) ≡ with_names (names_of task entries) (flat_map objects_in more)
   pub places : (object : ℕ) (name : List ℕ) → slice_get (names_of task entries) object ≡ Some name
       → slice_get (names_of task (entries ++ more)) object ≡ Some name
-  pub requests : (n : ℕ) (a : Asked) → asked task entries n ≡ Some a → asked task (entries ++ more) n ≡ Some a
+  pub requests : (n : ℕ) (a : Asked) → asked task entries n ≡ Some a
+      → asked task (entries ++ more) n ≡ Some a
   pub facts : (known_of task (entries ++ more)).facts ≡ with_facts (known_of task entries).facts (flat_map (certified task (entries ++ more)) more)
   pub values : (known_of task (entries ++ more)).values ≡ with_values (known_of task entries).values (flat_map (told_value task (entries ++ more)) more)
   pub notes : notes_of task (entries ++ more) ≡ notes_of task entries ++ flat_map (note_of task (entries ++ more)) more
@@ -51,10 +52,12 @@ LongerKeeps =
 
 -- The front of a legal transcript is legal, and so is a legal transcript with one entry more that may follow.
 pub record GrowsLegally (version : ℕ) (task : Task) (entries : List Entry) : Type 0 where
-  pub front : (more : List Entry) → IsLegal version task (entries ++ more) → IsLegal version task entries
+  pub front : (more : List Entry) → IsLegal version task (entries ++ more)
+      → IsLegal version task entries
   pub next : (e : Entry) → IsLegal version task entries → MayFollow version task entries e
       → IsLegal version task (entries ++ e ∷ [])
-  pub last : (e : Entry) → IsLegal version task (entries ++ e ∷ []) → MayFollow version task entries e
+  pub last : (e : Entry) → IsLegal version task (entries ++ e ∷ [])
+      → MayFollow version task entries e
 
 abbrev pub LegalGrows : Type 0
 LegalGrows = (version : ℕ) (task : Task) (entries : List Entry) → GrowsLegally version task entries
@@ -134,7 +137,8 @@ RequestsHaveNames =
 -- What a stream's answers certify is of objects in the table of names.
 pub record CertifiesNamed (task : Task) (names : List (List ℕ)) (stream : Stream) (inputs outputs : List ℕ) : Type 0 where
   pub facts : All (λ (f : Fact). All (IsIn names) f.args) (certified_by task.domain stream inputs outputs)
-  pub values : (value : ℕ) → All (λ (v : Valued). All (IsIn names) v.args) (worth_by stream inputs value)
+  pub values : (value : ℕ)
+      → All (λ (v : Valued). All (IsIn names) v.args) (worth_by stream inputs value)
 
 abbrev pub CertifiedObjectsHaveNames : Type 0
 CertifiedObjectsHaveNames =

@@ -106,7 +106,8 @@ pub record IsRightValue (task : Task) (before : List Entry) (number value : ℕ)
 -- the entry may follow these
 abbrev pub MayFollow : ℕ → Task → List Entry → Entry → Type 0
 MayFollow version task before (entry.Ask number turn call) = IsRightAsk task before number turn call
-MayFollow version task before (entry.Got number tuples values) = IsRightGot version task before number tuples values
+MayFollow version task before (entry.Got number tuples values) =
+    IsRightGot version task before number tuples values
 MayFollow version task before (entry.Value number value) = IsRightValue task before number value
 MayFollow version task before (entry.End number) = is_open before number ≡ true
 MayFollow version task before e = Unit {0}

@@ -39,4 +39,5 @@ instance_of task names call = option_and_then (λ stream. option_map (λ inputs.
 
 -- how an instance is shown
 abbrev pub call_of_instance : Task → List (List ℕ) → Instance → Call
-call_of_instance task names i = record { name = stream_name task i.stream; args = map (name_at names) i.inputs }
+call_of_instance task names i =
+    record { name = stream_name task i.stream; args = map (name_at names) i.inputs }

@@ -39,7 +39,8 @@ abbrev pub has_value : List Entry → ℕ → List ℕ → Bool
 has_value entries n value = list_any (is_with n) entries
   where
     is_with : ℕ → Entry → Bool
-    is_with n (entry.Got number tuples values) = (n == number) && list_any (same_numbers value) values
+    is_with n (entry.Got number tuples values) =
+        (n == number) && list_any (same_numbers value) values
     is_with n e = false
 
 -- An object and the first request whose answer has its value. In version 1 the tuple is 1, and else the first that has it.
@@ -59,7 +60,8 @@ IsUsed calls name =
 
 -- each generated object of the calls once, in order of bytes, with its origin
 pub record AreOrigins (version : ℕ) (entries : List Entry) (calls : List Call) (from : List Origin) : Type 0 where
-  pub each : (name : List ℕ) → Contains (map (λ (o : Origin). o.object) from) name ↔ IsUsed calls name
+  pub each : (name : List ℕ)
+      → Contains (map (λ (o : Origin). o.object) from) name ↔ IsUsed calls name
   pub ascend : AreAscending (slice_cmp nat_cmp) (map (λ (o : Origin). o.object) from)
   pub origins : (origin : Origin) → Contains from origin → IsOrigin version entries origin
 

@@ -39,7 +39,8 @@ pub record GoesOn (task : Task) (before : List Entry) (list : List Instance) : T
 
 -- The entries of a plain run behind these, and what it ends with. The entries of a level are its requests and then its answers.
 pub data IsPlainRun (task : Task) (answers : Answers) (calls : ℕ) : List Entry → List Entry → PlainEnd → Type 0 where
-  solved : {before : List Entry} → IsSolvable task (known_of task before) → IsPlainRun task answers calls before [] plan
+  solved : {before : List Entry} → IsSolvable task (known_of task before)
+      → IsPlainRun task answers calls before [] plan
   too_many : {before : List Entry} → ¬ (IsSolvable task (known_of task before))
       → MoreAreDue 1000000 task (known_of task before) (notes_of task before) → IsPlainRun task answers calls before [] limit_instances
   closed : {before : List Entry} → ¬ (IsSolvable task (known_of task before))
@@ -49,7 +50,8 @@ pub data IsPlainRun (task : Task) (answers : Answers) (calls : ℕ) : List Entry
   cut : {before : List Entry} (list : List Instance) → GoesOn task before list
       → asks_of before < calls → calls < asks_of before + length list
       → IsPlainRun task answers calls before (level_of task answers calls before list) limit_calls
-  level : {before rest : List Entry} {end : PlainEnd} (list : List Instance) → GoesOn task before list
+  level : {before rest : List Entry} {end : PlainEnd} (list : List Instance)
+      → GoesOn task before list
       → asks_of before + length list ≤ calls → IsPlainRun task answers calls (before ++ level_of task answers calls before list) rest end
       → IsPlainRun task answers calls before (level_of task answers calls before list ++ rest) end
 

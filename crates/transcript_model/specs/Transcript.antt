@@ -86,8 +86,10 @@ module _ (task : Task) (entries : List Entry) where
   abbrev pub note_of : Entry → List Note
   note_of (entry.Got n tuples values) =
       option_map_or (λ (a : Asked). replicate tuples (Yielded a.instance)) (asked task entries n) []
-  note_of (entry.Value n value) = option_map_or (λ (a : Asked). Ended a.instance ∷ []) (asked task entries n) []
-  note_of (entry.End n) = option_map_or (λ (a : Asked). Ended a.instance ∷ []) (asked task entries n) []
+  note_of (entry.Value n value) =
+      option_map_or (λ (a : Asked). Ended a.instance ∷ []) (asked task entries n) []
+  note_of (entry.End n) =
+      option_map_or (λ (a : Asked). Ended a.instance ∷ []) (asked task entries n) []
   note_of e = []
 
 -- what the instances were told, in order

@@ -111,9 +111,11 @@ pub record Kept : Type 0 where
 pub record IsPicked (skeletons : List Skeleton) (place : ℕ) (skeleton : Skeleton) : Type 0 where
   pub there : slice_get skeletons place ≡ Some skeleton
   pub kept : skeleton.retired ≡ false
-  pub fewest : (k : ℕ) (other : Skeleton) → slice_get skeletons k ≡ Some other → other.retired ≡ false
+  pub fewest : (k : ℕ) (other : Skeleton) → slice_get skeletons k ≡ Some other
+      → other.retired ≡ false
       → skeleton.picks ≤ other.picks
-  pub earliest : (k : ℕ) (other : Skeleton) → k < place → slice_get skeletons k ≡ Some other → other.retired ≡ false
+  pub earliest : (k : ℕ) (other : Skeleton) → k < place → slice_get skeletons k ≡ Some other
+      → other.retired ≡ false
       → skeleton.picks < other.picks
 
 abbrev pub is_given_up : List Sent → Bool
@@ -198,7 +200,8 @@ module _ {Carried : Type 0} (limits : Limits) (task : Task) (turn : Carried → 
     whole : {carried : Carried} (next : Carried) {before now rest : List Entry} {stage : Stage}
         → MayBegin limits task before → turn carried before now next false → AreTurns next (before ++ now) rest stage
         → AreTurns carried before (now ++ rest) stage
-    cut_off : {carried : Carried} (next : Carried) {before now : List Entry} → MayBegin limits task before
+    cut_off : {carried : Carried} (next : Carried) {before now : List Entry}
+        → MayBegin limits task before
         → turn carried before now next true → AreTurns carried before now after_cut
     stopped : {carried : Carried} (next : Carried) {before now : List Entry} (more : List Entry) (cut : Bool)
         → MayBegin limits task before → turn carried before (now ++ more) next cut → AreTurns carried before now inside
@@ -207,8 +210,10 @@ module _ {Carried : Type 0} (limits : Limits) (task : Task) (turn : Carried → 
 abbrev pub AreTurnsOf : Mode → Limits → Task → List Entry → Stage → Type 0
 AreTurnsOf Incremental limits task entries stage =
     AreTurns limits task (IncrementalTurn limits task) tt [] entries stage
-AreTurnsOf Focused limits task entries stage = AreTurns limits task (FocusedTurn limits task) [] [] entries stage
-AreTurnsOf Binding limits task entries stage = AreTurns limits task (BindingTurn limits task) [] [] entries stage
+AreTurnsOf Focused limits task entries stage =
+    AreTurns limits task (FocusedTurn limits task) [] [] entries stage
+AreTurnsOf Binding limits task entries stage =
+    AreTurns limits task (BindingTurn limits task) [] [] entries stage
 AreTurnsOf Adaptive limits task entries stage =
     AreTurns limits task (AdaptiveTurn limits task) (record { tried = []; skeletons = [] }) [] entries stage
 

@@ -12,13 +12,19 @@ use Rattle.task_model.specs.declared.task.Task.{Task}
 use Rattle.best_first.proofs.expand.take_step.Goals as goal
 
 -- the action at the step's place is the step's
-named_is : (actions listed : List Action) (place : ℕ) (found action : Action) → listed ≡ actions → found ≡ get_or listed place found → slice_get actions place ≡ Some action → found ≡ action
-named_is actions listed place found action same is named = is ∙ ap (λ xs. get_or xs place found) same ∙ get_or_from_slice_get actions place action found named
+named_is : (actions listed : List Action) (place : ℕ) (found action : Action) → listed ≡ actions
+    → found ≡ get_or listed place found → slice_get actions place ≡ Some action → found ≡ action
+named_is actions listed place found action same is named =
+    is ∙ ap (λ xs. get_or xs place found) same
+    ∙ get_or_from_slice_get actions place action found named
 
-readable_step : (task : Task) (known : Known) (before after : Atoms) (step : GroundAction) (cost : ℕ) → (fit : IsFitDomain task.domain) → (is : IsStep task known before step after cost) → IsReadableAction task.domain fit is.action
+readable_step : (task : Task) (known : Known) (before after : Atoms) (step : GroundAction) (cost : ℕ)
+    → (fit : IsFitDomain task.domain) → (is : IsStep task known before step after cost)
+    → IsReadableAction task.domain fit is.action
 readable_step task known before after step cost fit is = readable_action task.domain fit is.action (fit_action task.domain fit step.action is.action is.named)
 
-few_args : (task : Task) (known : Known) (before after : Atoms) (step : GroundAction) (cost : ℕ) → IsFitDomain task.domain → IsStep task known before step after cost → length step.args ≤ 16
+few_args : (task : Task) (known : Known) (before after : Atoms) (step : GroundAction) (cost : ℕ)
+    → IsFitDomain task.domain → IsStep task known before step after cost → length step.args ≤ 16
 few_args task known before after step cost fit is =
     omega (arith, have_types-length known step.args is.action.params is.typed, (readable_step task known before after step cost fit is).params)
 
@@ -49,7 +55,10 @@ after-requires-clause-few g c =
     let known = g.L.Look.known c.args.scene.now.look.now in
     subst (λ xs. length xs ≤ 16) (sym c.as_slice-args.ensures) (few_args c.args.scene.now.task.now known c.args.state.now c.requires.can.0 c.args.step.now c.requires.can.1 c.requires.fit.domain c.requires.can.2)
 
-readable : (task : Task) (known : Known) (before after : Atoms) (step : GroundAction) (cost : ℕ) (listed : List Action) (found : Action) → (fit : IsFitDomain task.domain) → IsStep task known before step after cost → listed ≡ task.domain.actions → found ≡ get_or listed step.action found → IsReadableAction task.domain fit found
+readable : (task : Task) (known : Known) (before after : Atoms) (step : GroundAction) (cost : ℕ) (listed : List Action) (found : Action)
+    → (fit : IsFitDomain task.domain) → IsStep task known before step after cost
+    → listed ≡ task.domain.actions → found ≡ get_or listed step.action found
+    → IsReadableAction task.domain fit found
 readable task known before after step cost listed found fit is same at =
     subst (IsReadableAction task.domain fit) (sym (named_is task.domain.actions listed step.action found is.action same at is.named)) (readable_step task known before after step cost fit is)
 
@@ -75,6 +84,10 @@ returns-clause-step g c =
       named = is.named;
       typed = is.typed;
       condition = is.condition;
-      costs = sym (λ i. cost_of task known (found i) (c.as_slice-args.ensures i)) ∙ sym c.cost.ensures.value ∙ c.in-Some.is;
-      leads = c.in_ok-state.ensures ∙ (λ i. effect_of (found i) (c.as_slice-args.ensures i) c.args.state.now);
+      costs =
+          sym (λ i. cost_of task known (found i) (c.as_slice-args.ensures i))
+          ∙ sym c.cost.ensures.value ∙ c.in-Some.is;
+      leads =
+          c.in_ok-state.ensures
+          ∙ (λ i. effect_of (found i) (c.as_slice-args.ensures i) c.args.state.now);
     }

@@ -27,7 +27,9 @@ settle-requires-clause-grown g c =
       step = subst (λ s. IsStep scene.task.now known c.args.state.now s applied.state applied.cost) (sym c.in_ok-step.ensures) c.in_ok-applied.ensures.step;
       small = c.in_ok-applied.ensures.small;
       fresh = c.in_ok-id.ensures.fresh.0 c.if-not-fresh.false;
-      states_are = c.in_ok-id.ensures.states ∙ ap (λ b. if b then old ++ applied.state ∷ [] else old) c.if-not-fresh.false;
+      states_are =
+          c.in_ok-id.ensures.states
+          ∙ ap (λ b. if b then old ++ applied.state ∷ [] else old) c.if-not-fresh.false;
       links_are = c.in_ok-push.ensures.items;
       place = c.in_ok-id.ensures.place;
     }

@@ -9,4 +9,5 @@ pub returns-in-Ok-clause-rows : goal.returns-in-Ok-clause-rows
 returns-in-Ok-clause-rows c = (c.in-Ok.ensures.matches (first_so _ _ c.requires)).0
 
 pub returns-in-Err-clause-usage : goal.returns-in-Err-clause-usage
-returns-in-Err-clause-usage c = λ why. refused _ _ c.in-Err.error (c.in-Err.ensures.kinds c.requires) (c.why_of.ensures why)
+returns-in-Err-clause-usage c =
+    λ why. refused _ _ c.in-Err.error (c.in-Err.ensures.kinds c.requires) (c.why_of.ensures why)

@@ -5,7 +5,9 @@ use Rattle.domain_reader.specs.Cycles.{derived_in}
 use Rattle.domain_reader.proofs.cycles.derived_items.Given as goal
 
 abbrev pub invariant-items : goal.invariant-items
-invariant-items l = derived_in l.predicates.names (trees l.body) ≡ l.list.items ++ derived_in l.predicates.names (trees l.left)
+invariant-items l =
+    derived_in l.predicates.names (trees l.body)
+    ≡ l.list.items ++ derived_in l.predicates.names (trees l.left)
 
 abbrev pub decreases-items : goal.decreases-items
 decreases-items l = count (trees l.left)

@@ -3,4 +3,5 @@ use Rattle.domain_reader.specs.Cycles.{no_edges}
 use Rattle.domain_reader.proofs.cycles.no_edges.Given as goal
 
 abbrev pub invariant-loop-place : goal.invariant-loop-place
-invariant-loop-place l = no_edges l.predicates.names ≡ l.edges.items ++ no_edges (drop l.place l.predicates.names)
+invariant-loop-place l =
+    no_edges l.predicates.names ≡ l.edges.items ++ no_edges (drop l.place l.predicates.names)

@@ -5,7 +5,8 @@ use Rattle.domain_reader.specs.Domains.{rules_of}
 use Rattle.domain_reader.proofs.domain.rules_of.Given as goal
 
 abbrev pub invariant-items : goal.invariant-items
-invariant-items l = rules_of l.names (trees l.items) ≡ l.list.items ++ rules_of l.names (trees l.left)
+invariant-items l =
+    rules_of l.names (trees l.items) ≡ l.list.items ++ rules_of l.names (trees l.left)
 
 abbrev pub decreases-items : goal.decreases-items
 decreases-items l = count (trees l.left)

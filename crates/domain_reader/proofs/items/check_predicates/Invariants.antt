@@ -6,7 +6,9 @@ use Rattle.domain_reader.specs.Names.{predicates_names}
 use Rattle.domain_reader.proofs.items.check_predicates.Given as goal
 
 abbrev pub invariant-declarations : goal.invariant-declarations
-invariant-declarations l = first l.fn.so_far (predicates_names l.sorts (trees l.items)) ≡ first l.found (predicates_names l.sorts (trees l.left))
+invariant-declarations l =
+    first l.fn.so_far (predicates_names l.sorts (trees l.items))
+    ≡ first l.found (predicates_names l.sorts (trees l.left))
 
 abbrev pub decreases-declarations : goal.decreases-declarations
 decreases-declarations l = count (trees l.left)

@@ -6,7 +6,9 @@ use Rattle.domain_reader.specs.Names.{second_actions}
 use Rattle.domain_reader.proofs.once.check_second_actions.Given as goal
 
 abbrev pub invariant-items : goal.invariant-items
-invariant-items l = first l.fn.so_far (second_actions [] (trees l.items)) ≡ first l.found (second_actions l.seen (trees l.left))
+invariant-items l =
+    first l.fn.so_far (second_actions [] (trees l.items))
+    ≡ first l.found (second_actions l.seen (trees l.left))
 
 abbrev pub decreases-items : goal.decreases-items
 decreases-items l = count (trees l.left)

@@ -20,7 +20,8 @@ loop-sort-preserved c =
     }
 
 -- after the loop all types that were given are there
-given : (c : After-is_typed) → c.loop-sort.facts.known.facts ≡ with_facts c.args.facts.now.known.facts (flat_map (λ sort. type_facts c.args.domain.now sort c.args.object) c.args.declared.now.sorts)
+given : (c : After-is_typed)
+    → c.loop-sort.facts.known.facts ≡ with_facts c.args.facts.now.known.facts (flat_map (λ sort. type_facts c.args.domain.now sort c.args.object) c.args.declared.now.sorts)
 given c =
     let past : length c.args.declared.now.sorts ≤ c.loop-sort.sort-index = subst (λ xs. length xs ≤ c.loop-sort.sort-index) c.as_slice-sort-items.ensures c.loop-sort-test.false in
     let none : drop c.loop-sort.sort-index c.args.declared.now.sorts ≡ [] = drop_of_length-le c.args.declared.now.sorts past in

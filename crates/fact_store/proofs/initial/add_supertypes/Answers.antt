@@ -7,8 +7,12 @@ use Rattle.std.specs.List.{list_any}
 use Rattle.task_model.specs.declared.fact.Fact.{Fact}
 use Rattle.fact_store.proofs.InitialLemmas.{object_known}
 
-facts_are : (old mid : List Fact) (object sort : ℕ) (above given : List ℕ) (new : List Fact) → new ≡ with_facts mid (map (λ s. type_fact s object) given) → mid ≡ with_fact old (type_fact sort object) → given ≡ above → new ≡ with_facts (with_fact old (type_fact sort object)) (map (λ s. type_fact s object) above)
-facts_are old mid object sort above given new more one same = more ∙ (λ i. with_facts (one i) (map (λ s. type_fact s object) (same i)))
+facts_are : (old mid : List Fact) (object sort : ℕ) (above given : List ℕ) (new : List Fact)
+    → new ≡ with_facts mid (map (λ s. type_fact s object) given)
+    → mid ≡ with_fact old (type_fact sort object) → given ≡ above
+    → new ≡ with_facts (with_fact old (type_fact sort object)) (map (λ s. type_fact s object) above)
+facts_are old mid object sort above given new more one same =
+    more ∙ (λ i. with_facts (one i) (map (λ s. type_fact s object) (same i)))
 
 -- where the supertypes hold `object`
 pub returns-then-has_object-clause-facts : goal.returns-then-has_object-clause-facts

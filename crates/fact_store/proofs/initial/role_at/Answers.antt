@@ -7,4 +7,6 @@ pub bounds-as_slice-pred : goal.bounds-as_slice-pred
 bounds-as_slice-pred c = subst (λ n. c.args.pred < n) (sym (ap length c.as_slice.ensures ∙ roles_length c.args.domain.now c.requires.roles)) c.requires.place
 
 pub returns : goal.returns
-returns c = ap (λ rs. get_or rs c.args.pred Static) c.as_slice.ensures ∙ role_is c.args.domain.now c.args.pred Static c.requires.roles c.requires.place
+returns c =
+    ap (λ rs. get_or rs c.args.pred Static) c.as_slice.ensures
+    ∙ role_is c.args.domain.now c.args.pred Static c.requires.roles c.requires.place

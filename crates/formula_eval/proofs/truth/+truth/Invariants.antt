@@ -22,7 +22,8 @@ abbrev pub decreases-some_tuple : goal.decreases-some_tuple
 decreases-some_tuple g l = 2 * (l.depth * items_weight l.scene.now.task.now.domain.derived + (weight l.body.now + length l.sorts.now)) + 1
 
 abbrev pub decreases-truth : goal.decreases-truth
-decreases-truth g l = 2 * (l.depth * items_weight l.scene.now.task.now.domain.derived + weight l.formula.now)
+decreases-truth g l =
+    2 * (l.depth * items_weight l.scene.now.task.now.domain.derived + weight l.formula.now)
 
 -- what is left to see decides
 abbrev pub invariant-all_true-loop-part : goal.invariant-all_true-loop-part

@@ -50,7 +50,9 @@ fields-preserved c =
       within = c.in-Some.ensures.within;
       begun = omega arith;
       few = c.fields.invariant.few;
-      count = c.fields.invariant.count ∙ step_other c.args.width c.fields.tuples c.fields.values c.args.bars here text next step;
+      count =
+          c.fields.invariant.count
+          ∙ step_other c.args.width c.fields.tuples c.fields.values c.args.bars here text next step;
     }
 
 pub returns-then-values-width-3 : goal.returns-then-values-width-3

@@ -21,7 +21,9 @@ fields-preserved c =
     let more = first_more line all here bars (c.args.tuples * c.args.width) c.fields.places c.fields.count text next (c.in-Some.field.start, c.in-Some.field.end) so_far step valid refl lies (omega (arith, i.long, c.requires.few)) in
     record {
       within = c.in-Some.ensures.within;
-      long = length-set c.fields.places c.fields.count (c.in-Some.field.start, c.in-Some.field.end) ∙ i.long;
+      long =
+          length-set c.fields.places c.fields.count (c.in-Some.field.start, c.in-Some.field.end)
+          ∙ i.long;
       room = more.room;
       valid = more.valid;
       same = more.same;

@@ -15,7 +15,8 @@ use Rattle.level_run.specs.Rolling.{IsFront}
 use Rattle.level_run.proofs.batches.batch.Goals as goal
 
 pub start_workers-requires-clause-pools : goal.start_workers-requires-clause-pools
-start_workers-requires-clause-pools g c = startable c.args.task.now c.args.head.now c.requires.runnable
+start_workers-requires-clause-pools g c =
+    startable c.args.task.now c.args.head.now c.requires.runnable
 
 pub returns-clause-started : goal.returns-clause-started
 returns-clause-started g c =

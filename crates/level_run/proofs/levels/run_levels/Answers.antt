@@ -126,7 +126,8 @@ returns-in-CallsSpent-clause-talks g c =
     dialogue_told c.args.task.now head.version (workers_in head) s.entries (length s.asked) (g.H.Host.running c.run_level.new.host) (held_of c.run_level.new.lines) (g.H.Host.spoken c.run_level.new.host) e.session.counted (subst (λ ps. AreStarted ps (length s.asked) (g.H.Host.running c.run_level.new.host)) e.head.pools e.started) e.told
 
 pub returns-in-Ends-clause-untouched : goal.returns-in-Ends-clause-untouched
-returns-in-Ends-clause-untouched g c = λ none. (c.levels.invariant.untouched none, λ k. c.levels.invariant.started.none none k)
+returns-in-Ends-clause-untouched g c =
+    λ none. (c.levels.invariant.untouched none, λ k. c.levels.invariant.started.none none k)
 
 pub returns-in-CallsSpent-clause-untouched : goal.returns-in-CallsSpent-clause-untouched
 returns-in-CallsSpent-clause-untouched g c = λ none.

@@ -17,7 +17,8 @@ invariant-loop-place g l = record {
   talking : (task : Task) → IsSession task l.initial.session
       → IsTalking task l.initial.session l.count 0 (held_of l.initial.lines) (g.H.Host.spoken l.initial.host)
       → IsTalking task l.session (length l.session.slots) l.place (held_of l.lines) (g.H.Host.spoken l.host);
-  idle : (k : ℕ) → g.H.Host.running l.initial.host k ≡ false → held_of l.lines k ≡ held_of l.initial.lines k;
+  idle : (k : ℕ) → g.H.Host.running l.initial.host k ≡ false
+      → held_of l.lines k ≡ held_of l.initial.lines k;
   order : (task : Task) → IsSession task l.initial.session
       → IsTalking task l.initial.session l.count 0 (held_of l.initial.lines) (g.H.Host.spoken l.initial.host)
       → Calls task l.initial.session.pools (l.initial.session.entries ++ l.initial.session.asks) (l.initial.session.entries ++ l.initial.session.asks ++ take l.place (finished l.session.slots)) (g.H.Host.log l.initial.host) (g.H.Host.log l.host);

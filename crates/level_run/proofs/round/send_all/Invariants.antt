@@ -14,7 +14,8 @@ invariant-loop-place g l = record {
   rolling : IsRolling l.session (g.H.Host.running l.host) l.place 0;
   many : length l.session.slots ≡ length l.initial.session.slots;
   goes : Goes l.initial.session.entries (l.initial.session.entries ++ take l.place l.initial.session.asks) (g.O.Sink.taken l.initial.out) (g.O.Sink.taken l.out);
-  talking : (task : Task) (kept : ℕ → List ℕ) → IsTalking task l.initial.session 0 0 kept (g.H.Host.spoken l.initial.host)
+  talking : (task : Task) (kept : ℕ → List ℕ)
+      → IsTalking task l.initial.session 0 0 kept (g.H.Host.spoken l.initial.host)
       → IsTalking task l.session l.place 0 kept (g.H.Host.spoken l.host);
   order : (task : Task) (kept : ℕ → List ℕ) → IsSession task l.initial.session
       → IsTalking task l.initial.session 0 0 kept (g.H.Host.spoken l.initial.host)

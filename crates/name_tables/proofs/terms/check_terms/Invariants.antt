@@ -6,7 +6,9 @@ use Rattle.name_tables.specs.Terms.{terms_names}
 use Rattle.name_tables.proofs.terms.check_terms.Given as goal
 
 abbrev pub invariant-terms : goal.invariant-terms
-invariant-terms l = first l.fn.so_far (terms_names l.objects l.scope (trees l.items)) ≡ first l.found (terms_names l.objects l.scope (trees l.left))
+invariant-terms l =
+    first l.fn.so_far (terms_names l.objects l.scope (trees l.items))
+    ≡ first l.found (terms_names l.objects l.scope (trees l.left))
 
 abbrev pub decreases-terms : goal.decreases-terms
 decreases-terms l = count (trees l.left)

@@ -6,7 +6,9 @@ use Rattle.name_tables.specs.Variables.{named_sorts}
 use Rattle.name_tables.proofs.variables.named_sorts.Given as goal
 
 abbrev pub invariant-words : goal.invariant-words
-invariant-words l = named_sorts l.sorts Start 0 (trees l.items) ≡ l.list.items ++ named_sorts l.sorts l.spot l.waiting (trees l.left)
+invariant-words l =
+    named_sorts l.sorts Start 0 (trees l.items)
+    ≡ l.list.items ++ named_sorts l.sorts l.spot l.waiting (trees l.left)
 
 abbrev pub decreases-words : goal.decreases-words
 decreases-words l = count (trees l.left)

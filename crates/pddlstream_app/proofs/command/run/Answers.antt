@@ -63,7 +63,8 @@ returns-else-is_write-clause-asked g c =
     (other_stop c.in-Err.stop (sym c.is_write.ensures ∙ c.if-is_write.false)) c.close.ensures.closed c.in-Err.ensures.asked_before
 
 pub returns-in-Ok-clause-complete : goal.returns-in-Ok-clause-complete
-returns-in-Ok-clause-complete g c = λ well. answered_outcome well c.in-Ok.status c.in-Ok.ensures.completed
+returns-in-Ok-clause-complete g c =
+    λ well. answered_outcome well c.in-Ok.status c.in-Ok.ensures.completed
 
 pub returns-then-is_write-clause-complete : goal.returns-then-is_write-clause-complete
 returns-then-is_write-clause-complete g c = λ well.

@@ -5,4 +5,6 @@ use Rattle.plan_check.proofs.effect.put_in.Given as goal
 
 -- with what is left to put in, it is what was wanted
 abbrev pub invariant-loop-pattern : goal.invariant-loop-pattern
-invariant-loop-pattern l = with_atoms l.state (map (atom_of l.env) (drop l.pattern-index l.patterns)) ≡ with_atoms l.initial.state (map (atom_of l.env) l.patterns)
+invariant-loop-pattern l =
+    with_atoms l.state (map (atom_of l.env) (drop l.pattern-index l.patterns))
+    ≡ with_atoms l.initial.state (map (atom_of l.env) l.patterns)

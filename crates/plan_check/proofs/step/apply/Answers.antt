@@ -71,8 +71,16 @@ returns-in-Ok-clause-ok g c =
     record {
       action = action;
       named = named;
-      typed = (λ i. have_types known (sym c.as_slice-args.ensures i) (sym c.as_slice.ensures i)) ∙ sym c.have_types.ensures ∙ c.if-not-have_types.false;
-      condition = ap (is_true task.domain known c.args.state.now action.condition) (sym slots) ∙ sym c.holds.ensures.value ∙ c.if-not-holds.false;
-      costs = ap (cost_of task known action) (sym c.as_slice-args.ensures) ∙ sym c.cost.ensures.value ∙ c.in-Some-cost.is;
-      leads = c.in-Ok.ensures ∙ ap (λ s. with_atoms (without_atoms c.args.state.now (map (atom_of s) action.deletes)) (map (atom_of s) action.adds)) (c.holds.ensures.same ∙ slots);
+      typed =
+          (λ i. have_types known (sym c.as_slice-args.ensures i) (sym c.as_slice.ensures i))
+          ∙ sym c.have_types.ensures ∙ c.if-not-have_types.false;
+      condition =
+          ap (is_true task.domain known c.args.state.now action.condition) (sym slots)
+          ∙ sym c.holds.ensures.value ∙ c.if-not-holds.false;
+      costs =
+          ap (cost_of task known action) (sym c.as_slice-args.ensures) ∙ sym c.cost.ensures.value
+          ∙ c.in-Some-cost.is;
+      leads =
+          c.in-Ok.ensures
+          ∙ ap (λ s. with_atoms (without_atoms c.args.state.now (map (atom_of s) action.deletes)) (map (atom_of s) action.adds)) (c.holds.ensures.same ∙ slots);
     }

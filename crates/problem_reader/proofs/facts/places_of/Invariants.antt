@@ -5,7 +5,8 @@ use Rattle.problem_reader.specs.Problems.{places_of}
 use Rattle.problem_reader.proofs.facts.places_of.Given as goal
 
 abbrev pub invariant-words : goal.invariant-words
-invariant-words l = places_of l.objects (trees l.items) ≡ l.row ++ places_of l.objects (trees l.left)
+invariant-words l =
+    places_of l.objects (trees l.items) ≡ l.row ++ places_of l.objects (trees l.left)
 
 abbrev pub decreases-words : goal.decreases-words
 decreases-words l = count (trees l.left)

@@ -5,7 +5,8 @@ use Rattle.problem_reader.specs.Problems.{valueds_of}
 use Rattle.problem_reader.proofs.facts.valueds_of.Given as goal
 
 abbrev pub invariant-facts : goal.invariant-facts
-invariant-facts l = valueds_of l.names (trees l.items) ≡ l.list.items ++ valueds_of l.names (trees l.left)
+invariant-facts l =
+    valueds_of l.names (trees l.items) ≡ l.list.items ++ valueds_of l.names (trees l.left)
 
 abbrev pub decreases-facts : goal.decreases-facts
 decreases-facts l = count (trees l.left)

@@ -6,7 +6,9 @@ use Rattle.problem_reader.specs.Names.{facts_names}
 use Rattle.problem_reader.proofs.items.check_facts.Given as goal
 
 abbrev pub invariant-facts : goal.invariant-facts
-invariant-facts l = first l.fn.so_far (facts_names l.names l.roles (trees l.items)) ≡ first l.found (facts_names l.names l.roles (trees l.left))
+invariant-facts l =
+    first l.fn.so_far (facts_names l.names l.roles (trees l.items))
+    ≡ first l.found (facts_names l.names l.roles (trees l.left))
 
 abbrev pub decreases-facts : goal.decreases-facts
 decreases-facts l = count (trees l.left)

@@ -6,7 +6,9 @@ use Rattle.problem_reader.specs.Names.{items_names}
 use Rattle.problem_reader.proofs.items.check_items.Given as goal
 
 abbrev pub invariant-items : goal.invariant-items
-invariant-items l = first l.fn.so_far (items_names l.names l.domain (trees l.items)) ≡ first l.found (items_names l.names l.domain (trees l.left))
+invariant-items l =
+    first l.fn.so_far (items_names l.names l.domain (trees l.items))
+    ≡ first l.found (items_names l.names l.domain (trees l.left))
 
 abbrev pub decreases-items : goal.decreases-items
 decreases-items l = count (trees l.left)

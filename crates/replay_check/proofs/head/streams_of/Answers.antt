@@ -16,7 +16,9 @@ module _ (c : After-any) where
       ∙ ap (list_any (λ s. s == c.in-Some.stream)) c.deref.ensures.value
 
   named : stream_named c.args.task.now c.name-item.result ≡ Some c.in-Some.stream
-  named = ap (stream_named c.args.task.now) (sym c.bytes.ensures) ∙ sym c.stream_named.ensures ∙ c.in-Some.is
+  named =
+      ap (stream_named c.args.task.now) (sym c.bytes.ensures) ∙ sym c.stream_named.ensures
+      ∙ c.in-Some.is
 
 pub loop-name-init : goal.loop-name-init
 loop-name-init c =

@@ -13,7 +13,8 @@ holds-requires-clause-readable c =
     fit_readable task.domain c.requires.bounds.fit.domain _ 0 (omega arith) task.problem.goal c.requires.bounds.fit.problem.goal
 
 pub returns-in-Stops-clause-said : goal.returns-in-Stops-clause-said
-returns-in-Stops-clause-said c = rw c.in-Stops.is at (c.in_ok-place.ensures c.args.plan.now.entries.now c.requires.ledger.known)
+returns-in-Stops-clause-said c =
+    rw c.in-Stops.is at (c.in_ok-place.ensures c.args.plan.now.entries.now c.requires.ledger.known)
 
 pub returns-then-not-holds-clause-said : goal.returns-then-not-holds-clause-said
 returns-then-not-holds-clause-said c =

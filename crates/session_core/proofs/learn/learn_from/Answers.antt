@@ -20,7 +20,8 @@ pub overflow_sub-instance : goal.overflow_sub-instance
 overflow_sub-instance c = (here c).some
 
 pub bounds-asked-number : goal.bounds-asked-number
-bounds-asked-number c = slice_get_within c.args.asked.now (c.in-Some.number - 1) (here c).request.instance (here c).is
+bounds-asked-number c =
+    slice_get_within c.args.asked.now (c.in-Some.number - 1) (here c).request.instance (here c).is
 
 pub bounds-as_slice-instance : goal.bounds-as_slice-instance
 bounds-as_slice-instance c =
@@ -66,7 +67,8 @@ loop-place-preserved c =
       | in_default w ↦
           let h = other_at task asked entries c.requires.can place e at (sym c.answered.ensures ∙ w.in_default.is) in
           record {
-            known = ap (λ (f : Store). f.known) w.facts-is ∙ c.loop-place.invariant.known ∙ sym h.known;
+            known =
+                ap (λ (f : Store). f.known) w.facts-is ∙ c.loop-place.invariant.known ∙ sym h.known;
             notes = w.queue-is ∙ c.loop-place.invariant.notes ∙ sym h.notes;
           }
     ]

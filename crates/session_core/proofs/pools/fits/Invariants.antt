@@ -5,4 +5,6 @@ use Rattle.session_core.proofs.pools.fits.Given as goal
 
 -- what is left decides
 abbrev pub invariant-loop-pool : goal.invariant-loop-pool
-invariant-loop-pool l = fits_workers (drop l.pool-index l.pools) (streams_of l.dues) ≡ fits_workers l.pools (streams_of l.dues)
+invariant-loop-pool l =
+    fits_workers (drop l.pool-index l.pools) (streams_of l.dues)
+    ≡ fits_workers l.pools (streams_of l.dues)

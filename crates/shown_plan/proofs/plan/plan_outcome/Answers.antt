@@ -7,7 +7,8 @@ use Rattle.shown_plan.proofs.plan.plan_outcome.Goals as goal
 use Rattle.shown_plan.specs.Sources.{is_among, is_generated, stands_in}
 
 pub origins_of-requires-clause-even : goal.origins_of-requires-clause-even
-origins_of-requires-clause-even g c = even_entries c.args.version c.args.task.now c.args.entries.now c.requires.legal
+origins_of-requires-clause-even g c =
+    even_entries c.args.version c.args.task.now c.args.entries.now c.requires.legal
 
 pub origins_of-requires-clause-given : goal.origins_of-requires-clause-given
 origins_of-requires-clause-given g c =

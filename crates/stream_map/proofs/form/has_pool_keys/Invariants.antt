@@ -6,4 +6,6 @@ use Rattle.stream_map.proofs.form.has_pool_keys.Given as goal
 
 -- the keys that were passed are right
 abbrev pub invariant-loop-key : goal.invariant-loop-key
-invariant-loop-key l = list_all (λ key. is_pool_key (string_bytes key)) (keys l.members) ≡ list_all (λ key. is_pool_key (string_bytes key)) l.key-iterator
+invariant-loop-key l =
+    list_all (λ key. is_pool_key (string_bytes key)) (keys l.members)
+    ≡ list_all (λ key. is_pool_key (string_bytes key)) l.key-iterator

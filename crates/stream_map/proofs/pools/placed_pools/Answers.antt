@@ -49,7 +49,10 @@ loop-text-preserved c =
         pools = ap (λ ps. map plain ps ++ numbered names c.if-not-grid.next rest) c.in_ok-push.ensures.items
             ∙ ap (λ ps. ps ++ numbered names c.if-not-grid.next rest) (map_push plain c.loop-text.pools.items _)
             ∙ placed_more names (map plain c.loop-text.pools.items) _ c.loop-text.next c.if-not-grid.next text rest made so_far right after;
-        known = ap (λ b. b || list_any (names_unknown names) rest) (sym given.1) ∙ ap (λ ts. list_any (names_unknown names) (map shown ts)) (sym items) ∙ c.loop-text.invariant.2.known;
+        known =
+            ap (λ b. b || list_any (names_unknown names) rest) (sym given.1)
+            ∙ ap (λ ts. list_any (names_unknown names) (map shown ts)) (sym items)
+            ∙ c.loop-text.invariant.2.known;
         numbers = (numbers_left text rest (ap (λ ts. list_any has_wrong_number (map shown ts)) (sym items) ∙ c.loop-text.invariant.2.numbers)).1;
         workers = workers_left c.loop-text.next c.if-not-grid.next text rest (subst (λ ts. c.loop-text.next + sum_by own_workers (map shown ts) ≤ 16) items c.loop-text.invariant.2.workers) after;
       },

@@ -12,7 +12,8 @@ loop-stream-preserved c =
     let bounded = c.requires i 0 within in
     let low : get_or ks i 0 < length c.loop-stream.marks.items = omega (arith, bounded, c.loop-stream.invariant.count) in
     record {
-      count = length-set c.loop-stream.marks.items (get_or ks i 0) _ ∙ c.loop-stream.invariant.count;
+      count =
+          length-set c.loop-stream.marks.items (get_or ks i 0) _ ∙ c.loop-stream.invariant.count;
       marks = λ before marked. mark_next before ks c.loop-stream.marks.items i within low (c.loop-stream.invariant.marks before marked);
       repeats = λ before marked.
           let unmarked : get_or c.loop-stream.marks.items (get_or ks i 0) false ≡ false = first_of (search rules, grind (arith, common_steps)) in

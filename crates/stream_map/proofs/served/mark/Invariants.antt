@@ -6,6 +6,8 @@ use Rattle.stream_map.proofs.served.mark.Given as goal
 abbrev pub invariant-loop-stream : goal.invariant-loop-stream
 invariant-loop-stream l = record {
   count : length l.marks.items ≡ length l.initial.marks.items;
-  marks : (before : List ℕ) → AreMarks before l.initial.marks.items → AreMarks (before ++ take l.stream-index l.streams) l.marks.items;
-  repeats : (before : List ℕ) → AreMarks before l.initial.marks.items → has_repeat before l.streams ≡ has_repeat (before ++ take l.stream-index l.streams) (drop l.stream-index l.streams);
+  marks : (before : List ℕ) → AreMarks before l.initial.marks.items
+      → AreMarks (before ++ take l.stream-index l.streams) l.marks.items;
+  repeats : (before : List ℕ) → AreMarks before l.initial.marks.items
+      → has_repeat before l.streams ≡ has_repeat (before ++ take l.stream-index l.streams) (drop l.stream-index l.streams);
 }

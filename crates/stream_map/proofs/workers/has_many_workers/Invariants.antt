@@ -5,4 +5,6 @@ use Rattle.stream_map.proofs.workers.has_many_workers.Given as goal
 
 -- the workers that were passed and those that are left make 16
 abbrev pub invariant-loop-pool : goal.invariant-loop-pool
-invariant-loop-pool l = sum_by own_workers (map shown l.pools) + l.left ≡ 16 + sum_by own_workers (map shown (drop l.pool-index l.pools))
+invariant-loop-pool l =
+    sum_by own_workers (map shown l.pools) + l.left
+    ≡ 16 + sum_by own_workers (map shown (drop l.pool-index l.pools))

@@ -6,4 +6,6 @@ use Rattle.stream_map.proofs.workers.has_wrong_numbers.Given as goal
 
 -- the pools that were passed have right numbers
 abbrev pub invariant-loop-pool : goal.invariant-loop-pool
-invariant-loop-pool l = list_any has_wrong_number (map shown l.pools) ≡ list_any has_wrong_number (map shown (drop l.pool-index l.pools))
+invariant-loop-pool l =
+    list_any has_wrong_number (map shown l.pools)
+    ≡ list_any has_wrong_number (map shown (drop l.pool-index l.pools))

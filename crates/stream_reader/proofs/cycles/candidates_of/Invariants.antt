@@ -5,7 +5,8 @@ use Rattle.stream_reader.specs.Cycles.{candidates_of}
 use Rattle.stream_reader.proofs.cycles.candidates_of.Given as goal
 
 abbrev pub invariant-items : goal.invariant-items
-invariant-items l = candidates_of 0 (trees l.items) ≡ l.list.items ++ candidates_of l.count (trees l.left)
+invariant-items l =
+    candidates_of 0 (trees l.items) ≡ l.list.items ++ candidates_of l.count (trees l.left)
 
 abbrev pub decreases-items : goal.decreases-items
 decreases-items l = count (trees l.left)

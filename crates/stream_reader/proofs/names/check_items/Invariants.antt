@@ -6,7 +6,9 @@ use Rattle.stream_reader.specs.Names.{items_names}
 use Rattle.stream_reader.proofs.names.check_items.Given as goal
 
 abbrev pub invariant-items : goal.invariant-items
-invariant-items l = first l.fn.so_far (items_names l.names l.roles (trees l.items)) ≡ first l.found (items_names l.names l.roles (trees l.left))
+invariant-items l =
+    first l.fn.so_far (items_names l.names l.roles (trees l.items))
+    ≡ first l.found (items_names l.names l.roles (trees l.left))
 
 abbrev pub decreases-items : goal.decreases-items
 decreases-items l = count (trees l.left)

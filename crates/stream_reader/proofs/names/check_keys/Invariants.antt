@@ -7,7 +7,9 @@ use Rattle.stream_reader.specs.Names.{keys_names}
 use Rattle.stream_reader.proofs.names.check_keys.Given as goal
 
 abbrev pub invariant-keys : goal.invariant-keys
-invariant-keys l = first l.fn.so_far (keys_names l.names l.roles l.scopes l.keyed NoKey (trees l.items)) ≡ first l.found (keys_names l.names l.roles l.scopes l.keyed l.key (trees l.left))
+invariant-keys l =
+    first l.fn.so_far (keys_names l.names l.roles l.scopes l.keyed NoKey (trees l.items))
+    ≡ first l.found (keys_names l.names l.roles l.scopes l.keyed l.key (trees l.left))
 
 abbrev pub decreases-keys : goal.decreases-keys
 decreases-keys l = count (trees l.left)

@@ -7,7 +7,9 @@ use Rattle.stream_reader.specs.Names.{ninth_names}
 use Rattle.stream_reader.proofs.names.check_ninth.Given as goal
 
 abbrev pub invariant-words : goal.invariant-words
-invariant-words l = first l.fn.so_far (ninth_names 0 Start (trees l.items)) ≡ first l.found (ninth_names l.before l.spot (trees l.left))
+invariant-words l =
+    first l.fn.so_far (ninth_names 0 Start (trees l.items))
+    ≡ first l.found (ninth_names l.before l.spot (trees l.left))
 
 abbrev pub decreases-words : goal.decreases-words
 decreases-words l = count (trees l.left)

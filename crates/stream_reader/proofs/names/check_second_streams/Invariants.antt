@@ -6,7 +6,9 @@ use Rattle.stream_reader.specs.Names.{second_streams}
 use Rattle.stream_reader.proofs.names.check_second_streams.Given as goal
 
 abbrev pub invariant-items : goal.invariant-items
-invariant-items l = first l.fn.so_far (second_streams [] (trees l.items)) ≡ first l.found (second_streams l.seen (trees l.left))
+invariant-items l =
+    first l.fn.so_far (second_streams [] (trees l.items))
+    ≡ first l.found (second_streams l.seen (trees l.left))
 
 abbrev pub decreases-items : goal.decreases-items
 decreases-items l = count (trees l.left)

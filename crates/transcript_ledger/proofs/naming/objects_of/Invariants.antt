@@ -3,4 +3,5 @@ use Rattle.transcript_ledger.proofs.naming.objects_of.Given as goal
 
 -- the objects so far have their names
 abbrev pub invariant-loop-name : goal.invariant-loop-name
-invariant-loop-name g l = map (slice_get l.fn.facts.known.names) l.row ≡ map Some (take l.name-index l.fn.names)
+invariant-loop-name g l =
+    map (slice_get l.fn.facts.known.names) l.row ≡ map Some (take l.name-index l.fn.names)

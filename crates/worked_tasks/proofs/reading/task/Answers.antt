@@ -8,7 +8,8 @@ use Rattle.task_model.specs.declared.task.Problem.{Problem}
 use Rattle.worked_tasks.proofs.reading.task.Goals as goal
 
 -- a task of three parts that are fit over one another
-fit_together : (read d e : Domain) (p : Problem) (ss : List Stream) → IsFitDomain read → IsFitOver d p → AreFitOver e ss → d ≡ read → e ≡ read
+fit_together : (read d e : Domain) (p : Problem) (ss : List Stream) → IsFitDomain read
+    → IsFitOver d p → AreFitOver e ss → d ≡ read → e ≡ read
     → IsFit (record { domain = read; problem = p; streams = ss })
 fit_together read d e p ss fit over streams is also = record {
   domain = fit;

@@ -23,7 +23,8 @@ invariant_of-self-inside-then-fresh c = (
 )
 
 -- the bytes of the keys are the names, whether there is one more or not
-keys_are : (c : goal.Joined-drop) → map (λ v. v.items) c.insert_full.new.self.keys ≡ c.if-fresh.self.known.names
+keys_are : (c : goal.Joined-drop)
+    → map (λ v. v.items) c.insert_full.new.self.keys ≡ c.if-fresh.self.known.names
 keys_are c =
     let is = c.in_ok-bytes.ensures.items ∙ c.bytes.ensures in
     elim c.if-fresh.branch [

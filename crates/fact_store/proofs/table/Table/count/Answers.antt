@@ -5,7 +5,8 @@ use Rattle.fact_store.specs.Tables.{facts_with, has_key}
 use Rattle.fact_store.proofs.TablesLemmas.{counted}
 use Rattle.fact_store.proofs.table.Table.count.Goals as goal
 
-sum_is : (c : goal.After-count_with) → length c.places.result.now + c.count_with.result ≡ length (facts_with c.args.group c.args.key c.args.facts.now)
+sum_is : (c : goal.After-count_with)
+    → length c.places.result.now + c.count_with.result ≡ length (facts_with c.args.group c.args.key c.args.facts.now)
 sum_is c =
     (λ i. length (c.places.ensures i) + (c.count_with.ensures ∙ ap (λ fs. length (facts_with c.args.group c.args.key fs)) (take_rest c.args.facts.now c.args.self.now.done)) i)
     ∙ counted c.args.group c.args.facts.now c.args.self.now c.requires c.args.key

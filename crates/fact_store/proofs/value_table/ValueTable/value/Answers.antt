@@ -12,4 +12,6 @@ returns-in-Ok c =
     ∙ ap (λ vs. value_of vs c.args.func c.args.args.now) (ap (λ vs. take done values ++ vs) (take_rest values done) ∙ take-append-drop done values ∙ c.self.view_is)
 
 pub returns-in-Err : goal.returns-in-Err
-returns-in-Err c = c.least_value-in-Err.ensures [] refl ∙ ap (λ vs. value_of vs c.args.func c.args.args.now) (c.as_slice-values.ensures.keys ∙ c.self.view_is)
+returns-in-Err c =
+    c.least_value-in-Err.ensures [] refl
+    ∙ ap (λ vs. value_of vs c.args.func c.args.args.now) (c.as_slice-values.ensures.keys ∙ c.self.view_is)

@@ -6,7 +6,9 @@ use Rattle.fit_check.proofs.FilledLemmas.{flag_at}
 use Rattle.fit_check.proofs.slots.Slots.has.Goals as goal
 
 pub returns-then-slot-lt16 : goal.returns-then-slot-lt16
-returns-then-slot-lt16 c = sym (flag_at c.self.inside.filled c.args.slot) ∙ ap (list_any (λ n. n == c.args.slot)) c.self.view_is
+returns-then-slot-lt16 c =
+    sym (flag_at c.self.inside.filled c.args.slot)
+    ∙ ap (list_any (λ n. n == c.args.slot)) c.self.view_is
 
 pub returns-else-slot-lt16 : goal.returns-else-slot-lt16
 returns-else-slot-lt16 c =

@@ -5,6 +5,7 @@ use Rattle.fit_check.proofs.slots.Slots.with.Given as goal
 abbrev pub invariant-loop-place : goal.invariant-loop-place
 invariant-loop-place l = record {
   up : (n : ℕ) → l.first ≤ n → n < l.place → get_or l.filled n false ≡ true;
-  kept : (n : ℕ) → (l.first ≤ n → l.place ≤ n) → get_or l.filled n false ≡ get_or l.initial.filled n false;
+  kept : (n : ℕ) → (l.first ≤ n → l.place ≤ n)
+      → get_or l.filled n false ≡ get_or l.initial.filled n false;
   long : length l.filled ≡ 16;
 }

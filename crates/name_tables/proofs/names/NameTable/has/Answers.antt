@@ -5,4 +5,7 @@ use Rattle.lemmas.proofs.MappedTests.{any_mapped}
 use Rattle.name_tables.proofs.names.NameTable.has.Goals as goal
 
 pub returns : goal.returns
-returns c = c.contains.ensures ∙ any_mapped (λ v. v.items) (bytes_eq c.args.name.now) c.self.inside.names.keys ∙ ap (list_any (bytes_eq c.args.name.now)) c.self.view_is
+returns c =
+    c.contains.ensures
+    ∙ any_mapped (λ v. v.items) (bytes_eq c.args.name.now) c.self.inside.names.keys
+    ∙ ap (list_any (bytes_eq c.args.name.now)) c.self.view_is

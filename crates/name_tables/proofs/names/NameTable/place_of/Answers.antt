@@ -4,4 +4,7 @@ use Rattle.lemmas.proofs.MappedTests.{position_mapped}
 use Rattle.name_tables.proofs.names.NameTable.place_of.Goals as goal
 
 pub returns : goal.returns
-returns c = c.get_index_of.ensures.index ∙ position_mapped (λ v. v.items) (bytes_eq c.args.name.now) c.self.inside.names.keys ∙ ap (position (bytes_eq c.args.name.now)) c.self.view_is
+returns c =
+    c.get_index_of.ensures.index
+    ∙ position_mapped (λ v. v.items) (bytes_eq c.args.name.now) c.self.inside.names.keys
+    ∙ ap (position (bytes_eq c.args.name.now)) c.self.view_is

@@ -11,7 +11,8 @@ module _ (c : After-may_answer) where
   there = get_some c.args.entries.now c.args.place c.index-entries-place.result c.requires.can.within c.index-entries-place.is
 
   is_number : answered_number c.index-entries-place.result ≡ Some c.args.number
-  is_number = subst (λ o. IfSome o (λ e. answered_number e ≡ Some c.args.number)) there c.requires.here
+  is_number =
+      subst (λ o. IfSome o (λ e. answered_number e ≡ Some c.args.number)) there c.requires.here
 
   decides : IsTrue c.may_answer.result ↔ MayFollow c.args.bounds.now.version c.args.bounds.now.task.now (take c.args.place c.args.entries.now) c.index-entries-place.result
   decides = c.may_answer.ensures c.args.bounds.now.version (take c.args.place c.args.entries.now) c.requires.can.standing.ledger (entry_formed c.args.bounds.now c.args.entries.now c.args.place c.args.self.now c.index-entries-place.result c.requires.can there) is_number

@@ -6,7 +6,8 @@ use Rattle.replay_check.proofs.WalksLemmas.{level_early, level_of_none, level_ta
 use Rattle.replay_check.proofs.entries.Standing.take_level.Goals as goal
 use Rattle.replay_check.proofs.entries.Standing.take_level.Goals.{then-not-is_between-via-then-not-is_between, then-not-is_between-via-else-not-is_between+then-before-bounds}
 
-between : (answers : ℕ) (cut : Bool) → answers ≡ 0 → cut ≡ false → ((answers == 0) && not cut) ≡ true
+between : (answers : ℕ) (cut : Bool) → answers ≡ 0 → cut ≡ false
+    → ((answers == 0) && not cut) ≡ true
 between answers cut none uncut = rw (eq-eqb answers 0 none, uncut) refl
 
 pub returns-then-not-is_between : goal.returns-then-not-is_between

@@ -4,4 +4,6 @@ use Rattle.task_model.proofs.StateLemmas.{items-from_list}
 use Rattle.task_model.proofs.state.State.as_slice.Goals as goal
 
 pub returns : goal.returns
-returns c = c.as_slice.ensures.value ∙ sym (items-from_list c.self.inside.atoms.items c.self.invariant) ∙ ap items c.self.view_is
+returns c =
+    c.as_slice.ensures.value ∙ sym (items-from_list c.self.inside.atoms.items c.self.invariant)
+    ∙ ap items c.self.view_is
