@@ -12,15 +12,15 @@ numbers_more first (suc n) =
     let shift : first + 1 + n ≡ first + suc n = omega arith in
     ap (λ ks. first ∷ ks) (numbers_more (first + 1) n ∙ ap (λ k. numbers_from (first + 1) n ++ k ∷ []) shift)
 
-pub row_none : (row : Row) → row_text row 0 ≡ []
+pub row_none : (line : Row) → row_text line 0 ≡ []
 unfolding row_text
-row_none row = refl
+row_none line = refl
 
-pub row_more : (row : Row) (before : List ℕ) (n : ℕ)
-    → (before ++ row_text row n) ++ item_text row (n + 1) ≡ before ++ row_text row (n + 1)
+pub row_more : (line : Row) (before : List ℕ) (n : ℕ)
+    → (before ++ row_text line n) ++ item_text line (n + 1) ≡ before ++ row_text line (n + 1)
 unfolding row_text
-row_more row before n =
+row_more line before n =
     let one : 1 + n ≡ n + 1 = omega arith in
     let all : numbers_from 1 (n + 1) ≡ numbers_from 1 n ++ (n + 1) ∷ [] = rw add-one (numbers_more 1 n) ∙ ap (λ k. numbers_from 1 n ++ k ∷ []) one in
-    append_assoc before (flat_map (item_text row) (numbers_from 1 n)) (item_text row (n + 1))
-    ∙ ap (λ t. before ++ t) (sym (ap (flat_map (item_text row)) all ∙ flat_map-append (item_text row) (numbers_from 1 n) ((n + 1) ∷ []) ∙ ap (λ t. flat_map (item_text row) (numbers_from 1 n) ++ t) (append-nil (item_text row (n + 1)))))
+    append_assoc before (flat_map (item_text line) (numbers_from 1 n)) (item_text line (n + 1))
+    ∙ ap (λ t. before ++ t) (sym (ap (flat_map (item_text line)) all ∙ flat_map-append (item_text line) (numbers_from 1 n) ((n + 1) ∷ []) ∙ ap (λ t. flat_map (item_text line) (numbers_from 1 n) ++ t) (append-nil (item_text line (n + 1)))))

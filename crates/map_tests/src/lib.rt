@@ -10,4 +10,6 @@ mod rows;
 #[cfg(test)]
 mod tasks;
 #[cfg(test)]
+mod texts;
+#[cfg(test)]
 mod words;

@@ -107,7 +107,8 @@ BreaksSaid limits task entries (outcome.Plan calls cost from) offset k =
     BreaksPlan limits task entries calls cost from offset k
 BreaksSaid limits task entries o offset k = BreaksClaim limits task entries o offset k
 
--- The outcome stands inside a turn, or behind a batch that was cut. The limit of calls is false there, and so has the other kind.
+-- Another outcome than the limit of calls stands inside a turn, or behind a batch that was cut. The limit of calls may
+-- stand behind a cut batch; inside a turn it is a false claim, which is the other kind.
 abbrev pub IsMisplaced : Limits → Task → List Entry → Outcome → Type 0
 IsMisplaced limits task entries o =
     ¬ (o ≡ outcome.Limit Calls) × ¬ (AreTurnsOf limits.mode limits task entries between)
