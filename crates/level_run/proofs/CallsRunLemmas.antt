@@ -1,13 +1,13 @@
 -- Starts, and the calls of a whole run.
 use Rattle.std.proofs.Common.{◌≡◌, ℕ, zero, suc, ◌+◌, ◌<◌, ◌≤◌, arith, List, [], ◌∷◌, ◌++◌, length, take, map, string_bytes, Option, Some, None, Ok, Err, refl, sym, subst, ap, ◌∙◌, append_assoc, slice_get, Result}
-use Rattle.std.specs.List.{flat_map}
+use Rattle.std.specs.List.{find, flat_map}
 use Rattle.std.proofs.Math.Seq.{take-append-add}
-use Rattle.std.proofs.lemmas.Grind.{flat_map-append}
 use Rattle.std.proofs.lemmas.List.{append-nil, take-append-le}
 use Rattle.std.proofs.lemmas.List.Elements.{All-append}
 use Rattle.std.proofs.lemmas.Option.{slice_get_within}
 use Rattle.lemmas.proofs.Members.{get_append}
 use Rattle.lemmas.proofs.ListTests.{all_one}
+use Rattle.lemmas.specs.Lists.{numbers_from}
 use Rattle.io_world.specs.Faults.{Extends}
 use Rattle.io_world.specs.Talks.{Event, started, stopped, Logs}
 use Rattle.io_world.specs.declared.host.HostFault.{HostFault}
@@ -21,8 +21,9 @@ use Rattle.transcript_model.specs.declared.head.Head.{Head}
 use Rattle.transcript_model.specs.declared.head.Pool.{Pool}
 use Rattle.session_core.specs.declared.pools.Workers.{Workers}
 use Rattle.level_run.proofs.CallsLemmas.{follows_join}
+use Rattle.level_run.proofs.StartsLemmas.{starts_cut, starts_more}
 use Rattle.level_run.proofs.TalkingLemmas.{none_asked}
-use Rattle.level_run.specs.Calls.{AreCallsOf, Calls, Follows, Hearing, IsStop, LogRan, LogRuns, LogStartsPart, LogStops, Runs, starts_before, starts_from, starts_in, starts_of}
+use Rattle.level_run.specs.Calls.{AreCallsOf, Calls, Follows, Hearing, IsStop, LogRan, LogRuns, LogStartsPart, LogStops, Runs, has_child, start_at, start_in, starts_before, starts_of}
 use Rattle.level_run.specs.Dialogue.{replies_of, workers_in}
 use Rattle.level_run.specs.Rolling.{IsHostFault}
 use Rattle.level_run.specs.Turns.{EndsBatch}
@@ -31,26 +32,7 @@ use Rattle.level_run.specs.declared.ending.Batch.TheVariants.{Done, CallsSpent}
 use Rattle.level_run.specs.declared.fault.RunFault.{RunFault}
 use Rattle.level_course.proofs.CoursesStepLemmas.{same_asks}
 
--- ---- the starts of a pool
-
-pub starts_next : (words : List (List ℕ)) (first n : ℕ)
-    → starts_from words first (suc n) ≡ starts_from words first n ++ started (first + n) words (Ok tt) ∷ []
-starts_next words first zero =
-    ap (λ k. let one : List Event = started k words (Ok tt) ∷ [] in one) (let e : first ≡ first + 0 = omega arith in e)
-starts_next words first (suc n) =
-    ap (λ es. started first words (Ok tt) ∷ es) (starts_next words (first + 1) n ∙ ap (λ k. starts_from words (first + 1) n ++ started k words (Ok tt) ∷ []) (let e : first + 1 + n ≡ first + suc n = omega arith in e))
-
--- so many starts, the next one, and the others
-starts_split : (words : List (List ℕ)) (first k n : ℕ) → k < n
-    → (rest : List Event) × (starts_from words first n ≡ starts_from words first k ++ started (first + k) words (Ok tt) ∷ rest)
-starts_split words first zero zero below = absurd (omega (arith, below))
-starts_split words first zero (suc n) below = (starts_from words (first + 1) n, ap (λ k. started k words (Ok tt) ∷ starts_from words (first + 1) n) (let e : first ≡ first + 0 = omega arith in e))
-starts_split words first (suc k) zero below = absurd (omega (arith, below))
-starts_split words first (suc k) (suc n) below =
-    let later = starts_split words (first + 1) k n (omega (arith, below)) in (
-      later.0,
-      ap (λ es. started first words (Ok tt) ∷ es) (later.1 ∙ ap (λ j. starts_from words (first + 1) k ++ started j words (Ok tt) ∷ later.0) (let e : first + 1 + k ≡ first + suc k = omega arith in e)),
-    )
+-- ---- the starts of all children
 
 get_behind : {A : Type 0} (xs ys : List A) (n : ℕ)
     → slice_get (xs ++ ys) (length xs + n) ≡ slice_get ys n
@@ -82,49 +64,29 @@ part_first : (child : ℕ) (words : List (List ℕ)) (cause : HostFault) (fault 
     → LogStartsPart (started child words (Ok tt) ∷ rest) fault mid new
 part_first child words cause fault rest mid new is log = (0, child, words, cause, refl, is, log)
 
--- the next worker of a pool was refused
-pub pool_refused : (pool : Pool) (worker : ℕ) (fault : RunFault) (old mid new : Option (List Event))
-    → worker < pool.workers
-    → Extends old mid (starts_from (map string_bytes pool.argv) pool.first worker)
-    → (cause : HostFault) × IsHostFault cause fault × Logs mid new (started (pool.first + worker) (map string_bytes pool.argv) (Err cause))
-    → LogStartsPart (starts_in pool) fault old new
-pool_refused pool worker fault old mid new below first (cause, is, log) =
-    let words = map string_bytes pool.argv in
-    let split = starts_split words pool.first worker pool.workers below in
-    part_behind (starts_from words pool.first worker) (started (pool.first + worker) words (Ok tt) ∷ split.0) [] (starts_in pool) fault old mid new
-    (split.1 ∙ ap (λ es. starts_from words pool.first worker ++ es) (sym (append-nil (started (pool.first + worker) words (Ok tt) ∷ split.0)))) first
-    (part_first (pool.first + worker) words cause fault split.0 mid new is log)
+-- one child more was started, or no pool has it
+pub child_started : (pools : List Pool) (child : ℕ) (old mid new : Option (List Event))
+    → Extends old mid (flat_map (start_at pools) (numbers_from 0 child))
+    → Extends mid new (start_at pools child)
+    → Extends old new (flat_map (start_at pools) (numbers_from 0 (child + 1)))
+child_started pools child old mid new before log =
+    subst (Extends old new) (sym (starts_more pools child))
+    (extends_more old mid new (flat_map (start_at pools) (numbers_from 0 child)) (start_at pools child) before log)
 
-pub worker_started : (words : List (List ℕ)) (first n : ℕ) (old mid new : Option (List Event))
-    → Extends old mid (starts_from words first n)
-    → Logs mid new (started (first + n) words (Ok tt)) → Extends old new (starts_from words first (n + 1))
-worker_started words first n old mid new before log =
-    subst (Extends old new) (sym (ap (starts_from words first) (let e : n + 1 ≡ suc n = omega arith in e) ∙ starts_next words first n)) (extends_more old mid new (starts_from words first n) (started (first + n) words (Ok tt) ∷ []) before log)
-
--- ---- the starts of all pools
-
-cut_at : {A : Type 0} (xs : List A) (k : ℕ) (x : A) → slice_get xs k ≡ Some x
-    → (ys : List A) × (xs ≡ take k xs ++ x ∷ ys) × (take (k + 1) xs ≡ take k xs ++ x ∷ [])
-cut_at [] k x at = absurd (cc)
-cut_at (y ∷ ys) zero x at = let same : y ≡ x = cc in (ys, ap (λ z. z ∷ ys) same, ap (λ z. let one : List _ = z ∷ [] in one) same)
-cut_at (y ∷ ys) (suc k) x at = let later = cut_at ys k x at in (later.0, ap (λ zs. y ∷ zs) later.1, ap (λ n. take n (y ∷ ys)) (let e : suc k + 1 ≡ suc (k + 1) = omega arith in e) ∙ ap (λ zs. y ∷ zs) later.2)
-
-pub pool_started : (pools : List Pool) (i : ℕ) (pool : Pool) (old mid new : Option (List Event))
-    → slice_get pools i ≡ Some pool
-    → Extends old mid (flat_map starts_in (take i pools)) → Extends mid new (starts_in pool)
-    → Extends old new (flat_map starts_in (take (i + 1) pools))
-pool_started pools i pool old mid new at before log =
-    let cut = cut_at pools i pool at in
-    subst (Extends old new) (sym (ap (flat_map starts_in) cut.2 ∙ flat_map-append starts_in (take i pools) (pool ∷ []) ∙ ap (λ es. flat_map starts_in (take i pools) ++ es) (append-nil (starts_in pool))))
-    (extends_more old mid new (flat_map starts_in (take i pools)) (starts_in pool) before log)
-
-pub pools_refused : (pools : List Pool) (i : ℕ) (pool : Pool) (fault : RunFault) (old mid new : Option (List Event))
-    → slice_get pools i ≡ Some pool → Extends old mid (flat_map starts_in (take i pools)) → LogStartsPart (starts_in pool) fault mid new
+-- the next child's start was refused
+pub child_refused : (pools : List Pool) (child : ℕ) (pool : Pool) (fault : RunFault) (old mid new : Option (List Event))
+    → child < 17 → find (has_child child) pools ≡ Some pool
+    → Extends old mid (flat_map (start_at pools) (numbers_from 0 child))
+    → (cause : HostFault) × IsHostFault cause fault
+    × Logs mid new (started child (map string_bytes pool.argv) (Err cause))
     → LogStartsPart (starts_of pools) fault old new
-pools_refused pools i pool fault old mid new at before log =
-    let cut = cut_at pools i pool at in
-    part_behind (flat_map starts_in (take i pools)) (starts_in pool) (flat_map starts_in cut.0) (starts_of pools) fault old mid new
-    (ap (flat_map starts_in) cut.1 ∙ flat_map-append starts_in (take i pools) (pool ∷ cut.0)) before log
+child_refused pools child pool fault old mid new below found before (cause, is, log) =
+    let words = map string_bytes pool.argv in
+    let cut = starts_cut pools child below in
+    part_behind (flat_map (start_at pools) (numbers_from 0 child)) (start_at pools child) cut.0
+    (starts_of pools) fault old mid new cut.1 before
+    (subst (λ o. LogStartsPart (start_in child o) fault mid new) (sym found)
+    (part_first child words cause fault [] mid new is log))
 
 -- ---- before a batch
 

@@ -1,6 +1,14 @@
 -- Children that are started, one after another.
-use Rattle.std.proofs.Common.{◌≡◌, ℕ, zero, suc, ◌+◌, ◌<◌, ◌≤◌, arith, Bool, true, false, List, map, length, replicate, refl, sym, subst, ap, ◌∙◌, inl, inr, Option, Some, None, Result, Ok, Err, slice_get, option_map, get_or, unwrap_or}
-use Rattle.std.proofs.lemmas.Bool.{cases_lt}
+use Rattle.std.proofs.Common.{◌≡◌, ℕ, zero, suc, ◌+◌, ◌<◌, ◌≤◌, arith, Bool, true, false, not, cond, ◌&&◌, nat_lt, List, [], ◌∷◌, ◌++◌, map, length, replicate, refl, sym, subst, ap, ◌∙◌, inl, inr, Option, Some, None, Result, Ok, Err, slice_get, option_map, get_or, unwrap_or}
+use Rattle.std.specs.List.{find, flat_map}
+use Rattle.std.proofs.lemmas.Bool.{cases_lt, ltb-true, ltb-false}
+use Rattle.std.proofs.lemmas.Grind.{flat_map-append}
+use Rattle.std.proofs.lemmas.List.{append-nil}
+use Rattle.std.proofs.lemmas.List.Folds.{find_at}
+use Rattle.fact_store.proofs.NamePlaceLemmas.{find_passes}
+use Rattle.io_world.specs.Talks.{Event}
+use Rattle.level_run.specs.Calls.{has_child, start_at, starts_of}
+use Rattle.lemmas.specs.Lists.{numbers_from}
 use Rattle.std.proofs.lemmas.Option.{slice_get-map, slice_get-get_or, slice_get_past}
 use Rattle.std.specs.Result.{IfOk, OnOk}
 use Rattle.io_world.specs.Talks.{Becomes, Same}
@@ -25,48 +33,130 @@ pub not_started_past : (started : List Bool) (child : ℕ) → length started �
 not_started_past started child past =
     ap (λ o. unwrap_or o false) (slice_get_past started child past)
 
--- ---- the workers of a pool
+-- ---- the pool that has a child
 
-module _ (first n : ℕ) (old new : ℕ → Bool) (becomes : Becomes (first + n) true old new) where
-  pub worker_done : ((child : ℕ) → first ≤ child → child < first + n → old child ≡ true)
-      → (child : ℕ) → first ≤ child
-      → child < first + (n + 1) → new child ≡ true
-  worker_done done child from to = elim (cases_lt child (first + n)) [
-    | inl less ↦ becomes.others child (λ e. omega (arith, e, less)) ∙ done child from less
-    | inr more ↦ ap new (let same : child ≡ first + n = omega (arith, more, to) in same) ∙ becomes.here
+find_none : {A : Type 0} (p : A → Bool) (xs : List A) → find p xs ≡ None → (k : ℕ) (x : A)
+    → slice_get xs k ≡ Some x → p x ≡ false
+find_none p [] none k x at = absurd (cc)
+find_none p (y ∷ ys) none k x at = by (p y) refl none k at
+  where
+    by : (b : Bool) → p y ≡ b → cond b (Some y) (find p ys) ≡ None → (n : ℕ)
+        → slice_get (y ∷ ys) n ≡ Some x → p x ≡ false
+    by true e h n is = absurd (cc)
+    by false e h zero is = let same : y ≡ x = cc in ap p (sym same) ∙ e
+    by false e h (suc n) is = find_none p ys h n x is
+
+has_worker : (pool : Pool) (child : ℕ) → has_child child pool ≡ true → IsWorker pool child
+has_worker pool child has = by (nat_lt child pool.first) (nat_lt child (pool.first + pool.workers)) refl refl has
+  where
+    by : (a b : Bool) → nat_lt child pool.first ≡ a
+        → nat_lt child (pool.first + pool.workers) ≡ b → (not a && b) ≡ true → IsWorker pool child
+    by true b low high e = absurd (cc)
+    by false false low high e = absurd (cc)
+    by false true low high e = record {
+      from = omega (arith, ltb-false child pool.first low);
+      to = ltb-true child (pool.first + pool.workers) high;
+    }
+
+worker_has : (pool : Pool) (child : ℕ) → IsWorker pool child → has_child child pool ≡ false → ⊥
+worker_has pool child is has = by (nat_lt child pool.first) (nat_lt child (pool.first + pool.workers)) refl refl has
+  where
+    by : (a b : Bool) → nat_lt child pool.first ≡ a
+        → nat_lt child (pool.first + pool.workers) ≡ b → (not a && b) ≡ false → ⊥
+    by true b low high e = omega (arith, ltb-true child pool.first low, is.from)
+    by false false low high e =
+        omega (arith, ltb-false child (pool.first + pool.workers) high, is.to)
+    by false true low high e = absurd (cc)
+
+-- the pool that is found is one of the pools, and has the child
+pub found_worker : (pools : List Pool) (child : ℕ) (pool : Pool)
+    → find (has_child child) pools ≡ Some pool
+    → (k : ℕ) × (slice_get pools k ≡ Some pool) × IsWorker pool child
+found_worker pools child pool found = (
+  position_or_len (has_child child) pools,
+  sym (find_at (has_child child) pools) ∙ found,
+  has_worker pool child (find_passes (has_child child) pools pool found),
+)
+
+-- no pool has a child for which none is found
+pub no_worker : (pools : List Pool) (child k : ℕ) (pool : Pool)
+    → find (has_child child) pools ≡ None → slice_get pools k ≡ Some pool → ¬ (IsWorker pool child)
+no_worker pools child k pool none at is =
+    worker_has pool child is (find_none (has_child child) pools none k pool at)
+
+-- ---- children up to one
+
+-- each pool's workers before this child run
+abbrev pub RunBefore : List Pool → ℕ → (ℕ → Bool) → Type 0
+RunBefore pools next running = (k child : ℕ) (p : Pool) → child < next → slice_get pools k ≡ Some p
+    → IsWorker p child → running child ≡ true
+
+-- none of the others does
+abbrev pub IdleFrom : List Pool → ℕ → (ℕ → Bool) → Type 0
+IdleFrom pools next running = (k child : ℕ) (p : Pool) → next ≤ child → slice_get pools k ≡ Some p
+    → IsWorker p child → running child ≡ false
+
+module _ (pools : List Pool) (next : ℕ) (old new : ℕ → Bool) (becomes : Becomes next true old new) where
+  pub runs_more : RunBefore pools next old → RunBefore pools (next + 1) new
+  runs_more runs k child p to at is = elim (cases_lt child next) [
+    | inl less ↦ becomes.others child (λ e. omega (arith, e, less)) ∙ runs k child p less at is
+    | inr more ↦ ap new (let same : child ≡ next = omega (arith, more, to) in same) ∙ becomes.here
   ]
 
-  pub worker_others : (base : ℕ → Bool)
-      → ((child : ℕ) → (first ≤ child → child < first + n → ⊥) → old child ≡ base child)
-      → (child : ℕ)
-      → (first ≤ child → child < first + (n + 1) → ⊥) → new child ≡ base child
-  worker_others base others child not =
-      becomes.others child (λ e. not (omega (arith, e)) (omega (arith, e))) ∙ others child (λ from to. not from (omega (arith, to)))
+  pub idle_further : IdleFrom pools next old → IdleFrom pools (next + 1) new
+  idle_further idle k child p from at is =
+      becomes.others child (λ e. omega (arith, e, from)) ∙ idle k child p (omega (arith, from)) at is
 
-  pub next_idle : (workers : ℕ) (base : ℕ → Bool) → n < workers
-      → ((child : ℕ) → (first ≤ child → child < first + n → ⊥) → old child ≡ base child) → base (first + n) ≡ false
-      → old (first + n) ≡ false
-  next_idle workers base less others idle = others (first + n) (λ from to. omega (arith, to)) ∙ idle
-
--- ---- pools
-
-module _ (pools : List Pool) (start : AreStartable pools) (i : ℕ) (pool : Pool) (at : slice_get pools i ≡ Some pool) (old new : ℕ → Bool) (runs : (child : ℕ) → IsWorker pool child → new child ≡ true) (others : (child : ℕ) → ¬ (IsWorker pool child) → new child ≡ old child) where
-  pub pools_left : ((k child : ℕ) (p : Pool) → i ≤ k → slice_get pools k ≡ Some p → IsWorker p child → old child ≡ false)
-      → (k child : ℕ) (p : Pool) → i + 1 ≤ k → slice_get pools k ≡ Some p → IsWorker p child → new child ≡ false
-  pools_left left k child p from at_k is =
-      others child (λ own. let same = start.apart i k child pool p at at_k own is in omega (arith, same, from))
-      ∙ left k child p (omega (arith, from)) at_k is
-
-  pub pools_done : ((k child : ℕ) (p : Pool) → k < i → slice_get pools k ≡ Some p → IsWorker p child → old child ≡ true)
-      → (k child : ℕ) (p : Pool) → k < i + 1 → slice_get pools k ≡ Some p → IsWorker p child → new child ≡ true
-  pools_done done k child p to at_k is = elim (cases_lt k i) [
-    | inl less ↦ others child (λ own. let same = start.apart i k child pool p at at_k own is in omega (arith, same, less)) ∙ done k child p less at_k is
+module _ (pools : List Pool) (next : ℕ) (running : ℕ → Bool) (none : find (has_child next) pools ≡ None) where
+  pub passed_over : RunBefore pools next running → RunBefore pools (next + 1) running
+  passed_over runs k child p to at is = elim (cases_lt child next) [
+    | inl less ↦ runs k child p less at is
     | inr more ↦
-        let here : k ≡ i = omega (arith, more, to) in
-        let one : Some p ≡ Some pool = sym at_k ∙ ap (slice_get pools) here ∙ at in
-        let same : p ≡ pool = cc in
-        runs child (subst (λ q. IsWorker q child) same is)
+        let same : child ≡ next = omega (arith, more, to) in
+        absurd (no_worker pools next k p none at (subst (IsWorker p) same is))
   ]
+
+-- ---- the starts up to one child
+
+pub numbers_suc : (first n : ℕ)
+    → numbers_from first (n + 1) ≡ numbers_from first n ++ (first + n) ∷ []
+numbers_suc first zero = ap (λ k. k ∷ []) (omega arith)
+numbers_suc first (suc n) =
+    let shift : first + 1 + n ≡ first + suc n = omega arith in
+    ap (λ ks. first ∷ ks) (numbers_suc (first + 1) n
+    ∙ ap (λ k. numbers_from (first + 1) n ++ k ∷ []) shift)
+
+numbers_split : (first k n : ℕ) → k < n
+    → (rest : List ℕ) × (numbers_from first n ≡ numbers_from first k ++ (first + k) ∷ rest)
+numbers_split first k zero below = absurd (omega (arith, below))
+numbers_split first zero (suc n) below =
+    (numbers_from (first + 1) n, ap (λ k. k ∷ numbers_from (first + 1) n) (omega arith))
+numbers_split first (suc k) (suc n) below =
+    let later = numbers_split (first + 1) k n (omega (arith, below)) in
+    let shift : first + 1 + k ≡ first + suc k = omega arith in (
+      later.0,
+      ap (λ ks. first ∷ ks) (later.1 ∙ ap (λ j. numbers_from (first + 1) k ++ j ∷ later.0) shift),
+    )
+
+-- the starts up to this child and its own are those up to the next
+pub starts_more : (pools : List Pool) (child : ℕ)
+    → flat_map (start_at pools) (numbers_from 0 (child + 1))
+    ≡ flat_map (start_at pools) (numbers_from 0 child) ++ start_at pools child
+starts_more pools child =
+    ap (flat_map (start_at pools)) (numbers_suc 0 child)
+    ∙ flat_map-append (start_at pools) (numbers_from 0 child) (child ∷ [])
+    ∙ ap (λ es. flat_map (start_at pools) (numbers_from 0 child) ++ es) (append-nil (start_at pools child))
+
+-- all starts are those up to a child, its own, and others
+pub starts_cut : (pools : List Pool) (child : ℕ) → child < 17
+    → (rest : List Event) × (starts_of pools
+    ≡ flat_map (start_at pools) (numbers_from 0 child) ++ (start_at pools child ++ rest))
+starts_cut pools child below =
+    let cut = numbers_split 0 child 17 below in (
+      flat_map (start_at pools) cut.0,
+      ap (flat_map (start_at pools)) cut.1
+          ∙ flat_map-append (start_at pools) (numbers_from 0 child) (child ∷ cut.0),
+    )
 
 -- ---- what is asked for
 

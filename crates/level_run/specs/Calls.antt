@@ -1,6 +1,7 @@
 -- The order of the calls on children: which of them bring each entry of a transcript.
-use Rattle.std.specs.Prelude.{◌≡◌, ℕ, ◌+◌, zero, suc, ◌<◌, ◌≤◌, List, [], ◌∷◌, ◌++◌, length, take, map, string_bytes, Option, None, Some, Ok, ⊤, slice_get, Err}
-use Rattle.std.specs.List.{All, flat_map}
+use Rattle.std.specs.Prelude.{◌≡◌, ℕ, ◌+◌, zero, suc, ◌<◌, ◌≤◌, nat_lt, Bool, not, ◌&&◌, List, [], ◌∷◌, ◌++◌, length, take, map, string_bytes, Option, None, Some, Ok, ⊤, slice_get, Err}
+use Rattle.std.specs.List.{All, find, flat_map}
+use Rattle.lemmas.specs.Lists.{numbers_from}
 use Rattle.gen_lines.specs.Lines.{lines_of}
 use Rattle.io_world.specs.Faults.{Extends}
 use Rattle.io_world.specs.declared.host.HostFault.{HostFault}
@@ -82,18 +83,21 @@ pub record Calls (task : Task) (pools : List Workers) (before after : List Entry
 
 -- ---- starts
 
--- so many starts from this child on, all Ok, with these words
-abbrev pub starts_from : List (List ℕ) → ℕ → ℕ → List Event
-starts_from words first zero = []
-starts_from words first (suc n) = started first words (Ok tt) ∷ starts_from words (first + 1) n
+-- whether the pool has the child of this number
+abbrev pub has_child : ℕ → Pool → Bool
+has_child child pool = not (nat_lt child pool.first) && nat_lt child (pool.first + pool.workers)
 
--- the starts of all workers of a pool, in the order of their numbers, with its words
-abbrev pub starts_in : Pool → List Event
-starts_in pool = starts_from (map string_bytes pool.argv) pool.first pool.workers
+-- the child's start, Ok, with the words of its pool, and nothing where it has none
+abbrev pub start_in : ℕ → Option Pool → List Event
+start_in child None = []
+start_in child (Some pool) = started child (map string_bytes pool.argv) (Ok tt) ∷ []
 
--- the starts of all workers of all pools, in the order of the pools
+abbrev pub start_at : List Pool → ℕ → List Event
+start_at pools child = start_in child (find (has_child child) pools)
+
+-- the starts of the workers of all pools, in the order of their numbers
 abbrev pub starts_of : List Pool → List Event
-starts_of pools = flat_map starts_in pools
+starts_of pools = flat_map (start_at pools) (numbers_from 0 17)
 
 -- The starts that stand before these requests, where so many were made before: all, where they have the first one; and else none.
 abbrev pub starts_before : List Pool → (before more : ℕ) → List Event

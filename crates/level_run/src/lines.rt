@@ -1,12 +1,13 @@
 //! What was read from children and not yet taken as lines, and which were started.
-ghost use Rattle.std.specs.Prelude.{◌≡◌, [], ◌<◌, ◌≤◌, ◌+◌, ℕ, true, false, length, map, string_bytes, Ok, Err, IfErr, IfOk, OnOk};
+ghost use Rattle.std.specs.Prelude.{◌≡◌, [], ◌<◌, ◌≤◌, ◌+◌, ℕ, true, false, length, map, string_bytes, option_copied, Ok, Err, IfErr, IfOk, OnOk};
+ghost use Rattle.std.specs.List.{find};
 ghost use Rattle.io_world.specs.Faults.{Extends, HasCause};
 ghost use Rattle.io_world.specs.Talks.{Becomes, Logs, Same, started};
 ghost use Rattle.io_world.specs.declared.host.HostFault.{HostFault as AnyHostFault};
-ghost use Rattle.level_run.specs.Calls.{LogStartsPart, LogStops, starts_in, starts_of};
+ghost use Rattle.level_run.specs.Calls.{LogStartsPart, LogStops, has_child, starts_of};
 ghost use Rattle.level_run.specs.Held.{is_running};
 ghost use Rattle.level_run.specs.Rolling.{IsHostFault};
-ghost use Rattle.level_run.specs.Starts.{AllWork, AreStartable, IsWorker, NoneWorks};
+ghost use Rattle.level_run.specs.Starts.{AllWork, AreStartable, NoneWorks};
 ghost use Rattle.level_run.specs.Stops.{MayHear};
 ghost use Rattle.level_run.specs.Talking.{AreSilent, held_of};
 ghost use Rattle.level_run.specs.declared.fault.RunFault.TheVariants.{Generator};
@@ -21,6 +22,13 @@ use transcript_model::Pool;
 
 /// How many children there may be.
 const CHILDREN: usize = 17;
+
+/// The pool that has the child.
+fn pool_with(pools: &[Pool], child: u8) -> Option<&Pool>
+    ensures { option_copied result ≡ find (has_child child) pools.now }
+{
+    pools.iter().find(|pool| pool.first <= child && child - pool.first < pool.workers)
+}
 
 /// For each child the bytes that were read and not yet taken as lines, and whether it was started. All batches of a session
 /// take the same lines.
@@ -98,34 +106,7 @@ impl Lines {
         Ok(())
     }
 
-    /// Starts all workers of a pool, none of which runs, in the order of their numbers.
-    fn start_pool<H: Host>(&mut self, host: &mut H, pool: &Pool) -> Result<(), RunFault>
-        requires low { pool.now.first + pool.now.workers ≤ 17 }
-        requires words { 0 < length pool.now.argv }
-        requires idle { (child : ℕ) → IsWorker pool.now child → is_running self.old child ≡ false }
-        requires state { Same (H.running host.old) (is_running self.old) }
-        ensures state { Same (H.running host.new) (is_running self.new) }
-        ensures running { OnOk result
-            ((child : ℕ) → IsWorker pool.now child → is_running self.new child ≡ true) }
-        ensures silent { AreSilent (is_running self.old) (H.spoken host.old)
-            → AreSilent (is_running self.new) (H.spoken host.new) }
-        ensures kept { self.new.buffers ≡ self.old.buffers }
-        ensures log { OnOk result (Extends (H.log host.old) (H.log host.new) (starts_in pool.now)) }
-        ensures refused { IfErr result
-            (λ fault. LogStartsPart (starts_in pool.now) fault (H.log host.old) (H.log host.new)) }
-        ensures others { OnOk result
-            ((child : ℕ) → ¬ (IsWorker pool.now child) → is_running self.new child
-            ≡ is_running self.old child) }
-        ensures only { IfErr result MayHear }
-        ensures cause { HasCause Generator H.last (H.faults host.old) (H.faults host.new) result }
-    {
-        for worker in 0..pool.workers {
-            self.start_child(host, pool.first + worker, pool.argv.as_slice())?;
-        }
-        Ok(())
-    }
-
-    /// Starts all workers of all pools, none of which runs, in the order of the pools.
+    /// Starts all workers of all pools, none of which runs, in the order of their numbers.
     pub(crate) fn start_all<H: Host>(
         &mut self,
         host: &mut H,
@@ -146,8 +127,10 @@ impl Lines {
         ensures only { IfErr result MayHear }
         ensures cause { HasCause Generator H.last (H.faults host.old) (H.faults host.new) result }
     {
-        for pool in pools {
-            self.start_pool(host, pool)?;
+        for child in 0..CHILDREN as u8 {
+            if let Some(pool) = pool_with(pools, child) {
+                self.start_child(host, child, pool.argv.as_slice())?;
+            }
         }
         Ok(())
     }
