@@ -5,11 +5,12 @@ use Rattle.std.proofs.lemmas.Bool.{cases_lt, ltb-true, ltb-false}
 use Rattle.std.proofs.lemmas.Grind.{flat_map-append}
 use Rattle.std.proofs.lemmas.List.{append-nil}
 use Rattle.std.proofs.lemmas.List.Folds.{find_at}
+use Rattle.std.specs.List.{position_or_len}
 use Rattle.fact_store.proofs.NamePlaceLemmas.{find_passes}
 use Rattle.io_world.specs.Talks.{Event}
 use Rattle.level_run.specs.Calls.{has_child, start_at, starts_of}
 use Rattle.lemmas.specs.Lists.{numbers_from}
-use Rattle.std.proofs.lemmas.Option.{slice_get-map, slice_get-get_or, slice_get_past}
+use Rattle.std.proofs.lemmas.Option.{slice_get-map, slice_get-get_or, slice_get_past, slice_get_within}
 use Rattle.std.specs.Result.{IfOk, OnOk}
 use Rattle.io_world.specs.Talks.{Becomes, Same}
 use Rattle.session_core.specs.Pools.{workers_of}
@@ -38,13 +39,14 @@ not_started_past started child past =
 find_none : {A : Type 0} (p : A → Bool) (xs : List A) → find p xs ≡ None → (k : ℕ) (x : A)
     → slice_get xs k ≡ Some x → p x ≡ false
 find_none p [] none k x at = absurd (cc)
-find_none p (y ∷ ys) none k x at = by (p y) refl none k at
+find_none p (y ∷ ys) none k x at = by (p y) refl none k at (λ h n is. find_none p ys h n x is)
   where
     by : (b : Bool) → p y ≡ b → cond b (Some y) (find p ys) ≡ None → (n : ℕ)
-        → slice_get (y ∷ ys) n ≡ Some x → p x ≡ false
-    by true e h n is = absurd (cc)
-    by false e h zero is = let same : y ≡ x = cc in ap p (sym same) ∙ e
-    by false e h (suc n) is = find_none p ys h n x is
+        → slice_get (y ∷ ys) n ≡ Some x
+        → (find p ys ≡ None → (n : ℕ) → slice_get ys n ≡ Some x → p x ≡ false) → p x ≡ false
+    by true e h n is later = absurd (cc)
+    by false e h zero is later = let same : y ≡ x = cc in ap p (sym same) ∙ e
+    by false e h (suc n) is later = later h n is
 
 has_worker : (pool : Pool) (child : ℕ) → has_child child pool ≡ true → IsWorker pool child
 has_worker pool child has = by (nat_lt child pool.first) (nat_lt child (pool.first + pool.workers)) refl refl has
@@ -84,6 +86,25 @@ pub no_worker : (pools : List Pool) (child k : ℕ) (pool : Pool)
 no_worker pools child k pool none at is =
     worker_has pool child is (find_none (has_child child) pools none k pool at)
 
+-- a pool's words begin with a program
+pub has_words : (pools : List Pool) → AreStartable pools → (k : ℕ) (pool : Pool)
+    → slice_get pools k ≡ Some pool → 0 < length pool.argv
+has_words pools start k pool at =
+    let within = slice_get_within pools k pool at in
+    let there : Some (get_or pools k pool) ≡ Some pool = sym (slice_get-get_or pools k pool within) ∙ at in
+    let same : get_or pools k pool ≡ pool = cc in
+    subst (λ (p : Pool). 0 < length p.argv) same (start.words k pool within)
+
+-- a worker's number is below 17
+pub worker_low : (pools : List Pool) → AreStartable pools → (k child : ℕ) (pool : Pool)
+    → slice_get pools k ≡ Some pool → IsWorker pool child → child < 17
+worker_low pools start k child pool at is =
+    let within = slice_get_within pools k pool at in
+    let there : Some (get_or pools k pool) ≡ Some pool = sym (slice_get-get_or pools k pool within) ∙ at in
+    let same : get_or pools k pool ≡ pool = cc in
+    let low = subst (λ (p : Pool). p.first + p.workers ≤ 17) same (start.low k pool within) in
+    omega (arith, low, is.to)
+
 -- ---- children up to one
 
 -- each pool's workers before this child run
@@ -107,6 +128,10 @@ module _ (pools : List Pool) (next : ℕ) (old new : ℕ → Bool) (becomes : Be
   idle_further idle k child p from at is =
       becomes.others child (λ e. omega (arith, e, from)) ∙ idle k child p (omega (arith, from)) at is
 
+pub idle_still : (pools : List Pool) (next : ℕ) (running : ℕ → Bool)
+    → IdleFrom pools next running → IdleFrom pools (next + 1) running
+idle_still pools next running idle k child p from at is = idle k child p (omega (arith, from)) at is
+
 module _ (pools : List Pool) (next : ℕ) (running : ℕ → Bool) (none : find (has_child next) pools ≡ None) where
   pub passed_over : RunBefore pools next running → RunBefore pools (next + 1) running
   passed_over runs k child p to at is = elim (cases_lt child next) [
@@ -122,8 +147,10 @@ pub numbers_suc : (first n : ℕ)
     → numbers_from first (n + 1) ≡ numbers_from first n ++ (first + n) ∷ []
 numbers_suc first zero = ap (λ k. k ∷ []) (omega arith)
 numbers_suc first (suc n) =
+    let next : suc n + 1 ≡ suc (n + 1) = omega arith in
     let shift : first + 1 + n ≡ first + suc n = omega arith in
-    ap (λ ks. first ∷ ks) (numbers_suc (first + 1) n
+    ap (numbers_from first) next
+    ∙ ap (λ ks. first ∷ ks) (numbers_suc (first + 1) n
     ∙ ap (λ k. numbers_from (first + 1) n ++ k ∷ []) shift)
 
 numbers_split : (first k n : ℕ) → k < n
@@ -143,7 +170,8 @@ pub starts_more : (pools : List Pool) (child : ℕ)
     → flat_map (start_at pools) (numbers_from 0 (child + 1))
     ≡ flat_map (start_at pools) (numbers_from 0 child) ++ start_at pools child
 starts_more pools child =
-    ap (flat_map (start_at pools)) (numbers_suc 0 child)
+    ap (flat_map (start_at pools)) (numbers_suc 0 child
+    ∙ ap (λ k. numbers_from 0 child ++ k ∷ []) (let own : 0 + child ≡ child = omega arith in own))
     ∙ flat_map-append (start_at pools) (numbers_from 0 child) (child ∷ [])
     ∙ ap (λ es. flat_map (start_at pools) (numbers_from 0 child) ++ es) (append-nil (start_at pools child))
 
@@ -151,12 +179,22 @@ starts_more pools child =
 pub starts_cut : (pools : List Pool) (child : ℕ) → child < 17
     → (rest : List Event) × (starts_of pools
     ≡ flat_map (start_at pools) (numbers_from 0 child) ++ (start_at pools child ++ rest))
+unfolding starts_of
 starts_cut pools child below =
-    let cut = numbers_split 0 child 17 below in (
+    let cut = numbers_split 0 child 17 below in
+    let own : 0 + child ≡ child = omega arith in
+    let whole : numbers_from 0 17 ≡ numbers_from 0 child ++ child ∷ cut.0 =
+    subst (λ k. numbers_from 0 17 ≡ numbers_from 0 child ++ k ∷ cut.0) own cut.1 in (
       flat_map (start_at pools) cut.0,
-      ap (flat_map (start_at pools)) cut.1
+      ap (flat_map (start_at pools)) whole
           ∙ flat_map-append (start_at pools) (numbers_from 0 child) (child ∷ cut.0),
     )
+
+-- the starts up to the last child are all
+pub starts_whole : (pools : List Pool) (next : ℕ) → next ≡ 17
+    → flat_map (start_at pools) (numbers_from 0 next) ≡ starts_of pools
+unfolding starts_of
+starts_whole pools next is = ap (λ n. flat_map (start_at pools) (numbers_from 0 n)) is
 
 -- ---- what is asked for
 

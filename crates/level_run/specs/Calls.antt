@@ -96,7 +96,7 @@ abbrev pub start_at : List Pool → ℕ → List Event
 start_at pools child = start_in child (find (has_child child) pools)
 
 -- the starts of the workers of all pools, in the order of their numbers
-abbrev pub starts_of : List Pool → List Event
+unfoldable pub starts_of : List Pool → List Event
 starts_of pools = flat_map (start_at pools) (numbers_from 0 17)
 
 -- The starts that stand before these requests, where so many were made before: all, where they have the first one; and else none.
