@@ -1,3 +1,4 @@
 pub mod AnswersLemmas
+pub mod CoversLemmas
 pub mod PlacesLemmas
 pub mod ServingLemmas

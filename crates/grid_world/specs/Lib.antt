@@ -1,6 +1,7 @@
 pub mod AnswerLines
 pub mod Answers
 pub mod Asks
+pub mod Covers
 pub mod Filling
 pub mod Inputs
 pub mod Rows

@@ -9,6 +9,7 @@ mod answer;
 mod answer_line;
 mod ask;
 mod clear;
+mod cover;
 mod grasp;
 mod held;
 mod inputs;
