@@ -3,7 +3,9 @@ pub mod Answers
 pub mod Asks
 pub mod Covers
 pub mod Filling
+pub mod Generators
 pub mod Inputs
 pub mod Rows
 pub mod Serving
+pub mod Sessions
 pub mod Words
