@@ -3,15 +3,15 @@ use Rattle.std.proofs.Common.{◌≡◌, ℕ, ◌+◌, ◌<◌, ◌≤◌, Bool,
 use Rattle.std.specs.Io.BufRead.{strip_last}
 use Rattle.std.specs.List.{flat_map, onto_first, slice_split}
 use Rattle.std.proofs.lemmas.Grind.{flat_map-append}
-use Rattle.std.proofs.lemmas.List.{map-append, take-append-le}
+use Rattle.std.proofs.lemmas.List.{map-append, take-append-le, take_all}
 use Rattle.std.proofs.Math.Seq.{take-add}
 use Rattle.std.proofs.lemmas.Bool.Decides.{nat_tests}
 use Rattle.std.proofs.lemmas.List.Splits.{length-slice_split}
 use Rattle.gen_lines.specs.Lines.{ended, is_feed, lines_of, open_part, unfinished}
 use Rattle.grid_text.specs.Grids.{GridFile}
 use Rattle.grid_world.specs.AnswerLines.{answers_text, replies_to, reply_to}
-use Rattle.io_world.specs.Talks.{heard_more}
-use Rattle.grid_world.specs.Sessions.{GoesOn, HearsByte, SessionState, left_of, talk_of}
+use Rattle.io_world.specs.Talks.{heard_more, wrote_more}
+use Rattle.grid_world.specs.Sessions.{GoesOn, HearsByte, KeepsGiven, SessionState, left_of, talk_of}
 
 -- a part behind others
 ended_push : (parts : List (List ℕ)) (part : List ℕ) → ended (parts ++ part ∷ []) ≡ parts
@@ -136,6 +136,14 @@ heard_given was session new n bytes w e b =
     let all = answers_text session.grid session.written in
     let more : take (session.given + n) all ≡ take session.given all ++ take n (drop session.given all) = take-add session.given n all in
     rw (w, e, b, more) refl
+
+-- bytes more were written
+pub said_more : (was : Option SessionState) (session new : SessionState) (bytes : List ℕ)
+    → was ≡ Some session → new ≡ record session { written = session.written ++ bytes } → KeepsGiven session bytes
+    → Some (talk_of (Some new)) ≡ Some (wrote_more (take (length bytes) bytes) (talk_of was))
+said_more was session new bytes w e k =
+    let all : take (length bytes) bytes ≡ bytes = take_all (length bytes) bytes (omega arith) in
+    rw (w, e, all, k) refl
 
 -- what was given stays the front, once more is written
 pub heard_stays : (grid : GridFile) (written bytes left answers : List ℕ) (n : ℕ) → GoesOn grid written bytes left answers → n ≤ length (answers_text grid written) → take n (answers_text grid (written ++ bytes)) ≡ take n (answers_text grid written)

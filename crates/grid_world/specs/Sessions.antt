@@ -32,6 +32,12 @@ talk_of (Some session) = record {
   heard = take session.given (answers_text session.grid session.written);
 }
 
+-- what was given is the front of the answers once these bytes more are written
+abbrev pub KeepsGiven : SessionState → List ℕ → Type 0
+KeepsGiven session bytes =
+    take session.given (answers_text session.grid (session.written ++ bytes))
+    ≡ take session.given (answers_text session.grid session.written)
+
 -- what is open, and the answers that came, once these bytes are written behind others
 pub record GoesOn (grid : GridFile) (written bytes left answers : List ℕ) : Type 0 where
   pub left_is : left ≡ unfinished (written ++ bytes)

@@ -1,7 +1,7 @@
 //! What is said with a generator in the process.
 ghost use Rattle.std.specs.Prelude.{◌≡◌, ◌+◌, ℕ, List, ◌++◌, false, length, min, take, IfOk, OnErr, OnOk};
 ghost use Rattle.gen_lines.specs.Lines.{unfinished};
-ghost use Rattle.grid_world.specs.Sessions.{GoesOn, HearsByte, left_of, new_session};
+ghost use Rattle.grid_world.specs.Sessions.{GoesOn, HearsByte, KeepsGiven, left_of, new_session};
 
 use crate::answer_line::answer_line;
 use crate::ask::grid_answer;
@@ -60,6 +60,7 @@ impl Session {
     pub(crate) fn send(&mut self, alloc: Global, bytes: &[u8]) -> Result<(), AllocError>
         ensures sent { OnOk result
             (self.new ≡ record self.old { written = self.old.written ++ bytes.now }) }
+        ensures given { OnOk result (KeepsGiven self.old bytes.now) }
         ensures same { OnErr result (self.new ≡ self.old) }
     {
         let heard = hear(alloc, &self.grid, &self.open, bytes)?;
