@@ -1,6 +1,8 @@
+pub mod FilesLemmas
 pub mod FirstFields
 pub mod GridsLemmas
 pub mod LinesLemmas
 pub mod NumbersLemmas
 pub mod RectsLemmas
+pub mod RightLinesLemmas
 pub mod TasksLemmas

@@ -18,13 +18,13 @@ lt_told m n e = grind (arith, nat_tests, e)
 lt_test : (m n : ℕ) → m < n → nat_lt m n ≡ true
 lt_test m n h = grind (arith, nat_tests, h)
 
-record Corners (a b : Rect) : Type 0 where
-  left : b.x ≤ a.x
-  top : b.y ≤ a.y
-  right : a.x + a.w ≤ b.x + b.w
-  bottom : a.y + a.h ≤ b.y + b.h
+pub record Corners (a b : Rect) : Type 0 where
+  pub left : b.x ≤ a.x
+  pub top : b.y ≤ a.y
+  pub right : a.x + a.w ≤ b.x + b.w
+  pub bottom : a.y + a.h ≤ b.y + b.h
 
-corners_told : (a b : Rect) → is_within a b ≡ true → Corners a b
+pub corners_told : (a b : Rect) → is_within a b ≡ true → Corners a b
 unfolding is_within
 corners_told a b e =
     let p = and_parts _ (nat_le (a.y + a.h) (b.y + b.h)) e in

@@ -15,9 +15,9 @@ pub record IsIn (cell : Cell) (rect : Rect) : Type 0 where
 abbrev pub HasCells : Rect → Type 0
 HasCells rect = (0 < rect.w) × (0 < rect.h)
 
--- its edges lie where four digits and four more reach
+-- it lies in the largest grid that there may be
 abbrev pub IsSmall : Rect → Type 0
-IsSmall rect = (rect.x + rect.w ≤ 19998) × (rect.y + rect.h ≤ 19998)
+IsSmall rect = (rect.x + rect.w ≤ 1000) × (rect.y + rect.h ≤ 1000)
 
 -- the inner rectangle doesn't reach over an edge of the outer one
 unfoldable pub is_within : Rect → Rect → Bool

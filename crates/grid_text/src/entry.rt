@@ -175,14 +175,14 @@ pub(crate) struct Item<'a> {
 }
 
 impl<'a> Model for Item<'a> {
-    ghost use Rattle.grid_text.specs.Entries.{Item};
-    ghost use Rattle.grid_text.specs.Rects.{IsSmall};
+    ghost use Rattle.std.specs.Prelude.{◌≤◌};
+    ghost use Rattle.grid_text.specs.Entries.{Item, most_extent};
 
     ghost Value = { Item };
 
     ghost view = { λ i. record { sort = i.sort; name = i.name.now; rect = i.rect } };
 
-    ghost invariant = { λ i. IsSmall i.rect };
+    ghost invariant = { λ i. (i.rect.w ≤ most_extent i.sort) × (i.rect.h ≤ most_extent i.sort) };
 }
 
 /// The entry with its numbers, if they are right.

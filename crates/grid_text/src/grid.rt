@@ -1,5 +1,5 @@
 //! A grid of blocks.
-ghost use Rattle.std.specs.Prelude.{◌≡◌, Some, None, OnOk, IfOk, IfErr, MatchResult};
+ghost use Rattle.std.specs.Prelude.{◌≡◌, Some, None, true, OnOk, IfOk, IfErr, MatchResult};
 ghost use Rattle.std.specs.List.{list_any};
 ghost use Rattle.std.specs.Str.{bytes_eq};
 ghost use Rattle.grid_text.specs.Entries.{item_of};
@@ -81,11 +81,14 @@ pub struct Grid {
 }
 
 impl Model for Grid {
+    ghost use Rattle.std.specs.Prelude.{◌≤◌};
     ghost use Rattle.grid_text.specs.Grids.{GridFile};
 
     ghost Value = { GridFile };
 
     ghost view = { λ g. record { width = g.width; height = g.height; blocks = g.blocks.items; regions = g.regions.items; obstacles = g.obstacles.items } };
+
+    ghost invariant = { λ g. (g.width ≤ 1000) × (g.height ≤ 1000) };
 }
 
 impl Grid {
@@ -272,6 +275,7 @@ impl Grid {
 
     /// Adds what a line says. Fails only where memory is wanting.
     fn add(&mut self, alloc: Global, item: &Item<'_>) -> Result<(), AllocError>
+        requires { specs.is_inside self.old item.now.sort item.now.rect ≡ true }
         ensures { OnOk result (self.new
             ≡ specs.grown self.old item.now.sort item.now.name item.now.rect) }
     {

@@ -19,6 +19,7 @@ mod task;
 pub use fault::{GridFault, GridKind};
 pub use fields::{first_field, four_fields};
 pub use grid::{Block, Grid, Region};
+pub use lines::{first_feed, without_return};
 pub use numbers::{are_digits, number_of};
 pub use reader::read_grid;
 pub use rect::Rect;

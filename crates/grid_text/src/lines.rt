@@ -16,7 +16,8 @@ pub(crate) fn first_line(bytes: &[u8]) -> (&[u8], Option<&[u8]>)
     }
 }
 
-fn first_feed(bytes: &[u8]) -> Option<usize>
+/// Where the first line feed stands.
+pub fn first_feed(bytes: &[u8]) -> Option<usize>
     ensures place { result ≡ position is_feed bytes.now }
     ensures within { IfSome result (λ n. n < length bytes.now) }
 {
@@ -24,7 +25,7 @@ fn first_feed(bytes: &[u8]) -> Option<usize>
 }
 
 /// A line's bytes without one carriage return at their end.
-fn without_return(bytes: &[u8]) -> &[u8]
+pub fn without_return(bytes: &[u8]) -> &[u8]
     ensures { result.now ≡ strip_last 13 bytes.now }
 {
     match bytes {

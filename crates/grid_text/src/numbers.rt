@@ -35,9 +35,7 @@ const DIGITS: usize = 4;
 /// The number of a field of a grid file: one to four digits.
 #[tactic(auto, unfolding(crate::specs::Numbers::is_number))]
 pub(crate) fn short_number(field: &[u8]) -> Option<u32>
-    ensures number { result ≡ (if is_number field.now then Some (digits_value 10 field.now) else
-        None) }
-    ensures small { IfSome result (λ n. n ≤ 9999) }
+    ensures { result ≡ (if is_number field.now then Some (digits_value 10 field.now) else None) }
 {
     if field.len() > DIGITS {
         return None;
@@ -50,7 +48,7 @@ pub(crate) fn short_number(field: &[u8]) -> Option<u32>
 pub(crate) fn extent_of(field: &[u8], most: u32) -> Option<u32>
     ensures number { result ≡ (if is_extent most field.now then Some (digits_value 10 field.now)
         else None) }
-    ensures small { IfSome result (λ n. n ≤ 9999) }
+    ensures most { IfSome result (λ n. n ≤ most) }
 {
     let number = short_number(field)?;
     if number < 1 {

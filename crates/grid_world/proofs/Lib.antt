@@ -1,3 +1,6 @@
 pub mod AnswersLemmas
+pub mod AnswerLinesLemmas
+pub mod CoversLemmas
 pub mod PlacesLemmas
 pub mod ServingLemmas
+pub mod SessionsLemmas

@@ -174,6 +174,16 @@ pub reply_is : (grid : GridFile) (line : List ℕ)
 unfolding reply_to
 reply_is grid line = refl
 
+pub two_words : {A : Type 0} (f : A → List ℕ) (words : List A) (first second : A) (p q : List ℕ)
+    → 2 ≤ length words → length words < 3 → first ≡ get_or words 0 first
+    → second ≡ get_or words 1 second → p ≡ f first → q ≡ f second
+    → map f words ≡ p ∷ q ∷ []
+two_words f [] first second p q some few a b c d = absurd (omega arith)
+two_words f (w ∷ []) first second p q some few a b c d = absurd (omega arith)
+two_words f (w ∷ v ∷ []) first second p q some few a b c d =
+    rw (c ∙ ap f a, d ∙ ap f b) refl
+two_words f (w ∷ v ∷ u ∷ ws) first second p q some few a b c d = absurd (omega arith)
+
 pub one_word : {A : Type 0} (f : A → List ℕ) (words : List A) (word : A) (path : List ℕ)
     → 1 ≤ length words → length words < 2 → word ≡ get_or words 0 word → path ≡ f word
     → map f words ≡ path ∷ []

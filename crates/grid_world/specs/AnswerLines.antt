@@ -1,6 +1,7 @@
 -- Answers as lines.
 use Rattle.std.specs.Prelude.{ℕ, List, [], ◌∷◌, ◌++◌, codes}
 use Rattle.std.specs.Fmt.{decimal}
+use Rattle.std.specs.Io.BufRead.{strip_last}
 use Rattle.std.specs.List.{flat_map}
 use Rattle.gen_lines.specs.Lines.{lines_of}
 use Rattle.grid_text.specs.Grids.{GridFile}
@@ -27,6 +28,10 @@ line_of answer.End = codes "end"
 -- the line of the answer to a request, with its line feed
 unfoldable pub reply_to : GridFile → List ℕ → List ℕ
 reply_to grid line = line_of (answer_in grid line) ++ 10 ∷ []
+
+-- The line of the answer to a request line, both without their line feed. A carriage return at the request's end is dropped.
+unfoldable pub reply_line : GridFile → List ℕ → List ℕ
+reply_line grid request = line_of (answer_in grid (strip_last 13 request))
 
 -- The answers to these lines.
 abbrev pub replies_to : GridFile → List (List ℕ) → List ℕ

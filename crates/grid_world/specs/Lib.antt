@@ -1,8 +1,11 @@
 pub mod AnswerLines
 pub mod Answers
 pub mod Asks
+pub mod Covers
 pub mod Filling
+pub mod Generators
 pub mod Inputs
 pub mod Rows
 pub mod Serving
+pub mod Sessions
 pub mod Words

@@ -1,6 +1,7 @@
 //! Answers as lines.
 ghost use Rattle.std.specs.Prelude.{◌≡◌, ◌+◌, ◌≤◌, [], ◌∷◌, ◌++◌, length};
 ghost use Rattle.std.specs.Fmt.{decimal};
+ghost use Rattle.io_world.specs.Replies.{IsLine};
 ghost use Rattle.grid_world.specs.AnswerLines.{line_of, side_line};
 
 use crate::answer::{GridAnswer, Side};
@@ -12,7 +13,8 @@ pub(crate) const ANSWER_BYTES: usize = 32;
 
 /// The line of an answer, with its line feed. It takes no memory.
 pub(crate) fn answer_line(answer: GridAnswer) -> ArrayString<ANSWER_BYTES>
-    ensures { result.bytes ≡ line_of answer ++ 10 ∷ [] }
+    ensures line { result.bytes ≡ line_of answer ++ 10 ∷ [] }
+    ensures one { IsLine (line_of answer) }
 {
     match answer {
         GridAnswer::Pose { x, y } => pair_line("yield ", x, y),
@@ -45,8 +47,10 @@ fn word_line(text: &str) -> ArrayString<ANSWER_BYTES>
 }
 
 fn pair_line(word: &str, x: u32, y: u32) -> ArrayString<ANSWER_BYTES>
-    requires { length word.now ≤ 8 }
-    ensures { result.bytes ≡ word.now ++ decimal x ++ 44 ∷ [] ++ decimal y ++ 10 ∷ [] }
+    requires short { length word.now ≤ 8 }
+    requires line { IsLine word.now }
+    ensures line { result.bytes ≡ word.now ++ decimal x ++ 44 ∷ [] ++ decimal y ++ 10 ∷ [] }
+    ensures one { IsLine (word.now ++ decimal x ++ 44 ∷ [] ++ decimal y) }
 {
     let mut line = ArrayString::new();
     line.push_str(word);

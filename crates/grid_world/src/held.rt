@@ -1,5 +1,5 @@
 //! The bytes that came from a source and aren't taken as lines yet.
-ghost use Rattle.std.specs.Prelude.{◌≡◌, ◌+◌, ◌<◌, ◌≤◌, [], Some, drop, length, position, take, IfOk, IfSome, OnErr};
+ghost use Rattle.std.specs.Prelude.{◌≡◌, ◌+◌, ◌<◌, ◌≤◌, [], Some, drop, length, position, take, IfOk, OnErr};
 ghost use Rattle.std.specs.Io.BufRead.{strip_last};
 ghost use Rattle.std.specs.Io.KnownBytes.{Keeps};
 ghost use Rattle.gen_lines.specs.Lines.{is_feed};
@@ -10,7 +10,7 @@ ghost use Rattle.grid_world.specs.Filling.{Came, Comes, FillsSo, IsCaused};
 
 use crate::answer::GridAnswer;
 use crate::ask::grid_answer;
-use grid_text::Grid;
+use grid_text::{Grid, first_feed, without_return};
 use io_world::{Source, SourceFault};
 use std::alloc::{AllocError, Global};
 use std::marker::Model;
@@ -127,21 +127,4 @@ fn front(bytes: &[u8], end: usize) -> &[u8]
     ensures { result.now ≡ take end bytes.now }
 {
     &bytes[..end]
-}
-
-fn first_feed(bytes: &[u8]) -> Option<usize>
-    ensures place { result ≡ position is_feed bytes.now }
-    ensures within { IfSome result (λ n. n < length bytes.now) }
-{
-    bytes.iter().position(|b| *b == b'\n')
-}
-
-/// A line's bytes without one carriage return at their end.
-fn without_return(bytes: &[u8]) -> &[u8]
-    ensures { result.now ≡ strip_last 13 bytes.now }
-{
-    match bytes {
-        [line @ .., b'\r'] => line,
-        _ => bytes,
-    }
 }

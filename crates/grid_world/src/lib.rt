@@ -9,19 +9,25 @@ mod answer;
 mod answer_line;
 mod ask;
 mod clear;
+mod cover;
 mod grasp;
+mod grid_gen;
 mod held;
 mod inputs;
 mod place;
 mod reach;
+mod replies;
 mod service;
 mod status;
+mod talk;
 mod words;
 
 pub use answer::{GridAnswer, Side};
 pub use ask::grid_answer;
+pub use grid_gen::GridGen;
 pub use grid_text::{
     Block, Grid, GridFault, GridKind, GridTask, Rect, Region, grid_task, read_grid,
 };
+pub use replies::GridReplies;
 pub use service::serve;
 pub use status::GridStatus;

@@ -1,13 +1,15 @@
 //! Poses of blocks in regions.
-ghost use Rattle.std.specs.Prelude.{◌≡◌, ◌+◌};
-ghost use Rattle.std.specs.List.{list_any};
+ghost use Rattle.std.specs.Prelude.{◌≡◌, ◌+◌, ◌<◌, ◌&&◌, nat_lt, not, slice_index};
 ghost use Rattle.gen_lines.specs.Reply.{fields};
-ghost use Rattle.grid_text.specs.Rects.{IsSmall, meets};
+ghost use Rattle.grid_text.specs.Rects.{IsSmall, is_within};
 ghost use Rattle.grid_world.specs.Answers as specs;
+ghost use Rattle.grid_world.specs.Covers.{corner_in};
 ghost use Rattle.grid_world.specs.Inputs.{two_of};
 ghost use Rattle.grid_world.specs.Rows.{IsRow};
+ghost use Rattle.grid_world.specs.Words.{rect_at};
 
 use crate::answer::GridAnswer;
+use crate::cover::{MOST_COLUMNS, row_cover};
 use crate::inputs::two_fields;
 use crate::words::{Corner, block_named, rect_at, region_named};
 use grid_text::{Block, Grid, Rect};
@@ -60,17 +62,14 @@ fn pose_in_row(grid: &Grid, block: &Block, region: &Rect, y: u32, turn: u32) -> 
     ensures { IsRow (specs.poses_at grid.now block.now region.now
         (specs.row_corners region.now.x region.now.w y)) turn result }
 {
+    let ends = row_cover(grid.obstacles(), block, region, y);
     let mut left = turn;
     for column in 0..region.w {
-        let corner = Corner {
-            x: region.x + column,
-            y,
-        };
-        if may_lie(grid, block, region, corner) {
+        if is_free(&ends, block, region, y, column) {
             if left == 0 {
                 return InRow::Here(GridAnswer::Pose {
-                    x: corner.x,
-                    y: corner.y,
+                    x: region.x + column,
+                    y,
                 });
             }
             left -= 1;
@@ -79,16 +78,16 @@ fn pose_in_row(grid: &Grid, block: &Block, region: &Rect, y: u32, turn: u32) -> 
     InRow::Left(left)
 }
 
-/// Whether the block lies wholly in the region with this corner, and shares no cell with an obstacle.
-fn may_lie(grid: &Grid, block: &Block, region: &Rect, corner: Corner) -> bool
-    ensures { result ≡ specs.may_lie grid.now block.now region.now corner }
+/// Whether the block with its corner in this column lies wholly in the region, and no number past the column is noted there.
+fn is_free(ends: &[u64; MOST_COLUMNS], block: &Block, region: &Rect, y: u32, column: u32) -> bool
+    requires small { IsSmall region.now }
+    requires within { column < region.now.w }
+    ensures { result ≡ (is_within (rect_at block.now (corner_in region.now y column)) region.now
+        && not (nat_lt column (slice_index ends.now column))) }
 {
-    let rect = rect_at(block, corner);
-    rect.is_within(region) && !is_blocked(grid.obstacles(), &rect)
-}
-
-fn is_blocked(obstacles: &[Rect], rect: &Rect) -> bool
-    ensures { result ≡ list_any (λ obstacle. meets rect.now obstacle) obstacles.now }
-{
-    obstacles.iter().any(|obstacle| rect.meets(obstacle))
+    let corner = Corner {
+        x: region.x + column,
+        y,
+    };
+    rect_at(block, corner).is_within(region) && ends[column as usize] <= u64::from(column)
 }

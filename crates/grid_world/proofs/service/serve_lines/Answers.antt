@@ -32,7 +32,7 @@ returns-in-Err-clause-answers g c =
     let line = line_at c.in-Line.end c.fill.new.self in
     let filled = stands_filled grid _ _ _ _ _ c.loop.held c.fill.new.self c.loop.counter c.loop.invariant.stands c.in-Line.ensures.came in
     let bytes : c.as_bytes.result.now ≡ reply_to grid line =
-    c.as_bytes.ensures.value ∙ c.as_str.ensures.value ∙ c.answer_line-line.ensures ∙ ap (λ a. line_of a ++ 10 ∷ []) c.answer.ensures ∙ reply_is grid line in
+    c.as_bytes.ensures.value ∙ c.as_str.ensures.value ∙ c.answer_line-line.ensures.line ∙ ap (λ a. line_of a ++ 10 ∷ []) c.answer.ensures ∙ reply_is grid line in
     let part = c.in-Err.ensures.part in
     ends_write grid _ _ _ _ _ c.fill.new.self c.loop.counter c.in-Line.end part.0 filled (omega (arith, c.loop-test.true)) c.in-Line.ensures.so.0
     (omega (arith, ap length bytes, part.1))
@@ -44,7 +44,7 @@ loop-preserved g c =
     let line = line_at c.in-Line.end c.fill.new.self in
     let filled = stands_filled grid _ _ _ _ _ c.loop.held c.fill.new.self c.loop.counter c.loop.invariant.stands c.in-Line.ensures.came in
     let bytes : c.as_bytes.result.now ≡ reply_to grid line =
-    c.as_bytes.ensures.value ∙ c.as_str.ensures.value ∙ c.answer_line-line.ensures ∙ ap (λ a. line_of a ++ 10 ∷ []) c.answer.ensures ∙ reply_is grid line in
+    c.as_bytes.ensures.value ∙ c.as_str.ensures.value ∙ c.answer_line-line.ensures.line ∙ ap (λ a. line_of a ++ 10 ∷ []) c.answer.ensures ∙ reply_is grid line in
     let wrote = subst (Appends (g.O.Sink.taken c.loop.out) (g.O.Sink.taken c.write_all.new.out)) bytes c.in_default-write_all.ensures.all in
     let answered = stands_answered grid _ _ _ _ _ c.fill.new.self c.loop.counter c.in-Line.end filled c.in-Line.ensures.so.0 wrote in
     record {
