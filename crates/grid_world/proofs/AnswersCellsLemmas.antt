@@ -120,9 +120,9 @@ lies_free grid block region corner cells all may =
     record {
       within = (within_is_by_cells rect region cells).0 parts.0;
       free = λ obstacle has cell i j.
-        let met : meets rect obstacle ≡ true = (meeting_is_by_cells rect obstacle cells (All-contains HasCells grid.obstacles obstacle all.obstacles has)).1 (cell, i, j) in
-        let some : is_blocked grid rect ≡ true = list_any_at (λ o. meets rect o) grid.obstacles has.0 obstacle has.1 (ap (λ o. meets rect o) has.2 ∙ met) in
-        not_both (is_blocked grid rect) some parts.1;
+          let met : meets rect obstacle ≡ true = (meeting_is_by_cells rect obstacle cells (All-contains HasCells grid.obstacles obstacle all.obstacles has)).1 (cell, i, j) in
+          let some : is_blocked grid rect ≡ true = list_any_at (λ o. meets rect o) grid.obstacles has.0 obstacle has.1 (ap (λ o. meets rect o) has.2 ∙ met) in
+          not_both (is_blocked grid rect) some parts.1;
     }
 
 may_free : (grid : GridFile) (block : Block) (region : Rect) (corner : Corner) → HasCells (rect_at block corner)
@@ -131,8 +131,8 @@ may_free grid block region corner cells all free =
     let rect = rect_at block corner in
     let within : is_within rect region ≡ true = (within_is_by_cells rect region cells).1 free.within in
     let open_by = λ (k : ℕ) (d : Rect) (h : k < length grid.obstacles). false_from (meets rect (get_or grid.obstacles k d)) (λ met.
-      let both = (meeting_is_by_cells rect (get_or grid.obstacles k d) cells (all.obstacles k d h)).0 met in
-      free.free (get_or grid.obstacles k d) (Contains-get_or grid.obstacles k d h) both.0 both.1 both.2) in
+    let both = (meeting_is_by_cells rect (get_or grid.obstacles k d) cells (all.obstacles k d h)).0 met in
+    free.free (get_or grid.obstacles k d) (Contains-get_or grid.obstacles k d h) both.0 both.1 both.2) in
     let clear : is_blocked grid rect ≡ false = list_any_none (λ o. meets rect o) grid.obstacles open_by in
     rw (within, clear) refl
 
@@ -140,11 +140,10 @@ pub places_are_by_cells : PlacesAreByCells
 places_are_by_cells bytes grid is block region has_block has_region corner =
     let all = read_has_cells bytes grid is in
     let cells : HasCells (rect_at block corner) = All-contains (λ (b : Block). HasCells (home_rect b)) grid.blocks block all.blocks has_block in
-    let p = may_lie grid block region.rect in
-    (
+    let p = may_lie grid block region.rect in (
       λ c. lies_free grid block region.rect corner cells all (poses_only p (corners region.rect) corner c.0 c.1 c.2),
       λ free.
-        let first = free.within (record { x = corner.x; y = corner.y }) (record { column = (omega arith, omega (arith, cells.0)); row = (omega arith, omega (arith, cells.1)) }) in
-        let at = has_corner region.rect.x region.rect.w region.rect.y region.rect.h corner first.column.0 first.column.1 first.row.0 first.row.1 in
-        poses_have p (corners region.rect) corner at.0 at.1 at.2 (may_free grid block region.rect corner cells all free),
+          let first = free.within (record { x = corner.x; y = corner.y }) (record { column = (omega arith, omega (arith, cells.0)); row = (omega arith, omega (arith, cells.1)) }) in
+          let at = has_corner region.rect.x region.rect.w region.rect.y region.rect.h corner first.column.0 first.column.1 first.row.0 first.row.1 in
+          poses_have p (corners region.rect) corner at.0 at.1 at.2 (may_free grid block region.rect corner cells all free),
     )

@@ -16,7 +16,8 @@ pub record LiesFree (grid : GridFile) (block : Block) (region : Rect) (corner : 
   pub free : (obstacle : Rect) → Contains grid.obstacles obstacle
       → (cell : Cell) → IsIn cell (rect_at block corner) → ¬ (IsIn cell obstacle)
 
--- In a grid that is read, the poses of a block in a region are exactly the corners with which it lies there by its cells.
+-- In a grid that is read, the poses of a block in a region are exactly the corners with which it lies there by its
+-- cells.
 abbrev pub PlacesAreByCells : Type 0
 PlacesAreByCells =
     (bytes : List ℕ) (grid : GridFile) → IsGridOf bytes grid → (block : Block) (region : NamedRect)
