@@ -55,16 +55,11 @@ fn requests_on_the_grid_of_three_are_answered(rt: HostRuntime) -> Result<(), Fai
     Ok(())
 }
 
-fn small_grid(alloc: Global) -> Result<Box<Grid>, Fail> {
-    let text = b"grid 4 3\nblock b 2 1 0 0\nblock c 1 1 0 0\nregion r 0 0 4 3\nobstacle 1 1 1 1";
-    let grid = read_grid(alloc, text)?;
-    Ok(Box::new(alloc, grid)?)
-}
-
 #[test]
 fn edges_and_order_are_exact(rt: HostRuntime) -> Result<(), Fail> {
-    let grid = small_grid(rt.alloc())?;
-    let rows: [(&[u8], GridAnswer); 14] = [
+    let text = b"grid 4 3\nblock b 2 1 0 0\nblock c 1 1 0 0\nregion r 0 0 4 3\nobstacle 1 1 1 1";
+    let grid = Box::new(rt.alloc(), read_grid(rt.alloc(), text)?)?;
+    let rows: [(&[u8], GridAnswer); 24] = [
         (b"next 0 place b r", pose(0, 0)),
         (b"next 1 place b r", pose(1, 0)),
         (b"next 2 place b r", pose(2, 0)),
@@ -78,17 +73,6 @@ fn edges_and_order_are_exact(rt: HostRuntime) -> Result<(), Fail> {
         (b"next 0 reach c #2,1 #w", GridAnswer::End),
         (b"next 0 reach c #4294967295,2 #w", GridAnswer::End),
         (b"next 0 reach c #1,1 #n", hand(1, 0)),
-    ];
-    for (line, want) in rows {
-        assert_eq!(rt; grid_answer(&grid, line), want);
-    }
-    Ok(())
-}
-
-#[test]
-fn numbers_near_the_limit_do_not_wrap(rt: HostRuntime) -> Result<(), Fail> {
-    let grid = small_grid(rt.alloc())?;
-    let rows: [(&[u8], GridAnswer); 10] = [
         (b"next 4294967295 place b r", GridAnswer::End),
         (b"next 4294967295 grasp b", GridAnswer::End),
         (b"next 4294967296 place b r", GridAnswer::End),

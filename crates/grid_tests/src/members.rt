@@ -90,7 +90,12 @@ fn whole_lines_are_answered_and_given_in_pieces(rt: HostRuntime) -> Result<(), F
     miss(&rt, &mut generator);
     tell(&rt, &mut generator, b"sp b1\r\nnext 39 place b1 r1\n\nnext");
     hear(&rt, &mut generator, &mut [0; 3], b"yie");
-    hear(&rt, &mut generator, &mut [0; 64], b"ld n\nyield 39,4\nend\n");
+    hear(
+        &rt,
+        &mut generator,
+        &mut [0; 64],
+        b"ld n\nyield 39,4\nend\n",
+    );
     miss(&rt, &mut generator);
     assert_eq!(rt; generator.stop(), Ok(()));
     begin(&rt, &mut generator, &words(alloc, "@grid", GRID)?);
@@ -130,9 +135,21 @@ fn converse_all<H: Host>(rt: &impl Abort, host: &mut H, child: u8)
 {
     converse(rt, host, child, b"next 0 place b1 r1\n", b"yield 0,4\n");
     converse(rt, host, child, b"next 40 place b1 r1\r\n", b"end\n");
-    converse(rt, host, child, b"next 0 reach b1 home-b1 #n\n", b"yield h0,0\n");
+    converse(
+        rt,
+        host,
+        child,
+        b"next 0 reach b1 home-b1 #n\n",
+        b"yield h0,0\n",
+    );
     converse(rt, host, child, b"next 0 reach b1 home-b1 #w\n", b"end\n");
-    converse(rt, host, child, b"next 0 clear b1 home-b1 b1 #0,2\n", b"yield\n");
+    converse(
+        rt,
+        host,
+        child,
+        b"next 0 clear b1 home-b1 b1 #0,2\n",
+        b"yield\n",
+    );
 }
 
 #[test]

@@ -57,11 +57,11 @@ corner_step : (region : Rect) (y column : ℕ) → column < region.w →
     row_corners (region.x + column) (region.w - column) y ≡ record { x = region.x + column; y = y } ∷ row_corners (region.x + (column + 1)) (region.w - (column + 1)) y
 corner_step region y column h = rw (numbers_at region.x region.w column h) refl
 
-filter_good : (p : Corner → Bool) (c : Corner) (cs : List Corner) → p c ≡ true
+pub filter_good : (p : Corner → Bool) (c : Corner) (cs : List Corner) → p c ≡ true
     → filter p (c ∷ cs) ≡ c ∷ filter p cs
 filter_good p c cs e = rw e refl
 
-filter_bad : (p : Corner → Bool) (c : Corner) (cs : List Corner) → p c ≡ false
+pub filter_bad : (p : Corner → Bool) (c : Corner) (cs : List Corner) → p c ≡ false
     → filter p (c ∷ cs) ≡ filter p cs
 filter_bad p c cs e = rw e refl
 

@@ -29,7 +29,8 @@ line_of answer.End = codes "end"
 unfoldable pub reply_to : GridFile → List ℕ → List ℕ
 reply_to grid line = line_of (answer_in grid line) ++ 10 ∷ []
 
--- The line of the answer to a request line, both without their line feed. A carriage return at the request's end is dropped.
+-- The line of the answer to a request line, both without their line feed. A carriage return at the request's end is
+-- dropped.
 unfoldable pub reply_line : GridFile → List ℕ → List ℕ
 reply_line grid request = line_of (answer_in grid (strip_last 13 request))
 

@@ -5,6 +5,7 @@ pub mod Covers
 pub mod Filling
 pub mod Generators
 pub mod Inputs
+pub mod Laws
 pub mod Rows
 pub mod Serving
 pub mod Sessions

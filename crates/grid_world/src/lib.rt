@@ -14,6 +14,7 @@ mod grasp;
 mod grid_gen;
 mod held;
 mod inputs;
+pub mod laws;
 mod place;
 mod reach;
 mod replies;

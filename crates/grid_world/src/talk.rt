@@ -29,9 +29,12 @@ impl Model for Session {
 
     ghost Value = { SessionState };
 
-    ghost view = { λ s. record { running = s.running; grid = s.grid; written = s.written.items; given = s.given } };
+    ghost view = { λ s. record
+        { running = s.running; grid = s.grid; written = s.written.items; given = s.given } };
 
-    ghost invariant = { λ s. (s.open.items ≡ unfinished s.written.items) × (s.answers.items ≡ answers_text s.grid s.written.items) × (s.given ≤ length s.answers.items) };
+    ghost invariant = { λ s. (s.open.items ≡ unfinished s.written.items)
+        × (s.answers.items ≡ answers_text s.grid s.written.items)
+        × (s.given ≤ length s.answers.items) };
 }
 
 /// What more bytes leave open, and the answers that they bring.
