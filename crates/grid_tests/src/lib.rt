@@ -7,8 +7,6 @@ mod answers;
 #[cfg(test)]
 mod faults;
 #[cfg(test)]
-mod members;
-#[cfg(test)]
 mod statuses;
 #[cfg(test)]
 mod tasks;
