@@ -30,10 +30,13 @@ pub enum Told<'a> {
 pub enum Ended<'a> {
     /// Steps, the cost, and generated objects, each with the number of its request.
     Plan(&'a [Called<'a>], u64, &'a [(&'a str, u32)]),
+    /// There is no plan.
     NoPlan,
+    /// A limit was reached.
     Limit(LimitKind),
 }
 
+/// The name of these letters. Fails only where memory is wanting.
 pub fn name(alloc: Global, text: &str) -> Result<Name, AllocError> {
     Ok(Name::new(Vec::from_slice(alloc, text.as_bytes())?))
 }
@@ -86,6 +89,7 @@ fn origins(alloc: Global, from: &[(&str, u32)]) -> Result<Seq<Origin>, AllocErro
     Ok(Seq::from_vec(origins))
 }
 
+/// The entry that a row tells. Fails only where memory is wanting.
 pub fn entry(alloc: Global, told: Told<'_>) -> Result<Entry, AllocError> {
     Ok(match told {
         Told::Level => Entry::Level,
@@ -112,6 +116,7 @@ pub fn entry(alloc: Global, told: Told<'_>) -> Result<Entry, AllocError> {
     })
 }
 
+/// The outcome that a row tells. Fails only where memory is wanting.
 pub fn outcome(alloc: Global, ended: Ended<'_>) -> Result<Outcome, AllocError> {
     Ok(match ended {
         Ended::Plan(steps, cost, from) => Outcome::Plan {
