@@ -7,59 +7,24 @@ use std::test::Fail;
 const USAGE: &str = "fault usage
 usage: pddlstream solve DOMAIN PROBLEM STREAMS [OPTIONS] [-- PROGRAM WORDS]
 usage: pddlstream replay DOMAIN PROBLEM STREAMS REPORT [--states N]
+usage: pddlstream generate N
 ";
 
+/// Words that are no command. What each command's words may be is a test of `command_line`.
 const TRIES: &[&[&str]] = &[
     &[],
     &["solve"],
     &["solve", "d", "p"],
-    &["solve", "d", "p", "s"],
-    &["solve", "d", "p", "s", "--"],
-    &["solve", "d", "p", "s", "g"],
-    &["replay", "d", "p", "s"],
-    &["replay", "d", "p", "s", "--", "g"],
-    &["replay", "d", "p", "s", "r", "x"],
-    &["replay", "d", "p", "s", "r", "--states"],
-    &["replay", "d", "p", "s", "r", "--states", "0"],
-    &["replay", "d", "p", "s", "r", "--states", "200001"],
-    &["replay", "d", "p", "s", "r", "--states", "5", "x"],
-    &["replay", "d", "p", "s", "r", "--calls", "5"],
     &["solve", "d", "p", "s", "--calls", "0", "--", "g"],
-    &["solve", "d", "p", "s", "--calls", "100001", "--", "g"],
-    &["solve", "d", "p", "s", "--calls", "00000005", "--", "g"],
-    &["solve", "d", "p", "s", "--calls", "+5", "--", "g"],
-    &["solve", "d", "p", "s", "--calls", "", "--", "g"],
-    &["solve", "d", "p", "s", "--states", "200001", "--", "g"],
-    &[
-        "solve", "d", "p", "s", "--states", "5", "--calls", "5", "--", "g",
-    ],
-    &["solve", "d", "p", "s", "--calls"],
-    &["solve", "d", "p", "s", "--workers", "0", "--", "g"],
     &["solve", "d", "p", "s", "--workers", "17", "--", "g"],
-    &[
-        "solve",
-        "d",
-        "p",
-        "s",
-        "--workers",
-        "2",
-        "--workers",
-        "2",
-        "--",
-        "g",
-    ],
-    &[
-        "solve",
-        "d",
-        "p",
-        "s",
-        "--workers",
-        "2",
-        "--calls",
-        "5",
-        "--",
-        "g",
-    ],
+    &["solve", "d", "p", "s", "--map", "m", "--", "g"],
+    &["solve", "d", "p", "s", "--map", "m", "--workers", "1"],
+    &["solve", "d", "p", "s", "--algorithm", "focused", "--", "g"],
+    &["solve", "--help"],
+    &["replay", "d", "p", "s"],
+    &["replay", "d", "p", "s", "r", "x"],
+    &["replay", "d", "p", "s", "r", "--states", "200001"],
+    &["generate", "3"],
 ];
 
 #[test]

@@ -13,6 +13,9 @@ pub struct Given<'a> {
     pub texts: Texts<'a>,
     /// The report that is judged.
     pub report: &'a str,
+    /// The map `m`, and the grid `f`.
+    pub map: &'a str,
+    pub grid: &'a str,
     /// What child 0 says.
     pub answers: &'a str,
     /// The most bytes of child 0 that a read gives, or 0 where it gives all that there is room for.
@@ -31,6 +34,8 @@ pub const CUP: Given<'static> = Given {
     words: SOLVE,
     texts: FETCH,
     report: "",
+    map: "",
+    grid: "",
     answers: "",
     piece: 0,
     others: &[],
@@ -62,6 +67,8 @@ fn files(alloc: Global, given: &Given<'_>) -> Result<MemFiles, AllocError> {
     list.push(file(alloc, "p", given.texts.problem)?)?;
     list.push(file(alloc, "s", given.texts.streams)?)?;
     list.push(file(alloc, "r", given.report)?)?;
+    list.push(file(alloc, "m", given.map)?)?;
+    list.push(file(alloc, "f", given.grid)?)?;
     Ok(MemFiles::new(alloc, list, Vec::new(alloc)))
 }
 

@@ -6,7 +6,11 @@ mod faults;
 #[cfg(test)]
 mod given;
 #[cfg(test)]
+mod joins;
+#[cfg(test)]
 mod limits;
+#[cfg(test)]
+mod maps;
 #[cfg(test)]
 mod outcomes;
 #[cfg(test)]

@@ -19,13 +19,11 @@ use Rattle.best_first.specs.declared.tree.Link.{Link}
 use Rattle.lemmas.proofs.Pigeonhole.{pigeons}
 use Rattle.lemmas.proofs.ListTests.{one_there, all_by_place}
 use Rattle.best_first.proofs.ReachedLemmas.{within_more, within_reached, within_none, initially, within_step, within_last}
+use Rattle.lemmas.proofs.Options.{none_at}
 
 pub on_ok : {T E P : Type 0} (r : Result T E) → P → OnOk r P
 on_ok (Ok x) p = p
 on_ok (Err e) p = tt
-
-none_at : {A : Type 0} (n : ℕ) (x : A) → slice_get [] n ≡ Some x → ⊥
-none_at n x e = cc
 
 only_at : {A : Type 0} (y : A) (n : ℕ) (x : A) → slice_get (y ∷ []) n ≡ Some x → (n ≡ 0) × (y ≡ x)
 only_at y zero x e = (refl, cc)

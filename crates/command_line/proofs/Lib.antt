@@ -1,4 +1,4 @@
 mod NumbersLemmas
 mod AppsLemmas
 mod WordsLemmas
-mod RangesLemmas
+pub mod RangesLemmas

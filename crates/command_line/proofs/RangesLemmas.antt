@@ -3,7 +3,7 @@ use Rattle.std.proofs.Common.{◌≡◌, ℕ, arith, Bool, true, false, ◌&&◌
 use Rattle.std.proofs.lemmas.Bool.{leb-true}
 use Rattle.std.specs.Cmp.{first_so, second_so}
 use Rattle.std.specs.Str.Parse.{digits_value}
-use Rattle.transcript_model.proofs.NamesLemmas.{and_then_some, map_some}
+use Rattle.transcript_model.proofs.NamesLemmas.{map_some}
 use Rattle.transcript_model.specs.declared.head.Mode.{Mode}
 use Rattle.transcript_model.specs.declared.head.Mode.TheVariants.{Incremental}
 use Rattle.clap.specs.Words.{App, Row, Text, first_of, matches_of}
@@ -11,6 +11,7 @@ use Rattle.command_line.specs.Apps.{generate_app, is_taken, replay_app, solve_ap
 use Rattle.command_line.specs.Numbers.{are_few_digits, count_in, count_of, count_or, is_count}
 use Rattle.command_line.specs.Ranges.{AreInRange, IsBetween, IsInRange}
 use Rattle.command_line.specs.Words.{Command, Limits, ReplayWords, SolveWords, are_apart, command_of, files_in, generate, generate_in, generate_of, limits_in, mode_or, path_in, program_in, read_by, replay, replay_in, replay_of, solve, solve_in, solve_of}
+use Rattle.lemmas.proofs.Options.{and_then_some}
 
 -- ---- what a test lets through
 

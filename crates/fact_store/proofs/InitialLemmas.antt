@@ -25,6 +25,7 @@ use Rattle.lemmas.proofs.Numbers.{length-numbers_from, get-map-numbers}
 use Rattle.task_model.proofs.KnownLemmas.{in_names, facts_then}
 use Rattle.std.proofs.lemmas.List.Elements.{Contains-append_left, Contains-append_right}
 use Rattle.task_model.proofs.KnownLemmas.{fact_decided, fact_member, with_facts-is}
+use Rattle.lemmas.proofs.Bools.{right_true}
 
 -- ---- facts
 
@@ -39,10 +40,6 @@ supertypes_then facts object sort above =
 left_true : (a b : Bool) → a ≡ true → (a || b) ≡ true
 left_true true b e = refl
 left_true false b e = absurd (cc)
-
-right_true : (a b : Bool) → b ≡ true → (a || b) ≡ true
-right_true true b e = refl
-right_true false b e = e
 
 pub known_already : (facts more : List Fact) (fact : Fact) → Contains more fact
     → with_fact (with_facts facts more) fact ≡ with_facts facts more

@@ -7,17 +7,9 @@ use Rattle.lemmas.proofs.MappedTests.{any_mapped}
 use Rattle.task_model.proofs.KnownLemmas.{numbers_decided}
 use Rattle.task_model.specs.Known.{same_numbers, with_name}
 use Rattle.fact_store.proofs.StoreLemmas.{name_found, name_absent}
+use Rattle.lemmas.proofs.ListTests.{find_passes}
 
 -- what is found passes the test
-pub find_passes : {A : Type 0} (p : A → Bool) (xs : List A) (x : A) → find p xs ≡ Some x
-    → p x ≡ true
-find_passes p [] x e = absurd (cc)
-find_passes p (y ∷ ys) x e =
-    elim (p y) as (λ b. p y ≡ b → cond b (Some y) (find p ys) ≡ Some x → p x ≡ true) [
-      | true ↦ λ t f. let same : y ≡ x = cc in subst (λ z. p z ≡ true) same t
-      | false ↦ λ t f. find_passes p ys x f
-    ] refl e
-
 module _ {A : Type 0} (bytes_of : A → List ℕ) (keys : List A) (names : List (List ℕ)) (same : map bytes_of keys ≡ names) (name : List ℕ) where
   -- the name stands where the key stands that is found
   pub found_name : (place : ℕ) (key : A) → slice_get keys place ≡ Some key

@@ -1,5 +1,5 @@
 -- What is so of a text that is read.
-use Rattle.std.proofs.Common.{◌≡◌, ℕ, zero, suc, ◌+◌, ◌-◌, ◌<◌, ◌≤◌, Bool, true, false, ◌&&◌, ◌==◌, not, nat_le, nat_lt, List, [], ◌∷◌, ◌++◌, length, map, filter_map, get_or, take, drop, refl, sym, ap, subst, ◌∙◌, arith, Option, Some, None, if◌then◌else◌, slice_index, ◌⊎◌, inl, inr}
+use Rattle.std.proofs.Common.{◌≡◌, ℕ, zero, suc, ◌+◌, ◌-◌, ◌<◌, ◌≤◌, Bool, true, false, ◌==◌, nat_le, nat_lt, List, [], ◌∷◌, ◌++◌, length, map, filter_map, get_or, take, refl, sym, ap, subst, ◌∙◌, arith, Option, Some, None, if◌then◌else◌, slice_index, ◌⊎◌, inl, inr}
 use Rattle.std.specs.Io.BufRead.{ends_with_byte, strip_last}
 use Rattle.std.specs.List.{All, join_with_byte, list_all, slice_split}
 use Rattle.std.specs.Str.{IsAscii}
@@ -10,7 +10,7 @@ use Rattle.std.proofs.lemmas.List.{get_or-take, get_or_past}
 use Rattle.std.proofs.lemmas.Str.{IsAscii-append}
 use Rattle.std.proofs.lemmas.Str.Ascii.{IsAscii-nil}
 use Rattle.gen_lines.proofs.CuttingLemmas.{parts_left}
-use Rattle.gen_lines.specs.Lines.{ended, is_feed, lines_of, open_part, unfinished}
+use Rattle.gen_lines.specs.Lines.{ended, is_feed, open_part}
 use Rattle.grid_text.specs.Entries.{Item}
 use Rattle.grid_text.specs.Files.{IsGridOf, fault_at}
 use Rattle.grid_text.specs.Grids.{GridFile, NamedRect, block_of, block_told, fault_in, grid_of, item_in, obstacle_told, region_of, region_told, told, told_in}
@@ -22,6 +22,7 @@ use Rattle.grid_text.specs.declared.entry.EntrySort.TheVariants as sort
 use Rattle.grid_text.specs.declared.grid.Block.{Block}
 use Rattle.grid_text.specs.declared.rect.Rect.{Rect}
 use Rattle.grid_text.proofs.RightLinesLemmas.{right_item, right_stands}
+use Rattle.lemmas.proofs.ListTests.{all_cons}
 
 -- a line at a place of a text that is read has no fault
 right_at : (bytes : List ℕ) (grid : GridFile) → IsGridOf bytes grid → (k : ℕ)
@@ -101,10 +102,6 @@ item_cells : (bytes : List ℕ) (grid : GridFile) → IsGridOf bytes grid → (k
     → k < length (lines_in bytes) → item_in (get_or (lines_in bytes) k []) ≡ Some item
     → HasCells item.rect
 item_cells bytes grid is k item h e = (right_item (grid_of (take k (lines_in bytes))) (get_or (lines_in bytes) k []) item (right_at bytes grid is k h) e).cells
-
-all_cons : {A : Type 0} (P : A → Type 0) (x : A) (xs : List A) → P x → All P xs → All P (x ∷ xs)
-all_cons P x xs here rest zero d h = here
-all_cons P x xs here rest (suc k) d h = rest k d (omega arith)
 
 -- what is told by lines of which each tells what is so
 all_by : {A : Type 0} (P : A → Type 0) (o : Option A) (f : List ℕ → Option A) (line : List ℕ) (lines : List (List ℕ))

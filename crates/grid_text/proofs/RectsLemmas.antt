@@ -5,12 +5,10 @@ use Rattle.std.proofs.lemmas.Bool.Decides.{nat_tests}
 use Rattle.grid_text.specs.declared.rect.Rect.{Rect}
 use Rattle.grid_text.specs.Laws.{WithinIsByCells, MeetingIsByCells}
 use Rattle.grid_text.specs.Rects.{Cell, IsIn, HasCells, is_within, meets}
+use Rattle.lemmas.proofs.Numbers.{le_test}
 
 le_told : (m n : ℕ) → nat_le m n ≡ true → m ≤ n
 le_told m n e = grind (arith, nat_tests, e)
-
-le_test : (m n : ℕ) → m ≤ n → nat_le m n ≡ true
-le_test m n h = grind (arith, nat_tests, h)
 
 lt_told : (m n : ℕ) → nat_lt m n ≡ true → m < n
 lt_told m n e = grind (arith, nat_tests, e)

@@ -1,5 +1,5 @@
 -- What is so of a line without a fault.
-use Rattle.std.proofs.Common.{◌≡◌, ℕ, ◌<◌, ◌≤◌, Bool, true, false, not, nat_le, List, Option, Some, None, option_map, if◌then◌else◌, cond, refl, sym, ap, ◌∙◌, arith}
+use Rattle.std.proofs.Common.{◌≡◌, ℕ, ◌<◌, ◌≤◌, Bool, true, false, not, nat_le, List, Option, Some, None, option_map, if◌then◌else◌, refl, arith}
 use Rattle.std.specs.Str.Parse.{digits_value}
 use Rattle.std.proofs.lemmas.Bool.{and_parts}
 use Rattle.std.proofs.lemmas.Bool.Decides.{nat_tests}
@@ -11,7 +11,6 @@ use Rattle.grid_text.specs.Numbers.{is_extent, is_number}
 use Rattle.grid_text.specs.Rects.{HasCells, IsSmall, is_within}
 use Rattle.grid_text.specs.declared.entry.EntrySort.{EntrySort}
 use Rattle.grid_text.specs.declared.entry.EntrySort.TheVariants as sort
-use Rattle.grid_text.specs.declared.fault.GridKind.{GridKind}
 use Rattle.grid_text.specs.declared.fault.GridKind.TheVariants.{Form, Number, Outside, Duplicate, TooMany}
 use Rattle.grid_text.specs.declared.rect.Rect.{Rect}
 use Rattle.grid_text.proofs.RectsLemmas.{corners_told}

@@ -1,15 +1,14 @@
 -- The poses of a block in a region are those with which it lies there by its cells.
-use Rattle.std.proofs.Common.{◌≡◌, ℕ, zero, suc, ◌+◌, ◌-◌, ◌<◌, ◌≤◌, ◌⊎◌, inl, inr, Bool, true, false, not, ◌&&◌, List, [], ◌∷◌, ◌++◌, length, map, filter, get_or, refl, sym, ap, subst, ◌∙◌, arith, Contains, Some, cond}
-use Rattle.std.specs.List.{All, flat_map, list_any}
+use Rattle.std.proofs.Common.{◌≡◌, ℕ, zero, suc, ◌+◌, ◌-◌, ◌<◌, ◌≤◌, ◌⊎◌, inl, inr, Bool, true, false, List, [], ◌∷◌, ◌++◌, length, map, filter, get_or, refl, sym, ap, subst, ◌∙◌, arith, Contains}
+use Rattle.std.specs.List.{flat_map}
 use Rattle.std.proofs.lemmas.Bool.{cases_lt}
 use Rattle.std.proofs.lemmas.List.Elements.{All-contains, Contains-append_left, Contains-append_right, Contains-get_or}
 use Rattle.std.proofs.lemmas.List.Folds.{list_any_at, list_any_none}
 use Rattle.lemmas.specs.Lists.{numbers_from}
 use Rattle.lemmas.proofs.Bools.{and_not_parts, not_both}
-use Rattle.grid_text.specs.Files.{IsGridOf}
-use Rattle.grid_text.specs.Grids.{GridFile, NamedRect}
+use Rattle.grid_text.specs.Grids.{GridFile}
 use Rattle.grid_text.specs.Laws.{AllHaveCells, home_rect}
-use Rattle.grid_text.specs.Rects.{Cell, HasCells, IsIn, is_within, meets}
+use Rattle.grid_text.specs.Rects.{HasCells, is_within, meets}
 use Rattle.grid_text.specs.declared.grid.Block.{Block}
 use Rattle.grid_text.specs.declared.rect.Rect.{Rect}
 use Rattle.grid_text.proofs.FilesLemmas.{read_has_cells}
@@ -20,11 +19,9 @@ use Rattle.grid_world.specs.Words.{rect_at}
 use Rattle.grid_world.specs.declared.answer.GridAnswer.{GridAnswer}
 use Rattle.grid_world.specs.declared.words.Corner.{Corner}
 use Rattle.grid_world.proofs.PlacesLemmas.{filter_bad, filter_good}
+use Rattle.lemmas.proofs.Ascending.{contains_later}
 
 -- Members
-
-cons_has : {A : Type 0} (x : A) (xs : List A) (y : A) → Contains xs y → Contains (x ∷ xs) y
-cons_has x xs y c = (suc c.0, omega (arith, c.1), c.2)
 
 abbrev poses : (Corner → Bool) → List Corner → List GridAnswer
 poses p cs = map pose_answer (filter p cs)
@@ -32,7 +29,7 @@ poses p cs = map pose_answer (filter p cs)
 poses_more : (p : Corner → Bool) (d : Corner) (cs : List Corner) (a : GridAnswer) (b : Bool) → p d ≡ b
     → Contains (poses p cs) a → Contains (poses p (d ∷ cs)) a
 poses_more p d cs a true e c =
-    subst (λ ds. Contains (map pose_answer ds) a) (sym (filter_good p d cs e)) (cons_has (pose_answer d) (poses p cs) a c)
+    subst (λ ds. Contains (map pose_answer ds) a) (sym (filter_good p d cs e)) (contains_later (pose_answer d) (poses p cs) a c)
 poses_more p d cs a false e c = subst (λ ds. Contains (map pose_answer ds) a) (sym (filter_bad p d cs e)) c
 
 -- a corner that passes is told
@@ -84,7 +81,7 @@ column_by x w y c (inl lt) e low rest =
     let here : x ≡ c.x = omega arith in
     let one : record { x = x; y = y } ≡ record { x = c.x; y = y } = ap (λ (n : ℕ). record { x = n; y = y }) here in
     (0, omega arith, one ∙ ap (λ (n : ℕ). record { x = c.x; y = n }) e)
-column_by x w y c (inr le) e low rest = cons_has (record { x = x; y = y }) (row_corners (x + 1) w y) c (rest le)
+column_by x w y c (inr le) e low rest = contains_later (record { x = x; y = y }) (row_corners (x + 1) w y) c (rest le)
 
 has_column : (x w y : ℕ) (c : Corner) → y ≡ c.y → x ≤ c.x → c.x < x + w → Contains (row_corners x w y) c
 has_column x zero y c e low high = absurd (omega arith)

@@ -1,5 +1,5 @@
 -- Numbers noted at columns say which corners are covered.
-use Rattle.std.proofs.Common.{◌≡◌, ℕ, zero, suc, ◌+◌, ◌-◌, ◌<◌, ◌≤◌, Bool, true, false, not, ◌&&◌, ◌||◌, nat_le, nat_lt, List, [], ◌∷◌, length, take, get_or, replicate, set, max, refl, sym, ap, ◌∙◌, arith, add-one}
+use Rattle.std.proofs.Common.{◌≡◌, ℕ, zero, suc, ◌+◌, ◌-◌, ◌<◌, ◌≤◌, Bool, true, false, not, ◌&&◌, ◌||◌, nat_le, nat_lt, List, [], ◌∷◌, length, take, get_or, replicate, set, max, refl, sym, ap, ◌∙◌, arith}
 use Rattle.std.specs.List.{list_any}
 use Rattle.std.proofs.lemmas.Bool.Decides.{nat_tests}
 use Rattle.grid_text.specs.Grids.{GridFile}
@@ -7,15 +7,12 @@ use Rattle.grid_text.specs.Rects.{is_within, meets}
 use Rattle.grid_text.specs.declared.grid.Block.{Block}
 use Rattle.grid_text.specs.declared.rect.Rect.{Rect}
 use Rattle.grid_world.specs.Answers.{may_lie}
-use Rattle.grid_world.specs.Covers.{Covers, corner_in, covered, reaches}
+use Rattle.grid_world.specs.Covers.{Covers, corner_in, reaches}
 use Rattle.grid_world.specs.Words.{rect_at}
+use Rattle.lemmas.proofs.Bools.{or_assoc}
 
 pub lt_max : (c a b : ℕ) → nat_lt c (max a b) ≡ (nat_lt c a || nat_lt c b)
 lt_max c a b = grind (arith, nat_tests)
-
-or_last : (a b c : Bool) → (a || (b || c)) ≡ ((a || b) || c)
-or_last true b c = refl
-or_last false b c = refl
 
 or_skip : (a b c : Bool) → ((a || b) || c) ≡ ((a || c) || b)
 or_skip true b c = refl
@@ -41,7 +38,7 @@ any_raised p (x ∷ xs) (suc n) zero y more h e =
     rw here (ap (λ b. b || list_any p (take n xs)) told ∙ or_skip (p x) more (list_any p (take n xs)))
 any_raised p (x ∷ xs) (suc n) (suc at) y more h e =
     let same : nat_lt (suc at) (suc n) ≡ nat_lt at n = grind (arith, nat_tests) in
-    rw same (ap (λ b. p x || b) (any_raised p xs n at y more (omega arith) e) ∙ or_last (p x) (list_any p (take n xs)) (nat_lt at n && more))
+    rw same (ap (λ b. p x || b) (any_raised p xs n at y more (omega arith) e) ∙ or_assoc (p x) (list_any p (take n xs)) (nat_lt at n && more))
 
 any_blank : (n m column : ℕ)
     → list_any (λ (end : ℕ). nat_lt column end) (take m (replicate n 0)) ≡ false

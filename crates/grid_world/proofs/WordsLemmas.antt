@@ -1,5 +1,5 @@
 -- Pose words with `#` spell their corners.
-use Rattle.std.proofs.Common.{◌≡◌, ℕ, zero, suc, ◌+◌, ◌-◌, ◌<◌, ◌≤◌, ◌^◌, Bool, true, false, not, ◌&&◌, ◌==◌, nat_lt, List, [], ◌∷◌, ◌++◌, codes, length, take, drop, get_or, position, refl, sym, ap, subst, ◌∙◌, arith, Option, Some, None, cond, if◌then◌else◌, drop-cons, append_assoc, length-append}
+use Rattle.std.proofs.Common.{◌≡◌, ℕ, zero, suc, ◌+◌, ◌-◌, ◌<◌, ◌^◌, Bool, true, false, not, ◌&&◌, ◌==◌, nat_lt, List, [], ◌∷◌, ◌++◌, length, take, drop, get_or, position, refl, sym, ap, subst, ◌∙◌, arith, Option, Some, None, if◌then◌else◌, drop-cons, append_assoc, length-append}
 use Rattle.std.specs.Char.{is_ascii_digit}
 use Rattle.std.specs.Fmt.{decimal}
 use Rattle.std.specs.List.{list_all, position_or_len}
@@ -11,11 +11,10 @@ use Rattle.std.proofs.lemmas.List.{take-append-drop}
 use Rattle.std.proofs.lemmas.List.Sums.{passes_at_first}
 use Rattle.std.proofs.Math.Seq.{drop-append-add}
 use Rattle.gen_lines.specs.Reply.{is_filled}
-use Rattle.lemmas.proofs.Bools.{not_both}
+use Rattle.lemmas.proofs.Bools.{not_both, not_true}
 use Rattle.lemmas.proofs.Digits.{own}
 use Rattle.lemmas.proofs.Members.{take_append}
 use Rattle.lemmas.proofs.Positions.{found_at}
-use Rattle.grid_text.specs.Grids.{GridFile}
 use Rattle.grid_text.specs.Numbers.{is_decimal}
 use Rattle.grid_world.specs.Laws.{IsCornerText, PoseWordsAreSpelled}
 use Rattle.grid_world.specs.Words.{corner_at, corner_of, has_leading_zero, is_comma, is_plain, pose_of}
@@ -36,10 +35,6 @@ false_by false h = refl
 
 differs : (b : ℕ) → (b ≡ 48 → ⊥) → (b == 48) ≡ false
 differs b h = false_by (b == 48) (λ e. h (zero_told b e))
-
-not_true : (b : Bool) → not b ≡ true → b ≡ false
-not_true true e = absurd (cc)
-not_true false e = refl
 
 some_filled : (text : List ℕ) → is_filled text ≡ true → 0 < length text
 some_filled [] e = absurd (cc)

@@ -1,78 +1,39 @@
 -- The steps that are listed are those that can be taken.
-use Rattle.std.proofs.Common.{◌≡◌, ℕ, ◌+◌, ◌<◌, ◌≤◌, ◌⊎◌, inl, inr, Bool, true, false, List, [], ◌∷◌, ◌++◌, length, append_assoc, refl, sym, ap, ◌∙◌, subst, arith, Option, Some, None, is_some, slice_get, Contains, if◌then◌else◌}
-use Rattle.std.proofs.lemmas.List.{append-nil}
-use Rattle.std.proofs.lemmas.Bool.{cases_lt, and_from, false≢true}
+use Rattle.std.proofs.Common.{◌≡◌, ℕ, ◌+◌, ◌<◌, ◌≤◌, ◌⊎◌, inl, inr, Bool, true, List, [], ◌∷◌, length, refl, sym, ap, ◌∙◌, subst, arith, Option, Some, None, is_some, slice_get, Contains, ◌↔◌, map, Result, Ok, Err, is_ok, OnOk}
+use Rattle.std.proofs.lemmas.Bool.{cases_lt, and_from}
 use Rattle.std.proofs.lemmas.List.Elements.{All-contains_itself, Contains-append_left, Contains-append_right, Contains-append_cases}
 use Rattle.std.proofs.lemmas.Option.{slice_get_within, same_Some}
-use Rattle.std.specs.Cmp.{first_so, second_so, nat_cmp_is}
-use Rattle.std.specs.Cmp.Lexicographic.{slice_cmp}
-use Rattle.std.specs.List.{AllByRecursion}
-use Rattle.std.specs.List.Sorted.{IsStrictlySortedBy}
-use Rattle.std.specs.Ordering.{ordering_then, nat_cmp}
+use Rattle.std.proofs.lemmas.List.Sorted.{IsPermutation-sym, Contains-permutation}
+use Rattle.std.specs.Cmp.{first_so, second_so, nat_cmp_is, unsigned_ties}
+use Rattle.std.specs.Cmp.Lexicographic.{slice_cmp, lists_ties, nat_list_cmp_total}
+use Rattle.std.specs.List.Sorted.{IsPermutation, IsSorted, IsStrictlySortedBy}
+use Rattle.std.specs.Ordering.{ordering_then, nat_cmp, is_eq}
 use Rattle.std.specs.declared.cmp.Ordering.TheVariants.{Less, Equal}
-use Rattle.task_model.specs.Known.{Known}
+use Rattle.task_model.specs.Known.{Known, same_numbers}
 use Rattle.task_model.specs.State.{Atoms}
 use Rattle.task_model.specs.Steps.{IsStep, cost_of, effect_of}
-use Rattle.task_model.specs.Truth.{slots_of, has_type, have_types, is_true}
+use Rattle.task_model.specs.Truth.{slots_of, have_types, is_true}
 use Rattle.task_model.specs.declared.domain.Action.{Action}
 use Rattle.task_model.specs.declared.task.GroundAction.{GroundAction}
 use Rattle.task_model.specs.declared.task.Task.{Task}
 use Rattle.grounder.specs.Applicable.{IsApplicable, AreApplicable, step_cmp}
-use Rattle.grounder.specs.Listing.{AreChoices, can_take, steps_with, AreStepsOf, AddsSteps}
-use Rattle.lemmas.proofs.Ascending.{contains_none, contains_here, contains_cases, from_flat_map, in_flat_map, rising_append, rising_flat_map, ascending}
+use Rattle.grounder.specs.Listing.{can_take, AreArguments, AreStepsOf, AddsSteps}
+use Rattle.grounder.specs.Parts.{AreNeeded}
+use Rattle.lemmas.proofs.Ascending.{contains_none, contains_here, contains_later, contains_cases, all_from, all_at, rising_append, ascending}
+use Rattle.lemmas.specs.Lists.{AreDistinct}
+use Rattle.fact_join.proofs.OrderLemmas.{distinct_permuted, sorted_ascends, strictly_sorted}
+use Rattle.fact_join.specs.Adding.{Adds}
+use Rattle.fact_join.specs.Answers.{IsAnswer}
+use Rattle.fact_join.specs.Partials.{Agrees}
+use Rattle.fact_join.specs.declared.partial.Partial.{Partial}
+use Rattle.fact_join.specs.declared.query.QueryAtom.{QueryAtom}
+use Rattle.task_model.proofs.KnownLemmas.{numbers_decided}
 
--- ---- one of each choice
+pub on_ok_then : {T E P : Type 0} (r : Result T E) → is_ok r ≡ true → OnOk r P → P
+on_ok_then (Ok x) e h = h
+on_ok_then (Err x) e h = absurd (cc)
 
-abbrev TakenFrom : List (List ℕ) → List ℕ → Type 0
-TakenFrom [] [] = Unit {0}
-TakenFrom [] (o ∷ t) = ⊥
-TakenFrom (objects ∷ choices) [] = ⊥
-TakenFrom (objects ∷ choices) (o ∷ t) = Contains objects o × TakenFrom choices t
-
-taken_typed : (known : Known) (sorts : List ℕ) (choices : List (List ℕ)) (t : List ℕ)
-    → AreChoices known sorts choices → TakenFrom choices t
-    → have_types known t sorts ≡ true
-taken_typed known [] [] [] are taken = refl
-taken_typed known [] [] (o ∷ t) are taken = absurd taken
-taken_typed known [] (os ∷ choices) t are taken = absurd are
-taken_typed known (sort ∷ sorts) [] t are taken = absurd are
-taken_typed known (sort ∷ sorts) (os ∷ choices) [] are taken = absurd taken
-taken_typed known (sort ∷ sorts) (os ∷ choices) (o ∷ t) are taken =
-    and_from (has_type known o sort) (have_types known t sorts) ((are.0.members o).0 taken.0) (taken_typed known sorts choices t are.1 taken.1)
-
-typed_taken : (known : Known) (sorts : List ℕ) (choices : List (List ℕ)) (t : List ℕ)
-    → AreChoices known sorts choices
-    → have_types known t sorts ≡ true → TakenFrom choices t
-typed_taken known [] [] [] are typed = tt
-typed_taken known [] [] (o ∷ t) are typed = absurd (cc)
-typed_taken known [] (os ∷ choices) t are typed = absurd are
-typed_taken known (sort ∷ sorts) [] t are typed = absurd are
-typed_taken known (sort ∷ sorts) (os ∷ choices) [] are typed = absurd (cc)
-typed_taken known (sort ∷ sorts) (os ∷ choices) (o ∷ t) are typed =
-    ((are.0.members o).1 (first_so (has_type known o sort) (have_types known t sorts) typed), typed_taken known sorts choices t are.1 (second_so (has_type known o sort) (have_types known t sorts) typed))
-
-choices_rise : (known : Known) (sorts : List ℕ) (choices : List (List ℕ))
-    → AreChoices known sorts choices
-    → AllByRecursion (IsStrictlySortedBy nat_cmp) choices
-choices_rise known [] [] are = tt
-choices_rise known [] (os ∷ choices) are = absurd are
-choices_rise known (sort ∷ sorts) [] are = absurd are
-choices_rise known (sort ∷ sorts) (os ∷ choices) are =
-    (are.0.ascending, choices_rise known sorts choices are.1)
-
--- ---- the order of steps
-
-nat_cmp-same : (n : ℕ) → nat_cmp n n ≡ Equal
-nat_cmp-same n = sym (nat_cmp_is n n Equal refl)
-
--- lists that begin alike go by what follows
-begin_alike : (xs : List ℕ) (a b : ℕ) (ys zs : List ℕ) → nat_cmp a b ≡ Less
-    → slice_cmp nat_cmp (xs ++ a ∷ ys) (xs ++ b ∷ zs) ≡ Less
-begin_alike [] a b ys zs less = ap (λ r. ordering_then r (slice_cmp nat_cmp ys zs)) less
-begin_alike (x ∷ xs) a b ys zs less =
-    ap (λ r. ordering_then r (slice_cmp nat_cmp (xs ++ a ∷ ys) (xs ++ b ∷ zs))) (nat_cmp-same x) ∙ begin_alike xs a b ys zs less
-
--- ---- the steps of one action
+-- ---- the arguments of one action
 
 some_value : {A : Type 0} (o : Option A) → is_some o ≡ true → (x : A) × (o ≡ Some x)
 some_value None e = absurd (cc)
@@ -81,97 +42,108 @@ some_value (Some x) e = (x, refl)
 is_some-of : {A : Type 0} (o : Option A) (x : A) → o ≡ Some x → is_some o ≡ true
 is_some-of o x e = ap is_some e
 
-module _ (task : Task) (known : Known) (state : Atoms) (number : ℕ) (action : Action) where
-  abbrev step_of : List ℕ → GroundAction
-  step_of args = record { action = number; args = args }
+numbers_tie : (xs ys : List ℕ) → slice_cmp nat_cmp xs ys ≡ Equal → xs ≡ ys
+numbers_tie xs ys e = (numbers_decided xs ys).0 (lists_ties nat_cmp unsigned_ties xs ys ∙ ap is_eq e)
 
+module _ (task : Task) (known : Known) (state : Atoms) (action : Action) where
   abbrev takes : List ℕ → Bool
-  takes args = can_take task known state number action args
+  takes args = can_take task known state action args
 
-  abbrev listed : List ℕ → List (List ℕ) → List GroundAction
-  listed args choices = steps_with task known state number action args choices
+  answer_is : (partial : Partial) (atoms : List QueryAtom) → ((slots : List ℕ) → Agrees partial slots)
+      → AreNeeded task.domain action.condition atoms → (args : List ℕ)
+      → IsAnswer known action.params takes partial atoms args ↔ ((have_types known args action.params ≡ true) × (takes args ≡ true))
+  answer_is partial atoms free needed args = (
+    λ a. (a.types, a.wanted),
+    λ (typed, can). record {
+      agrees = free (slots_of args);
+      types = typed;
+      known_atoms = needed.known known state (slots_of args) (first_so (is_true task.domain known state action.condition (slots_of args)) _ can);
+      wanted = can;
+    },
+  )
 
-  found : (args : List ℕ) (choices : List (List ℕ)) (step : GroundAction)
-      → Contains (listed args choices) step
-      → (t : List ℕ) × TakenFrom choices t × (step ≡ step_of (args ++ t)) × (takes (args ++ t) ≡ true)
-  found args [] step c = by (takes args) refl c
-    where
-      by : (b : Bool) → takes args ≡ b → Contains (if b then step_of args ∷ [] else []) step
-          → (t : List ℕ) × TakenFrom [] t × (step ≡ step_of (args ++ t)) × (takes (args ++ t) ≡ true)
-      by true e c =
-          elim (contains_cases (step_of args) [] step c) [
-            | inl same ↦ ([], tt, sym same ∙ ap step_of (sym (append-nil args)), ap takes (append-nil args) ∙ e)
-            | inr k ↦ absurd (contains_none step k)
-          ]
-      by false e c = absurd (contains_none step c)
-  found args (objects ∷ choices) step c =
-      let from = from_flat_map (λ o. listed (args ++ o ∷ []) choices) objects step c in
-      let rest = found (args ++ from.0 ∷ []) choices step from.2 in
-      let joined : (args ++ from.0 ∷ []) ++ rest.0 ≡ args ++ from.0 ∷ rest.0 = append_assoc args (from.0 ∷ []) rest.0 in
-      (from.0 ∷ rest.0, (from.1, rest.1), rest.2 ∙ ap step_of joined, ap takes (sym joined) ∙ rest.3)
+  -- the answers, sorted, are the arguments
+  pub sorted_arguments : (partial : Partial) (atoms : List QueryAtom) (found rows : List (List ℕ))
+      → ((slots : List ℕ) → Agrees partial slots)
+      → AreNeeded task.domain action.condition atoms
+      → Adds (IsAnswer known action.params takes partial atoms) [] found
+      → IsPermutation found rows → IsSorted (slice_cmp nat_cmp) rows → AreArguments task known state action rows
+  sorted_arguments partial atoms found rows free needed (more, is, all) moved up =
+      let distinct : AreDistinct found = subst AreDistinct (sym is) all.distinct in
+      record {
+        ascending = strictly_sorted (slice_cmp nat_cmp) rows (sorted_ascends (slice_cmp nat_cmp) nat_list_cmp_total numbers_tie rows (distinct_permuted same_numbers numbers_decided found rows moved distinct) up);
+        each = λ args. (
+          λ m. (answer_is partial atoms free needed args).0 ((all.each args).0 (subst (λ xs. Contains xs args) is (Contains-permutation rows found args (IsPermutation-sym found rows moved) m))),
+          λ p. Contains-permutation found rows args moved (subst (λ xs. Contains xs args) (sym is) ((all.each args).1 ((answer_is partial atoms free needed args).1 p))),
+        );
+      }
 
-  lists : (args : List ℕ) (choices : List (List ℕ)) (t : List ℕ) → TakenFrom choices t
-      → takes (args ++ t) ≡ true
-      → Contains (listed args choices) (step_of (args ++ t))
-  lists args [] [] taken can = by (takes args) refl
-    where
-      by : (b : Bool) → takes args ≡ b
-          → Contains (if b then step_of args ∷ [] else []) (step_of (args ++ []))
-      by true e = subst (λ xs. Contains (step_of args ∷ []) (step_of xs)) (sym (append-nil args)) (contains_here (step_of args) [])
-      by false e = absurd (false≢true (sym e ∙ ap takes (sym (append-nil args)) ∙ can))
-  lists args [] (o ∷ t) taken can = absurd taken
-  lists args (objects ∷ choices) [] taken can = absurd taken
-  lists args (objects ∷ choices) (o ∷ t) taken can =
-      let joined : (args ++ o ∷ []) ++ t ≡ args ++ o ∷ t = append_assoc args (o ∷ []) t in
-      let rest = lists (args ++ o ∷ []) choices t taken.1 (ap takes joined ∙ can) in
-      in_flat_map (λ p. listed (args ++ p ∷ []) choices) objects o (step_of (args ++ o ∷ t)) taken.0 (subst (λ xs. Contains (listed (args ++ o ∷ []) choices) (step_of xs)) joined rest)
+-- ---- the steps of one action
 
-  rises : (args : List ℕ) (choices : List (List ℕ))
-      → AllByRecursion (IsStrictlySortedBy nat_cmp) choices
-      → IsStrictlySortedBy step_cmp (listed args choices)
-  unfolding IsStrictlySortedBy
-  rises args [] rise = by (takes args)
-    where
-      by : (b : Bool) → IsStrictlySortedBy step_cmp (if b then step_of args ∷ [] else [])
-      by true = (tt, tt)
-      by false = tt
-  rises args (objects ∷ choices) rise =
-      rising_flat_map nat_cmp step_cmp (λ o. listed (args ++ o ∷ []) choices) objects rise.0 (λ o. rises (args ++ o ∷ []) choices rise.1) (λ o p a b less c d.
-      let first = found (args ++ o ∷ []) choices a c in
-      let second = found (args ++ p ∷ []) choices b d in
-      let one : a ≡ step_of (args ++ o ∷ first.0) = first.2 ∙ ap step_of (append_assoc args (o ∷ []) first.0) in
-      let two : b ≡ step_of (args ++ p ∷ second.0) = second.2 ∙ ap step_of (append_assoc args (p ∷ []) second.0) in
-      (λ i. step_cmp (one i) (two i)) ∙ ap (λ r. ordering_then r (slice_cmp nat_cmp (args ++ o ∷ first.0) (args ++ p ∷ second.0))) (nat_cmp-same number) ∙ begin_alike args o p first.0 second.0 less)
+nat_cmp-same : (n : ℕ) → nat_cmp n n ≡ Equal
+nat_cmp-same n = sym (nat_cmp_is n n Equal refl)
 
-  -- the listed steps of an action of the task are those that can be taken
-  pub steps_of_action : slice_get task.domain.actions number ≡ Some action
-      → (choices : List (List ℕ))
-      → AreChoices known action.params choices → AreStepsOf task known state number (listed [] choices)
-  steps_of_action named choices are = record {
-    ascending = rises [] choices (choices_rise known action.params choices are);
-    each = λ step c.
-        let at = found [] choices step c in
-        let can = at.3 in
-        let value = some_value (cost_of task known action at.0) (second_so (is_true task.domain known state action.condition (slots_of at.0)) _ can) in
-        let is : IsStep task known state (step_of at.0) (effect_of action at.0 state) value.0 = record {
+abbrev pub step_with : ℕ → List ℕ → GroundAction
+step_with number args = record { action = number; args = args }
+
+from_steps : (number : ℕ) (rows : List (List ℕ)) (step : GroundAction)
+    → Contains (map (step_with number) rows) step
+    → (args : List ℕ) × Contains rows args × (step ≡ step_with number args)
+from_steps number [] step m = absurd (contains_none step m)
+from_steps number (args ∷ rows) step m =
+    elim (contains_cases (step_with number args) (map (step_with number) rows) step m) [
+      | inl e ↦ (args, contains_here args rows, sym e)
+      | inr n ↦ let r = from_steps number rows step n in (r.0, contains_later args rows r.0 r.1, r.2)
+    ]
+
+in_steps : (number : ℕ) (rows : List (List ℕ)) (args : List ℕ) → Contains rows args
+    → Contains (map (step_with number) rows) (step_with number args)
+in_steps number [] args m = absurd (contains_none args m)
+in_steps number (row ∷ rows) args m =
+    elim (contains_cases row rows args m) [
+      | inl e ↦ subst (λ r. Contains (map (step_with number) (row ∷ rows)) (step_with number r)) e (contains_here (step_with number row) (map (step_with number) rows))
+      | inr n ↦ contains_later (step_with number row) (map (step_with number) rows) (step_with number args) (in_steps number rows args n)
+    ]
+
+steps_rise : (number : ℕ) (rows : List (List ℕ)) → IsStrictlySortedBy (slice_cmp nat_cmp) rows
+    → IsStrictlySortedBy step_cmp (map (step_with number) rows)
+unfolding IsStrictlySortedBy
+steps_rise number [] up = tt
+steps_rise number (row ∷ rows) (first, rest) = (
+  all_from (λ step. step_cmp (step_with number row) step ≡ Less) (map (step_with number) rows) (λ step m.
+      let r = from_steps number rows step m in
+      ap (step_cmp (step_with number row)) r.2 ∙ ap (λ o. ordering_then o (slice_cmp nat_cmp row r.0)) (nat_cmp-same number) ∙ all_at (λ args. slice_cmp nat_cmp row args ≡ Less) rows first r.0 r.1),
+  steps_rise number rows rest,
+)
+
+module _ (task : Task) (known : Known) (state : Atoms) (number : ℕ) (action : Action) where
+  pub steps_of_action : slice_get task.domain.actions number ≡ Some action → (rows : List (List ℕ))
+      → AreArguments task known state action rows
+      → AreStepsOf task known state number (map (step_with number) rows)
+  steps_of_action named rows are = record {
+    ascending = steps_rise number rows are.ascending;
+    each = λ step m.
+        let r = from_steps number rows step m in
+        let can = (are.each r.0).0 r.1 in
+        let value = some_value (cost_of task known action r.0) (second_so (is_true task.domain known state action.condition (slots_of r.0)) _ can.1) in
+        let is : IsStep task known state (step_with number r.0) (effect_of action r.0 state) value.0 = record {
           action = action;
           named = named;
-          typed = taken_typed known action.params choices at.0 are at.1;
+          typed = can.0;
           condition =
-              first_so (is_true task.domain known state action.condition (slots_of at.0)) _ can;
+              first_so (is_true task.domain known state action.condition (slots_of r.0)) _ can.1;
           costs = value.1;
           leads = refl;
         } in
-        (ap (λ (s : GroundAction). s.action) at.2, subst (IsApplicable task known state) (sym at.2) (effect_of action at.0 state, value.0, is));
+        (ap (λ (s : GroundAction). s.action) r.2, subst (IsApplicable task known state) (sym r.2) (effect_of action r.0 state, value.0, is));
     every = λ step same can.
         let s = can.2 in
         let here : s.action ≡ action = same_Some _ _ (sym s.named ∙ ap (slice_get task.domain.actions) same ∙ named) in
         let typed : have_types known step.args action.params ≡ true = ap (λ (a : Action). have_types known step.args a.params) (sym here) ∙ s.typed in
         let condition : is_true task.domain known state action.condition (slots_of step.args) ≡ true = ap (λ (a : Action). is_true task.domain known state a.condition (slots_of step.args)) (sym here) ∙ s.condition in
         let costs : is_some (cost_of task known action step.args) ≡ true = is_some-of _ can.1 (ap (λ (a : Action). cost_of task known a step.args) (sym here) ∙ s.costs) in
-        let taken = typed_taken known action.params choices step.args are typed in
-        let is : step_of step.args ≡ step = λ i. record { action = sym same i; args = step.args } in
-        subst (Contains (listed [] choices)) is (lists [] choices step.args taken (and_from _ _ condition costs));
+        let is : step_with number step.args ≡ step = λ i. record { action = sym same i; args = step.args } in
+        subst (Contains (map (step_with number) rows)) is (in_steps number rows step.args ((are.each step.args).1 (typed, and_from _ _ condition costs)));
   }
 
 -- ---- the steps of all actions

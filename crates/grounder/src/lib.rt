@@ -2,7 +2,7 @@
 #![tactic(auto)]
 
 pub mod actions;
-mod choices;
+mod atoms;
 mod steps;
 
 pub use actions::applicable;

@@ -1,13 +1,14 @@
 //! The steps of one action.
-ghost use Rattle.std.specs.Prelude.{◌≡◌, ◌+◌, ◌++◌, ◌≤◌, [], OnOk, length, true, Some, slice_get};
+ghost use Rattle.std.specs.Prelude.{◌≡◌, ◌≤◌, List, ℕ, OnOk, IfOk, length, true, Some, slice_get};
 ghost use Rattle.task_model.specs.Fit.{IsFit, is_fit_action};
-ghost use Rattle.grounder.specs.Listing.{AddsSteps, can_take, steps_with};
+ghost use Rattle.grounder.specs.Listing.{AddsSteps, AreArguments};
 
-use crate::choices::choices;
+use crate::atoms::static_atoms;
+use fact_join::{Partial, Query, Wanted, join};
 use formula_eval::{Env, holds};
 use plan_check::step_cost;
 use std::alloc::{AllocError, Global};
-use task_model::{Action, GroundAction, Look, Obj, Seq, State, Task, Wide};
+use task_model::{Action, GroundAction, Look, Obj, State, Task, Wide};
 
 /// Where steps are looked for: one action in one state.
 #[derive(Drop)]
@@ -19,73 +20,52 @@ pub(crate) struct Scene<'a, L: Look> {
     pub(crate) action: &'a Action,
 }
 
-/// Whether the action can be taken with these objects, which have its parameters' types.
-fn is_applicable<L: Look>(scene: &Scene<'_, L>, args: &[Obj]) -> bool
-    requires fit { IsFit scene.now.task.now }
-    requires action { is_fit_action scene.now.task.now.domain scene.now.action.now ≡ true }
-    requires few { length args.now ≤ 16 }
-    ensures { result ≡ can_take scene.now.task.now (L.known scene.now.look.now) scene.now.state.now
-        scene.now.number scene.now.action.now args.now }
-{
-    let mut env = Env::new(args);
-    holds(
-        scene.task,
-        scene.look,
-        scene.state,
-        &scene.action.condition,
-        &mut env,
-    ) && step_cost(scene.task, scene.look, scene.state, scene.action, args).is_some()
-}
+impl<'a, L: Look> Wanted for Scene<'a, L> {
+    ghost use Rattle.std.specs.Prelude.{◌≡◌, ◌≤◌, length, true};
+    ghost use Rattle.task_model.specs.Fit.{IsFit, is_fit_action};
+    ghost use Rattle.grounder.specs.Listing.{can_take};
 
-/// Puts the step with these objects behind the others, if it can be taken.
-fn add_step<L: Look>(
-    scene: &Scene<'_, L>,
-    args: &Wide,
-    steps: &mut Vec<GroundAction>,
-) -> Result<(), AllocError>
-    requires fit { IsFit scene.now.task.now }
-    requires action { is_fit_action scene.now.task.now.domain scene.now.action.now ≡ true }
-    requires few { length args.now ≤ 16 }
-    ensures { OnOk result (steps.new.items ≡ steps.old.items
-        ++ steps_with scene.now.task.now (L.known scene.now.look.now) scene.now.state.now
-        scene.now.number scene.now.action.now args.now []) }
-{
-    if is_applicable(scene, args.as_slice()) {
-        let args = args.copy()?;
-        steps.push(GroundAction {
-            action: scene.number,
-            args,
-        })?;
+    ghost can_judge = { λ scene args. IsFit scene.task.now × (is_fit_action scene.task.now.domain scene.action.now ≡ true) × (length args ≤ 16) };
+
+    ghost wants = { λ scene args. can_take scene.task.now (L.known scene.look.now) scene.state.now scene.action.now args };
+
+    /// Whether the action can be taken with these objects: its condition is true, and its cost has a value.
+    fn wants(&self, args: &[Obj]) -> bool {
+        let mut env = Env::new(args);
+        holds(
+            self.task,
+            self.look,
+            self.state,
+            &self.action.condition,
+            &mut env,
+        ) && step_cost(self.task, self.look, self.state, self.action, args).is_some()
     }
-    Ok(())
 }
 
-/// Puts behind the others the steps whose objects begin so, and go on with one of each choice.
-fn extend<L: Look>(
-    scene: &Scene<'_, L>,
-    args: &Wide,
-    choices: &[Seq<Obj>],
-    steps: &mut Vec<GroundAction>,
-) -> Result<(), AllocError>
+/// The arguments with which the action can be taken, in their order. Fails only where memory is wanting.
+fn arguments<L: Look>(alloc: Global, scene: &Scene<'_, L>) -> Result<Vec<Wide>, AllocError>
     requires fit { IsFit scene.now.task.now }
     requires action { is_fit_action scene.now.task.now.domain scene.now.action.now ≡ true }
-    requires few { length args.now + length choices.now ≤ 16 }
-    ensures { OnOk result (steps.new.items ≡ steps.old.items
-        ++ steps_with scene.now.task.now (L.known scene.now.look.now) scene.now.state.now
-        scene.now.number scene.now.action.now args.now choices.now) }
+    ensures { IfOk result (λ rows. AreArguments scene.now.task.now (L.known scene.now.look.now)
+        scene.now.state.now scene.now.action.now rows.items) }
 {
-    let Some((objects, rest)) = choices.split_first() else {
-        return add_step(scene, args, steps);
+    let atoms = static_atoms(alloc, &scene.task.domain, &scene.action.condition)?;
+    let query = Query {
+        look: scene.look,
+        sorts: scene.action.params.as_slice(),
+        wanted: scene,
+        most: usize::MAX,
+        alloc,
     };
-    for object in objects.as_slice() {
-        let mut more = args.copy()?;
-        more.push(*object)?;
-        extend(scene, &more, rest, steps)?;
+    let mut rows = Vec::new(alloc);
+    if join(&query, &Partial::new(), atoms.as_slice(), &mut rows).is_err() {
+        return Err(AllocError);
     }
-    Ok(())
+    rows.sort_unstable();
+    Ok(rows)
 }
 
-/// Puts the steps of the action that can be taken behind the others.
+/// Puts the steps of the action that can be taken behind the others. Fails only where memory is wanting.
 pub(crate) fn add_steps<L: Look>(
     alloc: Global,
     scene: &Scene<'_, L>,
@@ -97,6 +77,12 @@ pub(crate) fn add_steps<L: Look>(
     ensures { OnOk result (AddsSteps scene.now.task.now (L.known scene.now.look.now)
         scene.now.state.now scene.now.number steps.old.items steps.new.items) }
 {
-    let choices = choices(alloc, scene.look, scene.action.params.as_slice())?;
-    extend(scene, &Wide::empty(alloc), choices.as_slice(), steps)
+    let rows = arguments(alloc, scene)?;
+    for args in rows.as_slice() {
+        steps.push(GroundAction {
+            action: scene.number,
+            args: args.copy()?,
+        })?;
+    }
+    Ok(())
 }

@@ -1,255 +1,259 @@
--- What is found is what is due, each once.
-use Rattle.std.proofs.Common.{◌≡◌, ℕ, zero, suc, ◌+◌, Bool, true, false, cond, ◌&&◌, ◌==◌, not, inl, inr, List, [], ◌∷◌, ◌++◌, refl, sym, ap, subst, ◌∙◌, Option, Some, None, slice_get, arith, append_assoc, Contains, eqb-true, ◌↔◌}
-use Rattle.std.proofs.lemmas.List.{append-nil}
+-- What the joins find is what is due.
+use Rattle.std.proofs.Common.{◌≡◌, ℕ, ◌+◌, ◌-◌, ◌<◌, ◌≤◌, ◌⊎◌, Bool, true, not, inl, inr, List, [], ◌∷◌, ◌++◌, map, length, get_or, take, sym, ap, subst, ◌∙◌, arith, Some, slice_get, Contains, ◌↔◌, length-append, append_assoc}
+use Rattle.std.proofs.lemmas.Bool.{cases_lt, and_from}
+use Rattle.std.proofs.lemmas.List.{map-append, length-map, map_push, take_more}
 use Rattle.std.proofs.lemmas.List.Elements.{Contains-append_left, Contains-append_right, Contains-append_cases}
+use Rattle.std.proofs.lemmas.Option.{slice_get_within, same_Some}
 use Rattle.std.specs.Cmp.{first_so, second_so}
-use Rattle.std.specs.List.{flat_map, filter_map, cons_option}
-use Rattle.task_model.proofs.KnownLemmas.{fact_member, object_itself}
-use Rattle.lemmas.proofs.Members.{member_at, place_of, distinct_nil}
-use Rattle.task_model.specs.Known.{Known, type_fact, object_with, objects_of}
+use Rattle.std.specs.List.{list_all}
+use Rattle.fact_join.specs.Adding.{AreAll, Adds, ComesOf as Lacks}
+use Rattle.fact_join.specs.Answers.{IsAnswer, is_known, is_atom_of}
+use Rattle.fact_join.specs.Partials.{Agrees}
+use Rattle.fact_join.specs.declared.partial.Partial.{Partial}
+use Rattle.fact_join.specs.declared.query.JoinFault.{JoinFault}
+use Rattle.fact_join.specs.declared.query.JoinFault.TheVariants.{TooMany, Memory}
+use Rattle.fact_join.specs.declared.query.QueryAtom.{QueryAtom}
+use Rattle.lemmas.proofs.Ascending.{contains_none}
+use Rattle.lemmas.proofs.Bools.{and_not_parts}
+use Rattle.lemmas.proofs.Distinct.{distinct_append, from_mapped, in_mapped, distinct_mapped}
+use Rattle.lemmas.proofs.ListTests.{all_mapped, get_some}
+use Rattle.lemmas.proofs.Members.{distinct_nil}
 use Rattle.lemmas.specs.Lists.{AreDistinct}
-use Rattle.task_model.specs.Streams.{Note, IsDue, is_reachable, is_finished, is_due_at}
-use Rattle.task_model.specs.Truth.{have_types, has_type}
-use Rattle.task_model.specs.declared.fact.Fact.{Fact}
-use Rattle.task_model.specs.declared.fact.Kind.{Kind}
-use Rattle.task_model.specs.declared.fact.Kind.TheVariants.{Predicate, Sort}
+use Rattle.task_model.specs.Known.{Known, is_fact}
+use Rattle.task_model.specs.Streams.{Note, IsDue, yields_of, is_reachable, is_finished, is_due_at, fact_of}
+use Rattle.task_model.specs.Truth.{slots_of, have_types}
+use Rattle.task_model.specs.declared.domain.Pattern.{Pattern}
 use Rattle.task_model.specs.declared.stream.Instance.{Instance}
 use Rattle.task_model.specs.declared.stream.Stream.{Stream}
 use Rattle.task_model.specs.declared.task.Task.{Task}
-use Rattle.instance_queue.specs.Found.{instance_at, found_at, found_under, found_from}
-use Rattle.lemmas.proofs.Bools.{and_not_parts}
-use Rattle.lemmas.proofs.Distinct.{distinct_tail}
-use Rattle.lemmas.proofs.Ascending.{contains_here, contains_later, contains_cases, contains_none, from_flat_map, in_flat_map}
+use Rattle.instance_queue.specs.Faults.{fault_of}
+use Rattle.instance_queue.specs.Found.{asks_of, due_of, instance_at, pattern_of, AreDomainAtoms, IsDueInput, LacksInputs, AddsAsks, IsDueBelow, AreAsksOf}
+use Rattle.instance_queue.specs.Level.{ComesOf}
+use Rattle.instance_queue.specs.Readable.{IsReadableStream, is_pattern_of}
+use Rattle.instance_queue.specs.declared.due.Due.{Due}
+use Rattle.instance_queue.specs.declared.due.QueueFault.{QueueFault}
+use Rattle.instance_queue.specs.declared.due.QueueFault.TheVariants as fault
 
--- ---- lists
+-- ---- one stream
 
-pub only_one : {A : Type 0} (x y : A) → Contains (x ∷ []) y → x ≡ y
-only_one x y m = by (place_of (x ∷ []) y m)
-  where
-    by : (k : ℕ) × (slice_get (x ∷ []) k ≡ Some y) → x ≡ y
-    by (zero, at) = cc
-    by (suc k, at) = absurd (cc)
+pub atoms_fit : (stream : Stream) (atoms : List QueryAtom) → IsReadableStream stream
+    → AreDomainAtoms stream atoms
+    → list_all (is_atom_of (length stream.inputs)) atoms ≡ true
+atoms_fit stream atoms readable are =
+    let p = is_pattern_of (length stream.inputs) in
+    sym (all_mapped pattern_of p atoms) ∙ ap (list_all p) are ∙ readable.slots
 
-pub head_is_new : {A : Type 0} (x : A) (xs : List A) → AreDistinct (x ∷ xs) → Contains xs x → ⊥
-head_is_new x xs d m = let p = place_of xs x m in let e : 0 ≡ suc p.0 = d 0 (suc p.0) x refl p.1 in absurd (omega arith)
+module _ (known : Known) (notes : List Note) (stream : Stream) (place : ℕ)
+    (partial : Partial) (free : (slots : List ℕ) → Agrees partial slots)
+    (atoms : List QueryAtom) (are : AreDomainAtoms stream atoms) where
+  abbrev unfinished : List ℕ → Bool
+  unfinished inputs = not (is_finished stream notes (instance_at place inputs))
 
-pub distinct_cons : {A : Type 0} (x : A) (xs : List A) → AreDistinct xs → ¬ (Contains xs x)
-    → AreDistinct (x ∷ xs)
-distinct_cons x xs d absent zero zero y at_i at_j = refl
-distinct_cons x xs d absent zero (suc j) y at_i at_j =
-    let e : x ≡ y = cc in absurd (absent (subst (Contains xs) (sym e) (member_at xs j y at_j)))
-distinct_cons x xs d absent (suc i) zero y at_i at_j =
-    let e : x ≡ y = cc in absurd (absent (subst (Contains xs) (sym e) (member_at xs i y at_i)))
-distinct_cons x xs d absent (suc i) (suc j) y at_i at_j = ap suc (d i j y at_i at_j)
+  abbrev Answers : List ℕ → Type 0
+  Answers = IsAnswer known stream.inputs unfinished partial atoms
 
-pub distinct_append : {A : Type 0} (xs ys : List A) → AreDistinct xs → AreDistinct ys
-    → ((z : A) → Contains xs z → Contains ys z → ⊥)
-    → AreDistinct (xs ++ ys)
-distinct_append [] ys d e apart = e
-distinct_append (x ∷ xs) ys d e apart =
-    distinct_cons x (xs ++ ys) (distinct_append xs ys (distinct_tail x xs d) e (λ z m n. apart z (contains_later x xs z m) n))
-    (λ m. elim (Contains-append_cases xs ys x m) [ inl h ↦ head_is_new x xs d h | inr t ↦ apart x (contains_here x xs) t ])
+  known_domain : (slots : List ℕ)
+      → list_all (is_known known slots) atoms ≡ list_all (λ p. is_fact known.facts (fact_of slots p)) stream.domain
+  known_domain slots =
+      let p = λ (pattern : Pattern). is_fact known.facts (fact_of slots pattern) in
+      sym (all_mapped pattern_of p atoms) ∙ ap (list_all p) are
 
--- parts without common members, each of distinct members, put together
-pub distinct_flat : {A B : Type 0} (f : A → List B) (xs : List A) → AreDistinct xs
-    → ((x : A) → AreDistinct (f x))
-    → ((x y : A) (z : B) → Contains (f x) z → Contains (f y) z → x ≡ y) → AreDistinct (flat_map f xs)
-distinct_flat f [] d each apart = distinct_nil
-distinct_flat f (x ∷ xs) d each apart =
-    distinct_append (f x) (flat_map f xs) (each x) (distinct_flat f xs (distinct_tail x xs d) each apart)
-    (λ z m n. let r = from_flat_map f xs z n in head_is_new x xs d (subst (Contains xs) (sym (apart x r.0 z m r.2)) r.1))
+  answer_is_due : (inputs : List ℕ) → Answers inputs ↔ IsDueInput known notes stream place inputs
+  answer_is_due inputs = (
+    λ a.
+        let facts = sym (known_domain (slots_of inputs)) ∙ a.known_atoms in
+        let reaches = and_from (have_types known inputs stream.inputs) _ a.types facts in
+        and_from (is_reachable stream known (instance_at place inputs)) (unfinished inputs) reaches a.wanted,
+    λ due.
+        let reaches = first_so (is_reachable stream known (instance_at place inputs)) (unfinished inputs) due in
+        record {
+          agrees = free (slots_of inputs);
+          types = first_so (have_types known inputs stream.inputs) _ reaches;
+          known_atoms = known_domain (slots_of inputs) ∙ second_so (have_types known inputs stream.inputs) _ reaches;
+          wanted = second_so (is_reachable stream known (instance_at place inputs)) (unfinished inputs) due;
+        },
+  )
 
-module _ {A B : Type 0} (h : A → Option B) where
-  pub from_mapped : (xs : List A) (y : B) → Contains (filter_map h xs) y
-      → (x : A) × Contains xs x × (h x ≡ Some y)
-  from_mapped [] y m = absurd (contains_none y m)
-  from_mapped (x ∷ xs) y m =
-      elim (h x) as (λ o. h x ≡ o → Contains (cons_option o (filter_map h xs)) y → (z : A) × Contains (x ∷ xs) z × (h z ≡ Some y)) [
-        | None ↦ λ e n. let r = from_mapped xs y n in (r.0, contains_later x xs r.0 r.1, r.2)
-        | Some w ↦ λ e n.
-            elim (contains_cases w (filter_map h xs) y n) [
-              | inl same ↦ (x, contains_here x xs, e ∙ ap Some same)
-              | inr t ↦ let r = from_mapped xs y t in (r.0, contains_later x xs r.0 r.1, r.2)
-            ]
-      ] refl m
+  pub joined_rows : (rows : List (List ℕ)) → Adds Answers [] rows
+      → AreAll (IsDueInput known notes stream place) rows
+  joined_rows rows (more, is, all) =
+      subst (AreAll (IsDueInput known notes stream place)) (sym is) (record {
+        distinct = all.distinct;
+        each = λ x. (λ m. (answer_is_due x).0 ((all.each x).0 m), λ d. (all.each x).1 ((answer_is_due x).1 d));
+      })
 
-  pub into_mapped : (xs : List A) (x : A) (y : B) → Contains xs x → h x ≡ Some y
-      → Contains (filter_map h xs) y
-  into_mapped [] x y m e = absurd (contains_none x m)
-  into_mapped (z ∷ zs) x y m e =
-      elim (contains_cases z zs x m) [
-        | inl same ↦ subst (λ o. Contains (cons_option o (filter_map h zs)) y) (sym (ap h same ∙ e)) (contains_here y (filter_map h zs))
-        | inr t ↦ later (h z) (into_mapped zs x y t e)
-      ]
-    where
-      later : (o : Option B) → Contains (filter_map h zs) y
-          → Contains (cons_option o (filter_map h zs)) y
-      later None n = n
-      later (Some w) n = contains_later w (filter_map h zs) y n
+  pub joined_fault : (most : ℕ) (f : JoinFault) → Lacks most Answers [] f
+      → LacksInputs most known notes stream place (fault_of f)
+  joined_fault most TooMany (more, distinct, each, many) =
+      (more, distinct, λ x m. (answer_is_due x).0 (each x m), many)
+  joined_fault most Memory h = tt
 
-  pub distinct_mapped : (xs : List A) → ((x z : A) (y : B) → h x ≡ Some y → h z ≡ Some y → x ≡ z)
-      → AreDistinct xs
-      → AreDistinct (filter_map h xs)
-  distinct_mapped [] one d = distinct_nil
-  distinct_mapped (x ∷ xs) one d = by (h x) refl (distinct_mapped xs one (distinct_tail x xs d))
-    where
-      by : (o : Option B) → h x ≡ o → AreDistinct (filter_map h xs)
-          → AreDistinct (cons_option (h x) (filter_map h xs))
-      by None e rest = subst (λ o. AreDistinct (cons_option o (filter_map h xs))) (sym e) rest
-      by (Some w) e rest =
-          subst (λ o. AreDistinct (cons_option o (filter_map h xs))) (sym e)
-          (distinct_cons w (filter_map h xs) rest (λ m. let r = from_mapped xs w m in head_is_new x xs d (subst (Contains xs) (sym (one x r.0 w e r.2)) r.1)))
+-- ---- instances of one stream
 
--- ---- the objects of a type
+same_inputs : (place : ℕ) (xs ys : List ℕ) → instance_at place xs ≡ instance_at place ys → xs ≡ ys
+same_inputs place xs ys e = ap (λ (i : Instance). i.inputs) e
 
-same_name : (sort object name o : ℕ) → cond (name == sort) (Some o) None ≡ Some object
-    → (name ≡ sort) × (o ≡ object)
-same_name sort object name o e =
-    elim (name == sort) as (λ b. (name == sort) ≡ b → cond b (Some o) None ≡ Some object → (name ≡ sort) × (o ≡ object)) [
-      | true ↦ λ t g. (eqb-true name sort t, let s : o ≡ object = cc in s)
-      | false ↦ λ f g. absurd (cc)
-    ] refl e
+distinct_rows : (place : ℕ) (rows : List (List ℕ)) → AreDistinct rows
+    → AreDistinct (map (instance_at place) rows)
+distinct_rows place rows d = distinct_mapped (instance_at place) (same_inputs place) rows d
 
-object_by : (sort object : ℕ) (k : Kind) (name : ℕ) (args : List ℕ)
-    → object_with sort (record { kind = k; name = name; args = args }) ≡ Some object
-    → record { kind = k; name = name; args = args } ≡ type_fact sort object
-object_by sort object Predicate name args e = absurd (cc)
-object_by sort object Sort name [] e = absurd (cc)
-object_by sort object Sort name (o ∷ []) e =
-    let s = same_name sort object name o e in λ i. record { kind = Sort; name = s.0 i; args = s.1 i ∷ [] }
-object_by sort object Sort name (o ∷ (p ∷ ps)) e = absurd (cc)
+module _ (notes : List Note) (place : ℕ) (rows : List (List ℕ)) where
+  -- the asks with the first inputs, so many
+  abbrev asks_to : ℕ → List Due
+  asks_to i = asks_of notes (map (instance_at place) (take i rows))
 
-object_is : (sort object : ℕ) (f : Fact) → object_with sort f ≡ Some object
-    → f ≡ type_fact sort object
-object_is sort object f e = object_by sort object f.kind f.name f.args e
+  pub asks_more : (i : ℕ) (inputs copied : List ℕ) (turn : ℕ) (old dues : List Due) → i < length rows
+      → inputs ≡ get_or rows i inputs → copied ≡ inputs
+      → turn ≡ yields_of notes (instance_at place copied) → dues ≡ old ++ asks_to i
+      → dues ++ record { instance = instance_at place copied; turn = turn } ∷ [] ≡ old ++ asks_to (i + 1)
+  asks_more i inputs copied turn old dues within is same told passed =
+      let at = instance_at place in
+      let front = take i rows in
+      let ask = due_of notes (at inputs) in
+      let given : record { instance = at copied; turn = turn } ≡ ask =
+      (λ k. record { instance = at copied; turn = told k }) ∙ ap (λ xs. due_of notes (at xs)) same in
+      let taken : take (i + 1) rows ≡ front ++ inputs ∷ [] =
+      take_more rows i inputs within ∙ ap (λ xs. front ++ xs ∷ []) (sym is) in
+      let put : asks_of notes (map at (front ++ inputs ∷ [])) ≡ asks_to i ++ ask ∷ [] =
+      ap (asks_of notes) (map_push at front inputs) ∙ map_push (due_of notes) (map at front) (at inputs) in
+      (λ k. passed k ++ given k ∷ []) ∙ append_assoc old (asks_to i) (ask ∷ [])
+      ∙ ap (λ ds. old ++ ds) (sym put) ∙ ap (λ xs. old ++ asks_of notes (map at xs)) (sym taken)
 
-pub objects_distinct : (facts : List Fact) (sort : ℕ) → AreDistinct facts
-    → AreDistinct (objects_of facts sort)
-objects_distinct facts sort d =
-    distinct_mapped (object_with sort) facts (λ f g o e1 e2. object_is sort o f e1 ∙ sym (object_is sort o g e2)) d
+-- ---- one stream more
 
-pub has_object : (known : Known) (sort object : ℕ) → has_type known object sort ≡ true
-    → Contains (objects_of known.facts sort) object
-has_object known sort object e = into_mapped (object_with sort) known.facts (type_fact sort object) object ((fact_member known.facts (type_fact sort object)).0 e) (object_itself sort object)
+pub stream_at : (streams items : List Stream) (place : ℕ) (stream : Stream) → items ≡ streams
+    → place < length items → stream ≡ get_or items place stream → slice_get streams place ≡ Some stream
+stream_at streams items place stream same within is =
+    ap (λ ss. slice_get ss place) (sym same) ∙ get_some items place stream within is
 
--- ---- what is found of a stream
+module _ (streams : List Stream) (known : Known) (notes : List Note) (place : ℕ)
+    (stream : Stream) (at : slice_get streams place ≡ Some stream) where
+  -- none of the first streams has an instance of this one
+  no_row : (rows : List (List ℕ)) (i : Instance) → IsDueBelow streams known notes place i
+      → Contains (map (instance_at place) rows) i → ⊥
+  no_row rows i due m =
+      let r = from_mapped (instance_at place) rows i m in
+      let here : i.stream ≡ place = ap (λ (j : Instance). j.stream) r.2 in
+      absurd (omega (arith, due.0, here))
 
-module _ (known : Known) (notes : List Note) where
-  module _ (stream : Stream) (place : ℕ) where
-    at_inputs : (inputs : List ℕ) (i : Instance)
-        → Contains (found_at known notes stream place inputs) i
-        → (i ≡ instance_at known notes stream place inputs) × (is_due_at known notes stream i ≡ true)
-    at_inputs inputs i m =
-        by (is_due_at known notes stream (instance_at known notes stream place inputs)) refl m
-      where
-        by : (b : Bool)
-            → is_due_at known notes stream (instance_at known notes stream place inputs) ≡ b
-            → Contains (cond b (instance_at known notes stream place inputs ∷ []) []) i
-            → (i ≡ instance_at known notes stream place inputs) × (is_due_at known notes stream i ≡ true)
-        by true e n = let same = only_one (instance_at known notes stream place inputs) i n in (sym same, ap (is_due_at known notes stream) (sym same) ∙ e)
-        by false e n = absurd (contains_none i n)
+  row_due : (inputs : List ℕ) → IsDueInput known notes stream place inputs
+      → IsDueBelow streams known notes (place + 1) (instance_at place inputs)
+  row_due inputs due = (omega arith, stream, at, due)
 
-    -- it is an instance of the stream, is due, and its inputs begin so
-    pub found_is : (inputs sorts : List ℕ) (i : Instance)
-        → Contains (found_under known notes stream place inputs sorts) i
-        → (more : List ℕ) × (i ≡ instance_at known notes stream place (inputs ++ more)) × (is_due_at known notes stream i ≡ true)
-    found_is inputs [] i m =
-        let r = at_inputs inputs i m in ([], r.0 ∙ ap (instance_at known notes stream place) (sym (append-nil inputs)), r.1)
-    found_is inputs (sort ∷ sorts) i m =
-        let r = from_flat_map (λ o. found_under known notes stream place (inputs ++ o ∷ []) sorts) (objects_of known.facts sort) i m in
-        let s = found_is (inputs ++ r.0 ∷ []) sorts i r.2 in
-        (r.0 ∷ s.0, s.1 ∙ ap (instance_at known notes stream place) (append_assoc inputs (r.0 ∷ []) s.0), s.2)
+  row_below : (rows : List (List ℕ))
+      → ((inputs : List ℕ) → Contains rows inputs → IsDueInput known notes stream place inputs)
+      → (i : Instance) → Contains (map (instance_at place) rows) i
+      → IsDueBelow streams known notes (place + 1) i
+  row_below rows each i m =
+      let r = from_mapped (instance_at place) rows i m in
+      subst (IsDueBelow streams known notes (place + 1)) (sym r.2) (row_due r.0 (each r.0 r.1))
 
-    pub is_found : (inputs sorts more : List ℕ) → have_types known more sorts ≡ true
-        → is_due_at known notes stream (instance_at known notes stream place (inputs ++ more)) ≡ true
-        → Contains (found_under known notes stream place inputs sorts) (instance_at known notes stream place (inputs ++ more))
-    is_found inputs [] [] types due =
-        let here = instance_at known notes stream place (inputs ++ []) in
-        let all = append-nil inputs in
-        subst (λ xs. Contains (found_at known notes stream place xs) here) all (subst (λ b. Contains (cond b (here ∷ []) []) here) (sym due) (contains_here here []))
-    is_found inputs [] (o ∷ os) types due = absurd (cc)
-    is_found inputs (sort ∷ sorts) [] types due = absurd (cc)
-    is_found inputs (sort ∷ sorts) (o ∷ os) types due =
-        let joined : (inputs ++ o ∷ []) ++ os ≡ inputs ++ o ∷ os = append_assoc inputs (o ∷ []) os in
-        let one = first_so (has_type known o sort) (have_types known os sorts) types in
-        let rest = second_so (has_type known o sort) (have_types known os sorts) types in
-        in_flat_map (λ x. found_under known notes stream place (inputs ++ x ∷ []) sorts) (objects_of known.facts sort) o (instance_at known notes stream place (inputs ++ o ∷ os)) (has_object known sort o one)
-        (subst (λ xs. Contains (found_under known notes stream place (inputs ++ o ∷ []) sorts) (instance_at known notes stream place xs)) joined
-        (is_found (inputs ++ o ∷ []) sorts os rest (ap (λ xs. is_due_at known notes stream (instance_at known notes stream place xs)) joined ∙ due)))
+  together : (xs : List Instance) (rows : List (List ℕ))
+      → AreAll (IsDueBelow streams known notes place) xs → AreDistinct rows
+      → AreDistinct (xs ++ map (instance_at place) rows)
+  together xs rows all distinct =
+      distinct_append xs (map (instance_at place) rows) all.distinct (distinct_rows place rows distinct)
+      (λ i m n. no_row rows i ((all.each i).0 m) n)
 
-    same_next : (xs : List ℕ) (a b : ℕ) (more other : List ℕ)
-        → (xs ++ a ∷ []) ++ more ≡ (xs ++ b ∷ []) ++ other → a ≡ b
-    same_next [] a b more other e = cc
-    same_next (x ∷ xs) a b more other e = same_next xs a b more other (let f : (xs ++ a ∷ []) ++ more ≡ (xs ++ b ∷ []) ++ other = cc in f)
+  later : (i : Instance) → IsDueBelow streams known notes place i
+      → IsDueBelow streams known notes (place + 1) i
+  later i (below, s, named, due) = (omega (arith, below), s, named, due)
 
-    pub found_distinct : AreDistinct known.facts → (inputs sorts : List ℕ)
-        → AreDistinct (found_under known notes stream place inputs sorts)
-    found_distinct d inputs [] =
-        by (is_due_at known notes stream (instance_at known notes stream place inputs))
-      where
-        by : (b : Bool) → AreDistinct (cond b (instance_at known notes stream place inputs ∷ []) [])
-        by true = distinct_cons (instance_at known notes stream place inputs) [] distinct_nil (contains_none (instance_at known notes stream place inputs))
-        by false = distinct_nil
-    found_distinct d inputs (sort ∷ sorts) =
-        distinct_flat (λ o. found_under known notes stream place (inputs ++ o ∷ []) sorts) (objects_of known.facts sort) (objects_distinct known.facts sort d) (λ o. found_distinct d (inputs ++ o ∷ []) sorts)
-        (λ a b i m n.
-        let r = found_is (inputs ++ a ∷ []) sorts i m in
-        let s = found_is (inputs ++ b ∷ []) sorts i n in
-        same_next inputs a b r.0 s.0 (ap (λ (j : Instance). j.inputs) (sym r.1 ∙ s.1)))
-
-  -- ---- what is found of all streams
-
-  pub found_stream : (place : ℕ) (ss : List Stream) (i : Instance)
-      → Contains (found_from known notes place ss) i
-      → (k : ℕ) × (s : Stream) × (i.stream ≡ place + k) × (slice_get ss k ≡ Some s) × (is_due_at known notes s i ≡ true)
-  found_stream place [] i m = absurd (contains_none i m)
-  found_stream place (s ∷ ss) i m =
-      elim (Contains-append_cases (found_under known notes s place [] s.inputs) (found_from known notes (place + 1) ss) i m) [
-        | inl h ↦ let r = found_is s place [] s.inputs i h in (0, s, ap (λ (j : Instance). j.stream) r.1 ∙ (let e : place ≡ place + 0 = omega arith in e), refl, r.2)
-        | inr t ↦ let r = found_stream (place + 1) ss i t in (suc r.0, r.1, r.2 ∙ (let e : (place + 1) + r.0 ≡ place + suc r.0 = omega arith in e), r.3, r.4)
+  earlier : (i : Instance) → IsDueBelow streams known notes (place + 1) i
+      → IsDueBelow streams known notes place i ⊎ ((i ≡ instance_at place i.inputs) × IsDueInput known notes stream place i.inputs)
+  earlier i (below, s, named, due) =
+      elim (cases_lt i.stream place) [
+        | inl less ↦ inl (less, s, named, due)
+        | inr over ↦
+            let here : i.stream ≡ place = omega (arith, below, over) in
+            let whole : i ≡ instance_at place i.inputs = λ j. record { stream = here j; inputs = i.inputs } in
+            let same : s ≡ stream = same_Some s stream (sym named ∙ ap (slice_get streams) here ∙ at) in
+            inr (whole, (λ j. is_due_at known notes (sym same j) (sym whole j)) ∙ due)
       ]
 
-  pub in_found : (place : ℕ) (ss : List Stream) (k : ℕ) (s : Stream) (i : Instance)
-      → slice_get ss k ≡ Some s → i.stream ≡ place + k
-      → have_types known i.inputs s.inputs ≡ true → is_due_at known notes s i ≡ true → Contains (found_from known notes place ss) i
-  in_found place [] k s i at is types due = absurd (cc)
-  in_found place (t ∷ ts) zero s i at is types due =
-      let same : t ≡ s = cc in
-      let here : i.stream ≡ place = is ∙ (let e : place + 0 ≡ place = omega arith in e) in
-      let whole : i ≡ instance_at known notes t place i.inputs = λ j. record { stream = here j; inputs = i.inputs } in
-      Contains-append_left (found_under known notes t place [] t.inputs) (found_from known notes (place + 1) ts) i
-      (subst (Contains (found_under known notes t place [] t.inputs)) (sym whole)
-      (is_found t place [] t.inputs i.inputs (ap (λ (u : Stream). have_types known i.inputs u.inputs) same ∙ types) ((λ j. is_due_at known notes (same j) (sym whole j)) ∙ due)))
-  in_found place (t ∷ ts) (suc k) s i at is types due =
-      Contains-append_right (found_under known notes t place [] t.inputs) (found_from known notes (place + 1) ts) i
-      (in_found (place + 1) ts k s i at (is ∙ (let e : place + suc k ≡ (place + 1) + k = omega arith in e)) types due)
+  pub stream_more : (old new : List Due) → AreAsksOf (IsDueBelow streams known notes place) notes old
+      → AddsAsks known notes stream place old new
+      → AreAsksOf (IsDueBelow streams known notes (place + 1)) notes new
+  stream_more old new (xs, was, all) (rows, is, those) =
+      let here = map (instance_at place) rows in (
+        xs ++ here,
+        is ∙ ap (λ ds. ds ++ asks_of notes here) was ∙ sym (map-append (due_of notes) xs here),
+        record {
+          distinct = together xs rows all those.distinct;
+          each = λ i. (
+            λ m. elim (Contains-append_cases xs here i m) [
+              | inl h ↦ later i ((all.each i).0 h)
+              | inr t ↦ row_below rows (λ inputs. (those.each inputs).0) i t
+            ],
+            λ due. elim (earlier i due) [
+              | inl before ↦ Contains-append_left xs here i ((all.each i).1 before)
+              | inr now ↦
+                  let m = in_mapped (instance_at place) rows i.inputs ((those.each i.inputs).1 now.1) in
+                  Contains-append_right xs here i (subst (Contains here) (sym now.0) m)
+            ],
+          );
+        },
+      )
 
-  pub all_distinct : AreDistinct known.facts → (place : ℕ) (ss : List Stream)
-      → AreDistinct (found_from known notes place ss)
-  all_distinct d place [] = distinct_nil
-  all_distinct d place (s ∷ ss) =
-      distinct_append (found_under known notes s place [] s.inputs) (found_from known notes (place + 1) ss) (found_distinct s place d [] s.inputs) (all_distinct d (place + 1) ss)
-      (λ i m n.
-      let r = found_is s place [] s.inputs i m in
-      let q = found_stream (place + 1) ss i n in
-      let a : i.stream ≡ place = ap (λ (j : Instance). j.stream) r.1 in
-      absurd (omega (arith, a, q.2)))
-
--- ---- what is found of a task
-
-unfinished : (a b : Bool) → a ≡ true → b ≡ false → (a && not b) ≡ true
-unfinished true true p q = absurd (cc)
-unfinished true false p q = refl
-unfinished false b p q = absurd (cc)
-
-pub found_is_due : (task : Task) (known : Known) (notes : List Note) (i : Instance)
-    → Contains (found_from known notes 0 task.streams) i ↔ IsDue task known notes i
-found_is_due task known notes i = (
-  λ m.
-      let r = found_stream known notes 0 task.streams i m in
-      let at : slice_get task.streams i.stream ≡ Some r.1 = ap (slice_get task.streams) (r.2 ∙ (let e : 0 + r.0 ≡ r.0 = omega arith in e)) ∙ r.3 in
-      let both = and_not_parts (is_reachable r.1 known i) (is_finished r.1 notes i) r.4 in
-      record { stream = r.1; named = at; reachable = both.0; unfinished = both.1 },
-  λ d.
-      in_found known notes 0 task.streams i.stream d.stream i d.named (let e : i.stream ≡ 0 + i.stream = omega arith in e) (first_so (have_types known i.inputs d.stream.inputs) _ d.reachable) (unfinished (is_reachable d.stream known i) (is_finished d.stream notes i) d.reachable d.unfinished),
+pub none_below : (streams : List Stream) (known : Known) (notes : List Note) (dues : List Due)
+    → dues ≡ []
+    → AreAsksOf (IsDueBelow streams known notes 0) notes dues × (length dues ≤ 1000000)
+none_below streams known notes dues none = (
+  ([], none, record { distinct = distinct_nil; each = λ i. (λ m. absurd (contains_none i m), λ due. absurd (omega (arith, due.0))) }),
+  omega (arith, ap length none),
 )
+
+-- past the last stream nothing more comes
+pub whole_below : (streams : List Stream) (known : Known) (notes : List Note) (place : ℕ) (dues : List Due)
+    → length streams ≤ place → AreAsksOf (IsDueBelow streams known notes place) notes dues
+    → AreAsksOf (IsDueBelow streams known notes (length streams)) notes dues
+whole_below streams known notes place dues past (xs, is, all) = (
+  xs,
+  is,
+  record {
+    distinct = all.distinct;
+    each = λ i. (
+      λ m. let d = (all.each i).0 m in (slice_get_within streams i.stream d.1 d.2, d.1, d.2, d.3),
+      λ due. (all.each i).1 (omega (arith, due.0, past), due.1, due.2, due.3),
+    );
+  },
+)
+
+below_is_due : (task : Task) (known : Known) (notes : List Note) (count : ℕ) (i : Instance)
+    → IsDueBelow task.streams known notes count i
+    → IsDue task known notes i
+below_is_due task known notes count i (below, s, named, due) = record {
+  stream = s;
+  named = named;
+  reachable = first_so (is_reachable s known i) (not (is_finished s notes i)) due;
+  unfinished = (and_not_parts (is_reachable s known i) (is_finished s notes i) due).1;
+}
+
+pub due_below : (task : Task) (known : Known) (notes : List Note) (i : Instance)
+    → IsDueBelow task.streams known notes (length task.streams) i ↔ IsDue task known notes i
+due_below task known notes i = (
+  below_is_due task known notes (length task.streams) i,
+  λ due.
+      let below = slice_get_within task.streams i.stream due.stream due.named in
+      let open_still = ap not due.unfinished in
+      let both = and_from (is_reachable due.stream known i) (not (is_finished due.stream notes i)) due.reachable open_still in
+      (below, due.stream, due.named, both),
+)
+
+-- more than are left were found in one stream
+pub stream_fault : (task : Task) (known : Known) (notes : List Note) (place : ℕ) (stream : Stream) (old : List Due) (f : QueueFault)
+    → slice_get task.streams place ≡ Some stream
+    → AreAsksOf (IsDueBelow task.streams known notes place) notes old
+    → length old ≤ 1000000 → LacksInputs (1000000 - length old) known notes stream place f → ComesOf task known notes f
+stream_fault task known notes place stream old fault.TooManyInstances at (xs, was, all) few (rows, distinct, each, many) =
+    let here = map (instance_at place) rows in (
+      xs ++ here,
+      omega (arith, ap length was, length-map xs (due_of notes), length-append xs here, length-map rows (instance_at place), many, few),
+      together task.streams known notes place stream at xs rows all distinct,
+      λ i m. elim (Contains-append_cases xs here i m) [
+        | inl h ↦ below_is_due task known notes place i ((all.each i).0 h)
+        | inr t ↦
+            below_is_due task known notes (place + 1) i (row_below task.streams known notes place stream at rows each i t)
+      ],
+    )
+stream_fault task known notes place stream old fault.Memory at was few h = tt

@@ -7,13 +7,11 @@ use Rattle.task_model.specs.Known.{Known, IsCoherent}
 use Rattle.task_model.specs.Streams.{Note, IsDue, yields_of}
 use Rattle.task_model.specs.declared.stream.Instance.{Instance}
 use Rattle.task_model.specs.declared.task.Task.{Task}
-use Rattle.instance_queue.proofs.FoundLemmas.{found_is_due, all_distinct}
+use Rattle.instance_queue.proofs.FoundLemmas.{due_below}
 use Rattle.instance_queue.proofs.InstanceOrderLemmas.{ascending, comes_before, distinct_permuted}
-use Rattle.instance_queue.specs.Found.{asks_of, due_of, found_from, Overflows}
-use Rattle.instance_queue.specs.Level.{instances_of, AreDueInTurn, ComesOf}
+use Rattle.instance_queue.specs.Found.{asks_of, due_of, IsDueBelow, AreAsksOf}
+use Rattle.instance_queue.specs.Level.{instances_of, AreDueInTurn}
 use Rattle.instance_queue.specs.declared.due.Due.{Due}
-use Rattle.instance_queue.specs.declared.due.QueueFault.{QueueFault}
-use Rattle.instance_queue.specs.declared.due.QueueFault.TheVariants.{TooManyInstances, Memory}
 
 asked : (notes : List Note) (xs : List Instance) → instances_of (asks_of notes xs) ≡ xs
 asked notes [] = refl
@@ -26,25 +24,33 @@ turned notes (x ∷ xs) =
     All-cons (λ (d : Due). d.turn ≡ yields_of notes d.instance) (due_of notes x) (asks_of notes xs) refl (turned notes xs)
 
 module _ (task : Task) (known : Known) (notes : List Note) (coherent : IsCoherent known) where
-  pub fault_is : (e : QueueFault) → Overflows (length (found_from known notes 0 task.streams)) e
-      → ComesOf task known notes e
-  fault_is TooManyInstances more = (found_from known notes 0 task.streams, more, all_distinct known notes coherent.facts 0 task.streams, λ i. (found_is_due task known notes i).0)
-  fault_is Memory more = tt
+  abbrev HasTurn : Due → Type 0
+  HasTurn d = d.turn ≡ yields_of notes d.instance
 
-  pub level_is : (xs ys : List Due) → xs ≡ asks_of notes (found_from known notes 0 task.streams)
+  -- what is found, sorted, is the level
+  pub level_is : (xs ys : List Due)
+      → AreAsksOf (IsDueBelow task.streams known notes (length task.streams)) notes xs
       → length xs ≤ 1000000 → IsPermutation xs ys
       → IsSortedBy (comes_before known.names) ys → AreDueInTurn task known notes ys
-  level_is xs ys is few moved up =
-      let all = found_from known notes 0 task.streams in
+  level_is xs ys (all, is, found_all) few moved up =
       let found : instances_of xs ≡ all = ap instances_of is ∙ asked notes all in
-      let moves : IsPermutation all (instances_of ys) = subst (λ zs. IsPermutation zs (instances_of ys)) found (IsPermutation-map (λ (d : Due). d.instance) xs ys moved) in
-      let due : (i : Instance) → Contains (instances_of ys) i → IsDue task known notes i = λ i m. (found_is_due task known notes i).0 (Contains-permutation (instances_of ys) all i (IsPermutation-sym all (instances_of ys) moves) m) in
+      let sorted = instances_of ys in
+      let moves : IsPermutation all sorted =
+      subst (λ zs. IsPermutation zs sorted) found (IsPermutation-map (λ (d : Due). d.instance) xs ys moved) in
+      let back : IsPermutation sorted all = IsPermutation-sym all sorted moves in
+      let due : (i : Instance) → Contains sorted i → IsDue task known notes i =
+      λ i m. (due_below task known notes i).0 ((found_all.each i).0 (Contains-permutation sorted all i back m)) in
+      let distinct = distinct_permuted all sorted moves found_all.distinct in
+      let told = subst (All HasTurn) (sym is) (turned notes all) in
       let long : length ys ≡ length xs = length_permutation xs ys moved in
       record {
         due = record {
-          each = λ i. (due i, λ d. Contains-permutation all (instances_of ys) i moves ((found_is_due task known notes i).1 d));
-          ascend = ascending task known notes coherent ys due (distinct_permuted all (instances_of ys) moves (all_distinct known notes coherent.facts 0 task.streams)) up;
+          each = λ i. (
+            due i,
+            λ d. Contains-permutation all sorted i moves ((found_all.each i).1 ((due_below task known notes i).1 d)),
+          );
+          ascend = ascending task known notes coherent ys due distinct up;
         };
-        turns = All-permutation (λ (d : Due). d.turn ≡ yields_of notes d.instance) xs ys moved (subst (All (λ (d : Due). d.turn ≡ yields_of notes d.instance)) (sym is) (turned notes all));
+        turns = All-permutation HasTurn xs ys moved told;
         few = omega (arith, long, few);
       }

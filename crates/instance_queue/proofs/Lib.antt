@@ -1,5 +1,4 @@
 pub mod FoundLemmas
-pub mod FoundStepLemmas
 pub mod LevelLemmas
 pub mod InstanceOrderLemmas
 pub mod ReadableLemmas

@@ -1,8 +1,10 @@
--- What is found by going through all tuples of objects that have the inputs' types.
-use Rattle.std.specs.Prelude.{◌<◌, ◌+◌, ℕ, List, [], ◌∷◌, ◌++◌, map, if◌then◌else◌}
-use Rattle.std.specs.List.{flat_map}
-use Rattle.task_model.specs.Known.{Known, objects_of}
+-- What is found of each stream.
+use Rattle.std.specs.Prelude.{◌≡◌, ◌<◌, ℕ, List, [], ◌++◌, map, true, Some, slice_get}
+use Rattle.fact_join.specs.Adding.{AreAll, Exceeds}
+use Rattle.fact_join.specs.declared.query.QueryAtom.{QueryAtom}
+use Rattle.task_model.specs.Known.{Known}
 use Rattle.task_model.specs.Streams.{Note, yields_of, is_due_at}
+use Rattle.task_model.specs.declared.domain.Pattern.{Pattern}
 use Rattle.task_model.specs.declared.stream.Instance.{Instance}
 use Rattle.task_model.specs.declared.stream.Stream.{Stream}
 use Rattle.instance_queue.specs.declared.due.Due.{Due}
@@ -16,28 +18,43 @@ due_of notes instance = record { instance = instance; turn = yields_of notes ins
 abbrev pub asks_of : List Note → List Instance → List Due
 asks_of notes = map (due_of notes)
 
-module _ (known : Known) (notes : List Note) where
-  module _ (stream : Stream) (place : ℕ) where
-    abbrev pub instance_at : List ℕ → Instance
-    instance_at inputs = record { stream = place; inputs = inputs }
+abbrev pub instance_at : ℕ → List ℕ → Instance
+instance_at place inputs = record { stream = place; inputs = inputs }
 
-    abbrev pub found_at : List ℕ → List Instance
-    found_at inputs =
-        if is_due_at known notes stream (instance_at inputs) then instance_at inputs ∷ [] else []
+-- ---- one stream
 
-    -- those whose inputs begin with these and go on with objects of these types
-    abbrev pub found_under : List ℕ → List ℕ → List Instance
-    found_under inputs [] = found_at inputs
-    found_under inputs (sort ∷ sorts) =
-        flat_map (λ o. found_under (inputs ++ o ∷ []) sorts) (objects_of known.facts sort)
+abbrev pub pattern_of : QueryAtom → Pattern
+pattern_of atom = record { pred = atom.pred; args = atom.terms.now }
 
-  -- those of these streams, the first of which has this place
-  abbrev pub found_from : ℕ → List Stream → List Instance
-  found_from place [] = []
-  found_from place (stream ∷ streams) =
-      found_under stream place [] stream.inputs ++ found_from (place + 1) streams
+-- these are the atoms of its domain
+abbrev pub AreDomainAtoms : Stream → List QueryAtom → Type 0
+AreDomainAtoms stream atoms = map pattern_of atoms ≡ stream.domain
 
--- what a fault says where so many would be found
-abbrev pub Overflows : ℕ → QueueFault → Type 0
-Overflows found TooManyInstances = 1000000 < found
-Overflows found Memory = Unit {0}
+-- its instance with these inputs is due
+abbrev pub IsDueInput : Known → List Note → Stream → ℕ → List ℕ → Type 0
+IsDueInput known notes stream place inputs =
+    is_due_at known notes stream (instance_at place inputs) ≡ true
+
+-- what is true where not all inputs were found: there are more than `most`, or memory is wanting
+abbrev pub LacksInputs : ℕ → Known → List Note → Stream → ℕ → QueueFault → Type 0
+LacksInputs most known notes stream place TooManyInstances =
+    Exceeds most (IsDueInput known notes stream place) []
+LacksInputs most known notes stream place Memory = Unit {0}
+
+-- behind the old asks stand those of all inputs with which it is due, each once
+abbrev pub AddsAsks : Known → List Note → Stream → ℕ → List Due → List Due → Type 0
+AddsAsks known notes stream place old new =
+    (rows : List (List ℕ)) × (new ≡ old ++ asks_of notes (map (instance_at place) rows))
+    × AreAll (IsDueInput known notes stream place) rows
+
+-- ---- the first streams
+
+-- the instance is one of the first streams, so many, and is due
+abbrev pub IsDueBelow : List Stream → Known → List Note → ℕ → Instance → Type 0
+IsDueBelow streams known notes count instance =
+    (instance.stream < count) × (stream : Stream) × (slice_get streams instance.stream ≡ Some stream)
+    × (is_due_at known notes stream instance ≡ true)
+
+-- the asks of all instances of which it holds, each once
+abbrev pub AreAsksOf : (Instance → Type 0) → List Note → List Due → Type 0
+AreAsksOf P notes dues = (instances : List Instance) × (dues ≡ asks_of notes instances) × AreAll P instances

@@ -1,7 +1,9 @@
 //! An ask that is due, and why there is no list of them.
 ghost use Rattle.std.specs.Prelude.{◌≡◌, IfOk};
 ghost use Rattle.instance_queue.specs.declared.due.QueueFault.TheVariants.{Memory};
+ghost use Rattle.instance_queue.specs.Faults.{fault_of};
 
+use fact_join::JoinFault;
 use std::alloc::{AllocError, AllocFailed};
 use task_model::Instance;
 use thiserror::Error;
@@ -52,5 +54,16 @@ impl<T: Drop> From<AllocFailed<T>> for QueueFault {
 
     fn from(_e: AllocFailed<T>) -> QueueFault {
         QueueFault::Memory
+    }
+}
+
+impl From<JoinFault> for QueueFault {
+    ghost from_gives = { λ fault e. e ≡ fault_of fault };
+
+    fn from(fault: JoinFault) -> QueueFault {
+        match fault {
+            JoinFault::TooMany => QueueFault::TooManyInstances,
+            JoinFault::Memory => QueueFault::Memory,
+        }
     }
 }

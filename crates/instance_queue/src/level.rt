@@ -1,18 +1,18 @@
-//! The instances that are due, found by going through all tuples of objects that have the inputs' types.
-ghost use Rattle.std.specs.Prelude.{◌≡◌, ◌≤◌, ◌+◌, ◌++◌, length, IfOk, IfErr, OnOk};
+//! The instances that are due, found by joins over the streams' domain facts.
+ghost use Rattle.std.specs.Prelude.{◌≤◌, ◌-◌, length, IfOk, IfErr, OnOk};
+ghost use Rattle.fact_join.specs.Adding.{AreAll};
 ghost use Rattle.task_model.specs.Fit.{IsFit};
-ghost use Rattle.task_model.specs.Streams.{is_due_at};
-ghost use Rattle.instance_queue.specs.Found.{asks_of, found_at, found_under, found_from, Overflows};
+ghost use Rattle.instance_queue.specs.Found.{IsDueInput, LacksInputs, AreDomainAtoms, AddsAsks, AreAsksOf, IsDueBelow};
 ghost use Rattle.instance_queue.specs.Level.{AreDueInTurn, ComesOf};
 ghost use Rattle.instance_queue.specs.Readable.{IsReadableStream};
 
 use crate::due::{Due, QueueFault};
 use crate::order::compare;
 use crate::queue::Queue;
-use crate::reach::is_reachable;
+use fact_join::{Partial, Query, QueryAtom, Wanted, join};
 use fact_store::Facts;
-use std::alloc::Global;
-use task_model::{Instance, Row, Stream, Task};
+use std::alloc::{AllocError, Global};
+use task_model::{Instance, Obj, Row, Stream, Task};
 
 /// The most instances that may be due.
 const MOST: usize = 1_000_000;
@@ -27,72 +27,86 @@ struct Search<'a> {
     place: u32,
 }
 
-/// Whether an instance of the stream is reachable and unfinished.
-fn is_due(search: &Search<'_>, instance: &Instance) -> bool
+impl<'a> Wanted for Search<'a> {
+    ghost use Rattle.std.specs.Prelude.{◌≤◌, length, not};
+    ghost use Rattle.task_model.specs.Streams.{is_finished};
+    ghost use Rattle.instance_queue.specs.Found.{instance_at};
+
+    ghost can_judge = { λ search inputs. length inputs ≤ 8 };
+
+    ghost wants = { λ search inputs. not
+        (is_finished search.stream.now search.queue.now (instance_at search.place inputs)) };
+
+    /// Whether the instance with these inputs hasn't finished.
+    fn wants(&self, inputs: &[Obj]) -> bool {
+        let inputs = match Row::new(self.alloc, inputs) {
+            Ok(inputs) => inputs,
+            Err(_) => unreachable!(),
+        };
+        let instance = Instance {
+            stream: self.place,
+            inputs,
+        };
+        !self.queue.is_finished(self.stream, &instance)
+    }
+}
+
+/// The stream's domain facts. Fails only where memory is wanting.
+fn domain_atoms(alloc: Global, stream: &Stream) -> Result<Vec<QueryAtom<'_>>, AllocError>
+    ensures { IfOk result (λ atoms. AreDomainAtoms stream.now atoms.items) }
+{
+    let mut atoms = Vec::with_capacity(alloc, stream.domain.len())?;
+    for pattern in stream.domain.as_slice() {
+        atoms.push(QueryAtom {
+            pred: pattern.pred,
+            terms: pattern.args.as_slice(),
+        })?;
+    }
+    Ok(atoms)
+}
+
+/// The inputs with which instances of the stream are due, each once. Fails where there are more than `most`, and
+/// where memory is wanting.
+fn due_inputs(search: &Search<'_>, most: usize) -> Result<Vec<Row>, QueueFault>
     requires { IsReadableStream search.now.stream.now }
-    ensures { result ≡ is_due_at search.now.facts.now.known search.now.queue.now
-        search.now.stream.now instance.now }
+    ensures due { IfOk result (λ rows. AreAll (IsDueInput search.now.facts.now.known
+        search.now.queue.now search.now.stream.now search.now.place) rows.items) }
+    ensures few { IfOk result (λ rows. length rows.items ≤ most) }
+    ensures fault { IfErr result (LacksInputs most search.now.facts.now.known search.now.queue.now
+        search.now.stream.now search.now.place) }
 {
-    is_reachable(search.alloc, search.stream, search.facts, instance)
-        && !search.queue.is_finished(search.stream, instance)
+    let atoms = domain_atoms(search.alloc, search.stream)?;
+    let query = Query {
+        look: search.facts,
+        sorts: search.stream.inputs.as_slice(),
+        wanted: search,
+        most,
+        alloc: search.alloc,
+    };
+    let mut rows = Vec::new(search.alloc);
+    join(&query, &Partial::new(), atoms.as_slice(), &mut rows)?;
+    Ok(rows)
 }
 
-/// Adds the ask of an instance if that is due.
-fn add_if_due(search: &Search<'_>, inputs: &Row, dues: &mut Vec<Due>) -> Result<(), QueueFault>
+/// Adds the asks that are due of one stream. Fails where more than `MOST` would stand there, and where memory is
+/// wanting.
+fn add_asks(search: &Search<'_>, dues: &mut Vec<Due>) -> Result<(), QueueFault>
     requires few { length dues.old.items ≤ MOST }
     requires readable { IsReadableStream search.now.stream.now }
-    ensures ok { OnOk result (dues.new.items ≡ dues.old.items
-        ++ asks_of search.now.queue.now
-        (found_at search.now.facts.now.known search.now.queue.now search.now.stream.now
-        search.now.place inputs.now)) }
+    ensures due { OnOk result (AddsAsks search.now.facts.now.known search.now.queue.now
+        search.now.stream.now search.now.place dues.old.items dues.new.items) }
     ensures few { OnOk result (length dues.new.items ≤ MOST) }
-    ensures err { IfErr result (Overflows
-        (length dues.old.items + length
-        (found_at search.now.facts.now.known search.now.queue.now search.now.stream.now
-        search.now.place inputs.now))) }
+    ensures fault { IfErr result (LacksInputs (MOST - length dues.old.items)
+        search.now.facts.now.known search.now.queue.now search.now.stream.now search.now.place) }
 {
-    let instance = Instance {
-        stream: search.place,
-        inputs: inputs.copy()?,
-    };
-    if !is_due(search, &instance) {
-        return Ok(());
-    }
-    if dues.len() == MOST {
-        return Err(QueueFault::TooManyInstances);
-    }
-    let turn = search.queue.yields(&instance);
-    dues.push(Due { instance, turn })?;
-    Ok(())
-}
-
-/// Adds the asks that are due of the instances whose inputs begin with these, objects of the types `sorts` following.
-fn add_under(
-    search: &Search<'_>,
-    inputs: &Row,
-    sorts: &[u32],
-    dues: &mut Vec<Due>,
-) -> Result<(), QueueFault>
-    requires few { length dues.old.items ≤ MOST }
-    requires readable { IsReadableStream search.now.stream.now }
-    ensures ok { OnOk result (dues.new.items ≡ dues.old.items
-        ++ asks_of search.now.queue.now
-        (found_under search.now.facts.now.known search.now.queue.now search.now.stream.now
-        search.now.place inputs.now sorts.now)) }
-    ensures few { OnOk result (length dues.new.items ≤ MOST) }
-    ensures err { IfErr result (Overflows
-        (length dues.old.items + length
-        (found_under search.now.facts.now.known search.now.queue.now search.now.stream.now
-        search.now.place inputs.now sorts.now))) }
-{
-    let Some((sort, rest)) = sorts.split_first() else {
-        return add_if_due(search, inputs, dues);
-    };
-    let objects = search.facts.objects_with(search.alloc, *sort)?;
-    for object in objects.as_slice() {
-        let mut longer = inputs.copy()?;
-        longer.push(*object)?;
-        add_under(search, &longer, rest, dues)?;
+    let rows = due_inputs(search, MOST - dues.len())?;
+    for inputs in rows.as_slice() {
+        let instance = Instance {
+            stream: search.place,
+            inputs: inputs.copy()?,
+        };
+        let turn = search.queue.yields(&instance);
+        dues.push(Due { instance, turn })?;
     }
     Ok(())
 }
@@ -100,11 +114,10 @@ fn add_under(
 /// The asks that are due, stream by stream.
 fn found(alloc: Global, queue: &Queue, task: &Task, facts: &Facts) -> Result<Vec<Due>, QueueFault>
     requires { IsFit task.now }
-    ensures ok { IfOk result (λ dues. dues.items
-        ≡ asks_of queue.now (found_from facts.now.known queue.now 0 task.now.streams)) }
+    ensures due { IfOk result (λ dues. AreAsksOf (IsDueBelow task.now.streams facts.now.known
+        queue.now (length task.now.streams)) queue.now dues.items) }
     ensures few { IfOk result (λ dues. length dues.items ≤ MOST) }
-    ensures err { IfErr result (Overflows
-        (length (found_from facts.now.known queue.now 0 task.now.streams))) }
+    ensures fault { IfErr result (ComesOf task.now facts.now.known queue.now) }
 {
     let mut dues = Vec::new(alloc);
     for (place, stream) in task.streams.as_slice().iter().enumerate() {
@@ -115,12 +128,7 @@ fn found(alloc: Global, queue: &Queue, task: &Task, facts: &Facts) -> Result<Vec
             stream,
             place: place as u32,
         };
-        add_under(
-            &search,
-            &Row::empty(alloc),
-            stream.inputs.as_slice(),
-            &mut dues,
-        )?;
+        add_asks(&search, &mut dues)?;
     }
     Ok(dues)
 }

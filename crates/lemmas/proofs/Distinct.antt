@@ -1,7 +1,58 @@
 -- Lists of distinct members.
-use Rattle.std.proofs.Common.{◌≡◌, suc, List, ◌∷◌, arith}
+use Rattle.std.proofs.Common.{◌≡◌, suc, List, ◌∷◌, arith, zero, [], ◌++◌, map, Contains, refl, sym, ap, subst, inl, inr}
 use Rattle.lemmas.specs.Lists.{AreDistinct}
+use Rattle.std.proofs.lemmas.List.Elements.{Contains-append_cases}
+use Rattle.lemmas.proofs.Ascending.{contains_none, contains_here, contains_later, contains_cases}
+use Rattle.lemmas.proofs.Members.{place_of, member_at, distinct_nil}
 
 pub distinct_tail : {A : Type 0} (x : A) (xs : List A) → AreDistinct (x ∷ xs) → AreDistinct xs
 distinct_tail x xs d i j y at_i at_j =
     let e : suc i ≡ suc j = d (suc i) (suc j) y at_i at_j in omega arith
+
+pub head_is_new : {A : Type 0} (x : A) (xs : List A) → AreDistinct (x ∷ xs) → Contains xs x → ⊥
+head_is_new x xs d m =
+    let p = place_of xs x m in let e : 0 ≡ suc p.0 = d 0 (suc p.0) x refl p.1 in absurd (omega arith)
+
+pub distinct_cons : {A : Type 0} (x : A) (xs : List A) → AreDistinct xs → ¬ (Contains xs x)
+    → AreDistinct (x ∷ xs)
+distinct_cons x xs d absent zero zero y at_i at_j = refl
+distinct_cons x xs d absent zero (suc j) y at_i at_j =
+    let e : x ≡ y = cc in absurd (absent (subst (Contains xs) (sym e) (member_at xs j y at_j)))
+distinct_cons x xs d absent (suc i) zero y at_i at_j =
+    let e : x ≡ y = cc in absurd (absent (subst (Contains xs) (sym e) (member_at xs i y at_i)))
+distinct_cons x xs d absent (suc i) (suc j) y at_i at_j = ap suc (d i j y at_i at_j)
+
+pub distinct_append : {A : Type 0} (xs ys : List A) → AreDistinct xs → AreDistinct ys
+    → ((z : A) → Contains xs z → Contains ys z → ⊥)
+    → AreDistinct (xs ++ ys)
+distinct_append [] ys d e apart = e
+distinct_append (x ∷ xs) ys d e apart =
+    distinct_cons x (xs ++ ys) (distinct_append xs ys (distinct_tail x xs d) e (λ z m n. apart z (contains_later x xs z m) n))
+    (λ m. elim (Contains-append_cases xs ys x m) [ inl h ↦ head_is_new x xs d h | inr t ↦ apart x (contains_here x xs) t ])
+
+pub from_mapped : {A B : Type 0} (f : A → B) (xs : List A) (y : B) → Contains (map f xs) y
+    → (x : A) × Contains xs x × (y ≡ f x)
+from_mapped f [] y m = absurd (contains_none y m)
+from_mapped f (x ∷ xs) y m =
+    elim (contains_cases (f x) (map f xs) y m) [
+      | inl e ↦ (x, contains_here x xs, sym e)
+      | inr n ↦ let r = from_mapped f xs y n in (r.0, contains_later x xs r.0 r.1, r.2)
+    ]
+
+pub in_mapped : {A B : Type 0} (f : A → B) (xs : List A) (x : A) → Contains xs x
+    → Contains (map f xs) (f x)
+in_mapped f [] x m = absurd (contains_none x m)
+in_mapped f (y ∷ ys) x m =
+    elim (contains_cases y ys x m) [
+      | inl e ↦ subst (λ z. Contains (map f (y ∷ ys)) (f z)) e (contains_here (f y) (map f ys))
+      | inr n ↦ contains_later (f y) (map f ys) (f x) (in_mapped f ys x n)
+    ]
+
+pub distinct_mapped : {A B : Type 0} (f : A → B) → ((x y : A) → f x ≡ f y → x ≡ y) → (xs : List A)
+    → AreDistinct xs
+    → AreDistinct (map f xs)
+distinct_mapped f one [] d = distinct_nil
+distinct_mapped f one (x ∷ xs) d =
+    distinct_cons (f x) (map f xs) (distinct_mapped f one xs (distinct_tail x xs d)) (λ m.
+    let r = from_mapped f xs (f x) m in
+    head_is_new x xs d (subst (Contains xs) (sym (one x r.0 r.2)) r.1))

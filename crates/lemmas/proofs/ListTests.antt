@@ -1,7 +1,7 @@
 -- Members of lists, and tests of all or some.
-use Rattle.std.proofs.Common.{◌≡◌, ℕ, zero, suc, ◌+◌, add-one, ◌<◌, Bool, true, false, ◌&&◌, ◌||◌, List, [], ◌∷◌, map, drop, ◌++◌, length, get_or, refl, sym, ap, ◌∙◌, subst, arith, Some, slice_get, All, inl, inr}
+use Rattle.std.proofs.Common.{◌≡◌, ℕ, zero, suc, ◌+◌, add-one, ◌<◌, Bool, true, false, ◌&&◌, ◌||◌, List, [], ◌∷◌, map, drop, ◌++◌, length, get_or, refl, sym, ap, ◌∙◌, subst, arith, Some, slice_get, All, inl, inr, cond, None}
 use Rattle.std.specs.Cmp.{first_so, second_so}
-use Rattle.std.specs.List.{list_any, list_all}
+use Rattle.std.specs.List.{list_any, list_all, find}
 use Rattle.std.proofs.lemmas.Bool.{or_left, or_right, or_cases, and_from}
 use Rattle.std.proofs.lemmas.Option.{same_Some, slice_get-get_or}
 use Rattle.std.proofs.lemmas.List.Sums.{AllPass-from_list_all}
@@ -113,3 +113,32 @@ pub all_at_or : {A : Type 0} (p : A → Bool) (xs : List A) (i : ℕ) (x : A) �
     → p x ≡ true
 all_at_or p xs i x all lt is =
     subst (λ y. p y ≡ true) (sym is) (AllPass-from_list_all p xs all i x lt)
+
+-- ---- members of which something holds, and the first that passes
+
+pub all_cons : {A : Type 0} (P : A → Type 0) (x : A) (xs : List A) → P x → All P xs
+    → All P (x ∷ xs)
+all_cons P x xs here later zero d lt = here
+all_cons P x xs here later (suc i) d lt = later i d (omega (arith, lt))
+
+pub find_passes : {A : Type 0} (p : A → Bool) (xs : List A) (x : A) → find p xs ≡ Some x
+    → p x ≡ true
+find_passes p [] x e = absurd (cc)
+find_passes p (y ∷ ys) x e =
+    elim (p y) as (λ b. p y ≡ b → cond b (Some y) (find p ys) ≡ Some x → p x ≡ true) [
+      | true ↦ λ t f. let same : y ≡ x = cc in subst (λ z. p z ≡ true) same t
+      | false ↦ λ t f. find_passes p ys x f
+    ] refl e
+
+pub find_none : {A : Type 0} (p : A → Bool) (xs : List A) → find p xs ≡ None → (k : ℕ) (x : A)
+    → slice_get xs k ≡ Some x → p x ≡ false
+find_none p [] none k x at = absurd (cc)
+find_none p (y ∷ ys) none k x at =
+    by (p y) refl none k at (λ h n is. find_none p ys h n x is)
+  where
+    by : (b : Bool) → p y ≡ b → cond b (Some y) (find p ys) ≡ None → (n : ℕ)
+        → slice_get (y ∷ ys) n ≡ Some x
+        → (find p ys ≡ None → (n : ℕ) → slice_get ys n ≡ Some x → p x ≡ false) → p x ≡ false
+    by true e h n is later = absurd (cc)
+    by false e h zero is later = let same : y ≡ x = cc in ap p (sym same) ∙ e
+    by false e h (suc n) is later = later h n is

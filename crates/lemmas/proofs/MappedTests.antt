@@ -9,7 +9,7 @@ pub any_mapped : {A B : Type 0} (f : A → B) (p : B → Bool) (xs : List A)
 any_mapped f p [] = refl
 any_mapped f p (x ∷ xs) = ap (λ b. p (f x) || b) (any_mapped f p xs)
 
-prefix_mapped : {A B : Type 0} (f : A → B) (p : B → Bool) (xs : List A)
+pub prefix_mapped : {A B : Type 0} (f : A → B) (p : B → Bool) (xs : List A)
     → position_or_len (λ x. p (f x)) xs ≡ position_or_len p (map f xs)
 prefix_mapped f p [] = refl
 prefix_mapped f p (x ∷ xs) = ap (λ n. cond (not (p (f x))) (1 + n) 0) (prefix_mapped f p xs)

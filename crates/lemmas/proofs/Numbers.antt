@@ -1,8 +1,9 @@
 -- Numbers, and numbers in a row.
-use Rattle.std.proofs.Common.{◌≡◌, ℕ, zero, suc, ◌+◌, ◌-◌, ◌*◌, ◌^◌, ◌<◌, ◌≤◌, ◌⊎◌, inl, inr, Bool, true, false, ◌||◌, ◌==◌, map, length, get_or, refl, ap, ◌∙◌, subst, arith, eqb-true}
+use Rattle.std.proofs.Common.{◌≡◌, ℕ, zero, suc, ◌+◌, ◌-◌, ◌*◌, ◌^◌, ◌<◌, ◌≤◌, ◌⊎◌, inl, inr, Bool, true, false, ◌||◌, ◌==◌, map, length, get_or, refl, ap, ◌∙◌, subst, arith, eqb-true, [], ◌∷◌, ◌++◌, nat_lt, nat_le}
 use Rattle.std.proofs.Math.Nat.{add_comm, suc-mul}
 use Rattle.std.proofs.lemmas.Bool.{eqb-false, and_from}
 use Rattle.std.specs.List.{list_any, list_all}
+use Rattle.std.proofs.lemmas.Bool.Decides.{nat_tests}
 use Rattle.lemmas.specs.Lists.{numbers_from}
 
 pub zero_suc : (n : ℕ) → 0 ≡ suc n → ⊥
@@ -63,3 +64,21 @@ below_in_numbers first (suc n) k e =
       | true ↦ λ same _. omega (arith, eqb-true first k same)
       | false ↦ λ _ rest. omega (arith, below_in_numbers (first + 1) n k rest)
     ] refl e
+
+pub numbers_suc : (first n : ℕ)
+    → numbers_from first (suc n) ≡ numbers_from first n ++ (first + n) ∷ []
+numbers_suc first zero = let same : first ≡ first + 0 = omega arith in ap (λ k. k ∷ []) same
+numbers_suc first (suc n) =
+    let same : first + 1 + n ≡ first + suc n = omega arith in
+    ap (λ ks. first ∷ ks) (numbers_suc (first + 1) n ∙ ap (λ k. numbers_from (first + 1) n ++ k ∷ []) same)
+
+pub numbers_more : (first n : ℕ)
+    → numbers_from first (n + 1) ≡ numbers_from first n ++ (first + n) ∷ []
+numbers_more first n =
+    let next : n + 1 ≡ suc n = omega arith in ap (numbers_from first) next ∙ numbers_suc first n
+
+pub le_test : (m n : ℕ) → m ≤ n → nat_le m n ≡ true
+le_test m n h = grind (arith, nat_tests, h)
+
+pub lt_told : (m n : ℕ) → nat_lt m n ≡ true → m < n
+lt_told m n e = grind (arith, nat_tests, e)

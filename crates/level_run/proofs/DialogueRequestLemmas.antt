@@ -10,13 +10,14 @@ use Rattle.task_model.specs.Fit.{IsFit}
 use Rattle.task_model.specs.declared.stream.Instance.{Instance}
 use Rattle.task_model.specs.declared.task.Task.{Task}
 use Rattle.transcript_model.proofs.CallNameLemmas.{call_names_instance}
-use Rattle.transcript_model.proofs.NamesLemmas.{and_then_some, map_some}
+use Rattle.transcript_model.proofs.NamesLemmas.{map_some}
 use Rattle.transcript_model.specs.Legal.{asks_of, is_ask, is_answer}
 use Rattle.transcript_model.specs.Names.{call_of_instance, places_of, stream_named}
 use Rattle.transcript_model.specs.declared.entry.Entry.{Entry}
 use Rattle.transcript_model.specs.declared.entry.Entry.TheVariants as entry
 use Rattle.level_run.specs.Dialogue.{IsOneOf, Request, last_round, replies_of, requests_after, stream_of}
 use Rattle.level_run.specs.Talking.{IsSlotOf}
+use Rattle.lemmas.proofs.Options.{and_then_some}
 
 -- ---- transcripts that go on
 

@@ -1,12 +1,11 @@
 -- Children that are started, one after another.
-use Rattle.std.proofs.Common.{◌≡◌, ℕ, zero, suc, ◌+◌, ◌<◌, ◌≤◌, arith, Bool, true, false, not, cond, ◌&&◌, nat_lt, List, [], ◌∷◌, ◌++◌, map, length, replicate, refl, sym, subst, ap, ◌∙◌, inl, inr, Option, Some, None, Result, Ok, Err, slice_get, option_map, get_or, unwrap_or}
+use Rattle.std.proofs.Common.{◌≡◌, ℕ, zero, suc, ◌+◌, ◌<◌, ◌≤◌, arith, Bool, true, false, not, ◌&&◌, nat_lt, List, [], ◌∷◌, ◌++◌, map, length, replicate, refl, sym, subst, ap, ◌∙◌, inl, inr, Option, Some, None, Result, Ok, Err, slice_get, option_map, get_or, unwrap_or}
 use Rattle.std.specs.List.{find, flat_map}
 use Rattle.std.proofs.lemmas.Bool.{cases_lt, ltb-true, ltb-false}
 use Rattle.std.proofs.lemmas.Grind.{flat_map-append}
 use Rattle.std.proofs.lemmas.List.{append-nil}
 use Rattle.std.proofs.lemmas.List.Folds.{find_at}
 use Rattle.std.specs.List.{position_or_len}
-use Rattle.fact_store.proofs.NamePlaceLemmas.{find_passes}
 use Rattle.io_world.specs.Talks.{Event}
 use Rattle.level_run.specs.Calls.{has_child, start_at, starts_of}
 use Rattle.lemmas.specs.Lists.{numbers_from}
@@ -23,6 +22,8 @@ use Rattle.transcript_model.specs.declared.entry.Entry.{Entry}
 use Rattle.level_run.specs.Turns.{AllRun, AreStarted, EndsBatch, IsRunnable}
 use Rattle.level_run.specs.declared.ending.Batch.{Batch}
 use Rattle.level_run.specs.declared.ending.Batch.TheVariants.{Done, CallsSpent}
+use Rattle.lemmas.proofs.Numbers.{numbers_more}
+use Rattle.lemmas.proofs.ListTests.{find_none, find_passes}
 
 pub none_started : (n child : ℕ) → unwrap_or (slice_get (replicate n false) child) false ≡ false
 none_started zero child = refl
@@ -35,18 +36,6 @@ not_started_past started child past =
     ap (λ o. unwrap_or o false) (slice_get_past started child past)
 
 -- ---- the pool that has a child
-
-find_none : {A : Type 0} (p : A → Bool) (xs : List A) → find p xs ≡ None → (k : ℕ) (x : A)
-    → slice_get xs k ≡ Some x → p x ≡ false
-find_none p [] none k x at = absurd (cc)
-find_none p (y ∷ ys) none k x at = by (p y) refl none k at (λ h n is. find_none p ys h n x is)
-  where
-    by : (b : Bool) → p y ≡ b → cond b (Some y) (find p ys) ≡ None → (n : ℕ)
-        → slice_get (y ∷ ys) n ≡ Some x
-        → (find p ys ≡ None → (n : ℕ) → slice_get ys n ≡ Some x → p x ≡ false) → p x ≡ false
-    by true e h n is later = absurd (cc)
-    by false e h zero is later = let same : y ≡ x = cc in ap p (sym same) ∙ e
-    by false e h (suc n) is later = later h n is
 
 has_worker : (pool : Pool) (child : ℕ) → has_child child pool ≡ true → IsWorker pool child
 has_worker pool child has = by (nat_lt child pool.first) (nat_lt child (pool.first + pool.workers)) refl refl has
@@ -143,16 +132,6 @@ module _ (pools : List Pool) (next : ℕ) (running : ℕ → Bool) (none : find 
 
 -- ---- the starts up to one child
 
-pub numbers_suc : (first n : ℕ)
-    → numbers_from first (n + 1) ≡ numbers_from first n ++ (first + n) ∷ []
-numbers_suc first zero = ap (λ k. k ∷ []) (omega arith)
-numbers_suc first (suc n) =
-    let next : suc n + 1 ≡ suc (n + 1) = omega arith in
-    let shift : first + 1 + n ≡ first + suc n = omega arith in
-    ap (numbers_from first) next
-    ∙ ap (λ ks. first ∷ ks) (numbers_suc (first + 1) n
-    ∙ ap (λ k. numbers_from (first + 1) n ++ k ∷ []) shift)
-
 numbers_split : (first k n : ℕ) → k < n
     → (rest : List ℕ) × (numbers_from first n ≡ numbers_from first k ++ (first + k) ∷ rest)
 numbers_split first k zero below = absurd (omega (arith, below))
@@ -170,7 +149,7 @@ pub starts_more : (pools : List Pool) (child : ℕ)
     → flat_map (start_at pools) (numbers_from 0 (child + 1))
     ≡ flat_map (start_at pools) (numbers_from 0 child) ++ start_at pools child
 starts_more pools child =
-    ap (flat_map (start_at pools)) (numbers_suc 0 child
+    ap (flat_map (start_at pools)) (numbers_more 0 child
     ∙ ap (λ k. numbers_from 0 child ++ k ∷ []) (let own : 0 + child ≡ child = omega arith in own))
     ∙ flat_map-append (start_at pools) (numbers_from 0 child) (child ∷ [])
     ∙ ap (λ es. flat_map (start_at pools) (numbers_from 0 child) ++ es) (append-nil (start_at pools child))

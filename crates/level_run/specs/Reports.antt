@@ -9,7 +9,6 @@ use Rattle.transcript_model.specs.Rounds.{limits_of}
 use Rattle.report_text.specs.Texts.{done_line, line_text, text_of_entry, text_of_head, text_of_outcome}
 use Rattle.transcript_model.specs.Turns.{AreTurnsOf, Stage}
 use Rattle.transcript_model.specs.declared.entry.Entry.{Entry}
-use Rattle.transcript_model.specs.declared.entry.Entry.TheVariants as entry
 use Rattle.transcript_model.specs.declared.head.Head.{Head}
 use Rattle.transcript_model.specs.declared.head.Mode.TheVariants.{Incremental}
 use Rattle.transcript_model.specs.declared.head.Pool.{Pool}

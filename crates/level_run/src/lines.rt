@@ -1,5 +1,5 @@
 //! What was read from children and not yet taken as lines, and which were started.
-ghost use Rattle.std.specs.Prelude.{◌≡◌, [], ◌<◌, ◌≤◌, ◌+◌, ℕ, true, false, length, map, string_bytes, option_copied, Ok, Err, IfErr, IfOk, OnOk};
+ghost use Rattle.std.specs.Prelude.{◌≡◌, [], ◌<◌, ◌≤◌, ℕ, true, false, length, map, string_bytes, option_copied, Ok, Err, IfErr, IfOk, OnOk};
 ghost use Rattle.std.specs.List.{find};
 ghost use Rattle.io_world.specs.Faults.{Extends, HasCause};
 ghost use Rattle.io_world.specs.Talks.{Becomes, Logs, Same, started};

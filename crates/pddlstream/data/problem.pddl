@@ -1,2 +1,2 @@
-(define (problem two) (:domain fetch) (:objects cup pan)
-  (:init (item cup) (item pan) (first cup) (second pan) (free)) (:goal (held)))
+(define (problem one) (:domain fetch) (:objects cup)
+  (:init (item cup) (free)) (:goal (done cup)))

@@ -1,210 +1,167 @@
 -- Which files were asked for.
-use Rattle.std.proofs.Common.{◌≡◌, ℕ, List, [], ◌∷◌, Option, Some, refl, sym, subst, ◌⊎◌, inl, inr, Result, Ok}
+use Rattle.std.proofs.Common.{◌≡◌, ℕ, List, [], ◌∷◌, refl, sym, subst, ◌⊎◌, inl, inr, false, Option, Result, Ok, Err, IfOk, IfErr}
 use Rattle.std.specs.Io.KnownBytes.{Appends}
-use Rattle.io_world.proofs.TalksLemmas.{extends_more}
-use Rattle.io_world.specs.FileMap.{Asked, FileMap}
-use Rattle.io_world.specs.Faults.{Extends}
-use Rattle.io_world.specs.declared.files.FileFault.{FileFault}
-use Rattle.io_world.specs.Talks.{Event, Talk}
 use Rattle.level_run.proofs.StoppedLemmas.{appends_then}
 use Rattle.level_run.specs.declared.fault.RunFault.{RunFault}
 use Rattle.level_run.specs.declared.fault.RunFault.TheVariants as fault
 use Rattle.transcript_model.specs.declared.outcome.Outcome.{Outcome}
 use Rattle.transcript_model.specs.declared.outcome.Outcome.TheVariants as outcome
-use Rattle.pddlstream_app.specs.Asked.{AsksAll, AsksBefore, AsksFiles, AsksFront, AsksOne, AsksSome, AsksToNamed, AsksUpTo, AsksWhileReading, ask, asks_all, asks_to, asks_to_report, IsAnswerFor}
+use Rattle.pddlstream_app.proofs.RunsLemmas.{before_last}
+use Rattle.pddlstream_app.specs.Asked.{AsksAll, AsksBefore, AsksFiles, AsksSome, AsksToNamed, AsksUpTo}
+use Rattle.command_line.specs.Words.{solve}
+use Rattle.pddlstream_app.proofs.InputsLemmas.{is_of_input}
+use Rattle.pddlstream_app.specs.Files.{file_of}
+use Rattle.pddlstream_app.specs.Inputs.{HasNoInput, file_at, files_named}
+use Rattle.pddlstream_app.specs.declared.stop.FileRole.TheVariants as role
+use Rattle.pddlstream_app.specs.declared.stop.Text.TheVariants.{Domain, Problem, Streams}
+use Rattle.pddlstream_app.specs.Outside.{FilesSeen, Outside, Written}
 use Rattle.pddlstream_app.specs.Replays.{kind_of_verdict}
-use Rattle.pddlstream_app.specs.Runs.{HasNoInput, HasOutcome, HasVerdict, ClosesRun, IsCompleted, IsStopped, kind_of}
+use Rattle.pddlstream_app.specs.Runs.{ClosesRun, HasOutcome, HasVerdict, IsBeforeLast, IsCompleted, IsSaid, IsStopped, kind_of}
 use Rattle.replay_check.specs.declared.verdict.Verdict.{Verdict}
 use Rattle.replay_check.specs.declared.verdict.Verdict.TheVariants as verdict
-use Rattle.pddlstream_app.specs.Stop.{status_at, last_text}
-use Rattle.pddlstream_app.specs.Words.{Command, ReplayWords, TaskFiles, command_of, files_of, replay, solve}
+use Rattle.pddlstream_app.specs.Stop.{is_write, status_at, last_text}
 use Rattle.pddlstream_app.specs.declared.status.Status.{Status}
-use Rattle.pddlstream_app.specs.declared.status.Status.TheVariants.{WriteFault}
-use Rattle.pddlstream_app.specs.declared.stop.FileRole.TheVariants as role
 use Rattle.pddlstream_app.specs.declared.stop.Stop.{Stop}
 use Rattle.pddlstream_app.specs.declared.stop.Stop.TheVariants as stop
-use Rattle.pddlstream_app.specs.declared.stop.Text.TheVariants.{Domain, Problem, Streams}
 
--- ---- the three files
-
-module _ (paths : TaskFiles) (old first second : Option (List Asked)) where
-  pub stopped_at_domain : (why : Stop) → AsksOne paths.domain (role.Text Domain) old first why
-      → AsksUpTo paths old first why
-  stopped_at_domain why one =
-      record { text = Domain; answer = one.answer; fits = one.fits; asked = one.asked }
-
-  module _ (domain : Extends old first (ask paths.domain (Ok tt) ∷ [])) where
-    pub stopped_at_problem : (why : Stop)
-        → AsksOne paths.problem (role.Text Problem) first second why → AsksUpTo paths old second why
-    stopped_at_problem why one = record {
-      text = Problem;
-      answer = one.answer;
-      fits = one.fits;
-      asked = extends_more old first second (ask paths.domain (Ok tt) ∷ []) (ask paths.problem one.answer ∷ []) domain one.asked;
-    }
-
-    module _ (problem : Extends first second (ask paths.problem (Ok tt) ∷ [])) where
-      both : Extends old second (ask paths.domain (Ok tt) ∷ ask paths.problem (Ok tt) ∷ [])
-      both = extends_more old first second (ask paths.domain (Ok tt) ∷ []) (ask paths.problem (Ok tt) ∷ []) domain problem
-
-      pub stopped_at_streams : (third : Option (List Asked)) (why : Stop)
-          → AsksOne paths.streams (role.Text Streams) second third why
-          → AsksUpTo paths old third why
-      stopped_at_streams third why one = record {
-        text = Streams;
-        answer = one.answer;
-        fits = one.fits;
-        asked = extends_more old second third (ask paths.domain (Ok tt) ∷ ask paths.problem (Ok tt) ∷ []) (ask paths.streams one.answer ∷ []) both one.asked;
+module _ (words : List (List ℕ)) (files : FilesSeen) where
+  -- the files up to that at which a run ends
+  up_to : (why : Stop) → HasNoInput words files why → AsksUpTo words files
+  up_to why (inl n) = let s = n.stopped in
+      record { command = n.command; meant = n.meant; all = n.all; are = n.are; before = s.before; wanted = s.wanted; later = s.later; order = s.order; answer = s.answer; asked = s.asked }
+  up_to why (inr n) =
+      let paths = n.asked.files in
+      record {
+        command = solve n.asked;
+        meant = n.meant;
+        all = files_named (solve n.asked);
+        are = inl refl;
+        before = file_of (role.Text Domain) paths.domain ∷ file_of (role.Text Problem) paths.problem ∷ [];
+        wanted = file_of (role.Text Streams) paths.streams;
+        later = file_at role.Map n.asked.path;
+        order = refl;
+        answer = Ok tt;
+        asked = n.asked_for;
       }
 
-      pub all_read : (third : Option (List Asked))
-          → Extends second third (ask paths.streams (Ok tt) ∷ [])
-          → Extends old third (asks_to paths Streams (Ok tt))
-      all_read third streams = extends_more old second third (ask paths.domain (Ok tt) ∷ ask paths.problem (Ok tt) ∷ []) (ask paths.streams (Ok tt) ∷ []) both streams
-
--- ---- the files of a replay
-
-module _ (words : ReplayWords) (old first second : Option (List Asked)) (task : Extends old first (asks_to words.files Streams (Ok tt))) where
-  -- the report was asked for
-  pub report_asked : (answer : Result (Unit {0}) FileFault)
-      → Extends first second (ask words.report answer ∷ [])
-      → Extends old second (asks_to_report words answer)
-  report_asked answer asked = extends_more old first second (asks_to words.files Streams (Ok tt)) (ask words.report answer ∷ []) task asked
-
--- ---- a run
-
-module _ (words : List (List ℕ)) (old new : Option (List Asked)) where
-  front_of_all : AsksAll words old new → AsksFront words old new
-  front_of_all all = of all.command all.meant all.asked
-    where
-      of : (c : Command) → command_of words ≡ Some c → Extends old new (asks_all c)
-          → AsksFront words old new
-      of (solve w) meant asked = inl (record { command = solve w; meant = meant; text = Streams; answer = Ok tt; asked = asked })
-      of (replay w) meant asked =
-          inr (record { command = w; meant = meant; answer = Ok tt; asked = asked })
-
-  front_of_part : (why : Stop) → AsksWhileReading words old new why → AsksFront words old new
-  front_of_part why (inl part) = inl (record { command = part.command; meant = part.meant; text = part.files.text; answer = part.files.answer; asked = part.files.asked })
-  front_of_part why (inr part) = inr (record { command = part.command; meant = part.meant; answer = part.answer; asked = part.asked })
-
   -- the run over the task stopped
-  pub asked_running : (f : RunFault) → AsksAll words old new → AsksBefore words old new (stop.Run f)
+  pub asked_running : (f : RunFault) → AsksAll words files → AsksBefore words files (stop.Run f)
   asked_running (fault.Answer number why) all = all
   asked_running fault.Generator all = all
   asked_running fault.Write all = all
-  asked_running fault.Memory all = front_of_all all
+  asked_running fault.Memory all = inr (inl all)
 
-  -- no task was read
-  pub asked_reading : (command : Command) → command_of words ≡ Some command → (why : Stop)
-      → AsksUpTo (files_of command) old new why
-      → AsksBefore words old new why
-  asked_reading command meant stop.Usage a = absurd a.fits
-  asked_reading command meant (stop.Input which kind place) a =
-      inl (record { command = command; meant = meant; files = a })
-  asked_reading command meant (stop.Failed which) a =
-      inl (record { command = command; meant = meant; files = a })
-  asked_reading command meant (stop.TooLong which) a =
-      inl (record { command = command; meant = meant; files = a })
-  asked_reading command meant (stop.Run (fault.Answer number why)) a = absurd a.fits
-  asked_reading command meant (stop.Run fault.Generator) a = absurd a.fits
-  asked_reading command meant (stop.Run fault.Write) a = absurd a.fits
-  asked_reading command meant (stop.Run fault.Memory) a =
-      inl (record { command = command; meant = meant; text = a.text; answer = a.answer; asked = a.asked })
+  -- a file was not read, or its bytes were refused
+  pub asked_reading : (why : Stop) → HasNoInput words files why → AsksBefore words files why
+  asked_reading stop.Usage n = absurd (is_of_input words files stop.Usage n)
+  asked_reading (stop.Input which kind place) n = n
+  asked_reading (stop.Map why) n = n
+  asked_reading (stop.Grid kind line) n = n
+  asked_reading (stop.Failed which) n = n
+  asked_reading (stop.TooLong which) n = n
+  asked_reading (stop.Run (fault.Answer number why)) n =
+      absurd (is_of_input words files (stop.Run (fault.Answer number why)) n)
+  asked_reading (stop.Run fault.Generator) n =
+      absurd (is_of_input words files (stop.Run fault.Generator) n)
+  asked_reading (stop.Run fault.Write) n =
+      absurd (is_of_input words files (stop.Run fault.Write) n)
+  asked_reading (stop.Run fault.Memory) n = inr (inr (up_to (stop.Run fault.Memory) n))
 
-  -- no report was read
-  pub asked_report : (command : ReplayWords) → command_of words ≡ Some (replay command)
-      → (why : Stop) (answer : Result (Unit {0}) FileFault) → IsAnswerFor role.Report answer why
-      → Extends old new (asks_to_report command answer) → AsksBefore words old new why
-  asked_report command meant stop.Usage answer fits a = absurd fits
-  asked_report command meant (stop.Input which kind place) answer fits a =
-      inr (record { command = command; meant = meant; answer = answer; fits = fits; asked = a })
-  asked_report command meant (stop.Failed which) answer fits a =
-      inr (record { command = command; meant = meant; answer = answer; fits = fits; asked = a })
-  asked_report command meant (stop.TooLong which) answer fits a =
-      inr (record { command = command; meant = meant; answer = answer; fits = fits; asked = a })
-  asked_report command meant (stop.Run (fault.Answer number why)) answer fits a = absurd fits
-  asked_report command meant (stop.Run fault.Generator) answer fits a = absurd fits
-  asked_report command meant (stop.Run fault.Write) answer fits a = absurd fits
-  asked_report command meant (stop.Run fault.Memory) answer fits a =
-      inr (record { command = command; meant = meant; answer = answer; asked = a })
+  -- the verdict was written, or not
+  pub asked_said : (IsSo : Verdict → Type 0) (written : Written) (r : Result Status Stop)
+      → IsSaid IsSo written r → AsksAll words files → IfErr r (AsksBefore words files)
+  asked_said IsSo written (Ok status) said all = tt
+  asked_said IsSo written (Err why) (inl x) all = subst (AsksBefore words files) (sym x.0) (inr (inl all))
+  asked_said IsSo written (Err why) (inr (v, is, inl x)) all =
+      subst (AsksBefore words files) (sym x.0) (inr (inl all))
+  asked_said IsSo written (Err why) (inr (v, is, inr x)) all = subst (AsksBefore words files) (sym x.0) all
 
-  some_before : (why : Stop) → AsksBefore words old new why → AsksSome words old new
-  some_before stop.Usage a = inl a
-  some_before (stop.Input which kind place) a = inr (front_of_part (stop.Input which kind place) a)
-  some_before (stop.Failed which) a = inr (front_of_part (stop.Failed which) a)
-  some_before (stop.TooLong which) a = inr (front_of_part (stop.TooLong which) a)
-  some_before (stop.Run (fault.Answer number why)) a = inr (front_of_all a)
-  some_before (stop.Run fault.Generator) a = inr (front_of_all a)
-  some_before (stop.Run fault.Write) a = inr (front_of_all a)
-  some_before (stop.Run fault.Memory) a = inr a
+  pub asked_if_ok : (r : Result Status Stop) → AsksAll words files
+      → IfOk r (λ status. AsksAll words files)
+  asked_if_ok (Ok status) all = all
+  asked_if_ok (Err why) all = tt
 
-  module _ (told : Option FileMap) (rose : Type 0) (before now : Option (List ℕ)) where
-    -- the sink took no more
-    pub asked_written : (why : Stop) → AsksBefore words old new why
-        → AsksFiles words told rose old new before now WriteFault
-    asked_written why a = some_before why a
+  pub some_before : (why : Stop) → AsksBefore words files why → AsksSome words files
+  some_before stop.Usage a = inl a.1
+  some_before (stop.Input which kind place) a = inr (inr (up_to (stop.Input which kind place) a))
+  some_before (stop.Map why) a = inr (inr (up_to (stop.Map why) a))
+  some_before (stop.Grid kind line) a = inr (inr (up_to (stop.Grid kind line) a))
+  some_before (stop.Failed which) a = inr (inr (up_to (stop.Failed which) a))
+  some_before (stop.TooLong which) a = inr (inr (up_to (stop.TooLong which) a))
+  some_before (stop.Run (fault.Answer number why)) a = inr (inl a)
+  some_before (stop.Run fault.Generator) a = inr (inl a)
+  some_before (stop.Run fault.Write) a = inr (inl a)
+  some_before (stop.Run fault.Memory) a = a
 
-    -- the run has an outcome
-    pub asked_completed : {unused : Type 0} {spoken : ℕ → Option Talk} {was log : Option (List Event)} {from to : Option (List ℕ)} (status : Status)
-        → IsCompleted words told unused spoken was log from to status → AsksAll words old new
-        → AsksFiles words told rose old new before now status
-    asked_completed status c all = of c.has
-      where
-        solved : (o : Outcome) → AsksFiles words told rose old new before now (kind_of o)
-        solved (outcome.Plan steps cost from) = all
-        solved outcome.NoPlan = all
-        solved (outcome.Limit kind) = all
+-- the run has an outcome, or a verdict
+pub asked_completed : (words : List (List ℕ)) (outside : Outside) (some written : Written) (status : Status)
+    → IsCompleted words outside some status → AsksAll words outside.files
+    → AsksFiles words outside.files written status
+asked_completed words outside some written status c all = of c.has
+  where
+    solved : (o : Outcome) → AsksFiles words outside.files written (kind_of o)
+    solved (outcome.Plan steps cost from) = all
+    solved outcome.NoPlan = all
+    solved (outcome.Limit kind) = all
 
-        judged : (v : Verdict) → AsksFiles words told rose old new before now (kind_of_verdict v)
-        judged verdict.Valid = all
-        judged (verdict.Invalid line kind) = all
-        judged verdict.Limit = all
+    judged : (v : Verdict) → AsksFiles words outside.files written (kind_of_verdict v)
+    judged verdict.Valid = all
+    judged (verdict.Invalid line kind) = all
+    judged verdict.Limit = all
 
-        of : {unused : Type 0} {spoken : ℕ → Option Talk} {was log : Option (List Event)} {text : List ℕ}
-            → HasOutcome words told unused spoken was log status text ⊎ HasVerdict words told unused status text
-            → AsksFiles words told rose old new before now status
-        of (inl h) = subst (AsksFiles words told rose old new before now) h.kind (solved h.outcome)
-        of (inr h) = subst (AsksFiles words told rose old new before now) h.kind (judged h.verdict)
+    of : HasOutcome words outside status c.text ⊎ HasVerdict words outside status c.text
+        → AsksFiles words outside.files written status
+    of (inl h) = subst (AsksFiles words outside.files written) h.kind (solved h.outcome)
+    of (inr h) = subst (AsksFiles words outside.files written) h.kind (judged h.verdict)
 
-    module _ (spoken : ℕ → Option Talk) (was log : Option (List Event)) (mid : Option (List ℕ)) where
-      -- nothing was written before the last line of a run that reads no task
-      named : (why : Stop)
-          → HasNoInput words told rose why × (text : List ℕ) × (text ≡ []) × Appends before mid text
-          → Appends mid now (last_text why) → AsksWhileReading words old new why
-          → AsksToNamed words told rose old new before now (status_at why)
-      named why (cause, text, none, took) app a = record {
-        why = why;
-        kind = refl;
-        cause = cause;
-        took = appends_then before mid now [] (last_text why) (subst (Appends before mid) none took) app;
-        asked = a;
-      }
+module _ (words : List (List ℕ)) (outside : Outside) (before mid now : Option (List ℕ)) where
+  -- nothing was written before the last line of a run that ends at a file
+  named : (why : Stop) → HasNoInput words outside.files why → (text : List ℕ) → text ≡ []
+      → Appends before mid text → Appends mid now (last_text why)
+      → AsksToNamed words outside.files (record { before = before; after = now }) (status_at why)
+  named why cause text none took app = record {
+    why = why;
+    kind = refl;
+    cause = cause;
+    took = appends_then before mid now [] (last_text why) (subst (Appends before mid) none took) app;
+  }
 
-      asked_whole : (why : Stop) → IsStopped words told rose spoken was log before mid why
-          → (why ≡ stop.Run fault.Write → ⊥)
-          → Appends mid now (last_text why) → AsksBefore words old new why → AsksFiles words told rose old new before now (status_at why)
-      asked_whole stop.Usage s other app a = a
-      asked_whole (stop.Input which kind place) s other app a =
-          named (stop.Input which kind place) (s.cause.0, s.text, s.cause.1, s.took) app a
-      asked_whole (stop.Failed which) s other app a =
-          named (stop.Failed which) (s.cause.0, s.text, s.cause.1, s.took) app a
-      asked_whole (stop.TooLong which) s other app a =
-          named (stop.TooLong which) (s.cause.0, s.text, s.cause.1, s.took) app a
-      asked_whole (stop.Run (fault.Answer number why)) s other app a = a
-      asked_whole (stop.Run fault.Generator) s other app a = a
-      asked_whole (stop.Run fault.Write) s other app a = absurd (other refl)
-      asked_whole (stop.Run fault.Memory) s other app a = inr a
+  asked_whole : (why : Stop)
+      → IsBeforeLast words outside (record { before = before; after = mid }) why
+      → Appends mid now (last_text why) → AsksBefore words outside.files why
+      → AsksFiles words outside.files (record { before = before; after = now }) (status_at why)
+  asked_whole stop.Usage s app a = a
+  asked_whole (stop.Input which kind place) s app a =
+      named (stop.Input which kind place) a s.text s.cause.1.0 s.took app
+  asked_whole (stop.Map why) s app a = named (stop.Map why) a s.text s.cause.1.0 s.took app
+  asked_whole (stop.Grid kind line) s app a =
+      named (stop.Grid kind line) a s.text s.cause.1.0 s.took app
+  asked_whole (stop.Failed which) s app a =
+      named (stop.Failed which) a s.text s.cause.1.0 s.took app
+  asked_whole (stop.TooLong which) s app a =
+      named (stop.TooLong which) a s.text s.cause.1.0 s.took app
+  asked_whole (stop.Run (fault.Answer number why)) s app a = a
+  asked_whole (stop.Run fault.Generator) s app a = a
+  asked_whole (stop.Run fault.Write) s app a = absurd s.cause
+  asked_whole (stop.Run fault.Memory) s app a = a
 
-      -- the last line was written, or a part of it, or that memory is wanting
-      pub asked_closed : (why : Stop) (status : Status)
-          → IsStopped words told rose spoken was log before mid why
-          → (why ≡ stop.Run fault.Write → ⊥) → ClosesRun why mid now status → AsksBefore words old new why
-          → AsksFiles words told rose old new before now status
-      asked_closed why status s other (inl (inl x)) a =
-          subst (AsksFiles words told rose old new before now) (sym x.0) (asked_whole why s other x.1 a)
-      asked_closed why status s other (inl (inr x)) a =
-          subst (AsksFiles words told rose old new before now) (sym x.0) (some_before why a)
-      asked_closed why status s other (inr (inl x)) a =
-          subst (AsksFiles words told rose old new before now) (sym x.0) (some_before why a)
-      asked_closed why status s other (inr (inr x)) a =
-          subst (AsksFiles words told rose old new before now) (sym x.0) (some_before why a)
+  -- the last line was written, or a part of it, or that memory is wanting
+  pub asked_closed : (why : Stop) (status : Status)
+      → IsStopped words outside (record { before = before; after = mid }) why → is_write why ≡ false
+      → ClosesRun why (record { before = mid; after = now }) status
+      → AsksBefore words outside.files why
+      → AsksFiles words outside.files (record { before = before; after = now }) status
+  asked_closed why status s other closed a = of closed
+    where
+      to : {ended : Status} → status ≡ ended
+          → AsksFiles words outside.files (record { before = before; after = now }) ended
+          → AsksFiles words outside.files (record { before = before; after = now }) status
+      to is = subst (AsksFiles words outside.files (record { before = before; after = now })) (sym is)
+
+      of : ClosesRun why (record { before = mid; after = now }) status
+          → AsksFiles words outside.files (record { before = before; after = now }) status
+      of (inl (inl x)) =
+          to x.0 (asked_whole why (before_last words outside (record { before = before; after = mid }) why s other) x.1 a)
+      of (inl (inr x)) = to x.0 (some_before words outside.files why a)
+      of (inr (inl x)) = to x.0 (some_before words outside.files why a)
+      of (inr (inr x)) = to x.0 (some_before words outside.files why a)

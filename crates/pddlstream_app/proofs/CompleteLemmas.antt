@@ -1,70 +1,101 @@
 -- Where all goes well, a run has an outcome or lacks memory.
-use Rattle.std.proofs.Common.{◌≡◌, ℕ, ◌<◌, ◌≤◌, ◌⊎◌, arith, List, length, Option, Some, None, refl, sym, subst, ap, ◌∙◌, inl, inr}
-use Rattle.io_world.specs.FileMap.{FileMap, HasMore}
+use Rattle.std.proofs.Common.{◌≡◌, ℕ, ◌≤◌, ◌⊎◌, arith, List, [], ◌∷◌, ◌++◌, map, append_assoc, Option, None, Some, refl, sym, subst, ap, ◌∙◌, inl, inr}
+use Rattle.std.specs.Prelude.{⊤}
+use Rattle.std.proofs.lemmas.List.{append-nil}
+use Rattle.io_world.specs.FileMap.{FileMap}
 use Rattle.io_world.specs.Faults.{Rose}
-use Rattle.io_world.specs.Talks.{Event, Talk}
-use Rattle.task_reader.proofs.SpelledLemmas.{task_not_refused}
 use Rattle.task_model.specs.declared.task.Task.{Task}
-use Rattle.task_reader.specs.Fitness.{IsShort}
-use Rattle.task_reader.specs.Tasks.{RefusesSecond, RefusesThird}
-use Rattle.task_reader.specs.Texts.{RefusesDomain}
-use Rattle.task_reader.specs.declared.refusal.FaultKind.{FaultKind}
 use Rattle.transcript_model.specs.declared.outcome.Outcome.{Outcome}
 use Rattle.transcript_model.specs.declared.outcome.Outcome.TheVariants as outcome
 use Rattle.level_run.specs.declared.fault.RunFault.TheVariants as fault
 use Rattle.pddlstream_app.specs.Complete.{GoesWell, EndsWell}
-use Rattle.pddlstream_app.specs.Inputs.{Holds, IsRefused, IsTaskOf, IsTooLong, path_of, text_bytes}
-use Rattle.pddlstream_app.specs.Runs.{HasNoInput, HasOutcome, HasVerdict, ClosesRun, IsCompleted, IsStopped, kind_of}
+use Rattle.pddlstream_app.specs.Files.{AreBytes, FileWanted, HasBytes}
+use Rattle.pddlstream_app.specs.Heads.{AreServed, HaveText, MeansBy, MeansPools}
+use Rattle.pddlstream_app.specs.Inputs.{EndsReading, HasNoInput, HasNoPool, IsNoCommand, IsRefused, IsRefusedMap, IsTaskOf, IsTooLong, MayBeFilesOf, file_at, files_named}
+use Rattle.pddlstream_app.specs.Outside.{Outside, Written}
+use Rattle.pddlstream_app.specs.Runs.{ClosesRun, HasOutcome, HasVerdict, IsBeforeLast, IsCompleted, kind_of}
 use Rattle.pddlstream_app.specs.Stop.{status_at}
-use Rattle.pddlstream_app.specs.Words.{Command, ReplayWords, SolveWords, TaskFiles, command_of, files_of, replay, solve}
-use Rattle.pddlstream_app.specs.declared.status.Status.{Status}
-use Rattle.pddlstream_app.specs.declared.status.Status.TheVariants.{WriteFault}
+use Rattle.command_line.specs.Words.{Command, ReplayWords, SolveWords, command_of, replay, solve}
+use Rattle.grid_text.specs.Files.{Blames, IsGridOf}
+use Rattle.grid_text.specs.Grids.{GridFile}
+use Rattle.grid_text.specs.declared.fault.GridFault.TheVariants as grid
+use Rattle.stream_map.specs.Accepted.{Accepted, AcceptedMap}
+use Rattle.stream_map.specs.Children.{grid_file, plain}
+use Rattle.stream_map.specs.Faults.{Refused}
+use Rattle.stream_map.specs.Form.{stream_names, words_form}
+use Rattle.transcript_model.specs.declared.head.Pool.{Pool}
 use Rattle.pddlstream_app.specs.declared.stop.FileRole.{FileRole}
 use Rattle.pddlstream_app.specs.declared.stop.FileRole.TheVariants as role
+use Rattle.pddlstream_app.specs.declared.status.Status.{Status}
+use Rattle.pddlstream_app.specs.declared.status.Status.TheVariants.{WriteFault}
 use Rattle.pddlstream_app.specs.declared.stop.Stop.{Stop}
 use Rattle.pddlstream_app.specs.declared.stop.Stop.TheVariants as stop
-use Rattle.pddlstream_app.specs.declared.stop.Text.{Text}
-use Rattle.pddlstream_app.specs.declared.stop.Text.TheVariants.{Domain, Problem, Streams}
+use Rattle.pddlstream_app.proofs.RefusalsLemmas.{before_map, form_not_refused, grid_not_blamed, map_not_refused, none_refused, not_long, one_meaning, one_spelled, one_text}
 
--- ---- texts
+-- ---- all files of a run
 
--- a file that is told has one text
-same_bytes : (told : Option FileMap) (files : FileMap) → told ≡ Some files → (path a b : List ℕ)
-    → Holds told path a → Holds told path b
-    → a ≡ b
-same_bytes None files e path a b x y = absurd (cc)
-same_bytes (Some all) files e path a b x y = let both = sym x ∙ y in cc
+module _ (files : FileMap) (task : Task) where
+  -- what is known of the text of a file that is read for this
+  abbrev IsGood : FileRole → List ℕ → Type 0
+  IsGood role.Map text = (pools : List Pool) × AcceptedMap task text pools
+  IsGood role.Grid text = (g : GridFile) × IsGridOf text g
+  IsGood which text = ⊤
 
--- and it isn't too long where it is short
-not_long : (told : Option FileMap) (files : FileMap) → told ≡ Some files → (path bytes : List ℕ)
-    → Holds told path bytes → IsShort bytes
-    → IsTooLong told text_bytes path → ⊥
-not_long None files e path bytes held short long = absurd (cc)
-not_long (Some all) files e path bytes held short long =
-    absurd (let more : 4194304 < length bytes = subst (λ o. HasMore o 4194304) held long in omega (arith, more, short))
+  -- the files have these texts, and those are good
+  abbrev AreGood : List FileWanted → List (List ℕ) → Type 0
+  AreGood [] [] = ⊤
+  AreGood (wanted ∷ more) (text ∷ texts) =
+      HasBytes (Some files) wanted text × IsGood wanted.role text × AreGood more texts
+  AreGood wanted texts = ⊥
 
-module _ (told : Option FileMap) (files : FileMap) (are : told ≡ Some files) (paths : TaskFiles) (task : Task) (t : IsTaskOf told paths task) where
-  none_refused : (which : Text) (kind : FaultKind) (place : ℕ)
-      → IsRefused told paths which kind place → ⊥
-  none_refused Domain kind place r =
-      (task_not_refused t.bytes t.so.bytes t.so.so.bytes task t.so.so.so).first kind place
-      (subst (λ b. RefusesDomain b kind place) (same_bytes told files are paths.domain r.bytes t.bytes r.held t.held) r.so)
-  none_refused Problem kind place r =
-      (task_not_refused t.bytes t.so.bytes t.so.so.bytes task t.so.so.so).second kind place
-      (subst (λ b. RefusesSecond t.bytes b kind place) (same_bytes told files are paths.problem r.so.bytes t.so.bytes r.so.held t.so.held)
-      (subst (λ b. RefusesSecond b r.so.bytes kind place) (same_bytes told files are paths.domain r.bytes t.bytes r.held t.held) r.so.so))
-  none_refused Streams kind place r =
-      (task_not_refused t.bytes t.so.bytes t.so.so.bytes task t.so.so.so).third kind place
-      (subst (λ b. RefusesThird t.bytes t.so.bytes b kind place) (same_bytes told files are paths.streams r.so.so.bytes t.so.so.bytes r.so.so.held t.so.so.held)
-      (subst (λ b. RefusesThird t.bytes b r.so.so.bytes kind place) (same_bytes told files are paths.problem r.so.bytes t.so.bytes r.so.held t.so.held)
-      (subst (λ b. RefusesThird b r.so.bytes r.so.so.bytes kind place) (same_bytes told files are paths.domain r.bytes t.bytes r.held t.held) r.so.so.so)))
+  good_both : (xs ys : List FileWanted) (ts us : List (List ℕ)) → AreGood xs ts → AreGood ys us
+      → AreGood (xs ++ ys) (ts ++ us)
+  good_both [] ys [] us a b = b
+  good_both [] ys (t ∷ ts) us a b = absurd a
+  good_both (x ∷ xs) ys [] us a b = absurd a
+  good_both (x ∷ xs) ys (t ∷ ts) us a b = (a.0, a.1, good_both xs ys ts us a.2 b)
 
-  none_long : (which : Text) → IsTooLong told text_bytes (path_of paths which) → ⊥
-  none_long Domain long = not_long told files are paths.domain t.bytes t.held t.short long
-  none_long Problem long =
-      not_long told files are paths.problem t.so.bytes t.so.held t.so.short long
-  none_long Streams long =
-      not_long told files are paths.streams t.so.so.bytes t.so.so.held t.so.so.short long
+  -- The text of a file that stands behind these among all.
+  record TextAt (all texts : List (List ℕ)) (wanted : FileWanted) : Type 0 where
+    text : List ℕ
+    rest : List (List ℕ)
+    split : all ≡ texts ++ text ∷ rest
+    has : HasBytes (Some files) wanted text
+    good : IsGood wanted.role text
+
+  text_at : (before : List FileWanted) (wanted : FileWanted) (later : List FileWanted) (texts all : List (List ℕ))
+      → AreBytes (Some files) before texts → AreGood (before ++ wanted ∷ later) all
+      → TextAt all texts wanted
+  text_at [] wanted later [] [] x y = absurd y
+  text_at [] wanted later [] (t ∷ all) x y =
+      record { text = t; rest = all; split = refl; has = y.0; good = y.1 }
+  text_at [] wanted later (t ∷ texts) all x y = absurd x
+  text_at (w ∷ before) wanted later [] all x y = absurd x
+  text_at (w ∷ before) wanted later (t ∷ texts) [] x y = absurd y
+  text_at (w ∷ before) wanted later (t ∷ texts) (u ∷ all) x y =
+      let there = text_at before wanted later texts all x.1 y.2 in
+      let same = one_text files w t u x.0 y.0 in
+      record { text = there.text; rest = there.rest; split = λ i. same i ∷ there.split i; has = there.has; good = there.good }
+
+  abbrev Texts : List FileWanted → Type 0
+  Texts wanted = (texts : List (List ℕ)) × AreGood wanted texts
+
+  map_text : (w : SolveWords) (path : Option (List ℕ)) (pools : List Pool) → MeansBy path (Some files) w task pools
+      → Texts (file_at role.Map path)
+  map_text w None pools means = ([], tt)
+  map_text w (Some path) pools means =
+      (means.bytes ∷ [], (means.has, (pools, means.so), tt))
+
+  grid_text : (path : Option (List ℕ)) (meant pools : List Pool) → HaveText path (Some files) meant pools
+      → Texts (file_at role.Grid path)
+  grid_text None meant pools has = ([], tt)
+  grid_text (Some path) meant pools has = (has.bytes ∷ [], (has.has, (has.so.grid, has.so.is), tt))
+
+-- a file among these is one among more
+order_of : (all whole before : List FileWanted) (wanted : FileWanted) (later more : List FileWanted)
+    → whole ≡ all ++ more → all ≡ before ++ wanted ∷ later → whole ≡ before ++ wanted ∷ (later ++ more)
+order_of all whole before wanted later more is order =
+    is ∙ ap (λ fs. fs ++ more) order ∙ append_assoc before (wanted ∷ later) more
 
 -- ---- stops
 
@@ -78,48 +109,142 @@ other_command : (words : List (List ℕ)) (a : SolveWords) (b : ReplayWords)
     → command_of words ≡ Some (replay b) → ⊥
 other_command words a b x y = let both = sym x ∙ y in absurd (cc)
 
-module _ {words : List (List ℕ)} {told : Option FileMap} {files_rose host_rose sink_rose : Type 0} {spoken : ℕ → Option Talk} (well : GoesWell words told files_rose host_rose sink_rose spoken) where
+module _ {words : List (List ℕ)} {outside : Outside} {host_rose sink_rose : Type 0} (well : GoesWell words outside host_rose sink_rose) where
+  abbrev asked : SolveWords
+  asked = well.asked
+
+  abbrev t : IsTaskOf (Some well.files) asked.files well.task
+  t = subst (λ o. IsTaskOf o asked.files well.task) well.are_told well.spelled
+
+  abbrev s : AreServed (Some well.files) asked well.task well.pools
+  s = subst (λ o. AreServed o asked well.task well.pools) well.are_told well.served
+
+  abbrev all_files : List FileWanted
+  all_files = files_named (solve asked) ++ file_at role.Grid (grid_file (map plain s.meant))
+
+  -- the texts behind the task's
+  abbrev of_map : Texts well.files well.task (file_at role.Map asked.path)
+  of_map = map_text well.files well.task asked asked.path s.meant s.means
+
+  abbrev of_grid : Texts well.files well.task (file_at role.Grid (grid_file (map plain s.meant)))
+  of_grid = grid_text well.files well.task (grid_file (map plain s.meant)) s.meant well.pools s.text
+
+  abbrev texts_of : List (List ℕ)
+  texts_of = t.domain ∷ t.problem ∷ t.streams ∷ of_map.0 ++ of_grid.0
+
+  all_good : AreGood well.files well.task all_files texts_of
+  all_good = (
+    t.are.0,
+    tt,
+    (
+      t.are.1.0,
+      tt,
+      (
+        t.are.1.1.0,
+        tt,
+        good_both well.files well.task (file_at role.Map asked.path) (file_at role.Grid (grid_file (map plain s.meant))) of_map.0 of_grid.0 of_map.1 of_grid.1,
+      ),
+    ),
+  )
+
+  -- files at one of which a run may end are among them, from the first on
+  among_all : (all : List FileWanted) → MayBeFilesOf (Some well.files) (solve asked) all
+      → (more : List FileWanted) × (all_files ≡ all ++ more)
+  among_all all (inl named) =
+      (file_at role.Grid (grid_file (map plain s.meant)), ap (λ fs. fs ++ file_at role.Grid (grid_file (map plain s.meant))) (sym named))
+  among_all all (inr (task, pools, spelled, means, are)) =
+      let task_is = one_spelled well.files asked.files well.task task t spelled in
+      let same = one_meaning well.files asked well.task asked.path s.meant pools s.means (subst (λ u. MeansPools (Some well.files) asked u pools) task_is means) in
+      ([], ap (λ ps. files_named (solve asked) ++ file_at role.Grid (grid_file ps)) (sym same) ∙ sym are ∙ sym (append-nil all))
+
+  at : (why : Stop) (n : EndsReading words outside.files why)
+      → TextAt well.files well.task texts_of n.stopped.texts n.stopped.wanted
+  at why n =
+      let r = n.stopped in
+      let same = same_command words n.command (solve asked) n.meant well.meant in
+      let are = subst (λ o. MayBeFilesOf o (solve asked) n.all) well.are_told (subst (λ c. MayBeFilesOf outside.files.told c n.all) same n.are) in
+      let more = among_all n.all are in
+      let order = order_of n.all all_files r.before r.wanted r.later more.0 more.1 r.order in
+      text_at well.files well.task r.before r.wanted (r.later ++ more.0) r.texts texts_of (subst (λ o. AreBytes o r.before r.texts) well.are_told r.are)
+      (subst (λ fs. AreGood well.files well.task fs texts_of) order all_good)
+
+  -- the same text is told
+  told_text : (why : Stop) (n : EndsReading words outside.files why) (bytes : List ℕ)
+      → HasBytes outside.files.told n.stopped.wanted bytes → bytes ≡ (at why n).text
+  told_text why n bytes has =
+      one_text well.files n.stopped.wanted (at why n).text bytes (at why n).has (subst (λ o. HasBytes o n.stopped.wanted bytes) well.are_told has)
+
   -- no text is refused, and each is read
-  never_refused : (which : Text) (kind : FaultKind) (place : ℕ)
-      → HasNoInput words told files_rose (stop.Input which kind place) → ⊥
-  never_refused which kind place (inl none) =
-      none_refused told well.files well.are_told well.asked.files well.task well.spelled which kind place (subst (λ c. IsRefused told (files_of c) which kind place) (same_command words none.asked (solve well.asked) none.meant well.meant) none.refused)
-  never_refused which kind place (inr none) =
-      other_command words well.asked none.asked well.meant none.meant
+  no_reading : (why : Stop) → EndsReading words outside.files why → why ≡ stop.Run fault.Memory
+  no_reading stop.Usage n = absurd n.stopped.cause
+  no_reading (stop.Input which kind place) n =
+      let here = at (stop.Input which kind place) n in
+      let refused = n.stopped.cause.1 in
+      let same = told_text (stop.Input which kind place) n refused.bytes refused.has in
+      absurd (none_refused t.domain t.problem t.streams (of_map.0 ++ of_grid.0) well.task t.spelled n.stopped.texts here.text here.rest which kind place here.split (subst (λ b. IsRefused n.stopped.texts which b kind place) same refused.so))
+  no_reading (stop.Map why) n =
+      let here = at (stop.Map why) n in
+      let refused = n.stopped.cause.1 in
+      let same = told_text (stop.Map why) n refused.bytes refused.has in
+      let no = before_map t.domain t.problem t.streams (of_map.0 ++ of_grid.0) well.task t.spelled n.stopped.texts here.text here.rest why here.split (subst (λ b. IsRefusedMap n.stopped.texts b why) same refused.so) in
+      let good = subst (λ r. IsGood well.files well.task r here.text) (sym n.stopped.cause.0) here.good in
+      absurd (map_not_refused well.task here.text good.0 why good.1 no.0 no.1)
+  no_reading (stop.Grid kind line) n =
+      let here = at (stop.Grid kind line) n in
+      let refused = n.stopped.cause.1 in
+      let same = told_text (stop.Grid kind line) n refused.bytes refused.has in
+      let good = subst (λ r. IsGood well.files well.task r here.text) (sym n.stopped.cause.0) here.good in
+      absurd (grid_not_blamed here.text good.0 line kind good.1 (subst (λ b. Blames b (grid.At line kind)) same refused.so))
+  no_reading (stop.Failed which) n = absurd (well.read n.stopped.cause.1)
+  no_reading (stop.TooLong which) n =
+      let here = at (stop.TooLong which) n in
+      absurd (not_long well.files n.stopped.wanted here.text here.has (subst (λ o. IsTooLong o n.stopped.wanted) well.are_told n.stopped.cause.1))
+  no_reading (stop.Run (fault.Answer number why)) n = absurd n.stopped.cause
+  no_reading (stop.Run fault.Generator) n = absurd n.stopped.cause
+  no_reading (stop.Run fault.Write) n = absurd n.stopped.cause
+  no_reading (stop.Run fault.Memory) n = refl
 
-  never_failed : (which : FileRole) → HasNoInput words told files_rose (stop.Failed which) → ⊥
-  never_failed (role.Text which) (inl none) = well.read none.refused.0
-  never_failed role.Report (inl none) = none.refused
-  never_failed which (inr none) = other_command words well.asked none.asked well.meant none.meant
+  -- the program makes its pool
+  has_pool : (why : Stop) → HasNoPool words outside.files why → ⊥
+  has_pool why n =
+      let both : Some (solve n.asked) ≡ Some (solve asked) = sym n.meant ∙ well.meant in
+      let same : n.asked ≡ asked = cc in
+      let none : asked.path ≡ None = ap (λ (w : SolveWords). w.path) (sym same) ∙ n.no_map in
+      let spelled = subst (λ o. IsTaskOf o asked.files n.task) well.are_told (subst (λ (w : SolveWords). IsTaskOf outside.files.told w.files n.task) same n.spelled) in
+      let task = one_spelled well.files asked.files well.task n.task t spelled in
+      let means : Accepted well.task (words_form well.task asked.program asked.workers) s.meant = subst (λ p. MeansBy p (Some well.files) asked well.task s.meant) none s.means in
+      let refused = subst (λ u. Refused (stream_names u) (words_form u asked.program asked.workers) n.fault) task (subst (λ (w : SolveWords). Refused (stream_names n.task) (words_form n.task w.program w.workers) n.fault) same n.refused) in
+      form_not_refused (stream_names well.task) (words_form well.task asked.program asked.workers) means.spelled n.fault means.form_is means.right n.certain refused
 
-  never_long : (which : FileRole) → HasNoInput words told files_rose (stop.TooLong which) → ⊥
-  never_long (role.Text which) (inl none) =
-      none_long told well.files well.are_told well.asked.files well.task well.spelled which (subst (λ c. IsTooLong told text_bytes (path_of (files_of c) which)) (same_command words none.asked (solve well.asked) none.meant well.meant) none.refused.0)
-  never_long role.Report (inl none) = none.refused
-  never_long which (inr none) = other_command words well.asked none.asked well.meant none.meant
+  no_input : (why : Stop) → HasNoInput words outside.files why → why ≡ stop.Run fault.Memory
+  no_input why (inl n) = no_reading why n
+  no_input why (inr n) = absurd (has_pool why n)
 
   -- a run stops only for want of memory
-  pub stops_for_memory : (was log : Option (List Event)) (old new : Option (List ℕ)) (why : Stop)
-      → IsStopped words told files_rose spoken was log old new why → (why ≡ stop.Run fault.Generator → host_rose)
-      → (why ≡ stop.Run fault.Write → ⊥) → why ≡ stop.Run fault.Memory
-  stops_for_memory was log old new stop.Usage s host sink =
-      absurd (let both = sym s.cause.0 ∙ well.meant in cc)
-  stops_for_memory was log old new (stop.Input which kind place) s host sink =
-      absurd (never_refused which kind place s.cause.0)
-  stops_for_memory was log old new (stop.Failed which) s host sink =
-      absurd (never_failed which s.cause.0)
-  stops_for_memory was log old new (stop.TooLong which) s host sink =
-      absurd (never_long which s.cause.0)
-  stops_for_memory was log old new (stop.Run (fault.Answer number why)) s host sink =
-      absurd (well.answered s.cause.0 number why s.cause.1)
-  stops_for_memory was log old new (stop.Run fault.Generator) s host sink =
-      absurd (well.generated (host refl))
-  stops_for_memory was log old new (stop.Run fault.Write) s host sink = absurd (sink refl)
-  stops_for_memory was log old new (stop.Run fault.Memory) s host sink = refl
+  pub stops_for_memory : (written : Written) (why : Stop)
+      → IsBeforeLast words outside written why → (why ≡ stop.Run fault.Generator → host_rose)
+      → why ≡ stop.Run fault.Memory
+  stops_for_memory written stop.Usage b host = absurd (no_words b.cause.0)
+    where
+      no_words : IsNoCommand words → ⊥
+      no_words (inl none) = let both = sym none ∙ well.meant in absurd (cc)
+      no_words (inr (n, makes)) = let both = sym makes ∙ well.meant in absurd (cc)
+  stops_for_memory written (stop.Input which kind place) b host =
+      no_input (stop.Input which kind place) b.cause.0
+  stops_for_memory written (stop.Map why) b host = no_input (stop.Map why) b.cause.0
+  stops_for_memory written (stop.Grid kind line) b host = no_input (stop.Grid kind line) b.cause.0
+  stops_for_memory written (stop.Failed which) b host = no_input (stop.Failed which) b.cause.0
+  stops_for_memory written (stop.TooLong which) b host = no_input (stop.TooLong which) b.cause.0
+  stops_for_memory written (stop.Run (fault.Answer number why)) b host =
+      let c = b.cause in
+      absurd (well.answered c.run number why (record { front = c.front; waiting = c.blamed.0; line = c.blamed.1; talks = c.talks }))
+  stops_for_memory written (stop.Run fault.Generator) b host = absurd (well.generated (host refl))
+  stops_for_memory written (stop.Run fault.Write) b host = absurd b.cause
+  stops_for_memory written (stop.Run fault.Memory) b host = refl
 
   -- a task that is solved has an outcome
-  pub answered_outcome : {unused : Type 0} {was log : Option (List Event)} {old new : Option (List ℕ)} (status : Status)
-      → IsCompleted words told unused spoken was log old new status → EndsWell status
+  pub answered_outcome : {written : Written} (status : Status)
+      → IsCompleted words outside written status → EndsWell status
   answered_outcome status c = of c.has
     where
       solved : (o : Outcome) → EndsWell (kind_of o)
@@ -127,22 +252,22 @@ module _ {words : List (List ℕ)} {told : Option FileMap} {files_rose host_rose
       solved outcome.NoPlan = tt
       solved (outcome.Limit kind) = tt
 
-      of : {unused : Type 0} {was log : Option (List Event)} {text : List ℕ}
-          → HasOutcome words told unused spoken was log status text ⊎ HasVerdict words told unused status text → EndsWell status
+      of : HasOutcome words outside status c.text ⊎ HasVerdict words outside status c.text
+          → EndsWell status
       of (inl h) = subst EndsWell h.kind (solved h.outcome)
-      of (inr h) = absurd (other_command words well.asked h.asked well.meant h.meant)
+      of (inr h) = absurd (other_command words asked h.asked well.meant h.meant)
 
 -- ---- last lines
 
 -- the last line was written, or the sink failed
-pub answered_close : (why : Stop) (old new : Option (List ℕ)) (status : Status)
+pub answered_close : (why : Stop) (written : Written) (status : Status)
     → why ≡ stop.Run fault.Memory → (status ≡ WriteFault → ⊥)
-    → ClosesRun why old new status → EndsWell status
-answered_close why old new status is sink (inl (inl x)) =
+    → ClosesRun why written status → EndsWell status
+answered_close why written status is sink (inl (inl x)) =
     subst EndsWell (sym (x.0 ∙ ap status_at is)) tt
-answered_close why old new status is sink (inl (inr x)) = absurd (sink x.0)
-answered_close why old new status is sink (inr (inl x)) = subst EndsWell (sym x.0) tt
-answered_close why old new status is sink (inr (inr x)) = absurd (sink x.0)
+answered_close why written status is sink (inl (inr x)) = absurd (sink x.0)
+answered_close why written status is sink (inr (inl x)) = subst EndsWell (sym x.0) tt
+answered_close why written status is sink (inr (inr x)) = absurd (sink x.0)
 
 -- a fault of the sink in the last line is one of the run
 pub sink_whole : (last before mid now : ℕ) (why : Stop) → before ≤ mid

@@ -1,49 +1,92 @@
 -- The headline of a run, from how it ends.
-use Rattle.std.proofs.Common.{◌≡◌, ℕ, List, subst, Option}
+use Rattle.std.proofs.Common.{◌≡◌, ◌∙◌, inl, inr, ℕ, List, Bool, true, false, ap, refl, subst, sym}
 use Rattle.std.specs.Io.KnownBytes.{Appends}
-use Rattle.io_world.specs.FileMap.{FileMap}
-use Rattle.io_world.specs.Talks.{Event, Talk}
 use Rattle.level_run.specs.Reports as reports
+use Rattle.level_run.specs.declared.fault.RunFault.TheVariants as fault
+use Rattle.replay_check.specs.declared.verdict.Verdict.{Verdict}
+use Rattle.replay_check.specs.declared.verdict.Verdict.TheVariants as verdict
 use Rattle.report_text.specs.Texts.{text_of_report}
 use Rattle.transcript_model.specs.declared.outcome.Outcome.{Outcome}
 use Rattle.transcript_model.specs.declared.outcome.Outcome.TheVariants as outcome
+use Rattle.pddlstream_app.proofs.RunsLemmas.{taken_all}
 use Rattle.pddlstream_app.specs.Headline.{PrintsNoPlan, PrintsPlan}
-use Rattle.pddlstream_app.specs.Runs.{Ends, ProgramRun, TookAll, kind_of, report_of}
+use Rattle.pddlstream_app.specs.Outside.{Outside, Written}
+use Rattle.pddlstream_app.specs.Replays.{kind_of_verdict}
+use Rattle.pddlstream_app.specs.Runs.{Ends, HasOutcome, ProgramRun, RunWrites, kind_of, report_of}
+use Rattle.pddlstream_app.specs.Stop.{status_at}
 use Rattle.pddlstream_app.specs.declared.status.Status.{Status}
 use Rattle.pddlstream_app.specs.declared.status.Status.TheVariants.{NoPlan, Plan}
+use Rattle.pddlstream_app.specs.declared.stop.Stop.{Stop}
+use Rattle.pddlstream_app.specs.declared.stop.Stop.TheVariants as stop
 
-module _ (words : List (List ℕ)) (told : Option FileMap) (old new : Option (List ℕ)) where
+-- a plan was found, or that there is none
+abbrev is_found : Status → Bool
+is_found Plan = true
+is_found NoPlan = true
+is_found status = false
+
+verdict_not_found : (v : Verdict) → is_found (kind_of_verdict v) ≡ false
+verdict_not_found verdict.Valid = refl
+verdict_not_found (verdict.Invalid line kind) = refl
+verdict_not_found verdict.Limit = refl
+
+stop_not_found : (why : Stop) → is_found (status_at why) ≡ false
+stop_not_found stop.Usage = refl
+stop_not_found (stop.Input which kind place) = refl
+stop_not_found (stop.Map why) = refl
+stop_not_found (stop.Grid kind line) = refl
+stop_not_found (stop.Failed which) = refl
+stop_not_found (stop.TooLong which) = refl
+stop_not_found (stop.Run (fault.Answer number why)) = refl
+stop_not_found (stop.Run fault.Generator) = refl
+stop_not_found (stop.Run fault.Write) = refl
+stop_not_found (stop.Run fault.Memory) = refl
+
+not_both : (a b : Status) → a ≡ b → is_found a ≡ false → is_found b ≡ true → ⊥
+not_both a b same lost found =
+    let both : false ≡ true = sym lost ∙ ap is_found same ∙ found in absurd (cc)
+
+module _ (words : List (List ℕ)) (outside : Outside) (written : Written) where
   -- the outcome that the run printed
-  abbrev Printed : ProgramRun words told → Outcome → Type 0
-  Printed run o = Appends old new (text_of_report (report_of run.task run.head run.entries o))
+  abbrev Printed : ProgramRun words outside.files.told → Outcome → Type 0
+  Printed run o = Appends written.before written.after (text_of_report (report_of run.task run.head run.entries o))
 
-  plan_from : (o : Outcome) → kind_of o ≡ Plan → (run : ProgramRun words told)
+  plan_from : (o : Outcome) → kind_of o ≡ Plan → (run : ProgramRun words outside.files.told)
       → reports.IsRun run.task run.head run.entries o
-      → Printed run o → PrintsPlan words told old new
+      → Printed run o → PrintsPlan words outside.files.told written
   plan_from (outcome.Plan calls cost from) kind run turns took =
       let plan = turns.sure.holds in
       record { run = run; steps = plan.steps; calls = calls; cost = cost; from = from; shown = plan.shown; valid = plan.valid; origins = plan.origins; took = took }
   plan_from outcome.NoPlan kind run turns took = absurd (cc)
   plan_from (outcome.Limit limit) kind run turns took = absurd (cc)
 
-  no_plan_from : (o : Outcome) → kind_of o ≡ NoPlan → (run : ProgramRun words told)
+  no_plan_from : (o : Outcome) → kind_of o ≡ NoPlan → (run : ProgramRun words outside.files.told)
       → reports.IsRun run.task run.head run.entries o
-      → Printed run o → PrintsNoPlan words told old new
+      → Printed run o → PrintsNoPlan words outside.files.told written
   no_plan_from outcome.NoPlan kind run turns took =
       let none = turns.sure.holds in
       record { run = run; closed = none.closed; unsolvable = none.unsolvable; took = took }
   no_plan_from (outcome.Plan calls cost from) kind run turns took = absurd (cc)
   no_plan_from (outcome.Limit limit) kind run turns took = absurd (cc)
 
-  module _ (rose unused : Type 0) (spoken : ℕ → Option Talk) (was now : Option (List Event)) (status : Status) (ends : Ends words told rose unused spoken was now old new status) where
-    pub plan_printed : status ≡ Plan → PrintsPlan words told old new
-    plan_printed is =
-        let all : TookAll words told rose unused spoken was now old new Plan = subst (Ends words told rose unused spoken was now old new) is ends in
-        let has = all.writes in
-        plan_from has.outcome has.kind has.run has.turns (subst (Appends old new) has.is all.took)
+  -- what is written then is a run's outcome
+  outcome_in : (status : Status) (text : List ℕ) → is_found status ≡ true
+      → RunWrites words outside status text → HasOutcome words outside status text
+  outcome_in status text found (inl h) = h
+  outcome_in status text found (inr (inl h)) =
+      absurd (not_both (kind_of_verdict h.verdict) status h.kind (verdict_not_found h.verdict) found)
+  outcome_in status text found (inr (inr h)) =
+      absurd (not_both (status_at h.stop) status h.kind (stop_not_found h.stop) found)
 
-    pub no_plan_printed : status ≡ NoPlan → PrintsNoPlan words told old new
+  module _ (status : Status) (ends : Ends words outside written status) where
+    pub plan_printed : status ≡ Plan → PrintsPlan words outside.files.told written
+    plan_printed is =
+        let all = taken_all words outside written Plan refl (subst (Ends words outside written) is ends) in
+        let has = outcome_in Plan all.text refl all.writes in
+        plan_from has.outcome has.kind has.run has.turns (subst (Appends written.before written.after) has.is all.took)
+
+    pub no_plan_printed : status ≡ NoPlan → PrintsNoPlan words outside.files.told written
     no_plan_printed is =
-        let all : TookAll words told rose unused spoken was now old new NoPlan = subst (Ends words told rose unused spoken was now old new) is ends in
-        let has = all.writes in
-        no_plan_from has.outcome has.kind has.run has.turns (subst (Appends old new) has.is all.took)
+        let all = taken_all words outside written NoPlan refl (subst (Ends words outside written) is ends) in
+        let has = outcome_in NoPlan all.text refl all.writes in
+        no_plan_from has.outcome has.kind has.run has.turns (subst (Appends written.before written.after) has.is all.took)

@@ -1,140 +1,179 @@
 -- Heads of runs.
-use Rattle.std.proofs.Common.{◌≡◌, ℕ, zero, suc, ◌+◌, ◌<◌, ◌≤◌, ◌==◌, arith, true, cond, List, [], ◌∷◌, ◌++◌, map, length, string_bytes, refl, sym, subst, ap, ◌∙◌, All, Some, None}
+use Rattle.std.proofs.Common.{◌≡◌, ℕ, zero, suc, ◌+◌, ◌<◌, ◌≤◌, ◌==◌, arith, Bool, true, false, cond, ◌||◌, List, [], ◌∷◌, map, length, string_bytes, refl, sym, subst, ap, ◌∙◌, All, Option, Some, None, slice_get}
+use Rattle.std.proofs.lemmas.Bool.{eqb-true, eq-eqb}
 use Rattle.std.proofs.lemmas.List.{length-map}
+use Rattle.std.proofs.lemmas.List.Elements.{All-contains}
+use Rattle.std.proofs.lemmas.Option.{same_Some}
 use Rattle.std.specs.List.{list_any}
-use Rattle.lemmas.proofs.Numbers.{in_numbers}
-use Rattle.lemmas.proofs.Members.{get_single}
-use Rattle.lemmas.proofs.ListTests.{all_one}
+use Rattle.command_line.specs.Ranges.{AreInRange}
+use Rattle.command_line.specs.Words.{SolveWords}
+use Rattle.io_world.specs.FileMap.{FileMap}
+use Rattle.lemmas.proofs.Bools.{right_true}
+use Rattle.lemmas.proofs.ListTests.{all_by_place, any_found}
+use Rattle.lemmas.proofs.Members.{member_at, place_of}
 use Rattle.level_run.specs.Turns.{IsRunnable}
 use Rattle.session_core.specs.Pools.{AreFitPools, serves, server, workers_of}
+use Rattle.session_core.specs.Pools as children
 use Rattle.session_core.specs.declared.pools.Workers.{Workers}
-use Rattle.lemmas.specs.Lists.{numbers_from}
-use Rattle.task_model.specs.declared.stream.Stream.{Stream}
+use Rattle.stream_map.proofs.LawsLemmas.{accepted_maps, accepted_words, texts_keep}
+use Rattle.stream_map.specs.Children.{PlainPool, grid_file, plain}
+use Rattle.stream_map.specs.Laws.{AreWhole, HasChild}
 use Rattle.task_model.specs.declared.task.Task.{Task}
 use Rattle.transcript_model.specs.declared.head.Head.{Head}
 use Rattle.transcript_model.specs.declared.head.Pool.{Pool}
-use Rattle.pddlstream_app.specs.Heads.{ArePoolsFor, IsHeadOf, IsPoolOf, all_streams}
-use Rattle.pddlstream_app.specs.Words.{IsWithin, held_solve}
-use Rattle.pddlstream_app.specs.Words as words
-use Rattle.pddlstream_app.specs.declared.words.SolveWords as code
+use Rattle.pddlstream_app.specs.Heads.{AreServed, HaveText, IsHeadOf, MeansBy}
 
--- ---- the places of streams
+-- ---- lists
 
-numbers_suc : (first n : ℕ) → numbers_from first (suc n) ≡ numbers_from first n ++ (first + n) ∷ []
-numbers_suc first zero = let same : first ≡ first + 0 = omega arith in ap (λ k. k ∷ []) same
-numbers_suc first (suc n) =
-    let same : first + 1 + n ≡ first + suc n = omega arith in
-    ap (λ ks. first ∷ ks) (numbers_suc (first + 1) n ∙ ap (λ k. numbers_from (first + 1) n ++ k ∷ []) same)
+module _ {A B : Type 0} (f : A → B) where
+  -- what stands in a mapped list
+  pub mapped_at : (xs : List A) (k : ℕ) (y : B) → slice_get (map f xs) k ≡ Some y
+      → (x : A) × (slice_get xs k ≡ Some x) × (f x ≡ y)
+  mapped_at [] k y at = absurd (cc)
+  mapped_at (x ∷ xs) zero y at = (x, refl, same_Some (f x) y at)
+  mapped_at (x ∷ xs) (suc k) y at = mapped_at xs k y at
 
--- one number more
-pub numbers_more : (n : ℕ) → numbers_from 0 (n + 1) ≡ numbers_from 0 n ++ n ∷ []
-numbers_more n =
-    let one : n + 1 ≡ suc n = omega arith in
-    let same : 0 + n ≡ n = omega arith in
-    ap (numbers_from 0) one ∙ numbers_suc 0 n ∙ ap (λ k. numbers_from 0 n ++ k ∷ []) same
+  pub at_mapped : (xs : List A) (k : ℕ) (x : A) → slice_get xs k ≡ Some x
+      → slice_get (map f xs) k ≡ Some (f x)
+  at_mapped [] k x at = absurd (cc)
+  at_mapped (y ∷ ys) zero x at = ap (λ z. Some (f z)) (same_Some y x at)
+  at_mapped (y ∷ ys) (suc k) x at = at_mapped ys k x at
 
-numbers_below : (first n : ℕ) → All (λ k. k < first + n) (numbers_from first n)
-numbers_below first zero i d lt = absurd (omega arith)
-numbers_below first (suc n) zero d lt = omega arith
-numbers_below first (suc n) (suc i) d lt =
-    let there = numbers_below (first + 1) n i d (omega arith) in
-    omega (arith, there)
+  -- what holds of each member of a mapped list
+  pub all_before : (P : B → Type 0) (xs : List A) → All P (map f xs) → All (λ x. P (f x)) xs
+  all_before P xs all = all_by_place (λ x. P (f x)) xs (λ k x at.
+      All-contains P (map f xs) (f x) all (member_at (map f xs) k (f x) (at_mapped xs k x at)))
 
-all_there : (task : Task) → All (λ stream. stream < length task.streams) (all_streams task)
-all_there task i d lt =
-    let there = numbers_below 0 (length task.streams) i d lt in omega (arith, there)
+among : (streams : List ℕ) (k stream : ℕ) → slice_get streams k ≡ Some stream
+    → list_any (λ s. s == stream) streams ≡ true
+among [] k stream at = absurd (cc)
+among (s ∷ ss) zero stream at =
+    ap (λ b. b || list_any (λ t. t == stream) ss) (eq-eqb s stream (same_Some s stream at))
+among (s ∷ ss) (suc k) stream at = right_true (s == stream) _ (among ss k stream at)
+
+found : (streams : List ℕ) (stream : ℕ) → list_any (λ s. s == stream) streams ≡ true
+    → (k : ℕ) × (slice_get streams k ≡ Some stream)
+found streams stream e =
+    let there = any_found (λ s. s == stream) streams e in
+    (there.0, there.2 ∙ ap Some (eqb-true there.1 stream there.3))
 
 -- ---- pools
 
-module _ (task : Task) (pool : Workers) (first : pool.first ≡ 0) (some : 1 ≤ pool.workers) (few : pool.workers ≤ 16) (streams : pool.streams ≡ all_streams task) where
-  served_by : (stream : ℕ) → stream < length task.streams → server (pool ∷ []) stream ≡ Some pool
-  served_by stream lt =
-      let serving : serves pool stream ≡ true = ap (λ ns. list_any (λ s. s == stream) ns) streams ∙ in_numbers 0 (length task.streams) stream (omega arith) (omega (arith, lt)) in
-      ap (λ b. cond b (Some pool) None) serving
+-- a stream that a pool serves has a server
+served_by : (all : List Workers) (k stream : ℕ) (p : Workers) → slice_get all k ≡ Some p
+    → serves p stream ≡ true → (q : Workers) × (server all stream ≡ Some q)
+served_by [] k stream p at is = absurd (cc)
+served_by (q ∷ all) zero stream p at is =
+    let here : serves q stream ≡ true = ap (λ w. serves w stream) (same_Some q p at) ∙ is in
+    (q, ap (λ b. cond b (Some q) (server all stream)) here)
+served_by (q ∷ all) (suc k) stream p at is =
+    by (serves q stream) refl (served_by all k stream p at is)
+  where
+    by : (b : Bool) → serves q stream ≡ b → (r : Workers) × (server all stream ≡ Some r)
+        → (r : Workers) × (server (q ∷ all) stream ≡ Some r)
+    by true e rest = (q, ap (λ b. cond b (Some q) (server all stream)) e)
+    by false e rest = (rest.0, ap (λ b. cond b (Some q) (server all stream)) e ∙ rest.1)
 
-  -- one pool that serves all streams is fit
-  one_pool : AreFitPools task (pool ∷ [])
-  one_pool = record {
-    served = λ stream lt. (pool, served_by stream lt);
-    apart = λ j k child p q at_j at_k in_p in_q. (get_single pool p j at_j).0 ∙ sym (get_single pool q k at_k).0;
-    once = λ j k stream p q at_j at_k in_p in_q. (get_single pool p j at_j).0 ∙ sym (get_single pool q k at_k).0;
-    some = λ k p at. subst (λ (w : Workers). 1 ≤ w.workers) (get_single pool p k at).1 some;
-    few = λ k p at. subst (λ (w : Workers). w.first + w.workers ≤ 17) (get_single pool p k at).1 (omega (arith, first, few));
+module _ (task : Task) (pools : List Pool) (all : AreWhole task (map plain pools)) where
+  -- a pool by its workers, and as it stands among those that are whole
+  abbrev IsAt : ℕ → Workers → Type 0
+  IsAt k q = (p : Pool) × (workers_of p ≡ q) × (slice_get (map plain pools) k ≡ Some (plain p))
+
+  is_at : (k : ℕ) (q : Workers) → slice_get (map workers_of pools) k ≡ Some q → IsAt k q
+  is_at k q at =
+      let there = mapped_at workers_of pools k q at in
+      (there.0, there.2, at_mapped plain pools k there.0 there.1)
+
+  -- its children
+  has_child : (p : Pool) (q : Workers) (child : ℕ) → workers_of p ≡ q → children.HasChild q child
+      → HasChild (plain p) child
+  has_child p q child is has =
+      let here = subst (λ w. children.HasChild w child) (sym is) has in
+      record { from = here.from; to = here.to }
+
+  -- where it serves a stream
+  serves_at : (p : Pool) (q : Workers) (stream : ℕ) → workers_of p ≡ q → serves q stream ≡ true
+      → (a : ℕ) × (slice_get p.streams a ≡ Some stream)
+  serves_at p q stream is e = found p.streams stream (ap (λ w. serves w stream) is ∙ e)
+
+  served : (stream : ℕ) → stream < length task.streams
+      → (q : Workers) × (server (map workers_of pools) stream ≡ Some q)
+  served stream below =
+      let there = all.served stream below in
+      let pool = mapped_at plain pools there.0 there.1 there.2 in
+      let place = place_of there.1.streams stream there.3 in
+      let one = subst (λ (p : PlainPool). slice_get p.streams place.0 ≡ Some stream) (sym pool.2) place.1 in
+      served_by (map workers_of pools) there.0 stream (workers_of pool.0) (at_mapped workers_of pools there.0 pool.0 pool.1) (among pool.0.streams place.0 stream one)
+
+  -- pools of their own are fit
+  pub fit_pools : AreFitPools task (map workers_of pools)
+  fit_pools = record {
+    served = served;
+    apart = λ j k child p q at_j at_k in_p in_q.
+        let one = is_at j p at_j in
+        let other = is_at k q at_k in
+        all.apart j k child (plain one.0) (plain other.0) one.2 other.2 (has_child one.0 p child one.1 in_p) (has_child other.0 q child other.1 in_q);
+    once = λ j k stream p q at_j at_k in_p in_q.
+        let one = is_at j p at_j in
+        let other = is_at k q at_k in
+        let a = serves_at one.0 p stream one.1 in_p in
+        let b = serves_at other.0 q stream other.1 in_q in
+        (all.once j k a.0 b.0 stream (plain one.0) (plain other.0) one.2 other.2 a.1 b.1).0;
+    some = λ k p at.
+        let one = is_at k p at in
+        let there = member_at (map plain pools) k (plain one.0) one.2 in
+        let some = All-contains (λ (q : PlainPool). 1 ≤ q.workers) (map plain pools) (plain one.0) all.some there in
+        subst (λ (w : Workers). 1 ≤ w.workers) one.1 some;
+    few = λ k p at.
+        let one = is_at k p at in
+        let there = member_at (map plain pools) k (plain one.0) one.2 in
+        let few = All-contains (λ (q : PlainPool). q.first + q.workers ≤ 17) (map plain pools) (plain one.0) all.low there in
+        subst (λ (w : Workers). w.first + w.workers ≤ 17) one.1 few;
   }
 
--- no pools are fit where there are no streams
-no_pool : (task : Task) → [] ≡ task.streams → AreFitPools task []
-no_pool task none = record {
-  served = λ stream lt. absurd (omega (arith, lt, ap length none));
-  apart = λ j k child p q at_j at_k in_p in_q. absurd (let e = at_j in cc);
-  once = λ j k stream p q at_j at_k in_p in_q. absurd (let e = at_j in cc);
-  some = λ k p at. absurd (let e = at in cc);
-  few = λ k p at. absurd (let e = at in cc);
-}
+  pub words_there : All (λ (p : Pool). 0 < length p.argv) pools
+  words_there = all_by_place (λ (p : Pool). 0 < length p.argv) pools (λ k p at.
+      let there = member_at (map plain pools) k (plain p) (at_mapped plain pools k p at) in
+      let some = All-contains (λ (q : PlainPool). 1 ≤ length q.words) (map plain pools) (plain p) all.started there in
+      omega (arith, some, length-map p.argv string_bytes))
 
-pub record AreRunnable (task : Task) (pools : List Pool) : Type 0 where
-  pub fit : AreFitPools task (map workers_of pools)
-  pub words : All (λ (p : Pool). 0 < length p.argv) pools
-  pub streams : All (λ (p : Pool). All (λ stream. stream < length task.streams) p.streams) pools
+  pub streams_there : All (λ (p : Pool). All (λ stream. stream < length task.streams) p.streams) pools
+  streams_there =
+      all_before plain (λ (q : PlainPool). All (λ stream. stream < length task.streams) q.streams) pools all.known
 
-module _ (task : Task) (w : words.SolveWords) (some : 1 ≤ w.workers) (few : w.workers ≤ 16) (program : 1 ≤ length w.program) where
-  one_runs : (pool : Pool) → IsPoolOf task w pool → AreRunnable task (pool ∷ [])
-  one_runs pool is = record {
-    fit = one_pool task (workers_of pool) is.first (omega (arith, some, is.workers)) (omega (arith, few, is.workers)) is.streams;
-    words =
-        all_one (λ (p : Pool). 0 < length p.argv) pool (omega (arith, program, length-map pool.argv string_bytes, ap length is.program));
-    streams = all_one (λ (p : Pool). All (λ stream. stream < length task.streams) p.streams) pool (subst (All (λ stream. stream < length task.streams)) (sym is.streams) (all_there task));
-  }
+-- ---- the pools that words mean
 
-  pools_run : (ss : List Stream) → ss ≡ task.streams → (pools : List Pool)
-      → ArePoolsFor task w ss pools → AreRunnable task pools
-  pools_run [] none pools are = subst (AreRunnable task) (sym are) (record {
-    fit = no_pool task none;
-    words = λ i d lt. absurd (omega arith);
-    streams = λ i d lt. absurd (omega arith);
-  })
-  pools_run (s ∷ ss) are_some pools (pool, are, is) =
-      subst (AreRunnable task) (sym are) (one_runs pool is)
+module _ (task : Task) (told : Option FileMap) (w : SolveWords) where
+  meant_whole : (path : Option (List ℕ)) (pools : List Pool) → MeansBy path told w task pools
+      → AreWhole task (map plain pools)
+  meant_whole None pools means = accepted_words task w.program w.workers pools means
+  meant_whole (Some path) pools means =
+      accepted_maps task means.so.data_of pools means.so.accepted
 
--- the numbers of the words are in their ranges, and the program has a word
-pub record AreInRange (w : words.SolveWords) : Type 0 where
-  pub some_calls : 1 ≤ w.calls
-  pub few_calls : w.calls ≤ 100000
-  pub some_states : 1 ≤ w.states
-  pub few_states : w.states ≤ 200000
-  pub some_workers : 1 ≤ w.workers
-  pub few_workers : w.workers ≤ 16
-  pub program : 1 ≤ length w.program
+  text_whole : (path : Option (List ℕ)) (meant pools : List Pool) → HaveText path told meant pools
+      → AreWhole task (map plain meant) → AreWhole task (map plain pools)
+  text_whole None meant pools same whole = subst (λ ps. AreWhole task (map plain ps)) (sym same) whole
+  text_whole (Some path) meant pools has whole =
+      subst (AreWhole task) (sym has.so.placed) (texts_keep task has.bytes (map plain meant) whole)
 
--- a head of such words can be run
-pub head_runs : (task : Task) (w : words.SolveWords) (head : Head) → IsHeadOf task w head
-    → AreInRange w → IsRunnable task head
-head_runs task w head headed within =
-    let pools = pools_run task w within.some_workers within.few_workers within.program task.streams refl head.pools headed.pools in
-    record {
-      fit = record {
-        some_version = omega (arith, headed.version);
-        version = omega (arith, headed.version);
-        some_calls = omega (arith, headed.calls, within.some_calls);
-        calls = omega (arith, headed.calls, within.few_calls);
-        pools = pools.fit;
-      };
-      words = pools.words;
-      streams = pools.streams;
-      some_states = omega (arith, headed.states, within.some_states);
-      few_states = omega (arith, headed.states, within.few_states);
-    }
+  pub served_whole : (pools : List Pool) → AreServed told w task pools → AreWhole task (map plain pools)
+  served_whole pools served =
+      text_whole (grid_file (map plain served.meant)) served.meant pools served.text (meant_whole w.path served.meant served.means)
 
--- the same of words as the program holds them
-pub runnable_head : (task : Task) (w : code.SolveWords) (head : Head)
-    → IsHeadOf task (held_solve w) head → IsWithin w
-    → IsRunnable task head
-runnable_head task w head headed within = head_runs task (held_solve w) head headed (record {
-  some_calls = within.some_calls;
-  few_calls = within.few_calls;
-  some_states = within.some_states;
-  few_states = within.few_states;
-  some_workers = within.some_workers;
-  few_workers = within.few_workers;
-  program = omega (arith, within.program, length-map w.program.now string_bytes);
-})
+  -- a head of words in their ranges can be run
+  pub head_runs : (head : Head) → IsHeadOf told w task head → AreInRange w → IsRunnable task head
+  head_runs head headed within =
+      let whole = served_whole head.pools headed.pools in
+      record {
+        fit = record {
+          some_version = omega (arith, headed.version);
+          version = omega (arith, headed.version);
+          some_calls = omega (arith, headed.calls, within.calls.0);
+          calls = omega (arith, headed.calls, within.calls.1);
+          pools = fit_pools task head.pools whole;
+        };
+        words = words_there task head.pools whole;
+        streams = streams_there task head.pools whole;
+        some_states = omega (arith, headed.states, within.states.0);
+        few_states = omega (arith, headed.states, within.states.1);
+      }

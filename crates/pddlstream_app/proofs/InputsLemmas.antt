@@ -1,141 +1,176 @@
--- Why no task was read.
-use Rattle.std.proofs.Common.{◌≡◌, ℕ, ◌≤◌, arith, List, sym, subst, Option, Result, Ok, Err, IfOk}
-use Rattle.io_world.specs.FileMap.{FileMap}
-use Rattle.io_world.specs.Faults.{Rose}
+-- Why a run ends at a file, and the task that files spell.
+use Rattle.std.proofs.Common.{◌≡◌, ℕ, ◌≤◌, arith, List, [], ◌∷◌, ◌++◌, subst, refl, sym, ◌∙◌, inl, inr, Option, Some, Result, Ok, Err, IfOk, IsErrAnd}
+use Rattle.io_world.proofs.TalksLemmas.{extends_more}
+use Rattle.io_world.specs.FileMap.{Asked, FileMap}
+use Rattle.io_world.specs.Faults.{Extends, HasCause}
+use Rattle.level_run.proofs.StoppedLemmas.{handed_err}
 use Rattle.task_model.specs.Fit.{IsFit}
 use Rattle.task_model.specs.declared.domain.Domain as domains
 use Rattle.task_model.specs.declared.task.Problem as problems
 use Rattle.task_model.specs.declared.task.Task.{Task}
 use Rattle.task_reader.proofs.FitTask.{spelled_tasks_fit}
-use Rattle.task_reader.specs.Fitness.{IsShort}
 use Rattle.task_reader.specs.Refusals.{Refuses}
-use Rattle.task_reader.specs.Texts.{RefusesDomain, RefusesProblem, RefusesStreams}
+use Rattle.task_reader.specs.Texts.{SpellsDomain, SpellsProblem, RefusesDomain, RefusesProblem, RefusesStreams}
 use Rattle.task_reader.specs.declared.refusal.InputRefusal.{InputRefusal}
 use Rattle.task_reader.specs.declared.refusal.InputRefusal.TheVariants as refusal
-use Rattle.pddlstream_app.specs.Inputs.{HasDomain, HasProblem, HasStreams, Holds, IsAccepted, IsTaskOf, IsTooLong, MayNotRead, MayRefuse, path_of, stop_for, text_bytes}
-use Rattle.pddlstream_app.specs.Words.{TaskFiles}
+use Rattle.command_line.specs.Words.{ReplayWords, TaskFiles, command_of, replay}
+use Rattle.pddlstream_app.specs.Files.{AreBytes, FileWanted, HasBytes, file_of}
+use Rattle.pddlstream_app.specs.Inputs.{AreAccepted, EndsAtFile, EndsHere, HasNoInput, IsRefused, IsTaskOf, MayEnd, ask, files_named, reads, stop_for, task_files}
+use Rattle.pddlstream_app.specs.Outside.{FilesSeen}
+use Rattle.pddlstream_app.specs.Stop.{IsOfInput}
 use Rattle.level_run.specs.declared.fault.RunFault.TheVariants as fault
-use Rattle.pddlstream_app.specs.declared.stop.FileRole.{FileRole}
-use Rattle.pddlstream_app.specs.declared.stop.FileRole.TheVariants as role
 use Rattle.pddlstream_app.specs.declared.stop.Stop.{Stop}
-use Rattle.pddlstream_app.specs.declared.stop.Stop.TheVariants.{Usage, Input, Failed, TooLong, Run}
+use Rattle.pddlstream_app.specs.declared.stop.Stop.TheVariants.{Usage, Input, Map, Grid, Failed, TooLong, Run}
+use Rattle.pddlstream_app.specs.declared.stop.FileRole.TheVariants as role
 use Rattle.pddlstream_app.specs.declared.stop.Text.{Text}
 use Rattle.pddlstream_app.specs.declared.stop.Text.TheVariants.{Domain, Problem, Streams}
 
--- the count rose since the beginning too
-pub rose_since : (last before mid now : ℕ) → before ≤ mid → Rose last mid now → Rose last before now
-rose_since last before mid now earlier rose = omega (arith, earlier, rose)
+-- ---- files one after another
 
-same_text : (a b : Text) → role.Text a ≡ role.Text b → a ≡ b
-same_text a b e = cc
+pub later_on : (first mid last : ℕ) → first ≤ mid → mid ≤ last → first ≤ last
+later_on first mid last a b = omega (arith, a, b)
 
-no_text : (which : Text) → role.Report ≡ role.Text which → ⊥
-no_text which e = absurd (cc)
+abbrev looks : Option FileMap → ℕ → ℕ → Option (List Asked) → Option (List Asked) → FilesSeen
+looks told first last old new =
+    record { told = told; first = first; last = last; before = old; after = new }
 
--- what was refused later is refused from the beginning
-pub refused_later : (told old : Option FileMap) (paths : TaskFiles) (rose more : Type 0)
-    → told ≡ old → (rose → more) → (stop : Stop)
-    → MayRefuse told paths rose stop → MayRefuse old paths more stop
-refused_later told old paths rose more same f stop r =
-    subst (λ files. MayRefuse files paths more stop) same (of stop r)
-  where
-    of : (stop : Stop) → MayRefuse told paths rose stop → MayRefuse told paths more stop
-    of Usage r = absurd r
-    of (Input which kind place) r = r
-    of (Failed (role.Text which)) r = (f r.0, r.1)
-    of (Failed role.Report) r = absurd r
-    of (TooLong (role.Text which)) r = r
-    of (TooLong role.Report) r = absurd r
-    of (Run (fault.Answer number why)) r = absurd r
-    of (Run fault.Generator) r = absurd r
-    of (Run fault.Write) r = absurd r
-    of (Run fault.Memory) r = tt
+module _ (told : Option FileMap) (first mid last : ℕ) (earlier : first ≤ mid) (old middle new : Option (List Asked)) where
+  -- the count rose since the beginning too
+  ends_since : (texts : List (List ℕ)) (wanted : FileWanted) (why : Stop)
+      → MayEnd (looks told mid last middle new) texts wanted why
+      → MayEnd (looks told first last old new) texts wanted why
+  ends_since texts wanted Usage n = absurd n
+  ends_since texts wanted (Input which kind place) n = n
+  ends_since texts wanted (Map why) n = n
+  ends_since texts wanted (Grid kind line) n = n
+  ends_since texts wanted (Failed which) n = (n.0, let rose = n.1 in omega (arith, earlier, rose))
+  ends_since texts wanted (TooLong which) n = n
+  ends_since texts wanted (Run (fault.Answer number why)) n = absurd n
+  ends_since texts wanted (Run fault.Generator) n = absurd n
+  ends_since texts wanted (Run fault.Write) n = absurd n
+  ends_since texts wanted (Run fault.Memory) n = tt
 
--- what was not read later was not read from the beginning
-pub unread_later : (told : Option FileMap) (which : FileRole) (most : ℕ) (path : List ℕ) (rose more : Type 0)
-    → (rose → more) → (why : Stop)
-    → MayNotRead told which most path rose why → MayNotRead told which most path more why
-unread_later told which most path rose more f Usage n = absurd n
-unread_later told which most path rose more f (Input t kind place) n = absurd n
-unread_later told which most path rose more f (Failed t) n = (n.0, f n.1)
-unread_later told which most path rose more f (TooLong t) n = n
-unread_later told which most path rose more f (Run (fault.Answer number why)) n = absurd n
-unread_later told which most path rose more f (Run fault.Generator) n = absurd n
-unread_later told which most path rose more f (Run fault.Write) n = absurd n
-unread_later told which most path rose more f (Run fault.Memory) n = tt
+  -- a run ends at a file behind those that were read
+  pub ends_behind : (later : Option FileMap) → later ≡ told → (before : List FileWanted)
+      → Extends old middle (reads before) → (texts : List (List ℕ)) → AreBytes told before texts → AreAccepted texts
+      → (wanted : FileWanted) (more : List FileWanted) (why : Stop)
+      → EndsHere (looks later mid last middle new) texts wanted why
+      → EndsAtFile (looks told first last old new) (before ++ wanted ∷ more) why
+  ends_behind later same before read texts are accepted wanted more why ends = record {
+    before = before;
+    wanted = wanted;
+    later = more;
+    order = refl;
+    texts = texts;
+    are = are;
+    accepted = accepted;
+    cause = ends_since texts wanted why (subst (λ t. MayEnd (looks t mid last middle new) texts wanted why) same ends.cause);
+    answer = ends.answer;
+    answered = ends.answered;
+    asked = extends_more old middle new (reads before) (ask ends.answer wanted ∷ []) read ends.asked;
+  }
 
-module _ (told : Option FileMap) (paths : TaskFiles) (rose : Type 0) where
-  -- a file that was not read leaves no task
-  pub not_read : (which : Text) → IsAccepted told paths which → (stop : Stop)
-      → MayNotRead told (role.Text which) text_bytes (path_of paths which) rose stop → MayRefuse told paths rose stop
-  not_read which before Usage n = absurd n
-  not_read which before (Input t kind place) n = absurd n
-  not_read which before (Failed (role.Text t)) n =
-      (n.1, subst (IsAccepted told paths) (sym (same_text t which n.0)) before)
-  not_read which before (Failed role.Report) n = absurd (no_text which n.0)
-  not_read which before (TooLong (role.Text t)) n = (subst (λ w. IsTooLong told text_bytes (path_of paths w)) (sym (same_text t which n.0)) n.1, subst (IsAccepted told paths) (sym (same_text t which n.0)) before)
-  not_read which before (TooLong role.Report) n = absurd (no_text which n.0)
-  not_read which before (Run (fault.Answer number why)) n = absurd n
-  not_read which before (Run fault.Generator) n = absurd n
-  not_read which before (Run fault.Write) n = absurd n
-  not_read which before (Run fault.Memory) n = tt
-
-  pub domain_refused : (bytes : List ℕ) → Holds told paths.domain bytes → IsShort bytes
-      → (why : InputRefusal)
-      → Refuses (RefusesDomain bytes) why → MayRefuse told paths rose (stop_for Domain why)
-  domain_refused bytes holds short (refusal.At kind place) r =
-      record { bytes = bytes; held = holds; short = short; so = r }
-  domain_refused bytes holds short refusal.Memory r = tt
-
-  module _ (d : domains.Domain) (first : HasDomain told paths d) where
-    pub problem_refused : (bytes : List ℕ) → Holds told paths.problem bytes → IsShort bytes
-        → (why : InputRefusal)
-        → Refuses (RefusesProblem d bytes) why → MayRefuse told paths rose (stop_for Problem why)
-    problem_refused bytes holds short (refusal.At kind place) r = record {
-      bytes = first.bytes;
-      held = first.held;
-      short = first.short;
-      so = record { bytes = bytes; held = holds; short = short; so = record { domain = d; first = first.so; refused = r } };
-    }
-    problem_refused bytes holds short refusal.Memory r = tt
-
-    module _ (p : problems.Problem) (second : HasProblem told paths d p) where
-      pub streams_refused : (bytes : List ℕ) → Holds told paths.streams bytes → IsShort bytes
-          → (why : InputRefusal)
-          → Refuses (RefusesStreams d bytes) why → MayRefuse told paths rose (stop_for Streams why)
-      streams_refused bytes holds short (refusal.At kind place) r = record {
-        bytes = first.bytes;
-        held = first.held;
-        short = first.short;
-        so = record {
-          bytes = second.bytes;
-          held = second.held;
-          short = second.short;
-          so = record { bytes = bytes; held = holds; short = short; so = record { domain = d; first = first.so; problem = p; second = second.so; refused = r } };
-        };
-      }
-      streams_refused bytes holds short refusal.Memory r = tt
-
--- the parts of a task, each read from its file
-pub task_of_parts : (told : Option FileMap) (paths : TaskFiles) (task : Task)
-    → HasDomain told paths task.domain
-    → HasProblem told paths task.domain task.problem → HasStreams told paths task.domain task.streams → IsTaskOf told paths task
-task_of_parts told paths task first second third = record {
-  bytes = first.bytes;
-  held = first.held;
-  short = first.short;
-  so = record {
-    bytes = second.bytes;
-    held = second.held;
-    short = second.short;
-    so = record { bytes = third.bytes; held = third.held; short = third.short; so = record { domain = first.so; problem = second.so; streams = third.so } };
-  };
+-- a run ends at the first file
+pub ends_first : (files : FilesSeen) (wanted : FileWanted) (more : List FileWanted) (why : Stop)
+    → EndsHere files [] wanted why → EndsAtFile files (wanted ∷ more) why
+ends_first files wanted more why ends = record {
+  before = [];
+  wanted = wanted;
+  later = more;
+  order = refl;
+  texts = [];
+  are = tt;
+  accepted = tt;
+  cause = ends.cause;
+  answer = ends.answer;
+  answered = ends.answered;
+  asked = ends.asked;
 }
+
+-- ---- refusals
+
+pub refused_first : (bytes : List ℕ) (why : InputRefusal) → Refuses (RefusesDomain bytes) why
+    → Refuses (IsRefused [] Domain bytes) why
+refused_first bytes (refusal.At kind place) r = r
+refused_first bytes refusal.Memory r = tt
+
+module _ (domain : List ℕ) (d : domains.Domain) (spelled : SpellsDomain domain d) where
+  pub refused_second : (bytes : List ℕ) (why : InputRefusal) → Refuses (RefusesProblem d bytes) why
+      → Refuses (IsRefused (domain ∷ []) Problem bytes) why
+  refused_second bytes (refusal.At kind place) r =
+      record { domain = d; first = spelled; refused = r }
+  refused_second bytes refusal.Memory r = tt
+
+  pub refused_third : (problem : List ℕ) (p : problems.Problem) → SpellsProblem d problem p
+      → (bytes : List ℕ) (why : InputRefusal) → Refuses (RefusesStreams d bytes) why
+      → Refuses (IsRefused (domain ∷ problem ∷ []) Streams bytes) why
+  refused_third problem p second bytes (refusal.At kind place) r =
+      record { domain = d; first = spelled; problem = p; second = second; refused = r }
+  refused_third problem p second bytes refusal.Memory r = tt
+
+-- the run ends at a file whose text is refused
+pub ends_refused : (files : FilesSeen) (texts : List (List ℕ)) (which : Text) (path bytes : List ℕ)
+    → HasBytes files.told (file_of (role.Text which) path) bytes
+    → Extends files.before files.after (ask (Ok tt) (file_of (role.Text which) path) ∷ [])
+    → (why : InputRefusal) → Refuses (IsRefused texts which bytes) why
+    → EndsHere files texts (file_of (role.Text which) path) (stop_for which why)
+ends_refused files texts which path bytes has asked (refusal.At kind place) r =
+    record { cause = (refl, record { bytes = bytes; has = has; so = r }); answer = Ok tt; answered = refl; asked = asked }
+ends_refused files texts which path bytes has asked refusal.Memory r =
+    record { cause = tt; answer = Ok tt; answered = tt; asked = asked }
+
+may_end : (files : FilesSeen) (texts : List (List ℕ)) (wanted : FileWanted) (why : Stop)
+    → MayEnd files texts wanted why → IsOfInput why
+may_end files texts wanted Usage n = n
+may_end files texts wanted (Input which kind place) n = tt
+may_end files texts wanted (Map why) n = tt
+may_end files texts wanted (Grid kind line) n = tt
+may_end files texts wanted (Failed which) n = tt
+may_end files texts wanted (TooLong which) n = tt
+may_end files texts wanted (Run (fault.Answer number why)) n = n
+may_end files texts wanted (Run fault.Generator) n = n
+may_end files texts wanted (Run fault.Write) n = n
+may_end files texts wanted (Run fault.Memory) n = tt
+
+pub is_of_input : (words : List (List ℕ)) (files : FilesSeen) (why : Stop) → HasNoInput words files why
+    → IsOfInput why
+is_of_input words files why (inl n) =
+    may_end files n.stopped.texts n.stopped.wanted why n.stopped.cause
+is_of_input words files why (inr n) = subst IsOfInput (sym n.is) tt
+
+-- a run that ends so has no fault of the host, nor of the sink
+pub no_cause : {T : Type 0} (r : Result T Stop) (why bad : Stop) (last count : ℕ) → IsErrAnd r (λ e. e ≡ why)
+    → IsOfInput why → (IsOfInput bad → ⊥) → HasCause bad last count count r
+no_cause {T} r why bad last count is input not = record {
+  later = omega arith;
+  cause = λ failed. absurd (not (subst IsOfInput (same_err (sym (handed_err r why is) ∙ failed)) input));
+}
+  where
+    same_err : {x y : Stop} → (let e : Result T Stop = Err x in e) ≡ Err y → x ≡ y
+    same_err e = cc
+
+-- ---- the task
 
 -- the task that the texts spell is fit
 pub fit_if_spelled : (told : Option FileMap) (paths : TaskFiles) (result : Result Task Stop)
     → IfOk result (IsTaskOf told paths)
     → IfOk result (λ task. IsFit task)
 fit_if_spelled told paths (Ok task) is =
-    spelled_tasks_fit is.bytes is.so.bytes is.so.so.bytes task is.short is.so.short is.so.so.short is.so.so.so
+    spelled_tasks_fit is.domain is.problem is.streams task is.are.0.short is.are.1.0.short is.are.1.1.0.short is.spelled
 fit_if_spelled told paths (Err why) is = tt
+
+-- a run ends at the report of a task that was read
+pub ends_at_report : (words : List (List ℕ)) (asked : ReplayWords) → command_of words ≡ Some (replay asked) → (task : Task)
+    → (told later : Option FileMap) → later ≡ told → (first mid last : ℕ) → first ≤ mid → (old middle new : Option (List Asked))
+    → IsTaskOf told asked.files task → Extends old middle (reads (task_files asked.files)) → (why : Stop)
+    → ((texts : List (List ℕ)) → EndsHere (looks later mid last middle new) texts (file_of role.Report asked.report) why)
+    → HasNoInput words (looks told first last old new) why
+ends_at_report words asked meant task told later same first mid last earlier old middle new t read why ends =
+    let texts = t.domain ∷ t.problem ∷ t.streams ∷ [] in
+    inl (record {
+      command = replay asked;
+      meant = meant;
+      all = files_named (replay asked);
+      are = inl refl;
+      stopped = ends_behind told first mid last earlier old middle new later same (task_files asked.files) read texts t.are (task, t.spelled) (file_of role.Report asked.report) [] why (ends texts);
+    })

@@ -1,166 +1,71 @@
 -- Which files a run asks for.
-use Rattle.std.specs.Prelude.{◌≡◌, ◌⊎◌, ℕ, List, [], ◌∷◌, ◌++◌, Result, Ok, Err, Option, Some, None}
+use Rattle.std.specs.Prelude.{◌≡◌, ◌⊎◌, ℕ, List, [], ◌∷◌, ◌++◌, Some}
 use Rattle.std.specs.Io.KnownBytes.{Appends}
-use Rattle.io_world.specs.FileMap.{FileMap, Asked}
 use Rattle.io_world.specs.Faults.{Extends}
-use Rattle.io_world.specs.declared.files.FileFault.{FileFault}
-use Rattle.io_world.specs.declared.files.FileFault.TheVariants as file
 use Rattle.level_run.specs.declared.fault.RunFault.TheVariants as fault
-use Rattle.pddlstream_app.specs.Runs.{HasNoInput}
+use Rattle.command_line.specs.Words.{Command, command_of}
+use Rattle.pddlstream_app.specs.Files.{FileWanted}
+use Rattle.pddlstream_app.specs.Inputs.{AreFilesOf, FileAnswer, HasNoInput, IsNoCommand, MayBeFilesOf, ask, reads}
+use Rattle.pddlstream_app.specs.Outside.{FilesSeen, Written}
 use Rattle.pddlstream_app.specs.Stop.{status_at, last_text}
-use Rattle.pddlstream_app.specs.Words.{Command, ReplayWords, TaskFiles, command_of, files_of, replay, solve}
 use Rattle.pddlstream_app.specs.declared.status.Status.{Status}
-use Rattle.pddlstream_app.specs.declared.status.Status.TheVariants.{Plan, Done, NoPlan, Limit, Usage, Input, BadAnswer, ReadFault, GeneratorFault, WriteFault, Memory, Invalid}
-use Rattle.pddlstream_app.specs.declared.stop.FileRole.{FileRole}
-use Rattle.pddlstream_app.specs.declared.stop.FileRole.TheVariants as role
+use Rattle.pddlstream_app.specs.declared.status.Status.TheVariants.{Usage, Input, ReadFault, WriteFault, Memory}
 use Rattle.pddlstream_app.specs.declared.stop.Stop.{Stop}
 use Rattle.pddlstream_app.specs.declared.stop.Stop.TheVariants as stop
-use Rattle.pddlstream_app.specs.declared.stop.Text.{Text}
-use Rattle.pddlstream_app.specs.declared.stop.Text.TheVariants.{Domain, Problem, Streams}
 
--- ---- the files of a command
-
--- how a file was answered
-abbrev pub FileAnswer : Type 0
-FileAnswer = Result (Unit {0}) FileFault
-
--- the file of this path was asked for, and this was the answer
-abbrev pub ask : List ℕ → FileAnswer → Asked
-ask path answer = record { path = path; answer = answer }
-
--- the files of a task up to this text's, in their order: those before it were read, and its own was answered so
-abbrev pub asks_to : TaskFiles → Text → FileAnswer → List Asked
-asks_to paths Domain answer = ask paths.domain answer ∷ []
-asks_to paths Problem answer = ask paths.domain (Ok tt) ∷ ask paths.problem answer ∷ []
-asks_to paths Streams answer =
-    ask paths.domain (Ok tt) ∷ ask paths.problem (Ok tt) ∷ ask paths.streams answer ∷ []
-
--- all files of a task, and then a report's, which was answered so
-abbrev pub asks_to_report : ReplayWords → FileAnswer → List Asked
-asks_to_report words answer = asks_to words.files Streams (Ok tt) ++ ask words.report answer ∷ []
-
--- all files of a command
-abbrev pub asks_all : Command → List Asked
-asks_all (solve words) = asks_to words.files Streams (Ok tt)
-asks_all (replay words) = asks_to_report words (Ok tt)
-
--- how a file that was read for this was answered, where the run stops so at it
-abbrev pub IsAnswerFor : FileRole → FileAnswer → Stop → Type 0
-IsAnswerFor which answer stop.Usage = ⊥
-IsAnswerFor which answer (stop.Input text kind place) = (role.Text text ≡ which) × (answer ≡ Ok tt)
-IsAnswerFor which answer (stop.Failed other) = (other ≡ which) × (answer ≡ Err file.Failed)
-IsAnswerFor which answer (stop.TooLong other) = (other ≡ which) × (answer ≡ Err file.TooLong)
-IsAnswerFor which answer (stop.Run (fault.Answer number why)) = ⊥
-IsAnswerFor which answer (stop.Run fault.Generator) = ⊥
-IsAnswerFor which answer (stop.Run fault.Write) = ⊥
-IsAnswerFor which answer (stop.Run fault.Memory) = Unit {0}
-
--- One file was asked for, and the run stops so at it.
-pub record AsksOne (path : List ℕ) (which : FileRole) (old new : Option (List Asked)) (why : Stop) : Type 0 where
-  pub answer : FileAnswer
-  pub fits : IsAnswerFor which answer why
-  pub asked : Extends old new (ask path answer ∷ [])
-
--- The report was asked for, and the run stops so at it, or behind it since the sink failed.
-abbrev pub AsksReport : List ℕ → Option (List Asked) → Option (List Asked) → Stop → Type 0
-AsksReport path old new why =
-    AsksOne path role.Report old new why ⊎ ((why ≡ stop.Run fault.Write) × Extends old new (ask path (Ok tt) ∷ []))
-
--- The files up to a text's were asked for, and the run stops so at that text.
-pub record AsksUpTo (paths : TaskFiles) (old new : Option (List Asked)) (why : Stop) : Type 0 where
-  pub text : Text
-  pub answer : FileAnswer
-  pub fits : IsAnswerFor (role.Text text) answer why
-  pub asked : Extends old new (asks_to paths text answer)
-
--- ---- the files of a run
+-- no file was asked for
+abbrev pub AsksNothing : FilesSeen → Type 0
+AsksNothing files = Extends files.before files.after []
 
 -- no file was asked for, where the words mean no command
-abbrev pub AsksNone : List (List ℕ) → Option (List Asked) → Option (List Asked) → Type 0
-AsksNone words old new = (command_of words ≡ None) × Extends old new []
+abbrev pub AsksNone : List (List ℕ) → FilesSeen → Type 0
+AsksNone words files = IsNoCommand words × AsksNothing files
 
 -- The words mean a command, and its files were asked for and read.
-pub record AsksAll (words : List (List ℕ)) (old new : Option (List Asked)) : Type 0 where
+pub record AsksAll (words : List (List ℕ)) (files : FilesSeen) : Type 0 where
   pub command : Command
   pub meant : command_of words ≡ Some command
-  pub asked : Extends old new (asks_all command)
+  pub all : List FileWanted
+  pub are : AreFilesOf files.told command all
+  pub asked : Extends files.before files.after (reads all)
 
--- The words mean a command, and its files up to one of its task's texts were asked for.
-pub record AsksTaskFront (words : List (List ℕ)) (old new : Option (List Asked)) : Type 0 where
+-- The words mean a command, and its files up to this one were asked for; those before it were read.
+pub record AsksUpTo (words : List (List ℕ)) (files : FilesSeen) : Type 0 where
   pub command : Command
   pub meant : command_of words ≡ Some command
-  pub text : Text
+  pub all : List FileWanted
+  pub are : MayBeFilesOf files.told command all
+  pub before : List FileWanted
+  pub wanted : FileWanted
+  pub later : List FileWanted
+  pub order : all ≡ before ++ wanted ∷ later
   pub answer : FileAnswer
-  pub asked : Extends old new (asks_to (files_of command) text answer)
-
--- The words mean a replay, and all its files were asked for.
-pub record AsksReportFront (words : List (List ℕ)) (old new : Option (List Asked)) : Type 0 where
-  pub command : ReplayWords
-  pub meant : command_of words ≡ Some (replay command)
-  pub answer : FileAnswer
-  pub asked : Extends old new (asks_to_report command answer)
-
--- the words mean a command, and its files were asked for from the first on
-abbrev pub AsksFront : List (List ℕ) → Option (List Asked) → Option (List Asked) → Type 0
-AsksFront words old new = AsksTaskFront words old new ⊎ AsksReportFront words old new
+  pub asked : Extends files.before files.after (reads before ++ ask answer wanted ∷ [])
 
 -- none was asked for, or some of the command's from the first on
-abbrev pub AsksSome : List (List ℕ) → Option (List Asked) → Option (List Asked) → Type 0
-AsksSome words old new = AsksNone words old new ⊎ AsksFront words old new
+abbrev pub AsksSome : List (List ℕ) → FilesSeen → Type 0
+AsksSome words files = AsksNothing files ⊎ AsksAll words files ⊎ AsksUpTo words files
 
--- The words mean a command, and its files were asked for up to that of the text at which the run stops so.
-pub record AsksForTask (words : List (List ℕ)) (old new : Option (List Asked)) (why : Stop) : Type 0 where
-  pub command : Command
-  pub meant : command_of words ≡ Some command
-  pub files : AsksUpTo (files_of command) old new why
-
--- The words mean a replay, and the run stops so at its report, behind the files of its task.
-pub record AsksForReport (words : List (List ℕ)) (old new : Option (List Asked)) (why : Stop) : Type 0 where
-  pub command : ReplayWords
-  pub meant : command_of words ≡ Some (replay command)
-  pub answer : FileAnswer
-  pub fits : IsAnswerFor role.Report answer why
-  pub asked : Extends old new (asks_to_report command answer)
-
-abbrev pub AsksWhileReading : List (List ℕ) → Option (List Asked) → Option (List Asked) → Stop
-    → Type 0
-AsksWhileReading words old new why = AsksForTask words old new why ⊎ AsksForReport words old new why
-
--- The file that the last line names is the cause of the run's end, and the files were asked for up to that one.
-pub record AsksToNamed (words : List (List ℕ)) (told : Option FileMap) (rose : Type 0) (old new : Option (List Asked)) (before now : Option (List ℕ)) (status : Status) : Type 0 where
+-- The file that the last line names is the cause of the run's end, and the files were asked for up to that one; or, where
+-- no map is named, the words of the program are, and the texts were asked for.
+pub record AsksToNamed (words : List (List ℕ)) (files : FilesSeen) (written : Written) (status : Status) : Type 0 where
   pub why : Stop
   pub kind : status_at why ≡ status
-  pub cause : HasNoInput words told rose why
-  pub took : Appends before now (last_text why)
-  pub asked : AsksWhileReading words old new why
+  pub cause : HasNoInput words files why
+  pub took : Appends written.before written.after (last_text why)
 
--- which files a run asks for that ends so: `old` and `new` are the asks that the files tell, and `before` and `now` what the sink took
-abbrev pub AsksFiles : List (List ℕ) → Option FileMap → Type 0 → Option (List Asked)
-    → Option (List Asked)
-    → Option (List ℕ) → Option (List ℕ) → Status → Type 0
-AsksFiles words told rose old new before now Usage = AsksNone words old new
-AsksFiles words told rose old new before now Input =
-    AsksToNamed words told rose old new before now Input
-AsksFiles words told rose old new before now ReadFault =
-    AsksToNamed words told rose old new before now ReadFault
-AsksFiles words told rose old new before now Plan = AsksAll words old new
-AsksFiles words told rose old new before now NoPlan = AsksAll words old new
-AsksFiles words told rose old new before now Limit = AsksAll words old new
-AsksFiles words told rose old new before now Done = AsksAll words old new
-AsksFiles words told rose old new before now Invalid = AsksAll words old new
-AsksFiles words told rose old new before now BadAnswer = AsksAll words old new
-AsksFiles words told rose old new before now GeneratorFault = AsksAll words old new
-AsksFiles words told rose old new before now Memory = AsksSome words old new
-AsksFiles words told rose old new before now WriteFault = AsksSome words old new
+-- which files a run asks for that ends so
+abbrev pub AsksFiles : List (List ℕ) → FilesSeen → Written → Status → Type 0
+AsksFiles words files written Usage = AsksNone words files
+AsksFiles words files written Input = AsksToNamed words files written Input
+AsksFiles words files written ReadFault = AsksToNamed words files written ReadFault
+AsksFiles words files written Memory = AsksSome words files
+AsksFiles words files written WriteFault = AsksSome words files
+AsksFiles words files written status = AsksAll words files
 
 -- which files were asked for where a run stops so
-abbrev pub AsksBefore : List (List ℕ) → Option (List Asked) → Option (List Asked) → Stop → Type 0
-AsksBefore words old new stop.Usage = AsksNone words old new
-AsksBefore words old new (stop.Input which kind place) =
-    AsksWhileReading words old new (stop.Input which kind place)
-AsksBefore words old new (stop.Failed which) = AsksWhileReading words old new (stop.Failed which)
-AsksBefore words old new (stop.TooLong which) = AsksWhileReading words old new (stop.TooLong which)
-AsksBefore words old new (stop.Run (fault.Answer number why)) = AsksAll words old new
-AsksBefore words old new (stop.Run fault.Generator) = AsksAll words old new
-AsksBefore words old new (stop.Run fault.Write) = AsksAll words old new
-AsksBefore words old new (stop.Run fault.Memory) = AsksFront words old new
+abbrev pub AsksBefore : List (List ℕ) → FilesSeen → Stop → Type 0
+AsksBefore words files stop.Usage = AsksNone words files
+AsksBefore words files (stop.Run fault.Memory) = AsksSome words files
+AsksBefore words files (stop.Run f) = AsksAll words files
+AsksBefore words files why = HasNoInput words files why

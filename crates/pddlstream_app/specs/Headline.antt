@@ -12,12 +12,14 @@ use Rattle.transcript_model.specs.Transcript.{known_of, names_of}
 use Rattle.transcript_model.specs.declared.entry.Call.{Call}
 use Rattle.transcript_model.specs.declared.outcome.Origin.{Origin}
 use Rattle.transcript_model.specs.declared.outcome.Outcome.TheVariants as outcome
+use Rattle.pddlstream_app.specs.Outside.{Written}
 use Rattle.pddlstream_app.specs.Runs.{ProgramRun, report_of}
 
--- The sink took the whole report of a run with this plan. The run's transcript is legal; over what its answers certify and what the
--- problem says at first the steps are executable, one after another, up to the goal; the printed calls are these steps and the printed
--- cost is what they cost; and each generated object among them comes from the answer that is named.
-pub record PrintsPlan (words : List (List ℕ)) (told : Option FileMap) (before after : Option (List ℕ)) : Type 0 where
+-- The sink took the whole report of a run with this plan. The run's transcript is legal; over what its answers certify
+-- and what the problem says at first the steps are executable, one after another, up to the goal; the printed calls are
+-- these steps and the printed cost is what they cost; and each generated object among them comes from the answer that
+-- is named.
+pub record PrintsPlan (words : List (List ℕ)) (told : Option FileMap) (written : Written) : Type 0 where
   pub run : ProgramRun words told
   pub steps : List GroundAction
   pub calls : List Call
@@ -26,12 +28,12 @@ pub record PrintsPlan (words : List (List ℕ)) (told : Option FileMap) (before 
   pub shown : calls ≡ map (call_of_step run.task (names_of run.task run.entries)) steps
   pub valid : IsValid run.task (known_of run.task run.entries) steps cost
   pub origins : AreOrigins run.head.version run.entries calls from
-  pub took : Appends before after (text_of_report (report_of run.task run.head run.entries (outcome.Plan calls cost from)))
+  pub took : Appends written.before written.after (text_of_report (report_of run.task run.head run.entries (outcome.Plan calls cost from)))
 
--- The sink took the whole report of a run with `no plan`. In its transcript no request waits and each instance that is reachable has
--- finished; and over what is known then no plan exists.
-pub record PrintsNoPlan (words : List (List ℕ)) (told : Option FileMap) (before after : Option (List ℕ)) : Type 0 where
+-- The sink took the whole report of a run with `no plan`. In its transcript no request waits and each instance that is
+-- reachable has finished; and over what is known then no plan exists.
+pub record PrintsNoPlan (words : List (List ℕ)) (told : Option FileMap) (written : Written) : Type 0 where
   pub run : ProgramRun words told
   pub closed : IsClosed run.head.version run.task run.entries
   pub unsolvable : ¬ (IsSolvable run.task (known_of run.task run.entries))
-  pub took : Appends before after (text_of_report (report_of run.task run.head run.entries outcome.NoPlan))
+  pub took : Appends written.before written.after (text_of_report (report_of run.task run.head run.entries outcome.NoPlan))

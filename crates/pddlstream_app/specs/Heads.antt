@@ -1,38 +1,51 @@
 -- The head of a run.
-use Rattle.std.specs.Prelude.{◌≡◌, ℕ, List, [], ◌∷◌, map, length, string_bytes}
-use Rattle.lemmas.specs.Lists.{numbers_from}
-use Rattle.task_model.specs.declared.stream.Stream.{Stream}
+use Rattle.std.specs.Prelude.{◌≡◌, ℕ, List, map, Option, None, Some}
+use Rattle.grid_text.specs.Files.{IsGridOf}
+use Rattle.grid_text.specs.Grids.{GridFile}
+use Rattle.io_world.specs.FileMap.{FileMap}
+use Rattle.stream_map.specs.Accepted.{Accepted, AcceptedMap}
+use Rattle.stream_map.specs.Children.{grid_file, plain, with_text}
+use Rattle.stream_map.specs.Form.{words_form}
 use Rattle.task_model.specs.declared.task.Task.{Task}
 use Rattle.transcript_model.specs.declared.head.Head.{Head}
-use Rattle.transcript_model.specs.declared.head.Mode.TheVariants.{Incremental}
 use Rattle.transcript_model.specs.declared.head.Pool.{Pool}
-use Rattle.pddlstream_app.specs.Words.{SolveWords}
+use Rattle.command_line.specs.Words.{SolveWords}
+use Rattle.pddlstream_app.specs.Files.{HoldsFile, file_of}
+use Rattle.pddlstream_app.specs.declared.stop.FileRole.TheVariants as role
 
--- the places of all streams
-abbrev pub all_streams : Task → List ℕ
-all_streams task = numbers_from 0 (length task.streams)
+-- the pools are those of the map under this path; or, where there is none, one of the program's words
+abbrev pub MeansBy : Option (List ℕ) → Option FileMap → SolveWords → Task → List Pool → Type 0
+MeansBy None told w task pools = Accepted task (words_form task w.program w.workers) pools
+MeansBy (Some path) told w task pools =
+    HoldsFile told (file_of role.Map path) (λ bytes. AcceptedMap task bytes pools)
 
--- So many workers, from child 0 on, answer for all streams; the program's words start each.
-pub record IsPoolOf (task : Task) (words : SolveWords) (pool : Pool) : Type 0 where
-  pub first : pool.first ≡ 0
-  pub workers : pool.workers ≡ words.workers
-  pub streams : pool.streams ≡ all_streams task
-  pub program : map string_bytes pool.argv ≡ words.program
+-- the pools that the words mean
+abbrev pub MeansPools : Option FileMap → SolveWords → Task → List Pool → Type 0
+MeansPools told w task pools = MeansBy w.path told w task pools
 
--- one pool, and none where there are no streams
-abbrev pub ArePoolsFor : Task → SolveWords → List Stream → List Pool → Type 0
-ArePoolsFor task words [] pools = pools ≡ []
-ArePoolsFor task words (s ∷ ss) pools =
-    (pool : Pool) × (pools ≡ pool ∷ []) × IsPoolOf task words pool
+-- The text is a grid, and it stands in these pools in the place of its path.
+pub record HasGridText (meant pools : List Pool) (text : List ℕ) : Type 0 where
+  pub grid : GridFile
+  pub is : IsGridOf text grid
+  pub placed : map plain pools ≡ with_text text (map plain meant)
 
-abbrev pub ArePoolsOf : Task → SolveWords → List Pool → Type 0
-ArePoolsOf task words pools = ArePoolsFor task words task.streams pools
+-- the pools with the text of the grid's file, if one names it
+abbrev pub HaveText : Option (List ℕ) → Option FileMap → List Pool → List Pool → Type 0
+HaveText None told meant pools = pools ≡ meant
+HaveText (Some path) told meant pools =
+    HoldsFile told (file_of role.Grid path) (HasGridText meant pools)
 
--- The head has the limits of the words; the mode is incremental, and one pool of the words' workers answers for all streams.
-pub record IsHeadOf (task : Task) (words : SolveWords) (head : Head) : Type 0 where
+-- The pools of a head are those that the words mean; each generator's words start it, the grid's with the text of its file.
+pub record AreServed (told : Option FileMap) (w : SolveWords) (task : Task) (pools : List Pool) : Type 0 where
+  pub meant : List Pool
+  pub means : MeansPools told w task meant
+  pub text : HaveText (grid_file (map plain meant)) told meant pools
+
+-- The head has the mode and the limits of the words, and the pools that they mean.
+pub record IsHeadOf (told : Option FileMap) (w : SolveWords) (task : Task) (head : Head) : Type 0 where
   pub version : head.version ≡ 1
-  pub mode : head.mode ≡ Incremental
-  pub calls : head.calls ≡ words.calls
-  pub states : head.states ≡ words.states
-  pub depth : head.depth ≡ 3
-  pub pools : ArePoolsOf task words head.pools
+  pub mode : head.mode ≡ w.mode
+  pub calls : head.calls ≡ w.limits.calls
+  pub states : head.states ≡ w.limits.states
+  pub depth : head.depth ≡ w.limits.depth
+  pub pools : AreServed told w task head.pools

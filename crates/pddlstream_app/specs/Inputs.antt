@@ -1,124 +1,222 @@
--- The texts of a task, and why none was read; the bytes of a report.
-use Rattle.std.specs.Prelude.{◌≡◌, ◌≤◌, ℕ, List, length, Option, Some, IfSome}
-use Rattle.io_world.specs.FileMap.{FileMap, HasMore}
+-- The files of a command, in the order in which they are read, and why a run ends at one of them.
+use Rattle.std.specs.Prelude.{◌≡◌, ◌⊎◌, ℕ, List, [], ◌∷◌, ◌++◌, map, Option, None, Some, IfSome, Result, Ok, Err, ⊤}
+use Rattle.io_world.specs.FileMap.{Asked, FileMap, HasMore}
+use Rattle.io_world.specs.Faults.{Extends}
+use Rattle.io_world.specs.declared.files.FileFault.{FileFault}
+use Rattle.io_world.specs.declared.files.FileFault.TheVariants as file
 use Rattle.task_model.specs.declared.domain.Domain as domains
-use Rattle.task_model.specs.declared.stream.Stream as streams
 use Rattle.task_model.specs.declared.task.Problem as problems
 use Rattle.task_model.specs.declared.task.Task.{Task}
-use Rattle.task_reader.specs.Fitness.{IsShort}
 use Rattle.task_reader.specs.Tasks.{Spells, RefusesSecond, RefusesThird}
-use Rattle.task_reader.specs.Texts.{SpellsDomain, SpellsProblem, SpellsStreams, RefusesDomain}
+use Rattle.task_reader.specs.Texts.{SpellsDomain, SpellsProblem, RefusesDomain}
 use Rattle.task_reader.specs.declared.refusal.FaultKind.{FaultKind}
 use Rattle.task_reader.specs.declared.refusal.InputRefusal.{InputRefusal}
 use Rattle.task_reader.specs.declared.refusal.InputRefusal.TheVariants as refusal
-use Rattle.pddlstream_app.specs.Words.{TaskFiles}
+use Rattle.pddlstream_app.specs.Outside.{FilesSeen, HaveFailed}
+use Rattle.command_line.specs.Words.{Command, SolveWords, TaskFiles, command_of, generate, replay, solve}
+use Rattle.grid_text.specs.Files.{Blames}
+use Rattle.grid_text.specs.declared.fault.GridFault.{GridFault}
+use Rattle.grid_text.specs.declared.fault.GridFault.TheVariants as grid
+use Rattle.stream_map.specs.Accepted.{AcceptedMap, Refuses}
+use Rattle.stream_map.specs.Children.{grid_file, plain}
+use Rattle.stream_map.specs.Faults.{Refused}
+use Rattle.stream_map.specs.Form.{stream_names, words_form}
+use Rattle.stream_map.specs.declared.fault.MapFault.{MapFault}
+use Rattle.stream_map.specs.declared.fault.MapFault.TheVariants.{Memory}
+use Rattle.transcript_model.specs.declared.head.Pool.{Pool}
+use Rattle.pddlstream_app.specs.Files.{AreBytes, FileWanted, HoldsFile, file_of, most_of}
+use Rattle.pddlstream_app.specs.Heads.{MeansPools}
 use Rattle.level_run.specs.declared.fault.RunFault.TheVariants as fault
 use Rattle.pddlstream_app.specs.declared.stop.Stop.{Stop}
-use Rattle.pddlstream_app.specs.declared.stop.Stop.TheVariants.{Usage, Input, Failed, TooLong, Run}
+use Rattle.pddlstream_app.specs.declared.stop.Stop.TheVariants.{Input, Map, Grid, Failed, TooLong, Run}
 use Rattle.pddlstream_app.specs.declared.stop.FileRole.{FileRole}
 use Rattle.pddlstream_app.specs.declared.stop.FileRole.TheVariants as role
 use Rattle.pddlstream_app.specs.declared.stop.Text.{Text}
 use Rattle.pddlstream_app.specs.declared.stop.Text.TheVariants.{Domain, Problem, Streams}
 
+-- ---- the files of a command
+
+-- the words mean no command, or the one that isn't built, `generate`
+abbrev pub IsNoCommand : List (List ℕ) → Type 0
+IsNoCommand words = (command_of words ≡ None) ⊎ ((n : ℕ) × (command_of words ≡ Some (generate n)))
+
+-- the files of a task
+abbrev pub task_files : TaskFiles → List FileWanted
+task_files paths =
+    file_of (role.Text Domain) paths.domain ∷ file_of (role.Text Problem) paths.problem
+    ∷ file_of (role.Text Streams) paths.streams ∷ []
+
+-- The task is the one that the texts of its three files spell.
+pub record IsTaskOf (told : Option FileMap) (paths : TaskFiles) (task : Task) : Type 0 where
+  pub domain : List ℕ
+  pub problem : List ℕ
+  pub streams : List ℕ
+  pub are : AreBytes told (task_files paths) (domain ∷ problem ∷ streams ∷ [])
+  pub spelled : Spells domain problem streams task
+
+-- a file that may be there
+abbrev pub file_at : FileRole → Option (List ℕ) → List FileWanted
+file_at which None = []
+file_at which (Some path) = file_of which path ∷ []
+
+-- the files that the words of a command name, in the order in which they are read
+abbrev pub files_named : Command → List FileWanted
+files_named (solve w) = task_files w.files ++ file_at role.Map w.path
+files_named (replay w) = task_files w.files ++ file_of role.Report w.report ∷ []
+files_named (generate n) = []
+
+-- the same, and then the grid's, if one of the pools names it that the words mean
+abbrev pub AreFilesOf : Option FileMap → Command → List FileWanted → Type 0
+AreFilesOf told (solve w) files =
+    (task : Task) × (pools : List Pool) × IsTaskOf told w.files task × MeansPools told w task pools
+    × (files ≡ files_named (solve w) ++ file_at role.Grid (grid_file (map plain pools)))
+AreFilesOf told command files = files ≡ files_named command
+
+-- where a run may end at one of the files, these are all that the words name, or these and then the grid's
+abbrev pub MayBeFilesOf : Option FileMap → Command → List FileWanted → Type 0
+MayBeFilesOf told command files = (files ≡ files_named command) ⊎ AreFilesOf told command files
+
 -- ---- texts
 
--- the path of a text
-abbrev pub path_of : TaskFiles → Text → List ℕ
-path_of paths Domain = paths.domain
-path_of paths Problem = paths.problem
-path_of paths Streams = paths.streams
+-- the first texts of a command are accepted: a domain, then a problem and then streams over it
+abbrev pub AreAccepted : List (List ℕ) → Type 0
+AreAccepted [] = ⊤
+AreAccepted (domain ∷ []) = (d : domains.Domain) × SpellsDomain domain d
+AreAccepted (domain ∷ problem ∷ []) =
+    (d : domains.Domain) × (p : problems.Problem) × SpellsDomain domain d × SpellsProblem d problem p
+AreAccepted (domain ∷ problem ∷ streams ∷ []) = (task : Task) × Spells domain problem streams task
+AreAccepted (domain ∷ problem ∷ streams ∷ text ∷ texts) =
+    (task : Task) × (pools : List Pool) × Spells domain problem streams task × AcceptedMap task text pools
 
--- the file of this path has these bytes, where files are told
-abbrev pub Holds : Option FileMap → List ℕ → List ℕ → Type 0
-Holds told path bytes = IfSome told (λ files. files path ≡ Some bytes)
+-- behind these texts, which are accepted, this one is refused for this fault
+abbrev pub IsRefused : List (List ℕ) → Text → List ℕ → FaultKind → ℕ → Type 0
+IsRefused [] Domain text kind place = RefusesDomain text kind place
+IsRefused (domain ∷ []) Problem text kind place = RefusesSecond domain text kind place
+IsRefused (domain ∷ problem ∷ []) Streams text kind place = RefusesThird domain problem text kind place
+IsRefused texts which text kind place = ⊥
 
--- The file of this path has at most 4 MiB, and of its bytes this is so.
-pub record HoldsText (told : Option FileMap) (path : List ℕ) (IsSo : List ℕ → Type 0) : Type 0 where
-  pub bytes : List ℕ
-  pub held : Holds told path bytes
-  pub short : IsShort bytes
-  pub so : IsSo bytes
+-- behind these texts, which spell a task, this map is refused for this fault
+abbrev pub IsRefusedMap : List (List ℕ) → List ℕ → MapFault → Type 0
+IsRefusedMap (domain ∷ problem ∷ streams ∷ []) text why =
+    (task : Task) × Spells domain problem streams task × ¬ (why ≡ Memory) × Refuses task text why
+IsRefusedMap texts text why = ⊥
 
--- the first file is this domain
-abbrev pub HasDomain : Option FileMap → TaskFiles → domains.Domain → Type 0
-HasDomain told paths d = HoldsText told paths.domain (λ bytes. SpellsDomain bytes d)
+-- what a refusal of a map stops for
+abbrev pub stop_for_map : MapFault → Stop
+stop_for_map Memory = Run fault.Memory
+stop_for_map why = Map why
 
--- the second is this problem over the domain
-abbrev pub HasProblem : Option FileMap → TaskFiles → domains.Domain → problems.Problem → Type 0
-HasProblem told paths d p = HoldsText told paths.problem (λ bytes. SpellsProblem d bytes p)
+-- what a refusal of a grid stops for
+abbrev pub stop_for_grid : GridFault → Stop
+stop_for_grid (grid.At line kind) = Grid kind line
+stop_for_grid grid.Memory = Run fault.Memory
 
--- the third is these streams over the domain
-abbrev pub HasStreams : Option FileMap → TaskFiles → domains.Domain → List streams.Stream → Type 0
-HasStreams told paths d ss = HoldsText told paths.streams (λ bytes. SpellsStreams d bytes ss)
+-- ---- why a run ends at a file
 
--- the task is the one that the texts of the three files spell
-abbrev pub IsTaskOf : Option FileMap → TaskFiles → Task → Type 0
-IsTaskOf told paths task = HoldsText told paths.domain (λ d. HoldsText told paths.problem (λ p. HoldsText told paths.streams (λ s. Spells d p s task)))
+-- how a file was answered
+abbrev pub FileAnswer : Type 0
+FileAnswer = Result (Unit {0}) FileFault
 
--- the texts before this one were accepted
-abbrev pub IsAccepted : Option FileMap → TaskFiles → Text → Type 0
-IsAccepted told paths Domain = Unit {0}
-IsAccepted told paths Problem = (d : domains.Domain) × HasDomain told paths d
-IsAccepted told paths Streams =
-    (d : domains.Domain) × (p : problems.Problem) × HasDomain told paths d × HasProblem told paths d p
+-- the file was asked for, and this was the answer
+abbrev pub ask : FileAnswer → FileWanted → Asked
+ask answer wanted = record { path = wanted.path; answer = answer }
 
--- ---- refusals
+-- the files were asked for and read, one after another
+abbrev pub reads : List FileWanted → List Asked
+reads files = map (ask (Ok tt)) files
 
--- this text is refused for this fault, and the texts before it are not
-abbrev pub IsRefused : Option FileMap → TaskFiles → Text → FaultKind → ℕ → Type 0
-IsRefused told paths Domain kind place =
-    HoldsText told paths.domain (λ d. RefusesDomain d kind place)
-IsRefused told paths Problem kind place =
-    HoldsText told paths.domain (λ d. HoldsText told paths.problem (λ p. RefusesSecond d p kind place))
-IsRefused told paths Streams kind place = HoldsText told paths.domain (λ d. HoldsText told paths.problem (λ p. HoldsText told paths.streams (λ s. RefusesThird d p s kind place)))
+-- the file has more bytes than it may have, where files are told
+abbrev pub IsTooLong : Option FileMap → FileWanted → Type 0
+IsTooLong told wanted = IfSome told (λ files. HasMore (files wanted.path) (most_of wanted.role))
 
--- the most bytes of a text: 4 MiB
-abbrev pub text_bytes : ℕ
-text_bytes = 4194304
+-- Why a run may end at this file, behind these texts: its bytes are refused; the count of faults rose; or it has more
+-- bytes than it may have. Want of memory is free.
+abbrev pub MayEnd : FilesSeen → List (List ℕ) → FileWanted → Stop → Type 0
+MayEnd files texts wanted (Input which kind place) =
+    (role.Text which ≡ wanted.role) × HoldsFile files.told wanted (λ text. IsRefused texts which text kind place)
+MayEnd files texts wanted (Map why) =
+    (role.Map ≡ wanted.role) × HoldsFile files.told wanted (λ text. IsRefusedMap texts text why)
+MayEnd files texts wanted (Grid kind line) =
+    (role.Grid ≡ wanted.role) × HoldsFile files.told wanted (λ text. Blames text (grid.At line kind))
+MayEnd files texts wanted (Failed which) = (which ≡ wanted.role) × HaveFailed files
+MayEnd files texts wanted (TooLong which) = (which ≡ wanted.role) × IsTooLong files.told wanted
+MayEnd files texts wanted (Run fault.Memory) = ⊤
+MayEnd files texts wanted why = ⊥
 
--- the file of this path has more bytes than it may have, where files are told
-abbrev pub IsTooLong : Option FileMap → ℕ → List ℕ → Type 0
-IsTooLong told most path = IfSome told (λ files. HasMore (files path) most)
+-- how the file was answered at which a run ends so
+abbrev pub IsAnswer : Stop → FileAnswer → Type 0
+IsAnswer (Input which kind place) answer = answer ≡ Ok tt
+IsAnswer (Map why) answer = answer ≡ Ok tt
+IsAnswer (Grid kind line) answer = answer ≡ Ok tt
+IsAnswer (Failed which) answer = answer ≡ Err file.Failed
+IsAnswer (TooLong which) answer = answer ≡ Err file.TooLong
+IsAnswer why answer = ⊤
 
--- Why a file was not read: the count of faults rose, or it has more bytes than it may have, or memory is wanting.
-abbrev pub MayNotRead : Option FileMap → FileRole → ℕ → List ℕ → Type 0 → Stop → Type 0
-MayNotRead told role most path rose Usage = ⊥
-MayNotRead told role most path rose (Input which kind place) = ⊥
-MayNotRead told role most path rose (Failed which) = (which ≡ role) × rose
-MayNotRead told role most path rose (TooLong which) = (which ≡ role) × IsTooLong told most path
-MayNotRead told role most path rose (Run (fault.Answer number why)) = ⊥
-MayNotRead told role most path rose (Run fault.Generator) = ⊥
-MayNotRead told role most path rose (Run fault.Write) = ⊥
-MayNotRead told role most path rose (Run fault.Memory) = Unit {0}
+-- The file was asked for, and the run ends at it so, behind these texts.
+pub record EndsHere (files : FilesSeen) (texts : List (List ℕ)) (wanted : FileWanted) (why : Stop) : Type 0 where
+  pub cause : MayEnd files texts wanted why
+  pub answer : FileAnswer
+  pub answered : IsAnswer why answer
+  pub asked : Extends files.before files.after (ask answer wanted ∷ [])
 
--- Why no task was read. A file is read only after the texts before it were accepted.
-abbrev pub MayRefuse : Option FileMap → TaskFiles → Type 0 → Stop → Type 0
-MayRefuse told paths rose Usage = ⊥
-MayRefuse told paths rose (Input which kind place) = IsRefused told paths which kind place
-MayRefuse told paths rose (Failed (role.Text which)) = rose × IsAccepted told paths which
-MayRefuse told paths rose (Failed role.Report) = ⊥
-MayRefuse told paths rose (TooLong (role.Text which)) =
-    IsTooLong told text_bytes (path_of paths which) × IsAccepted told paths which
-MayRefuse told paths rose (TooLong role.Report) = ⊥
-MayRefuse told paths rose (Run (fault.Answer number why)) = ⊥
-MayRefuse told paths rose (Run fault.Generator) = ⊥
-MayRefuse told paths rose (Run fault.Write) = ⊥
-MayRefuse told paths rose (Run fault.Memory) = Unit {0}
+-- A run ends so at one of these files. Those before it were read, one after another, and their texts accepted; it was
+-- asked for last.
+pub record EndsAtFile (files : FilesSeen) (all : List FileWanted) (why : Stop) : Type 0 where
+  pub before : List FileWanted
+  pub wanted : FileWanted
+  pub later : List FileWanted
+  pub order : all ≡ before ++ wanted ∷ later
+  pub texts : List (List ℕ)
+  pub are : AreBytes files.told before texts
+  pub accepted : AreAccepted texts
+  pub cause : MayEnd files texts wanted why
+  pub answer : FileAnswer
+  pub answered : IsAnswer why answer
+  pub asked : Extends files.before files.after (reads before ++ ask answer wanted ∷ [])
+
+-- The words mean a command, and the run ends so at one of its files.
+pub record EndsReading (words : List (List ℕ)) (files : FilesSeen) (why : Stop) : Type 0 where
+  pub command : Command
+  pub meant : command_of words ≡ Some command
+  pub all : List FileWanted
+  pub are : MayBeFilesOf files.told command all
+  pub stopped : EndsAtFile files all why
+
+-- The words mean that a task is to be solved, and name no map; the task was read, and their program makes no pool for it.
+pub record HasNoPool (words : List (List ℕ)) (files : FilesSeen) (why : Stop) : Type 0 where
+  pub asked : SolveWords
+  pub meant : command_of words ≡ Some (solve asked)
+  pub no_map : asked.path ≡ None
+  pub task : Task
+  pub spelled : IsTaskOf files.told asked.files task
+  pub fault : MapFault
+  pub is : why ≡ Map fault
+  pub certain : ¬ (fault ≡ Memory)
+  pub refused : Refused (stream_names task) (words_form task asked.program asked.workers) fault
+  pub asked_for : Extends files.before files.after (reads (task_files asked.files))
+
+-- what is to be read is no input, for this cause
+abbrev pub HasNoInput : List (List ℕ) → FilesSeen → Stop → Type 0
+HasNoInput words files why = EndsReading words files why ⊎ HasNoPool words files why
+
+-- The run ends at the first of these files, behind these texts, if there is one.
+abbrev pub EndsFirst : FilesSeen → List (List ℕ) → List FileWanted → Stop → Type 0
+EndsFirst files texts [] why = ⊥
+EndsFirst files texts (wanted ∷ more) why = EndsHere files texts wanted why
+
+-- No file is asked for, and the program makes no pool for the task; or memory is wanting.
+pub record MakesNoPool (files : FilesSeen) (w : SolveWords) (task : Task) (why : Stop) : Type 0 where
+  pub fault : MapFault
+  pub is : why ≡ stop_for_map fault
+  pub refused : Refused (stream_names task) (words_form task w.program w.workers) fault
+  pub asked : Extends files.before files.after []
+
+-- why the pools aren't read, behind these texts, of words that name this map
+abbrev pub EndsAtPools : Option (List ℕ) → FilesSeen → List (List ℕ) → SolveWords → Task → Stop → Type 0
+EndsAtPools None files texts w task why = MakesNoPool files w task why
+EndsAtPools (Some path) files texts w task why = EndsHere files texts (file_of role.Map path) why
 
 -- what a refusal of this text stops for
 abbrev pub stop_for : Text → InputRefusal → Stop
 stop_for text (refusal.At kind place) = Input text kind place
 stop_for text refusal.Memory = Run fault.Memory
-
--- ---- reports
-
--- the most bytes of a report: 256 MiB
-abbrev pub report_bytes : ℕ
-report_bytes = 268435456
-
--- The file of this path has at most so many bytes, and of these this is so.
-pub record HoldsReport (told : Option FileMap) (path : List ℕ) (IsSo : List ℕ → Type 0) : Type 0 where
-  pub bytes : List ℕ
-  pub held : Holds told path bytes
-  pub short : length bytes ≤ report_bytes
-  pub so : IsSo bytes

@@ -1,10 +1,12 @@
 pub mod Asked
 pub mod Codes
 pub mod Complete
+pub mod Files
 pub mod Headline
 pub mod Heads
 pub mod Inputs
+pub mod Outside
+pub mod Paths
 pub mod Replays
 pub mod Runs
 pub mod Stop
-pub mod Words

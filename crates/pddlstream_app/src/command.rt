@@ -3,9 +3,10 @@ ghost use Rattle.std.specs.Prelude.{◌≡◌, ◌≤◌, ◌⊎◌, ℕ, false,
 ghost use Rattle.io_world.specs.Faults.{last_count, HasCause, Rose};
 ghost use Rattle.pddlstream_app.specs.Asked.{AsksAll, AsksBefore, AsksFiles};
 ghost use Rattle.pddlstream_app.specs.Complete.{GoesWell, EndsWell};
-ghost use Rattle.pddlstream_app.specs.Runs.{Caused, Ends, ClosesRun, IsCompleted, IsStopped, TellsStatus};
-ghost use Rattle.level_run.specs.declared.fault.RunFault.TheVariants as fault;
 ghost use Rattle.pddlstream_app.specs.Headline.{PrintsNoPlan, PrintsPlan};
+ghost use Rattle.pddlstream_app.specs.Outside.{outside_of, seen_of, written_of};
+ghost use Rattle.pddlstream_app.specs.Runs.{Caused, ClosesRun, Ends, IsCompleted, IsStopped, LeavesReplays, TellsStatus};
+ghost use Rattle.level_run.specs.declared.fault.RunFault.TheVariants as fault;
 ghost use Rattle.pddlstream_app.specs.declared.status.Status.TheVariants.{GeneratorFault, NoPlan, Plan, WriteFault};
 ghost use Rattle.pddlstream_app.specs.declared.stop.Stop.TheVariants.{Run};
 
@@ -13,13 +14,14 @@ use crate::judge::judge;
 use crate::solve::solve;
 use crate::status::Status;
 use crate::stop::{MEMORY, Stop};
-use crate::words::{Command, command_of};
+use command_line::{Config, WordsFault, read_words};
 use io_world::{Files, Host, Sink, write_all};
+use level_run::RunFault;
 use std::alloc::Global;
 
 /// Writes the last line of a run that ends so.
 fn tell<O: Sink>(out: &mut O, text: &[u8], status: Status) -> Status
-    ensures told { TellsStatus status text.now (O.taken out.old) (O.taken out.new) result }
+    ensures told { TellsStatus status text.now (written_of O.taken out.old out.new) result }
     ensures later { O.faults out.old ≤ O.faults out.new }
     ensures cause { (result ≡ status) ⊎ Rose last_count (O.faults out.old) (O.faults out.new) }
 {
@@ -31,7 +33,7 @@ fn tell<O: Sink>(out: &mut O, text: &[u8], status: Status) -> Status
 
 /// Writes the last line of a run that has no outcome, and answers how it ends.
 fn close<O: Sink>(alloc: Global, out: &mut O, stop: &Stop) -> Status
-    ensures closed { ClosesRun stop.now (O.taken out.old) (O.taken out.new) result }
+    ensures closed { ClosesRun stop.now (written_of O.taken out.old out.new) result }
     ensures later { O.faults out.old ≤ O.faults out.new }
     ensures cause { result ≡ WriteFault → (stop.now ≡ Run fault.Write)
         ⊎ Rose last_count (O.faults out.old) (O.faults out.new) }
@@ -51,47 +53,51 @@ fn attempt<F: Files, H: Host, O: Sink>(
     out: &mut O,
 ) -> Result<Status, Stop>
     requires idle { (k : ℕ) → H.running host.old k ≡ false }
-    ensures completed { IfOk result
-        (IsCompleted (map string_bytes words.now) (F.told files.old)
-        (H.log host.new ≡ H.log host.old) (H.spoken host.new) (H.log host.old) (H.log host.new)
-        (O.taken out.old) (O.taken out.new)) }
-    ensures stopped { IfErr result (IsStopped (map string_bytes words.now) (F.told files.old)
-        (Rose last_count (F.faults files.old) (F.faults files.new)) (H.spoken host.new)
-        (H.log host.old) (H.log host.new) (O.taken out.old) (O.taken out.new)) }
+    ensures completed { IfOk result (IsCompleted (map string_bytes words.now)
+        (outside_of (seen_of F.told F.faults F.asked files.old files.new) H.spoken H.log host.old
+        host.new) (written_of O.taken out.old out.new)) }
+    ensures stopped { IfErr result (IsStopped (map string_bytes words.now)
+        (outside_of (seen_of F.told F.faults F.asked files.old files.new) H.spoken H.log host.old
+        host.new) (written_of O.taken out.old out.new)) }
     ensures idle { (k : ℕ) → H.running host.new k ≡ false }
-    ensures files { F.faults files.old ≤ F.faults files.new }
+    ensures replays { LeavesReplays (map string_bytes words.now)
+        (outside_of (seen_of F.told F.faults F.asked files.old files.new) H.spoken H.log host.old
+        host.new) }
     ensures host { HasCause (Run fault.Generator) H.last (H.faults host.old) (H.faults host.new)
         result }
     ensures sink { HasCause (Run fault.Write) last_count (O.faults out.old) (O.faults out.new)
         result }
-    ensures asked { IfOk result (λ _. AsksAll (map string_bytes words.now) (F.asked files.old)
-        (F.asked files.new)) }
-    ensures asked_before { IfErr result
-        (AsksBefore (map string_bytes words.now) (F.asked files.old) (F.asked files.new)) }
+    ensures asked { IfOk result (λ _. AsksAll (map string_bytes words.now)
+        (seen_of F.told F.faults F.asked files.old files.new)) }
+    ensures asked_before { IfErr result (AsksBefore (map string_bytes words.now)
+        (seen_of F.told F.faults F.asked files.old files.new)) }
 {
-    let Some(command) = command_of(words) else {
-        return Err(Stop::Usage);
+    let config = match read_words(alloc, words) {
+        Ok(config) => config,
+        Err(WordsFault::Usage) => return Err(Stop::Usage),
+        Err(WordsFault::Memory) => return Err(Stop::Run(RunFault::Memory)),
     };
-    match command {
-        Command::Solve(words) => solve(alloc, &words, files, host, out),
-        Command::Replay(words) => judge(alloc, &words, files, out),
+    match config {
+        Config::Solve(words) => solve(alloc, &words, files, host, out),
+        Config::Replay(words) => judge(alloc, &words, files, out),
+        Config::Generate(_) => Err(Stop::Usage),
     }
 }
 
 /// Does what the words ask for.
 ///
-/// `solve DOMAIN PROBLEM STREAMS [--calls N] [--states N] [--workers N] -- PROGRAM WORDS` reads the domain's file and the
-/// domain, then the problem's and the problem, then the streams' and the streams. Where something is to be asked it starts the
-/// program once for each worker, from child 0 on. It works level by level, in rounds of as many requests as there are workers,
-/// and writes a report: its head, each request and answer, and the outcome. N is from 1 to 100,000 calls (10,000 where none is
-/// given), from 1 to 200,000 states of a search (100,000), and from 1 to 16 workers (1).
+/// `solve DOMAIN PROBLEM STREAMS [OPTIONS] [-- PROGRAM WORDS]` reads the domain's file and the domain, then the problem's and
+/// the problem, then the streams' and the streams. By `--map FILE` the map says which program answers which stream; without
+/// it, PROGRAM answers all, by `--workers N` children (1). A pool of `@grid FILE` has the generator of the grid, whose file is
+/// read last. Where something is to be asked, the children of all pools are started. It works level by level, in rounds of as
+/// many requests as the pools have workers for, and writes a report: its head, each request and answer, and the outcome.
+/// The other options are `--algorithm`, `--calls`, `--states` and `--depth` (`command_line`).
 ///
 /// `replay DOMAIN PROBLEM STREAMS REPORT [--states N]` reads the three texts so, then the report's file, and writes `valid`,
-/// `invalid LINE KIND`, or `limit states` where a claim of the report can't be decided within N states, from 1 to 200,000
-/// (100,000 where none is given).
+/// `invalid LINE KIND`, or `limit states` where a claim of the report can't be decided within N states.
 ///
 /// A fault's line is the last: for a refused text it names the text, the kind of the fault and its place, in bytes from the
-/// text's beginning.
+/// text's beginning; for a map the kind, and for a grid the kind and the line.
 pub fn run<F: Files, H: Host, O: Sink>(
     alloc: Global,
     words: &[String],
@@ -105,34 +111,38 @@ pub fn run<F: Files, H: Host, O: Sink>(
     // The headline. A printed plan is executable over what the problem and the printed answers say, reaches the goal and has the
     // printed cost; `no plan` stands only where each reachable instance has finished and no plan exists.
     ensures plan { result ≡ Plan
-        → PrintsPlan (map string_bytes words.now) (F.told files.old) (O.taken out.old) (O.taken out.new) }
+        → PrintsPlan (map string_bytes words.now) (F.told files.old)
+        (written_of O.taken out.old out.new) }
     ensures no_plan { result ≡ NoPlan
-        → PrintsNoPlan (map string_bytes words.now) (F.told files.old) (O.taken out.old) (O.taken out.new) }
+        → PrintsNoPlan (map string_bytes words.now) (F.told files.old)
+        (written_of O.taken out.old out.new) }
     // What the sink took is what a run writes that ends so, or a part of it where the sink failed. Where the host tells what was said
     // with the children, that is the dialogue of the run's transcript. Where the host's log is told, its calls are those of the
     // transcript, in order, and then stops: the starts of all workers, the writes of each request and the reads of each answer. A run
     // without an outcome has them up to where it broke off; a fault of the generator has a call that failed, and where no line of a
     // level stands only stops came. Where nothing was asked in a run with an outcome, no call was made on a child.
-    ensures ends { Ends (map string_bytes words.now) (F.told files.old)
-        (Rose last_count (F.faults files.old) (F.faults files.new))
-        (H.log host.new ≡ H.log host.old) (H.spoken host.new) (H.log host.old) (H.log host.new)
-        (O.taken out.old) (O.taken out.new) result }
+    ensures ends { Ends (map string_bytes words.now)
+        (outside_of (seen_of F.told F.faults F.asked files.old files.new) H.spoken H.log host.old
+        host.new) (written_of O.taken out.old out.new) result }
+    // A replay makes no call on a child, however it ends, also where the sink fails.
+    ensures replays { LeavesReplays (map string_bytes words.now)
+        (outside_of (seen_of F.told F.faults F.asked files.old files.new) H.spoken H.log host.old
+        host.new) }
     // A fault of the generator or of the sink is answered only where its count rose.
-    ensures host { Caused GeneratorFault H.last (H.faults host.old) (H.faults host.new) result }
-    ensures sink { Caused WriteFault last_count (O.faults out.old) (O.faults out.new) result }
-    // Where the words mean that a task is to be solved, the files are told and spell one, no count of faults rose and only answers were heard, the run has an
-    // outcome, or memory is wanting.
-    ensures complete { GoesWell (map string_bytes words.now) (F.told files.old)
-        (Rose last_count (F.faults files.old) (F.faults files.new))
-        (Rose H.last (H.faults host.old) (H.faults host.new))
-        (Rose last_count (O.faults out.old) (O.faults out.new)) (H.spoken host.new)
-        → EndsWell result }
+    ensures host { Caused (result ≡ GeneratorFault) H.last (H.faults host.old) (H.faults host.new) }
+    ensures sink { Caused (result ≡ WriteFault) last_count (O.faults out.old) (O.faults out.new) }
+    // Where the words mean that a task is to be solved, the files are told and spell one, no count of faults rose and only answers were
+    // heard, the run has an outcome, or memory is wanting.
+    ensures complete { GoesWell (map string_bytes words.now)
+        (outside_of (seen_of F.told F.faults F.asked files.old files.new) H.spoken H.log host.old
+        host.new) (Rose H.last (H.faults host.old) (H.faults host.new))
+        (Rose last_count (O.faults out.old) (O.faults out.new)) → EndsWell result }
     // Where the files tell which paths were asked for, those of this call are the command's files, each once and in their order: none where
-    // the words are no command, those up to the text that the last line names where it was refused or not read, and else all three. Where
+    // the words are no command, those up to the text that the last line names where it was refused or not read, and else all. Where
     // memory is wanting or the sink failed, they are a front of these.
-    ensures asked { AsksFiles (map string_bytes words.now) (F.told files.old)
-        (Rose last_count (F.faults files.old) (F.faults files.new)) (F.asked files.old)
-        (F.asked files.new) (O.taken out.old) (O.taken out.new) result }
+    ensures asked { AsksFiles (map string_bytes words.now)
+        (seen_of F.told F.faults F.asked files.old files.new) (written_of O.taken out.old out.new)
+        result }
 {
     match attempt(alloc, words, files, host, out) {
         Ok(status) => status,

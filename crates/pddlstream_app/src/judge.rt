@@ -1,30 +1,35 @@
 //! Judging a report.
-ghost use Rattle.std.specs.Prelude.{◌≡◌, ◌<◌, ◌≤◌, ◌^◌, ◌++◌, [], ◌∷◌, ℕ, List, length, Option, Some, Ok, codes, IfOk, IfErr};
+ghost use Rattle.std.specs.Prelude.{◌≡◌, ◌<◌, ◌≤◌, ◌^◌, ◌++◌, ℕ, List, [], ◌∷◌, length, Option, Some, Ok, codes, IfOk, IfErr};
 ghost use Rattle.std.specs.Fmt.{decimal};
-ghost use Rattle.io_world.specs.Faults.{last_count, Extends, HasCause, Rose};
+ghost use Rattle.io_world.specs.Faults.{last_count, Extends, HasCause};
 ghost use Rattle.io_world.specs.Talks.{Event, Talk};
-ghost use Rattle.pddlstream_app.specs.Asked.{AsksAll, AsksBefore, AsksReport, ask};
-ghost use Rattle.pddlstream_app.specs.Inputs.{IsTaskOf};
+ghost use Rattle.pddlstream_app.specs.Asked.{AsksAll, AsksBefore};
+ghost use Rattle.pddlstream_app.specs.Files.{HasBytes, file_of};
+ghost use Rattle.pddlstream_app.specs.Inputs.{EndsHere, ask};
+ghost use Rattle.pddlstream_app.specs.Outside.{resting, seen_of, written_of};
+ghost use Rattle.pddlstream_app.specs.Paths.{held_files};
 ghost use Rattle.pddlstream_app.specs.Replays.{kind_of_verdict, verdict_text};
-ghost use Rattle.pddlstream_app.specs.Runs.{IsCompleted, IsSaidOf, IsShown, IsStopped};
-ghost use Rattle.pddlstream_app.specs.Words.{IsWithinReplay, command_of, held_files, held_replay, replay as to_replay};
+ghost use Rattle.pddlstream_app.specs.Runs.{IsCompleted, IsSaid, IsShown, IsStopped};
+ghost use Rattle.pddlstream_app.specs.Stop.{IsOfInput};
+ghost use Rattle.command_line.specs.Held.{held_replay};
+ghost use Rattle.command_line.specs.Ranges.{IsBetween};
+ghost use Rattle.command_line.specs.Words.{command_of, replay as to_replay};
 ghost use Rattle.task_model.specs.Fit.{IsFit};
 ghost use Rattle.replay_check.specs.Kinds.{breach_number};
+ghost use Rattle.replay_check.specs.Verdicts.{IsVerdict};
 ghost use Rattle.level_run.specs.declared.fault.RunFault.TheVariants as fault;
+ghost use Rattle.pddlstream_app.specs.declared.stop.FileRole.TheVariants as role;
 ghost use Rattle.pddlstream_app.specs.declared.stop.Stop.TheVariants.{Run};
 
 use crate::status::Status;
 use crate::stop::{FileRole, Stop};
-use crate::texts::{read_file, read_input};
-use crate::words::ReplayWords;
+use crate::texts::{TaskPaths, read_file, read_task};
+use command_line::ReplayConfig;
 use io_world::{Files, Sink, write_all};
 use level_run::RunFault;
 use replay_check::{BreachKind, Verdict, replay};
 use std::alloc::{AllocError, Global};
 use task_model::Task;
-
-/// The most bytes of a report: 256 MiB.
-const REPORT_BYTES: usize = 268_435_456;
 
 /// How a run ends that says this.
 fn status_of(verdict: Verdict) -> Status
@@ -60,7 +65,7 @@ fn verdict_line(alloc: Global, verdict: Verdict) -> Result<Vec<u8>, AllocError>
 
 /// Writes the line for a verdict.
 fn show<O: Sink>(alloc: Global, verdict: Verdict, out: &mut O) -> Result<Status, Stop>
-    ensures shown { IsShown verdict (O.taken out.old) (O.taken out.new) result }
+    ensures shown { IsShown verdict (written_of O.taken out.old out.new) result }
     ensures sink { HasCause (Run fault.Write) last_count (O.faults out.old) (O.faults out.new)
         result }
 {
@@ -83,7 +88,8 @@ fn judge_bytes<O: Sink>(
     requires some { 1 ≤ states }
     requires few { states ≤ 200000 }
     requires bytes { length bytes.now < 2 ^ 31 }
-    ensures said { IsSaidOf states task.now bytes.now (O.taken out.old) (O.taken out.new) result }
+    ensures said { IsSaid (IsVerdict states task.now bytes.now) (written_of O.taken out.old out.new)
+        result }
     ensures sink { HasCause (Run fault.Write) last_count (O.faults out.old) (O.faults out.new)
         result }
 {
@@ -91,69 +97,61 @@ fn judge_bytes<O: Sink>(
     show(alloc, verdict, out)
 }
 
-/// Reads the report of a task that was read, judges it, and writes what is said of it.
-fn judge_report<F: Files, O: Sink>(
-    alloc: Global,
-    words: &ReplayWords<'_>,
-    task: &Task,
-    files: &mut F,
-    out: &mut O,
-) -> Result<Status, Stop>
-    requires within { IsWithinReplay words.now }
-    requires fit { IsFit task.now }
-    ensures completed { (line : List (List ℕ)) (spoken : ℕ → Option Talk)
-        (log : Option (List Event)) → command_of line ≡ Some (to_replay (held_replay words.now))
-        → IsTaskOf (F.told files.old) (held_files words.now.files) task.now
-        → IfOk result (IsCompleted line (F.told files.old) (Unit {0}) spoken log log
-        (O.taken out.old) (O.taken out.new)) }
-    ensures stopped { (line : List (List ℕ)) (spoken : ℕ → Option Talk) (log : Option (List Event))
-        (first : ℕ) → first ≤ F.faults files.old → command_of line
-        ≡ Some (to_replay (held_replay words.now))
-        → IsTaskOf (F.told files.old) (held_files words.now.files) task.now
-        → IfErr result (IsStopped line (F.told files.old)
-        (Rose last_count first (F.faults files.new)) spoken log log (O.taken out.old)
-        (O.taken out.new)) }
-    ensures files { F.faults files.old ≤ F.faults files.new }
-    ensures host { IfErr result (λ why. ¬ (why ≡ Run fault.Generator)) }
-    ensures sink { HasCause (Run fault.Write) last_count (O.faults out.old) (O.faults out.new)
-        result }
-    ensures asked { IfOk result (λ _. Extends (F.asked files.old) (F.asked files.new)
-        (ask words.now.report.now (Ok tt) ∷ [])) }
-    ensures asked_before { IfErr result
-        (AsksReport words.now.report.now (F.asked files.old) (F.asked files.new)) }
+/// The paths of the task's texts.
+fn paths_of(words: &ReplayConfig) -> TaskPaths<'_>
+    ensures { held_files result ≡ (held_replay words.now).files }
 {
-    let report = read_file(files, words.report, FileRole::Report, REPORT_BYTES)?;
-    judge_bytes(alloc, task, report.as_slice(), words.states, out)
+    TaskPaths {
+        domain: words.domain.as_str(),
+        problem: words.problem.as_str(),
+        streams: words.streams.as_str(),
+    }
+}
+
+/// Reads the report's file.
+fn read_report<F: Files>(files: &mut F, words: &ReplayConfig) -> Result<Vec<u8>, Stop>
+    ensures bytes { IfOk result (λ bytes. HasBytes (F.told files.old)
+        (file_of role.Report (held_replay words.now).report) bytes.items) }
+    ensures asked { IfOk result (λ _. Extends (F.asked files.old) (F.asked files.new)
+        (ask (Ok tt) (file_of role.Report (held_replay words.now).report) ∷ [])) }
+    ensures stop { IfErr result (λ why. (texts : List (List ℕ))
+        → EndsHere (seen_of F.told F.faults F.asked files.old files.new) texts
+        (file_of role.Report (held_replay words.now).report) why) }
+    ensures same { F.told files.new ≡ F.told files.old }
+    ensures later { F.faults files.old ≤ F.faults files.new }
+    ensures input { IfErr result IsOfInput }
+{
+    read_file(files, FileRole::Report, words.report.as_str())
 }
 
 /// Reads the files, judges the report, and writes what is said of it.
 pub(crate) fn judge<F: Files, O: Sink>(
     alloc: Global,
-    words: &ReplayWords<'_>,
+    words: &ReplayConfig,
     files: &mut F,
     out: &mut O,
 ) -> Result<Status, Stop>
-    requires within { IsWithinReplay words.now }
+    requires within { IsBetween 200000 words.now.states }
     ensures completed { (line : List (List ℕ)) (spoken : ℕ → Option Talk)
         (log : Option (List Event)) → command_of line ≡ Some (to_replay (held_replay words.now))
-        → IfOk result (IsCompleted line (F.told files.old) (Unit {0}) spoken log log
-        (O.taken out.old) (O.taken out.new)) }
+        → IfOk result (IsCompleted line (resting (seen_of F.told F.faults F.asked files.old
+        files.new) spoken log) (written_of O.taken out.old out.new)) }
     ensures stopped { (line : List (List ℕ)) (spoken : ℕ → Option Talk) (log : Option (List Event))
         → command_of line ≡ Some (to_replay (held_replay words.now))
-        → IfErr result (IsStopped line (F.told files.old)
-        (Rose last_count (F.faults files.old) (F.faults files.new)) spoken log log (O.taken out.old)
-        (O.taken out.new)) }
-    ensures files { F.faults files.old ≤ F.faults files.new }
+        → IfErr result (IsStopped line (resting (seen_of F.told F.faults F.asked files.old
+        files.new) spoken log) (written_of O.taken out.old out.new)) }
     ensures host { IfErr result (λ why. ¬ (why ≡ Run fault.Generator)) }
     ensures sink { HasCause (Run fault.Write) last_count (O.faults out.old) (O.faults out.new)
         result }
     ensures asked { (line : List (List ℕ)) → command_of line
         ≡ Some (to_replay (held_replay words.now))
-        → IfOk result (λ _. AsksAll line (F.asked files.old) (F.asked files.new)) }
+        → IfOk result (λ _. AsksAll line (seen_of F.told F.faults F.asked files.old files.new)) }
     ensures asked_before { (line : List (List ℕ)) → command_of line
         ≡ Some (to_replay (held_replay words.now))
-        → IfErr result (AsksBefore line (F.asked files.old) (F.asked files.new)) }
+        → IfErr result (AsksBefore line (seen_of F.told F.faults F.asked files.old files.new)) }
 {
-    let task = read_input(alloc, files, &words.files)?;
-    judge_report(alloc, words, &task, files, out)
+    let paths = paths_of(words);
+    let task = read_task(alloc, files, &paths)?;
+    let report = read_report(files, words)?;
+    judge_bytes(alloc, &task, report.as_slice(), words.states, out)
 }

@@ -4,11 +4,11 @@
 mod command;
 mod head;
 mod judge;
+mod maps;
 mod solve;
 mod status;
 mod stop;
 mod texts;
-mod words;
 
 pub use command::run;
 pub use status::Status;

@@ -2,14 +2,18 @@
 ghost use Rattle.std.specs.Prelude.{◌≡◌, ◌++◌, codes, IfOk};
 ghost use Rattle.std.specs.Fmt.{decimal};
 ghost use Rattle.task_reader.specs.Kinds.{kind_word};
-ghost use Rattle.pddlstream_app.specs.Stop.{is_write, status_at, last_text, role_word, text_word, why_word};
+ghost use Rattle.pddlstream_app.specs.Files.{most_of};
+ghost use Rattle.pddlstream_app.specs.Stop.{grid_word, is_write, last_text, map_word, role_word, status_at, text_word, why_word};
 ghost use Rattle.level_run.specs.declared.fault.RunFault.TheVariants.{Memory};
 ghost use Rattle.pddlstream_app.specs.declared.stop.Stop.TheVariants.{Run};
 
 use crate::status::Status;
+use command_line::usage_text;
 use gen_lines::Why;
+use grid_text::GridKind;
 use level_run::RunFault;
 use std::alloc::{AllocError, Global};
+use stream_map::MapFault;
 use task_reader::FaultKind;
 
 /// One of the three texts.
@@ -28,6 +32,10 @@ pub(crate) enum Text {
 pub(crate) enum FileRole {
     /// A text of the task.
     Text(Text),
+    /// The map of generators.
+    Map,
+    /// The grid that a pool names.
+    Grid,
     /// The report that is judged.
     Report,
 }
@@ -42,6 +50,13 @@ pub(crate) enum Stop {
         text: Text,
         kind: FaultKind,
         place: usize,
+    },
+    /// The map, or the program's words in its place, was refused for this fault, which is not want of memory.
+    Map(MapFault),
+    /// The grid was refused for this fault of this line, counted from 1.
+    Grid {
+        kind: GridKind,
+        line: u32,
     },
     /// The file could not be read.
     Failed(FileRole),
@@ -73,7 +88,7 @@ impl Stop {
     {
         match self {
             Stop::Usage => Status::Usage,
-            Stop::Input { .. } => Status::Input,
+            Stop::Input { .. } | Stop::Map(_) | Stop::Grid { .. } => Status::Input,
             Stop::Failed(_) | Stop::TooLong(_) => Status::ReadFault,
             Stop::Run(RunFault::Answer { .. }) => Status::BadAnswer,
             Stop::Run(RunFault::Generator) => Status::GeneratorFault,
@@ -88,8 +103,10 @@ impl Stop {
         ensures { IfOk result (λ text. text.items ≡ last_text self.now) }
     {
         match self {
-            Stop::Usage => Vec::from_slice(alloc, USAGE),
+            Stop::Usage => parts(alloc, b"fault usage\n", usage_text().as_bytes(), b""),
             Stop::Input { text, kind, place } => input_line(alloc, *text, *kind, *place),
+            Stop::Map(fault) => parts(alloc, b"fault input map ", map_word(*fault), b"\n"),
+            Stop::Grid { kind, line } => grid_line(alloc, *kind, *line),
             Stop::Failed(role) => parts(alloc, b"fault read ", role.word(), b" failed\n"),
             Stop::TooLong(role) => parts(alloc, b"fault read ", role.word(), b" too-long\n"),
             Stop::Run(RunFault::Answer { number, why }) => answer_line(alloc, *number, *why),
@@ -99,12 +116,6 @@ impl Stop {
         }
     }
 }
-
-/// What is printed where the words are no command.
-const USAGE: &[u8] = b"fault usage
-usage: pddlstream solve DOMAIN PROBLEM STREAMS [OPTIONS] [-- PROGRAM WORDS]
-usage: pddlstream replay DOMAIN PROBLEM STREAMS REPORT [--states N]
-";
 
 /// What is printed where memory is wanting.
 pub(crate) const MEMORY: &[u8] = b"fault memory\n";
@@ -122,13 +133,31 @@ impl Text {
     }
 }
 
+/// The most bytes of a text, a map or a grid: 4 MiB.
+const TEXT_BYTES: usize = 4_194_304;
+
+/// The most bytes of a report: 256 MiB.
+const REPORT_BYTES: usize = 268_435_456;
+
 impl FileRole {
+    /// The most bytes of such a file.
+    pub(crate) fn most(self) -> usize
+        ensures { result ≡ most_of self }
+    {
+        match self {
+            FileRole::Text(_) | FileRole::Map | FileRole::Grid => TEXT_BYTES,
+            FileRole::Report => REPORT_BYTES,
+        }
+    }
+
     /// The word that stands for the file.
     fn word(&self) -> &'static [u8]
         ensures { result.now ≡ role_word self.now }
     {
         match self {
             FileRole::Text(text) => text.word(),
+            FileRole::Map => b"map",
+            FileRole::Grid => b"grid",
             FileRole::Report => b"report",
         }
     }
@@ -144,6 +173,46 @@ fn why_word(why: Why) -> &'static [u8]
         Why::Value => b"value",
         Why::TooLong => b"too-long",
     }
+}
+
+/// The word for the fault of a map.
+fn map_word(fault: MapFault) -> &'static [u8]
+    ensures { result.now ≡ map_word fault }
+{
+    match fault {
+        MapFault::Json => b"json",
+        MapFault::Shape => b"shape",
+        MapFault::Workers => b"workers",
+        MapFault::Unknown => b"unknown",
+        MapFault::Doubled => b"doubled",
+        MapFault::Unserved => b"unserved",
+        MapFault::Memory => b"memory",
+    }
+}
+
+/// The word for the fault of a grid's line.
+fn grid_word(kind: GridKind) -> &'static [u8]
+    ensures { result.now ≡ grid_word kind }
+{
+    match kind {
+        GridKind::Form => b"form",
+        GridKind::Number => b"number",
+        GridKind::Outside => b"outside",
+        GridKind::Duplicate => b"duplicate",
+        GridKind::TooMany => b"too-many",
+    }
+}
+
+/// The line for a refused grid.
+fn grid_line(alloc: Global, kind: GridKind, line: u32) -> Result<Vec<u8>, AllocError>
+    ensures { IfOk result (λ text. text.items ≡ codes "fault input grid " ++ grid_word kind
+        ++ codes " " ++ decimal line ++ codes "\n") }
+{
+    let line = format!(in alloc; "{line}")?;
+    let mut text = parts(alloc, b"fault input grid ", grid_word(kind), b" ")?;
+    text.extend_from_slice(line.as_bytes())?;
+    text.extend_from_slice(b"\n")?;
+    Ok(text)
 }
 
 /// These bytes, one behind the other.

@@ -15,7 +15,6 @@ use Rattle.name_tables.specs.Names.{with_name}
 use Rattle.name_tables.specs.Variables.{named_sorts, named_words, seen_after}
 use Rattle.name_tables.specs.declared.vocabulary.Vocabulary.{Vocabulary}
 use Rattle.domain_reader.specs.Cycles.{AreSorts, no_sorts, more_sorts, type_edges}
-use Rattle.domain_reader.specs.Domains as domains
 use Rattle.domain_reader.specs.Domains.{IsDomainRead, constants_in, is_constants}
 use Rattle.domain_reader.specs.Tables.{no_names, vocabulary_of, with_item, with_items}
 use Rattle.name_tables.specs.Texts.{body_of}

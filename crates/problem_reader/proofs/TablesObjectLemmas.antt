@@ -5,7 +5,6 @@ use Rattle.std.specs.List.{position_or_len}
 use Rattle.std.specs.Str.{bytes_eq}
 use Rattle.lemmas.proofs.Positions.{any_within}
 use Rattle.sexpr_text.specs.Trees.{Trees, nothing, word, list}
-use Rattle.task_model.specs.declared.domain.Declared as declared
 use Rattle.form_reader.specs.declared.groups.Spot.{Spot}
 use Rattle.form_reader.specs.declared.groups.Spot.TheVariants.{Named, Typed as Typed'}
 use Rattle.form_reader.specs.Rows.{after_word}

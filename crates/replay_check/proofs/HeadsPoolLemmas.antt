@@ -3,7 +3,6 @@ use Rattle.std.proofs.Common.{◌≡◌, ℕ, zero, suc, ◌+◌, ◌≤◌, ◌
 use Rattle.std.proofs.lemmas.List.{map-append, append-nil}
 use Rattle.std.proofs.lemmas.List.Concat.{flat_map-append}
 use Rattle.std.proofs.lemmas.List.Sums.{sum_by-append}
-use Rattle.std.proofs.lemmas.Grind.{common_steps}
 use Rattle.lemmas.proofs.Bools.{and_four}
 use Rattle.level_course.specs.Pools.{share_of, shares_of}
 use Rattle.level_course.specs.declared.shares.Share.{Share}
@@ -12,6 +11,7 @@ use Rattle.transcript_model.specs.declared.head.PoolLine.{PoolLine}
 use Rattle.replay_check.specs.Headed.{IsAfter}
 use Rattle.replay_check.specs.Heads.{AreFitPoolLines, are_new, is_fit_pool, served_by, share_in, streams_in, workers_in}
 use Rattle.replay_check.specs.declared.head.Before.{Before}
+use Rattle.lemmas.proofs.Numbers.{le_test}
 
 last_or_before : {A : Type 0} (xs : List A) (x : A) (k : ℕ) (y : A)
     → slice_get (xs ++ x ∷ []) k ≡ Some y
@@ -26,9 +26,6 @@ last_or_before (z ∷ zs) x (suc k) y at = up (last_or_before zs x k y at)
     up (inl h) = inl (h.0, ap (λ es. z ∷ es) h.1)
     up (inr h) = inr (h.0, ap (λ es. z ∷ es) h.1)
 
-within : (m n : ℕ) → m ≤ n → nat_le m n ≡ true
-within m n le = grind (arith, common_steps)
-
 module _ (task : Task) (before : List PoolLine) (pool : PoolLine) (b : Before) (h : IsAfter task before b) where
   pub pool_fits : 1 ≤ pool.workers → pool.workers ≤ 16 → b.workers + pool.workers ≤ 17
       → are_new task b.served.items pool.streams ≡ true
@@ -36,7 +33,7 @@ module _ (task : Task) (before : List PoolLine) (pool : PoolLine) (b : Before) (
   pool_fits some few together new =
       let all : workers_in before + pool.workers ≤ 17 = let is = h.workers in omega (arith, is, together) in
       and_four (nat_le 1 pool.workers) (nat_le pool.workers 16) (nat_le (workers_in before + pool.workers) 17) (are_new task (served_by task before) pool.streams)
-      (within 1 pool.workers some) (within pool.workers 16 few) (within (workers_in before + pool.workers) 17 all) (ap (λ (s : List ℕ). are_new task s pool.streams) (sym h.served) ∙ new)
+      (le_test 1 pool.workers some) (le_test pool.workers 16 few) (le_test (workers_in before + pool.workers) 17 all) (ap (λ (s : List ℕ). are_new task s pool.streams) (sym h.served) ∙ new)
 
   fit_more : is_fit_pool task before pool ≡ true → AreFitPoolLines task (before ++ pool ∷ [])
   fit_more fits place other at = by (last_or_before before pool place other at)

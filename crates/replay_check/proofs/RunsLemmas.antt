@@ -19,7 +19,7 @@ use Rattle.task_model.specs.declared.domain.Action.{Action}
 use Rattle.task_model.specs.declared.task.GroundAction.{GroundAction}
 use Rattle.task_model.specs.declared.task.Task.{Task}
 use Rattle.transcript_model.proofs.CallNameLemmas.{places_exact}
-use Rattle.transcript_model.proofs.NamesLemmas.{and_then_some, map_some, position_at, position_only}
+use Rattle.transcript_model.proofs.NamesLemmas.{map_some, position_at, position_only}
 use Rattle.transcript_model.specs.Calls.{action_name, call_of_step}
 use Rattle.transcript_model.specs.Names.{places_of}
 use Rattle.transcript_model.specs.declared.entry.Call.{Call}
@@ -33,6 +33,7 @@ use Rattle.replay_check.specs.Plans.{CanRun}
 use Rattle.replay_check.specs.Runs.{IsRunOf, IsSum, StopsAtStep}
 use Rattle.replay_check.specs.declared.steps.Run.{Run}
 use Rattle.transcript_ledger.specs.Steps.{action_named, step_named}
+use Rattle.lemmas.proofs.Options.{and_then_some}
 
 -- ---- names of objects
 

@@ -51,13 +51,16 @@ pub(crate) fn judge_no_plan(
     if !dues.as_slice().is_empty() {
         return Ok(Claim::False);
     }
-    if exceeds(bounds.alloc, bounds.task, &ledger.facts, limit)? {
-        return Ok(Claim::Open);
-    }
     match search(bounds.alloc, bounds.task, &ledger.facts, limit, &mut Blind)? {
         Found::Nothing => Ok(Claim::True),
-        Found::Plan(_, _) => Ok(Claim::False),
         Found::Limit => Ok(Claim::Open),
+        Found::Plan(_, _) => {
+            if exceeds(bounds.alloc, bounds.task, &ledger.facts, limit)? {
+                Ok(Claim::Open)
+            } else {
+                Ok(Claim::False)
+            }
+        }
     }
 }
 

@@ -19,12 +19,15 @@ pub(crate) fn first_difference(shown: &[Origin], due: &[Origin]) -> Option<usize
     ensures within { IfSome result (λ k. k ≤ length shown.now) }
     ensures none { IfNone result (shown.now ≡ due.now) }
 {
-    match (shown.split_first(), due.split_first()) {
-        (None, None) => None,
-        (Some((first, shown)), Some((second, due))) if is_same(first, second) => {
-            let place = first_difference(shown, due)?;
-            Some(place + 1)
+    let common = shown.len().min(due.len());
+    for place in 0..common {
+        if !is_same(&shown[place], &due[place]) {
+            return Some(place);
         }
-        _ => Some(0),
+    }
+    if shown.len() == due.len() {
+        None
+    } else {
+        Some(common)
     }
 }

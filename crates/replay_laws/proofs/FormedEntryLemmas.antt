@@ -18,7 +18,7 @@ use Rattle.task_model.specs.declared.task.Task.{Task}
 use Rattle.transcript_model.proofs.LegalPrefixLemmas.{legal_take}
 use Rattle.transcript_model.proofs.NamedObjectLemmas.{passes_all}
 use Rattle.transcript_model.proofs.LegalNumberLemmas.{number_below}
-use Rattle.transcript_model.proofs.NamesLemmas.{and_then_some, map_some, place_at, position_at}
+use Rattle.transcript_model.proofs.NamesLemmas.{map_some, place_at, position_at}
 use Rattle.report_text.specs.Forms.{AreTuples, IsFormedCall, IsFormedEntry, IsObject}
 use Rattle.transcript_model.specs.Legal.{IsLegal, asks_of, has_several, is_answer_to, is_ask_of, is_open, is_answer}
 use Rattle.transcript_model.specs.Names.{instance_of, place_of, places_of, stream_named}
@@ -30,6 +30,7 @@ use Rattle.replay_laws.proofs.PlainEntryLemmas.{is_plain, yields_few}
 use Rattle.std.proofs.lemmas.Map.Keys.{any_passes_from_place}
 use Rattle.lemmas.proofs.ListTests.{all_at, any_append_left}
 use Rattle.report_text.proofs.FormsNameLemmas.{names_formed}
+use Rattle.lemmas.proofs.Options.{and_then_some}
 
 -- ---- names
 

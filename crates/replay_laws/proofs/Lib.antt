@@ -6,3 +6,4 @@ pub mod WrittenPoolLemmas
 pub mod PlainEntryLemmas
 pub mod PoolSumLemmas
 pub mod WrittenLemmas
+pub mod MapPoolLemmas

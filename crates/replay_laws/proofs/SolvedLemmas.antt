@@ -1,43 +1,36 @@
 -- What the program writes of a run with an outcome, it finds valid where it judges it.
-use Rattle.std.proofs.Common.{◌≡◌, ℕ, ◌<◌, ◌≤◌, ◌^◌, inl, inr, List, [], ◌∷◌, length, refl, sym, subst, ap, ◌∙◌, arith, Some}
+use Rattle.std.proofs.Common.{◌≡◌, ℕ, ◌<◌, ◌≤◌, ◌^◌, List, length, sym, subst, ap, ◌∙◌, arith, Option, Some}
 use Rattle.io_world.specs.FileMap.{FileMap}
 use Rattle.level_run.specs.Reports.{whole_text}
-use Rattle.pddlstream_app.proofs.HeadsLemmas.{AreInRange, head_runs}
-use Rattle.pddlstream_app.proofs.WordsRangeLemmas.{words_in_range}
-use Rattle.pddlstream_app.specs.Heads.{ArePoolsFor, IsHeadOf}
+use Rattle.command_line.proofs.RangesLemmas.{in_range}
+use Rattle.command_line.specs.Ranges.{AreInRange}
+use Rattle.command_line.specs.Words.{SolveWords, TaskFiles, solve}
+use Rattle.pddlstream_app.proofs.HeadsLemmas.{head_runs}
+use Rattle.pddlstream_app.specs.Files.{Holds}
+use Rattle.pddlstream_app.specs.Heads.{IsHeadOf}
 use Rattle.pddlstream_app.specs.Inputs.{IsTaskOf}
 use Rattle.pddlstream_app.specs.Replays.{kind_of_verdict, verdict_text}
-use Rattle.pddlstream_app.specs.Words.{SolveWords, TaskFiles}
 use Rattle.task_reader.proofs.SpelledLemmas.{one_task}
 use Rattle.replay_check.specs.Verdicts.{IsVerdict}
 use Rattle.replay_check.specs.declared.verdict.Verdict.TheVariants.{Valid}
-use Rattle.task_model.specs.declared.stream.Stream.{Stream}
 use Rattle.task_model.specs.declared.task.Task.{Task}
 use Rattle.task_reader.specs.Tasks.{Spells}
 use Rattle.transcript_model.specs.declared.head.Head.{Head}
-use Rattle.transcript_model.specs.declared.head.Pool.{Pool}
-use Rattle.replay_laws.proofs.WrittenPoolLemmas.{one_pool}
+use Rattle.replay_laws.proofs.MapPoolLemmas.{served_shown}
 use Rattle.replay_laws.proofs.WrittenLemmas.{text_same, written_valid}
 use Rattle.replay_laws.specs.Solved.{AreSameTexts, SolvedReportsAreValid}
-use Rattle.replay_laws.specs.Written.{IsHeadOfReports, IsOnePool}
+use Rattle.replay_laws.specs.Written.{IsHeadOfReports}
 
 -- ---- the head of a run
 
-pools_one : (task : Task) (w : SolveWords) → w.workers ≤ 16 → (ss : List Stream) → ss ≡ task.streams
-    → (pools : List Pool)
-    → ArePoolsFor task w ss pools → IsOnePool task pools
-pools_one task w few [] none pools are = inl are
-pools_one task w few (s ∷ ss) some pools (pool, are, is) =
-    inr (pool, are, omega (arith, is.workers, few), is.streams, omega (arith, ap length some))
-
-shown_head : (task : Task) (w : SolveWords) (head : Head) → IsHeadOf task w head → AreInRange w
-    → IsHeadOfReports task head
-shown_head task w head headed within = record {
-  runnable = head_runs task w head headed within;
-  mode = headed.mode;
-  some_depth = omega (arith, headed.depth);
-  depth = omega (arith, headed.depth);
-  pools = one_pool task head.pools (pools_one task w within.few_workers task.streams refl head.pools headed.pools);
+shown_head : (told : Option FileMap) (task : Task) (w : SolveWords) (head : Head) → IsHeadOf told w task head
+    → AreInRange w → IsHeadOfReports task head
+shown_head told task w head headed within = record {
+  runnable = head_runs task told w head headed within;
+  mode = headed.mode ∙ within.built;
+  some_depth = omega (arith, headed.depth, within.depth.0);
+  depth = omega (arith, headed.depth, within.depth.1);
+  pools = served_shown told w task head.pools headed.pools;
 }
 
 -- ---- the task of both
@@ -53,29 +46,34 @@ same_task : (files later : FileMap) (paths others : TaskFiles) (t u : Task)
     → AreSameTexts files later paths others
     → IsTaskOf (Some files) paths t → IsTaskOf (Some later) others u → u ≡ t
 same_task files later paths others t u same x y =
-    let domain : y.bytes ≡ x.bytes = same_bytes files later paths.domain others.domain x.bytes y.bytes same.domain x.held y.held in
-    let problem : y.so.bytes ≡ x.so.bytes = same_bytes files later paths.problem others.problem x.so.bytes y.so.bytes same.problem x.so.held y.so.held in
-    let streams : y.so.so.bytes ≡ x.so.so.bytes = same_bytes files later paths.streams others.streams x.so.so.bytes y.so.so.bytes same.streams x.so.so.held y.so.so.held in
-    one_task x.bytes x.so.bytes x.so.so.bytes u t
-    (subst (λ b. Spells x.bytes x.so.bytes b u) streams
-    (subst (λ b. Spells x.bytes b y.so.so.bytes u) problem
-    (subst (λ b. Spells b y.so.bytes y.so.so.bytes u) domain y.so.so.so)))
-    x.so.so.so
+    let domain : y.domain ≡ x.domain = same_bytes files later paths.domain others.domain x.domain y.domain same.domain x.are.0.held y.are.0.held in
+    let problem : y.problem ≡ x.problem = same_bytes files later paths.problem others.problem x.problem y.problem same.problem x.are.1.0.held y.are.1.0.held in
+    let streams : y.streams ≡ x.streams = same_bytes files later paths.streams others.streams x.streams y.streams same.streams x.are.1.1.0.held y.are.1.1.0.held in
+    one_task x.domain x.problem x.streams u t
+    (subst (λ b. Spells x.domain x.problem b u) streams
+    (subst (λ b. Spells x.domain b y.streams u) problem
+    (subst (λ b. Spells b y.problem y.streams u) domain y.spelled)))
+    x.spelled
 
 -- ---- the verdict
 
 pub solved_valid : SolvedReportsAreValid
-solved_valid files later words others spoken was now before after status end text said solved judged same report le =
+solved_valid files later words others outside after status end text said solved judged first second same report le =
     let run = solved.run in
     let whole = whole_text run.task run.head run.entries solved.outcome in
-    let both : Some judged.report.bytes ≡ Some text = sym judged.report.held ∙ report in
-    let read : judged.report.bytes ≡ text = cc in
-    let wrote : judged.report.bytes ≡ whole = read ∙ solved.is ∙ sym (text_same run.task run.head run.entries solved.outcome) in
-    let task : judged.task ≡ run.task = same_task files later run.asked.files judged.asked.files run.task judged.task same run.spelled judged.spelled in
+    let judging = judged.report in
+    let held : Holds (Some later) judged.asked.report judging.bytes = subst (λ told. Holds told judged.asked.report judging.bytes) second judging.has.held in
+    let both : Some judging.bytes ≡ Some text = sym held ∙ report in
+    let read : judging.bytes ≡ text = cc in
+    let wrote : judging.bytes ≡ whole = read ∙ solved.is ∙ sym (text_same run.task run.head run.entries solved.outcome) in
+    let task : judged.task ≡ run.task =
+    same_task files later run.asked.files judged.asked.files run.task judged.task same
+    (subst (λ told. IsTaskOf told run.asked.files run.task) first run.spelled) (subst (λ told. IsTaskOf told judged.asked.files judged.task) second judged.spelled) in
     let verdict : IsVerdict judged.asked.states run.task whole judged.verdict =
-    subst (λ b. IsVerdict judged.asked.states run.task b judged.verdict) wrote (subst (λ t. IsVerdict judged.asked.states t judged.report.bytes judged.verdict) task judged.report.so) in
-    let can = shown_head run.task run.asked run.head run.headed (words_in_range words run.asked run.meant) in
-    let short : length whole < 2 ^ 31 = omega (arith, judged.report.short, ap length wrote) in
+    subst (λ b. IsVerdict judged.asked.states run.task b judged.verdict) wrote (subst (λ t. IsVerdict judged.asked.states t judging.bytes judged.verdict) task judging.so) in
+    let can = shown_head outside.files.told run.task run.asked run.head run.headed (in_range words (solve run.asked) run.meant) in
+    let most = judging.has.short in
+    let short : length whole < 2 ^ 31 = omega (arith, most, ap length wrote) in
     let states : run.head.states ≤ judged.asked.states = omega (arith, le, run.headed.states) in
     let valid : judged.verdict ≡ Valid = written_valid run.task run.head run.entries solved.outcome run.fit can solved.turns judged.asked.states judged.verdict short states verdict in
     (sym judged.kind ∙ ap kind_of_verdict valid, judged.is ∙ ap verdict_text valid)

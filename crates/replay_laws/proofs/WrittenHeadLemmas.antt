@@ -23,7 +23,7 @@ use Rattle.task_model.specs.declared.stream.Stream.{Stream}
 use Rattle.task_model.specs.declared.task.Task.{Task}
 use Rattle.transcript_model.proofs.CallNameLemmas.{call_names_instance}
 use Rattle.transcript_model.proofs.NamedObjectLemmas.{passes_all}
-use Rattle.transcript_model.proofs.NamesLemmas.{and_then_some, map_some, position_at}
+use Rattle.transcript_model.proofs.NamesLemmas.{map_some, position_at}
 use Rattle.transcript_model.proofs.LegalOnceLemmas.{cut_at}
 use Rattle.transcript_model.specs.Names.{stream_named}
 use Rattle.transcript_model.specs.Rounds.{limits_of, share_of}
@@ -37,6 +37,7 @@ use Rattle.transcript_model.specs.declared.outcome.Outcome.{Outcome}
 use Rattle.transcript_model.specs.declared.report.Report.{Report}
 use Rattle.replay_laws.proofs.PoolSumLemmas.{together}
 use Rattle.replay_laws.specs.Written.{IsHeadOfReports}
+use Rattle.lemmas.proofs.Options.{and_then_some}
 
 -- the report of a run with this outcome
 abbrev pub report_of : Task → Head → List Entry → Outcome → Report

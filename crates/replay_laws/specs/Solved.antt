@@ -1,10 +1,10 @@
 -- What the program writes where it solves, it finds valid where it judges. The law is the contract of a public function of `lib.rt`.
-use Rattle.std.specs.Prelude.{◌≡◌, ℕ, ◌≤◌, List, Option, Some}
+use Rattle.std.specs.Prelude.{◌≡◌, ℕ, ◌≤◌, List, Some}
+use Rattle.command_line.specs.Words.{TaskFiles}
 use Rattle.io_world.specs.FileMap.{FileMap}
-use Rattle.io_world.specs.Talks.{Event, Talk}
+use Rattle.pddlstream_app.specs.Outside.{Outside}
 use Rattle.pddlstream_app.specs.Replays.{verdict_text}
 use Rattle.pddlstream_app.specs.Runs.{HasOutcome, HasVerdict}
-use Rattle.pddlstream_app.specs.Words.{TaskFiles}
 use Rattle.pddlstream_app.specs.declared.status.Status.{Status}
 use Rattle.pddlstream_app.specs.declared.status.Status.TheVariants.{Done}
 use Rattle.replay_check.specs.declared.verdict.Verdict.TheVariants.{Valid}
@@ -19,6 +19,8 @@ pub record AreSameTexts (files later : FileMap) (paths others : TaskFiles) : Typ
 -- texts, its report is what was written, and its limit is at least the run's. Then it says that the report is valid, and ends so.
 abbrev pub SolvedReportsAreValid : Type 0
 SolvedReportsAreValid =
-    (files later : FileMap) (words others : List (List ℕ)) (spoken : ℕ → Option Talk) (was now before after : Option (List Event)) (status end : Status) (text said : List ℕ)
-    (solved : HasOutcome words (Some files) (now ≡ was) spoken was now status text) (judged : HasVerdict others (Some later) (after ≡ before) end said)
-    → AreSameTexts files later solved.run.asked.files judged.asked.files → later judged.asked.report ≡ Some text → solved.run.asked.states ≤ judged.asked.states → (end ≡ Done) × (said ≡ verdict_text Valid)
+    (files later : FileMap) (words others : List (List ℕ)) (outside after : Outside) (status end : Status) (text said : List ℕ)
+    (solved : HasOutcome words outside status text) (judged : HasVerdict others after end said)
+    → outside.files.told ≡ Some files → after.files.told ≡ Some later
+    → AreSameTexts files later solved.run.asked.files judged.asked.files → later judged.asked.report ≡ Some text
+    → solved.run.asked.limits.states ≤ judged.asked.states → (end ≡ Done) × (said ≡ verdict_text Valid)

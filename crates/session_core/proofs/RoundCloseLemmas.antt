@@ -7,13 +7,12 @@ use Rattle.std.proofs.lemmas.Option.{slice_get_within}
 use Rattle.std.specs.List.{list_any, cons_option}
 use Rattle.std.proofs.lemmas.Bool.{or_right, not-true, and_parts, or_cases, false_from_ne_true, or_left, ne_eqb}
 use Rattle.lemmas.proofs.Bools.{not_both}
-use Rattle.lemmas.proofs.Distinct.{distinct_tail}
+use Rattle.lemmas.proofs.Distinct.{distinct_tail, head_is_new}
 use Rattle.lemmas.proofs.Ascending.{contains_here, contains_later}
 use Rattle.gen_lines.proofs.ReplyLemmas.{yields_are_right, numbers_are_small}
 use Rattle.gen_lines.specs.Reply as reply
 use Rattle.gen_lines.specs.Reply.{Reply, reply_of}
 use Rattle.gen_lines.specs.declared.answer.Wanted.TheVariants as wanted
-use Rattle.instance_queue.proofs.FoundLemmas.{head_is_new}
 use Rattle.instance_queue.proofs.InstanceOrderLemmas.{due_in}
 use Rattle.instance_queue.specs.Level.{instances_of}
 use Rattle.instance_queue.specs.declared.due.Due.{Due}

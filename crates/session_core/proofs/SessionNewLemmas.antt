@@ -1,5 +1,5 @@
 -- The session in which nothing was asked.
-use Rattle.std.proofs.Common.{◌≡◌, ℕ, ◌≤◌, true, false, [], length, take, refl, sym, ap, ◌∙◌, subst, arith, count_by, Some, slice_get}
+use Rattle.std.proofs.Common.{◌≡◌, ℕ, ◌≤◌, true, false, [], length, take, refl, sym, ap, ◌∙◌, subst, arith, count_by, slice_get}
 use Rattle.task_model.specs.Fit.{IsFit}
 use Rattle.task_model.specs.declared.task.Task.{Task}
 use Rattle.transcript_model.specs.Legal.{IsLegal, HasNoneOpen, asks_of, is_answer}
@@ -8,9 +8,7 @@ use Rattle.transcript_model.specs.declared.head.Head.{Head}
 use Rattle.session_core.specs.Pools.{AreFitPools}
 use Rattle.session_core.specs.Session.{IsFitHead, IsOf, IsSession}
 use Rattle.session_core.specs.State.{State}
-
-none_at : {A : Type 0} (k : ℕ) (x : A) → slice_get [] k ≡ Some x → ⊥
-none_at k x e = absurd (cc)
+use Rattle.lemmas.proofs.Options.{none_at}
 
 legal_at_first : (version : ℕ) (task : Task) → IsLegal version task []
 legal_at_first version task k e at = absurd (none_at k e at)

@@ -12,7 +12,6 @@ use Rattle.task_model.specs.declared.task.Task.{Task}
 use Rattle.transcript_model.specs.Legal.{IsLegal, HasNoneOpen, asks_of, is_answer}
 use Rattle.transcript_model.specs.Transcript.{asked, names_of, known_of, notes_of}
 use Rattle.transcript_model.specs.declared.entry.Entry.{Entry}
-use Rattle.transcript_model.specs.declared.entry.Entry.TheVariants as entry
 use Rattle.transcript_model.specs.declared.head.Head.{Head}
 use Rattle.session_core.specs.Pools.{workers_of, AreFitPools, FitWorkers}
 use Rattle.session_core.specs.Slots.{Slot, wanted_at, streams_of, asks_from, slots_from, entry_of}

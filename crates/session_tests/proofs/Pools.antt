@@ -1,5 +1,5 @@
 -- One pool that serves all streams is fit.
-use Rattle.std.proofs.Common.{◌≡◌, ℕ, zero, suc, ◌+◌, ◌≤◌, ◌<◌, ◌==◌, true, [], ◌∷◌, ◌++◌, length, sym, ap, subst, ◌∙◌, arith, Some, None, cond}
+use Rattle.std.proofs.Common.{◌≡◌, ℕ, ◌+◌, ◌≤◌, ◌<◌, ◌==◌, true, [], ◌∷◌, length, sym, ap, subst, ◌∙◌, arith, Some, None, cond}
 use Rattle.std.specs.List.{list_any}
 use Rattle.lemmas.proofs.Numbers.{in_numbers}
 use Rattle.lemmas.proofs.Members.{get_single}
@@ -7,14 +7,6 @@ use Rattle.lemmas.specs.Lists.{numbers_from}
 use Rattle.task_model.specs.declared.task.Task.{Task}
 use Rattle.session_core.specs.Pools.{AreFitPools, serves, server}
 use Rattle.session_core.specs.declared.pools.Workers.{Workers}
-
-pub numbers_more : (first n : ℕ)
-    → numbers_from first (n + 1) ≡ numbers_from first n ++ (first + n) ∷ []
-numbers_more first zero = ap (λ k. k ∷ []) (let e : first ≡ first + 0 = omega arith in e)
-numbers_more first (suc n) =
-    ap (numbers_from first) (let e : suc n + 1 ≡ suc (n + 1) = omega arith in e)
-    ∙ ap (λ ns. first ∷ ns) (numbers_more (first + 1) n)
-    ∙ ap (λ k. first ∷ numbers_from (first + 1) n ++ k ∷ []) (let e : (first + 1) + n ≡ first + suc n = omega arith in e)
 
 module _ (task : Task) (pool : Workers) (first : pool.first ≡ 0) (some : 1 ≤ pool.workers) (few : pool.workers ≤ 16) (streams : pool.streams ≡ numbers_from 0 (length task.streams)) where
   served_by : (stream : ℕ) → stream < length task.streams → server (pool ∷ []) stream ≡ Some pool

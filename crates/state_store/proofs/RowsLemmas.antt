@@ -1,5 +1,5 @@
 -- Rows stand for the same states while atoms are put behind the others, and no two rows for one.
-use Rattle.std.proofs.Common.{◌≡◌, ℕ, zero, suc, ◌<◌, Bool, true, false, ◌||◌, cond, List, [], ◌∷◌, ◌++◌, map, drop, length, get_or, length-append, refl, sym, ap, ◌∙◌, subst, arith, Option, Some, None, option_map, slice_get, Contains, All, nat_eq, true≢false, not, IsTrue, ◌↔◌, inl, inr, Result, Ok, Err, OnErr}
+use Rattle.std.proofs.Common.{◌≡◌, ℕ, zero, suc, ◌<◌, Bool, true, false, cond, List, [], ◌∷◌, ◌++◌, map, drop, length, get_or, length-append, refl, sym, ap, ◌∙◌, subst, arith, Option, Some, None, option_map, slice_get, Contains, All, nat_eq, true≢false, not, IsTrue, ◌↔◌, inl, inr}
 use Rattle.std.proofs.lemmas.List.{get_or_append_left, length-map, map_push}
 use Rattle.std.proofs.lemmas.List.Elements.{All-head, All-tail, All-weaker, All-push}
 use Rattle.std.proofs.lemmas.Map.Keys.{IsDistinct-head, IsDistinct-tail}
@@ -18,6 +18,7 @@ use Rattle.task_model.specs.State.{Atoms, from_list, items}
 use Rattle.task_model.specs.declared.fact.Atom.{Atom}
 use Rattle.state_store.specs.Kept.{AreKept}
 use Rattle.state_store.specs.Rows.{no_atom, atoms_of, state_of, states_of, IsRow, AreRows, Grows}
+use Rattle.lemmas.proofs.MappedTests.{any_mapped}
 
 -- a state is the set of the atoms that it lists
 pub from_list-items : (s : Atoms) → from_list (items s) ≡ s
@@ -181,11 +182,6 @@ module _ (atoms : List Atom) (rows : List (List ℕ)) (are : AreRows atoms rows)
   new_only true e = (λ t. absurd (cc), λ n. absurd (n (row_there e)))
   new_only false e = (λ t. row_absent e, λ n. refl)
 
-any_mapped : {A B : Type 0} (f : A → B) (test : B → Bool) (xs : List A)
-    → list_any (λ x. test (f x)) xs ≡ list_any test (map f xs)
-any_mapped f test [] = refl
-any_mapped f test (x ∷ xs) = ap (λ b. test (f x) || b) (any_mapped f test xs)
-
 -- the rows of a set of keys that may have got one more
 pub keys_with : {V : Type 0} (row_in : V → List ℕ) (old new : List V) (key : V)
     → new ≡ cond (list_any (λ k. pointwise nat_eq (row_in key) (row_in k)) old) old (old ++ key ∷ [])
@@ -227,10 +223,6 @@ known_more old new row n atom grows known at =
     All-push (λ n. n < length new) row n (subst (λ atoms. All (λ n. n < length atoms) row) (sym grows.1) (known_grown old grows.0 row known)) (slice_get_within new n atom at)
 
 -- what holds whatever happened holds where it failed
-pub on_err : {A E : Type 0} (r : Result A E) (P : Type 0) → P → OnErr r P
-on_err (Ok x) P p = tt
-on_err (Err e) P p = p
-
 -- the row at a place
 pub row_at : {V : Type 0} (row_in : V → List ℕ) (atoms : List Atom) (keys : List V) (key : V) (place : ℕ)
     → place < length (states_of atoms (map row_in keys)) → key ≡ get_or keys place key

@@ -1,5 +1,5 @@
 -- Children of their own.
-use Rattle.std.proofs.Common.{◌≡◌, ◌⊎◌, inl, inr, ℕ, zero, suc, ◌+◌, ◌≤◌, arith, Bool, true, false, true≢false, cond, ◌||◌, List, [], ◌∷◌, ◌++◌, append_assoc, sum_by, count_by, refl, sym, ap, ◌∙◌, subst, Some, slice_get}
+use Rattle.std.proofs.Common.{◌≡◌, ◌⊎◌, inl, inr, ℕ, zero, suc, ◌+◌, ◌≤◌, arith, Bool, true, false, cond, List, [], ◌∷◌, ◌++◌, append_assoc, sum_by, count_by, refl, sym, ap, ◌∙◌, subst, Some, slice_get}
 use Rattle.std.proofs.lemmas.List.Sums.{sum_by-cons}
 use Rattle.std.proofs.lemmas.Option.{same_Some}
 use Rattle.std.specs.List.{list_any}
@@ -7,6 +7,7 @@ use Rattle.stream_map.specs.Children.{PlainPool, numbered}
 use Rattle.stream_map.specs.Faults.{has_wrong_number, is_grid, own_workers, places_of}
 use Rattle.stream_map.specs.Laws.{HasChild}
 use Rattle.stream_map.specs.Spelled.{Spelled}
+use Rattle.lemmas.proofs.Bools.{left_false, right_false}
 
 -- a number of workers that may stand
 pub record IsRight (pool : Spelled) : Type 0 where
@@ -32,14 +33,6 @@ pub record AreRight (next : ℕ) (pools : List Spelled) : Type 0 where
   pub numbers : list_any has_wrong_number pools ≡ false
   pub grids : count_by is_grid pools ≤ 1
   pub workers : next + sum_by own_workers pools ≤ 16
-
-left_false : (a b : Bool) → (a || b) ≡ false → a ≡ false
-left_false true b e = e
-left_false false b e = refl
-
-right_false : (a b : Bool) → (a || b) ≡ false → b ≡ false
-right_false true b e = absurd (true≢false e)
-right_false false b e = e
 
 count-cons : (pool : Spelled) (pools : List Spelled)
     → count_by is_grid (pool ∷ pools) ≡ cond (is_grid pool) 1 0 + count_by is_grid pools

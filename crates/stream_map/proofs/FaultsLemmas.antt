@@ -1,12 +1,12 @@
 -- Looking names up, and sums of workers.
-use Rattle.std.proofs.Common.{◌≡◌, ℕ, zero, suc, ◌+◌, ◌<◌, ◌≤◌, arith, Bool, true, false, cond, not, ◌||◌, nat_lt, List, [], ◌∷◌, ◌++◌, length, get_or, take, drop, map, sum_by, refl, sym, ap, ◌∙◌, Option, Some, None, slice_get, position, All}
+use Rattle.std.proofs.Common.{◌≡◌, ℕ, zero, suc, ◌+◌, ◌<◌, ◌≤◌, arith, Bool, true, false, cond, ◌||◌, List, [], ◌∷◌, ◌++◌, length, get_or, take, drop, map, sum_by, refl, sym, ap, ◌∙◌, Option, Some, None, slice_get, All}
 use Rattle.std.proofs.lemmas.List.{at_drop_more, length-map, take_more}
 use Rattle.std.proofs.lemmas.List.Elements.{All-append}
 use Rattle.std.proofs.lemmas.List.Sums.{sum_by-cons}
 use Rattle.std.proofs.lemmas.Option.{get_or_from_slice_get, same_Some, slice_get_within}
 use Rattle.std.proofs.lemmas.Slice.Eq.{bytes_eq-Decides}
 use Rattle.std.specs.Cmp.{first_so}
-use Rattle.std.specs.List.{cons_option, filter_map, flat_map, list_all, list_any, position_or_len}
+use Rattle.std.specs.List.{cons_option, filter_map, flat_map, list_all, list_any}
 use Rattle.std.specs.Option.{is_none, option_and_then, option_map}
 use Rattle.std.specs.Str.{bytes_eq}
 use Rattle.task_model.specs.Fit.{IsFit, is_fit_stream, is_short}
@@ -23,6 +23,8 @@ use Rattle.stream_map.specs.Served.{streams_in}
 use Rattle.stream_map.specs.Spelled.{Spelled, shown}
 use Rattle.stream_map.specs.declared.pool_text.PoolText.{PoolText}
 use borrow.Author.Tests.{leb-true}
+use Rattle.lemmas.proofs.ListTests.{all_cons}
+use Rattle.lemmas.proofs.MappedTests.{any_mapped}
 
 -- ---- what is given of each
 
@@ -58,20 +60,6 @@ module _ {A B : Type 0} (f : A → Option B) where
   some_none (x ∷ xs) e = none_more (f x) (each_of f xs) xs (λ h. some_none xs h) e
 
 -- ---- tables of names
-
-prefix_mapped : {A B : Type 0} (f : A → B) (p : B → Bool) (xs : List A)
-    → position_or_len (λ x. p (f x)) xs ≡ position_or_len p (map f xs)
-prefix_mapped f p [] = refl
-prefix_mapped f p (x ∷ xs) = ap (λ n. cond (not (p (f x))) (1 + n) 0) (prefix_mapped f p xs)
-
-pub position_mapped : {A B : Type 0} (f : A → B) (p : B → Bool) (xs : List A)
-    → position (λ x. p (f x)) xs ≡ position p (map f xs)
-position_mapped f p xs = λ i. cond (nat_lt (prefix_mapped f p xs i) (sym (length-map xs f) i)) (Some (prefix_mapped f p xs i)) None
-
-pub any_mapped : {A B : Type 0} (f : A → B) (p : B → Bool) (xs : List A)
-    → list_any (λ x. p (f x)) xs ≡ list_any p (map f xs)
-any_mapped f p [] = refl
-any_mapped f p (x ∷ xs) = ap (λ b. p (f x) || b) (any_mapped f p xs)
 
 mapped_push : {A B : Type 0} (f : A → B) (xs : List A) (x : A)
     → map f (xs ++ x ∷ []) ≡ map f xs ++ f x ∷ []
@@ -118,10 +106,6 @@ few_names task fit = let few = few_streams task fit in omega (arith, few, length
 
 all_nil : {A : Type 0} (P : A → Type 0) → All P []
 all_nil P i d lt = absurd (omega (arith, lt))
-
-all_cons : {A : Type 0} (P : A → Type 0) (x : A) (xs : List A) → P x → All P xs → All P (x ∷ xs)
-all_cons P x xs here later zero d lt = here
-all_cons P x xs here later (suc i) d lt = later i d (omega (arith, lt))
 
 place_below : (names : List (List ℕ)) (name : List ℕ) (k : ℕ) → place_of names name ≡ Some k
     → k < length names

@@ -1,9 +1,9 @@
 -- The pools of accepted maps.
-use Rattle.std.proofs.Common.{◌≡◌, inl, inr, ℕ, zero, suc, ◌+◌, ◌<◌, ◌≤◌, ◌==◌, arith, Bool, true, false, true≢false, cond, ◌&&◌, ◌||◌, nat_lt, nat_le, List, [], ◌∷◌, length, get_or, map, sum_by, count_by, refl, sym, ap, subst, ◌∙◌, Option, Some, None, option_map, option_and_then, codes, slice_get, All, Contains}
+use Rattle.std.proofs.Common.{◌≡◌, inl, inr, ℕ, zero, suc, ◌+◌, ◌<◌, ◌≤◌, ◌==◌, arith, Bool, true, false, true≢false, cond, ◌&&◌, ◌||◌, nat_lt, nat_le, List, [], ◌∷◌, length, map, sum_by, count_by, refl, sym, ap, subst, ◌∙◌, Option, Some, None, option_map, option_and_then, codes, slice_get, All, Contains}
 use Rattle.std.specs.List.{flat_map, list_any}
 use Rattle.std.proofs.lemmas.Bool.{eqb-true}
 use Rattle.std.proofs.lemmas.List.{length-map}
-use Rattle.std.proofs.lemmas.Option.{get_or_from_slice_get, same_Some, slice_get-get_or, slice_get_within}
+use Rattle.std.proofs.lemmas.Option.{get_or_from_slice_get, same_Some, slice_get_within}
 use Rattle.std.specs.Cmp.{first_so}
 use Rattle.serde_json.specs.Data.{Data}
 use Rattle.serde_json.specs.Find.{as_array, as_str, get}
@@ -23,6 +23,8 @@ use Rattle.stream_map.proofs.ChildrenLemmas.{AreRight, placed, children_apart}
 use Rattle.stream_map.proofs.FaultsLemmas.{flat_numbered, places_below}
 use Rattle.stream_map.proofs.ServedLemmas.{each_among, once_in_pools, pool_of_stream}
 use borrow.Author.Tests.{leb-true}
+use Rattle.lemmas.proofs.Options.{and_then_some}
+use Rattle.lemmas.proofs.ListTests.{all_by_place}
 
 -- ---- no fault
 
@@ -71,10 +73,6 @@ no_fault names pools e =
 
 -- ---- pools as lists
 
-all_of : {A : Type 0} (P : A → Type 0) (xs : List A)
-    → ((k : ℕ) (x : A) → slice_get xs k ≡ Some x → P x) → All P xs
-all_of P xs each k d lt = each k (get_or xs k d) (slice_get-get_or xs k d lt)
-
 contains : (stream : ℕ) (streams : List ℕ) → is_among stream streams ≡ true
     → Contains streams stream
 contains stream [] e = absurd (true≢false (sym e))
@@ -120,25 +118,20 @@ module _ (task : Task) (pools : List Spelled) (none : NoFault (stream_names task
         let found = pool_of_stream streams plains stream (ap (is_among stream) flat ∙ there) in
         (found.0, found.1, found.2, contains stream (streams found.1) found.3);
     once = λ j k a b stream p q at_j at_k at_a at_b. once_in_pools streams [] plains (ap (has_repeat []) flat ∙ none.once) j k a b stream p q at_j at_k at_a at_b;
-    known = all_of (λ (p : PlainPool). All (λ stream. stream < length task.streams) p.streams) plains (λ k p at.
+    known = all_by_place (λ (p : PlainPool). All (λ stream. stream < length task.streams) p.streams) plains (λ k p at.
         let is = spelled_at names 0 pools k p at in
         let P : List ℕ → Type 0 = All (λ stream. stream < length task.streams) in
         subst P (sym is.3) (λ i d lt. let low = places_below names is.0.streams i d lt in omega (arith, low, count)));
     apart = children_apart names 0 pools none.workers;
-    some = all_of (λ (p : PlainPool). 1 ≤ p.workers) plains (λ k p at. elim (placed names 0 pools none.workers k p at) [ inl h ↦ omega (arith, h.1) | inr h ↦ h.2 ]);
-    low = all_of (λ (p : PlainPool). p.first + p.workers ≤ 17) plains (λ k p at. elim (placed names 0 pools none.workers k p at) [ inl h ↦ omega (arith, h.0, h.1) | inr h ↦ omega (arith, h.1) ]);
-    started = all_of (λ (p : PlainPool). 1 ≤ length p.words) plains (λ k p at.
+    some = all_by_place (λ (p : PlainPool). 1 ≤ p.workers) plains (λ k p at. elim (placed names 0 pools none.workers k p at) [ inl h ↦ omega (arith, h.1) | inr h ↦ h.2 ]);
+    low = all_by_place (λ (p : PlainPool). p.first + p.workers ≤ 17) plains (λ k p at. elim (placed names 0 pools none.workers k p at) [ inl h ↦ omega (arith, h.0, h.1) | inr h ↦ omega (arith, h.1) ]);
+    started = all_by_place (λ (p : PlainPool). 1 ≤ length p.words) plains (λ k p at.
         let is = spelled_at names 0 pools k p at in
         let run = started k is.0 is.1 in
         omega (arith, run, ap length is.2));
   }
 
 -- ---- programs have words
-
-and_then_some : {A B : Type 0} (f : A → Option B) (o : Option A) (y : B)
-    → option_and_then f o ≡ Some y → (x : A) × (o ≡ Some x) × (f x ≡ Some y)
-and_then_some f None y e = absurd (cc)
-and_then_some f (Some x) y e = (x, refl, e)
 
 where_true : {A : Type 0} (b : Bool) (o : Option A) (y : A) → cond b o None ≡ Some y
     → (b ≡ true) × (o ≡ Some y)
@@ -318,22 +311,22 @@ texts_keep task text pools all = record {
       let one = was_at text pools j p at_j in
       let other = was_at text pools k q at_k in
       all.once j k a b stream one.0 other.0 one.1 other.1 (ap (λ (streams : List ℕ). slice_get streams a) one.2.streams ∙ at_a) (ap (λ (streams : List ℕ). slice_get streams b) other.2.streams ∙ at_b);
-  known = all_of (λ (p : PlainPool). All (λ stream. stream < length task.streams) p.streams) _ (λ k q at.
+  known = all_by_place (λ (p : PlainPool). All (λ stream. stream < length task.streams) p.streams) _ (λ k q at.
       let one = was_at text pools k q at in
       subst (λ (streams : List ℕ). All (λ stream. stream < length task.streams) streams) one.2.streams (at_of (λ (p : PlainPool). All (λ stream. stream < length task.streams) p.streams) pools all.known k one.0 one.1));
   apart = λ j k child p q at_j at_k in_p in_q.
       let one = was_at text pools j p at_j in
       let other = was_at text pools k q at_k in
       all.apart j k child one.0 other.0 one.1 other.1 (had_child one.0 p child one.2 in_p) (had_child other.0 q child other.2 in_q);
-  some = all_of (λ (p : PlainPool). 1 ≤ p.workers) _ (λ k q at.
+  some = all_by_place (λ (p : PlainPool). 1 ≤ p.workers) _ (λ k q at.
       let one = was_at text pools k q at in
       let had = at_of (λ (p : PlainPool). 1 ≤ p.workers) pools all.some k one.0 one.1 in
       omega (arith, had, one.2.workers));
-  low = all_of (λ (p : PlainPool). p.first + p.workers ≤ 17) _ (λ k q at.
+  low = all_by_place (λ (p : PlainPool). p.first + p.workers ≤ 17) _ (λ k q at.
       let one = was_at text pools k q at in
       let had = at_of (λ (p : PlainPool). p.first + p.workers ≤ 17) pools all.low k one.0 one.1 in
       omega (arith, had, one.2.first, one.2.workers));
-  started = all_of (λ (p : PlainPool). 1 ≤ length p.words) _ (λ k q at.
+  started = all_by_place (λ (p : PlainPool). 1 ≤ length p.words) _ (λ k q at.
       let one = was_at text pools k q at in
       let had = at_of (λ (p : PlainPool). 1 ≤ length p.words) pools all.started k one.0 one.1 in
       omega (arith, had, one.2.words));

@@ -12,20 +12,9 @@ use Rattle.stream_map.specs.Served.{AreMarks, is_among, has_repeat, has_missing,
 use Rattle.stream_map.specs.Faults.{served_fault}
 use Rattle.stream_map.specs.declared.fault.MapFault.TheVariants.{Doubled, Unserved}
 use Rattle.transcript_model.specs.declared.head.Pool.{Pool}
+use Rattle.lemmas.proofs.Bools.{right_true, left_false, right_false}
 
 -- ---- bools
-
-left_false : (a b : Bool) → (a || b) ≡ false → a ≡ false
-left_false true b e = e
-left_false false b e = refl
-
-right_false : (a b : Bool) → (a || b) ≡ false → b ≡ false
-right_false true b e = absurd (true≢false e)
-right_false false b e = e
-
-right_true : (a b : Bool) → b ≡ true → (a || b) ≡ true
-right_true true b e = refl
-right_true false b e = e
 
 either_true : (a b : Bool) → (a || b) ≡ true → (a ≡ false → b ≡ true)
 either_true true b e = λ h. absurd (true≢false h)

@@ -10,6 +10,7 @@ use Rattle.task_model.specs.declared.task.Task.{Task}
 use Rattle.std.specs.Cmp.Lexicographic.{lists_total, nat_list_cmp_total}
 use Rattle.lemmas.proofs.Ascending.{same_list}
 use Rattle.task_model.proofs.KnownLemmas.{numbers_decided}
+use Rattle.lemmas.proofs.Bools.{not_true}
 
 -- ---- names of objects
 
@@ -50,10 +51,6 @@ due_once task known notes xs ys first second =
     same_list (instance_cmp known.names) (instances_total known.names) xs ys first.ascend second.ascend (λ i m. (second.each i).1 ((first.each i).0 m)) (λ i m. (first.each i).1 ((second.each i).0 m))
 
 -- ---- what is due
-
-not_true : (b : Bool) → not b ≡ true → b ≡ false
-not_true true e = absurd (cc)
-not_true false e = refl
 
 not_false : (b : Bool) → b ≡ false → not b ≡ true
 not_false true e = absurd (cc)

@@ -12,7 +12,8 @@ use Rattle.task_model.specs.declared.stream.Instance.{Instance}
 use Rattle.task_model.specs.declared.stream.Stream.{Stream}
 use Rattle.task_model.specs.declared.task.Task.{Task}
 use Rattle.transcript_model.specs.Names.{place_of, places_of, stream_named, instance_of, call_of_instance}
-use Rattle.transcript_model.proofs.NamesLemmas.{and_then_some, map_some, place_at, place_only, position_only}
+use Rattle.transcript_model.proofs.NamesLemmas.{map_some, place_at, place_only, position_only}
+use Rattle.lemmas.proofs.Options.{and_then_some}
 
 places_forth : (names more : List (List ℕ)) (objects : List ℕ) → places_of names more ≡ Some objects
     → map (slice_get names) objects ≡ map Some more

@@ -12,7 +12,7 @@ use Rattle.task_model.proofs.KnownLemmas.{with_facts-is, in_names, values_equiva
 use Rattle.task_model.proofs.TruthLemmas.{have_types-length}
 use Rattle.lemmas.proofs.Members.{distinct_push, distinct_nil}
 use Rattle.lemmas.proofs.Bools.{not_both}
-use Rattle.lemmas.proofs.Options.{same_some}
+use Rattle.lemmas.proofs.Options.{same_some, and_then_some}
 use Rattle.lemmas.proofs.ListTests.{all_one}
 use Rattle.task_model.specs.Fit.{IsFit, is_fit_value, is_short, has_arity}
 use Rattle.task_model.specs.Initial.{declared_names, declared_types, initial_known, is_static}
@@ -35,7 +35,7 @@ use Rattle.transcript_model.specs.declared.entry.Entry.{Entry}
 use Rattle.transcript_model.specs.declared.entry.Entry.TheVariants as entry
 use Rattle.transcript_model.proofs.LegalPrefixLemmas.{names_of-front, names_of-distinct, asked-later, values_named, AreNamed, named_places}
 use Rattle.transcript_model.proofs.NamedObjectLemmas.{IsNamed, all_joined, passes_all, with_facts-all, initial_named, fit_stream_at, certified_named}
-use Rattle.transcript_model.proofs.NamesLemmas.{and_then_some, map_some, with_names-front, place_at, instance_kept}
+use Rattle.transcript_model.proofs.NamesLemmas.{map_some, with_names-front, place_at, instance_kept}
 
 -- ---- values
 

@@ -21,7 +21,8 @@ use Rattle.transcript_model.specs.Transcript.{Asked, asked, asked_of, call_in, c
 use Rattle.transcript_model.specs.declared.entry.Call.{Call}
 use Rattle.transcript_model.specs.declared.entry.Entry.{Entry}
 use Rattle.transcript_model.specs.declared.entry.Entry.TheVariants as entry
-use Rattle.transcript_model.proofs.NamesLemmas.{and_then_some, with_names-front, with_names-then, with_names-distinct, with_names-has, place_found, places_kept, instance_kept}
+use Rattle.transcript_model.proofs.NamesLemmas.{with_names-front, with_names-then, with_names-distinct, with_names-has, place_found, places_kept, instance_kept}
+use Rattle.lemmas.proofs.Options.{and_then_some}
 
 -- ---- lists
 

@@ -6,7 +6,6 @@ use Rattle.std.proofs.lemmas.List.Elements.{Contains-append_left, Contains-appen
 use Rattle.std.proofs.lemmas.Map.Views.{Contains-from_any, list_any-from_Contains}
 use Rattle.std.specs.Cmp.{IsEquivalence, decided}
 use Rattle.std.specs.List.{list_any, position, position_from}
-use Rattle.std.specs.Option.{option_and_then}
 use Rattle.task_model.proofs.KnownLemmas.{numbers_decided}
 use Rattle.lemmas.proofs.Members.{distinct_push, place_of as place_in}
 use Rattle.task_model.specs.Known.{same_numbers, with_name}
@@ -17,14 +16,9 @@ use Rattle.transcript_model.specs.Names.{with_names, place_of, places_of, stream
 use Rattle.transcript_model.specs.declared.entry.Call.{Call}
 use Rattle.lemmas.proofs.Bools.{not_both}
 use Rattle.lemmas.proofs.Numbers.{suc_same}
+use Rattle.lemmas.proofs.Options.{and_then_some}
 
 -- ---- options
-
-pub and_then_some : {A B : Type 0} (f : A → Option B) (o : Option A) (b : B)
-    → option_and_then f o ≡ Some b
-    → (a : A) × (o ≡ Some a) × (f a ≡ Some b)
-and_then_some f None b e = absurd (cc)
-and_then_some f (Some a) b e = (a, refl, e)
 
 pub map_some : {A B : Type 0} (f : A → B) (o : Option A) (b : B) → option_map f o ≡ Some b
     → (a : A) × (o ≡ Some a) × (f a ≡ b)

@@ -1,7 +1,5 @@
 use Rattle.std.proofs.Common.{arith, ap, ◌∙◌, ◌||◌}
-use Rattle.grid_text.specs.Rects.{meets}
-use Rattle.grid_world.specs.Covers.{corner_in, reaches}
-use Rattle.grid_world.specs.Words.{rect_at}
+use Rattle.grid_world.specs.Covers.{reaches}
 use Rattle.grid_world.proofs.CoversLemmas.{above, below, beyond, none_more, run_met}
 use Rattle.grid_world.proofs.cover.mark.Goals as goal
 

@@ -1,4 +1,4 @@
-use Rattle.std.proofs.Common.{◌<◌, List, ℕ, arith, get_or, length, subst, sym, take}
+use Rattle.std.proofs.Common.{List, ℕ, arith, get_or, subst, sym, take}
 use Rattle.std.proofs.lemmas.List.{take_more}
 use Rattle.grid_world.specs.Sessions.{GoesOn, HearsByte}
 use Rattle.grid_world.proofs.SessionsLemmas.{goes_more}

@@ -1,42 +1,53 @@
-use Rattle.std.proofs.Common.{sym, ap, subst, ◌∙◌, ◌≤◌, ◌+◌, ◌++◌, [], List, ℕ, Some, slice_get, length}
-use Rattle.std.proofs.lemmas.Option.{slice_get-get_or}
+use Rattle.std.proofs.Common.{◌≤◌, ap, length, arith}
 use Rattle.std.proofs.lemmas.Result.{err_from_is_err_and}
-use Rattle.task_model.specs.declared.stream.Instance.{Instance}
-use Rattle.instance_queue.proofs.FoundStepLemmas.{asks_more, stream_more, stream_within, overflows_more}
+use Rattle.instance_queue.proofs.FoundLemmas.{none_below, whole_below, stream_at, stream_more, stream_fault}
 use Rattle.instance_queue.proofs.ReadableLemmas.{fit_readable_stream}
-use Rattle.instance_queue.specs.Found.{asks_of, found_under, found_from, Overflows}
 use Rattle.instance_queue.proofs.level.found.Goals as goal
 
-pub add_under-requires-clause-readable : goal.add_under-requires-clause-readable
-add_under-requires-clause-readable c =
-    let items = c.as_slice-stream-items.result.now in
-    let at = slice_get-get_or items c.loop-place.place c.stream-item.result c.loop-place-test.true ∙ ap Some (sym c.stream-item.is) in
-    fit_readable_stream c.args.task.now c.requires c.loop-place.place c.stream-item.result (ap (λ ss. slice_get ss c.loop-place.place) (sym c.as_slice-stream-items.ensures) ∙ at)
+pub add_asks-requires-clause-readable : goal.add_asks-requires-clause-readable
+add_asks-requires-clause-readable c =
+    let task = c.args.task.now in
+    let place = c.loop-place.place in
+    let stream = c.stream-item.result in
+    let items = c.as_slice-stream-items in
+    let at = stream_at task.streams items.result.now place stream items.ensures c.loop-place-test.true c.stream-item.is in
+    fit_readable_stream task c.requires place stream at
 
-pub returns-in_err-add_under-clause-err : goal.returns-in_err-add_under-clause-err
-returns-in_err-add_under-clause-err c =
-    let known = c.args.facts.now.known in
-    let notes = c.args.queue.now in
-    let items = c.as_slice-stream-items.result.now in
-    let s = c.stream-item.result in
-    let at = ap (λ ss. slice_get ss c.loop-place.place) (sym c.as_slice-stream-items.ensures) ∙ slice_get-get_or items c.loop-place.place s c.loop-place-test.true ∙ ap Some (sym c.stream-item.is) in
-    let under : List ℕ → List ℕ → List Instance = found_under known notes s c.loop-place.place in
-    let all : length c.loop-place.dues.items + length (under [] s.inputs) ≤ length (found_from known notes 0 c.args.task.now.streams) = stream_within known notes c.loop-place.place c.args.task.now.streams s c.loop-place.dues.items at c.loop-place.invariant.0 in
-    let fault = c.in_err-add_under.field-0.0 in
-    let was : Overflows (length c.loop-place.dues.items + length (under [] s.inputs)) fault = subst (λ ss. Overflows (length c.loop-place.dues.items + length (under [] ss)) fault) c.as_slice.ensures (subst (λ xs. Overflows (length c.loop-place.dues.items + length (under xs c.as_slice.result.now)) fault) c.empty.ensures c.in_err-add_under.ensures.err) in
+pub returns-in_err-add_asks-clause-fault : goal.returns-in_err-add_asks-clause-fault
+returns-in_err-add_asks-clause-fault c =
+    let task = c.args.task.now in
+    let place = c.loop-place.place in
+    let stream = c.stream-item.result in
+    let old = c.loop-place.dues.items in
+    let fault = c.in_err-add_asks.field-0.0 in
+    let items = c.as_slice-stream-items in
+    let at = stream_at task.streams items.result.now place stream items.ensures c.loop-place-test.true c.stream-item.is in
     let p = err_from_is_err_and c.from_residual.result c.from_residual.ensures.1 in
-    rw (p.1, p.2) (overflows_more _ _ fault all was)
+    rw (p.1, p.2)
+    (stream_fault task c.args.facts.now.known c.args.queue.now place stream old fault at c.loop-place.invariant.0 c.loop-place.invariant.1
+    c.in_err-add_asks.ensures.fault)
+
+pub loop-place-init : goal.loop-place-init
+loop-place-init c =
+    let dues = c.new-dues.result.items in
+    none_below c.args.task.now.streams c.args.facts.now.known c.args.queue.now dues c.new-dues.ensures.items
 
 pub loop-place-preserved : goal.loop-place-preserved
 loop-place-preserved c =
-    let known = c.args.facts.now.known in
-    let notes = c.args.queue.now in
-    let items = c.as_slice-stream-items.result.now in
-    let s = c.stream-item.result in
-    let at = ap (λ ss. slice_get ss c.loop-place.place) (sym c.as_slice-stream-items.ensures) ∙ slice_get-get_or items c.loop-place.place s c.loop-place-test.true ∙ ap Some (sym c.stream-item.is) in
-    let under : List ℕ → List ℕ → List Instance = found_under known notes s c.loop-place.place in (
-      asks_more notes [] c.loop-place.dues.items c.add_under-in-loop-place.new.dues.items _ (under [] s.inputs) _ c.loop-place.invariant.0
-          (c.in_ok-add_under.ensures.ok ∙ (λ k. c.loop-place.dues.items ++ asks_of notes (under (c.empty.ensures k) (c.as_slice.ensures k))))
-          (stream_more known notes c.loop-place.place c.args.task.now.streams s at),
-      c.in_ok-add_under.ensures.few,
+    let streams = c.args.task.now.streams in
+    let place = c.loop-place.place in
+    let stream = c.stream-item.result in
+    let old = c.loop-place.dues.items in
+    let items = c.as_slice-stream-items in
+    let at = stream_at streams items.result.now place stream items.ensures c.loop-place-test.true c.stream-item.is in (
+      stream_more streams c.args.facts.now.known c.args.queue.now place stream at old c.add_asks.new.dues.items c.loop-place.invariant.0
+          c.in_ok-add_asks.ensures.due,
+      c.in_ok-add_asks.ensures.few,
     )
+
+pub returns-clause-due : goal.returns-clause-due
+returns-clause-due c =
+    let streams = c.args.task.now.streams in
+    let place = c.loop-place.place in
+    let past : length streams ≤ place = omega (arith, c.loop-place-test.false, ap length c.as_slice-stream-items.ensures) in
+    whole_below streams c.args.facts.now.known c.args.queue.now place c.loop-place.dues.items past c.loop-place.invariant.0

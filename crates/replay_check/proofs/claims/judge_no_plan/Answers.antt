@@ -26,7 +26,7 @@ returns-then-branch c = λ entries h closed.
     let task = c.args.bounds.now.task.now in
     let turn = rw c.in-Some.is at c.in_ok-dues.ensures.some in
     let empty : length c.in-Some.dues.items ≡ 0 = grind (arith, common_steps) in
-    (none_due_at version task entries c.args.ledger.now h c.in-Some.dues.items empty turn, subst (λ (k : Known). MoreThan c.args.limit (IsReached task k)) h.known (c.in_ok-exceeds.ensures.0 c.if-branch.true))
+    (none_due_at version task entries c.args.ledger.now h c.in-Some.dues.items empty turn, subst (λ (k : Known). MoreThan c.args.limit (IsReached task k)) h.known (c.in_ok-exceeds-in-Plan.ensures.0 c.if-branch.true))
 
 pub returns-in-Nothing : goal.returns-in-Nothing
 returns-in-Nothing c = λ entries h closed.
@@ -42,13 +42,22 @@ returns-in-Nothing c = λ entries h closed.
       λ u. subst (λ (k : Known). ¬ (MoreThan c.args.limit (IsReached task k))) h.known none.1 u.1,
     )
 
-pub returns-in-Plan : goal.returns-in-Plan
-returns-in-Plan c = λ entries h closed.
+pub returns-in-Limit : goal.returns-in-Limit
+returns-in-Limit c = λ entries h closed.
+    let version = c.args.bounds.now.version in
+    let task = c.args.bounds.now.task.now in
+    let turn = rw c.in-Some.is at c.in_ok-dues.ensures.some in
+    let empty : length c.in-Some.dues.items ≡ 0 = grind (arith, common_steps) in
+    let far = (rw c.in-Limit.is at c.in_ok-search.ensures.limit) tt in
+    (none_due_at version task entries c.args.ledger.now h c.in-Some.dues.items empty turn, subst (λ (k : Known). MoreThan c.args.limit (IsReached task k)) h.known far.reached)
+
+pub returns : goal.returns
+returns c = λ entries h closed.
     let task = c.args.bounds.now.task.now in
     let plan = rw c.in-Plan.is at c.in_ok-search.ensures.plan in (
       λ p. p.unsolvable (subst (λ (k : Known). IsSolvable task k) h.known (c.in-Plan.field-0.steps, c.in-Plan.field-1, plan.valid)),
       λ u.
-          let more : c.in_ok-exceeds.field-0 ≡ true = c.in_ok-exceeds.ensures.1 (subst (λ (k : Known). MoreThan c.args.limit (IsReached task k)) (sym h.known) u.1) in
-          let few : c.in_ok-exceeds.field-0 ≡ false = c.if-branch.false in
+          let more : c.in_ok-exceeds-in-Plan.field-0 ≡ true = c.in_ok-exceeds-in-Plan.ensures.1 (subst (λ (k : Known). MoreThan c.args.limit (IsReached task k)) (sym h.known) u.1) in
+          let few : c.in_ok-exceeds-in-Plan.field-0 ≡ false = c.if-branch.false in
           absurd (cc),
     )

@@ -1,6 +1,6 @@
 use Rattle.std.proofs.Common.{◌≡◌, sym, ◌∙◌, ◌++◌, ◌∷◌, [], ◌+◌, arith}
-use Rattle.session_tests.proofs.Pools.{numbers_more}
 use Rattle.session_tests.proofs.head.streams.Goals as goal
+use Rattle.lemmas.proofs.Numbers.{numbers_more}
 
 pub loop-place-preserved : goal.loop-place-preserved
 loop-place-preserved c =

@@ -1,7 +1,6 @@
 use Rattle.std.proofs.Common.{◌≡◌, ◌++◌, ◌∷◌, [], ◌∙◌, ap, subst, sym}
 use Rattle.io_world.specs.Replies.{IsLine}
-use Rattle.std.specs.Io.BufRead.{strip_last}
-use Rattle.grid_world.specs.AnswerLines.{line_of, reply_line}
+use Rattle.grid_world.specs.AnswerLines.{line_of}
 use Rattle.grid_world.specs.Answers.{answer_in}
 use Rattle.grid_world.proofs.AnswerLinesLemmas.{front_is, reply_line_is}
 use Rattle.grid_world.proofs.replies.GridRepliesAnswerBy.answer.Goals as goal

@@ -1,4 +1,4 @@
-use Rattle.std.proofs.Common.{◌≡◌, ◌∙◌, ◌<◌, ◌+◌, ap, arith, length, map, option_copied, rules, string_bytes, subst, sym, Err, Ok}
+use Rattle.std.proofs.Common.{◌∙◌, ◌<◌, ◌+◌, ap, arith, length, map, option_copied, rules, string_bytes, subst, sym, Err, Ok}
 use Rattle.std.specs.List.{flat_map}
 use Rattle.lemmas.specs.Lists.{numbers_from}
 use Rattle.io_world.specs.Faults.{Extends}

@@ -3,8 +3,9 @@ use Rattle.std.specs.Cmp.Lexicographic.{pointwise}
 use Rattle.std.specs.List.{list_any}
 use Rattle.lemmas.specs.Lists.{AreDistinct}
 use Rattle.state_store.specs.Rows.{state_of, states_of, AreRows}
-use Rattle.state_store.proofs.RowsLemmas.{rows_grown, states_of-grown, row_of, rows_with, states_with, new_only, keys_with, found_in, state_at, on_err}
+use Rattle.state_store.proofs.RowsLemmas.{rows_grown, states_of-grown, row_of, rows_with, states_with, new_only, keys_with, found_in, state_at}
 use Rattle.state_store.proofs.store.StateStore.intern.Goals as goal
+use Rattle.lemmas.proofs.Results.{on_err}
 
 pub invariant_of-self : goal.invariant_of-self
 invariant_of-self c =

@@ -1,7 +1,7 @@
 use Rattle.std.proofs.Common.{ap, ◌∙◌, position}
 use Rattle.std.specs.Str.{bytes_eq}
-use Rattle.stream_map.proofs.FaultsLemmas.{position_mapped}
 use Rattle.stream_map.proofs.names.StreamNames.place_of.Goals as goal
+use Rattle.lemmas.proofs.MappedTests.{position_mapped}
 
 pub returns : goal.returns
 returns c =

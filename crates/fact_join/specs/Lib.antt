@@ -1,0 +1,5 @@
+pub mod Partials
+pub mod Leads
+pub mod Adding
+pub mod Answers
+pub mod Fronts

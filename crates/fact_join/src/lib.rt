@@ -1,0 +1,12 @@
+//! Conjunctive queries over what is known: all tuples of objects that satisfy some atoms, found by joins.
+#![tactic(auto)]
+
+mod front;
+mod joins;
+mod lead;
+mod partial;
+mod query;
+
+pub use joins::join;
+pub use partial::Partial;
+pub use query::{JoinFault, Query, QueryAtom, Wanted};

@@ -1,7 +1,0 @@
-use Rattle.std.proofs.Common.{◌≡◌, map, string_bytes, take}
-use Rattle.pddlstream_app.proofs.head.copy_words.Given as goal
-
--- the words so far
-abbrev pub invariant-loop-word : goal.invariant-loop-word
-invariant-loop-word l =
-    map string_bytes l.copied.items ≡ map string_bytes (take l.word-index l.words)

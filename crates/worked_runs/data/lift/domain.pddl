@@ -1,0 +1,5 @@
+(define (domain fetch)
+  (:predicates (item ?x) (first ?x) (second ?x) (grip ?x ?g) (free) (held))
+  (:action lift :parameters (?x ?y ?g ?h)
+    :precondition (and (free) (first ?x) (second ?y) (grip ?x ?g) (grip ?y ?h))
+    :effect (and (held) (not (free)))))

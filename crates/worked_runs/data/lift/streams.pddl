@@ -1,0 +1,2 @@
+(define (stream fetch) (:stream grip :inputs (?x) :domain (item ?x)
+  :outputs (?g) :certified (grip ?x ?g)))
