@@ -55,7 +55,8 @@ module _ (task : Task) (known : Known) where
     edge_within = omega arith;
     inner = λ s r. (0, omega arith, ap Some (within_none task known s r));
     near = λ n s h e. subst (IsReachedWithin task known 0) (only_at (initial_state task) n s e).1 (initially task known);
-    outer = λ n s e. within_more task known 0 (0 + 1) s (omega arith) (subst (IsReachedWithin task known 0) (only_at (initial_state task) n s e).1 (initially task known));
+    outer = λ n s e. within_more task known 0 (0 + 1) s
+        (omega arith) (subst (IsReachedWithin task known 0) (only_at (initial_state task) n s e).1 (initially task known));
   }
 
   pub met_at_start : (seeks : Bool) (limit : ℕ)
@@ -163,7 +164,8 @@ module _ (task : Task) (known : Known) where
 
       tree_now : IsTree task known (g.before ++ g.after ∷ []) (g.earlier ++ g.link ∷ [])
       tree_now =
-          grown_tree g.before g.earlier g.source g.after g.link g.explored.tree (subst (λ n. slice_get g.before n ≡ Some g.source) (sym g.parent) g.here) g.step g.small g.fresh
+          grown_tree g.before g.earlier g.source g.after g.link g.explored.tree
+          (subst (λ n. slice_get g.before n ≡ Some g.source) (sym g.parent) g.here) g.step g.small g.fresh
 
       -- each state is reached within one step more than the level
       each_within : (n : ℕ) (s : Atoms) → slice_get (g.before ++ g.after ∷ []) n ≡ Some s
@@ -175,7 +177,8 @@ module _ (task : Task) (known : Known) where
             | inl h ↦ ahead.0.outer n s h
             | inr k ↦
                 let source = ahead.0.near from g.source ahead.1 g.here in
-                subst (IsReachedWithin task known (ahead.0.level + 1)) (sym k.1) (within_step task known ahead.0.level g.source g.after g.link.step g.link.cost source g.step)
+                subst (IsReachedWithin task known (ahead.0.level + 1))
+                (sym k.1) (within_step task known ahead.0.level g.source g.after g.link.step g.link.cost source g.step)
           ]
 
       grown : ¬ (ExploringEnds task known seeks g.after) → length (g.before ++ g.after ∷ []) ≤ limit
@@ -187,7 +190,9 @@ module _ (task : Task) (known : Known) where
             edge = e.edge;
             tree = tree_now;
             few = few;
-            none_ends = λ n s at. elim (push_cases g.before g.after n s at) [ inl h ↦ e.none_ends n s h | inr k ↦ subst (λ t. ¬ (ExploringEnds task known seeks t)) (sym k.1) open_end ];
+            none_ends =
+                λ n s at. elim (push_cases g.before g.after n s at)
+                [ inl h ↦ e.none_ends n s h | inr k ↦ subst (λ t. ¬ (ExploringEnds task known seeks t)) (sym k.1) open_end ];
             expanded = λ n s after step cost h at is.
                 elim (push_cases g.before g.after n s at) [
                   | inl k ↦ Contains-append_left g.before (g.after ∷ []) after (e.expanded n s after step cost h k is)
@@ -218,31 +223,43 @@ module _ (task : Task) (known : Known) where
           → IsExplored task known seeks limit states links from
       grown_explored open_end few =
           let now = grown open_end (subst (λ ss. length ss ≤ limit) g.states_are few) in
-          subst (λ ss. IsExplored task known seeks limit ss links from) (sym g.states_are) (subst (λ ls. IsExplored task known seeks limit (g.before ++ g.after ∷ []) ls from) (sym g.links_are) now)
+          subst (λ ss. IsExplored task known seeks limit ss links from)
+          (sym g.states_are) (subst (λ ls. IsExplored task known seeks limit (g.before ++ g.after ∷ []) ls from) (sym g.links_are) now)
 
       pub grown_met : ExploringEnds task known seeks g.after
           → IsMet task known seeks limit states links
       grown_met ends =
           let e = g.explored in
-          let many : length (g.earlier ++ g.link ∷ []) ≡ length g.before = omega (arith, length-append g.earlier (g.link ∷ []), e.tree.linked) in
+          let many : length (g.earlier ++ g.link ∷ []) ≡ length g.before =
+          omega (arith, length-append g.earlier (g.link ∷ []), e.tree.linked) in
           let now : IsMet task known seeks limit (g.before ++ g.after ∷ []) (g.earlier ++ g.link ∷ []) = record {
             sought = ends.0;
             tree = tree_now;
             few = omega (arith, many, e.few);
-            goal = λ s at. subst (IsGoal task known) (one_there (g.before ++ g.after ∷ []) (length (g.earlier ++ g.link ∷ [])) g.after s (get_pushed g.before g.after (length (g.earlier ++ g.link ∷ [])) many) at) ends.1;
+            goal = λ s at. subst (IsGoal task known)
+                (one_there (g.before ++ g.after ∷ [])
+                (length (g.earlier ++ g.link ∷ [])) g.after s (get_pushed g.before g.after (length (g.earlier ++ g.link ∷ [])) many) at)
+                ends.1;
             others = λ n s h at is.
                 elim (push_cases g.before g.after n s at) [
                   | inl k ↦ e.none_ends n s k (ends.0, is)
                   | inr k ↦ absurd (omega (arith, k.0, many, h))
                 ];
           } in
-          subst (λ ss. IsMet task known seeks limit ss links) (sym g.states_are) (subst (IsMet task known seeks limit (g.before ++ g.after ∷ [])) (sym g.links_are) now)
+          subst (λ ss. IsMet task known seeks limit ss links)
+          (sym g.states_are) (subst (IsMet task known seeks limit (g.before ++ g.after ∷ [])) (sym g.links_are) now)
 
       pub grown_beyond : limit < length states → IsBeyond task known seeks limit
       grown_beyond more =
           let many : limit < length (g.before ++ g.after ∷ []) = subst (λ ss. limit < length ss) g.states_are more in
           let e = (was).0 in
-          let reached : MoreThan limit (IsReached task known) = (g.before ++ g.after ∷ [], many, tree_now.distinct, all_by_place (IsReached task known) (g.before ++ g.after ∷ []) (λ n s at. within_reached task known (e.level + 1) s (each_within n s at))) in
+          let reached : MoreThan limit (IsReached task known) = (
+            g.before ++ g.after ∷ [],
+            many,
+            tree_now.distinct,
+            all_by_place (IsReached task known)
+                (g.before ++ g.after ∷ []) (λ n s at. within_reached task known (e.level + 1) s (each_within n s at)),
+          ) in
           record {
             reached = reached;
             far = λ sought. record {
@@ -253,7 +270,8 @@ module _ (task : Task) (known : Known) where
                       g.before ++ g.after ∷ [],
                       many,
                       tree_now.distinct,
-                      all_by_place (IsReachedWithin task known (length steps)) (g.before ++ g.after ∷ []) (λ n s at. within_more task known (e.level + 1) (length steps) s (omega arith) (each_within n s at)),
+                      all_by_place (IsReachedWithin task known (length steps)) (g.before ++ g.after ∷ [])
+                          (λ n s at. within_more task known (e.level + 1) (length steps) s (omega arith) (each_within n s at)),
                     )
                     | inr short ↦
                         let at = e.inner valid.0 (steps, cost, short, valid.1) in
@@ -265,7 +283,8 @@ module _ (task : Task) (known : Known) where
     -- ---- one state, expanded
 
     -- The steps before this place lead to states that are there.
-    pub record IsExpanding (states : List Atoms) (links : List Link) (from : ℕ) (state : Atoms) (steps : List GroundAction) (count : ℕ) : Type 0 where
+    pub record IsExpanding (states : List Atoms) (links : List Link) (from : ℕ) (state : Atoms) (steps : List GroundAction)
+        (count : ℕ) : Type 0 where
       pub explored : IsExplored task known seeks limit states links from
       pub here : slice_get states from ≡ Some state
       pub kept : (n : ℕ) (step : GroundAction) (after : Atoms) (cost : ℕ) → n < count
@@ -278,7 +297,8 @@ module _ (task : Task) (known : Known) where
     expanding_start states links from state steps e here =
         record { explored = e; here = here; kept = λ n step after cost h. absurd (omega arith) }
 
-    pub expanding_next : (states : List Atoms) (links : List Link) (from : ℕ) (state : Atoms) (steps : List GroundAction) (count : ℕ) (new : List Atoms) (new_links : List Link) (step : GroundAction)
+    pub expanding_next : (states : List Atoms) (links : List Link) (from : ℕ) (state : Atoms) (steps : List GroundAction)
+        (count : ℕ) (new : List Atoms) (new_links : List Link) (step : GroundAction)
         → IsExpanding states links from state steps count → slice_get steps count ≡ Some step
         → IsExplored task known seeks limit new new_links from
         → (more : List Atoms) × (new ≡ states ++ more)
@@ -290,11 +310,16 @@ module _ (task : Task) (known : Known) where
           here = subst (λ ss. slice_get ss from ≡ Some state) (sym grows.1) (get_append states grows.0 from state is.here);
           kept = λ n other after cost h found taken.
               elim (cases_lt n count) [
-                | inl earlier ↦ subst (λ ss. Contains ss after) (sym grows.1) (Contains-append_left states grows.0 after (is.kept n other after cost earlier found taken))
+                | inl earlier ↦
+                    subst (λ ss. Contains ss after)
+                    (sym grows.1) (Contains-append_left states grows.0 after (is.kept n other after cost earlier found taken))
                 | inr now ↦
                     let place : n ≡ count = omega arith in
-                    let same : other ≡ step = one_there steps count other step (subst (λ k. slice_get steps k ≡ Some other) place found) at in
-                    let there = step_determined task known state leads.0 after step leads.1 cost leads.2 (subst (λ x. IsStep task known state x after cost) same taken) in
+                    let same : other ≡ step =
+                    one_there steps count other step (subst (λ k. slice_get steps k ≡ Some other) place found) at in
+                    let there =
+                    step_determined task known state leads.0 after step leads.1 cost leads.2
+                    (subst (λ x. IsStep task known state x after cost) same taken) in
                     subst (Contains new) there.0 leads.3
               ];
         }

@@ -23,7 +23,8 @@ pub follows_back : (links : List Link) (n : ℕ) (link : Link) (step : GroundAct
     → FollowsLink links link.parent (reverse before) to (total + link.cost)
 follows_back links n link step steps before to total at is longer f =
     let back : reverse before ≡ step ∷ reverse steps = ap reverse longer ∙ reverse-append steps (step ∷ []) in
-    let here : FollowsLink links link.parent (step ∷ reverse steps) to (total + link.cost) = (n, link, total, at, refl, sym is, f, omega arith) in
+    let here : FollowsLink links link.parent (step ∷ reverse steps) to (total + link.cost) =
+    (n, link, total, at, refl, sym is, f, omega arith) in
     subst (λ xs. FollowsLink links link.parent xs to (total + link.cost)) (sym back) here
 
 module _ (task : Task) (known : Known) (states : List Atoms) (links : List Link) (tree : IsTree task known states links) where
@@ -40,8 +41,10 @@ module _ (task : Task) (known : Known) (states : List Atoms) (links : List Link)
   first_step from before step n link here at parent is =
       let l = tree.each n link at in
       let earlier : link.parent ≤ n = tree.earlier.earlier n link at in
-      let same : l.before ≡ before = one_there states from l.before before (subst (λ k. slice_get states k ≡ Some l.before) parent l.from) here in
-      let taken : IsStep task known before link.step l.after link.cost = subst (λ b. IsStep task known b link.step l.after link.cost) same l.step in
+      let same : l.before ≡ before =
+      one_there states from l.before before (subst (λ k. slice_get states k ≡ Some l.before) parent l.from) here in
+      let taken : IsStep task known before link.step l.after link.cost =
+      subst (λ b. IsStep task known b link.step l.after link.cost) same l.step in
       record { after = l.after; later = omega arith; to = l.to; is = subst (λ x. IsStep task known before x l.after link.cost) is taken }
 
   length_follows : (from : ℕ) (steps : List GroundAction) (to total : ℕ)
@@ -97,7 +100,8 @@ module _ (task : Task) (known : Known) (states : List Atoms) (links : List Link)
       (subst (λ t. Executes task known t (take m steps) s e.2) one.0 e.4)
       (subst (λ t. Executes task known t (take n steps) s g.2) two.0 g.4)
 
-pub found_plan : (task : Task) (known : Known) (seeks : Bool) (limit : ℕ) (states : List Atoms) (links : List Link) (steps : List GroundAction) (cost : ℕ)
+pub found_plan : (task : Task) (known : Known) (seeks : Bool) (limit : ℕ) (states : List Atoms)
+    (links : List Link) (steps : List GroundAction) (cost : ℕ)
     → IsMet task known seeks limit states links → FollowsLink links 0 steps (length links) cost
     → IsFoundPlan task known limit steps cost
 found_plan task known seeks limit states links steps cost met f =
@@ -111,8 +115,12 @@ found_plan task known seeks limit states links steps cost met f =
             | inl same ↦ same
             | inr other ↦
                 elim other [
-                  | inl less ↦ absurd (no_return task known states links tree 0 steps (length links) cost (initial_state task) tree.first f m n less b.1 s a.0 b.0 a.2 b.2)
-                  | inr more ↦ absurd (no_return task known states links tree 0 steps (length links) cost (initial_state task) tree.first f n m more a.1 s b.0 a.0 b.2 a.2)
+                  | inl less ↦
+                      absurd (no_return task known states links tree 0 steps (length links) cost
+                      (initial_state task) tree.first f m n less b.1 s a.0 b.0 a.2 b.2)
+                  | inr more ↦
+                      absurd (no_return task known states links tree 0 steps (length links) cost
+                      (initial_state task) tree.first f n m more a.1 s b.0 a.0 b.2 a.2)
                 ]
           ];
       only_last = λ n s less a.

@@ -47,7 +47,9 @@ module _ (task : Task) (known : Known) where
 
   -- what is reached within one step more is reached within as many, or by one step from what is
   pub within_last : (n : ℕ) (s : Atoms) → IsReachedWithin task known (n + 1) s
-      → IsReachedWithin task known n s ⊎ ((before : Atoms) × (step : GroundAction) × (cost : ℕ) × IsReachedWithin task known n before × IsStep task known before step s cost)
+      → IsReachedWithin task known n s
+      ⊎ ((before : Atoms) × (step : GroundAction) × (cost : ℕ) × IsReachedWithin task known n before
+      × IsStep task known before step s cost)
   within_last n s r =
       elim (last_of r.0) [
         | inl e ↦ inl (r.0, r.1, omega (arith, ap length e), r.3)

@@ -15,7 +15,8 @@ LeadsTo task known steps count state =
     (cost : ℕ) × (count ≤ length steps)
     × Executes task known (initial_state task) (take count steps) state cost
 
--- The steps are a valid plan of this cost, and at most so many; their states are distinct, and only the last meets the goal.
+-- The steps are a valid plan of this cost, and at most so many; their states are distinct, and only the last meets the
+-- goal.
 pub record IsFoundPlan (task : Task) (known : Known) (limit : ℕ) (steps : List GroundAction) (cost : ℕ) : Type 0 where
   pub valid : IsValid task known steps cost
   pub few : length steps ≤ limit

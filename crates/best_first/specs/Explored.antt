@@ -79,7 +79,8 @@ module _ (task : Task) (known : Known) where
     pub others : (n : ℕ) (s : Atoms) → n < length links → slice_get states n ≡ Some s
         → ¬ (IsGoal task known s)
 
-  -- More states are reached than the limit allows, and, where the goal is sought, so many also within the steps of any plan.
+  -- More states are reached than the limit allows, and, where the goal is sought, so many also within the steps of any
+  -- plan.
   pub record IsBeyond (seeks : Bool) (limit : ℕ) : Type 0 where
     pub reached : MoreThan limit (IsReached task known)
     pub far : seeks ≡ true → IsFar task known limit

@@ -12,4 +12,5 @@ pub record AreLinks (links : List Link) : Type 0 where
 abbrev pub FollowsLink : List Link → ℕ → List GroundAction → ℕ → ℕ → Type 0
 FollowsLink links from [] to total = (from ≡ to) × (total ≡ 0)
 FollowsLink links from (step ∷ steps) to total =
-    (n : ℕ) × (link : Link) × (rest : ℕ) × (slice_get links n ≡ Some link) × (link.parent ≡ from) × (link.step ≡ step) × FollowsLink links (n + 1) steps to rest × (total ≡ link.cost + rest)
+    (n : ℕ) × (link : Link) × (rest : ℕ) × (slice_get links n ≡ Some link) × (link.parent ≡ from) × (link.step ≡ step)
+    × FollowsLink links (n + 1) steps to rest × (total ≡ link.cost + rest)

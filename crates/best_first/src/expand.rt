@@ -4,6 +4,7 @@ ghost use Rattle.grounder.specs.Applicable.{IsApplicable, AreApplicable};
 ghost use Rattle.task_model.specs.Fit.{IsFit};
 ghost use Rattle.task_model.specs.State.{Atoms};
 ghost use Rattle.task_model.specs.Steps.{IsStep};
+ghost use Rattle.task_model.specs.declared.limits.TheConstants.{MOST_STATES};
 ghost use Rattle.best_first.specs.Explored.{ExploringEnds, IsExplored, IsGrown, Comes};
 
 use crate::tree::{Link, Tree};
@@ -112,7 +113,7 @@ fn visit<L: Look>(
     step: &GroundAction,
 ) -> Result<Turn, AllocError>
     requires fit { IsFit scene.now.task.now }
-    requires limit { scene.now.limit ≤ 200000 }
+    requires limit { scene.now.limit ≤ MOST_STATES }
     requires explored { IsExplored scene.now.task.now (L.known scene.now.look.now)
         scene.now.seeks_goal scene.now.limit tree.old.store tree.old.links.items from }
     requires here { slice_get tree.old.store from ≡ Some state.now }
@@ -147,7 +148,7 @@ fn visit_all<L: Look>(
     steps: &[GroundAction],
 ) -> Result<Turn, AllocError>
     requires fit { IsFit scene.now.task.now }
-    requires limit { scene.now.limit ≤ 200000 }
+    requires limit { scene.now.limit ≤ MOST_STATES }
     requires explored { IsExplored scene.now.task.now (L.known scene.now.look.now)
         scene.now.seeks_goal scene.now.limit tree.old.store tree.old.links.items from }
     requires here { slice_get tree.old.store from ≡ Some state.now }
@@ -175,7 +176,7 @@ pub(crate) fn expand<L: Look>(
     from: u32,
 ) -> Result<Turn, AllocError>
     requires fit { IsFit scene.now.task.now }
-    requires limit { scene.now.limit ≤ 200000 }
+    requires limit { scene.now.limit ≤ MOST_STATES }
     requires explored { IsExplored scene.now.task.now (L.known scene.now.look.now)
         scene.now.seeks_goal scene.now.limit tree.old.store tree.old.links.items from }
     requires there { from < length tree.old.store }

@@ -1,6 +1,7 @@
 //! All states that are reached.
 ghost use Rattle.std.specs.Prelude.{◌≤◌, IfOk};
 ghost use Rattle.task_model.specs.Fit.{IsFit};
+ghost use Rattle.task_model.specs.declared.limits.TheConstants.{MOST_STATES};
 ghost use Rattle.best_first.specs.Outcome.{ComesTo};
 
 use crate::expand::{Scene, Turn, ends, expand};
@@ -24,7 +25,7 @@ pub(crate) enum Explored {
 pub(crate) fn explore<L: Look>(alloc: Global, scene: &Scene<'_, L>) -> Result<Explored, AllocError>
     requires fit { IsFit scene.now.task.now }
     requires some { 1 ≤ scene.now.limit }
-    requires limit { scene.now.limit ≤ 200000 }
+    requires limit { scene.now.limit ≤ MOST_STATES }
     ensures { IfOk result (ComesTo scene.now.task.now (L.known scene.now.look.now)
         scene.now.seeks_goal scene.now.limit) }
 {

@@ -1,6 +1,7 @@
 //! The way to a state.
 ghost use Rattle.std.specs.Prelude.{◌≤◌, IfOk, length};
 ghost use Rattle.best_first.specs.Links.{AreLinks, FollowsLink};
+ghost use Rattle.task_model.specs.declared.limits.TheConstants.{MOST_STATES};
 
 use crate::tree::Link;
 use std::alloc::{AllocError, Global};
@@ -10,7 +11,7 @@ use task_model::{Plan, Seq};
 /// wanting.
 pub(crate) fn path(alloc: Global, links: &[Link]) -> Result<(Plan, u64), AllocError>
     requires links { AreLinks links.now }
-    requires few { length links.now ≤ 200000 }
+    requires few { length links.now ≤ MOST_STATES }
     ensures { IfOk result (λ found. FollowsLink links.now 0 found.0.steps (length links.now)
         found.1) }
 {

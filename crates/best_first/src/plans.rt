@@ -2,6 +2,7 @@
 ghost use Rattle.std.specs.Prelude.{◌≤◌, ◌↔◌, IfOk, IsTrue};
 ghost use Rattle.task_model.specs.Fit.{IsFit};
 ghost use Rattle.task_model.specs.Plans.{IsFar, IsReached, IsSolvable, MoreThan};
+ghost use Rattle.task_model.specs.declared.limits.TheConstants.{MOST_STATES};
 ghost use Rattle.best_first.specs.Answer.{HasPlan, IsNothing, IsLimit};
 
 use crate::estimate::Estimate;
@@ -28,7 +29,7 @@ pub fn search<L: Look, E: Estimate>(
 ) -> Result<Found, AllocError>
     requires fit { IsFit task.now }
     requires some { 1 ≤ limit }
-    requires few { limit ≤ 200000 }
+    requires few { limit ≤ MOST_STATES }
     ensures plan { IfOk result (HasPlan task.now (L.known look.now) limit) }
     ensures nothing { IfOk result (λ found. IsNothing found
         ↔ ((¬ (IsSolvable task.now (L.known look.now)))
@@ -61,7 +62,7 @@ pub fn exceeds<L: Look>(
 ) -> Result<bool, AllocError>
     requires fit { IsFit task.now }
     requires some { 1 ≤ limit }
-    requires few { limit ≤ 200000 }
+    requires few { limit ≤ MOST_STATES }
     ensures { IfOk result (λ more. IsTrue more
         ↔ MoreThan limit (IsReached task.now (L.known look.now))) }
 {

@@ -30,9 +30,12 @@ in_front (a ∷ rest) more (suc k) lt = in_front rest more k (omega arith)
 
 -- ---- applications
 
-module _ (signatures : List Signature) (few : list_all (λ (s : Signature). nat_le s.arity 8) signatures ≡ true) (constants : ℕ) (place : ℕ) (args : List Term) (n : ℕ) (most : n ≤ 16) (fit : is_fit_application signatures constants (numbers_from 0 n) place args ≡ true) where
+module _ (signatures : List Signature) (few : list_all (λ (s : Signature). nat_le s.arity 8) signatures ≡ true) (constants : ℕ) (place : ℕ)
+    (args : List Term) (n : ℕ) (most : n ≤ 16) (fit : is_fit_application signatures constants (numbers_from 0 n) place args ≡ true) where
   pub short_application : length args ≤ 8
-  short_application = leb-true (length args) 8 (few_arguments signatures place (length args) few (first_so (has_arity signatures place (length args)) _ fit))
+  short_application =
+      leb-true (length args) 8
+      (few_arguments signatures place (length args) few (first_so (has_arity signatures place (length args)) _ fit))
 
   pub readable_application : list_all is_readable_term args ≡ true
   readable_application =
@@ -46,7 +49,8 @@ pub record ArePlain (names : List (List ℕ)) (args : List ℕ) (patterns : List
   pub readable : All (λ (p : Pattern). list_all is_readable_term p.args ≡ true) patterns
   pub named : All (λ (p : Pattern). All (IsIn names) (objects_at (slots_of args) p.args)) patterns
 
-module _ (domain : Domain) (fit : IsFitDomain domain) (names : List (List ℕ)) (constants : length domain.constants ≤ length names) (args : List ℕ) (few : length args ≤ 16) (all : All (IsIn names) args) where
+module _ (domain : Domain) (fit : IsFitDomain domain) (names : List (List ℕ))
+    (constants : length domain.constants ≤ length names) (args : List ℕ) (few : length args ≤ 16) (all : All (IsIn names) args) where
   one_of : (P : Pattern → Type 0)
       → ((p : Pattern) → is_fit_pattern domain (length domain.constants) (numbers_from 0 (length args)) p ≡ true → P p)
       → (ps : List Pattern) → list_all (is_fit_pattern domain (length domain.constants) (numbers_from 0 (length args))) ps ≡ true → All P ps
@@ -59,9 +63,15 @@ module _ (domain : Domain) (fit : IsFitDomain domain) (names : List (List ℕ)) 
   pub plain_patterns : (ps : List Pattern)
       → list_all (is_fit_pattern domain (length domain.constants) (numbers_from 0 (length args))) ps ≡ true → ArePlain names args ps
   plain_patterns ps e = record {
-    short = one_of (λ p. length p.args ≤ 8) (λ p f. short_application domain.predicates fit.predicates.arities (length domain.constants) p.pred p.args (length args) few f) ps e;
-    readable = one_of (λ p. list_all is_readable_term p.args ≡ true) (λ p f. readable_application domain.predicates fit.predicates.arities (length domain.constants) p.pred p.args (length args) few f) ps e;
-    named = one_of (λ p. All (IsIn names) (objects_at (slots_of args) p.args)) (λ p f. terms_named names (length domain.constants) args p.args constants all (second_so (has_arity domain.predicates p.pred (length p.args)) _ f)) ps e;
+    short = one_of (λ p. length p.args ≤ 8)
+        (λ p f. short_application domain.predicates fit.predicates.arities (length domain.constants) p.pred p.args (length args) few f) ps
+        e;
+    readable = one_of (λ p. list_all is_readable_term p.args ≡ true)
+        (λ p f. readable_application domain.predicates fit.predicates.arities (length domain.constants) p.pred p.args (length args) few f)
+        ps e;
+    named = one_of (λ p. All (IsIn names) (objects_at (slots_of args) p.args))
+        (λ p f. terms_named names (length domain.constants) args p.args constants all
+        (second_so (has_arity domain.predicates p.pred (length p.args)) _ f)) ps e;
   }
 
 -- ---- streams
@@ -70,7 +80,9 @@ module _ (domain : Domain) (fit : IsFitDomain domain) (names : List (List ℕ)) 
 pub record HasFitParts (domain : Domain) (s : Stream) : Type 0 where
   pub inputs : length s.inputs ≤ 8
   pub outputs : length s.outputs ≤ 8
-  pub certified : list_all (is_fit_pattern domain (length domain.constants) (numbers_from 0 (length s.inputs + length s.outputs))) s.certified ≡ true
+  pub certified : list_all (is_fit_pattern domain (length domain.constants) (numbers_from 0 (length s.inputs + length s.outputs)))
+      s.certified
+      ≡ true
   pub worth : is_fit_worth domain s ≡ true
 
 pub fit_parts : (domain : Domain) (s : Stream) → is_fit_stream domain s ≡ true
@@ -101,7 +113,9 @@ fit_parts domain s e =
     }
 
 -- the certified atoms of a fit stream, where inputs and outputs have names
-module _ (domain : Domain) (fit : IsFitDomain domain) (names : List (List ℕ)) (constants : length domain.constants ≤ length names) (s : Stream) (parts : HasFitParts domain s) (inputs outputs : List ℕ) (some : length inputs ≡ length s.inputs) (others : length outputs ≡ length s.outputs) where
+module _ (domain : Domain) (fit : IsFitDomain domain) (names : List (List ℕ)) (constants : length domain.constants ≤ length names)
+    (s : Stream) (parts : HasFitParts domain s) (inputs outputs : List ℕ) (some : length inputs ≡ length s.inputs)
+    (others : length outputs ≡ length s.outputs) where
   pub few_args : length (inputs ++ outputs) ≤ 16
   few_args = omega (arith, length-append inputs outputs, parts.inputs, parts.outputs)
 
@@ -109,8 +123,10 @@ module _ (domain : Domain) (fit : IsFitDomain domain) (names : List (List ℕ)) 
       → ArePlain names (inputs ++ outputs) s.certified
   plain_certified first second =
       let long : length (inputs ++ outputs) ≡ length s.inputs + length s.outputs = omega (arith, length-append inputs outputs) in
-      plain_patterns domain fit names constants (inputs ++ outputs) few_args (All-append (IsIn names) inputs outputs first second) s.certified
-      (subst (λ n. list_all (is_fit_pattern domain (length domain.constants) (numbers_from 0 n)) s.certified ≡ true) (sym long) parts.certified)
+      plain_patterns domain fit names constants (inputs ++ outputs) few_args
+      (All-append (IsIn names) inputs outputs first second) s.certified
+      (subst (λ n. list_all (is_fit_pattern domain (length domain.constants) (numbers_from 0 n)) s.certified ≡ true)
+      (sym long) parts.certified)
 
 -- the term of a fit cost stream
 pub record IsPlainWorth (names : List (List ℕ)) (inputs : List ℕ) (worth : Worth) : Type 0 where
@@ -124,11 +140,20 @@ pub plain_worth : (domain : Domain) → IsFitDomain domain → (names : List (Li
     → s.worth ≡ Some worth → IsPlainWorth names inputs worth
 plain_worth domain fit names constants s parts inputs long all worth e =
     let most : length inputs ≤ 16 = omega (arith, parts.inputs) in
-    let whole : is_fit_worth domain (record s { worth = Some worth }) ≡ true = subst (λ w. is_fit_worth domain (record s { worth = w }) ≡ true) e parts.worth in
-    let application : is_fit_application domain.functions (length domain.constants) (numbers_from 0 (length s.inputs)) worth.func worth.args ≡ true = second_so (is_empty s.outputs && is_empty s.certified) _ whole in
-    let fitting : is_fit_application domain.functions (length domain.constants) (numbers_from 0 (length inputs)) worth.func worth.args ≡ true = subst (λ n. is_fit_application domain.functions (length domain.constants) (numbers_from 0 n) worth.func worth.args ≡ true) (sym long) application in
+    let whole : is_fit_worth domain (record s { worth = Some worth }) ≡ true =
+    subst (λ w. is_fit_worth domain (record s { worth = w }) ≡ true) e parts.worth in
+    let application : is_fit_application domain.functions (length domain.constants)
+    (numbers_from 0 (length s.inputs)) worth.func worth.args ≡ true =
+    second_so (is_empty s.outputs && is_empty s.certified) _ whole in
+    let fitting : is_fit_application domain.functions (length domain.constants)
+    (numbers_from 0 (length inputs)) worth.func worth.args ≡ true =
+    subst (λ n. is_fit_application domain.functions (length domain.constants) (numbers_from 0 n) worth.func worth.args ≡ true)
+    (sym long) application in
     record {
-      short = short_application domain.functions fit.functions.arities (length domain.constants) worth.func worth.args (length inputs) most fitting;
-      readable = readable_application domain.functions fit.functions.arities (length domain.constants) worth.func worth.args (length inputs) most fitting;
-      named = terms_named names (length domain.constants) inputs worth.args constants all (second_so (has_arity domain.functions worth.func (length worth.args)) _ fitting);
+      short = short_application domain.functions fit.functions.arities (length domain.constants) worth.func worth.args
+          (length inputs) most fitting;
+      readable = readable_application domain.functions fit.functions.arities (length domain.constants) worth.func worth.args
+          (length inputs) most fitting;
+      named = terms_named names (length domain.constants) inputs worth.args constants all
+          (second_so (has_arity domain.functions worth.func (length worth.args)) _ fitting);
     }

@@ -4,12 +4,12 @@ use Rattle.std.proofs.lemmas.List.{map-append, length-append, drop_more}
 use Rattle.std.specs.List.{list_any}
 use Rattle.fact_store.proofs.StoreLemmas.{in_more}
 use Rattle.task_model.specs.Initial.{type_facts}
-use Rattle.task_model.specs.Known.{IsIn, same_numbers, with_fact, with_facts, with_name}
+use Rattle.task_model.specs.Known.{IsIn, same_numbers, with_fact, with_facts, with_name, with_names}
 use Rattle.task_model.specs.Streams.{output_types}
 use Rattle.task_model.specs.declared.domain.Domain.{Domain}
 use Rattle.task_model.specs.declared.fact.Fact.{Fact}
 use Rattle.certify.specs.Outputs.{AreNamed}
-use Rattle.transcript_model.specs.Names.{generated, with_names}
+use Rattle.transcript_model.specs.Names.{generated}
 use Rattle.lemmas.proofs.Members.{get_append}
 use Rattle.task_model.proofs.KnownLemmas.{facts_then}
 
@@ -45,14 +45,6 @@ pub all_in_names_kept : (names more : List (List ℕ)) (objects : List ℕ) → 
     → All (IsIn (with_names names more)) objects
 all_in_names_kept names more objects all k d lt = in_names_kept names more _ (all k d lt)
 
-pub length_with_name : (names : List (List ℕ)) (name : List ℕ)
-    → length (with_name names name) ≤ length names + 1
-length_with_name names name =
-    elim (list_any (same_numbers name) names) as (λ b. length (cond b names (names ++ name ∷ [])) ≤ length names + 1) [
-      | true ↦ omega arith
-      | false ↦ omega (arith, length-append names (name ∷ []))
-    ]
-
 at_least : (names : List (List ℕ)) (name : List ℕ) → length names ≤ length (with_name names name)
 at_least names name =
     elim (list_any (same_numbers name) names) as (λ b. length names ≤ length (cond b names (names ++ name ∷ []))) [
@@ -68,7 +60,8 @@ names_grow names (name ∷ more) =
 pub names_more : (names : List (List ℕ)) (values : List (List ℕ)) (i : ℕ) (value : List ℕ)
     → i < length values
     → value ≡ get_or values i value
-    → with_names (with_name names (generated value)) (map generated (drop (i + 1) values)) ≡ with_names names (map generated (drop i values))
+    → with_names (with_name names (generated value)) (map generated (drop (i + 1) values))
+    ≡ with_names names (map generated (drop i values))
 names_more names values i value lt is =
     ap (λ vs. with_names names (map generated vs)) (sym (drop_more values i value lt ∙ ap (λ v. v ∷ drop (i + 1) values) (sym is)))
 
@@ -89,7 +82,8 @@ pub named_push : (names : List (List ℕ)) (objects : List ℕ) (values : List (
     → AreNamed names objects values → slice_get names object ≡ Some (generated value)
     → AreNamed names (objects ++ object ∷ []) (values ++ value ∷ [])
 named_push names objects values object value all one =
-    map-append (slice_get names) objects (object ∷ []) ∙ (λ j. all j ++ one j ∷ []) ∙ sym (map-append (λ v. Some (generated v)) values (value ∷ []))
+    map-append (slice_get names) objects (object ∷ []) ∙ (λ j. all j ++ one j ∷ [])
+    ∙ sym (map-append (λ v. Some (generated v)) values (value ∷ []))
 
 pub named_in : (names : List (List ℕ)) (objects : List ℕ) (values : List (List ℕ))
     → AreNamed names objects values
@@ -119,11 +113,13 @@ pub types_more : (domain : Domain) (sorts objects : List ℕ) (i object : ℕ) (
     → i < length sorts
     → length objects ≡ length sorts → object ≡ get_or objects i object
     → new ≡ with_facts facts (type_facts domain (get_or sorts i 0) object)
-    → with_facts new (output_types domain (drop (i + 1) sorts) (drop (i + 1) objects)) ≡ with_facts facts (output_types domain (drop i sorts) (drop i objects))
+    → with_facts new (output_types domain (drop (i + 1) sorts) (drop (i + 1) objects))
+    ≡ with_facts facts (output_types domain (drop i sorts) (drop i objects))
 types_more domain sorts objects i object facts new lt long o grown =
     let below : i < length objects = omega arith in
     let first : drop i sorts ≡ get_or sorts i 0 ∷ drop (i + 1) sorts = drop_more sorts i 0 lt in
-    let second : drop i objects ≡ object ∷ drop (i + 1) objects = drop_more objects i object below ∙ ap (λ x. x ∷ drop (i + 1) objects) (sym o) in
+    let second : drop i objects ≡ object ∷ drop (i + 1) objects =
+    drop_more objects i object below ∙ ap (λ x. x ∷ drop (i + 1) objects) (sym o) in
     ap (λ fs. with_facts fs (output_types domain (drop (i + 1) sorts) (drop (i + 1) objects))) grown
     ∙ sym (facts_then facts (type_facts domain (get_or sorts i 0) object) (output_types domain (drop (i + 1) sorts) (drop (i + 1) objects)))
     ∙ (λ j. with_facts facts (output_types domain (sym first j) (sym second j)))
@@ -132,4 +128,5 @@ pub atoms_more : {A : Type 0} (f : A → Fact) (xs : List A) (i : ℕ) (x : A) (
     → i < length xs → x ≡ get_or xs i x
     → new ≡ with_fact facts (f x) → with_facts new (map f (drop (i + 1) xs)) ≡ with_facts facts (map f (drop i xs))
 atoms_more f xs i x facts new lt is grown =
-    ap (λ fs. with_facts fs (map f (drop (i + 1) xs))) grown ∙ ap (λ ys. with_facts facts (map f ys)) (sym (drop_more xs i x lt ∙ ap (λ y. y ∷ drop (i + 1) xs) (sym is)))
+    ap (λ fs. with_facts fs (map f (drop (i + 1) xs))) grown
+    ∙ ap (λ ys. with_facts facts (map f ys)) (sym (drop_more xs i x lt ∙ ap (λ y. y ∷ drop (i + 1) xs) (sym is)))

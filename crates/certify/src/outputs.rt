@@ -1,7 +1,9 @@
 //! The objects that values stand for.
 ghost use Rattle.std.specs.Prelude.{◌≡◌, ◌+◌, ◌<◌, map, length, IfOk, OnOk};
 ghost use Rattle.certify.specs.Outputs.{AreNamed};
-ghost use Rattle.transcript_model.specs.Names.{generated, with_names};
+ghost use Rattle.transcript_model.specs.Names.{generated};
+ghost use Rattle.task_model.specs.Known.{with_names};
+ghost use Rattle.fact_store.specs.declared.facts.TheConstants.{MOST_NAMES};
 
 use fact_store::Facts;
 use std::alloc::{AllocError, Global};
@@ -23,7 +25,7 @@ pub(crate) fn name_outputs(
     alloc: Global,
     values: &[Name],
 ) -> Result<Row, AllocError>
-    requires { length facts.old.known.names + length values.now < 4294705152 }
+    requires { length facts.old.known.names + length values.now < MOST_NAMES }
     ensures names { OnOk result (facts.new.known.names
         ≡ with_names facts.old.known.names (map generated values.now)) }
     ensures objects { IfOk result (λ objects. AreNamed facts.new.known.names objects values.now) }

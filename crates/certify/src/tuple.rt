@@ -2,12 +2,13 @@
 ghost use Rattle.std.specs.Prelude.{◌≡◌, ◌≤◌, ◌<◌, ◌+◌, map, length, true, All, IfOk, OnOk};
 ghost use Rattle.std.specs.List.{list_all};
 ghost use Rattle.certify.specs.Outputs.{AreNamed};
-ghost use Rattle.transcript_model.specs.Names.{generated, with_names};
+ghost use Rattle.transcript_model.specs.Names.{generated};
 ghost use Rattle.formula_eval.specs.Readable.{is_readable_term};
 ghost use Rattle.task_model.specs.Fit.{IsFitDomain, is_fit_stream};
-ghost use Rattle.task_model.specs.Known.{IsIn, with_facts};
+ghost use Rattle.task_model.specs.Known.{IsIn, with_facts, with_names};
 ghost use Rattle.task_model.specs.Streams.{certified_by, output_types, fact_of};
 ghost use Rattle.task_model.specs.Truth.{slots_of, objects_at as objects_of_terms};
+ghost use Rattle.fact_store.specs.declared.facts.TheConstants.{MOST_NAMES};
 
 use crate::outputs::name_outputs;
 use fact_store::{Facts, add_supertypes};
@@ -84,7 +85,7 @@ pub fn learn_tuple(
     requires outputs { length values.now ≡ length stream.now.outputs }
     requires named { All (IsIn facts.old.known.names) inputs.now }
     requires constants { length domain.now.constants ≤ length facts.old.known.names }
-    requires room { length facts.old.known.names + length values.now < 4294705152 }
+    requires room { length facts.old.known.names + length values.now < MOST_NAMES }
     ensures names { OnOk result (facts.new.known.names
         ≡ with_names facts.old.known.names (map generated values.now)) }
     ensures outputs { IfOk result (λ outputs. AreNamed facts.new.known.names outputs values.now) }

@@ -3,6 +3,7 @@ ghost use Rattle.std.specs.Prelude.{◌≡◌, ◌≤◌, length, true, All, OnO
 ghost use Rattle.task_model.specs.Fit.{IsFitDomain, is_fit_stream};
 ghost use Rattle.task_model.specs.Known.{IsIn, with_values};
 ghost use Rattle.task_model.specs.Streams.{worth_by};
+ghost use Rattle.task_model.specs.declared.limits.TheConstants.{LARGEST_NUMBER};
 
 use fact_store::Facts;
 use formula_eval::{Env, objects_at};
@@ -26,7 +27,7 @@ pub fn learn_value(
     requires inputs { length inputs.now ≡ length stream.now.inputs }
     requires named { All (IsIn facts.old.known.names) inputs.now }
     requires constants { length domain.now.constants ≤ length facts.old.known.names }
-    requires cost { value ≤ 1000000 }
+    requires cost { value ≤ LARGEST_NUMBER }
     ensures values { OnOk result (facts.new.known.values
         ≡ with_values facts.old.known.values (worth_by stream.now inputs.now value)) }
     ensures names { facts.new.known.names ≡ facts.old.known.names }

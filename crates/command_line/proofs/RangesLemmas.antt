@@ -11,17 +11,8 @@ use Rattle.command_line.specs.Apps.{generate_app, is_taken, replay_app, solve_ap
 use Rattle.command_line.specs.Numbers.{are_few_digits, count_in, count_of, count_or, is_count}
 use Rattle.command_line.specs.Ranges.{AreInRange, IsBetween, IsInRange}
 use Rattle.command_line.specs.Words.{Command, Limits, ReplayWords, SolveWords, are_apart, command_of, files_in, generate, generate_in, generate_of, limits_in, mode_or, path_in, program_in, read_by, replay, replay_in, replay_of, solve, solve_in, solve_of}
-use Rattle.lemmas.proofs.Options.{and_then_some}
-
--- ---- what a test lets through
-
-kept : {A : Type 0} (b : Bool) (value : Option A) (a : A) → (if b then value else None) ≡ Some a
-    → (b ≡ true) × (value ≡ Some a)
-kept true value a e = (refl, e)
-kept false value a e = absurd (cc)
-
-same : {A : Type 0} (a b : A) → Some a ≡ Some b → a ≡ b
-same a b e = cc
+use Rattle.lemmas.proofs.Options.{and_then_some, where_true}
+use Rattle.std.proofs.lemmas.Option.{same_Some}
 
 -- ---- numbers
 
@@ -37,13 +28,13 @@ digits_between most word e =
 
 count_between : (most : ℕ) (word : Text) (n : ℕ) → count_of most word ≡ Some n → IsBetween most n
 count_between most word n e =
-    let found = kept (is_count most word) (Some (digits_value 10 word)) n e in
-    subst (IsBetween most) (same (digits_value 10 word) n found.1) (digits_between most word found.0)
+    let found = where_true (is_count most word) (Some (digits_value 10 word)) n e in
+    subst (IsBetween most) (same_Some (digits_value 10 word) n found.1) (digits_between most word found.0)
 
 or_between : (most default : ℕ) → IsBetween most default → (word : Option Text) (n : ℕ)
     → count_or most default word ≡ Some n
     → IsBetween most n
-or_between most default some None n e = subst (IsBetween most) (same default n e) some
+or_between most default some None n e = subst (IsBetween most) (same_Some default n e) some
 or_between most default some (Some word) n e = count_between most word n e
 
 -- ---- what is read of rows
@@ -54,7 +45,7 @@ limits_between rows l e =
     let calls = and_then_some _ (count_in (codes "calls") 100000 10000 rows) l e in
     let states = and_then_some _ (count_in (codes "states") 200000 100000 rows) l calls.2 in
     let depth = and_then_some _ (count_in (codes "depth") 8 3 rows) l states.2 in
-    subst (λ (x : Limits). IsBetween 100000 x.calls × IsBetween 200000 x.states × IsBetween 8 x.depth) (same _ l depth.2) (
+    subst (λ (x : Limits). IsBetween 100000 x.calls × IsBetween 200000 x.states × IsBetween 8 x.depth) (same_Some _ l depth.2) (
       or_between 100000 10000 (omega arith, omega arith) (first_of (codes "calls") rows) calls.0 calls.1,
       or_between 200000 100000 (omega arith, omega arith) (first_of (codes "states") rows) states.0 states.1,
       or_between 8 3 (omega arith, omega arith) (first_of (codes "depth") rows) depth.0 depth.1,
@@ -63,8 +54,8 @@ limits_between rows l e =
 mode_built : (name : Option Text) (mode : Mode) → mode_or name ≡ Some mode → mode ≡ Incremental
 mode_built None mode e = cc
 mode_built (Some name) mode e =
-    let found = kept (bytes_eq name (codes "incremental")) (Some Incremental) mode e in
-    rw (same Incremental mode found.1) refl
+    let found = where_true (bytes_eq name (codes "incremental")) (Some Incremental) mode e in
+    rw (same_Some Incremental mode found.1) refl
 
 -- where a map stands there is no program
 alone_from : (path workers : Option Text) (program : List Text)
@@ -90,7 +81,7 @@ solve_between rows w e =
       limits = limits.0;
     } in
     let apart = are_apart (path_in rows) (first_of (codes "workers") rows) (program_in rows) in
-    let found = kept apart (Some made) w workers.2 in
+    let found = where_true apart (Some made) w workers.2 in
     let few = limits_between rows limits.0 limits.1 in
     let ranges : AreInRange made = record {
       calls = few.0;
@@ -100,7 +91,7 @@ solve_between rows w e =
       built = mode_built (first_of (codes "algorithm") rows) mode.0 mode.1;
       alone = alone_from (path_in rows) (first_of (codes "workers") rows) (program_in rows) found.0;
     } in
-    subst AreInRange (same made w found.1) ranges
+    subst AreInRange (same_Some made w found.1) ranges
 
 replay_between : (rows : List Row) (w : ReplayWords) → replay_in rows ≡ Some w
     → IsBetween 200000 w.states
@@ -108,7 +99,7 @@ replay_between rows w e =
     let files = and_then_some _ (files_in rows) w e in
     let report = and_then_some _ (first_of (codes "report") rows) w files.2 in
     let states = and_then_some _ (count_in (codes "states") 200000 100000 rows) w report.2 in
-    subst (λ (x : ReplayWords). IsBetween 200000 x.states) (same _ w states.2)
+    subst (λ (x : ReplayWords). IsBetween 200000 x.states) (same_Some _ w states.2)
     (or_between 200000 100000 (omega arith, omega arith) (first_of (codes "states") rows) states.0 states.1)
 
 generate_between : (rows : List Row) (n : ℕ) → generate_in rows ≡ Some n → IsBetween 12 n
@@ -121,7 +112,7 @@ generate_between rows n e =
 read_some : {X : Type 0} (app : App) (read : List Row → Option X) (words : List Text) (x : X)
     → read_by app read words ≡ Some x → read (matches_of app words) ≡ Some x
 unfolding read_by
-read_some {X} app read words x e = (kept (is_taken app words) (read (matches_of app words)) x e).1
+read_some {X} app read words x e = (where_true (is_taken app words) (read (matches_of app words)) x e).1
 
 solve_found : (words : List Text) (c : Command) → option_map solve (solve_of words) ≡ Some c
     → IsInRange c

@@ -2,7 +2,9 @@
 use Rattle.std.specs.Prelude.{◌≡◌, ◌≤◌, ℕ, List, [], Some}
 use Rattle.clap.specs.Words.{Text}
 use Rattle.transcript_model.specs.declared.head.Mode.TheVariants.{Incremental}
+use Rattle.transcript_model.specs.declared.limits.TheConstants.{MOST_CALLS, MOST_DEPTH, WORKERS}
 use Rattle.command_line.specs.Words.{Command, SolveWords, command_of, generate, replay, solve}
+use Rattle.task_model.specs.declared.limits.TheConstants.{MOST_STATES}
 
 -- from 1 to the most
 abbrev pub IsBetween : ℕ → ℕ → Type 0
@@ -10,17 +12,17 @@ IsBetween most n = (1 ≤ n) × (n ≤ most)
 
 -- `solve`: its numbers are in their ranges, its mode is one that is built, and no program stands beside a map
 pub record AreInRange (w : SolveWords) : Type 0 where
-  pub calls : IsBetween 100000 w.limits.calls
-  pub states : IsBetween 200000 w.limits.states
-  pub depth : IsBetween 8 w.limits.depth
-  pub workers : IsBetween 16 w.workers
+  pub calls : IsBetween MOST_CALLS w.limits.calls
+  pub states : IsBetween MOST_STATES w.limits.states
+  pub depth : IsBetween MOST_DEPTH w.limits.depth
+  pub workers : IsBetween WORKERS w.workers
   pub built : w.mode ≡ Incremental
   pub alone : (path : Text) → w.path ≡ Some path → w.program ≡ []
 
 -- the numbers of the command are in their ranges
 abbrev pub IsInRange : Command → Type 0
 IsInRange (solve w) = AreInRange w
-IsInRange (replay w) = IsBetween 200000 w.states
+IsInRange (replay w) = IsBetween MOST_STATES w.states
 IsInRange (generate n) = IsBetween 12 n
 
 -- whatever the words are

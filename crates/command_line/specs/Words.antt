@@ -3,8 +3,11 @@ use Rattle.std.specs.Prelude.{ℕ, Bool, true, false, List, [], ◌∷◌, codes
 use Rattle.clap.specs.Words.{App, Row, Text, all_of, first_of, matches_of}
 use Rattle.transcript_model.specs.declared.head.Mode.{Mode}
 use Rattle.transcript_model.specs.declared.head.Mode.TheVariants.{Incremental}
+use Rattle.transcript_model.specs.declared.limits.TheConstants.{MOST_CALLS, MOST_DEPTH, WORKERS}
 use Rattle.command_line.specs.Apps.{generate_app, is_taken, replay_app, solve_app}
 use Rattle.command_line.specs.Numbers.{count_in, count_of}
+use Rattle.command_line.specs.declared.number.TheConstants.{DEFAULT_CALLS, DEFAULT_DEPTH, DEFAULT_STATES}
+use Rattle.task_model.specs.declared.limits.TheConstants.{MOST_STATES}
 
 -- the paths of a task's three texts
 pub record TaskFiles : Type 0 where
@@ -56,9 +59,9 @@ files_in rows =
 -- the limits, and the default of each that the words lack
 abbrev pub limits_in : List Row → Option Limits
 limits_in rows =
-    given (count_in (codes "calls") 100000 10000 rows) (λ calls.
-    given (count_in (codes "states") 200000 100000 rows) (λ states.
-    given (count_in (codes "depth") 8 3 rows) (λ depth.
+    given (count_in (codes "calls") MOST_CALLS DEFAULT_CALLS rows) (λ calls.
+    given (count_in (codes "states") MOST_STATES DEFAULT_STATES rows) (λ states.
+    given (count_in (codes "depth") MOST_DEPTH DEFAULT_DEPTH rows) (λ depth.
     Some (record { calls = calls; states = states; depth = depth }))))
 
 -- the mode of this name, where it is built, and incremental mode where the words name none
@@ -92,7 +95,7 @@ solve_in rows =
     given (files_in rows) (λ files.
     given (mode_or (first_of (codes "algorithm") rows)) (λ mode.
     given (limits_in rows) (λ limits.
-    given (count_in (codes "workers") 16 1 rows) (λ workers.
+    given (count_in (codes "workers") WORKERS 1 rows) (λ workers.
     if are_apart (path_in rows) (first_of (codes "workers") rows) (program_in rows)
     then Some (record {
       files = files;
@@ -109,7 +112,7 @@ abbrev pub replay_in : List Row → Option ReplayWords
 replay_in rows =
     given (files_in rows) (λ files.
     given (first_of (codes "report") rows) (λ report.
-    given (count_in (codes "states") 200000 100000 rows) (λ states.
+    given (count_in (codes "states") MOST_STATES DEFAULT_STATES rows) (λ states.
     Some (record { files = files; report = report; states = states }))))
 
 -- the words of `generate`

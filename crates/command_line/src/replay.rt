@@ -7,11 +7,12 @@ ghost use Rattle.command_line.specs.Shown.{lent_replay, shown_replay};
 ghost use Rattle.command_line.specs.Words.{replay_in, replay_of};
 
 use crate::line::{matches_of_words, option, positional, text_in};
-use crate::number::count_in;
+use crate::number::{DEFAULT_STATES, count_in};
 use crate::task::{TaskFiles, files_in, task_command};
 use crate::{ReplayConfig, WordsFault};
 use clap::{ArgMatches, Command};
 use std::alloc::{AllocError, Global};
+use task_model::MOST_STATES;
 
 /// What the words of `replay` say, as they stand.
 #[derive(Clone, Copy)]
@@ -34,7 +35,7 @@ fn replay_in<'a>(matches: &ArgMatches<'a>) -> Option<ReplayWords<'a>>
 {
     let files = files_in(matches)?;
     let report = text_in(matches, "report")?;
-    let states = count_in(matches, "states", 200_000, 100_000)?;
+    let states = count_in(matches, "states", MOST_STATES, DEFAULT_STATES)?;
     Some(ReplayWords {
         files,
         report,

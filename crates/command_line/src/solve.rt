@@ -7,13 +7,13 @@ ghost use Rattle.command_line.specs.Shown.{lent_solve, shown_limits, shown_progr
 ghost use Rattle.command_line.specs.Words.{are_apart, limits_in, mode_or, solve_in, solve_of};
 
 use crate::line::{matches_of_words, option, text_in, trailing, words_in};
-use crate::number::count_in;
+use crate::number::{DEFAULT_CALLS, DEFAULT_DEPTH, DEFAULT_STATES, count_in};
 use crate::task::{TaskFiles, files_in, task_command};
 use crate::{SolveConfig, WordsFault};
 use clap::{ArgMatches, Command};
 use std::alloc::{AllocError, Global};
-use task_model::Seq;
-use transcript_model::Mode;
+use task_model::{MOST_STATES, Seq};
+use transcript_model::{MOST_CALLS, MOST_DEPTH, Mode, WORKERS};
 
 /// The limits of a run.
 #[derive(Clone, Copy)]
@@ -81,9 +81,9 @@ fn are_apart(path: Option<&str>, workers: Option<&str>, program: Option<&[&str]>
 fn limits_in(matches: &ArgMatches<'_>) -> Option<Limits>
     ensures { shown_limits result ≡ limits_in (rows_of (found_of matches.now)) }
 {
-    let calls = count_in(matches, "calls", 100_000, 10_000)?;
-    let states = count_in(matches, "states", 200_000, 100_000)?;
-    let depth = count_in(matches, "depth", 8, 3)?;
+    let calls = count_in(matches, "calls", MOST_CALLS, DEFAULT_CALLS)?;
+    let states = count_in(matches, "states", MOST_STATES, DEFAULT_STATES)?;
+    let depth = count_in(matches, "depth", MOST_DEPTH as u32, DEFAULT_DEPTH)?;
     Some(Limits {
         calls,
         states,
@@ -97,7 +97,7 @@ fn solve_in<'m, 'a>(matches: &'m ArgMatches<'a>) -> Option<SolveWords<'m, 'a>>
     let files = files_in(matches)?;
     let mode = mode_or(text_in(matches, "algorithm"))?;
     let limits = limits_in(matches)?;
-    let workers = count_in(matches, "workers", 16, 1)?;
+    let workers = count_in(matches, "workers", WORKERS as u32, 1)?;
     let map = text_in(matches, "map");
     let program = words_in(matches, "program");
     if are_apart(map, text_in(matches, "workers"), program) {

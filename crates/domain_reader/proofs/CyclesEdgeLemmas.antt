@@ -24,7 +24,8 @@ pub edges_more : (ns edges new : List (List ℕ)) (k : ℕ) (own : List ℕ)
     → new ≡ edges ++ own ∷ [] → first_edges ns ≡ new ++ edges_from (k + 1) (drop (k + 1) ns)
 edges_more ns edges new k own so_far lt is pushed =
     so_far ∙ ap (λ ms. edges ++ edges_from k ms) (name_step ns k lt) ∙ ap (λ es. edges ++ es) (from_step k (name_at ns k) (drop (k + 1) ns))
-    ∙ ap (λ o. edges ++ o ∷ edges_from (k + 1) (drop (k + 1) ns)) (sym is) ∙ sym (append_assoc edges (own ∷ []) (edges_from (k + 1) (drop (k + 1) ns)))
+    ∙ ap (λ o. edges ++ o ∷ edges_from (k + 1) (drop (k + 1) ns)) (sym is)
+    ∙ sym (append_assoc edges (own ∷ []) (edges_from (k + 1) (drop (k + 1) ns)))
     ∙ ap (λ es. es ++ edges_from (k + 1) (drop (k + 1) ns)) (sym pushed)
 
 pub none_more : (ns edges new : List (List ℕ)) (k : ℕ) (own : List ℕ)
@@ -47,8 +48,10 @@ pub sorts_more : (edges names : List (List ℕ)) (list new : List sort.Sort) (k 
 sorts_more edges names list new k name above so_far lt is up pushed =
     λ rest r.
     let front : drop k names ≡ name ∷ drop (k + 1) names = name_step names k lt ∙ ap (λ n. n ∷ drop (k + 1) names) (sym is) in
-    let whole : list ++ record { name = name; above = above } ∷ rest ≡ new ++ rest = sym (append_assoc list (record { name = name; above = above } ∷ []) rest) ∙ ap (λ xs. xs ++ rest) (sym pushed) in
-    subst (AreSorts edges 0 names) whole (so_far (record { name = name; above = above } ∷ rest) (subst (λ ns. AreSorts edges k ns (record { name = name; above = above } ∷ rest)) (sym front) (more_sorts up r)))
+    let whole : list ++ record { name = name; above = above } ∷ rest ≡ new ++ rest =
+    sym (append_assoc list (record { name = name; above = above } ∷ []) rest) ∙ ap (λ xs. xs ++ rest) (sym pushed) in
+    subst (AreSorts edges 0 names) whole (so_far (record { name = name; above = above } ∷ rest)
+    (subst (λ ns. AreSorts edges k ns (record { name = name; above = above } ∷ rest)) (sym front) (more_sorts up r)))
 
 pub sorts_all : (edges names : List (List ℕ)) (list : List sort.Sort) (k : ℕ)
     → Before edges names k list → length names ≤ k → AreSorts edges 0 names list

@@ -26,7 +26,8 @@ pub roles_more : (d : Domain) (list new : List Role) (k : ℕ) (role : Role)
 roles_more d list new k role so_far lt is pushed =
     let less : length d.predicates - k ≡ suc (length d.predicates - (k + 1)) = omega arith in
     let rest : List Role = map (role_of d) (numbers_from (k + 1) (length d.predicates - (k + 1))) in
-    so_far ∙ ap (λ n. list ++ map (role_of d) (numbers_from k n)) less ∙ ap (λ r. list ++ r ∷ rest) (sym is) ∙ sym (append_assoc list (role ∷ []) rest) ∙ ap (λ xs. xs ++ rest) (sym pushed)
+    so_far ∙ ap (λ n. list ++ map (role_of d) (numbers_from k n)) less ∙ ap (λ r. list ++ r ∷ rest) (sym is)
+    ∙ sym (append_assoc list (role ∷ []) rest) ∙ ap (λ xs. xs ++ rest) (sym pushed)
 
 pub roles_all : (d : Domain) (list : List Role) (k : ℕ)
     → roles_of d ≡ list ++ map (role_of d) (numbers_from k (length d.predicates - k))

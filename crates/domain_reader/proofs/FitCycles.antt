@@ -89,13 +89,15 @@ module _ (predicates : List (List ℕ)) where
       → Reaches from b (list items at rest)
   reaches_inside from b items at rest r edges lt =
       let put = mention_put edges from (place_of (head_of items) predicates) in
-      (mentions_grow (mentions_in predicates put from items) from rest).keeps from b (r put (omega (arith, lt, (put_grows edges from (place_of (head_of items) predicates)).long)))
+      (mentions_grow (mentions_in predicates put from items) from rest).keeps from b
+      (r put (omega (arith, lt, (put_grows edges from (place_of (head_of items) predicates)).long)))
 
   reaches_behind : (from b : ℕ) (items : Trees) (at : ℕ) (rest : Trees) → Reaches from b rest
       → Reaches from b (list items at rest)
   reaches_behind from b items at rest r edges lt =
       let put = mention_put edges from (place_of (head_of items) predicates) in
-      r (mentions_in predicates put from items) (omega (arith, lt, (put_grows edges from (place_of (head_of items) predicates)).long, (mentions_grow put from items).long))
+      r (mentions_in predicates put from items)
+      (omega (arith, lt, (put_grows edges from (place_of (head_of items) predicates)).long, (mentions_grow put from items).long))
 
   -- of the list of these trees, by its head or by what is in it
   abbrev ReachesList : ℕ → ℕ → Trees → Type 0
@@ -108,7 +110,8 @@ module _ (predicates : List (List ℕ)) where
 
 -- ---- what a head chooses
 
-record Chosen (h : ConditionHead) (P : Condition → Type 0) (parts : Conditions) (single quantified equal atom : Condition) (np ns nq ne nr na : List Fault) : Type 0 where
+record Chosen (h : ConditionHead) (P : Condition → Type 0) (parts : Conditions)
+    (single quantified equal atom : Condition) (np ns nq ne nr na : List Fault) : Type 0 where
   all : np ≡ [] → P (every parts)
   any : np ≡ [] → P (Any parts)
   negated : ns ≡ [] → P (Not single)
@@ -117,7 +120,8 @@ record Chosen (h : ConditionHead) (P : Condition → Type 0) (parts : Conditions
   refused : P truth
   atoms : na ≡ [] → P atom
 
-by_head : (h : ConditionHead) (P : Condition → Type 0) (parts : Conditions) (single quantified equal atom : Condition) (np ns nq ne nr na : List Fault)
+by_head : (h : ConditionHead) (P : Condition → Type 0) (parts : Conditions)
+    (single quantified equal atom : Condition) (np ns nq ne nr na : List Fault)
     → Chosen h P parts single quantified equal atom np ns nq ne nr na
     → by_condition h np ns nq ne nr na ≡ [] → P (condition_by h parts single quantified equal atom)
 by_head head.And P parts single quantified equal atom np ns nq ne nr na c n = c.all n
@@ -144,7 +148,9 @@ module _ (v : Vocabulary) (from b : ℕ) where
       → (declared_place v.predicates text == b) ≡ true → place_of text predicates ≡ Some b
   atom_place scope place text at rest n same =
       let uses = use_names (arity_of v.predicates text) (width rest) at place in
-      let found = place_used v.predicates (place_of text predicates) (width rest) at place (append_nil_first uses (terms_names v.objects scope rest) n) in
+      let found =
+      place_used v.predicates (place_of text predicates)
+      (width rest) at place (append_nil_first uses (terms_names v.objects scope rest) n) in
       found.1 ∙ ap Some (ap (λ o. unwrap_or o 0) (sym found.1) ∙ eqb-true (declared_place v.predicates text) b same)
 
   mutual
@@ -154,8 +160,10 @@ module _ (v : Vocabulary) (from b : ℕ) where
     conditions_reach scope (word text at rest) n h = conditions_reach scope rest n h
     conditions_reach scope (list items at rest) n h =
         elim (or_cases (mentions b (condition_of v scope items)) (any_mentions b (conditions_of v scope rest)) h) [
-          | inl e ↦ reaches_list predicates from b items at rest (condition_reaches scope at items (append_nil_first (condition_names v scope at items) (conditions_names v scope rest) n) e)
-          | inr e ↦ reaches_behind predicates from b items at rest (conditions_reach scope rest (append_nil_second (condition_names v scope at items) (conditions_names v scope rest) n) e)
+          | inl e ↦ reaches_list predicates from b items at rest
+              (condition_reaches scope at items (append_nil_first (condition_names v scope at items) (conditions_names v scope rest) n) e)
+          | inr e ↦ reaches_behind predicates from b items at rest
+              (conditions_reach scope rest (append_nil_second (condition_names v scope at items) (conditions_names v scope rest) n) e)
         ]
 
     condition_reaches : (scope : List (List ℕ)) (place : ℕ) (ts : Trees)
@@ -164,8 +172,11 @@ module _ (v : Vocabulary) (from b : ℕ) where
     condition_reaches scope place nothing n h = absurd (cc)
     condition_reaches scope place (list items at rest) n h = absurd (cc)
     condition_reaches scope place (word text at rest) n h =
-        by_head (condition_head_of text) (λ c. mentions b c ≡ true → ReachesList predicates from b (word text at rest)) (conditions_of v scope rest) (single_of v scope rest) (exists_of v scope rest) (equal_of (terms_of v.objects scope rest)) (Atom (declared_place v.predicates text) (terms_of v.objects scope rest))
-        (conditions_names v scope rest) (conditions_names v scope rest) (exists_names v scope rest) (terms_names v.objects scope rest) [] (application_names v.predicates v.objects scope place (word text at rest))
+        by_head (condition_head_of text) (λ c. mentions b c ≡ true → ReachesList predicates from b (word text at rest))
+        (conditions_of v scope rest) (single_of v scope rest) (exists_of v scope rest) (equal_of (terms_of v.objects scope rest))
+        (Atom (declared_place v.predicates text) (terms_of v.objects scope rest))
+        (conditions_names v scope rest) (conditions_names v scope rest) (exists_names v scope rest)
+        (terms_names v.objects scope rest) [] (application_names v.predicates v.objects scope place (word text at rest))
         (record {
           all = λ m g. inr (conditions_reach scope rest m g);
           any = λ m g. inr (conditions_reach scope rest m g);
@@ -181,14 +192,19 @@ module _ (v : Vocabulary) (from b : ℕ) where
         → mentions b (single_of v scope ts) ≡ true → Reaches predicates from b ts
     single_reaches scope nothing n h = absurd (cc)
     single_reaches scope (word text at rest) n h = absurd (cc)
-    single_reaches scope (list items at rest) n h = reaches_list predicates from b items at rest (condition_reaches scope at items (append_nil_first (condition_names v scope at items) (conditions_names v scope rest) n) h)
+    single_reaches scope (list items at rest) n h =
+        reaches_list predicates from b items at rest
+        (condition_reaches scope at items (append_nil_first (condition_names v scope at items) (conditions_names v scope rest) n) h)
 
     exists_reaches : (scope : List (List ℕ)) (ts : Trees) → exists_names v scope ts ≡ []
         → mentions b (exists_of v scope ts) ≡ true → Reaches predicates from b ts
     exists_reaches scope nothing n h = absurd (cc)
     exists_reaches scope (word text at rest) n h = absurd (cc)
     exists_reaches scope (list items at rest) n h =
-        reaches_behind predicates from b items at rest (single_reaches (scope ++ named_words Start items) rest (append_nil_second (variables_names v.sorts (length scope) items) (conditions_names v (scope ++ named_words Start items) rest) n) h)
+        reaches_behind predicates from b items at rest
+        (single_reaches (scope ++ named_words Start items) rest
+        (append_nil_second (variables_names v.sorts (length scope) items)
+        (conditions_names v (scope ++ named_words Start items) rest) n) h)
 
 -- ---- the edges of a domain's items
 
@@ -207,7 +223,8 @@ bodies_grow predicates edges nothing = grows_none predicates edges
 bodies_grow predicates edges (word w at rest) = bodies_grow predicates edges rest
 bodies_grow predicates edges (list items at rest) =
     let put = body_put predicates edges (derived_place predicates items) (tail_of (tail_of items)) in
-    grows_then predicates edges put (bodies_in predicates put rest) (body_grows predicates edges (derived_place predicates items) (tail_of (tail_of items))) (bodies_grow predicates put rest)
+    grows_then predicates edges put (bodies_in predicates put rest)
+    (body_grows predicates edges (derived_place predicates items) (tail_of (tail_of items))) (bodies_grow predicates put rest)
 
 -- an item that heads the first predicate and mentions the second
 abbrev rests : ℕ → ℕ → rule.Derived → Bool
@@ -222,11 +239,13 @@ module _ (v : Vocabulary) (heads : List (List ℕ)) where
       → ((rule_of v (tail_of items)).pred == a) ≡ true → derived_place table items ≡ Some a
   item_place items a e c same =
       let found = rule_there v (tail_of items) (derived_rule v heads (item_of text.Domain (head_of items)) (tail_of items) e c) in
-      ap (λ b. if b then place_of (headed items) table else None) e ∙ found.1 ∙ ap Some (sym (rule_pred v (tail_of items) found.0 found.1) ∙ eqb-true (rule_of v (tail_of items)).pred a same)
+      ap (λ b. if b then place_of (headed items) table else None) e ∙ found.1
+      ∙ ap Some (sym (rule_pred v (tail_of items) found.0 found.1) ∙ eqb-true (rule_of v (tail_of items)).pred a same)
 
   placed_within : (items : Trees) (a : ℕ) → derived_place table items ≡ Some a → a < length table
   placed_within items a e =
-      elim (is_derived (item_of text.Domain (head_of items))) as (λ b. (if b then place_of (headed items) table else None) ≡ Some a → a < length table) [
+      elim (is_derived (item_of text.Domain (head_of items))) as
+      (λ b. (if b then place_of (headed items) table else None) ≡ Some a → a < length table) [
         | true ↦ λ f. place_within (headed items) table a f
         | false ↦ λ f. absurd (cc)
       ] e
@@ -242,7 +261,8 @@ module _ (v : Vocabulary) (heads : List (List ℕ)) where
       let scope = named_words Start (tail_of (inner_of (tail_of items))) in
       let named = rule_body v (tail_of items) (derived_rule v heads (item_of text.Domain (head_of items)) (tail_of items) e c) in
       subst (λ o. leads (body_put table edges o (tail_of (tail_of items))) a b ≡ true) (sym at)
-      (single_reaches v a b scope (tail_of (tail_of items)) named (second_so (r.pred == a) (mentions b r.body) h) edges (omega (arith, long, placed_within items a at)))
+      (single_reaches v a b scope (tail_of (tail_of items)) named
+      (second_so (r.pred == a) (mentions b r.body) h) edges (omega (arith, long, placed_within items a at)))
 
   rules_lead : (edges : List (List ℕ)) (body : Trees) (a b : ℕ) → length edges ≡ length table
       → AreClean v heads body → list_any (rests a b) (rules_of v body) ≡ true
@@ -253,7 +273,9 @@ module _ (v : Vocabulary) (heads : List (List ℕ)) where
       let it = item_of text.Domain (head_of items) in
       let put = body_put table edges (derived_place table items) (tail_of (tail_of items)) in
       let more = rules_lead put rest a b ((body_grows table edges (derived_place table items) (tail_of (tail_of items))).long ∙ long) c.1 in
-      elim (is_derived it) as (λ d. is_derived it ≡ d → list_any (rests a b) ((if d then rule_of v (tail_of items) ∷ [] else []) ++ rules_of v rest) ≡ true → leads (bodies_in table put rest) a b ≡ true) [
+      elim (is_derived it) as (λ d.
+      is_derived it ≡ d → list_any (rests a b) ((if d then rule_of v (tail_of items) ∷ [] else []) ++ rules_of v rest) ≡ true
+      → leads (bodies_in table put rest) a b ≡ true) [
         | true ↦ λ e g. elim (or_cases (rests a b (rule_of v (tail_of items))) (list_any (rests a b) (rules_of v rest)) g) [
           | inl f ↦ (bodies_grow table put rest).keeps a b (rule_leads edges items a b long e c.0 f)
           | inr f ↦ more f
@@ -270,13 +292,17 @@ module _ (v : Vocabulary) (heads : List (List ℕ)) where
   rules_listed (list items at rest) a b c h =
       let it = item_of text.Domain (head_of items) in
       let own = derived_item (derived_place table items) at in
-      let more : list_any (rests a b) (rules_of v rest) ≡ true → is_candidate (own ++ derived_in table rest) a ≡ true = λ f. any_append_right (λ (x : Candidate). x.node == a) own (derived_in table rest) (rules_listed rest a b c.1 f) in
-      elim (is_derived it) as (λ d. is_derived it ≡ d → list_any (rests a b) ((if d then rule_of v (tail_of items) ∷ [] else []) ++ rules_of v rest) ≡ true → is_candidate (own ++ derived_in table rest) a ≡ true) [
+      let more : list_any (rests a b) (rules_of v rest) ≡ true → is_candidate (own ++ derived_in table rest) a ≡ true =
+      λ f. any_append_right (λ (x : Candidate). x.node == a) own (derived_in table rest) (rules_listed rest a b c.1 f) in
+      elim (is_derived it) as (λ d.
+      is_derived it ≡ d → list_any (rests a b) ((if d then rule_of v (tail_of items) ∷ [] else []) ++ rules_of v rest) ≡ true
+      → is_candidate (own ++ derived_in table rest) a ≡ true) [
         | true ↦ λ e g. elim (or_cases (rests a b (rule_of v (tail_of items))) (list_any (rests a b) (rules_of v rest)) g) [
           | inl f ↦
               let r = rule_of v (tail_of items) in
               let at_a : derived_place table items ≡ Some a = item_place items a e c.0 (first_so (r.pred == a) (mentions b r.body) f) in
-              subst (λ o. is_candidate (derived_item o at ++ derived_in table rest) a ≡ true) (sym at_a) (or_left (a == a) (is_candidate (derived_in table rest) a) (eq-eqb a a refl))
+              subst (λ o. is_candidate (derived_item o at ++ derived_in table rest) a ≡ true)
+              (sym at_a) (or_left (a == a) (is_candidate (derived_in table rest) a) (eq-eqb a a refl))
           | inr f ↦ more f
         ]
         | false ↦ λ e g. more g
@@ -287,7 +313,8 @@ pub rules_acyclic : (v : Vocabulary) (heads : List (List ℕ)) (d : domain.Domai
     → CycleFaults DerivedCycle (derived_edges v.predicates.names body) (derived_in v.predicates.names body) []
     → (pred : ℕ) (between : List ℕ) → ¬ (LeadsAlong (depends d) pred between pred)
 rules_acyclic v heads d body clean rules acyclic pred between l =
-    none_cyclic (derived_in v.predicates.names body) [] acyclic refl pred (listed between l) (record { between = between; steps = along pred between pred l })
+    none_cyclic (derived_in v.predicates.names body) [] acyclic refl pred
+    (listed between l) (record { between = between; steps = along pred between pred l })
   where
     rests_on : (a b : ℕ) → depends d a b ≡ true → list_any (rests a b) (rules_of v body) ≡ true
     rests_on a b h = subst (λ rs. list_any (rests a b) rs ≡ true) rules h

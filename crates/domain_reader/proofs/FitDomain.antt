@@ -49,15 +49,18 @@ all_named v body n =
     let whole : plain_names v body ++ n.types ++ n.derived ≡ [] = sym n.all in
     let front : plain_names v body ++ n.types ≡ [] = append_nil_first (plain_names v body ++ n.types) n.derived whole in
     let plain : plain_names v body ≡ [] = append_nil_first (plain_names v body) n.types front in
-    let five : items ++ twice ++ predicates ++ functions ++ actions ≡ [] = append_nil_first (items ++ twice ++ predicates ++ functions ++ actions) many plain in
+    let five : items ++ twice ++ predicates ++ functions ++ actions ≡ [] =
+    append_nil_first (items ++ twice ++ predicates ++ functions ++ actions) many plain in
     let four : items ++ twice ++ predicates ++ functions ≡ [] = append_nil_first (items ++ twice ++ predicates ++ functions) actions five in
     let three : items ++ twice ++ predicates ≡ [] = append_nil_first (items ++ twice ++ predicates) functions four in
     record {
       items = append_nil_first items twice (append_nil_first (items ++ twice) predicates three);
       actions = append_nil_second (items ++ twice ++ predicates ++ functions) actions five;
       few = append_nil_second (items ++ twice ++ predicates ++ functions ++ actions) many plain;
-      types = subst (CycleFaults TypeCycle (type_edges v.sorts body) (listed_in v.sorts [] body)) (append_nil_second (plain_names v body) n.types front) n.types_right;
-      derived = subst (CycleFaults DerivedCycle (derived_edges v.predicates.names body) (derived_in v.predicates.names body)) (append_nil_second (plain_names v body ++ n.types) n.derived whole) n.derived_right;
+      types = subst (CycleFaults TypeCycle (type_edges v.sorts body) (listed_in v.sorts [] body))
+          (append_nil_second (plain_names v body) n.types front) n.types_right;
+      derived = subst (CycleFaults DerivedCycle (derived_edges v.predicates.names body) (derived_in v.predicates.names body))
+          (append_nil_second (plain_names v body ++ n.types) n.derived whole) n.derived_right;
     }
 
 pub fit_domain : (t : Trees) (d : Domain) → (t ≡ nothing → ⊥) → IsDomainRead t d → IsBounded t
@@ -73,11 +76,18 @@ fit_domain t d there read bounded =
     let small : size body ≤ 4194304 = omega (arith, body_less t, bounded.small) in
     let shallow : depth body ≤ 63 = omega (arith, body_shallow t, bounded.shallow) in
     let known = knows t d heads clean small parts in
-    let rules : list_all (is_fit_item d) d.derived ≡ true = subst (λ rs. list_all (is_fit_item d) rs ≡ true) (sym parts.derived) (rules_fit v d known heads body clean (omega (arith, small)) (omega (arith, shallow))) in
+    let rules : list_all (is_fit_item d) d.derived ≡ true =
+    subst (λ rs. list_all (is_fit_item d) rs ≡ true)
+    (sym parts.derived) (rules_fit v d known heads body clean (omega (arith, small)) (omega (arith, shallow))) in
     let actions : list_all (is_fit_action d) d.actions ≡ true =
-    subst (λ as'. list_all (is_fit_action d) as' ≡ true) (sym parts.actions) (actions_fit v d known heads (not_derived d v heads body clean parts.derived) body clean small (omega (arith, shallow))) in
-    let short_rules : is_short d.derived ≡ true = subst (λ rs. is_short rs ≡ true) (sym parts.derived) (le-leb (length (rules_of v body)) 8388608 (omega (arith, rules_long v body, small))) in
-    let short_actions : is_short d.actions ≡ true = subst (λ as'. is_short as' ≡ true) (sym parts.actions) (le-leb (length (actions_of v body)) 8388608 (omega (arith, actions_long v body, small))) in
+    subst (λ as'. list_all (is_fit_action d) as' ≡ true) (sym parts.actions)
+    (actions_fit v d known heads (not_derived d v heads body clean parts.derived) body clean small (omega (arith, shallow))) in
+    let short_rules : is_short d.derived ≡ true =
+    subst (λ rs. is_short rs ≡ true) (sym parts.derived)
+    (le-leb (length (rules_of v body)) 8388608 (omega (arith, rules_long v body, small))) in
+    let short_actions : is_short d.actions ≡ true =
+    subst (λ as'. is_short as' ≡ true) (sym parts.actions)
+    (le-leb (length (actions_of v body)) 8388608 (omega (arith, actions_long v body, small))) in
     record {
       name = subst (λ n. is_name n ≡ true) (sym parts.name) formed.named;
       types = types_fit heads body d.sorts clean small named.types parts.sorts;
@@ -87,7 +97,8 @@ fit_domain t d there read bounded =
       items = and_from (is_short d.derived) (list_all (is_fit_item d) d.derived) short_rules rules;
       few_derived = few_derived d v heads body clean parts.derived named.few read.domain.roles;
       acyclic = rules_acyclic v heads d body clean parts.derived named.derived;
-      action_names = subst (λ as'. AreNames (map (λ (a : Action). a.name) as')) (sym parts.actions) (actions_named v heads body clean named.actions);
+      action_names =
+          subst (λ as'. AreNames (map (λ (a : Action). a.name) as')) (sym parts.actions) (actions_named v heads body clean named.actions);
       actions = and_from (is_short d.actions) (list_all (is_fit_action d) d.actions) short_actions actions;
       roles = read.domain.roles;
     }

@@ -34,7 +34,8 @@ put_leads (ns ∷ lists) zero n zero b h =
     elim (in_with ns n b h) [ inl e ↦ inr (refl, e) | inr e ↦ inl e ]
 put_leads (ns ∷ lists) zero n (suc a) b h = inl h
 put_leads (ns ∷ lists) (suc place) n zero b h = inl (sym (first_leads ns lists place n b) ∙ h)
-put_leads (ns ∷ lists) (suc place) n (suc a) b h = elim (put_leads lists place n a b (sym (behind_leads ns lists place n a b) ∙ h)) [ inl e ↦ inl e | inr e ↦ inr (ap suc e.0, e.1) ]
+put_leads (ns ∷ lists) (suc place) n (suc a) b h =
+    elim (put_leads lists place n a b (sym (behind_leads ns lists place n a b) ∙ h)) [ inl e ↦ inl e | inr e ↦ inr (ap suc e.0, e.1) ]
 
 pub put_keeps : (lists : List (List ℕ)) (place n a b : ℕ) → leads lists a b ≡ true
     → leads (number_put lists place n) a b ≡ true

@@ -46,18 +46,30 @@ digits_few (b ∷ bs) e =
 increase_word : (text : List ℕ) → effect_head_of text ≡ head.Increase → text ≡ codes "increase"
 unfolding effect_head_of
 increase_word text e =
-    elim (bytes_eq text (codes "and")) as (λ b. (if b then head.And else if bytes_eq text (codes "not") then head.Not else if bytes_eq text (codes "increase") then head.Increase else if is_refused_effect text then head.Refused else head.Atom) ≡ head.Increase → text ≡ codes "increase") [
+    elim (bytes_eq text (codes "and")) as (λ b.
+    (if b then head.And else if bytes_eq text (codes "not") then head.Not else if bytes_eq text (codes "increase") then head.Increase
+    else if is_refused_effect text then head.Refused else head.Atom)
+    ≡ head.Increase
+    → text ≡ codes "increase") [
       | true ↦ λ f. absurd (cc)
-      | false ↦ λ f. elim (bytes_eq text (codes "not")) as (λ b. (if b then head.Not else if bytes_eq text (codes "increase") then head.Increase else if is_refused_effect text then head.Refused else head.Atom) ≡ head.Increase → text ≡ codes "increase") [
-        | true ↦ λ g. absurd (cc)
-        | false ↦ λ g. elim (bytes_eq text (codes "increase")) as (λ b. bytes_eq text (codes "increase") ≡ b → (if b then head.Increase else if is_refused_effect text then head.Refused else head.Atom) ≡ head.Increase → text ≡ codes "increase") [
-          | true ↦ λ t _. same_name text (codes "increase") t
-          | false ↦ λ _ k. elim (is_refused_effect text) as (λ b. (if b then head.Refused else head.Atom) ≡ head.Increase → text ≡ codes "increase") [
-            | true ↦ λ m. absurd (cc)
-            | false ↦ λ m. absurd (cc)
-          ] k
-        ] refl g
-      ] f
+      | false ↦ λ f. elim (bytes_eq text (codes "not")) as
+          (λ b. (if b then head.Not else if bytes_eq text (codes "increase") then head.Increase else if is_refused_effect text
+          then head.Refused else head.Atom)
+          ≡ head.Increase
+          → text ≡ codes "increase") [
+            | true ↦ λ g. absurd (cc)
+            | false ↦ λ g. elim (bytes_eq text (codes "increase")) as
+                (λ b. bytes_eq text (codes "increase") ≡ b
+                → (if b then head.Increase else if is_refused_effect text then head.Refused else head.Atom) ≡ head.Increase
+                → text ≡ codes "increase") [
+                  | true ↦ λ t _. same_name text (codes "increase") t
+                  | false ↦ λ _ k. elim (is_refused_effect text) as
+                      (λ b. (if b then head.Refused else head.Atom) ≡ head.Increase → text ≡ codes "increase") [
+                        | true ↦ λ m. absurd (cc)
+                        | false ↦ λ m. absurd (cc)
+                      ] k
+                ] refl g
+          ] f
     ] e
 
 increase_long : (text : List ℕ) → effect_head_of text ≡ head.Increase → 8 ≤ length text
@@ -68,13 +80,15 @@ total_cost_long : (place : ℕ) (items : Trees) → total_cost_faults place item
 total_cost_long place nothing e = absurd (some_fault (shape place) [] e)
 total_cost_long place (list items at rest) e = absurd (some_fault (shape at) [] e)
 total_cost_long place (word text at rest) e =
-    let same : text ≡ codes "total-cost" = same_name text (codes "total-cost") (chosen (is_total_cost text) (end_faults rest) (shape at) [] e).0 in
+    let same : text ≡ codes "total-cost" =
+    same_name text (codes "total-cost") (chosen (is_total_cost text) (end_faults rest) (shape at) [] e).0 in
     let long : 10 ≤ length text = subst (λ t. 10 ≤ length t) (sym same) (omega arith) in
     omega arith
 
 -- ---- what a head chooses
 
-record Chosen (h : EffectHead) (P : Done → Type 0) (parts negated increased refused atom : Done) (fp fn fi fr fa np nn ni nr na : List Fault) : Type 0 where
+record Chosen (h : EffectHead) (P : Done → Type 0)
+    (parts negated increased refused atom : Done) (fp fn fi fr fa np nn ni nr na : List Fault) : Type 0 where
   all : fp ≡ [] → np ≡ [] → P parts
   taken_away : fn ≡ [] → nn ≡ [] → P negated
   costs_more : h ≡ head.Increase → fi ≡ [] → ni ≡ [] → P increased
@@ -136,7 +150,8 @@ done_more d filled most more c le i = record {
   few_costs = omega (arith, i.few_costs);
 }
 
-module _ (v : Vocabulary) (d : domain.Domain) (knows : Knows v d (length d.constants)) (heads scope : List (List ℕ)) (filled : List ℕ) (slots : AreFilled filled (length scope)) (plain : ArePlain v d heads) where
+module _ (v : Vocabulary) (d : domain.Domain) (knows : Knows v d (length d.constants)) (heads scope : List (List ℕ))
+    (filled : List ℕ) (slots : AreFilled filled (length scope)) (plain : ArePlain v d heads) where
   abbrev fits : Pattern → Bool
   fits = is_fit_pattern d (length d.constants) filled
 
@@ -146,8 +161,11 @@ module _ (v : Vocabulary) (d : domain.Domain) (knows : Knows v d (length d.const
   pattern_fits : (place : ℕ) (items : Trees) → application_faults Predicate Term place items ≡ []
       → changed_names v heads scope place items ≡ [] → fits (pattern_of v scope items) ≡ true
   pattern_fits place items f n =
-      (λ i. is_fit_application (knows.predicates i) (knows.objects_long i) filled (declared_place v.predicates (head_of items)) (terms_of v.objects scope (tail_of items)))
-      ∙ application_fits v.predicates v.objects scope filled slots Predicate Term place items f (append_nil_first (application_names v.predicates v.objects scope place items) (unless (not (marked (head_of items))) EffectOnStatic place) n)
+      (λ i. is_fit_application (knows.predicates i) (knows.objects_long i) filled
+      (declared_place v.predicates (head_of items)) (terms_of v.objects scope (tail_of items)))
+      ∙ application_fits v.predicates v.objects scope filled slots Predicate Term place items f
+      (append_nil_first (application_names v.predicates v.objects scope place items)
+      (unless (not (marked (head_of items))) EffectOnStatic place) n)
 
   pattern_free : (place : ℕ) (items : Trees) → application_faults Predicate Term place items ≡ []
       → changed_names v heads scope place items ≡ [] → is_free d (pattern_of v scope items) ≡ true
@@ -157,11 +175,18 @@ module _ (v : Vocabulary) (d : domain.Domain) (knows : Knows v d (length d.const
       let application = application_names v.predicates v.objects scope place (word text at rest) in
       let bound = unless (not (marked text)) EffectOnStatic place in
       let uses = use_names (arity_of v.predicates text) (width rest) at place in
-      let found = place_used v.predicates (place_of text v.predicates.names) (width rest) at place (append_nil_first uses (terms_names v.objects scope rest) (append_nil_first application bound n)) in
-      let there : has_name text v.predicates.names ≡ true = name_there text v.predicates.names found.0 (place_named text v.predicates.names found.0 found.1) in
-      let free : marked text ≡ false = not-true (marked text) (met (not (marked text)) EffectOnStatic place (append_nil_second application bound n)) in
-      let absent : has_name text heads ≡ false = false_from_ne_true (has_name text heads) (λ h. let m : marked text ≡ true = and_from (has_name text heads) (has_name text v.predicates.names) h there in cc) in
-      not_from_false (is_derived_role (role_of d (declared_place v.predicates text))) (ap (λ o. is_derived_role (role_of d (unwrap_or o 0))) found.1 ∙ plain text found.0 found.1 absent)
+      let found =
+      place_used v.predicates (place_of text v.predicates.names)
+      (width rest) at place (append_nil_first uses (terms_names v.objects scope rest) (append_nil_first application bound n)) in
+      let there : has_name text v.predicates.names ≡ true =
+      name_there text v.predicates.names found.0 (place_named text v.predicates.names found.0 found.1) in
+      let free : marked text ≡ false =
+      not-true (marked text) (met (not (marked text)) EffectOnStatic place (append_nil_second application bound n)) in
+      let absent : has_name text heads ≡ false =
+      false_from_ne_true (has_name text heads)
+      (λ h. let m : marked text ≡ true = and_from (has_name text heads) (has_name text v.predicates.names) h there in cc) in
+      not_from_false (is_derived_role (role_of d (declared_place v.predicates text)))
+      (ap (λ o. is_derived_role (role_of d (unwrap_or o 0))) found.1 ∙ plain text found.0 found.1 absent)
 
   cost_fits : (place : ℕ) (ts : Trees) → cost_faults place ts ≡ [] → cost_names v scope ts ≡ []
       → is_fit_cost d filled (cost_of v scope ts) ≡ true
@@ -170,8 +195,10 @@ module _ (v : Vocabulary) (d : domain.Domain) (knows : Knows v d (length d.const
       let counts : is_number text ≡ true = (chosen (is_number text) (end_faults rest) (number at) [] f).0 in
       subst (λ b. nat_le (if b then digits_value 10 text else 0) 1000000 ≡ true) (sym counts) (digits_few text counts)
   cost_fits place (list items at rest) f n =
-      (λ i. is_fit_application (knows.functions i) (knows.objects_long i) filled (declared_place v.functions (head_of items)) (terms_of v.objects scope (tail_of items)))
-      ∙ application_fits v.functions v.objects scope filled slots Name Term at items (append_nil_first (application_faults Name Term at items) (end_faults rest) f) n
+      (λ i. is_fit_application (knows.functions i) (knows.objects_long i) filled
+      (declared_place v.functions (head_of items)) (terms_of v.objects scope (tail_of items)))
+      ∙ application_fits v.functions v.objects scope filled slots Name Term at items
+      (append_nil_first (application_faults Name Term at items) (end_faults rest) f) n
 
   abbrev Fit : ℕ → Done → Type 0
   Fit = IsDone d filled
@@ -227,7 +254,8 @@ module _ (v : Vocabulary) (d : domain.Domain) (knows : Knows v d (length d.const
   negated_done most place c text nothing f n i = absurd (some_fault (shape place) [] f)
   negated_done most place c text (word w at rest) f n i = absurd (some_fault (shape at) [] f)
   negated_done most place c text (list items at rest) f n i =
-      done_more d filled (most + 1) (most + (length text + (size items + 2 + size rest))) (taken v scope c items) (omega arith) (take_done most at c items (append_nil_first (application_faults Predicate Term at items) (end_faults rest) f) n i)
+      done_more d filled (most + 1) (most + (length text + (size items + 2 + size rest))) (taken v scope c items)
+      (omega arith) (take_done most at c items (append_nil_first (application_faults Predicate Term at items) (end_faults rest) f) n i)
 
   increased_done : (most place : ℕ) (c : Done) (text : List ℕ) (ts : Trees)
       → effect_head_of text ≡ head.Increase → increase_faults place ts ≡ []
@@ -236,9 +264,13 @@ module _ (v : Vocabulary) (d : domain.Domain) (knows : Knows v d (length d.const
   increased_done most place c text nothing h f n i = absurd (some_fault (shape place) [] f)
   increased_done most place c text (word w at rest) h f n i = absurd (some_fault (shape at) [] f)
   increased_done most place c text (list items at rest) h f n i =
-      let parts : total_cost_faults at items ++ cost_faults place rest ≡ [] = unless_other (is_other_function items) (unsupported place) [] (total_cost_faults at items ++ cost_faults place rest) f in
-      let long : 10 ≤ size items = total_cost_long at items (append_nil_first (total_cost_faults at items) (cost_faults place rest) parts) in
-      done_more d filled (most + 16) (most + (length text + (size items + 2 + size rest))) (charged v scope c rest) (omega (arith, increase_long text h)) (charge_done most place c rest (append_nil_second (total_cost_faults at items) (cost_faults place rest) parts) n i)
+      let parts : total_cost_faults at items ++ cost_faults place rest ≡ [] =
+      unless_other (is_other_function items) (unsupported place) [] (total_cost_faults at items ++ cost_faults place rest) f in
+      let long : 10 ≤ size items =
+      total_cost_long at items (append_nil_first (total_cost_faults at items) (cost_faults place rest) parts) in
+      done_more d filled (most + 16) (most + (length text + (size items + 2 + size rest))) (charged v scope c rest)
+      (omega (arith, increase_long text h))
+      (charge_done most place c rest (append_nil_second (total_cost_faults at items) (cost_faults place rest) parts) n i)
 
   atom_done : (most place at : ℕ) (c : Done) (text : List ℕ) (rest : Trees)
       → application_faults Predicate Term place (word text at rest) ≡ []
@@ -246,7 +278,8 @@ module _ (v : Vocabulary) (d : domain.Domain) (knows : Knows v d (length d.const
       → Fit (most + (length text + size rest)) (added v scope c (word text at rest))
   atom_done most place at c text rest f n i =
       let name : is_name text ≡ true = predicate_name text (chosen (is_predicate_name text) (row_faults Term rest) (shape at) [] f).0 in
-      done_more d filled (most + 1) (most + (length text + size rest)) (added v scope c (word text at rest)) (omega (arith, name_long text name)) (add_done most place c (word text at rest) f n i)
+      done_more d filled (most + 1) (most + (length text + size rest))
+      (added v scope c (word text at rest)) (omega (arith, name_long text name)) (add_done most place c (word text at rest) f n i)
 
   mutual
     effects_done : (most : ℕ) (c : Done) (ts : Trees) → effects_faults ts ≡ []
@@ -256,9 +289,12 @@ module _ (v : Vocabulary) (d : domain.Domain) (knows : Knows v d (length d.const
     effects_done most c (word text at rest) f n i = absurd (some_fault (shape at) [] f)
     effects_done most c (list items at rest) f n i =
         let c' = after_effect v scope c items in
-        let one = effect_done most at c items (append_nil_first (effect_faults at items) (effects_faults rest) f) (append_nil_first (effect_names v heads scope at items) (effects_names v heads scope rest) n) i in
-        done_more d filled (most + size items + size rest) (most + (size items + 2 + size rest)) (after_effects v scope c' rest) (omega arith)
-        (effects_done (most + size items) c' rest (append_nil_second (effect_faults at items) (effects_faults rest) f) (append_nil_second (effect_names v heads scope at items) (effects_names v heads scope rest) n) one)
+        let one = effect_done most at c items (append_nil_first (effect_faults at items) (effects_faults rest) f)
+        (append_nil_first (effect_names v heads scope at items) (effects_names v heads scope rest) n) i in
+        done_more d filled (most + size items + size rest) (most + (size items + 2 + size rest))
+        (after_effects v scope c' rest) (omega arith)
+        (effects_done (most + size items) c' rest (append_nil_second (effect_faults at items) (effects_faults rest) f)
+        (append_nil_second (effect_names v heads scope at items) (effects_names v heads scope rest) n) one)
 
     pub effect_done : (most place : ℕ) (c : Done) (ts : Trees) → effect_faults place ts ≡ []
         → effect_names v heads scope place ts ≡ [] → Fit most c
@@ -266,11 +302,15 @@ module _ (v : Vocabulary) (d : domain.Domain) (knows : Knows v d (length d.const
     effect_done most place c nothing f n i = done_more d filled most (most + 0) c (omega arith) i
     effect_done most place c (list items at rest) f n i = absurd (some_fault (shape at) [] f)
     effect_done most place c (word text at rest) f n i =
-        by_head (effect_head_of text) (Fit (most + (length text + size rest))) (after_effects v scope c rest) (taken v scope c (inner_of rest)) (charged v scope c (tail_of rest)) c (added v scope c (word text at rest))
-        (effects_faults rest) (negated_faults place rest) (increase_faults place rest) (unsupported place ∷ []) (application_faults Predicate Term place (word text at rest))
-        (effects_names v heads scope rest) (negated_names v heads scope rest) (cost_names v scope (tail_of rest)) [] (changed_names v heads scope place (word text at rest))
+        by_head (effect_head_of text) (Fit (most + (length text + size rest))) (after_effects v scope c rest)
+        (taken v scope c (inner_of rest)) (charged v scope c (tail_of rest)) c (added v scope c (word text at rest))
+        (effects_faults rest) (negated_faults place rest) (increase_faults place rest)
+        (unsupported place ∷ []) (application_faults Predicate Term place (word text at rest))
+        (effects_names v heads scope rest) (negated_names v heads scope rest)
+        (cost_names v scope (tail_of rest)) [] (changed_names v heads scope place (word text at rest))
         (record {
-          all = λ g m. done_more d filled (most + size rest) (most + (length text + size rest)) (after_effects v scope c rest) (omega arith) (effects_done most c rest g m i);
+          all = λ g m. done_more d filled (most + size rest) (most + (length text + size rest)) (after_effects v scope c rest)
+              (omega arith) (effects_done most c rest g m i);
           taken_away = λ g m. negated_done most place c text rest g m i;
           costs_more = λ h g m. increased_done most place c text rest h g m i;
           left_out = λ g. some_fault (unsupported place) [] g;

@@ -29,7 +29,8 @@ title_named : (place : ℕ) (ts : Trees) → title_faults Domain place ts ≡ []
     → is_name (head_of (tail_of ts)) ≡ true
 title_named place nothing e = absurd (some_fault (shape place) [] e)
 title_named place (list items at rest) e = absurd (some_fault (shape at) [] e)
-title_named place (word w at rest) e = one_name place rest (chosen (bytes_eq w (title_of Domain)) (one_faults Name place rest) (shape at) [] e).1
+title_named place (word w at rest) e =
+    one_name place rest (chosen (bytes_eq w (title_of Domain)) (one_faults Name place rest) (shape at) [] e).1
 
 titled_formed : (place at : ℕ) (ts rest : Trees) (w : List ℕ) (here : ℕ)
     → titled_faults Domain place ts ≡ [] → IsFormed (list (word w here ts) at rest)
@@ -44,7 +45,8 @@ define_formed : (at : ℕ) (ts rest : Trees) → define_faults Domain at ts ≡ 
     → IsFormed (list ts at rest)
 define_formed at nothing rest e = absurd (some_fault (shape at) [] e)
 define_formed at (list items there more) rest e = absurd (some_fault (shape there) [] e)
-define_formed at (word w there more) rest e = titled_formed at at more rest w there (chosen (bytes_eq w (codes "define")) (titled_faults Domain at more) (shape there) [] e).1
+define_formed at (word w there more) rest e =
+    titled_formed at at more rest w there (chosen (bytes_eq w (codes "define")) (titled_faults Domain at more) (shape there) [] e).1
 
 pub text_formed : (t : Trees) → (t ≡ nothing → ⊥) → form_faults Domain t ≡ [] → IsFormed t
 text_formed nothing there e = absurd (there refl)
@@ -81,6 +83,8 @@ items_clean v heads (word w at rest) f n =
     items_clean v heads rest (absurd (some_fault (shape at) [] f)) n
 items_clean v heads (list items at rest) f n =
     let own = body_names v heads (item_of Domain (head_of items)) (tail_of items) in (
-      item_clean v heads at items (append_nil_first (item_faults Domain at items) (items_faults Domain rest) f) (append_nil_first own (items_names v heads rest) n),
-      items_clean v heads rest (append_nil_second (item_faults Domain at items) (items_faults Domain rest) f) (append_nil_second own (items_names v heads rest) n),
+      item_clean v heads at items (append_nil_first (item_faults Domain at items) (items_faults Domain rest) f)
+          (append_nil_first own (items_names v heads rest) n),
+      items_clean v heads rest (append_nil_second (item_faults Domain at items) (items_faults Domain rest) f)
+          (append_nil_second own (items_names v heads rest) n),
     )

@@ -19,7 +19,7 @@ use Rattle.name_tables.specs.Declarations.{Typed, declare_each, signature_list, 
 use Rattle.name_tables.specs.Names.{Signed}
 use Rattle.name_tables.specs.Variables.{named_sorts, named_words}
 use Rattle.name_tables.specs.declared.vocabulary.Vocabulary.{Vocabulary}
-use Rattle.name_tables.proofs.FitDeclared.{AreTyped, groups_declared, list_long, seen_names, typed_fit, typed_groups, with_names}
+use Rattle.name_tables.proofs.FitDeclared.{AreTyped, groups_declared, list_long, seen_names, typed_fit, typed_groups}
 use Rattle.name_tables.proofs.FitTerms.{Knows}
 use Rattle.domain_reader.proofs.FitItems.{AreClean, IsClean}
 use Rattle.domain_reader.proofs.FitNames.{AreTables, IsSigned, tables_fit}
@@ -28,6 +28,7 @@ use Rattle.domain_reader.specs.Cycles.{type_edges}
 use Rattle.domain_reader.specs.Domains.{ArePartsOf, constants_in, is_constants}
 use Rattle.domain_reader.specs.Tables.{no_names, vocabulary_of, with_item, with_items}
 use Rattle.name_tables.specs.Texts.{body_of}
+use Rattle.task_model.specs.Known.{with_names}
 
 -- ---- predicates and functions
 
@@ -46,7 +47,10 @@ list_few : (ns : List (List ℕ)) (as' : List ℕ) → list_all (λ a. nat_le a 
     → list_all (λ (s : Signature). nat_le s.arity 8) (signature_list ns as') ≡ true
 list_few [] as' e = refl
 list_few (n ∷ ns) [] e = refl
-list_few (n ∷ ns) (a ∷ as') e = and_from (nat_le a 8) (list_all (λ (s : Signature). nat_le s.arity 8) (signature_list ns as')) (first_so (nat_le a 8) (list_all (λ b. nat_le b 8) as') e) (list_few ns as' (second_so (nat_le a 8) (list_all (λ b. nat_le b 8) as') e))
+list_few (n ∷ ns) (a ∷ as') e =
+    and_from (nat_le a 8) (list_all (λ (s : Signature). nat_le s.arity 8) (signature_list ns as'))
+    (first_so (nat_le a 8) (list_all (λ b. nat_le b 8) as') e)
+    (list_few ns as' (second_so (nat_le a 8) (list_all (λ b. nat_le b 8) as') e))
 
 pub signatures_fit : (most : ℕ) (s : Signed) (all : List Signature) → IsSigned most s
     → most ≤ 8388608 → all ≡ signature_list s.names s.arities → AreFitSignatures all
@@ -64,7 +68,8 @@ signatures_fit most s all i few e =
 module _ (whole : Vocabulary) (heads : List (List ℕ)) (typed : 0 < length whole.sorts) where
   constants_item : (t : Typed) (it : Item) (rest : Trees) → IsClean whole heads it rest
       → AreTyped (length whole.sorts) t
-      → AreTyped (length whole.sorts) (if is_constants it then declare_each t (named_words Start rest) (named_sorts whole.sorts Start 0 rest) else t)
+      → AreTyped (length whole.sorts)
+      (if is_constants it then declare_each t (named_words Start rest) (named_sorts whole.sorts Start 0 rest) else t)
   constants_item t item.Constants rest c a =
       typed_groups whole.sorts t c.place rest typed a c.formed c.named
   constants_item t _ rest c a = a
@@ -76,12 +81,15 @@ module _ (whole : Vocabulary) (heads : List (List ℕ)) (typed : 0 < length whol
   constants_typed t (word w at rest) c a = constants_typed t rest c a
   constants_typed t (list items at rest) c a =
       let it = item_of text.Domain (head_of items) in
-      constants_typed (if is_constants it then declare_each t (named_words Start (tail_of items)) (named_sorts whole.sorts Start 0 (tail_of items)) else t) rest c.1 (constants_item t it (tail_of items) c.0 a)
+      constants_typed (if is_constants it
+      then declare_each t (named_words Start (tail_of items)) (named_sorts whole.sorts Start 0 (tail_of items)) else t) rest c.1
+      (constants_item t it (tail_of items) c.0 a)
 
 -- the constants are those of the table
 same_item : (sorts : List (List ℕ)) (v : Vocabulary) (t : Typed) (it : Item) (rest : Trees)
     → t.names ≡ v.objects
-    → (if is_constants it then declare_each t (named_words Start rest) (named_sorts sorts Start 0 rest) else t).names ≡ (with_item v it rest).objects
+    → (if is_constants it then declare_each t (named_words Start rest) (named_sorts sorts Start 0 rest) else t).names
+    ≡ (with_item v it rest).objects
 same_item sorts v t item.Constants rest e =
     groups_declared sorts t rest ∙ ap (λ names. with_names names (named_words Start rest)) e
     ∙ sym (seen_names v.objects Start rest)
@@ -93,11 +101,14 @@ same_constants sorts v t nothing e = e
 same_constants sorts v t (word w at rest) e = same_constants sorts v t rest e
 same_constants sorts v t (list items at rest) e =
     let it = item_of text.Domain (head_of items) in
-    same_constants sorts (with_item v it (tail_of items)) (if is_constants it then declare_each t (named_words Start (tail_of items)) (named_sorts sorts Start 0 (tail_of items)) else t) rest (same_item sorts v t it (tail_of items) e)
+    same_constants sorts (with_item v it (tail_of items))
+    (if is_constants it then declare_each t (named_words Start (tail_of items)) (named_sorts sorts Start 0 (tail_of items)) else t) rest
+    (same_item sorts v t it (tail_of items) e)
 
 -- ---- a domain without faults
 
-module _ (t : Trees) (d : domain.Domain) (heads : List (List ℕ)) (clean : AreClean (vocabulary_of (body_of t)) heads (body_of t)) (small : size (body_of t) ≤ 4194304) (parts : ArePartsOf (vocabulary_of (body_of t)) t d) where
+module _ (t : Trees) (d : domain.Domain) (heads : List (List ℕ)) (clean : AreClean (vocabulary_of (body_of t)) heads (body_of t))
+    (small : size (body_of t) ≤ 4194304) (parts : ArePartsOf (vocabulary_of (body_of t)) t d) where
   abbrev v : Vocabulary
   v = vocabulary_of (body_of t)
 
@@ -114,7 +125,9 @@ module _ (t : Trees) (d : domain.Domain) (heads : List (List ℕ)) (clean : AreC
   many_sorts = sorts_many (type_edges v.sorts (body_of t)) 0 v.sorts d.sorts parts.sorts
 
   are_typed : AreTyped (length v.sorts) typed
-  are_typed = constants_typed v heads some_type no_typed (body_of t) clean (record { distinct = distinct_nil; named = refl; even = refl; ascend = tt })
+  are_typed =
+      constants_typed v heads some_type no_typed
+      (body_of t) clean (record { distinct = distinct_nil; named = refl; even = refl; ascend = tt })
 
   same : typed.names ≡ v.objects
   same = same_constants v.sorts no_names no_typed (body_of t) refl
@@ -128,7 +141,8 @@ module _ (t : Trees) (d : domain.Domain) (heads : List (List ℕ)) (clean : AreC
   pub constants_fit : AreFitObjects d d.constants
   constants_fit =
       subst (AreFitObjects d) (sym parts.constants)
-      (typed_fit d typed (omega (arith, small, many_sorts, tables.sorts.few)) (omega (arith, small, ap length same, tables.objects.few)) (subst (λ n. AreTyped n typed) (sym many_sorts) are_typed))
+      (typed_fit d typed (omega (arith, small, many_sorts, tables.sorts.few))
+      (omega (arith, small, ap length same, tables.objects.few)) (subst (λ n. AreTyped n typed) (sym many_sorts) are_typed))
 
   pub knows : Knows v d (length d.constants)
   knows = record {

@@ -26,14 +26,14 @@ use Rattle.form_reader.specs.Words.{is_change, is_connective, is_of, is_predicat
 use Rattle.name_tables.specs.Names.{Signed, has_name, with_name, with_signature}
 use Rattle.name_tables.specs.Variables.{doubles_names, is_named, named_words, seen_after, types_names, unless}
 use Rattle.name_tables.specs.declared.vocabulary.Vocabulary.{Vocabulary}
-use Rattle.name_tables.proofs.FitDeclared.{distinct_names, length_names, length_with, named_names, named_with, seen_names}
+use Rattle.name_tables.proofs.FitDeclared.{named_names, named_with, seen_names}
 use Rattle.name_tables.proofs.FitGroups.{words_are_names}
 use Rattle.name_tables.proofs.NoFaultLemmas.{chosen, met, some_fault}
-use Rattle.name_tables.proofs.NamesLemmas.{distinct_with}
 use Rattle.name_tables.proofs.VariablesWidthLemmas.{name_long}
 use Rattle.domain_reader.proofs.FitItems.{AreClean, IsClean}
 use Rattle.domain_reader.specs.Names.{declaration_names, functions_names, predicates_names, total_cost_names}
 use Rattle.domain_reader.specs.Tables.{declared_arity, functions_in, no_names, predicates_in, types_in, vocabulary_of, with_item, with_items}
+use Rattle.task_model.proofs.KnownLemmas.{length_with_name, with_name-distinct, length_with_names, with_names-distinct}
 
 -- ---- a table of names, each once and a name, and at most so many
 
@@ -49,7 +49,11 @@ table_more most more names le t =
 
 pub table_with : (most : ℕ) (names : List (List ℕ)) (name : List ℕ) → IsTable most names
     → is_name name ≡ true → IsTable (most + 1) (with_name names name)
-table_with most names name t one = record { distinct = distinct_with names name t.distinct; named = named_with names name t.named one; few = omega (arith, t.few, length_with names name) }
+table_with most names name t one = record {
+  distinct = with_name-distinct names name t.distinct;
+  named = named_with names name t.named one;
+  few = omega (arith, t.few, length_with_name names name);
+}
 
 -- all names of the list are names of the table
 abbrev pub Known : List (List ℕ) → List (List ℕ) → Type 0
@@ -69,7 +73,10 @@ type_there : (spot : Spot) (text : List ℕ) (place at : ℕ) (rest : Trees) →
 type_there Start text place at rest other e =
     (chosen (is_name text) (groups_faults Name place Named rest) (shape at) [] e).0
 type_there Named text place at rest other e =
-    let f : (if is_name text then groups_faults Name place Named rest else shape at ∷ []) ≡ [] = subst (λ b. (if (if b then true else is_name text) then groups_faults Name place (if b then Typed else Named) rest else shape at ∷ []) ≡ []) other e in
+    let f : (if is_name text then groups_faults Name place Named rest else shape at ∷ []) ≡ [] =
+    subst (λ b. (if (if b then true else is_name text) then groups_faults Name place (if b then Typed else Named) rest
+    else shape at ∷ [])
+    ≡ []) other e in
     (chosen (is_name text) (groups_faults Name place Named rest) (shape at) [] f).0
 type_there Typed text place at rest other e =
     (chosen (is_name text) (groups_faults Name place Start rest) (shape at) [] e).0
@@ -79,7 +86,8 @@ pub rest_formed : (spot : Spot) (text : List ℕ) (place at : ℕ) (rest : Trees
     → groups_faults Name place (after_word spot text) rest ≡ []
 rest_formed Start text place at rest e =
     (chosen (is_name text) (groups_faults Name place Named rest) (shape at) [] e).1
-rest_formed Named text place at rest e = (chosen (if is_dash text then true else is_name text) (groups_faults Name place (after_word Named text) rest) (shape at) [] e).1
+rest_formed Named text place at rest e =
+    (chosen (if is_dash text then true else is_name text) (groups_faults Name place (after_word Named text) rest) (shape at) [] e).1
 rest_formed Typed text place at rest e =
     (chosen (is_name text) (groups_faults Name place Start rest) (shape at) [] e).1
 
@@ -92,11 +100,16 @@ types_table most place spot names (list items at rest) t e = absurd (list_stands
     list_stands : (spot : Spot) → groups_faults Name place spot (list items at rest) ≡ [] → ⊥
     list_stands spot f = some_fault (list_fault spot items at) [] f
 types_table most place spot names (word text at rest) t e =
-    elim (is_dash text) as (λ b. is_dash text ≡ b → IsTable (most + (length text + size rest)) (types_in (cond b names (with_name names text)) rest)) [
-      | true ↦ λ _. table_more (most + size rest) (most + (length text + size rest)) (types_in names rest) (omega arith) (types_table most place (after_word spot text) names rest t (rest_formed spot text place at rest e))
+    elim (is_dash text) as
+    (λ b. is_dash text ≡ b → IsTable (most + (length text + size rest)) (types_in (cond b names (with_name names text)) rest)) [
+      | true ↦ λ _. table_more (most + size rest) (most + (length text + size rest)) (types_in names rest)
+          (omega arith) (types_table most place (after_word spot text) names rest t (rest_formed spot text place at rest e))
       | false ↦ λ other.
           let one = type_there spot text place at rest other e in
-          table_more (most + 1 + size rest) (most + (length text + size rest)) (types_in (with_name names text) rest) (omega (arith, name_long text one)) (types_table (most + 1) place (after_word spot text) (with_name names text) rest (table_with most names text t one) (rest_formed spot text place at rest e))
+          table_more (most + 1 + size rest) (most + (length text + size rest)) (types_in (with_name names text) rest)
+          (omega (arith, name_long text one))
+          (types_table (most + 1) place (after_word spot text) (with_name names text) rest
+          (table_with most names text t one) (rest_formed spot text place at rest e))
     ] refl
 
 -- ---- constants
@@ -107,8 +120,16 @@ pub words_few : (place : ℕ) (spot : Spot) (ts : Trees)
 words_few place spot nothing e = omega arith
 words_few place spot (list items at rest) e = omega arith
 words_few place spot (word text at rest) e =
-    elim (is_named spot text) as (λ b. list_all is_name (cond b (text ∷ named_words (after_word spot text) rest) (named_words (after_word spot text) rest)) ≡ true → length (cond b (text ∷ named_words (after_word spot text) rest) (named_words (after_word spot text) rest)) ≤ length text + size rest) [
-      | true ↦ λ f. omega (arith, name_long text (first_so (is_name text) (list_all is_name (named_words (after_word spot text) rest)) f), words_few place (after_word spot text) rest (second_so (is_name text) (list_all is_name (named_words (after_word spot text) rest)) f))
+    elim (is_named spot text) as (λ b.
+    list_all is_name (cond b (text ∷ named_words (after_word spot text) rest) (named_words (after_word spot text) rest)) ≡ true
+    → length (cond b (text ∷ named_words (after_word spot text) rest) (named_words (after_word spot text) rest))
+    ≤ length text + size rest) [
+      | true ↦ λ f. omega (
+        arith,
+        name_long text (first_so (is_name text) (list_all is_name (named_words (after_word spot text) rest)) f),
+        words_few place (after_word spot text) rest
+            (second_so (is_name text) (list_all is_name (named_words (after_word spot text) rest)) f),
+      )
       | false ↦ λ f. omega (arith, words_few place (after_word spot text) rest f)
     ] e
 
@@ -118,9 +139,9 @@ seen_table most place names ts t e =
     let own = words_are_names place Start ts e in
     subst (IsTable (most + size ts)) (sym (seen_names names Start ts)) (
     record {
-      distinct = distinct_names names (named_words Start ts) t.distinct;
+      distinct = with_names-distinct names (named_words Start ts) t.distinct;
       named = named_names names (named_words Start ts) t.named own;
-      few = omega (arith, length_names names (named_words Start ts), words_few place Start ts own, t.few);
+      few = omega (arith, length_with_names names (named_words Start ts), words_few place Start ts own, t.few);
     }
     )
 
@@ -139,7 +160,9 @@ pub signed_with : (most : ℕ) (s : Signed) (name : List ℕ) (arity : ℕ) → 
     → is_name name ≡ true → nat_le arity 8 ≡ true
     → IsSigned (most + 1) (with_signature s name arity)
 signed_with most s name arity i one few =
-    elim (has_name name s.names) as (λ b. has_name name s.names ≡ b → IsSigned (most + 1) (cond b s (record { names = s.names ++ name ∷ []; arities = s.arities ++ arity ∷ [] }))) [
+    elim (has_name name s.names) as (λ b.
+    has_name name s.names ≡ b
+    → IsSigned (most + 1) (cond b s (record { names = s.names ++ name ∷ []; arities = s.arities ++ arity ∷ [] }))) [
       | true ↦ λ _. signed_more most (most + 1) s (omega arith) i
       | false ↦ λ absent. record {
         table = subst (λ b. IsTable (most + 1) (cond b s.names (s.names ++ name ∷ []))) absent (table_with most s.names name i.table one);
@@ -151,19 +174,24 @@ signed_with most s name arity i one few =
     ] refl
 
 pub predicate_name : (text : List ℕ) → is_predicate_name text ≡ true → is_name text ≡ true
-predicate_name text e = first_so (is_name text) (not (is_connective text)) (first_so (is_name text && not (is_connective text)) (not (is_change text)) e)
+predicate_name text e =
+    first_so (is_name text) (not (is_connective text)) (first_so (is_name text && not (is_connective text)) (not (is_change text)) e)
 
 head_named : (head : WordSort) (place : ℕ) (items : Trees)
     → ((text : List ℕ) → is_of head text ≡ true → is_name text ≡ true)
     → declaration_faults head place items ≡ [] → is_name (head_of items) ≡ true
 head_named head place nothing names e = absurd (some_fault (shape place) [] e)
 head_named head place (list items at rest) names e = absurd (some_fault (shape at) [] e)
-head_named head place (word text at rest) names e = names text (chosen (is_of head text) (groups_faults Variable place Start rest) (shape at) [] e).0
+head_named head place (word text at rest) names e =
+    names text (chosen (is_of head text) (groups_faults Variable place Start rest) (shape at) [] e).0
 
 -- a declaration has at most 8 variables
 pub few_declared : (sorts : List (List ℕ)) (place : ℕ) (vars : Trees)
     → declaration_names sorts place vars ≡ [] → nat_le (length (named_words Start vars)) 8 ≡ true
-few_declared sorts place vars e = met (nat_le (length (named_words Start vars)) 8) TooMany place (append_nil_second (types_names sorts Start vars ++ doubles_names [] Start vars) (unless (nat_le (length (named_words Start vars)) 8) TooMany place) e)
+few_declared sorts place vars e =
+    met (nat_le (length (named_words Start vars)) 8) TooMany place
+    (append_nil_second (types_names sorts Start vars ++ doubles_names [] Start vars)
+    (unless (nat_le (length (named_words Start vars)) 8) TooMany place) e)
 
 pub predicates_signed : (most : ℕ) (sorts : List (List ℕ)) (s : Signed) (ts : Trees)
     → IsSigned most s → predicates_faults ts ≡ [] → predicates_names sorts ts ≡ []
@@ -171,11 +199,15 @@ pub predicates_signed : (most : ℕ) (sorts : List (List ℕ)) (s : Signed) (ts 
 predicates_signed most sorts s nothing i f n = signed_more most (most + 0) s (omega arith) i
 predicates_signed most sorts s (word text at rest) i f n = absurd (some_fault (shape at) [] f)
 predicates_signed most sorts s (list items at rest) i f n =
-    let name = head_named Predicate at items predicate_name (append_nil_first (declaration_faults Predicate at items) (predicates_faults rest) f) in
-    let few = few_declared sorts at (tail_of items) (append_nil_first (declaration_names sorts at (tail_of items)) (predicates_names sorts rest) n) in
+    let name = head_named Predicate at items predicate_name
+    (append_nil_first (declaration_faults Predicate at items) (predicates_faults rest) f) in
+    let few = few_declared sorts at (tail_of items)
+    (append_nil_first (declaration_names sorts at (tail_of items)) (predicates_names sorts rest) n) in
     let s' = with_signature s (head_of items) (length (named_words Start (tail_of items))) in
     signed_more (most + 1 + size rest) (most + (size items + 2 + size rest)) (predicates_in s' rest) (omega arith)
-    (predicates_signed (most + 1) sorts s' rest (signed_with most s (head_of items) (length (named_words Start (tail_of items))) i name few) (append_nil_second (declaration_faults Predicate at items) (predicates_faults rest) f) (append_nil_second (declaration_names sorts at (tail_of items)) (predicates_names sorts rest) n))
+    (predicates_signed (most + 1) sorts s' rest (signed_with most s (head_of items) (length (named_words Start (tail_of items))) i name few)
+    (append_nil_second (declaration_faults Predicate at items) (predicates_faults rest) f)
+    (append_nil_second (declaration_names sorts at (tail_of items)) (predicates_names sorts rest) n))
 
 few_arguments : (name : List ℕ) (vars : Trees) → nat_le (length (named_words Start vars)) 8 ≡ true
     → nat_le (declared_arity name vars) 8 ≡ true
@@ -196,8 +228,10 @@ word_behind spot text at behind e = by (function_word_fault spot text at) e
 list_formed : (spot : Spot) (items : Trees) (at : ℕ) (behind : List Fault)
     → function_list_faults spot items at behind ≡ []
     → (declaration_faults Name at items ≡ []) × (behind ≡ [])
-list_formed Start items at behind e = (append_nil_first (declaration_faults Name at items) behind e, append_nil_second (declaration_faults Name at items) behind e)
-list_formed Named items at behind e = (append_nil_first (declaration_faults Name at items) behind e, append_nil_second (declaration_faults Name at items) behind e)
+list_formed Start items at behind e =
+    (append_nil_first (declaration_faults Name at items) behind e, append_nil_second (declaration_faults Name at items) behind e)
+list_formed Named items at behind e =
+    (append_nil_first (declaration_faults Name at items) behind e, append_nil_second (declaration_faults Name at items) behind e)
 list_formed Typed items at behind e = absurd (some_fault (list_fault Typed items at) [] e)
 
 pub functions_signed : (most place : ℕ) (spot : Spot) (sorts : List (List ℕ)) (s : Signed) (ts : Trees)
@@ -206,16 +240,22 @@ pub functions_signed : (most place : ℕ) (spot : Spot) (sorts : List (List ℕ)
 functions_signed most place spot sorts s nothing i f n =
     signed_more most (most + 0) s (omega arith) i
 functions_signed most place spot sorts s (word text at rest) i f n =
-    signed_more (most + size rest) (most + (length text + size rest)) (functions_in s rest) (omega arith) (functions_signed most place (after_function_word spot) sorts s rest i (word_behind spot text at (functions_faults place (after_function_word spot) rest) f) n)
+    signed_more (most + size rest) (most + (length text + size rest)) (functions_in s rest) (omega arith)
+    (functions_signed most place (after_function_word spot) sorts s rest i
+    (word_behind spot text at (functions_faults place (after_function_word spot) rest) f) n)
 functions_signed most place spot sorts s (list items at rest) i f n =
     let formed = list_formed spot items at (functions_faults place Named rest) f in
     let own = total_cost_names at items ++ declaration_names sorts at (tail_of items) in
-    let declared = append_nil_second (total_cost_names at items) (declaration_names sorts at (tail_of items)) (append_nil_first own (functions_names sorts rest) n) in
+    let declared =
+    append_nil_second (total_cost_names at items)
+    (declaration_names sorts at (tail_of items)) (append_nil_first own (functions_names sorts rest) n) in
     let name = head_named Name at items (λ text e. e) formed.0 in
     let few = few_declared sorts at (tail_of items) declared in
     let s' = with_signature s (head_of items) (declared_arity (head_of items) (tail_of items)) in
     signed_more (most + 1 + size rest) (most + (size items + 2 + size rest)) (functions_in s' rest) (omega arith)
-    (functions_signed (most + 1) place Named sorts s' rest (signed_with most s (head_of items) (declared_arity (head_of items) (tail_of items)) i name (few_arguments (head_of items) (tail_of items) few)) formed.1 (append_nil_second own (functions_names sorts rest) n))
+    (functions_signed (most + 1) place Named sorts s' rest
+    (signed_with most s (head_of items) (declared_arity (head_of items) (tail_of items)) i name
+    (few_arguments (head_of items) (tail_of items) few)) formed.1 (append_nil_second own (functions_names sorts rest) n))
 
 -- ---- all tables
 
@@ -261,30 +301,57 @@ module _ (whole : Vocabulary) (heads : List (List ℕ)) where
       → AreTables most v → AreTables (most + size rest) (with_item v it rest)
   tables_item most v item.Types rest c a =
       let more = tables_more most (most + size rest) v (omega arith) a in
-      record { sorts = types_table most c.place Start v.sorts rest a.sorts c.formed; object = types_first v.sorts rest (codes "object") a.object; predicates = more.predicates; functions = more.functions; objects = more.objects }
+      record {
+        sorts = types_table most c.place Start v.sorts rest a.sorts c.formed;
+        object = types_first v.sorts rest (codes "object") a.object;
+        predicates = more.predicates;
+        functions = more.functions;
+        objects = more.objects;
+      }
   tables_item most v item.Constants rest c a =
       let more = tables_more most (most + size rest) v (omega arith) a in
-      record { sorts = more.sorts; object = a.object; predicates = more.predicates; functions = more.functions; objects = seen_table most c.place v.objects rest a.objects c.formed }
+      record {
+        sorts = more.sorts;
+        object = a.object;
+        predicates = more.predicates;
+        functions = more.functions;
+        objects = seen_table most c.place v.objects rest a.objects c.formed;
+      }
   tables_item most v item.Predicates rest c a =
       let more = tables_more most (most + size rest) v (omega arith) a in
-      record { sorts = more.sorts; object = a.object; predicates = predicates_signed most whole.sorts v.predicates rest a.predicates c.formed c.named; functions = more.functions; objects = more.objects }
+      record {
+        sorts = more.sorts;
+        object = a.object;
+        predicates = predicates_signed most whole.sorts v.predicates rest a.predicates c.formed c.named;
+        functions = more.functions;
+        objects = more.objects;
+      }
   tables_item most v item.Functions rest c a =
       let more = tables_more most (most + size rest) v (omega arith) a in
-      record { sorts = more.sorts; object = a.object; predicates = more.predicates; functions = functions_signed most c.place Start whole.sorts v.functions rest a.functions c.formed c.named; objects = more.objects }
+      record {
+        sorts = more.sorts;
+        object = a.object;
+        predicates = more.predicates;
+        functions = functions_signed most c.place Start whole.sorts v.functions rest a.functions c.formed c.named;
+        objects = more.objects;
+      }
   tables_item most v _ rest c a = tables_more most (most + size rest) v (omega arith) a
 
   tables_items : (most : ℕ) (v : Vocabulary) (body : Trees) → AreClean whole heads body
       → AreTables most v → AreTables (most + size body) (with_items v body)
   tables_items most v nothing c a = tables_more most (most + 0) v (omega arith) a
-  tables_items most v (word w at rest) c a = tables_more (most + size rest) (most + (length w + size rest)) (with_items v rest) (omega arith) (tables_items most v rest c a)
+  tables_items most v (word w at rest) c a =
+      tables_more (most + size rest) (most + (length w + size rest)) (with_items v rest) (omega arith) (tables_items most v rest c a)
   tables_items most v (list items at rest) c a =
       let v' = with_item v (item_of Domain (head_of items)) (tail_of items) in
-      tables_more (most + size (tail_of items) + size rest) (most + (size items + 2 + size rest)) (with_items v' rest) (omega (arith, tail_small items))
+      tables_more (most + size (tail_of items) + size rest) (most + (size items + 2 + size rest))
+      (with_items v' rest) (omega (arith, tail_small items))
       (tables_items (most + size (tail_of items)) v' rest c.1 (tables_item most v (item_of Domain (head_of items)) (tail_of items) c.0 a))
 
 tables_first : AreTables 1 no_names
 tables_first = record {
-  sorts = record { distinct = distinct_push [] (codes "object") distinct_nil (λ c. absurd (omega (arith, c.1))); named = refl; few = omega arith };
+  sorts = record
+      { distinct = distinct_push [] (codes "object") distinct_nil (λ c. absurd (omega (arith, c.1))); named = refl; few = omega arith };
   object = refl;
   predicates = record { table = record { distinct = distinct_nil; named = refl; few = omega arith }; even = refl; arities = refl };
   functions = record { table = record { distinct = distinct_nil; named = refl; few = omega arith }; even = refl; arities = refl };
@@ -302,6 +369,8 @@ tables_fit heads body c =
       sorts = more.sorts;
       object = more.object;
       predicates = more.predicates;
-      functions = signed_more (1 + size body + 1) (size body + 2) (with_signature v.functions (codes "total-cost") 0) (omega arith) (signed_with (1 + size body) v.functions (codes "total-cost") 0 a.functions refl refl);
+      functions =
+          signed_more (1 + size body + 1) (size body + 2) (with_signature v.functions (codes "total-cost") 0)
+          (omega arith) (signed_with (1 + size body) v.functions (codes "total-cost") 0 a.functions refl refl);
       objects = more.objects;
     }

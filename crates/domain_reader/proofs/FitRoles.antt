@@ -34,7 +34,8 @@ pub derived_by : (d : domain.Domain) (pred : ℕ)
     → is_derived_role (role_of d pred) ≡ roles.is_derived d pred
 unfolding role_of
 derived_by d pred =
-    elim (roles.is_derived d pred) as (λ b. is_derived_role (if b then Derived else (if roles.is_changed d pred then Fluent else Static)) ≡ b) [
+    elim (roles.is_derived d pred) as
+    (λ b. is_derived_role (if b then Derived else (if roles.is_changed d pred then Fluent else Static)) ≡ b) [
       | true ↦ refl
       | false ↦ elim (roles.is_changed d pred) as (λ c. is_derived_role (if c then Fluent else Static) ≡ false) [
         | true ↦ refl
@@ -51,7 +52,8 @@ heads_kept : (names : List (List ℕ)) (body : Trees) → Known names (heads_in 
 heads_kept names nothing n h = h
 heads_kept names (word w at rest) n h = heads_kept names rest n h
 heads_kept names (list items at rest) n h =
-    elim (is_derived (item_of text.Domain (head_of items))) as (λ b. has_name n (heads_in (if b then with_name names (headed items) else names) rest) ≡ true) [
+    elim (is_derived (item_of text.Domain (head_of items))) as
+    (λ b. has_name n (heads_in (if b then with_name names (headed items) else names) rest) ≡ true) [
       | true ↦ heads_kept (with_name names (headed items)) rest n (known_with names (headed items) n h)
       | false ↦ heads_kept names rest n h
     ]
@@ -68,7 +70,8 @@ counted_kept : (predicates names : List (List ℕ)) (body : Trees)
 counted_kept predicates names nothing n h = h
 counted_kept predicates names (word w at rest) n h = counted_kept predicates names rest n h
 counted_kept predicates names (list items at rest) n h =
-    elim (counts_as_derived predicates items) as (λ b. has_name n (counted_in predicates (if b then with_name names (headed items) else names) rest) ≡ true) [
+    elim (counts_as_derived predicates items) as
+    (λ b. has_name n (counted_in predicates (if b then with_name names (headed items) else names) rest) ≡ true) [
       | true ↦ counted_kept predicates (with_name names (headed items)) rest n (known_with names (headed items) n h)
       | false ↦ counted_kept predicates names rest n h
     ]
@@ -88,18 +91,24 @@ module _ (v : Vocabulary) (clean_heads : List (List ℕ)) where
       → is_derived (item_of text.Domain (head_of items)) ≡ true
       → IsClean v clean_heads (item_of text.Domain (head_of items)) (tail_of items)
       → ((rule_of v (tail_of items)).pred == pred) ≡ true →
-      IsDerivedName v (heads_in (if is_derived (item_of text.Domain (head_of items)) then with_name names (headed items) else names) rest) (counted_in predicates (seen_once (counts_as_derived predicates items) (headed items) counted) rest) pred
+      IsDerivedName v (heads_in (if is_derived (item_of text.Domain (head_of items)) then with_name names (headed items) else names) rest)
+      (counted_in predicates (seen_once (counts_as_derived predicates items) (headed items) counted) rest) pred
   headed_name items rest names counted pred e c same =
       let it = item_of text.Domain (head_of items) in
       let found = rule_there v (tail_of items) (derived_rule v clean_heads it (tail_of items) e c) in
-      let at : place_of (headed items) predicates ≡ Some pred = found.1 ∙ ap Some (sym (rule_pred v (tail_of items) found.0 found.1) ∙ eqb-true (rule_of v (tail_of items)).pred pred same) in
-      let there : has_name (headed items) predicates ≡ true = name_there (headed items) predicates pred (place_named (headed items) predicates pred at) in
+      let at : place_of (headed items) predicates ≡ Some pred =
+      found.1 ∙ ap Some (sym (rule_pred v (tail_of items) found.0 found.1) ∙ eqb-true (rule_of v (tail_of items)).pred pred same) in
+      let there : has_name (headed items) predicates ≡ true =
+      name_there (headed items) predicates pred (place_named (headed items) predicates pred at) in
       let counts : counts_as_derived predicates items ≡ true = and_from (is_derived it) (has_name (headed items) predicates) e there in
       record {
         name = headed items;
         place = at;
-        is_head = subst (λ b. has_name (headed items) (heads_in (if b then with_name names (headed items) else names) rest) ≡ true) (sym e) (heads_kept (with_name names (headed items)) rest (headed items) (has_with names (headed items)));
-        counts = subst (λ b. has_name (headed items) (counted_in predicates (if b then with_name counted (headed items) else counted) rest) ≡ true) (sym counts) (counted_kept predicates (with_name counted (headed items)) rest (headed items) (has_with counted (headed items)));
+        is_head = subst (λ b. has_name (headed items) (heads_in (if b then with_name names (headed items) else names) rest) ≡ true)
+            (sym e) (heads_kept (with_name names (headed items)) rest (headed items) (has_with names (headed items)));
+        counts = subst
+            (λ b. has_name (headed items) (counted_in predicates (if b then with_name counted (headed items) else counted) rest) ≡ true)
+            (sym counts) (counted_kept predicates (with_name counted (headed items)) rest (headed items) (has_with counted (headed items)));
       }
 
   pub headed_names : (names counted : List (List ℕ)) (body : Trees) (pred : ℕ)
@@ -109,20 +118,29 @@ module _ (v : Vocabulary) (clean_heads : List (List ℕ)) where
   headed_names names counted (word w at rest) pred c h = headed_names names counted rest pred c h
   headed_names names counted (list items at rest) pred c h =
       let it = item_of text.Domain (head_of items) in
-      elim (is_derived it) as (λ b. is_derived it ≡ b → list_any (is_headed pred) ((if b then rule_of v (tail_of items) ∷ [] else []) ++ rules_of v rest) ≡ true → IsDerivedName v (heads_in (if is_derived it then with_name names (headed items) else names) rest) (counted_in predicates (seen_once (counts_as_derived predicates items) (headed items) counted) rest) pred) [
+      elim (is_derived it) as (λ b.
+      is_derived it ≡ b → list_any (is_headed pred) ((if b then rule_of v (tail_of items) ∷ [] else []) ++ rules_of v rest) ≡ true
+      → IsDerivedName v (heads_in (if is_derived it then with_name names (headed items) else names) rest)
+      (counted_in predicates (seen_once (counts_as_derived predicates items) (headed items) counted) rest) pred) [
         | true ↦ λ e g. elim (or_cases ((rule_of v (tail_of items)).pred == pred) (list_any (is_headed pred) (rules_of v rest)) g) [
           | inl same ↦ headed_name items rest names counted pred e c.0 same
-          | inr more ↦ headed_names (if is_derived it then with_name names (headed items) else names) (seen_once (counts_as_derived predicates items) (headed items) counted) rest pred c.1 more
+          | inr more ↦
+              headed_names (if is_derived it then with_name names (headed items) else names)
+              (seen_once (counts_as_derived predicates items) (headed items) counted) rest pred c.1 more
         ]
-        | false ↦ λ e g. headed_names (if is_derived it then with_name names (headed items) else names) (seen_once (counts_as_derived predicates items) (headed items) counted) rest pred c.1 g
+        | false ↦ λ e g. headed_names (if is_derived it then with_name names (headed items) else names)
+            (seen_once (counts_as_derived predicates items) (headed items) counted) rest pred c.1 g
       ] refl h
 
 -- ---- an effect's predicate isn't derived
 
-module _ (d : domain.Domain) (v : Vocabulary) (clean_heads : List (List ℕ)) (body : Trees) (clean : AreClean v clean_heads body) (rules : d.derived ≡ rules_of v body) where
+module _ (d : domain.Domain) (v : Vocabulary) (clean_heads : List (List ℕ)) (body : Trees)
+    (clean : AreClean v clean_heads body) (rules : d.derived ≡ rules_of v body) where
   derived_named : (pred : ℕ) → is_derived_role (role_of d pred) ≡ true
       → IsDerivedName v (heads_in [] body) (counted_in v.predicates.names [] body) pred
-  derived_named pred h = headed_names v clean_heads [] [] body pred clean (subst (λ rs. list_any (is_headed pred) rs ≡ true) rules (sym (derived_by d pred) ∙ h))
+  derived_named pred h =
+      headed_names v clean_heads [] [] body pred clean
+      (subst (λ rs. list_any (is_headed pred) rs ≡ true) rules (sym (derived_by d pred) ∙ h))
 
   pub not_derived : (name : List ℕ) (pred : ℕ) → place_of name v.predicates.names ≡ Some pred
       → has_name name (heads_in [] body) ≡ false → is_derived_role (role_of d pred) ≡ false
@@ -130,7 +148,9 @@ module _ (d : domain.Domain) (v : Vocabulary) (clean_heads : List (List ℕ)) (b
       false_from_ne_true (is_derived_role (role_of d pred))
       (λ h.
       let found = derived_named pred h in
-      let same : name ≡ found.name = same_Some name found.name (sym (place_named name v.predicates.names pred at) ∙ place_named found.name v.predicates.names pred found.place) in
+      let same : name ≡ found.name =
+      same_Some name found.name
+      (sym (place_named name v.predicates.names pred at) ∙ place_named found.name v.predicates.names pred found.place) in
       let there : has_name name (heads_in [] body) ≡ true = subst (λ n. has_name n (heads_in [] body) ≡ true) (sym same) found.is_head in
       let clash : true ≡ false = sym there ∙ absent in cc)
 
@@ -141,11 +161,16 @@ counted_few : (predicates names : List (List ℕ)) (body : Trees) → length nam
 counted_few predicates names nothing few n = few
 counted_few predicates names (word w at rest) few n = counted_few predicates names rest few n
 counted_few predicates names (list items at rest) few n =
-    elim (counts_as_derived predicates items) as (λ b. crowded b (headed items) at names ++ too_many_derived predicates (seen_once b (headed items) names) rest ≡ [] → length (counted_in predicates (seen_once b (headed items) names) rest) ≤ 64) [
+    elim (counts_as_derived predicates items) as
+    (λ b. crowded b (headed items) at names ++ too_many_derived predicates (seen_once b (headed items) names) rest ≡ []
+    → length (counted_in predicates (seen_once b (headed items) names) rest) ≤ 64) [
       | true ↦ λ m.
           let own = crowded true (headed items) at names in
-          let room : (has_name (headed items) names || not (length names == 64)) ≡ true = met (has_name (headed items) names || not (length names == 64)) TooMany at (append_nil_first own (too_many_derived predicates (with_name names (headed items)) rest) m) in
-          counted_few predicates (with_name names (headed items)) rest (grown names (headed items) few room) (append_nil_second own (too_many_derived predicates (with_name names (headed items)) rest) m)
+          let room : (has_name (headed items) names || not (length names == 64)) ≡ true =
+          met (has_name (headed items) names || not (length names == 64)) TooMany at
+          (append_nil_first own (too_many_derived predicates (with_name names (headed items)) rest) m) in
+          counted_few predicates (with_name names (headed items)) rest (grown names (headed items) few room)
+          (append_nil_second own (too_many_derived predicates (with_name names (headed items)) rest) m)
       | false ↦ λ m. counted_few predicates names rest few m
     ] n
   where
@@ -181,14 +206,16 @@ one_counted m first (suc count) =
         → how_many (λ k. m == k) (numbers_from first count) ≡ 0
     none_counted m first zero lt = refl
     none_counted m first (suc count) lt =
-        ap (λ b. cond b 1 0 + how_many (λ k. m == k) (numbers_from (first + 1) count)) (false_from_ne_true (m == first) (λ e. omega (arith, eqb-true m first e)))
+        ap (λ b. cond b 1 0 + how_many (λ k. m == k) (numbers_from (first + 1) count))
+        (false_from_ne_true (m == first) (λ e. omega (arith, eqb-true m first e)))
         ∙ ap (λ n. 0 + n) (none_counted m (first + 1) count (omega arith))
 
 either_counted : (p q : ℕ → Bool) (ks : List ℕ)
     → how_many (λ k. p k || q k) ks ≤ how_many p ks + how_many q ks
 either_counted p q [] = omega arith
 either_counted p q (k ∷ ks) =
-    elim (p k) as (λ b. cond (b || q k) 1 0 + how_many (λ n. p n || q n) ks ≤ (cond b 1 0 + how_many p ks) + (cond (q k) 1 0 + how_many q ks)) [
+    elim (p k) as
+    (λ b. cond (b || q k) 1 0 + how_many (λ n. p n || q n) ks ≤ (cond b 1 0 + how_many p ks) + (cond (q k) 1 0 + how_many q ks)) [
       | true ↦ omega (arith, either_counted p q ks)
       | false ↦ omega (arith, either_counted p q ks)
     ]
@@ -198,7 +225,12 @@ among_counted : (ms : List ℕ) (first count : ℕ)
 among_counted [] first zero = omega arith
 among_counted [] first (suc count) = omega (arith, among_counted [] (first + 1) count)
 among_counted (m ∷ ms) first count =
-    omega (arith, either_counted (λ k. m == k) (λ k. list_any (λ n. n == k) ms) (numbers_from first count), one_counted m first count, among_counted ms first count)
+    omega (
+      arith,
+      either_counted (λ k. m == k) (λ k. list_any (λ n. n == k) ms) (numbers_from first count),
+      one_counted m first count,
+      among_counted ms first count,
+    )
 
 fewer_counted : (p q : ℕ → Bool) → ((k : ℕ) → p k ≡ true → q k ≡ true) → (ks : List ℕ)
     → how_many p ks ≤ how_many q ks
@@ -224,8 +256,10 @@ place_among : (table names : List (List ℕ)) (name : List ℕ) (i k : ℕ)
 place_among table [] name i k e at = absurd (cc)
 place_among table (n ∷ ns) name zero k e at =
     let same : n ≡ name = same_Some n name e in
-    or_left (unwrap_or (place_of n table) 0 == k) (list_any (λ m. m == k) (places_in table ns)) (eq-eqb (unwrap_or (place_of n table) 0) k (ap (λ m. unwrap_or (place_of m table) 0) same ∙ ap (λ o. unwrap_or o 0) at))
-place_among table (n ∷ ns) name (suc i) k e at = or_right (unwrap_or (place_of n table) 0 == k) (list_any (λ m. m == k) (places_in table ns)) (place_among table ns name i k e at)
+    or_left (unwrap_or (place_of n table) 0 == k) (list_any (λ m. m == k) (places_in table ns))
+    (eq-eqb (unwrap_or (place_of n table) 0) k (ap (λ m. unwrap_or (place_of m table) 0) same ∙ ap (λ o. unwrap_or o 0) at))
+place_among table (n ∷ ns) name (suc i) k e at =
+    or_right (unwrap_or (place_of n table) 0 == k) (list_any (λ m. m == k) (places_in table ns)) (place_among table ns name i k e at)
 
 pub few_derived : (d : domain.Domain) (v : Vocabulary) (clean_heads : List (List ℕ)) (body : Trees)
     → AreClean v clean_heads body → d.derived ≡ rules_of v body
@@ -242,7 +276,8 @@ few_derived d v clean_heads body clean rules none roles =
     place_among table counted found.name at.0 k at.1 found.place in
     omega (
       arith,
-      ap (count_by is_derived_role) roles ∙ how_many_is is_derived_role (map (role_of d) (numbers_from 0 (length d.predicates))) ∙ mapped_counted (role_of d) is_derived_role (numbers_from 0 (length d.predicates)),
+      ap (count_by is_derived_role) roles ∙ how_many_is is_derived_role (map (role_of d) (numbers_from 0 (length d.predicates)))
+          ∙ mapped_counted (role_of d) is_derived_role (numbers_from 0 (length d.predicates)),
       fewer_counted (λ k. is_derived_role (role_of d k)) (λ k. list_any (λ m. m == k) places) among (numbers_from 0 (length d.predicates)),
       among_counted places 0 (length d.predicates),
       length-map counted (λ name. unwrap_or (place_of name table) 0),

@@ -99,7 +99,9 @@ module _ (v : Vocabulary) (rest : Trees) (h : IsHeaded v rest) where
 
   -- the predicate is there
   head_there : (p : ℕ) × (place_of (head_of head) v.predicates.names ≡ Some p)
-  head_there = place_used v.predicates (place_of (head_of head) v.predicates.names) (length (named_words Start vars)) (tree_place head) h.head_place no_use
+  head_there =
+      place_used v.predicates (place_of (head_of head) v.predicates.names) (length (named_words Start vars))
+      (tree_place head) h.head_place no_use
 
   few : length (named_words Start vars) ≤ 8
   few = leb-true (length (named_words Start vars)) 8 (few_declared v.sorts h.head_place vars no_declared)
@@ -107,7 +109,8 @@ module _ (v : Vocabulary) (rest : Trees) (h : IsHeaded v rest) where
   types : types_names v.sorts Start vars ≡ []
   types =
       let bound = unless (nat_le (length (named_words Start vars)) 8) TooMany h.head_place in
-      append_nil_first (types_names v.sorts Start vars) (doubles_names [] Start vars) (append_nil_first (types_names v.sorts Start vars ++ doubles_names [] Start vars) bound no_declared)
+      append_nil_first (types_names v.sorts Start vars)
+      (doubles_names [] Start vars) (append_nil_first (types_names v.sorts Start vars ++ doubles_names [] Start vars) bound no_declared)
 
 -- ---- the predicate of an item
 
@@ -136,15 +139,22 @@ module _ (v : Vocabulary) (d : domain.Domain) (knows : Knows v d (length d.const
       let params = named_sorts v.sorts Start 0 vars in
       let long : length params ≡ length scope = sorts_as_long v.sorts vars in
       let short : length scope ≤ 8 = few v rest h in
-      let places : are_places (length d.sorts) params ≡ true = subst (λ n. are_places n params ≡ true) (sym knows.sorts) (few_places v.sorts knows.typed vars (omega (arith, short)) (types v rest h)) in
+      let places : are_places (length d.sorts) params ≡ true =
+      subst (λ n. are_places n params ≡ true)
+      (sym knows.sorts) (few_places v.sorts knows.typed vars (omega (arith, short)) (types v rest h)) in
       let counted : nat_le (length params) 16 ≡ true = le-leb (length params) 16 (omega (arith, short, long)) in
       let arity : has_arity d.predicates (rule_of v rest).pred (length params) ≡ true =
-      (λ i. has_arity (knows.predicates i) (declared_place v.predicates (head_of (inner_of rest))) (long i)) ∙ use_there v.predicates (head_of (inner_of rest)) (length scope) (tree_place (inner_of rest)) h.head_place (no_use v rest h) in
-      let slots : AreFilled (numbers_from 0 (length params)) (length scope) = subst (AreFilled (numbers_from 0 (length params))) long (filled_first (length params)) in
+      (λ i. has_arity (knows.predicates i) (declared_place v.predicates (head_of (inner_of rest))) (long i))
+      ∙ use_there v.predicates (head_of (inner_of rest)) (length scope) (tree_place (inner_of rest)) h.head_place (no_use v rest h) in
+      let slots : AreFilled (numbers_from 0 (length params)) (length scope) =
+      subst (AreFilled (numbers_from 0 (length params))) long (filled_first (length params)) in
       let body : is_fit_condition d (length d.constants) (numbers_from 0 (length params)) (rule_of v rest).body ≡ true =
-      single_fits v d (length d.constants) knows scope (numbers_from 0 (length params)) slots (omega (arith, short)) h.place (tail_of rest) (omega (arith, tail_small rest)) (omega (arith, tail_shallow rest)) h.body_formed h.body_named in
-      and_from (are_fit_params d params && has_arity d.predicates (rule_of v rest).pred (length params)) (is_fit_condition d (length d.constants) (numbers_from 0 (length params)) (rule_of v rest).body)
-      (and_from (are_fit_params d params) (has_arity d.predicates (rule_of v rest).pred (length params)) (and_from (nat_le (length params) 16) (are_places (length d.sorts) params) counted places) arity) body
+      single_fits v d (length d.constants) knows scope (numbers_from 0 (length params)) slots (omega (arith, short)) h.place
+      (tail_of rest) (omega (arith, tail_small rest)) (omega (arith, tail_shallow rest)) h.body_formed h.body_named in
+      and_from (are_fit_params d params && has_arity d.predicates (rule_of v rest).pred (length params))
+      (is_fit_condition d (length d.constants) (numbers_from 0 (length params)) (rule_of v rest).body)
+      (and_from (are_fit_params d params) (has_arity d.predicates (rule_of v rest).pred (length params))
+      (and_from (nat_le (length params) 16) (are_places (length d.sorts) params) counted places) arity) body
 
   here_fits : (heads : List (List ℕ)) (it : Item) (rest : Trees) → IsClean v heads it rest
       → size rest ≤ 8388608 → depth rest ≤ 64
@@ -161,14 +171,16 @@ module _ (v : Vocabulary) (d : domain.Domain) (knows : Knows v d (length d.const
   rules_fit heads (word w at rest) c small shallow = rules_fit heads rest c (omega arith) shallow
   rules_fit heads (list items at rest) c small shallow =
       let it = item_of text.Domain (head_of items) in
-      all_append (is_fit_item d) (if is_derived it then rule_of v (tail_of items) ∷ [] else []) (rules_of v rest) (here_fits heads it (tail_of items) c.0 (omega (arith, tail_small items)) (omega (arith, tail_shallow items)))
+      all_append (is_fit_item d) (if is_derived it then rule_of v (tail_of items) ∷ [] else [])
+      (rules_of v rest) (here_fits heads it (tail_of items) c.0 (omega (arith, tail_small items)) (omega (arith, tail_shallow items)))
       (rules_fit heads rest c.1 (omega arith) (omega arith))
 
 pub rules_long : (v : Vocabulary) (body : Trees) → length (rules_of v body) ≤ size body
 rules_long v nothing = omega arith
 rules_long v (word w at rest) = omega (arith, rules_long v rest)
 rules_long v (list items at rest) =
-    elim (is_derived (item_of text.Domain (head_of items))) as (λ b. length ((if b then rule_of v (tail_of items) ∷ [] else []) ++ rules_of v rest) ≤ size items + 2 + size rest) [
+    elim (is_derived (item_of text.Domain (head_of items))) as
+    (λ b. length ((if b then rule_of v (tail_of items) ∷ [] else []) ++ rules_of v rest) ≤ size items + 2 + size rest) [
       | true ↦ omega (arith, rules_long v rest)
       | false ↦ omega (arith, rules_long v rest)
     ]

@@ -66,10 +66,14 @@ row_known names table (word text at rest) k =
     here : is_dash text ≡ false
         → Known (types_in (cond (is_dash text) names (with_name names text)) rest) table
         → has_name text table ≡ true
-    here other known = subst (λ b. Known (types_in (cond b names (with_name names text)) rest) table) other known text (types_kept (with_name names text) rest text (has_with names text))
+    here other known =
+        subst (λ b. Known (types_in (cond b names (with_name names text)) rest) table) other known text
+        (types_kept (with_name names text) rest text (has_with names text))
 
 dash_no_name : (text : List ℕ) → is_name text ≡ true → is_dash text ≡ false
-dash_no_name text e = false_from_ne_true (is_dash text) (λ h. let f : is_name (codes "-") ≡ true = subst (λ t. is_name t ≡ true) (same_name text (codes "-") h) e in cc)
+dash_no_name text e =
+    false_from_ne_true (is_dash text)
+    (λ h. let f : is_name (codes "-") ≡ true = subst (λ t. is_name t ≡ true) (same_name text (codes "-") h) e in cc)
 
 types_known : (table : List (List ℕ)) (place : ℕ) (spot : Spot) (ts : Trees)
     → groups_faults Name place spot ts ≡ [] → RowKnown table ts → types_names table spot ts ≡ []
@@ -77,10 +81,12 @@ types_known table place spot nothing f k = refl
 types_known table place spot (list items at rest) f k = refl
 types_known table place Start (word text at rest) f k =
     types_known table place Named rest (rest_formed Start text place at rest f) k.1
-types_known table place Named (word text at rest) f k = types_known table place (after_word Named text) rest (rest_formed Named text place at rest f) k.1
+types_known table place Named (word text at rest) f k =
+    types_known table place (after_word Named text) rest (rest_formed Named text place at rest f) k.1
 types_known table place Typed (word text at rest) f k =
     let one : is_name text ≡ true = (chosen (is_name text) (groups_faults Name place Start rest) (shape at) [] f).0 in
-    ap (λ b. unless b Unknown at ++ types_names table Start rest) (k.0 (dash_no_name text one)) ∙ types_known table place Start rest (rest_formed Typed text place at rest f) k.1
+    ap (λ b. unless b Unknown at ++ types_names table Start rest) (k.0 (dash_no_name text one))
+    ∙ types_known table place Start rest (rest_formed Typed text place at rest f) k.1
 
 known_item : (v : Vocabulary) (it : Item) (rest : Trees) → Known v.sorts (with_item v it rest).sorts
 known_item v item.Types rest = types_kept v.sorts rest
@@ -90,7 +96,8 @@ known_items : (v : Vocabulary) (body : Trees) → Known v.sorts (with_items v bo
 known_items v nothing n h = h
 known_items v (word w at rest) n h = known_items v rest n h
 known_items v (list items at rest) n h =
-    known_items (with_item v (item_of Domain (head_of items)) (tail_of items)) rest n (known_item v (item_of Domain (head_of items)) (tail_of items) n h)
+    known_items (with_item v (item_of Domain (head_of items)) (tail_of items)) rest n
+    (known_item v (item_of Domain (head_of items)) (tail_of items) n h)
 
 -- ---- listings
 
@@ -110,9 +117,12 @@ module _ (sorts : List (List ℕ)) (L : ℕ → Type 0) where
       → Lists (if not (has_name text seen) then record { node = sort_of sorts text; place = at } ∷ [] else [])
       → L (sort_of sorts text)
   word_listed seen text at s l =
-      elim (has_name text seen) as (λ b. has_name text seen ≡ b → Lists (if not b then record { node = sort_of sorts text; place = at } ∷ [] else []) → L (sort_of sorts text)) [
+      elim (has_name text seen) as (λ b.
+      has_name text seen ≡ b → Lists (if not b then record { node = sort_of sorts text; place = at } ∷ [] else [])
+      → L (sort_of sorts text)) [
         | true ↦ λ t _. s text t
-        | false ↦ λ _ here. here (sort_of sorts text) (or_left (sort_of sorts text == sort_of sorts text) false (eq-eqb (sort_of sorts text) (sort_of sorts text) refl))
+        | false ↦ λ _ here. here (sort_of sorts text)
+            (or_left (sort_of sorts text == sort_of sorts text) false (eq-eqb (sort_of sorts text) (sort_of sorts text) refl))
       ] refl l
 
   seen_more : (seen : List (List ℕ)) (text : List ℕ) → SeenListed seen → L (sort_of sorts text)
@@ -142,11 +152,18 @@ module _ (sorts : List (List ℕ)) (L : ℕ → Type 0) where
   row_listed seen spot nothing s l = (tt, s)
   row_listed seen spot (list items at rest) s l = (tt, s)
   row_listed seen spot (word text at rest) s l =
-      elim (is_named spot text) as (λ b. Lists ((if b && not (has_name text seen) then record { node = sort_of sorts text; place = at } ∷ [] else []) ++ listed_row sorts (if b then with_name seen text else seen) (after_word spot text) rest) → AllListed (if b then text ∷ named_words (after_word spot text) rest else named_words (after_word spot text) rest) × SeenListed (seen_after (if b then with_name seen text else seen) (after_word spot text) rest)) [
+      elim (is_named spot text) as (λ b.
+      Lists ((if b && not (has_name text seen) then record { node = sort_of sorts text; place = at } ∷ [] else [])
+      ++ listed_row sorts (if b then with_name seen text else seen) (after_word spot text) rest)
+      → AllListed (if b then text ∷ named_words (after_word spot text) rest else named_words (after_word spot text) rest)
+      × SeenListed (seen_after (if b then with_name seen text else seen) (after_word spot text) rest)) [
         | true ↦ λ m.
-            let candidate : List Candidate = if not (has_name text seen) then record { node = sort_of sorts text; place = at } ∷ [] else [] in
-            let here : L (sort_of sorts text) = word_listed seen text at s (lists_front candidate (listed_row sorts (with_name seen text) (after_word spot text) rest) m) in
-            let more = row_listed (with_name seen text) (after_word spot text) rest (seen_more seen text s here) (lists_back candidate (listed_row sorts (with_name seen text) (after_word spot text) rest) m) in
+            let candidate : List Candidate =
+            if not (has_name text seen) then record { node = sort_of sorts text; place = at } ∷ [] else [] in
+            let here : L (sort_of sorts text) =
+            word_listed seen text at s (lists_front candidate (listed_row sorts (with_name seen text) (after_word spot text) rest) m) in
+            let more = row_listed (with_name seen text) (after_word spot text) rest (seen_more seen text s here)
+            (lists_back candidate (listed_row sorts (with_name seen text) (after_word spot text) rest) m) in
             ((here, more.0), more.1)
         | false ↦ λ m. row_listed seen (after_word spot text) rest s m
       ] l
@@ -209,7 +226,8 @@ under_each : (size : ℕ) (L : ℕ → Type 0) (sorts edges : List (List ℕ)) (
 under_each size L sorts edges [] above l e u = u
 under_each size L sorts edges (n ∷ ns) [] l e u = u
 under_each size L sorts edges (n ∷ ns) (a ∷ as') l e u =
-    under_each size L sorts (edge_put edges (sort_of sorts n) a) ns as' l.1 (second_so (nat_lt a size) (list_all (λ n. nat_lt n size) as') e)
+    under_each size L sorts (edge_put edges (sort_of sorts n) a) ns as' l.1
+    (second_so (nat_lt a size) (list_all (λ n. nat_lt n size) as') e)
     (under_edge size L edges (sort_of sorts n) a (ltb-true a size (first_so (nat_lt a size) (list_all (λ n. nat_lt n size) as') e)) l.0 u)
 
 module _ (whole : Vocabulary) (heads : List (List ℕ)) (L : ℕ → Type 0) (typed : 0 < length whole.sorts) where
@@ -219,11 +237,17 @@ module _ (whole : Vocabulary) (heads : List (List ℕ)) (L : ℕ → Type 0) (ty
       → SeenListed whole.sorts L seen
       → Lists whole.sorts L (if is_types it then listed_row whole.sorts seen Start rest else [])
       → IsUnder (length whole.sorts) L edges →
-      SeenListed whole.sorts L (if is_types it then seen_after seen Start rest else seen) × IsUnder (length whole.sorts) L (if is_types it then edges_each whole.sorts edges (named_words Start rest) (named_sorts whole.sorts Start 0 rest) else edges)
+      SeenListed whole.sorts L (if is_types it then seen_after seen Start rest else seen)
+      × IsUnder (length whole.sorts) L
+      (if is_types it then edges_each whole.sorts edges (named_words Start rest) (named_sorts whole.sorts Start 0 rest) else edges)
   under_item edges seen v item.Types rest c k s l u =
       let row = row_listed whole.sorts L seen Start rest s l in
-      let types : types_names whole.sorts Start rest ≡ [] = types_known whole.sorts c.place Start rest c.formed (row_known v.sorts whole.sorts rest k) in
-      (row.1, under_each (length whole.sorts) L whole.sorts edges (named_words Start rest) (named_sorts whole.sorts Start 0 rest) row.0 (sort_places whole.sorts typed Start 0 rest types) u)
+      let types : types_names whole.sorts Start rest ≡ [] =
+      types_known whole.sorts c.place Start rest c.formed (row_known v.sorts whole.sorts rest k) in (
+        row.1,
+        under_each (length whole.sorts) L whole.sorts edges (named_words Start rest)
+            (named_sorts whole.sorts Start 0 rest) row.0 (sort_places whole.sorts typed Start 0 rest types) u,
+      )
   under_item edges seen v _ rest c k s l u = (s, u)
 
   under_items : (edges seen : List (List ℕ)) (v : Vocabulary) (body : Trees)
@@ -238,8 +262,11 @@ module _ (whole : Vocabulary) (heads : List (List ℕ)) (L : ℕ → Type 0) (ty
       let row = if is_types it then listed_row whole.sorts seen Start (tail_of items) else [] in
       let seen' = if is_types it then seen_after seen Start (tail_of items) else seen in
       let v' = with_item v it (tail_of items) in
-      let one = under_item edges seen v it (tail_of items) c.0 (λ n h. k n (known_items v' rest n h)) s (lists_front whole.sorts L row (listed_in whole.sorts seen' rest) l) u in
-      under_items (if is_types it then edges_each whole.sorts edges (named_words Start (tail_of items)) (named_sorts whole.sorts Start 0 (tail_of items)) else edges) seen' v' rest c.1 k one.0 (lists_back whole.sorts L row (listed_in whole.sorts seen' rest) l) one.1
+      let one = under_item edges seen v it (tail_of items) c.0
+      (λ n h. k n (known_items v' rest n h)) s (lists_front whole.sorts L row (listed_in whole.sorts seen' rest) l) u in
+      under_items (if is_types it
+      then edges_each whole.sorts edges (named_words Start (tail_of items)) (named_sorts whole.sorts Start 0 (tail_of items))
+      else edges) seen' v' rest c.1 k one.0 (lists_back whole.sorts L row (listed_in whole.sorts seen' rest) l) one.1
 
 -- ---- no cycles
 
@@ -343,7 +370,9 @@ first_sort ns (s ∷ ss) e f none =
 
 -- ---- all of it
 
-module _ (size : ℕ) (edges names : List (List ℕ)) (all : List sort.Sort) (L : ℕ → Type 0) (u : IsUnder size L edges) (free : (k : ℕ) → L k → ¬ (HasWay edges k k)) (are : AreSorts edges 0 names all) (long : length names ≡ size) (few : size ≤ 8388608) where
+module _ (size : ℕ) (edges names : List (List ℕ)) (all : List sort.Sort) (L : ℕ → Type 0) (u : IsUnder size L edges)
+    (free : (k : ℕ) → L k → ¬ (HasWay edges k k)) (are : AreSorts edges 0 names all) (long : length names ≡ size)
+    (few : size ≤ 8388608) where
   own : (k : ℕ) (s : sort.Sort) → slice_get all k ≡ Some s → IsAbove edges k s.above
   own k s e = let here : 0 + k ≡ k = omega arith in subst (λ n. IsAbove edges n s.above) here (sort_at edges 0 names all k s are e)
 
@@ -355,7 +384,8 @@ module _ (size : ℕ) (edges names : List (List ℕ)) (all : List sort.Sort) (L 
 
   reached_places : (k : ℕ) (above : List ℕ) → IsAbove edges k above → are_places size above ≡ true
   reached_places k above i =
-      let reached : list_all is_place i.reached ≡ true = all_from is_place i.reached (λ j b e. lt-ltb b size (within b (i.right.only b (number_there i.reached j b e)))) in
+      let reached : list_all is_place i.reached ≡ true =
+      all_from is_place i.reached (λ j b e. lt-ltb b size (within b (i.right.only b (number_there i.reached j b e)))) in
       ascends_places size above few (subst (Ascends 0 size) (sym i.sorted) (ascends_all size [] i.reached reached tt))
     where
       within : (b : ℕ) → HasWay edges k b → b < size
@@ -364,14 +394,22 @@ module _ (size : ℕ) (edges names : List (List ℕ)) (all : List sort.Sort) (L 
   sorts_fit : AreNames names → slice_get names 0 ≡ Some (codes "object") → AreFitSorts all
   sorts_fit are_names object = record {
     names = subst AreNames (sym (sorts_named edges 0 names all are)) are_names;
-    first = first_sort names all (sorts_named edges 0 names all are) object (λ s e. nothing_in s.above (λ b h. let w = above_way edges 0 s.above b (own 0 s e) h in from_first size edges L u free w.between b w.steps));
+    first = first_sort names all (sorts_named edges 0 names all are) object
+        (λ s e. nothing_in s.above
+        (λ b h. let w = above_way edges 0 s.above b (own 0 s e) h in from_first size edges L u free w.between b w.steps));
     short = le-leb (length all) 8388608 (omega (arith, many));
-    places = all_from (λ (s : sort.Sort). are_places (length all) s.above) all (λ k s e. subst (λ n. are_places n s.above ≡ true) (sym many) (reached_places k s.above (own k s e)));
-    proper = λ k s e. false_from_ne_true (has_above s k) (λ h. let w = above_way edges k s.above k (own k s e) h in none_around size edges L u free k w.between w.steps);
+    places = all_from (λ (s : sort.Sort). are_places (length all) s.above) all
+        (λ k s e. subst (λ n. are_places n s.above ≡ true) (sym many) (reached_places k s.above (own k s e)));
+    proper = λ k s e. false_from_ne_true (has_above s k)
+        (λ h. let w = above_way edges k s.above k (own k s e) h in none_around size edges L u free k w.between w.steps);
     closed = λ k a b s t at_k above_a at_a above_b.
         let first = above_way edges k s.above a (own k s at_k) above_a in
         let second = above_way edges a t.above b (own a t at_a) above_b in
-        way_above edges k s.above b (own k s at_k) (record { between = first.between ++ a ∷ second.between; steps = way_joined edges k first.between a second.between b first.steps second.steps });
+        way_above edges k s.above b (own k s at_k)
+        (record {
+          between = first.between ++ a ∷ second.between;
+          steps = way_joined edges k first.between a second.between b first.steps second.steps;
+        });
   }
 
 -- the types of a domain whose items have no faults and whose types are on no cycle
@@ -387,5 +425,7 @@ types_fit heads body all clean small none are =
     let edges = type_edges v.sorts body in
     let L : ℕ → Type 0 = λ k. is_candidate listed k ≡ true in
     let typed : 0 < length v.sorts = slice_get_within v.sorts 0 (codes "object") tables.object in
-    let u = under_items v heads L typed (first_edges v.sorts) [] no_names body clean (λ n h. h) (no_sort_seen v.sorts L) (λ k h. h) (first_under L v.sorts) in
-    sorts_fit (length v.sorts) edges v.sorts all L u (none_cyclic listed [] none refl) are refl (omega (arith, tables.sorts.few)) (record { each = tables.sorts.named; distinct = tables.sorts.distinct }) tables.object
+    let u = under_items v heads L typed (first_edges v.sorts) [] no_names body clean (λ n h. h) (no_sort_seen v.sorts L)
+    (λ k h. h) (first_under L v.sorts) in
+    sorts_fit (length v.sorts) edges v.sorts all L u (none_cyclic listed [] none refl) are refl
+    (omega (arith, tables.sorts.few)) (record { each = tables.sorts.named; distinct = tables.sorts.distinct }) tables.object

@@ -52,7 +52,9 @@ abbrev pub edges_in : (sorts edges : List (List ℕ)) → Trees → List (List �
 edges_in sorts edges nothing = edges
 edges_in sorts edges (word text at rest) = edges_in sorts edges rest
 edges_in sorts edges (list items at rest) =
-    edges_in sorts (if is_types (item_of Domain (head_of items)) then edges_each sorts edges (named_words Start (tail_of items)) (named_sorts sorts Start 0 (tail_of items)) else edges) rest
+    edges_in sorts (if is_types (item_of Domain (head_of items))
+    then edges_each sorts edges (named_words Start (tail_of items)) (named_sorts sorts Start 0 (tail_of items))
+    else edges) rest
 
 -- what each type is directly under
 abbrev pub type_edges : List (List ℕ) → Trees → List (List ℕ)
@@ -76,7 +78,8 @@ listed_in sorts seen nothing = []
 listed_in sorts seen (word text at rest) = listed_in sorts seen rest
 listed_in sorts seen (list items at rest) =
     (if is_types (item_of Domain (head_of items)) then listed_row sorts seen Start (tail_of items) else [])
-    ++ listed_in sorts (if is_types (item_of Domain (head_of items)) then seen_after seen Start (tail_of items) else seen) rest
+    ++ listed_in sorts
+    (if is_types (item_of Domain (head_of items)) then seen_after seen Start (tail_of items) else seen) rest
 
 -- all proper supertypes of a type, ascending
 pub record IsAbove (edges : List (List ℕ)) (k : ℕ) (above : List ℕ) : Type 0 where
@@ -103,7 +106,8 @@ abbrev pub mentions_in : (predicates edges : List (List ℕ)) → ℕ → Trees 
 mentions_in predicates edges from nothing = edges
 mentions_in predicates edges from (word text at rest) = mentions_in predicates edges from rest
 mentions_in predicates edges from (list items at rest) =
-    mentions_in predicates (mentions_in predicates (mention_put edges from (place_of (head_of items) predicates)) from items) from rest
+    mentions_in predicates
+    (mentions_in predicates (mention_put edges from (place_of (head_of items) predicates)) from items) from rest
 
 abbrev pub no_edges : List (List ℕ) → List (List ℕ)
 no_edges [] = []
@@ -121,7 +125,8 @@ body_put predicates edges (Some pred) body = mentions_in predicates edges pred b
 abbrev pub bodies_in : (predicates edges : List (List ℕ)) → Trees → List (List ℕ)
 bodies_in predicates edges nothing = edges
 bodies_in predicates edges (word text at rest) = bodies_in predicates edges rest
-bodies_in predicates edges (list items at rest) = bodies_in predicates (body_put predicates edges (derived_place predicates items) (tail_of (tail_of items))) rest
+bodies_in predicates edges (list items at rest) =
+    bodies_in predicates (body_put predicates edges (derived_place predicates items) (tail_of (tail_of items))) rest
 
 -- what each predicate depends on directly
 abbrev pub derived_edges : List (List ℕ) → Trees → List (List ℕ)

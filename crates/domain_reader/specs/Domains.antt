@@ -40,7 +40,8 @@ use Rattle.name_tables.specs.Texts.{body_of, value_at}
 -- those of a domain with these items that aren't of cycles
 abbrev pub plain_names : Vocabulary → Trees → List Fault
 plain_names v body =
-    items_names v (heads_in [] body) body ++ second_items text.Domain [] body ++ second_signatures Predicates [] body ++ second_signatures Functions [] body ++ second_actions [] body
+    items_names v (heads_in [] body) body ++ second_items text.Domain [] body ++ second_signatures Predicates [] body
+    ++ second_signatures Functions [] body ++ second_actions [] body
     ++ too_many_derived v.predicates.names [] body
 
 -- the answered one of a fault so far and of those of types on cycles
@@ -50,14 +51,17 @@ AnswersTypes v body so_far answered =
 
 -- the answered one of a fault so far and of those of derived predicates on cycles
 abbrev pub AnswersDerived : Vocabulary → Trees → (so_far answered : Option Fault) → Type 0
-AnswersDerived v body so_far answered = AnswersCycles DerivedCycle (derived_edges v.predicates.names body) (derived_in v.predicates.names body) so_far answered
+AnswersDerived v body so_far answered =
+    AnswersCycles DerivedCycle (derived_edges v.predicates.names body)
+    (derived_in v.predicates.names body) so_far answered
 
 -- these are all name faults of a domain with these names and items
 pub record AreNameFaults (v : Vocabulary) (body : Trees) (faults : List Fault) : Type 0 where
   pub types : List Fault
   pub types_right : CycleFaults TypeCycle (type_edges v.sorts body) (listed_in v.sorts [] body) types
   pub derived : List Fault
-  pub derived_right : CycleFaults DerivedCycle (derived_edges v.predicates.names body) (derived_in v.predicates.names body) derived
+  pub derived_right : CycleFaults DerivedCycle
+      (derived_edges v.predicates.names body) (derived_in v.predicates.names body) derived
   pub all : faults ≡ plain_names v body ++ types ++ derived
 
 pub record AnswersNames (v : Vocabulary) (body : Trees) (answered : Option Fault) : Type 0 where
@@ -76,7 +80,8 @@ abbrev pub constants_in : List (List ℕ) → Typed → Trees → Typed
 constants_in sorts t nothing = t
 constants_in sorts t (word w at rest) = constants_in sorts t rest
 constants_in sorts t (list items at rest) =
-    constants_in sorts (if is_constants (item_of text.Domain (head_of items)) then declare_each t (named_words Start (tail_of items)) (named_sorts sorts Start 0 (tail_of items)) else t) rest
+    constants_in sorts (if is_constants (item_of text.Domain (head_of items))
+    then declare_each t (named_words Start (tail_of items)) (named_sorts sorts Start 0 (tail_of items)) else t) rest
 
 abbrev pub nothing_done : Done
 nothing_done = record { adds = []; deletes = []; costs = [] }
@@ -95,7 +100,9 @@ action_of v items =
     record {
       name = head_of items;
       params = named_sorts v.sorts Start 0 (parameters_of (tail_of items));
-      condition = condition_of v (named_words Start (parameters_of (tail_of items))) (value_at (codes ":precondition") (tail_of items));
+      condition =
+          condition_of v (named_words Start (parameters_of (tail_of items)))
+          (value_at (codes ":precondition") (tail_of items));
       adds = (done_by v (tail_of items)).adds;
       deletes = (done_by v (tail_of items)).deletes;
       costs = (done_by v (tail_of items)).costs;

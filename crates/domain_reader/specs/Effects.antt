@@ -48,7 +48,8 @@ module _ (v : Vocabulary) (heads scope : List (List ℕ)) where
     pub effect_names : ℕ → Trees → List Fault
     effect_names place nothing = []
     effect_names place (word text at rest) =
-        by_effect (effect_head_of text) (effects_names rest) (negated_names rest) (cost_names v scope (tail_of rest)) [] (changed_names place (word text at rest))
+        by_effect (effect_head_of text) (effects_names rest) (negated_names rest)
+        (cost_names v scope (tail_of rest)) [] (changed_names place (word text at rest))
     effect_names place (list items at rest) = []
 
 -- What effects do: the atoms that they add and take away, and what they cost, in the order of the text.
@@ -84,5 +85,6 @@ module _ (v : Vocabulary) (scope : List (List ℕ)) where
     pub after_effect : Done → Trees → Done
     after_effect c nothing = c
     after_effect c (word text at rest) =
-        by_effect (effect_head_of text) (after_effects c rest) (taken c (inner_of rest)) (charged c (tail_of rest)) c (added c (word text at rest))
+        by_effect (effect_head_of text) (after_effects c rest) (taken c (inner_of rest))
+        (charged c (tail_of rest)) c (added c (word text at rest))
     after_effect c (list items at rest) = c

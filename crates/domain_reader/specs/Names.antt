@@ -43,7 +43,8 @@ predicates_names sorts (list items at rest) =
 
 -- the total cost is declared without arguments
 abbrev pub total_cost_names : ℕ → Trees → List Fault
-total_cost_names place items = unless (if is_total_cost (head_of items) then length (named_words Start (tail_of items)) == 0 else true) Arity place
+total_cost_names place items =
+    unless (if is_total_cost (head_of items) then length (named_words Start (tail_of items)) == 0 else true) Arity place
 
 abbrev pub functions_names : List (List ℕ) → Trees → List Fault
 functions_names sorts nothing = []
@@ -57,7 +58,9 @@ functions_names sorts (list items at rest) =
 -- the head of a derived predicate, as the list at this place: the predicate is there with so many arguments
 abbrev pub head_names : Vocabulary → ℕ → Trees → List Fault
 head_names v place items =
-    use_names (arity_of v.predicates (head_of items)) (length (named_words Start (tail_of items))) (place_of items) place ++ declaration_names v.sorts place (tail_of items)
+    use_names (arity_of v.predicates (head_of items)) (length (named_words Start (tail_of items)))
+    (place_of items) place
+    ++ declaration_names v.sorts place (tail_of items)
     ++ scope_names 0 Start (tail_of items)
 
 -- (NAME vars) cond
@@ -160,7 +163,8 @@ abbrev pub second_items : TextKind → List (List ℕ) → Trees → List Fault
 second_items text seen nothing = []
 second_items text seen (word w at rest) = second_items text seen rest
 second_items text seen (list items at rest) =
-    once (is_single (item_of text (head_of items))) (head_of items) at seen ++ second_items text (seen_once (is_single (item_of text (head_of items))) (head_of items) seen) rest
+    once (is_single (item_of text (head_of items))) (head_of items) at seen
+    ++ second_items text (seen_once (is_single (item_of text (head_of items))) (head_of items) seen) rest
 
 abbrev pub is_action : Item → Bool
 is_action item.Action = true
@@ -171,7 +175,8 @@ abbrev pub second_actions : List (List ℕ) → Trees → List Fault
 second_actions seen nothing = []
 second_actions seen (word w at rest) = second_actions seen rest
 second_actions seen (list items at rest) =
-    once (is_action (item_of Domain (head_of items))) (head_of (tail_of items)) at seen ++ second_actions (seen_once (is_action (item_of Domain (head_of items))) (head_of (tail_of items)) seen) rest
+    once (is_action (item_of Domain (head_of items))) (head_of (tail_of items)) at seen
+    ++ second_actions (seen_once (is_action (item_of Domain (head_of items))) (head_of (tail_of items)) seen) rest
 
 -- declarations in a row, of which each name may be there once
 abbrev pub second_declared : List (List ℕ) → Trees → List Fault
@@ -198,7 +203,8 @@ second_signatures d seen nothing = []
 second_signatures d seen (word w at rest) = second_signatures d seen rest
 second_signatures d seen (list items at rest) =
     (if declares d (item_of Domain (head_of items)) then second_declared seen (tail_of items) else [])
-    ++ second_signatures d (if declares d (item_of Domain (head_of items)) then declared_after seen (tail_of items) else seen) rest
+    ++ second_signatures d
+    (if declares d (item_of Domain (head_of items)) then declared_after seen (tail_of items) else seen) rest
 
 -- a `:derived` item of a predicate that is there
 abbrev pub counts_as_derived : List (List ℕ) → Trees → Bool
@@ -215,4 +221,5 @@ abbrev pub too_many_derived : (predicates heads : List (List ℕ)) → Trees →
 too_many_derived predicates heads nothing = []
 too_many_derived predicates heads (word w at rest) = too_many_derived predicates heads rest
 too_many_derived predicates heads (list items at rest) =
-    crowded (counts_as_derived predicates items) (headed items) at heads ++ too_many_derived predicates (seen_once (counts_as_derived predicates items) (headed items) heads) rest
+    crowded (counts_as_derived predicates items) (headed items) at heads
+    ++ too_many_derived predicates (seen_once (counts_as_derived predicates items) (headed items) heads) rest

@@ -10,6 +10,7 @@ use Rattle.form_reader.specs.Items.{item_of}
 use Rattle.form_reader.specs.Rows.{head_of, inner_of, is_dash, tail_of}
 use Rattle.name_tables.specs.Names.{Signed, with_name, with_signature}
 use Rattle.name_tables.specs.Variables.{named_words, seen_after}
+use Rattle.name_tables.specs.Vocabulary.{with_total_cost}
 use Rattle.name_tables.specs.declared.vocabulary.Vocabulary.{Vocabulary}
 
 -- the text's name
@@ -31,12 +32,14 @@ declared_arity name vars = if is_total_cost name then 0 else length (named_words
 abbrev pub predicates_in : Signed → Trees → Signed
 predicates_in s nothing = s
 predicates_in s (word text at rest) = predicates_in s rest
-predicates_in s (list items at rest) = predicates_in (with_signature s (head_of items) (length (named_words Start (tail_of items)))) rest
+predicates_in s (list items at rest) =
+    predicates_in (with_signature s (head_of items) (length (named_words Start (tail_of items)))) rest
 
 abbrev pub functions_in : Signed → Trees → Signed
 functions_in s nothing = s
 functions_in s (word text at rest) = functions_in s rest
-functions_in s (list items at rest) = functions_in (with_signature s (head_of items) (declared_arity (head_of items) (tail_of items))) rest
+functions_in s (list items at rest) =
+    functions_in (with_signature s (head_of items) (declared_arity (head_of items) (tail_of items))) rest
 
 -- the tables with what one item of a domain adds
 abbrev pub with_item : Vocabulary → Item → Trees → Vocabulary
@@ -65,11 +68,12 @@ with_items v (list items at rest) =
 
 -- before all items: the type `object`
 abbrev pub no_names : Vocabulary
-no_names = record { sorts = codes "object" ∷ []; predicates = record { names = []; arities = [] }; functions = record { names = []; arities = [] }; objects = [] }
-
--- an undeclared total cost is the last function
-abbrev pub with_total_cost : Vocabulary → Vocabulary
-with_total_cost v = record v { functions = with_signature v.functions (codes "total-cost") 0 }
+no_names = record {
+  sorts = codes "object" ∷ [];
+  predicates = record { names = []; arities = [] };
+  functions = record { names = []; arities = [] };
+  objects = [];
+}
 
 -- the names of a domain with these items
 abbrev pub vocabulary_of : Trees → Vocabulary
@@ -87,4 +91,5 @@ headed items = head_of (inner_of (tail_of items))
 abbrev pub heads_in : List (List ℕ) → Trees → List (List ℕ)
 heads_in names nothing = names
 heads_in names (word text at rest) = heads_in names rest
-heads_in names (list items at rest) = heads_in (if is_derived (item_of Domain (head_of items)) then with_name names (headed items) else names) rest
+heads_in names (list items at rest) =
+    heads_in (if is_derived (item_of Domain (head_of items)) then with_name names (headed items) else names) rest

@@ -23,7 +23,11 @@ impl Model for Changes {
 
     ghost Value = { Done };
 
-    ghost view = { λ c. record { adds = c.adds.items; deletes = c.deletes.items; costs = c.costs.items } };
+    ghost view = { λ c. record {
+      adds = c.adds.items;
+      deletes = c.deletes.items;
+      costs = c.costs.items;
+    } };
 }
 
 impl Changes {

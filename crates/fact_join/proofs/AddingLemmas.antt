@@ -58,7 +58,11 @@ adds_one P old y p only = (
   refl,
   record {
     distinct = distinct_cons y [] distinct_nil (contains_none y);
-    each = λ x. (λ m. elim (contains_cases y [] x m) [ inl e ↦ subst P e p | inr n ↦ absurd (contains_none x n) ], λ q. subst (Contains (y ∷ [])) (only x q) (contains_here y []));
+    each = λ x. (
+      λ m. elim (contains_cases y [] x m) [ inl e ↦ subst P e p | inr n ↦ absurd (contains_none x n) ],
+      λ q.
+          subst (Contains (y ∷ [])) (only x q) (contains_here y []),
+    );
   },
 )
 
@@ -84,11 +88,17 @@ adds_start Q ys old = adds_none (Among Q (take 0 ys)) old (λ x q. contains_none
 in_front : {B : Type 0} (ys : List B) (i : ℕ) (z : B) → Contains (take i ys) z → Contains ys z
 in_front ys zero z m = absurd (contains_none z m)
 in_front [] (suc i) z m = absurd (contains_none z m)
-in_front (w ∷ ws) (suc i) z m = elim (contains_cases w (take i ws) z m) [ inl e ↦ subst (Contains (w ∷ ws)) e (contains_here w ws) | inr n ↦ contains_later w ws z (in_front ws i z n) ]
+in_front (w ∷ ws) (suc i) z m = elim (contains_cases w (take i ws) z m) [
+  | inl e ↦ subst (Contains (w ∷ ws)) e (contains_here w ws)
+  | inr n ↦ contains_later w ws z (in_front ws i z n)
+]
 
-module _ {A B : Type 0} (Q : B → A → Type 0) (ys : List B) (apart : (y z : B) (x : A) → Contains ys y → Contains ys z → Q y x → Q z x → y ≡ z) (distinct : AreDistinct ys) (i : ℕ) (y : B) (at : slice_get ys i ≡ Some y) where
+module _ {A B : Type 0} (Q : B → A → Type 0) (ys : List B)
+    (apart : (y z : B) (x : A) → Contains ys y → Contains ys z → Q y x → Q z x → y ≡ z) (distinct : AreDistinct ys) (i : ℕ) (y : B)
+    (at : slice_get ys i ≡ Some y) where
   no_other : (x : A) → Among Q (take i ys) x → Q y x → ⊥
-  no_other x p q = new_at ys i y distinct at (subst (Contains (take i ys)) (apart p.0 y x (in_front ys i p.0 p.1) (member_at ys i y at) p.2 q) p.1)
+  no_other x p q =
+      new_at ys i y distinct at (subst (Contains (take i ys)) (apart p.0 y x (in_front ys i p.0 p.1) (member_at ys i y at) p.2 q) p.1)
 
   next_is : take (i + 1) ys ≡ take i ys ++ y ∷ []
   next_is = ap (λ n. take n ys) (add-one i) ∙ take_next ys i y at
@@ -116,7 +126,11 @@ module _ {A B : Type 0} (Q : B → A → Type 0) (ys : List B) (apart : (y z : B
       from x (z, m, q) =
           elim (Contains-append_cases (take i ys) (y ∷ []) z m) [
             | inl h ↦ Contains-append_left xs zs x ((all.each x).1 (z, h, q))
-            | inr t ↦ elim (contains_cases y [] z t) [ inl e ↦ Contains-append_right xs zs x ((those.each x).1 (subst (λ w. Q w x) (sym e) q)) | inr n ↦ absurd (contains_none z n) ]
+            | inr t ↦ elim (contains_cases y [] z t) [
+              | inl e ↦ Contains-append_right xs zs x
+                  ((those.each x).1 (subst (λ w. Q w x) (sym e) q))
+              | inr n ↦ absurd (contains_none z n)
+            ]
           ]
 
   pub comes_next : (most : ℕ) (first now : List A) (fault : JoinFault) → Adds (Among Q (take i ys)) first now
@@ -137,4 +151,5 @@ pub adds_whole : {A B : Type 0} (P : A → Type 0) (Q : B → A → Type 0) (ys 
     → ((x : A) → P x ↔ Among Q ys x)
     → Adds (Among Q (take i ys)) old new → Adds P old new
 adds_whole P Q ys i old new whole same adds =
-    adds_same (Among Q ys) P old new (λ x. ((same x).1, (same x).0)) (subst (λ front. Adds (Among Q front) old new) (take_all i ys whole) adds)
+    adds_same (Among Q ys) P old new (λ x. ((same x).1, (same x).0))
+    (subst (λ front. Adds (Among Q front) old new) (take_all i ys whole) adds)

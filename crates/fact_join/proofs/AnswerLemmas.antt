@@ -77,7 +77,8 @@ module _ (known : Known) (sorts : List ℕ) (wants : List ℕ → Bool) where
 
   pub by_objects : (partial : Partial) (atoms : List QueryAtom) (slot sort : ℕ)
       → slice_get sorts slot ≡ Some sort → (tuple : List ℕ)
-      → IsAnswer known sorts wants partial atoms tuple ↔ Among (IsAnswerAt known sorts wants partial atoms slot) (objects_of known.facts sort) tuple
+      → IsAnswer known sorts wants partial atoms tuple
+      ↔ Among (IsAnswerAt known sorts wants partial atoms slot) (objects_of known.facts sort) tuple
   by_objects partial atoms slot sort at tuple = (
     λ a.
         let r = typed_at known tuple sorts slot sort a.types at in
@@ -98,7 +99,8 @@ module _ (known : Known) (sorts : List ℕ) (wants : List ℕ → Bool) where
 
   -- the first atom is known, and the tuple answers the others
   pub answer_cons : (partial : Partial) (atom : QueryAtom) (atoms : List QueryAtom) (tuple : List ℕ)
-      → IsAnswer known sorts wants partial (atom ∷ atoms) tuple ↔ ((is_known known (slots_of tuple) atom ≡ true) × IsAnswer known sorts wants partial atoms tuple)
+      → IsAnswer known sorts wants partial (atom ∷ atoms) tuple
+      ↔ ((is_known known (slots_of tuple) atom ≡ true) × IsAnswer known sorts wants partial atoms tuple)
   answer_cons partial atom atoms tuple = (
     λ a. (
       first_so (is_known known (slots_of tuple) atom) (list_all (is_known known (slots_of tuple)) atoms) a.known_atoms,
@@ -119,17 +121,24 @@ module _ (known : Known) (sorts : List ℕ) (wants : List ℕ → Bool) where
 
   pub by_facts : (partial : Partial) (atom : QueryAtom) (atoms : List QueryAtom) (lead : Lead)
       → IsLead known partial atom lead → (tuple : List ℕ)
-      → IsAnswer known sorts wants partial (atom ∷ atoms) tuple ↔ Among (IsAnswerBy known sorts wants partial atom.terms.now atoms) (matches_of known.facts atom.pred lead.place lead.object) tuple
+      → IsAnswer known sorts wants partial (atom ∷ atoms) tuple
+      ↔ Among (IsAnswerBy known sorts wants partial atom.terms.now atoms) (matches_of known.facts atom.pred lead.place lead.object)
+      tuple
   by_facts partial atom atoms lead leads tuple = (
     λ a.
         let r = (answer_cons partial atom atoms tuple).0 a in
         let args = objects_at (slots_of tuple) atom.terms.now in
         let there = (fact_member known.facts (atom_fact atom.pred args)).0 r.0 in
-        let matches = is_match_at atom.pred lead.place lead.object args (leads.fixed (slots_of tuple) a.agrees) in
-        (atom_fact atom.pred args, into_filter (is_match atom.pred lead.place lead.object) known.facts (atom_fact atom.pred args) there matches, (refl, r.1)),
+        let matches = is_match_at atom.pred lead.place lead.object args (leads.fixed (slots_of tuple) a.agrees) in (
+          atom_fact atom.pred args,
+          into_filter (is_match atom.pred lead.place lead.object) known.facts (atom_fact atom.pred args) there
+              matches,
+          (refl, r.1),
+        ),
     λ (fact, m, (is, a)).
         let r = from_filter (is_match atom.pred lead.place lead.object) known.facts fact m in
-        let same : fact ≡ atom_fact atom.pred (objects_at (slots_of tuple) atom.terms.now) = match_is atom.pred lead.place lead.object fact r.1 ∙ ap (atom_fact atom.pred) (sym is) in
+        let same : fact ≡ atom_fact atom.pred (objects_at (slots_of tuple) atom.terms.now) =
+        match_is atom.pred lead.place lead.object fact r.1 ∙ ap (atom_fact atom.pred) (sym is) in
         (answer_cons partial atom atoms tuple).1 ((fact_member known.facts _).1 (subst (Contains known.facts) same r.0), a),
   )
 
@@ -180,7 +189,8 @@ pub terms_at : (width : ℕ) (atoms : List QueryAtom) (place : ℕ) (atom : Quer
     → list_all (is_atom_of width) atoms ≡ true → slice_get atoms place ≡ Some atom
     → list_all (is_term_of width) atom.terms.now ≡ true
 terms_at width atoms place atom e at =
-    second_so (nat_le (length atom.terms.now) 8) (list_all (is_term_of width) atom.terms.now) (all_at (is_atom_of width) atoms place atom e at)
+    second_so (nat_le (length atom.terms.now) 8) (list_all (is_term_of width) atom.terms.now)
+    (all_at (is_atom_of width) atoms place atom e at)
 
 pub atom_terms : (width : ℕ) (atom : QueryAtom) (atoms : List QueryAtom)
     → list_all (is_atom_of width) (atom ∷ atoms) ≡ true
@@ -192,7 +202,9 @@ pub readable_terms : (width : ℕ) (terms : List Term) → width ≤ 16
     → list_all is_readable_term terms ≡ true
 readable_terms width [] le e = refl
 readable_terms width (term ∷ terms) le e =
-    and_from (is_readable_term term) (list_all is_readable_term terms) (one term (first_so (is_term_of width term) (list_all (is_term_of width) terms) e)) (readable_terms width terms le (second_so (is_term_of width term) (list_all (is_term_of width) terms) e))
+    and_from (is_readable_term term) (list_all is_readable_term terms)
+    (one term (first_so (is_term_of width term) (list_all (is_term_of width) terms) e))
+    (readable_terms width terms le (second_so (is_term_of width term) (list_all (is_term_of width) terms) e))
   where
     one : (t : Term) → is_term_of width t ≡ true → is_readable_term t ≡ true
     one (Slot n) f = grind (arith, nat_tests, le, f)

@@ -55,7 +55,8 @@ module _ {A B : Type 0} (h : A → Option B) where
       by None e rest = subst (λ o. AreDistinct (cons_option o (filter_map h xs))) (sym e) rest
       by (Some w) e rest =
           subst (λ o. AreDistinct (cons_option o (filter_map h xs))) (sym e)
-          (distinct_cons w (filter_map h xs) rest (λ m. let r = from_mapped xs w m in head_is_new x xs d (subst (Contains xs) (sym (one x r.0 w e r.2)) r.1)))
+          (distinct_cons w (filter_map h xs) rest (λ m. let r = from_mapped xs w m in head_is_new x xs d
+          (subst (Contains xs) (sym (one x r.0 w e r.2)) r.1)))
 
 -- ---- what passes a test
 
@@ -64,7 +65,11 @@ module _ {A : Type 0} (p : A → Bool) where
   from_filter [] y m = absurd (contains_none y m)
   from_filter (x ∷ xs) y m =
       elim (p x) as (λ b. p x ≡ b → Contains (cond b (x ∷ filter p xs) (filter p xs)) y → Contains (x ∷ xs) y × (p y ≡ true)) [
-        | true ↦ λ e n. elim (contains_cases x (filter p xs) y n) [ inl same ↦ (subst (Contains (x ∷ xs)) same (contains_here x xs), ap p (sym same) ∙ e) | inr t ↦ let r = from_filter xs y t in (contains_later x xs y r.0, r.1) ]
+        | true ↦ λ e n. elim (contains_cases x (filter p xs) y n) [
+          | inl same ↦
+              (subst (Contains (x ∷ xs)) same (contains_here x xs), ap p (sym same) ∙ e)
+          | inr t ↦ let r = from_filter xs y t in (contains_later x xs y r.0, r.1)
+        ]
         | false ↦ λ e n. let r = from_filter xs y n in (contains_later x xs y r.0, r.1)
       ] refl m
 
@@ -72,7 +77,8 @@ module _ {A : Type 0} (p : A → Bool) where
   into_filter [] y m e = absurd (contains_none y m)
   into_filter (x ∷ xs) y m e =
       elim (contains_cases x xs y m) [
-        | inl same ↦ subst (λ b. Contains (cond b (x ∷ filter p xs) (filter p xs)) y) (sym (ap p same ∙ e)) (subst (Contains (x ∷ filter p xs)) same (contains_here x (filter p xs)))
+        | inl same ↦ subst (λ b. Contains (cond b (x ∷ filter p xs) (filter p xs)) y) (sym (ap p same ∙ e))
+            (subst (Contains (x ∷ filter p xs)) same (contains_here x (filter p xs)))
         | inr t ↦ later (p x) (into_filter xs y t e)
       ]
     where
@@ -119,7 +125,8 @@ objects_distinct facts sort d =
 pub has_object : (known : Known) (sort object : ℕ)
     → (has_type known object sort ≡ true) ↔ Contains (objects_of known.facts sort) object
 has_object known sort object = (
-  λ e. into_mapped (object_with sort) known.facts (type_fact sort object) object ((fact_member known.facts (type_fact sort object)).0 e) (object_itself sort object),
+  λ e. into_mapped (object_with sort) known.facts (type_fact sort object) object ((fact_member known.facts (type_fact sort object)).0 e)
+      (object_itself sort object),
   λ m.
       let r = from_mapped (object_with sort) known.facts object m in
       (fact_member known.facts (type_fact sort object)).1 (subst (Contains known.facts) (object_is sort object r.0 r.2) r.1),

@@ -24,13 +24,17 @@ terms_of : (objects width : ℕ) (ts : List Term)
     → list_all (is_term_of width) ts ≡ true
 terms_of objects width [] e = refl
 terms_of objects width (t ∷ ts) e =
-    and_from (is_term_of width t) (list_all (is_term_of width) ts) (term_of objects width t (first_so (is_fit_term objects (numbers_from 0 width) t) _ e)) (terms_of objects width ts (second_so (is_fit_term objects (numbers_from 0 width) t) _ e))
+    and_from (is_term_of width t) (list_all (is_term_of width) ts)
+    (term_of objects width t (first_so (is_fit_term objects (numbers_from 0 width) t) _ e))
+    (terms_of objects width ts (second_so (is_fit_term objects (numbers_from 0 width) t) _ e))
 
 -- the terms of a fit atom over the first slots are those of an atom of a tuple as long
 pub fit_terms : (all : List Signature) → list_all (λ (s : Signature). nat_le s.arity 8) all ≡ true
     → (objects width pred : ℕ) (terms : List Term)
-    → is_fit_application all objects (numbers_from 0 width) pred terms ≡ true → (nat_le (length terms) 8 && list_all (is_term_of width) terms) ≡ true
+    → is_fit_application all objects (numbers_from 0 width) pred terms ≡ true
+    → (nat_le (length terms) 8 && list_all (is_term_of width) terms) ≡ true
 fit_terms all few objects width pred terms e =
     let arity = first_so (has_arity all pred (length terms)) (list_all (is_fit_term objects (numbers_from 0 width)) terms) e in
     let each = second_so (has_arity all pred (length terms)) (list_all (is_fit_term objects (numbers_from 0 width)) terms) e in
-    and_from (nat_le (length terms) 8) (list_all (is_term_of width) terms) (few_arguments all pred (length terms) few arity) (terms_of objects width terms each)
+    and_from (nat_le (length terms) 8) (list_all (is_term_of width) terms) (few_arguments all pred (length terms) few arity)
+    (terms_of objects width terms each)

@@ -18,7 +18,9 @@ use Rattle.fact_join.specs.declared.query.QueryAtom.{QueryAtom}
 
 -- ---- one atom more
 
-module _ (known : Known) (partial : Partial) (atoms : List QueryAtom) (place : ℕ) (atom : QueryAtom) (at : slice_get atoms place ≡ Some atom) (args : List ℕ) (ground : (slots : List ℕ) → Agrees partial slots → objects_at slots atom.terms.now ≡ args) where
+module _ (known : Known) (partial : Partial) (atoms : List QueryAtom) (place : ℕ) (atom : QueryAtom)
+    (at : slice_get atoms place ≡ Some atom) (args : List ℕ)
+    (ground : (slots : List ℕ) → Agrees partial slots → objects_at slots atom.terms.now ≡ args) where
   here : (slots : List ℕ) → Agrees partial slots
       → is_known known slots atom ≡ is_fact known.facts (atom_fact atom.pred args)
   here slots agrees = ap (λ xs. is_fact known.facts (atom_fact atom.pred xs)) (ground slots agrees)
@@ -26,7 +28,8 @@ module _ (known : Known) (partial : Partial) (atoms : List QueryAtom) (place : �
   pub known_next : is_fact known.facts (atom_fact atom.pred args) ≡ true → AreKnown known partial (take place atoms)
       → AreKnown known partial (take (place + 1) atoms)
   known_next is before slots agrees =
-      let one : list_all (is_known known slots) (atom ∷ []) ≡ true = and_from (is_known known slots atom) true (here slots agrees ∙ is) refl in
+      let one : list_all (is_known known slots) (atom ∷ []) ≡ true =
+      and_from (is_known known slots atom) true (here slots agrees ∙ is) refl in
       let next : place + 1 ≡ suc place = omega arith in
       ap (λ n. list_all (is_known known slots) (take n atoms)) next ∙ ap (list_all (is_known known slots)) (take_next atoms place atom at)
       ∙ all_append (is_known known slots) (take place atoms) (atom ∷ []) (before slots agrees) one
@@ -41,7 +44,8 @@ module _ (known : Known) (partial : Partial) (atoms : List QueryAtom) (place : �
 all_dropped : {A : Type 0} (p : A → Bool) (n : ℕ) (xs : List A) → list_all p xs ≡ true
     → list_all p (drop n xs) ≡ true
 all_dropped p n xs all =
-    let parts : (list_all p (take n xs) && list_all p (drop n xs)) ≡ true = sym (list_all-append p (take n xs) (drop n xs)) ∙ ap (list_all p) (take-append-drop n xs) ∙ all in
+    let parts : (list_all p (take n xs) && list_all p (drop n xs)) ≡ true =
+    sym (list_all-append p (take n xs) (drop n xs)) ∙ ap (list_all p) (take-append-drop n xs) ∙ all in
     second_so (list_all p (take n xs)) (list_all p (drop n xs)) parts
 
 -- ---- the atoms that are left
@@ -68,7 +72,8 @@ module _ (known : Known) (partial : Partial) where
 module _ (known : Known) (sorts : List ℕ) (wants : List ℕ → Bool) (partial : Partial) where
   -- where both make the same of the atoms, the answers are the same
   answer_as : (first second : List QueryAtom) (tuple : List ℕ)
-      → (Agrees partial (slots_of tuple) → list_all (is_known known (slots_of tuple)) first ≡ true → list_all (is_known known (slots_of tuple)) second ≡ true)
+      → (Agrees partial (slots_of tuple) → list_all (is_known known (slots_of tuple)) first ≡ true
+      → list_all (is_known known (slots_of tuple)) second ≡ true)
       → IsAnswer known sorts wants partial first tuple → IsAnswer known sorts wants partial second tuple
   answer_as first second tuple so a = record {
     agrees = a.agrees;
@@ -90,7 +95,8 @@ module _ (known : Known) (sorts : List ℕ) (wants : List ℕ → Bool) (partial
       → IsAnswer known sorts wants partial left tuple ↔ IsAnswer known sorts wants partial atoms tuple
   answer_left atoms slot left are tuple = (
     answer_as left atoms tuple (λ agrees rest.
-        ap (list_all test) (sym parts) ∙ all_append test front back (are.settled (slots_of tuple) agrees) (ap (list_all test) (sym are.rest) ∙ rest)),
+        ap (list_all test) (sym parts) ∙ all_append test front back (are.settled (slots_of tuple) agrees)
+        (ap (list_all test) (sym are.rest) ∙ rest)),
     answer_as atoms left tuple (λ agrees all. ap (list_all test) are.rest ∙ all_dropped test are.before atoms all),
   )
     where

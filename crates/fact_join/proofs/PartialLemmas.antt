@@ -35,7 +35,8 @@ unlike i k f e = both_ways (i == k) f (eq-eqb i k e)
 not_free : (o : ℕ) (y : Option (Option ℕ)) → y ≡ Some (Some o) → y ≡ Some None → ⊥
 not_free o y e f = absurd (cc)
 
-module _ (partial left : Partial) (slot object : ℕ) (below : slot < 16) (free : slice_get partial.slots slot ≡ Some None) (is : left.slots ≡ slice_set partial.slots slot (Some object)) where
+module _ (partial left : Partial) (slot object : ℕ) (below : slot < 16) (free : slice_get partial.slots slot ≡ Some None)
+    (is : left.slots ≡ slice_set partial.slots slot (Some object)) where
   here : slice_get left.slots slot ≡ Some (Some object)
   here = ap (λ os. slice_get os slot) is ∙ get_set partial.slots slot None (Some object) free
 
@@ -45,7 +46,11 @@ module _ (partial left : Partial) (slot object : ℕ) (below : slot < 16) (free 
   pub filled_agrees : (slots : List ℕ)
       → Agrees left slots ↔ (Agrees partial slots × (slice_index slots slot ≡ object))
   filled_agrees slots = (
-    λ a. (λ k o lt e. a k o lt (elsewhere k (λ same. not_free o (slice_get partial.slots k) e (ap (slice_get partial.slots) (sym same) ∙ free)) ∙ e), a slot object below here),
+    λ a. (
+      λ k o lt e. a k o lt (elsewhere k (λ same. not_free o (slice_get partial.slots k) e
+          (ap (slice_get partial.slots) (sym same) ∙ free)) ∙ e),
+      a slot object below here,
+    ),
     λ (a, at) k o lt e.
         elim (slot == k) as (λ b. (slot == k) ≡ b → slice_index slots k ≡ o) [
           | true ↦ λ t.
@@ -66,7 +71,8 @@ module _ (partial left : Partial) (slot object : ℕ) (below : slot < 16) (free 
           let f : Option ℕ → ℕ = λ x. cond (is_none x) 1 0 in
           let none : Option ℕ = None in
           let was : f (get_or os i none) ≡ 1 = ap f (get_or_from_slice_get os i none none e) in
-          let moved : count_by is_none (slice_set os i (Some o)) + f (get_or os i none) ≡ count_by is_none os + 0 = sum_by-set f os i (Some o) none (slice_get_within os i none e) in
+          let moved : count_by is_none (slice_set os i (Some o)) + f (get_or os i none) ≡ count_by is_none os + 0 =
+          sum_by-set f os i (Some o) none (slice_get_within os i none e) in
           omega (arith, was, moved)
 
 -- ---- what is left

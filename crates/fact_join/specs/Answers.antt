@@ -27,7 +27,8 @@ abbrev pub is_known : Known → List ℕ → QueryAtom → Bool
 is_known known slots atom = is_fact known.facts (atom_fact atom.pred (objects_at slots atom.terms.now))
 
 -- The tuple agrees with the partial one, its objects have the types, the atoms are known facts, and it is wanted.
-pub record IsAnswer (known : Known) (sorts : List ℕ) (wants : List ℕ → Bool) (partial : Partial) (atoms : List QueryAtom) (tuple : List ℕ) : Type 0 where
+pub record IsAnswer (known : Known) (sorts : List ℕ) (wants : List ℕ → Bool) (partial : Partial)
+    (atoms : List QueryAtom) (tuple : List ℕ) : Type 0 where
   pub agrees : Agrees partial (slots_of tuple)
   pub types : have_types known tuple sorts ≡ true
   pub known_atoms : list_all (is_known known (slots_of tuple)) atoms ≡ true
@@ -40,12 +41,14 @@ pub record IsAskable (sorts : List ℕ) (can_judge : List ℕ → Type 0) (atoms
   pub judged : (tuple : List ℕ) → length tuple ≡ length sorts → can_judge tuple
 
 -- the answers stand behind the old rows, each once
-abbrev pub AddsAnswers : Known → List ℕ → (List ℕ → Bool) → Partial → List QueryAtom → List (List ℕ) → List (List ℕ) → Type 0
+abbrev pub AddsAnswers : Known → List ℕ → (List ℕ → Bool) → Partial → List QueryAtom → List (List ℕ)
+    → List (List ℕ) → Type 0
 AddsAnswers known sorts wants partial atoms old new =
     Adds (IsAnswer known sorts wants partial atoms) old new
 
 -- what is true where not all answers were added
-abbrev pub LacksAnswers : ℕ → Known → List ℕ → (List ℕ → Bool) → Partial → List QueryAtom → List (List ℕ) → JoinFault → Type 0
+abbrev pub LacksAnswers : ℕ → Known → List ℕ → (List ℕ → Bool) → Partial → List QueryAtom → List (List ℕ)
+    → JoinFault → Type 0
 LacksAnswers most known sorts wants partial atoms old fault =
     ComesOf most (IsAnswer known sorts wants partial atoms) old fault
 

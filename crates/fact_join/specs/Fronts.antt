@@ -16,7 +16,8 @@ AreKnown known partial atoms =
     (slots : List ℕ) → Agrees partial slots → list_all (is_known known slots) atoms ≡ true
 
 -- All atoms are known where the last ones, which are left, are, and one of them has the slot, which is free.
-pub record AreLeft (known : Known) (partial : Partial) (atoms : List QueryAtom) (slot : ℕ) (left : List QueryAtom) : Type 0 where
+pub record AreLeft (known : Known) (partial : Partial) (atoms : List QueryAtom) (slot : ℕ)
+    (left : List QueryAtom) : Type 0 where
   pub before : ℕ
   pub rest : left ≡ drop before atoms
   pub settled : AreKnown known partial (take before atoms)

@@ -1,8 +1,5 @@
 //! The join.
-ghost use Rattle.std.specs.Prelude.{[], ◌↔◌, IsTrue, ◌≡◌, ◌≤◌, ◌<◌, ◌∷◌, List, ℕ, length, true, Some, None, OnOk, IfErr, slice_get};
-ghost use Rattle.std.specs.List.{list_all};
-ghost use Rattle.task_model.specs.Known.{is_fact, atom_fact, objects_of};
-ghost use Rattle.task_model.specs.Truth.{objects_at, slots_of};
+ghost use Rattle.std.specs.Prelude.{[], ◌↔◌, IsTrue, ◌≡◌, ◌≤◌, ◌<◌, ◌∷◌, length, Some, None, OnOk, IfErr, slice_get};
 ghost use Rattle.fact_join.specs.Adding.{Adds, ComesOf};
 ghost use Rattle.fact_join.specs.Answers.{IsAnswer, IsAskable, AddsAnswers, LacksAnswers, IsAnswerBy};
 ghost use Rattle.fact_join.specs.Leads.{IsLead};
@@ -81,14 +78,17 @@ fn follow<L: Look, W: Wanted, const N: usize>(
     rest: &[QueryAtom<'_>],
     rows: &mut Vec<Objects<N>>,
 ) -> Result<(), JoinFault>
-    requires query { IsAskable query.now.sorts.now (W.can_judge query.now.wanted.now) (atom.now ∷ rest.now) }
+    requires query { IsAskable query.now.sorts.now (W.can_judge query.now.wanted.now)
+        (atom.now ∷ rest.now) }
     requires lead { IsLead (L.known query.now.look.now) partial.now atom.now lead.now }
     requires few { length rows.old.items ≤ query.now.most }
     ensures found { OnOk result (AddsAnswers (L.known query.now.look.now) query.now.sorts.now
-        (W.wants query.now.wanted.now) partial.now (atom.now ∷ rest.now) rows.old.items rows.new.items) }
+        (W.wants query.now.wanted.now) partial.now (atom.now ∷ rest.now) rows.old.items
+        rows.new.items) }
     ensures few { OnOk result (length rows.new.items ≤ query.now.most) }
     ensures fault { IfErr result (LacksAnswers query.now.most (L.known query.now.look.now)
-        query.now.sorts.now (W.wants query.now.wanted.now) partial.now (atom.now ∷ rest.now) rows.old.items) }
+        query.now.sorts.now (W.wants query.now.wanted.now) partial.now (atom.now ∷ rest.now)
+        rows.old.items) }
 {
     for number in 0..lead.count {
         let fact = query
@@ -109,7 +109,8 @@ fn join_fact<L: Look, W: Wanted, const N: usize>(
     rest: &[QueryAtom<'_>],
     rows: &mut Vec<Objects<N>>,
 ) -> Result<(), JoinFault>
-    requires query { IsAskable query.now.sorts.now (W.can_judge query.now.wanted.now) (atom.now ∷ rest.now) }
+    requires query { IsAskable query.now.sorts.now (W.can_judge query.now.wanted.now)
+        (atom.now ∷ rest.now) }
     requires few { length rows.old.items ≤ query.now.most }
     ensures found { OnOk result (Adds (IsAnswerBy (L.known query.now.look.now) query.now.sorts.now
         (W.wants query.now.wanted.now) partial.now atom.now.terms.now rest.now fact.now)

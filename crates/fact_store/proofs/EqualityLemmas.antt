@@ -10,7 +10,8 @@ use Rattle.task_model.specs.contracts.fact.FactPartialEq.TheImpl as fact
 use Rattle.task_model.specs.contracts.task.ValuedPartialEq.TheImpl as valued
 
 by_parts : (k : Kind) (n : ℕ) (xs : List ℕ) (l : Kind) (m : ℕ) (ys : List ℕ)
-    → fact.eq-value.it (record { kind = k; name = n; args = xs }) (record { kind = l; name = m; args = ys }) ≡ same_fact (record { kind = k; name = n; args = xs }) (record { kind = l; name = m; args = ys })
+    → fact.eq-value.it (record { kind = k; name = n; args = xs }) (record { kind = l; name = m; args = ys })
+    ≡ same_fact (record { kind = k; name = n; args = xs }) (record { kind = l; name = m; args = ys })
 by_parts Predicate n xs Predicate m ys = refl
 by_parts Predicate n xs Sort m ys = refl
 by_parts Sort n xs Predicate m ys = refl

@@ -22,11 +22,15 @@ module _ (sort : ℕ) where
     where
       step : (k : Kind) (n : ℕ) (args : List ℕ)
           → map first_of (facts_with Objects (sort, 0) fs) ≡ map Some (objects_of fs sort)
-          → map first_of (facts_with Objects (sort, 0) (record { kind = k; name = n; args = args } ∷ fs)) ≡ map Some (objects_of (record { kind = k; name = n; args = args } ∷ fs) sort)
+          → map first_of (facts_with Objects (sort, 0) (record { kind = k; name = n; args = args } ∷ fs))
+          ≡ map Some (objects_of (record { kind = k; name = n; args = args } ∷ fs) sort)
       step Predicate n args rest = rest
       step Sort n [] rest = rest
       step Sort n (o ∷ []) rest =
-          elim (n == sort) as (λ b. map first_of (cond (b && true) (record { kind = Sort; name = n; args = o ∷ [] } ∷ facts_with Objects (sort, 0) fs) (facts_with Objects (sort, 0) fs)) ≡ map Some (cons_option (cond b (Some o) None) (objects_of fs sort))) [
+          elim (n == sort) as (λ b.
+          map first_of (cond (b && true) (record { kind = Sort; name = n; args = o ∷ [] } ∷ facts_with Objects (sort, 0) fs)
+          (facts_with Objects (sort, 0) fs))
+          ≡ map Some (cons_option (cond b (Some o) None) (objects_of fs sort))) [
             | true ↦ ap (λ xs. Some o ∷ xs) rest
             | false ↦ rest
           ]

@@ -10,7 +10,8 @@ use Rattle.fact_store.proofs.StoreLemmas.{name_found, name_absent}
 use Rattle.lemmas.proofs.ListTests.{find_passes}
 
 -- what is found passes the test
-module _ {A : Type 0} (bytes_of : A → List ℕ) (keys : List A) (names : List (List ℕ)) (same : map bytes_of keys ≡ names) (name : List ℕ) where
+module _ {A : Type 0} (bytes_of : A → List ℕ) (keys : List A) (names : List (List ℕ))
+    (same : map bytes_of keys ≡ names) (name : List ℕ) where
   -- the name stands where the key stands that is found
   pub found_name : (place : ℕ) (key : A) → slice_get keys place ≡ Some key
       → find (λ k. same_numbers name (bytes_of k)) keys ≡ Some key
@@ -24,7 +25,8 @@ module _ {A : Type 0} (bytes_of : A → List ℕ) (keys : List A) (names : List 
       → ¬ (Contains names name)
   absent_name absent m =
       let there : list_any (same_numbers name) names ≡ true = name_found names name m in
-      let not_there : list_any (same_numbers name) names ≡ false = ap (list_any (same_numbers name)) (sym same) ∙ sym (any_mapped bytes_of (same_numbers name) keys) ∙ absent in
+      let not_there : list_any (same_numbers name) names ≡ false =
+      ap (list_any (same_numbers name)) (sym same) ∙ sym (any_mapped bytes_of (same_numbers name) keys) ∙ absent in
       absurd (cc)
 
 -- a new key is put behind the others, as its name is
@@ -33,7 +35,9 @@ pub key_pushed : {A : Type 0} (bytes_of : A → List ℕ) (old new : List A) (ke
     → new ≡ cond (list_any (λ k. same_numbers (bytes_of key) (bytes_of k)) old) old (old ++ key ∷ [])
     → map bytes_of new ≡ names ++ name ∷ []
 key_pushed bytes_of old new key names name same is absent grown =
-    let none : list_any (λ k. same_numbers (bytes_of key) (bytes_of k)) old ≡ false = any_mapped bytes_of (same_numbers (bytes_of key)) old ∙ (λ i. list_any (same_numbers (is i)) (same i)) ∙ name_absent names name absent in
+    let none : list_any (λ k. same_numbers (bytes_of key) (bytes_of k)) old ≡ false =
+    any_mapped bytes_of (same_numbers (bytes_of key)) old ∙ (λ i. list_any (same_numbers (is i)) (same i))
+    ∙ name_absent names name absent in
     ap (map bytes_of) (grown ∙ ap (λ b. cond b old (old ++ key ∷ [])) none) ∙ map_push bytes_of old key ∙ (λ i. same i ++ is i ∷ [])
 
 -- what a push onto names that kept their members leaves
@@ -58,11 +62,14 @@ not_false : (b : Bool) → false ≡ not b → b ≡ true
 not_false true e = refl
 not_false false e = absurd (cc)
 
-module _ {A : Type 0} (bytes_of : A → List ℕ) (old new : List A) (key : A) (names : List (List ℕ)) (name : List ℕ) (same : map bytes_of old ≡ names) (is : bytes_of key ≡ name) (put : new ≡ cond (list_any (λ k. same_numbers (bytes_of key) (bytes_of k)) old) old (old ++ key ∷ [])) where
+module _ {A : Type 0} (bytes_of : A → List ℕ) (old new : List A) (key : A) (names : List (List ℕ)) (name : List ℕ)
+    (same : map bytes_of old ≡ names) (is : bytes_of key ≡ name)
+    (put : new ≡ cond (list_any (λ k. same_numbers (bytes_of key) (bytes_of k)) old) old (old ++ key ∷ [])) where
   -- a new one goes last
   pub fresh_name : true ≡ not (list_any (λ k. same_numbers (bytes_of key) (bytes_of k)) old)
       → ¬ (Contains names name)
-  fresh_name fresh = absent_name bytes_of old names same name (ap (λ n. list_any (λ k. same_numbers n (bytes_of k)) old) (sym is) ∙ not_true _ fresh)
+  fresh_name fresh =
+      absent_name bytes_of old names same name (ap (λ n. list_any (λ k. same_numbers n (bytes_of k)) old) (sym is) ∙ not_true _ fresh)
 
   pub fresh_keys : true ≡ not (list_any (λ k. same_numbers (bytes_of key) (bytes_of k)) old)
       → map bytes_of new ≡ names ++ name ∷ []
@@ -72,7 +79,9 @@ module _ {A : Type 0} (bytes_of : A → List ℕ) (old new : List A) (key : A) (
   pub old_name : false ≡ not (list_any (λ k. same_numbers (bytes_of key) (bytes_of k)) old)
       → names ≡ with_name names name
   old_name found =
-      let there : list_any (same_numbers name) names ≡ true = ap (list_any (same_numbers name)) (sym same) ∙ sym (any_mapped bytes_of (same_numbers name) old) ∙ ap (λ n. list_any (λ k. same_numbers n (bytes_of k)) old) (sym is) ∙ not_false _ found in
+      let there : list_any (same_numbers name) names ≡ true =
+      ap (list_any (same_numbers name)) (sym same) ∙ sym (any_mapped bytes_of (same_numbers name) old)
+      ∙ ap (λ n. list_any (λ k. same_numbers n (bytes_of k)) old) (sym is) ∙ not_false _ found in
       sym (ap (λ b. cond b names (names ++ name ∷ [])) there)
 
   pub old_keys : false ≡ not (list_any (λ k. same_numbers (bytes_of key) (bytes_of k)) old)

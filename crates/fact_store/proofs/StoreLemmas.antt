@@ -79,7 +79,8 @@ objects_kept : (names : List (List ℕ)) (facts : List Fact) (fact : Fact)
 objects_kept names facts fact one all =
     elim (is_fact facts fact) as (λ b. All (λ (f : Fact). All (IsIn names) f.args) (cond b facts (facts ++ fact ∷ []))) [
       | true ↦ all
-      | false ↦ All-append (λ (f : Fact). All (IsIn names) f.args) facts (fact ∷ []) all (all_one (λ (f : Fact). All (IsIn names) f.args) fact one)
+      | false ↦ All-append (λ (f : Fact). All (IsIn names) f.args) facts
+          (fact ∷ []) all (all_one (λ (f : Fact). All (IsIn names) f.args) fact one)
     ]
 
 fact_pushed : (known : Known) (fact : Fact) → All (IsIn known.names) fact.args → IsCoherent known
@@ -106,14 +107,18 @@ fact_kept known facts fact one cases c =
 value_pushed : (known : Known) (value : Valued) → value.value ≤ 1000000 → IsCoherent known
     → IsCoherent (record known { values = with_value known.values value })
 value_pushed known value cost c =
-    elim (list_any (same_value value) known.values) as (λ b. list_any (same_value value) known.values ≡ b → IsCoherent (record known { values = cond b known.values (known.values ++ value ∷ []) })) [
+    elim (list_any (same_value value) known.values) as
+    (λ b. list_any (same_value value) known.values ≡ b
+    → IsCoherent (record known { values = cond b known.values (known.values ++ value ∷ []) })) [
       | true ↦ λ _. c
       | false ↦ λ absent. record {
         names = c.names;
         facts = c.facts;
-        values = distinct_push known.values value c.values (λ m. not_both _ (list_any-from_Contains values_equivalence value known.values m) absent);
+        values = distinct_push known.values value c.values
+            (λ m. not_both _ (list_any-from_Contains values_equivalence value known.values m) absent);
         objects = c.objects;
-        costs = All-append (λ (v : Valued). v.value ≤ 1000000) known.values (value ∷ []) c.costs (all_one (λ (v : Valued). v.value ≤ 1000000) value cost);
+        costs = All-append (λ (v : Valued). v.value ≤ 1000000) known.values
+            (value ∷ []) c.costs (all_one (λ (v : Valued). v.value ≤ 1000000) value cost);
       }
     ] refl
 

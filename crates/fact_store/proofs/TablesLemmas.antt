@@ -9,8 +9,8 @@ use Rattle.indexmap.specs.IndexMap.{IndexMap, get}
 use Rattle.smallvec.specs.SmallVec.{SmallVec}
 use Rattle.task_model.specs.Known.{is_fact, with_fact}
 use Rattle.task_model.specs.declared.fact.Fact.{Fact}
-use Rattle.lemmas.proofs.Members.{get_append}
-use Rattle.fact_store.proofs.LeastLemmas.{next_taken, one_more}
+use Rattle.lemmas.proofs.Members.{get_append, next_taken}
+use Rattle.fact_store.proofs.LeastLemmas.{one_more}
 use Rattle.fact_store.specs.Tables.{AreCovered, CoverPlaces, Covers, Key, facts_with, has_key, is_key, key_of, places_found, places_in, same_key}
 use Rattle.fact_store.specs.declared.table.Group.{Group}
 use Rattle.fact_store.specs.declared.table.Group.TheVariants.{Objects, Atoms, AtomsAt}
@@ -19,7 +19,8 @@ use Rattle.fact_store.specs.declared.table.Table.{Table}
 -- ---- the places of a key
 
 keys_same : (a b : Key) → same_key a b ≡ true → a ≡ b
-keys_same a b e = λ i. (eqb-true a.0 b.0 (first_so (a.0 == b.0) (a.1 == b.1) e) i, eqb-true a.1 b.1 (second_so (a.0 == b.0) (a.1 == b.1) e) i)
+keys_same a b e =
+    λ i. (eqb-true a.0 b.0 (first_so (a.0 == b.0) (a.1 == b.1) e) i, eqb-true a.1 b.1 (second_so (a.0 == b.0) (a.1 == b.1) e) i)
 
 module _ {S : Type 0} (old new : IndexMap Key (SmallVec ℕ) S) where
   -- one place more
@@ -30,7 +31,9 @@ module _ {S : Type 0} (old new : IndexMap Key (SmallVec ℕ) S) where
       → places_in new q ≡ cond (same_key key q) (places_in old q ++ place ∷ []) (places_in old q)
   places_put key places place more is q =
       ap places_found (is q)
-      ∙ elim (same_key key q) as (λ b. same_key key q ≡ b → places_found (cond b (Some places) (get same_key old q)) ≡ cond b (places_in old q ++ place ∷ []) (places_in old q)) [
+      ∙ elim (same_key key q) as (λ b.
+      same_key key q ≡ b
+      → places_found (cond b (Some places) (get same_key old q)) ≡ cond b (places_in old q ++ place ∷ []) (places_in old q)) [
         | true ↦ λ e. more ∙ ap (λ k. places_in old k ++ place ∷ []) (keys_same key q e)
         | false ↦ λ _. refl
       ] refl
@@ -42,7 +45,8 @@ module _ {S : Type 0} (old new : IndexMap Key (SmallVec ℕ) S) where
   pub places_back : (key : Key) (was places : SmallVec ℕ) → get same_key old key ≡ Some was
       → places ≡ was → new.entries ≡ set_value (same_key key) old.entries places → (q : Key)
       → places_in new q ≡ places_in old q
-  places_back key was places found same is = places_stay (is ∙ ap (set_value (same_key key) old.entries) same ∙ set_value_same (same_key key) old.entries was found)
+  places_back key was places found same is =
+      places_stay (is ∙ ap (set_value (same_key key) old.entries) same ∙ set_value_same (same_key key) old.entries was found)
 
 -- ---- what stands at the places
 
@@ -102,21 +106,26 @@ module _ (group : Group) (facts : List Fact) (table : Table) (covers : Covers gr
   pub covered_at : (i n : ℕ) → slice_get (places_in table.lists q) i ≡ Some n
       → slice_get facts n ≡ slice_get (facts_with group q facts) i
   covered_at i n at =
-      at_place facts (places_in table.lists q) (facts_with group q (take table.done facts)) (facts_with group q (drop table.done facts)) i n (covers.places q) at
+      at_place facts (places_in table.lists q) (facts_with group q (take table.done facts))
+      (facts_with group q (drop table.done facts)) i n (covers.places q) at
       ∙ ap (λ fs. slice_get fs i) parts
 
   pub uncovered_at : (i : ℕ) → length (places_in table.lists q) ≤ i
-      → slice_get (facts_with group q (drop table.done facts)) (i - length (places_in table.lists q)) ≡ slice_get (facts_with group q facts) i
+      → slice_get (facts_with group q (drop table.done facts)) (i - length (places_in table.lists q))
+      ≡ slice_get (facts_with group q facts) i
   uncovered_at i past =
       let beyond : length (facts_with group q (take table.done facts)) ≤ i = omega (arith, as_many, past) in
       ap (λ n. slice_get (facts_with group q (drop table.done facts)) (i - n)) as_many
-      ∙ sym (get_behind (facts_with group q (take table.done facts)) (facts_with group q (drop table.done facts)) i beyond) ∙ ap (λ fs. slice_get fs i) parts
+      ∙ sym (get_behind (facts_with group q (take table.done facts)) (facts_with group q (drop table.done facts)) i beyond)
+      ∙ ap (λ fs. slice_get fs i) parts
 
 -- ---- one fact more
 
-module _ (group : Group) (facts : List Fact) (old new : Table) (fact : Fact) (covers : Covers group facts old) (at : slice_get facts old.done ≡ Some fact) where
+module _ (group : Group) (facts : List Fact) (old new : Table) (fact : Fact)
+    (covers : Covers group facts old) (at : slice_get facts old.done ≡ Some fact) where
   found_more : (q : Key)
-      → facts_with group q (take (old.done + 1) facts) ≡ facts_with group q (take old.done facts) ++ cond (has_key group q fact) (fact ∷ []) []
+      → facts_with group q (take (old.done + 1) facts)
+      ≡ facts_with group q (take old.done facts) ++ cond (has_key group q fact) (fact ∷ []) []
   found_more q =
       ap (facts_with group q) (next_taken facts old.done fact at)
       ∙ filter-append (has_key group q) (take old.done facts) (fact ∷ [])
@@ -142,7 +151,8 @@ module _ (group : Group) (facts : List Fact) (old new : Table) (fact : Fact) (co
       → Covers group facts new
   covers_one key is next put = record {
     within = subst (λ n. n ≤ length facts) (sym next) (one_more facts old.done fact at);
-    places = λ q. covers_more q next (put q ∙ either (same_key key q) (places_in old.lists q) ∙ ap (λ o. places_in old.lists q ++ cond (is_key o q) (old.done ∷ []) []) (sym is));
+    places = λ q. covers_more q next (put q ∙ either (same_key key q) (places_in old.lists q)
+        ∙ ap (λ o. places_in old.lists q ++ cond (is_key o q) (old.done ∷ []) []) (sym is));
   }
     where
       either : (b : Bool) (ps : List ℕ)
@@ -154,7 +164,8 @@ module _ (group : Group) (facts : List Fact) (old new : Table) (fact : Fact) (co
       → ((q : Key) → places_in new.lists q ≡ places_in old.lists q) → Covers group facts new
   covers_none is next same = record {
     within = subst (λ n. n ≤ length facts) (sym next) (one_more facts old.done fact at);
-    places = λ q. covers_more q next (same q ∙ sym (append-nil (places_in old.lists q)) ∙ ap (λ o. places_in old.lists q ++ cond (is_key o q) (old.done ∷ []) []) (sym is));
+    places = λ q. covers_more q next (same q ∙ sym (append-nil (places_in old.lists q))
+        ∙ ap (λ o. places_in old.lists q ++ cond (is_key o q) (old.done ∷ []) []) (sym is));
   }
 
 -- ---- facts that come
@@ -163,7 +174,8 @@ covers_pushed : (group : Group) (facts more : List Fact) (table : Table) → Cov
     → Covers group (facts ++ more) table
 covers_pushed group facts more table covers = record {
   within = let w = covers.within in omega (arith, length-append facts more);
-  places = λ q. stand_still facts more (places_in table.lists q) (facts_with group q (take table.done facts)) (covers.places q) ∙ ap (λ fs. map Some (facts_with group q fs)) (sym (take-append-le table.done facts more covers.within));
+  places = λ q. stand_still facts more (places_in table.lists q) (facts_with group q (take table.done facts)) (covers.places q)
+      ∙ ap (λ fs. map Some (facts_with group q fs)) (sym (take-append-le table.done facts more covers.within));
 }
 
 pub covers_kept : (group : Group) (facts new : List Fact) (fact : Fact) (table : Table)
@@ -172,7 +184,8 @@ pub covers_kept : (group : Group) (facts new : List Fact) (fact : Fact) (table :
 covers_kept group facts new fact table cases covers =
     elim cases [
       | inl e ↦ subst (λ fs. Covers group fs table) (sym e)
-          (elim (is_fact facts fact) as (λ b. Covers group (cond b facts (facts ++ fact ∷ [])) table) [ true ↦ covers | false ↦ covers_pushed group facts (fact ∷ []) table covers ])
+          (elim (is_fact facts fact) as (λ b. Covers group (cond b facts (facts ++ fact ∷ [])) table)
+          [ true ↦ covers | false ↦ covers_pushed group facts (fact ∷ []) table covers ])
       | inr e ↦ subst (λ fs. Covers group fs table) (sym e) covers
     ]
 

@@ -7,6 +7,7 @@ use Rattle.task_model.specs.declared.fact.Fact.{Fact}
 use Rattle.task_model.specs.declared.fact.Kind.{Kind}
 use Rattle.task_model.specs.declared.fact.Kind.TheVariants.{Predicate, Sort}
 use Rattle.task_model.specs.declared.task.Valued.{Valued}
+use Rattle.fact_store.specs.declared.facts.TheConstants.{MOST_NAMES}
 
 -- What is known: names, facts and values. They stand once each, each object of a fact has a name, and values are costs.
 pub record Store : Type 0 where
@@ -48,22 +49,28 @@ abbrev pub coded_kind : Coded Kind
 coded_kind = code_by Bool coded_bool is_sort kind_by kind_by-is_sort
 
 abbrev pub coded_fact : Coded Fact
-coded_fact = code_by (Kind × (ℕ × List ℕ)) (coded× coded_kind (coded× coded_ℕ (coded_list coded_ℕ))) (λ f. (f.kind, (f.name, f.args))) (λ p. record { kind = p.0; name = p.1.0; args = p.1.1 }) (λ _. refl)
+coded_fact =
+    code_by (Kind × (ℕ × List ℕ)) (coded× coded_kind (coded× coded_ℕ (coded_list coded_ℕ)))
+    (λ f. (f.kind, (f.name, f.args))) (λ p. record { kind = p.0; name = p.1.0; args = p.1.1 }) (λ _. refl)
 
 abbrev pub coded_valued : Coded Valued
-coded_valued = code_by (ℕ × (List ℕ × ℕ)) (coded× coded_ℕ (coded× (coded_list coded_ℕ) coded_ℕ)) (λ v. (v.func, (v.args, v.value))) (λ p. record { func = p.0; args = p.1.0; value = p.1.1 }) (λ _. refl)
+coded_valued =
+    code_by (ℕ × (List ℕ × ℕ)) (coded× coded_ℕ (coded× (coded_list coded_ℕ) coded_ℕ))
+    (λ v. (v.func, (v.args, v.value))) (λ p. record { func = p.0; args = p.1.0; value = p.1.1 }) (λ _. refl)
 
 abbrev coded_known : Coded Known
 coded_known =
-    code_by (List (List ℕ) × (List Fact × List Valued)) (coded× (coded_list (coded_list coded_ℕ)) (coded× (coded_list coded_fact) (coded_list coded_valued)))
+    code_by (List (List ℕ) × (List Fact × List Valued))
+    (coded× (coded_list (coded_list coded_ℕ)) (coded× (coded_list coded_fact) (coded_list coded_valued)))
     (λ k. (k.names, (k.facts, k.values))) (λ p. record { names = p.0; facts = p.1.0; values = p.1.1 }) (λ _. refl)
 
 abbrev pub coded_store : Coded Store
-coded_store = record { code = λ s. coded_known.code s.known; inj = λ x y e. same_store x y (coded_known.inj x.known y.known e) }
+coded_store = record
+    { code = λ s. coded_known.code s.known; inj = λ x y e. same_store x y (coded_known.inj x.known y.known e) }
 
 -- ---- how names are found
 
 -- The bytes that are looked up stand in the order of the names, which are few enough that their places are objects.
 pub record IsIndexed (names bytes : List (List ℕ)) : Type 0 where
   pub same : bytes ≡ names
-  pub few : length names ≤ 4294705152
+  pub few : length names ≤ MOST_NAMES

@@ -1,4 +1,5 @@
--- Tables by which facts are found: for each key the places of the facts that have it, among the first facts, which the table covers.
+-- Tables by which facts are found: for each key the places of the facts that have it, among the first facts, which the
+-- table covers.
 use Rattle.std.specs.Prelude.{◌≡◌, ℕ, ◌≤◌, Bool, false, ◌&&◌, ◌==◌, List, [], ◌∷◌, map, filter, take, length, Option, None, Some, slice_get}
 use Rattle.indexmap.specs.IndexMap.{IndexMap, get}
 use Rattle.smallvec.specs.SmallVec.{SmallVec}

@@ -1,5 +1,6 @@
 //! The store, and the calls by which it grows.
 ghost use Rattle.task_model.specs.Known.{IsCoherent};
+ghost use Rattle.task_model.specs.declared.limits.TheConstants.{LARGEST_NUMBER};
 ghost use Rattle.fact_store.specs.Store.{coherent_prop};
 
 use crate::fact_table::FactTable;
@@ -10,6 +11,9 @@ use std::alloc::{AllocError, Global};
 use std::marker::Model;
 use task_model::{Fact, Look, Name, Obj, Row, Task, Valued};
 
+/// The most names of objects, 2^32 - 2^18: the place of each is an object.
+pub const MOST_NAMES: usize = (1 << 32) - (1 << 18);
+
 /// The objects' names, the facts and the values of functions that are known, in the order in which
 /// they came. An object is the place of its name.
 #[derive(Drop)]
@@ -19,7 +23,9 @@ pub struct Facts {
     facts: FactTable,
     values: ValueTable,
     alloc: Global,
-    ghost coherent: { IsCoherent (record { names = names.items; facts = facts; values = values }) } by { coherent_prop (record { names = names.items; facts = facts; values = values }) },
+    ghost coherent: { IsCoherent
+        (record { names = names.items; facts = facts; values = values }) } by { coherent_prop
+            (record { names = names.items; facts = facts; values = values }) },
 }
 
 impl Model for Facts {
@@ -30,7 +36,10 @@ impl Model for Facts {
 
     ghost coded = { coded_store };
 
-    ghost view = { λ f. record { known = record { names = f.names.items; facts = f.facts; values = f.values }; coherent = f.coherent } };
+    ghost view = { λ f. record {
+      known = record { names = f.names.items; facts = f.facts; values = f.values };
+      coherent = f.coherent;
+    } };
 
     ghost invariant = { λ f. IsIndexed f.names.items (map (λ v. v.items) f.places.keys) };
 }
@@ -127,7 +136,7 @@ impl Facts {
     /// The number of a name, which is put behind the others where it is new. Fails only where memory
     /// is wanting, and leaves all as it was then.
     pub fn add_name(&mut self, name: Name) -> Result<Obj, AllocError>
-        requires { length self.old.known.names < 4294705152 }
+        requires { length self.old.known.names < MOST_NAMES }
         ensures object { IfOk result (λ object. slice_get self.new.known.names object ≡ Some name) }
         ensures names { OnOk result (self.new.known.names ≡ with_name self.old.known.names name) }
         ensures facts { self.new.known.facts ≡ self.old.known.facts }
@@ -160,7 +169,7 @@ impl Facts {
     /// this value of this term is there. Fails only where memory is wanting, and leaves all as it was then.
     pub fn add_value(&mut self, func: u32, args: Row, value: u32) -> Result<bool, AllocError>
         requires objects { All (IsIn self.old.known.names) args }
-        requires cost { value ≤ 1000000 }
+        requires cost { value ≤ LARGEST_NUMBER }
         ensures fresh { IfOk result
             (λ fresh. fresh ≡ not (list_any
             (same_value (record { func = func; args = args; value = value }))

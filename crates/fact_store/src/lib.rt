@@ -8,5 +8,5 @@ mod scan;
 mod table;
 mod value_table;
 
-pub use facts::Facts;
+pub use facts::{Facts, MOST_NAMES};
 pub use initial::add_supertypes;

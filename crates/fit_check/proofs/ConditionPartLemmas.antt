@@ -46,7 +46,9 @@ module _ (domain : Domain) (objects : ℕ) where
         ap (λ t. nat_le (fit.count_of parts) 8388608 && t) (all_same_sound parts a b same)
     same_sound (Not part) a b same = same_sound part a b same
     same_sound (Exists first sorts body) a b same =
-        ap (λ t. nat_le (first + length sorts) 16 && fit.are_places (length domain.sorts) sorts && t) (same_sound body (numbers_from first (length sorts) ++ a) (numbers_from first (length sorts) ++ b) (same_behind a b (numbers_from first (length sorts)) same))
+        ap (λ t. nat_le (first + length sorts) 16 && fit.are_places (length domain.sorts) sorts && t)
+        (same_sound body (numbers_from first (length sorts) ++ a)
+        (numbers_from first (length sorts) ++ b) (same_behind a b (numbers_from first (length sorts)) same))
 
     all_same_sound : (cs : Conditions) (a b : List ℕ)
         → ((n : ℕ) → list_any (λ slot. slot == n) a ≡ list_any (λ slot. slot == n) b)
@@ -81,7 +83,8 @@ pub same_inside : (domain : Domain) (objects : ℕ) (first : ℕ) (sorts : List 
     → fit.is_sound domain objects body after ≡ fit.is_sound domain objects (Exists first sorts body) slots
 same_inside domain objects first sorts body slots after few places same =
     same_sound domain objects body after (numbers_from first (length sorts) ++ slots) same
-    ∙ sym (λ i. le-leb (first + length sorts) 16 few i && places i && fit.is_sound domain objects body (numbers_from first (length sorts) ++ slots))
+    ∙ sym (λ i. le-leb (first + length sorts) 16 few i && places i
+    && fit.is_sound domain objects body (numbers_from first (length sorts) ++ slots))
 
 pub short_parts : (cs : List Condition) (b : Bool) → fit.is_short cs ≡ b
     → b ≡ nat_le (fit.count_of (parts_of cs)) 8388608

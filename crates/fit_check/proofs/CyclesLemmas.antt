@@ -41,7 +41,8 @@ module _ (edge : ℕ → ℕ → Bool) (size : ℕ) where
       → slice_index next k ≤ slice_index (slice_set next i to) k
   moved_index next i to k inside up =
       elim (cases_eq k i) [
-        | inl e ↦ subst (λ m. slice_index next m ≤ slice_index (slice_set next i to) m) (sym e) (let is = get_or-set_same next i to 0 inside in omega (arith, is))
+        | inl e ↦ subst (λ m. slice_index next m ≤ slice_index (slice_set next i to) m)
+            (sym e) (let is = get_or-set_same next i to 0 inside in omega (arith, is))
         | inr ne ↦ let is = get_or-set_other next i k to 0 ne in omega (arith, is)
       ]
 
@@ -51,9 +52,11 @@ module _ (edge : ℕ → ℕ → Bool) (size : ℕ) where
       → IsSettled edge size (slice_set next i to)
   settled_moved next i to within settled low up top new =
       let inside : i < length next = omega (arith, settled.long) in
-      let all : (k : ℕ) → k < to → edge i k ≡ true → size ≤ slice_index next k = λ k h e. elim (cases_lt k (slice_index next i)) [ inl before ↦ settled.passed i k low before e | inr after ↦ new k after h e ] in
+      let all : (k : ℕ) → k < to → edge i k ≡ true → size ≤ slice_index next k =
+      λ k h e. elim (cases_lt k (slice_index next i)) [ inl before ↦ settled.passed i k low before e | inr after ↦ new k after h e ] in
       let is = get_or-set_same next i to 0 inside in
-      let higher : (k : ℕ) → size ≤ slice_index next k → size ≤ slice_index (slice_set next i to) k = λ k done. let more = moved_index next i to k inside up in omega arith in
+      let higher : (k : ℕ) → size ≤ slice_index next k → size ≤ slice_index (slice_set next i to) k =
+      λ k done. let more = moved_index next i to k inside up in omega arith in
       record {
         long = length-set next i to ∙ settled.long;
         within = λ k. elim (cases_eq k i) [
@@ -61,13 +64,20 @@ module _ (edge : ℕ → ℕ → Bool) (size : ℕ) where
           | inr ne ↦ let same = get_or-set_other next i k to 0 ne in omega (arith, same, settled.within k)
         ];
         passed = λ j k lj lk e. elim (cases_eq j i) [
-          | inl same ↦ higher k (all k (subst (λ m. k < m) (ap (slice_index (slice_set next i to)) same ∙ is) lk) (subst (λ m. edge m k ≡ true) same e))
+          | inl same ↦
+              higher k
+              (all k (subst (λ m. k < m) (ap (slice_index (slice_set next i to)) same ∙ is) lk) (subst (λ m. edge m k ≡ true) same e))
           | inr ne ↦ higher k (settled.passed j k lj (subst (λ m. k < m) (get_or-set_other next i j to 0 ne) lk) e)
         ];
         clear = λ j lj done between. elim (cases_eq j i) [
           | inl same ↦
               elim (cases_lt (slice_index next i) size) [
-                | inl undone ↦ subst (λ m. ¬ (LeadsAlong edge m between m)) (sym same) (fresh_clear next within settled i low undone (λ k h e. all k (let at = subst (λ m. size ≤ slice_index (slice_set next i to) m) same done in omega (arith, is, at)) e) between)
+                | inl undone ↦
+                    subst (λ m. ¬ (LeadsAlong edge m between m)) (sym same)
+                    (fresh_clear next within settled i low undone
+                    (λ k h e. all k
+                    (let at = subst (λ m. size ≤ slice_index (slice_set next i to) m) same done in omega (arith, is, at)) e)
+                    between)
                 | inr before ↦ subst (λ m. ¬ (LeadsAlong edge m between m)) (sym same) (settled.clear i low before between)
               ]
           | inr ne ↦ settled.clear j lj (subst (λ m. size ≤ m) (get_or-set_other next i j to 0 ne) done) between
@@ -116,8 +126,13 @@ module _ (edge : ℕ → ℕ → Bool) (size : ℕ) where
   cycle_if : (next : List ℕ) → IsStill edge size next → (i : ℕ) → open_at next i ≡ true → Cycle edge
   cycle_if next still i here =
       let low = λ (k : ℕ) (h : open_at next k ≡ true). ltb-true k size (first_so (nat_lt k size) (nat_lt (slice_index next k) size) h) in
-      let undone = λ (k : ℕ) (h : open_at next k ≡ true). ltb-true (slice_index next k) size (second_so (nat_lt k size) (nat_lt (slice_index next k) size) h) in
-      cycle_in edge size (slice_index next) (open_at next) low (λ k h. and_from (nat_lt (slice_index next k) size) (nat_lt (slice_index next (slice_index next k)) size) (lt-ltb (slice_index next k) size (undone k h)) (lt-ltb (slice_index next (slice_index next k)) size (still k (low k h) (undone k h)).1))
+      let undone =
+      λ (k : ℕ) (h : open_at next k ≡ true).
+      ltb-true (slice_index next k) size (second_so (nat_lt k size) (nat_lt (slice_index next k) size) h) in
+      cycle_in edge size (slice_index next) (open_at next) low
+      (λ k h. and_from (nat_lt (slice_index next k) size) (nat_lt (slice_index next (slice_index next k)) size)
+      (lt-ltb (slice_index next k) size (undone k h))
+      (lt-ltb (slice_index next (slice_index next k)) size (still k (low k h) (undone k h)).1))
       (λ k h. ([], (still k (low k h) (undone k h)).0)) i here
 
   some_open : (ns : List ℕ) → list_all (λ n. nat_le size n) ns ≡ false
@@ -134,12 +149,15 @@ module _ (edge : ℕ → ℕ → Bool) (size : ℕ) where
   pub done_if : (next : List ℕ) → IsSettled edge size next → IsStill edge size next → IsAcyclic edge
       → list_all (λ n. nat_le size n) next ≡ true
   done_if next settled still acyclic =
-      elim (list_all (λ n. nat_le size n) next) as (λ b. list_all (λ n. nat_le size n) next ≡ b → list_all (λ n. nat_le size n) next ≡ true) [
+      elim (list_all (λ n. nat_le size n) next) as
+      (λ b. list_all (λ n. nat_le size n) next ≡ b → list_all (λ n. nat_le size n) next ≡ true) [
         | true ↦ λ e. e
         | false ↦ λ e.
             let found = some_open next e in
             let low : found.0 < size = let h = found.1 in omega (arith, settled.long) in
-            let cycle = cycle_if next still found.0 (and_from (nat_lt found.0 size) (nat_lt (slice_index next found.0) size) (lt-ltb found.0 size low) (lt-ltb (slice_index next found.0) size found.2)) in
+            let cycle =
+            cycle_if next still found.0 (and_from (nat_lt found.0 size)
+            (nat_lt (slice_index next found.0) size) (lt-ltb found.0 size low) (lt-ltb (slice_index next found.0) size found.2)) in
             absurd (acyclic cycle.0 cycle.1.0 cycle.1.1)
       ] refl
 
@@ -156,15 +174,18 @@ work_falls size (n ∷ ns) (suc i) to h up top =
 pub still_more : (edge : ℕ → ℕ → Bool) (size : ℕ) (next : List ℕ) (from to : ℕ)
     → to ≤ slice_index next from → slice_index next from ≤ to
     → (to < size → (edge from to ≡ true) × (slice_index next to < size))
-    → ((i : ℕ) → i < from → slice_index next i < size → (edge i (slice_index next i) ≡ true) × (slice_index next (slice_index next i) < size))
+    → ((i : ℕ) → i < from → slice_index next i < size
+    → (edge i (slice_index next i) ≡ true) × (slice_index next (slice_index next i) < size))
     → (i : ℕ) → i < from + 1 → slice_index next i < size
     → (edge i (slice_index next i) ≡ true) × (slice_index next (slice_index next i) < size)
 still_more edge size next from to low high lead before i h undone =
     elim (cases_eq i from) [
       | inl e ↦
           let same : to ≡ slice_index next i = omega (arith, ap (slice_index next) e) in
-          let here = lead (omega arith) in
-          (subst (λ k. edge i k ≡ true) same (subst (λ m. edge m to ≡ true) (sym e) here.0), subst (λ k. slice_index next k < size) same here.1)
+          let here = lead (omega arith) in (
+            subst (λ k. edge i k ≡ true) same (subst (λ m. edge m to ≡ true) (sym e) here.0),
+            subst (λ k. slice_index next k < size) same here.1,
+          )
       | inr ne ↦ before i (omega (arith, ne)) undone
     ]
 

@@ -24,7 +24,8 @@ there n zero (true ∷ flags) = ap (λ b. b || list_any (λ slot. slot == n + 0)
 there n zero (false ∷ flags) = below_none (n + 1) (n + 0) flags (omega arith)
 there n (suc k) (true ∷ flags) =
     let next : n + suc k ≡ (n + 1) + k = omega arith in
-    ap (λ b. b || list_any (λ slot. slot == n + suc k) (places_of (n + 1) flags)) (ne_eqb n (n + suc k) (λ e. omega arith)) ∙ ap (λ m. list_any (λ slot. slot == m) (places_of (n + 1) flags)) next ∙ there (n + 1) k flags
+    ap (λ b. b || list_any (λ slot. slot == n + suc k) (places_of (n + 1) flags)) (ne_eqb n (n + suc k) (λ e. omega arith))
+    ∙ ap (λ m. list_any (λ slot. slot == m) (places_of (n + 1) flags)) next ∙ there (n + 1) k flags
 there n (suc k) (false ∷ flags) =
     let next : n + suc k ≡ (n + 1) + k = omega arith in
     ap (λ m. list_any (λ slot. slot == m) (places_of (n + 1) flags)) next ∙ there (n + 1) k flags
@@ -57,7 +58,9 @@ pub not_in_numbers : (first count n : ℕ) → (first ≤ n → first + count �
     → list_any (λ slot. slot == n) (numbers_from first count) ≡ false
 not_in_numbers first zero n out = refl
 not_in_numbers first (suc count) n out =
-    ap (λ b. b || list_any (λ slot. slot == n) (numbers_from (first + 1) count)) (ne_eqb first n (λ e. absurd (omega (arith, out (omega arith))))) ∙ not_in_numbers (first + 1) count n (λ h. omega (arith, out (omega arith)))
+    ap (λ b. b || list_any (λ slot. slot == n) (numbers_from (first + 1) count))
+    (ne_eqb first n (λ e. absurd (omega (arith, out (omega arith)))))
+    ∙ not_in_numbers (first + 1) count n (λ h. omega (arith, out (omega arith)))
 
 -- ---- flags that are put up one after another
 
@@ -84,7 +87,10 @@ flags_with new old first count n up kept =
       | inl low ↦ out (λ h. absurd (omega arith))
       | inr high ↦
           elim (cases_lt n (first + count)) [
-            | inl inside ↦ up high inside ∙ sym (list_any-append (λ slot. slot == n) (numbers_from first count) (places_of 0 old) ∙ ap (λ b. b || list_any (λ slot. slot == n) (places_of 0 old)) (in_numbers first count n high inside))
+            | inl inside ↦
+                up high inside
+                ∙ sym (list_any-append (λ slot. slot == n) (numbers_from first count) (places_of 0 old)
+                ∙ ap (λ b. b || list_any (λ slot. slot == n) (places_of 0 old)) (in_numbers first count n high inside))
             | inr past ↦ out (λ _. past)
           ]
     ]
@@ -93,4 +99,5 @@ flags_with new old first count n up kept =
         → get_or new n false ≡ list_any (λ slot. slot == n) (numbers_from first count ++ places_of 0 old)
     out o =
         kept o ∙ sym (flag_at old n)
-        ∙ sym (list_any-append (λ slot. slot == n) (numbers_from first count) (places_of 0 old) ∙ ap (λ b. b || list_any (λ slot. slot == n) (places_of 0 old)) (not_in_numbers first count n o))
+        ∙ sym (list_any-append (λ slot. slot == n) (numbers_from first count) (places_of 0 old)
+        ∙ ap (λ b. b || list_any (λ slot. slot == n) (places_of 0 old)) (not_in_numbers first count n o))

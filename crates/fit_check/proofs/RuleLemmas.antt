@@ -35,16 +35,27 @@ rule_found : (domain : Domain) (head pred : ℕ) → depends domain head pred �
     → (i : ℕ) × (d : Derived) × HasItem domain i d × (d.pred ≡ head) × (mentions pred d.body ≡ true)
 rule_found domain head pred h =
     let found = any_found (λ (d : Derived). (d.pred == head) && mentions pred d.body) domain.derived h in
-    let d = found.1 in
-    (found.0, d, found.2, eqb-true d.pred head (first_so (d.pred == head) (mentions pred d.body) found.3), second_so (d.pred == head) (mentions pred d.body) found.3)
+    let d = found.1 in (
+      found.0,
+      d,
+      found.2,
+      eqb-true d.pred head (first_so (d.pred == head) (mentions pred d.body) found.3),
+      second_so (d.pred == head) (mentions pred d.body) found.3,
+    )
 
 -- an item that heads the first, from which each that heads the last is reached
 to_items : (domain : Domain) (between : List ℕ) (from to : ℕ)
     → LeadsAlong (depends domain) from between to
-    → (i : ℕ) × (d : Derived) × HasItem domain i d × (d.pred ≡ from) × ((j : ℕ) (e : Derived) → HasItem domain j e → e.pred ≡ to → Way (item_leads domain) i j)
+    → (i : ℕ) × (d : Derived) × HasItem domain i d × (d.pred ≡ from)
+    × ((j : ℕ) (e : Derived) → HasItem domain j e → e.pred ≡ to → Way (item_leads domain) i j)
 to_items domain [] from to h =
-    let found = rule_found domain from to h in
-    (found.0, found.1, found.2, found.3, λ j e g same. ([], item_edge domain found.0 j found.1 e found.2 g ∙ ap (λ p. mentions p found.1.body) same ∙ found.4))
+    let found = rule_found domain from to h in (
+      found.0,
+      found.1,
+      found.2,
+      found.3,
+      λ j e g same. ([], item_edge domain found.0 j found.1 e found.2 g ∙ ap (λ p. mentions p found.1.body) same ∙ found.4),
+    )
 to_items domain (x ∷ xs) from to h =
     let found = rule_found domain from x h.0 in
     let rest = to_items domain xs x to h.1 in (
@@ -53,14 +64,18 @@ to_items domain (x ∷ xs) from to h =
       found.2,
       found.3,
       λ j e g same.
-          let way = rest.4 j e g same in
-          (rest.0 ∷ way.0, (item_edge domain found.0 rest.0 found.1 rest.1 found.2 rest.2 ∙ ap (λ p. mentions p found.1.body) rest.3 ∙ found.4, way.1)),
+          let way = rest.4 j e g same in (
+            rest.0 ∷ way.0,
+            (item_edge domain found.0 rest.0 found.1 rest.1 found.2 rest.2 ∙ ap (λ p. mentions p found.1.body) rest.3 ∙ found.4, way.1),
+          ),
     )
 
 depends_by : (domain : Domain) (i : ℕ) (d : Derived) (pred : ℕ) → HasItem domain i d
     → mentions pred d.body ≡ true
     → depends domain d.pred pred ≡ true
-depends_by domain i d pred f h = any_passes_from_place (λ (x : Derived). (x.pred == d.pred) && mentions pred x.body) domain.derived i d f (and_from (d.pred == d.pred) (mentions pred d.body) (eq-eqb d.pred d.pred refl) h)
+depends_by domain i d pred f h =
+    any_passes_from_place (λ (x : Derived). (x.pred == d.pred) && mentions pred x.body) domain.derived i d f
+    (and_from (d.pred == d.pred) (mentions pred d.body) (eq-eqb d.pred d.pred refl) h)
 
 to_predicates : (domain : Domain) (between : List ℕ) (i j : ℕ)
     → LeadsAlong (item_leads domain) i between j
@@ -72,7 +87,8 @@ to_predicates domain (x ∷ xs) i j h =
     let found = edge_found domain i x h.0 in
     let rest = to_predicates domain xs x j h.1 in
     let same : found.1 ≡ rest.0 = one_there domain.derived x found.1 rest.0 found.3 rest.2 in
-    let here : depends domain found.0.pred rest.0.pred ≡ true = depends_by domain i found.0 rest.0.pred found.2 (ap (λ (e : Derived). mentions e.pred found.0.body) (sym same) ∙ found.4) in
+    let here : depends domain found.0.pred rest.0.pred ≡ true =
+    depends_by domain i found.0 rest.0.pred found.2 (ap (λ (e : Derived). mentions e.pred found.0.body) (sym same) ∙ found.4) in
     (found.0, rest.1, found.2, rest.3, (rest.0.pred ∷ rest.4.0, (here, rest.4.1)))
 
 pub rules_acyclic : (domain : Domain) → IsAcyclic (item_leads domain) → IsAcyclic (depends domain)

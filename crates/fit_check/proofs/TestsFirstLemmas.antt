@@ -20,7 +20,9 @@ pub first_if : (cs os : List Declared) → are_first cs os ≡ true
     → names_of cs ≡ take (length cs) (names_of os)
 first_if [] os e = refl
 first_if (c ∷ cs) [] e = absurd (cc)
-first_if (c ∷ cs) (o ∷ os) e = λ i. (numbers_decided c.name o.name).0 (first_so (same_numbers c.name o.name) (are_first cs os) e) i ∷ first_if cs os (second_so (same_numbers c.name o.name) (are_first cs os) e) i
+first_if (c ∷ cs) (o ∷ os) e =
+    λ i. (numbers_decided c.name o.name).0 (first_so (same_numbers c.name o.name) (are_first cs os) e) i
+    ∷ first_if cs os (second_so (same_numbers c.name o.name) (are_first cs os) e) i
 
 pub first_from : (cs os : List Declared) → names_of cs ≡ take (length cs) (names_of os)
     → are_first cs os ≡ true

@@ -15,7 +15,8 @@ absent : (name : List ℕ) (names : List (List ℕ)) (j : ℕ) (x : List ℕ)
     → slice_get names j ≡ Some x → ⊥
 absent name names j x none here e =
     let same : name ≡ x = cc in
-    let there : list_any (same_numbers name) names ≡ true = any_passes_from_place (same_numbers name) names j x e ((numbers_decided name x).1 same) in
+    let there : list_any (same_numbers name) names ≡ true =
+    any_passes_from_place (same_numbers name) names j x e ((numbers_decided name x).1 same) in
     let nowhere : list_any (same_numbers name) names ≡ false = not-true (list_any (same_numbers name) names) none in
     absurd (cc)
 
@@ -46,13 +47,18 @@ different_if (n ∷ ns) d =
 -- a name, and those behind it
 pub different_from : {A : Type 0} (f : A → List ℕ) (xs : List A) (i : ℕ) (x : A)
     → slice_get xs i ≡ Some x
-    → are_different (map f (drop i xs)) ≡ (not (list_any (λ y. same_numbers (f x) (f y)) (drop (i + 1) xs)) && are_different (map f (drop (i + 1) xs)))
+    → are_different (map f (drop i xs))
+    ≡ (not (list_any (λ y. same_numbers (f x) (f y)) (drop (i + 1) xs)) && are_different (map f (drop (i + 1) xs)))
 different_from f xs i x e =
     from xs i e
     ∙ ap (λ n. not (list_any (λ y. same_numbers (f x) (f y)) (drop n xs)) && are_different (map f (drop n xs))) (sym (add-one i))
   where
     from : (xs : List _) (i : ℕ) → slice_get xs i ≡ Some x
-        → are_different (map f (drop i xs)) ≡ (not (list_any (λ y. same_numbers (f x) (f y)) (drop (suc i) xs)) && are_different (map f (drop (suc i) xs)))
+        → are_different (map f (drop i xs))
+        ≡ (not (list_any (λ y. same_numbers (f x) (f y)) (drop (suc i) xs)) && are_different (map f (drop (suc i) xs)))
     from [] i e = absurd (cc)
-    from (y ∷ ys) zero e = let same : x ≡ y = cc in ap (λ b. not b && are_different (map f ys)) (any_mapped f (same_numbers (f y)) ys ∙ ap (λ z. list_any (λ w. same_numbers (f z) (f w)) ys) (sym same))
+    from (y ∷ ys) zero e =
+        let same : x ≡ y = cc in
+        ap (λ b. not b && are_different (map f ys))
+        (any_mapped f (same_numbers (f y)) ys ∙ ap (λ z. list_any (λ w. same_numbers (f z) (f w)) ys) (sym same))
     from (y ∷ ys) (suc i) e = from ys i e

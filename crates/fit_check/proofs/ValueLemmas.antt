@@ -40,12 +40,17 @@ roles_if domain place zero [] long e = refl
 roles_if domain place (suc n) [] long e = absurd (omega arith)
 roles_if domain place zero (r ∷ rs) long e = absurd (omega arith)
 roles_if domain place (suc n) (r ∷ rs) long e =
-    λ i. same_if r (role_of domain place) (first_so (tests.same_role r (role_of domain place)) (tests.are_right domain (place + 1) rs) e) i ∷ roles_if domain (place + 1) n rs (omega arith) (second_so (tests.same_role r (role_of domain place)) (tests.are_right domain (place + 1) rs) e) i
+    λ i. same_if r (role_of domain place) (first_so (tests.same_role r (role_of domain place)) (tests.are_right domain (place + 1) rs) e) i
+    ∷ roles_if domain (place + 1) n rs (omega arith)
+    (second_so (tests.same_role r (role_of domain place)) (tests.are_right domain (place + 1) rs) e) i
 
 pub roles_right : (domain : Domain) (place n : ℕ)
     → tests.are_right domain place (map (role_of domain) (numbers_from place n)) ≡ true
 roles_right domain place zero = refl
-roles_right domain place (suc n) = and_from (tests.same_role (role_of domain place) (role_of domain place)) (tests.are_right domain (place + 1) (map (role_of domain) (numbers_from (place + 1) n))) (same_itself (role_of domain place)) (roles_right domain (place + 1) n)
+roles_right domain place (suc n) =
+    and_from (tests.same_role (role_of domain place) (role_of domain place))
+    (tests.are_right domain (place + 1) (map (role_of domain) (numbers_from (place + 1) n))) (same_itself (role_of domain place))
+    (roles_right domain (place + 1) n)
 
 pub roles_long : (domain : Domain) (place n : ℕ)
     → length (map (role_of domain) (numbers_from place n)) ≡ n
@@ -59,7 +64,9 @@ equal_if : (v w : Valued) → tests.differ v w ≡ false → v.func ≡ w.func �
 equal_if v w e func args =
     elim (v.value == w.value) as (λ b. (v.value == w.value) ≡ b → v.value ≡ w.value) [
       | true ↦ λ same. eqb-true v.value w.value same
-      | false ↦ λ other. absurd (both_ways (tests.differ v w) e (and_from _ _ (and_from _ _ (eq-eqb v.func w.func func) ((numbers_decided v.args w.args).1 args)) (not_from_false (v.value == w.value) other)))
+      | false ↦ λ other. absurd (both_ways (tests.differ v w) e
+          (and_from _ _ (and_from _ _ (eq-eqb v.func w.func func) ((numbers_decided v.args w.args).1 args))
+          (not_from_false (v.value == w.value) other)))
     ] refl
 
 -- no value of the list is another of this term
@@ -68,7 +75,8 @@ none_differs : (v : Valued) (vs : List Valued) → not (list_any (tests.differ v
     → tests.differ v w ≡ false
 none_differs v vs none j w g =
     elim (tests.differ v w) as (λ b. tests.differ v w ≡ b → tests.differ v w ≡ false) [
-      | true ↦ λ t. absurd (both_ways (list_any (tests.differ v) vs) (not-true (list_any (tests.differ v) vs) none) (any_passes_from_place (tests.differ v) vs j w g t))
+      | true ↦ λ t. absurd (both_ways (list_any (tests.differ v) vs)
+          (not-true (list_any (tests.differ v) vs) none) (any_passes_from_place (tests.differ v) vs j w g t))
       | false ↦ λ f. f
     ] refl
 
@@ -80,10 +88,12 @@ one_value_if (x ∷ xs) e zero zero v w gi gj func args =
     let same : v ≡ w = cc in ap (λ (u : Valued). u.value) same
 one_value_if (x ∷ xs) e zero (suc j) v w gi gj func args =
     let same : x ≡ v = cc in
-    equal_if v w (ap (λ u. tests.differ u w) (sym same) ∙ none_differs x xs (first_so (not (list_any (tests.differ x) xs)) (tests.have_one_value xs) e) j w gj) func args
+    equal_if v w (ap (λ u. tests.differ u w) (sym same)
+    ∙ none_differs x xs (first_so (not (list_any (tests.differ x) xs)) (tests.have_one_value xs) e) j w gj) func args
 one_value_if (x ∷ xs) e (suc i) zero v w gi gj func args =
     let same : x ≡ w = cc in
-    sym (equal_if w v (ap (λ u. tests.differ u v) (sym same) ∙ none_differs x xs (first_so (not (list_any (tests.differ x) xs)) (tests.have_one_value xs) e) i v gi) (sym func) (sym args))
+    sym (equal_if w v (ap (λ u. tests.differ u v) (sym same)
+    ∙ none_differs x xs (first_so (not (list_any (tests.differ x) xs)) (tests.have_one_value xs) e) i v gi) (sym func) (sym args))
 one_value_if (x ∷ xs) e (suc i) (suc j) v w gi gj func args =
     one_value_if xs (second_so (not (list_any (tests.differ x) xs)) (tests.have_one_value xs) e) i j v w gi gj func args
 
@@ -91,7 +101,8 @@ differ_parts : (v w : Valued) → tests.differ v w ≡ true
     → (v.func ≡ w.func) × (v.args ≡ w.args) × (v.value ≡ w.value → ⊥)
 differ_parts v w e =
     let front = first_so ((v.func == w.func) && same_numbers v.args w.args) (not (v.value == w.value)) e in
-    let other = not-true (v.value == w.value) (second_so ((v.func == w.func) && same_numbers v.args w.args) (not (v.value == w.value)) e) in (
+    let other =
+    not-true (v.value == w.value) (second_so ((v.func == w.func) && same_numbers v.args w.args) (not (v.value == w.value)) e) in (
       eqb-true v.func w.func (first_so (v.func == w.func) (same_numbers v.args w.args) front),
       (numbers_decided v.args w.args).0 (second_so (v.func == w.func) (same_numbers v.args w.args) front),
       λ same. both_ways (v.value == w.value) other (eq-eqb v.value w.value same),

@@ -23,8 +23,11 @@ nothing_to (Some d) e = absurd (cc)
 pub items_within : (domain : Domain) (from to : ℕ) → item_leads domain from to ≡ true
     → (from < length domain.derived) × (to < length domain.derived)
 items_within domain from to e = (
-  inside domain.derived from (λ none. nothing_from (slice_get domain.derived to) (ap (λ o. mentions_head o (slice_get domain.derived to)) (sym none) ∙ e)),
-  inside domain.derived to (λ none. nothing_to (slice_get domain.derived from) (ap (mentions_head (slice_get domain.derived from)) (sym none) ∙ e)),
+  inside domain.derived from (λ none.
+      nothing_from (slice_get domain.derived to)
+      (ap (λ o. mentions_head o (slice_get domain.derived to)) (sym none) ∙ e)),
+  inside domain.derived to (λ none.
+      nothing_to (slice_get domain.derived from) (ap (mentions_head (slice_get domain.derived from)) (sym none) ∙ e)),
 )
 
 pub streams_within : (task : Task) (from to : ℕ) → leads task from to ≡ true
@@ -33,6 +36,7 @@ streams_within task from to e = (
   inside task.streams from (λ none. let h = rw none at e in let f : false ≡ true = h in absurd (cc)),
   elim (slice_get task.streams from) as (λ o. slice_get task.streams from ≡ o → to < length task.streams) [
     | None ↦ λ none. absurd (let h = rw none at e in let f : false ≡ true = h in cc)
-    | Some x ↦ λ some. inside task.streams to (λ none. let h = rw (some, none) at e in let f : false ≡ true = h in absurd (cc))
+    | Some x ↦ λ some. inside task.streams to
+        (λ none. let h = rw (some, none) at e in let f : false ≡ true = h in absurd (cc))
   ] refl,
 )

@@ -51,7 +51,9 @@ is_closed all s = list_all (λ a. are_among (slice_get all a) s.above) s.above
 
 abbrev pub are_fit_sorts : List sorts.Sort → Bool
 are_fit_sorts all =
-    fit.is_short all && is_object (slice_get all 0) && list_all (λ (s : sorts.Sort). fit.are_places (length all) s.above) all && are_proper 0 all && list_all (is_closed all) all && are_fit_names (map (λ (s : sorts.Sort). s.name) all)
+    fit.is_short all && is_object (slice_get all 0)
+    && list_all (λ (s : sorts.Sort). fit.are_places (length all) s.above) all && are_proper 0 all
+    && list_all (is_closed all) all && are_fit_names (map (λ (s : sorts.Sort). s.name) all)
 
 -- ---- domains
 
@@ -137,7 +139,8 @@ has_fit_values task =
 
 abbrev pub is_fit_problem : Task → Bool
 is_fit_problem task =
-    fit.is_name task.problem.name && are_fit_objects task.domain task.problem.objects && are_first task.domain.constants task.problem.objects && has_fit_facts task && has_fit_values task
+    fit.is_name task.problem.name && are_fit_objects task.domain task.problem.objects
+    && are_first task.domain.constants task.problem.objects && has_fit_facts task && has_fit_values task
     && fit.is_fit_condition task.domain (length task.problem.objects) [] task.problem.goal
 
 -- ---- streams

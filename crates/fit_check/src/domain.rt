@@ -11,7 +11,7 @@ use crate::names::{are_named, is_name};
 use crate::roles::{are_fit_roles, has_derived_role};
 use crate::slots::Slots;
 use crate::sorts::are_fit_sorts;
-use task_model::{Action, CostTerm, Declared, Derived, Domain, Pattern, Signature};
+use task_model::{Action, CostTerm, Declared, Derived, Domain, LARGEST_NUMBER, Pattern, Signature};
 
 /// Whether each takes at most eight arguments.
 fn have_fit_arities(signatures: &[Signature]) -> bool
@@ -144,7 +144,7 @@ fn is_fit_cost(domain: &Domain, slots: &Slots, cost: &CostTerm) -> bool
     ensures { result ≡ fit.is_fit_cost domain.now slots.now cost.now }
 {
     match cost {
-        CostTerm::Number(number) => *number <= 1_000_000,
+        CostTerm::Number(number) => *number <= LARGEST_NUMBER,
         CostTerm::Value { func, args } => is_fit_application(
             domain.functions.as_slice(),
             domain.constants.len(),

@@ -24,7 +24,8 @@ pub(crate) trait Graph {
         ensures { result ≡ edge self.now from to };
 
     /// Edges are between nodes.
-    ghost within: { (graph : Self) (from to : ℕ) → edge graph from to ≡ true → (from < size graph) × (to < size graph) };
+    ghost within: { (graph : Self) (from to : ℕ) → edge graph from to ≡ true
+        → (from < size graph) × (to < size graph) };
 }
 
 /// The next node from where it stands to which an edge leads and which isn't done, or the size where there is none.

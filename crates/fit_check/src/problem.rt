@@ -10,7 +10,7 @@ use crate::lists::is_short;
 use crate::names::{is_name, same_name};
 use crate::roles::has_derived_role;
 use crate::slots::Slots;
-use task_model::{Declared, Domain, Fact, Kind, Obj, Task, Valued};
+use task_model::{Declared, Domain, Fact, Kind, LARGEST_NUMBER, Obj, Task, Valued};
 
 /// Whether the first objects are these, by their names.
 fn are_first(constants: &[Declared], objects: &[Declared]) -> bool
@@ -77,7 +77,7 @@ fn is_fit_value(domain: &Domain, size: usize, valued: &Valued) -> bool
     let args = valued.args.as_slice();
     has_arity(domain.functions.as_slice(), valued.func, args.len())
         && are_objects(size, args)
-        && valued.value <= 1_000_000
+        && valued.value <= LARGEST_NUMBER
 }
 
 /// Whether each may be a value of a function.

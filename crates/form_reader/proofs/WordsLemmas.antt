@@ -1,10 +1,9 @@
 -- What a word of digits is read as.
-use Rattle.std.proofs.Common.{◌≡◌, ℕ, true, false, List, [], ◌∷◌, refl, subst, arith, Result, Err}
+use Rattle.std.proofs.Common.{◌≡◌, ℕ, true, false, List, [], ◌∷◌, refl, subst, Result, Err}
 use Rattle.std.specs.List.{list_all}
 use Rattle.std.specs.Char.{is_ascii_digit}
-use Rattle.std.specs.Str.Parse.{ParsesUnsigned, digits_value}
-use Rattle.std.proofs.lemmas.Str.Parse.{parse_digits}
-use Rattle.lemmas.proofs.Digits.{too_large, own}
+use Rattle.std.specs.Str.Parse.{ParsesUnsigned}
+use Rattle.lemmas.proofs.Digits.{refused_large}
 use Rattle.form_reader.specs.Words.{is_number}
 
 refused : {E : Type 0} (word : List ℕ) (e : E) → list_all is_ascii_digit word ≡ true
@@ -12,12 +11,11 @@ refused : {E : Type 0} (word : List ℕ) (e : E) → list_all is_ascii_digit wor
     → is_number word ≡ false
 unfolding is_number
 refused [] e digits h = refl
-refused (b ∷ bs) e digits h =
-    let no = parse_digits own 32 (b ∷ bs) (Err e) h digits in
-    rw (digits, too_large _ (digits_value 10 (b ∷ bs)) (λ lt. no (omega arith, lt)) refl) refl
+refused (b ∷ bs) e digits h = rw (digits, refused_large b bs e digits h) refl
 
 pub not_number : {E : Type 0} (word text : List ℕ) (r : Result ℕ E) (e : E) → text ≡ word
     → list_all is_ascii_digit word ≡ true
     → ParsesUnsigned 32 10 text r → r ≡ Err e → is_number word ≡ false
 not_number {E} word text r e same digits h err =
-    refused word e digits (subst (λ t. ParsesUnsigned {E = E} 32 10 t (Err e)) same (subst (λ x. ParsesUnsigned {E = E} 32 10 text x) err h))
+    refused word e digits
+    (subst (λ t. ParsesUnsigned {E = E} 32 10 t (Err e)) same (subst (λ x. ParsesUnsigned {E = E} 32 10 text x) err h))

@@ -26,7 +26,9 @@ valued_faults place (list items at rest) =
 -- (NAME NAME*) | (= (NAME NAME*) NUMBER)
 abbrev pub fact_faults : ℕ → Trees → List Fault
 fact_faults place nothing = shape place ∷ []
-fact_faults place (word text at rest) = if bytes_eq text (codes "=") then valued_faults place rest else application_faults Predicate Name place (word text at rest)
+fact_faults place (word text at rest) =
+    if bytes_eq text (codes "=") then valued_faults place rest
+    else application_faults Predicate Name place (word text at rest)
 fact_faults place (list items at rest) = shape at ∷ []
 
 -- fact*
@@ -45,7 +47,9 @@ abbrev mutual
   -- () | (NAME term*) | (and atoms*)
   pub atoms_faults : ℕ → Trees → List Fault
   atoms_faults place nothing = []
-  atoms_faults place (word text at rest) = if bytes_eq text (codes "and") then atom_rows_faults rest else application_faults Predicate Term place (word text at rest)
+  atoms_faults place (word text at rest) =
+      if bytes_eq text (codes "and") then atom_rows_faults rest
+      else application_faults Predicate Term place (word text at rest)
   atoms_faults place (list items at rest) = shape at ∷ []
 
 -- the word `total-cost` alone

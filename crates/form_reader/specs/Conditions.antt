@@ -32,7 +32,8 @@ abbrev mutual
   pub condition_faults : ℕ → Trees → List Fault
   condition_faults place nothing = []
   condition_faults place (word text at rest) =
-      by_condition (condition_head_of text) (conditions_faults rest) (single_faults place rest) (exists_faults place rest) (two_faults Term place rest) (unsupported place ∷ [])
+      by_condition (condition_head_of text) (conditions_faults rest)
+      (single_faults place rest) (exists_faults place rest) (two_faults Term place rest) (unsupported place ∷ [])
       (application_faults Predicate Term place (word text at rest))
   condition_faults place (list items at rest) = shape at ∷ []
 

@@ -66,6 +66,7 @@ abbrev mutual
   pub effect_faults : ℕ → Trees → List Fault
   effect_faults place nothing = []
   effect_faults place (word text at rest) =
-      by_effect (effect_head_of text) (effects_faults rest) (negated_faults place rest) (increase_faults place rest) (unsupported place ∷ [])
+      by_effect (effect_head_of text) (effects_faults rest) (negated_faults place rest)
+      (increase_faults place rest) (unsupported place ∷ [])
       (application_faults Predicate Term place (word text at rest))
   effect_faults place (list items at rest) = shape at ∷ []

@@ -5,6 +5,7 @@ use Rattle.std.specs.Char.{is_ascii_digit}
 use Rattle.std.specs.Str.{bytes_eq}
 use Rattle.std.specs.Str.Parse.{digits_value}
 use Rattle.task_model.specs.Fit.{is_name}
+use Rattle.task_model.specs.declared.limits.TheConstants.{LARGEST_NUMBER}
 use Rattle.form_reader.specs.declared.words.WordSort.{WordSort}
 use Rattle.form_reader.specs.declared.words.WordSort.TheVariants as sorts
 use Rattle.form_reader.specs.declared.words.ConditionHead.{ConditionHead}
@@ -20,7 +21,7 @@ is_variable (b ∷ bs) = (b == 63) && is_name bs
 -- digits alone, whose value is at most a million; leading zeros may stand
 unfoldable pub is_number : List ℕ → Bool
 is_number [] = false
-is_number (b ∷ bs) = list_all is_ascii_digit (b ∷ bs) && nat_le (digits_value 10 (b ∷ bs)) 1000000
+is_number (b ∷ bs) = list_all is_ascii_digit (b ∷ bs) && nat_le (digits_value 10 (b ∷ bs)) LARGEST_NUMBER
 
 -- a word that begins with `:`
 abbrev pub is_keyword : List ℕ → Bool
@@ -34,12 +35,15 @@ begins_with_digit (b ∷ bs) = is_ascii_digit b
 -- the heads of conditions that PDDL has and that aren't names of predicates
 unfoldable pub is_connective : List ℕ → Bool
 is_connective w =
-    bytes_eq w (codes "and") || bytes_eq w (codes "or") || bytes_eq w (codes "not") || bytes_eq w (codes "exists") || bytes_eq w (codes "forall") || bytes_eq w (codes "imply") || bytes_eq w (codes "when") || bytes_eq w (codes "preference")
+    bytes_eq w (codes "and") || bytes_eq w (codes "or") || bytes_eq w (codes "not") || bytes_eq w (codes "exists")
+    || bytes_eq w (codes "forall") || bytes_eq w (codes "imply") || bytes_eq w (codes "when")
+    || bytes_eq w (codes "preference")
 
 -- the further words that aren't names of predicates: heads of effects, and `either`
 unfoldable pub is_change : List ℕ → Bool
 is_change w =
-    bytes_eq w (codes "increase") || bytes_eq w (codes "decrease") || bytes_eq w (codes "assign") || bytes_eq w (codes "scale-up") || bytes_eq w (codes "scale-down") || bytes_eq w (codes "either")
+    bytes_eq w (codes "increase") || bytes_eq w (codes "decrease") || bytes_eq w (codes "assign")
+    || bytes_eq w (codes "scale-up") || bytes_eq w (codes "scale-down") || bytes_eq w (codes "either")
 
 abbrev pub is_predicate_name : List ℕ → Bool
 is_predicate_name w = is_name w && not (is_connective w) && not (is_change w)
@@ -55,7 +59,9 @@ is_of sorts.Term w = is_name w || is_variable w
 -- the heads of conditions that this project's profile leaves out
 unfoldable pub is_refused_condition : List ℕ → Bool
 is_refused_condition w =
-    bytes_eq w (codes "forall") || bytes_eq w (codes "imply") || bytes_eq w (codes "when") || bytes_eq w (codes "preference") || bytes_eq w (codes "<") || bytes_eq w (codes ">") || bytes_eq w (codes "<=") || bytes_eq w (codes ">=")
+    bytes_eq w (codes "forall") || bytes_eq w (codes "imply") || bytes_eq w (codes "when")
+    || bytes_eq w (codes "preference") || bytes_eq w (codes "<") || bytes_eq w (codes ">")
+    || bytes_eq w (codes "<=") || bytes_eq w (codes ">=")
 
 unfoldable pub condition_head_of : List ℕ → ConditionHead
 condition_head_of w =
@@ -69,7 +75,8 @@ condition_head_of w =
 -- the heads of effects that this project's profile leaves out
 unfoldable pub is_refused_effect : List ℕ → Bool
 is_refused_effect w =
-    bytes_eq w (codes "forall") || bytes_eq w (codes "when") || bytes_eq w (codes "assign") || bytes_eq w (codes "decrease") || bytes_eq w (codes "scale-up") || bytes_eq w (codes "scale-down")
+    bytes_eq w (codes "forall") || bytes_eq w (codes "when") || bytes_eq w (codes "assign")
+    || bytes_eq w (codes "decrease") || bytes_eq w (codes "scale-up") || bytes_eq w (codes "scale-down")
 
 unfoldable pub effect_head_of : List ℕ → EffectHead
 effect_head_of w =
@@ -81,4 +88,5 @@ effect_head_of w =
 -- the heads that a list in a stream's atoms may not have
 unfoldable pub is_refused_in_atoms : List ℕ → Bool
 is_refused_in_atoms w =
-    bytes_eq w (codes "not") || bytes_eq w (codes "or") || bytes_eq w (codes "exists") || bytes_eq w (codes "forall") || bytes_eq w (codes "=")
+    bytes_eq w (codes "not") || bytes_eq w (codes "or") || bytes_eq w (codes "exists") || bytes_eq w (codes "forall")
+    || bytes_eq w (codes "=")

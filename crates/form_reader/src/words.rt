@@ -6,11 +6,10 @@ ghost use Rattle.std.specs.Str.Parse.{digits_value};
 ghost use Rattle.task_model.specs.Fit as fit;
 ghost use Rattle.form_reader.specs.Words as specs;
 
+use task_model::LARGEST_NUMBER;
+
 /// The longest name, in bytes.
 const NAME_BYTES: usize = 255;
-
-/// The largest number.
-const LARGEST: u32 = 1_000_000;
 
 /// What kind of word has to stand in a place.
 #[derive(Clone, Copy, Debug, PartialEq, Eq)]
@@ -151,7 +150,7 @@ pub fn number_of(word: &[u8]) -> Option<u32>
     let Ok(number) = text.parse::<u32>() else {
         return None;
     };
-    if number <= LARGEST {
+    if number <= LARGEST_NUMBER {
         Some(number)
     } else {
         None

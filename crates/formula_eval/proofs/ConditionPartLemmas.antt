@@ -9,7 +9,8 @@ use Rattle.formula_eval.specs.Readable.{is_readable, are_readable}
 module _ (atom : ℕ → List ℕ → Bool) (objects : ℕ → List ℕ) (slots : List ℕ) where
   pub all_true-drop : (cs : List Condition) (i : ℕ) (c : Condition) → i < length cs
       → c ≡ get_or cs i c
-      → all_true atom objects (parts_of (drop i cs)) slots ≡ (truth atom objects c slots && all_true atom objects (parts_of (drop (suc i) cs)) slots)
+      → all_true atom objects (parts_of (drop i cs)) slots
+      ≡ (truth atom objects c slots && all_true atom objects (parts_of (drop (suc i) cs)) slots)
   all_true-drop [] i c h e = absurd (omega arith)
   all_true-drop (x ∷ xs) zero c h e =
       ap (λ y. truth atom objects y slots && all_true atom objects (parts_of xs) slots) (sym e)
@@ -17,7 +18,8 @@ module _ (atom : ℕ → List ℕ → Bool) (objects : ℕ → List ℕ) (slots 
 
   pub any_true-drop : (cs : List Condition) (i : ℕ) (c : Condition) → i < length cs
       → c ≡ get_or cs i c
-      → any_true atom objects (parts_of (drop i cs)) slots ≡ (truth atom objects c slots || any_true atom objects (parts_of (drop (suc i) cs)) slots)
+      → any_true atom objects (parts_of (drop i cs)) slots
+      ≡ (truth atom objects c slots || any_true atom objects (parts_of (drop (suc i) cs)) slots)
   any_true-drop [] i c h e = absurd (omega arith)
   any_true-drop (x ∷ xs) zero c h e =
       ap (λ y. truth atom objects y slots || any_true atom objects (parts_of xs) slots) (sym e)

@@ -16,7 +16,8 @@ have_types-unequal known objects sorts n = by (have_types known objects sorts) r
 
 pub have_types-drop : (known : Known) (objects sorts : List ℕ) (i : ℕ) → i < length objects
     → i < length sorts
-    → have_types known (drop i objects) (drop i sorts) ≡ (has_type known (get_or objects i 0) (get_or sorts i 0) && have_types known (drop (suc i) objects) (drop (suc i) sorts))
+    → have_types known (drop i objects) (drop i sorts)
+    ≡ (has_type known (get_or objects i 0) (get_or sorts i 0) && have_types known (drop (suc i) objects) (drop (suc i) sorts))
 have_types-drop known [] sorts i h k = absurd (omega arith)
 have_types-drop known (o ∷ os) [] i h k = absurd (omega arith)
 have_types-drop known (o ∷ os) (s ∷ ss) zero h k = refl

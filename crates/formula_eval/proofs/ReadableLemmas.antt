@@ -101,7 +101,8 @@ pub readable_terms : (objects : ℕ) (filled : List ℕ) (ts : List Term)
     → list_all (is_fit_term objects filled) ts ≡ true → list_all is_readable_term ts ≡ true
 readable_terms objects filled [] all fit = refl
 readable_terms objects filled (t ∷ ts) all fit =
-    and_from _ _ (readable_term objects filled t all (first_so (is_fit_term objects filled t) _ fit)) (readable_terms objects filled ts all (second_so (is_fit_term objects filled t) _ fit))
+    and_from _ _ (readable_term objects filled t all (first_so (is_fit_term objects filled t) _ fit))
+    (readable_terms objects filled ts all (second_so (is_fit_term objects filled t) _ fit))
 
 -- what has an arity is a place of the list
 pub has_place : (all : List Signature) (place n : ℕ) → has_arity all place n ≡ true
@@ -128,9 +129,11 @@ module _ (domain : Domain) (few : list_all (λ (s : Signature). nat_le s.arity 8
     readable_of_sound (Atom pred args) filled all e =
         let arity = first_so (has_arity domain.predicates pred (length args)) _ e in
         let terms = second_so (has_arity domain.predicates pred (length args)) _ e in
-        and_from _ _ (and_from _ _ (has_place domain.predicates pred (length args) arity) (few_arguments domain.predicates pred (length args) few arity)) (readable_terms objects filled args all terms)
+        and_from _ _ (and_from _ _ (has_place domain.predicates pred (length args) arity)
+        (few_arguments domain.predicates pred (length args) few arity)) (readable_terms objects filled args all terms)
     readable_of_sound (Equal s t) filled all e =
-        and_from _ _ (readable_term objects filled s all (first_so (is_fit_term objects filled s) _ e)) (readable_term objects filled t all (second_so (is_fit_term objects filled s) _ e))
+        and_from _ _ (readable_term objects filled s all (first_so (is_fit_term objects filled s) _ e))
+        (readable_term objects filled t all (second_so (is_fit_term objects filled s) _ e))
     readable_of_sound (every parts) filled all e =
         readable_of_sounds parts filled all (second_so (nat_le (count_of parts) 8388608) _ e)
     readable_of_sound (Any parts) filled all e =
@@ -140,14 +143,16 @@ module _ (domain : Domain) (few : list_all (λ (s : Signature). nat_le s.arity 8
         let front = first_so (nat_le (first + length sorts) 16 && are_places (length domain.sorts) sorts) _ e in
         let within = first_so (nat_le (first + length sorts) 16) _ front in
         let rest = second_so (nat_le (first + length sorts) 16 && are_places (length domain.sorts) sorts) _ e in
-        and_from _ _ within (readable_of_sound body _ (fit_slots first (length sorts) filled (leb-true (first + length sorts) 16 within) all) rest)
+        and_from _ _ within
+        (readable_of_sound body _ (fit_slots first (length sorts) filled (leb-true (first + length sorts) 16 within) all) rest)
 
     readable_of_sounds : (cs : Conditions) (filled : List ℕ)
         → list_all (λ s. nat_lt s 16) filled ≡ true
         → are_sound domain objects cs filled ≡ true → are_readable domain cs ≡ true
     readable_of_sounds none filled all e = refl
     readable_of_sounds (more part parts) filled all e =
-        and_from _ _ (readable_of_sound part filled all (first_so (is_sound domain objects part filled) _ e)) (readable_of_sounds parts filled all (second_so (is_sound domain objects part filled) _ e))
+        and_from _ _ (readable_of_sound part filled all (first_so (is_sound domain objects part filled) _ e))
+        (readable_of_sounds parts filled all (second_so (is_sound domain objects part filled) _ e))
 
 -- the first slots, at most sixteen of them
 pub few_slots : (n : ℕ) → n ≤ 16 → list_all (λ s. nat_lt s 16) (numbers_from 0 n) ≡ true
@@ -158,7 +163,8 @@ pub fit_readable : (domain : Domain) → IsFitDomain domain → (objects n : ℕ
     → (c : Condition)
     → is_fit_condition domain objects (numbers_from 0 n) c ≡ true → is_readable domain c ≡ true
 fit_readable domain fit objects n few c e =
-    readable_of_sound domain fit.predicates.arities objects c (numbers_from 0 n) (few_slots n few) (first_so (is_sound domain objects c (numbers_from 0 n)) _ e)
+    readable_of_sound domain fit.predicates.arities objects c (numbers_from 0 n)
+    (few_slots n few) (first_so (is_sound domain objects c (numbers_from 0 n)) _ e)
 
 -- ---- items
 
@@ -177,4 +183,5 @@ item_params domain d e =
 pub item_readable : (domain : Domain) → IsFitDomain domain → (d : Derived)
     → is_fit_item domain d ≡ true → is_readable domain d.body ≡ true
 item_readable domain fit d e =
-    fit_readable domain fit (length domain.constants) (length d.params) (item_params domain d e) d.body (second_so (are_fit_params domain d.params && has_arity domain.predicates d.pred (length d.params)) _ e)
+    fit_readable domain fit (length domain.constants) (length d.params) (item_params domain d e) d.body
+    (second_so (are_fit_params domain d.params && has_arity domain.predicates d.pred (length d.params)) _ e)

@@ -20,4 +20,5 @@ pub idle_push : {B : Type 0} (running : B → Bool) (xs : List B) (y : B) → al
     → all_idle running (xs ++ y ∷ []) ≡ true
 idle_push running [] y all here = rw here refl
 idle_push running (x ∷ xs) y all here =
-    rw (first_so (not (running x)) (all_idle running xs) all) (idle_push running xs y (second_so (not (running x)) (all_idle running xs) all) here)
+    rw (first_so (not (running x)) (all_idle running xs) all)
+    (idle_push running xs y (second_so (not (running x)) (all_idle running xs) all) here)

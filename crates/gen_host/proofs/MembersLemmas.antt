@@ -42,7 +42,8 @@ not_below last count (x ∷ xs) zero y d within rises none =
     and_here (nat_lt (count x) last) (nat_lt (count y) last) (all_below last count xs) (not_below_here last (count x) (count y) rises) none
 not_below last count (x ∷ xs) (suc i) y d within rises none =
     let lower : i < length xs = omega arith in
-    and_next (nat_lt (count x) last) (all_below last count xs) (all_below last count (set xs i y)) (not_below last count xs i y d lower rises) none
+    and_next (nat_lt (count x) last) (all_below last count xs)
+    (all_below last count (set xs i y)) (not_below last count xs i y d lower rises) none
 
 -- each of those that are all below is
 below_at : {B : Type 0} (last : ℕ) (count : B → ℕ) (xs : List B) (i : ℕ) (y : B) → i < length xs
@@ -63,7 +64,8 @@ pub record Risen (last length before now : ℕ) (old new : ℕ) : Type 0 where
 by_tests : {B : Type 0} (was is : Bool) (last : ℕ) (count : B → ℕ) (xs : List B) (i : ℕ) (y d : B)
     → i < length xs
     → count (get_or xs i d) ≤ count y → all_below last count xs ≡ was → all_below last count (set xs i y) ≡ is
-    → Risen last (length xs) (if was then sum_by count xs else length xs * last) (if is then sum_by count (set xs i y) else length (set xs i y) * last) (count (get_or xs i d)) (count y)
+    → Risen last (length xs) (if was then sum_by count xs else length xs * last)
+    (if is then sum_by count (set xs i y) else length (set xs i y) * last) (count (get_or xs i d)) (count y)
 by_tests true true last count xs i y d within rises before now =
     let sums = sum_by-set count xs i y d within in
     let below = below_at last count xs i y within now in
@@ -104,7 +106,8 @@ all_below-append : {B : Type 0} (last : ℕ) (count : B → ℕ) (xs : List B) (
     → all_below last count (xs ++ y ∷ []) ≡ true
 all_below-append last count [] y all here = rw (lt-ltb (count y) last here) refl
 all_below-append last count (x ∷ xs) y all here =
-    rw (first_so (nat_lt (count x) last) (all_below last count xs) all) (all_below-append last count xs y (second_so (nat_lt (count x) last) (all_below last count xs) all) here)
+    rw (first_so (nat_lt (count x) last) (all_below last count xs) all)
+    (all_below-append last count xs y (second_so (nat_lt (count x) last) (all_below last count xs) all) here)
 
 -- one more that is below
 pub below_more : {B : Type 0} (last : ℕ) (count : B → ℕ) (xs : List B) (i : ℕ) (d : B)

@@ -5,9 +5,10 @@ ghost use Rattle.gen_host.specs.Members.{total, at_member, all_idle};
 ghost use Rattle.io_world.specs.Faults.{last_count, HasCause};
 ghost use Rattle.io_world.specs.Talks.{Talk, silence, wrote_more, heard_more};
 ghost use Rattle.io_world.specs.declared.host.HostFault.TheVariants.{Failed};
+ghost use Rattle.io_world.specs.declared.host.TheConstants.{CHILDREN};
 
 use crate::Generator;
-use io_world::{FaultCount, Host, HostFault};
+use io_world::{CHILDREN, FaultCount, Host, HostFault};
 
 type Member = Box<dyn Generator>;
 
@@ -73,13 +74,13 @@ fn faults(member: &Member) -> u64
 #[derive(Drop)]
 pub struct BoxHost {
     members: Vec<Member>,
-    ghost count: { length members.items ≡ 17 },
+    ghost count: { length members.items ≡ CHILDREN },
 }
 
 impl BoxHost {
     /// The host of these generators, of which there are 17.
     pub fn new(members: Vec<Member>) -> BoxHost
-        requires { length members.items ≡ 17 }
+        requires { length members.items ≡ CHILDREN }
         ensures count { ⟦<BoxHost as Host>⟧.faults result
             ≡ total last_count (λ b. faults b) members.items }
         ensures running { (k : ℕ) → ⟦<BoxHost as Host>⟧.running result k
@@ -94,13 +95,16 @@ impl BoxHost {
 }
 
 impl Host for BoxHost {
-    ghost faults = { λ s. total last_count (λ b. (Generator-box b).faults b.value) s.members.items };
+    ghost faults = { λ s.
+        total last_count (λ b. (Generator-box b).faults b.value) s.members.items };
 
-    ghost last = { 17 * last_count };
+    ghost last = { CHILDREN * last_count };
 
-    ghost running = { λ s k. at_member false (λ b. (Generator-box b).running b.value) (slice_get s.members.items k) };
+    ghost running = { λ s k. at_member false (λ b. (Generator-box b).running b.value)
+        (slice_get s.members.items k) };
 
-    ghost spoken = { λ s k. at_member None (λ b. (Generator-box b).spoken b.value) (slice_get s.members.items k) };
+    ghost spoken = { λ s k. at_member None (λ b. (Generator-box b).spoken b.value)
+        (slice_get s.members.items k) };
 
     ghost log = { λ s. None };
 
@@ -129,7 +133,7 @@ impl Host for BoxHost {
         for member in &self.members {
             let count = faults(member);
             if count >= FaultCount::LAST {
-                return 17 * FaultCount::LAST;
+                return CHILDREN as u64 * FaultCount::LAST;
             }
             sum += count;
         }

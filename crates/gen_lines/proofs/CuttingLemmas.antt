@@ -33,7 +33,7 @@ split_later held later lt =
 pub parts_left : (bytes : List ℕ) → 0 < length (slice_split is_feed bytes)
 parts_left bytes = omega (arith, length-slice_split is_feed bytes)
 
-open_cons : (part : List ℕ) (parts : List (List ℕ)) → 0 < length parts
+pub open_cons : (part : List ℕ) (parts : List (List ℕ)) → 0 < length parts
     → open_part (part ∷ parts) ≡ open_part parts
 open_cons part [] h = absurd (omega arith)
 open_cons part (next ∷ parts) h = refl
@@ -50,25 +50,33 @@ fed held line more e =
 line_later : (held later : List ℕ) → position_or_len is_feed held < length held
     → lines_of (held ++ later) ≡ strip_last 13 (before_first is_feed held) ∷ lines_of (after_first is_feed held ++ later)
 line_later held later lt =
-    rw (split_later held later lt, ended_cons (before_first is_feed held) (slice_split is_feed (after_first is_feed held ++ later)) (parts_left (after_first is_feed held ++ later))) refl
+    rw (
+      split_later held later lt,
+      ended_cons (before_first is_feed held)
+          (slice_split is_feed (after_first is_feed held ++ later)) (parts_left (after_first is_feed held ++ later)),
+    ) refl
 
 rest_later : (held later : List ℕ) → position_or_len is_feed held < length held
     → unfinished (held ++ later) ≡ unfinished (after_first is_feed held ++ later)
 rest_later held later lt =
-    ap open_part (split_later held later lt) ∙ open_cons (before_first is_feed held) (slice_split is_feed (after_first is_feed held ++ later)) (parts_left (after_first is_feed held ++ later))
+    ap open_part (split_later held later lt)
+    ∙ open_cons (before_first is_feed held)
+    (slice_split is_feed (after_first is_feed held ++ later)) (parts_left (after_first is_feed held ++ later))
 
 same_line : (held line : List ℕ) → lines_of held ≡ line ∷ lines_of (after_first is_feed held)
     → position_or_len is_feed held < length held
     → strip_last 13 (before_first is_feed held) ≡ line
 same_line held line e lt =
     let nothing_later = line_later held [] lt in
-    let here : lines_of held ≡ strip_last 13 (before_first is_feed held) ∷ lines_of (after_first is_feed held) = rw (append-nil held, append-nil (after_first is_feed held)) at nothing_later in
+    let here : lines_of held ≡ strip_last 13 (before_first is_feed held) ∷ lines_of (after_first is_feed held) =
+    rw (append-nil held, append-nil (after_first is_feed held)) at nothing_later in
     cc
 
 held_open : (held : List ℕ) → lines_of held ≡ [] → unfinished held ≡ held
 held_open held none =
     elim (cases_lt (position_or_len is_feed held) (length held)) [
-      | inl lt ↦ absurd (let later = line_later held [] lt in let some = rw (append-nil held, append-nil (after_first is_feed held)) at later in cc)
+      | inl lt ↦ absurd
+          (let later = line_later held [] lt in let some = rw (append-nil held, append-nil (after_first is_feed held)) at later in cc)
       | inr le ↦ rw (split_whole is_feed held le) refl
     ]
 

@@ -29,7 +29,7 @@ pub fields_skip : (bs : List ℕ) → fields bs ≡ fields (drop (position_or_le
 fields_skip [] = refl
 fields_skip (b ∷ bs) = skip_by b bs (fields_skip bs) (is_space b) refl
 
-filled : (bs : List ℕ) → 0 < length bs → is_filled bs ≡ true
+pub filled : (bs : List ℕ) → 0 < length bs → is_filled bs ≡ true
 filled [] h = absurd (omega arith)
 filled (b ∷ bs) h = refl
 
@@ -49,7 +49,8 @@ run_within : (bs : List ℕ) → 0 < position_or_len is_space bs
 run_within bs some lt =
     let n = position_or_len is_space bs in
     let long : 0 < length (take n bs) = omega (arith, length-take-le n bs (omega arith)) in
-    rw (slice_split_first is_space bs 0 lt, fields_next bs n lt (passes_at_first is_space bs 0 lt)) (filter_filled (take n bs) (slice_split is_space (drop (n + 1) bs)) long)
+    rw (slice_split_first is_space bs 0 lt, fields_next bs n lt (passes_at_first is_space bs 0 lt))
+    (filter_filled (take n bs) (slice_split is_space (drop (n + 1) bs)) long)
 
 run_whole : (bs : List ℕ) → 0 < position_or_len is_space bs
     → length bs ≤ position_or_len is_space bs
@@ -79,15 +80,21 @@ first_field line from skipped run e r =
     let rest = drop from line in
     let at = found_at other rest skipped e in
     let lt : skipped < length rest = omega (arith, at.within, at.place) in
-    let word : not (is_space (get_or rest skipped 0)) ≡ true = subst (λ n. not (is_space (get_or rest n 0)) ≡ true) at.place (passes_at_first other rest 0 at.within) in
+    let word : not (is_space (get_or rest skipped 0)) ≡ true =
+    subst (λ n. not (is_space (get_or rest n 0)) ≡ true) at.place (passes_at_first other rest 0 at.within) in
     let some : 0 < position_or_len is_space (drop skipped rest) = omega (arith, prefix_len-drop_yes other rest skipped 0 lt word) in
-    let upper : position_or_len is_space (drop skipped rest) ≤ length (drop skipped rest) = prefix_len-le-length (λ b. not (is_space b)) (drop skipped rest) in
+    let upper : position_or_len is_space (drop skipped rest) ≤ length (drop skipped rest) =
+    prefix_len-le-length (λ b. not (is_space b)) (drop skipped rest) in
     let first : fields rest ≡ take run (drop skipped rest) ∷ fields (drop run (drop skipped rest)) =
-    fields_skip rest ∙ ap (λ n. fields (drop n rest)) at.place ∙ subst (λ n. fields (drop skipped rest) ≡ take n (drop skipped rest) ∷ fields (drop n (drop skipped rest))) (sym r) (fields_run (drop skipped rest) some) in
+    fields_skip rest ∙ ap (λ n. fields (drop n rest)) at.place
+    ∙ subst (λ n. fields (drop skipped rest) ≡ take n (drop skipped rest) ∷ fields (drop n (drop skipped rest)))
+    (sym r) (fields_run (drop skipped rest) some) in
     let text : take run (drop skipped rest) ≡ slice_range line (from + skipped) (from + skipped + run) =
     let same : run ≡ from + skipped + run - (from + skipped) = omega arith in
-    ap (λ n. take n (drop skipped rest)) same ∙ ap (λ bs. take (from + skipped + run - (from + skipped)) bs) (drop-drop skipped from line) in
-    let next : drop run (drop skipped rest) ≡ drop (from + skipped + run) line = ap (drop run) (drop-drop skipped from line) ∙ drop-drop run (from + skipped) line in
+    ap (λ n. take n (drop skipped rest)) same
+    ∙ ap (λ bs. take (from + skipped + run - (from + skipped)) bs) (drop-drop skipped from line) in
+    let next : drop run (drop skipped rest) ≡ drop (from + skipped + run) line =
+    ap (drop run) (drop-drop skipped from line) ∙ drop-drop run (from + skipped) line in
     record {
       ordered = (omega arith, omega arith);
       within = omega (arith, length-drop skipped rest, length-drop from line);

@@ -27,4 +27,5 @@ words_are_fields (word ∷ next ∷ words) e =
     let here = and_parts (is_word word) (list_all is_word (next ∷ words)) e in
     let parts = and_parts (is_filled word) (list_all (λ b. not (is_space b)) word) here.0 in
     let rest = words_are_fields (next ∷ words) here.1 in
-    rw (slice_split_at is_space word 32 (join_with_byte 32 (next ∷ words)) (no_space word parts.1) refl) (kept word (slice_split is_space (join_with_byte 32 (next ∷ words))) parts.0 ∙ ap (λ fs. word ∷ fs) rest)
+    rw (slice_split_at is_space word 32 (join_with_byte 32 (next ∷ words)) (no_space word parts.1) refl)
+    (kept word (slice_split is_space (join_with_byte 32 (next ∷ words))) parts.0 ∙ ap (λ fs. word ∷ fs) rest)

@@ -27,7 +27,11 @@ lines_some held n e =
     let at = found_at is_feed held n e in
     let cut : slice_split is_feed held ≡ take n held ∷ slice_split is_feed (drop (n + 1) held) =
     rw (← at.place) (slice_split_first is_feed held 0 at.within) in
-    rw (cut, ended_cons (take n held) (slice_split is_feed (drop (n + 1) held)) (omega (arith, length-slice_split is_feed (drop (n + 1) held)))) refl
+    rw (
+      cut,
+      ended_cons (take n held) (slice_split is_feed (drop (n + 1) held)) (omega (arith, length-slice_split is_feed (drop (n + 1) held))),
+    )
+    refl
 
 pub after_some : (held : List ℕ) (n : ℕ) → position is_feed held ≡ Some n
     → after_first is_feed held ≡ drop (n + 1) held

@@ -77,9 +77,11 @@ right_fields : (given : List (List ℕ)) (outputs : ℕ) (several : Bool) (tuple
     → reply_of_fields (Outputs outputs several) given ≡ yields tuples values → IsRight outputs several tuples values
 right_fields [] outputs several tuples values e = absurd cc
 right_fields (word ∷ given) outputs several tuples values e =
-    elim (by_words (bytes_eq word (codes "end")) (bytes_eq word (codes "yield")) (end_reply given) (given_reply (Outputs outputs several) given) (bad Word) (yields tuples values) e) [
+    elim (by_words (bytes_eq word (codes "end")) (bytes_eq word (codes "yield"))
+    (end_reply given) (given_reply (Outputs outputs several) given) (bad Word) (yields tuples values) e) [
       | is_first ended ↦ absurd (end_is_no_yield given tuples values ended)
-      | is_second gave ↦ right_of outputs several given tuples values (found outputs (parted (has_bars outputs several) given) tuples values gave)
+      | is_second gave ↦
+          right_of outputs several given tuples values (found outputs (parted (has_bars outputs several) given) tuples values gave)
       | is_third wrong ↦ absurd cc
     ]
 
@@ -127,7 +129,8 @@ small_fields : (given : List (List ℕ)) (wanted : Wanted) (n : ℕ)
     → reply_of_fields wanted given ≡ number n → n ≤ 1000000
 small_fields [] wanted n e = absurd cc
 small_fields (word ∷ given) wanted n e =
-    elim (by_words (bytes_eq word (codes "end")) (bytes_eq word (word_of wanted)) (end_reply given) (given_reply wanted given) (bad Word) (number n) e) [
+    elim (by_words (bytes_eq word (codes "end")) (bytes_eq word (word_of wanted)) (end_reply given) (given_reply wanted given)
+    (bad Word) (number n) e) [
       | is_first ended ↦ absurd (end_is_no_number given n ended)
       | is_second gave ↦ given_small wanted given n gave
       | is_third wrong ↦ absurd cc

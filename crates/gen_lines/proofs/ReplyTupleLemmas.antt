@@ -44,7 +44,8 @@ parted_other false field given e = refl
 abbrev pub count_on : ℕ → ℕ → ℕ → List (List (List ℕ)) → Option ℕ
 count_on width tuples begun [] = None
 count_on width tuples begun (tuple ∷ more) =
-    if (begun + length tuple == width) && list_all (λ t. length t == width) more && nat_le (tuples + length more) 16 then Some (tuples + length more) else None
+    if (begun + length tuple == width) && list_all (λ t. length t == width) more && nat_le (tuples + length more) 16
+    then Some (tuples + length more) else None
 
 count_parts : (width : ℕ) (tuples : List (List (List ℕ))) → Parts tuples
     → count_of width tuples ≡ count_on width 1 0 tuples
@@ -86,7 +87,8 @@ count_full : (width tuples begun : ℕ) (more : List (List (List ℕ))) → Part
 count_full width tuples begun [] p full = absurd (let e = p.same in cc)
 count_full width tuples begun (tuple ∷ more) p full =
     let no : nat_le (tuples + suc (length more)) 16 ≡ false = grind (arith, nat_tests) in
-    none_right ((begun + 0 == width) && list_all (λ t. length t == width) (tuple ∷ more)) (nat_le (tuples + suc (length more)) 16) (tuples + suc (length more)) no
+    none_right ((begun + 0 == width) && list_all (λ t. length t == width) (tuple ∷ more))
+    (nat_le (tuples + suc (length more)) 16) (tuples + suc (length more)) no
 
 -- another field belongs to the tuple that has begun
 count_other : (width tuples begun : ℕ) (field : List ℕ) (more : List (List (List ℕ))) → Parts more

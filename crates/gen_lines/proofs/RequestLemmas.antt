@@ -31,9 +31,11 @@ pub spaced_next : (names : List (List ℕ)) (objects : List ℕ) (i object : ℕ
     → object ≡ get_or objects i object → slice_get names object ≡ Some name
     → spaced (map (name_at names) (take (i + 1) objects)) ≡ spaced (map (name_at names) (take i objects)) ++ 32 ∷ name
 spaced_next names objects i object name lt is named =
-    let one : take (i + 1) objects ≡ take i objects ++ object ∷ [] = rw add-one (take-suc objects i object lt ∙ ap (λ x. take i objects ++ x ∷ []) (sym is)) in
+    let one : take (i + 1) objects ≡ take i objects ++ object ∷ [] =
+    rw add-one (take-suc objects i object lt ∙ ap (λ x. take i objects ++ x ∷ []) (sym is)) in
     let last : name_at names object ≡ name = ap (λ found. unwrap_or found []) named in
-    rw (one, map-append) (spaced_more (map (name_at names) (take i objects)) (name_at names object) ∙ ap (λ w. spaced (map (name_at names) (take i objects)) ++ 32 ∷ w) last)
+    rw (one, map-append) (spaced_more (map (name_at names) (take i objects)) (name_at names object)
+    ∙ ap (λ w. spaced (map (name_at names) (take i objects)) ++ 32 ∷ w) last)
 
 -- the words of a request, written one after another
 pub request_written : (next number stream : List ℕ) (inputs : List (List ℕ))
@@ -46,5 +48,6 @@ pub stream_named : (task : Task) (streams : List Stream) (place : ℕ) (stream :
     → streams ≡ task.streams
     → place < length task.streams → stream ≡ get_or streams place stream → stream.name ≡ stream_name task place
 stream_named task streams place stream same lt is =
-    let found : slice_get task.streams place ≡ Some stream = slice_get_read task.streams (length task.streams) place stream refl lt (is ∙ ap (λ s. get_or s place stream) same) in
+    let found : slice_get task.streams place ≡ Some stream =
+    slice_get_read task.streams (length task.streams) place stream refl lt (is ∙ ap (λ s. get_or s place stream) same) in
     rw found refl

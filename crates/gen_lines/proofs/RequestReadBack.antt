@@ -22,6 +22,7 @@ use Rattle.gen_lines.specs.Request.{request_words, stream_name}
 use Rattle.gen_lines.proofs.LinesLemmas.{ended_cons}
 use Rattle.lemmas.proofs.Digits.{own}
 use Rattle.gen_lines.proofs.FieldWordLemmas.{words_are_fields}
+use Rattle.gen_lines.proofs.FieldLemmas.{filled}
 
 abbrev visible : ℕ → Bool
 visible b = nat_le 33 b && nat_le b 126
@@ -92,12 +93,10 @@ line_of_text text later e =
 
 number_printed : (n : ℕ) → n < 2 ^ 64 → is_printed (decimal n) ≡ true
 number_printed n lt =
-    let filled : is_filled (decimal n) ≡ true = is_filled_if_long (decimal n) (decimal_nonempty n lt) in
-    rw (filled, all_weaker is_ascii_digit visible visible_if_digit (decimal n) (digits_decimal own n lt)) refl
-  where
-    is_filled_if_long : (text : List ℕ) → 0 < length text → is_filled text ≡ true
-    is_filled_if_long [] h = absurd (omega arith)
-    is_filled_if_long (b ∷ bs) h = refl
+    rw (
+      filled (decimal n) (decimal_nonempty n lt),
+      all_weaker is_ascii_digit visible visible_if_digit (decimal n) (digits_decimal own n lt),
+    ) refl
 
 pub requests_read_back : (task : Task) (names : List (List ℕ)) (number : ℕ) (instance : Instance)
     → number < 2 ^ 32

@@ -3,7 +3,8 @@ use Rattle.std.specs.Prelude.{◌≡◌, ℕ, List, [], ◌∷◌, ◌++◌}
 use Rattle.std.specs.List.{after_first}
 use Rattle.gen_lines.specs.Lines.{is_feed, lines_of, unfinished}
 
--- Of all bytes that were pushed these lines were taken and these bytes are held, after any pushes and takes in any order.
+-- Of all bytes that were pushed these lines were taken and these bytes are held, after any pushes and takes in any
+-- order.
 pub data Cut : List ℕ → List (List ℕ) → List ℕ → Type 0 where
   fresh : Cut [] [] []
   pushed : {all : List ℕ} {taken : List (List ℕ)} {held : List ℕ} → Cut all taken held

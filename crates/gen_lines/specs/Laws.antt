@@ -6,6 +6,7 @@ use Rattle.gen_lines.specs.Lines.{lines_of}
 use Rattle.gen_lines.specs.Request.{request_of, request_words, stream_name}
 use Rattle.gen_lines.specs.Reply.{IsRight, fields, is_filled, is_space, reply_of, yields, number}
 use Rattle.task_model.specs.Streams.{name_at}
+use Rattle.task_model.specs.declared.limits.TheConstants.{LARGEST_NUMBER}
 use Rattle.task_model.specs.declared.stream.Instance.{Instance}
 use Rattle.task_model.specs.declared.task.Task.{Task}
 use Rattle.gen_lines.specs.declared.answer.Wanted.{Wanted}
@@ -36,8 +37,10 @@ is_printed text = is_filled text && list_all (λ b. nat_le 33 b && nat_le b 126)
 -- The line of a request, whatever comes after it, and the fields of that line.
 pub record ReadsBack (task : Task) (names : List (List ℕ)) (number : ℕ) (instance : Instance) : Type 0 where
   pub line : (later : List ℕ)
-      → lines_of (request_of task names number instance ++ later) ≡ join_with_byte 32 (request_words task names number instance) ∷ lines_of later
-  pub words : fields (join_with_byte 32 (request_words task names number instance)) ≡ request_words task names number instance
+      → lines_of (request_of task names number instance ++ later)
+      ≡ join_with_byte 32 (request_words task names number instance) ∷ lines_of later
+  pub words : fields (join_with_byte 32 (request_words task names number instance))
+      ≡ request_words task names number instance
 
 abbrev pub RequestsReadBack : Type 0
 RequestsReadBack =
@@ -47,4 +50,4 @@ RequestsReadBack =
 
 abbrev pub NumbersAreSmall : Type 0
 NumbersAreSmall =
-    (line : List ℕ) (wanted : Wanted) (n : ℕ) → reply_of line wanted ≡ number n → n ≤ 1000000
+    (line : List ℕ) (wanted : Wanted) (n : ℕ) → reply_of line wanted ≡ number n → n ≤ LARGEST_NUMBER

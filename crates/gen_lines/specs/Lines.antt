@@ -14,7 +14,8 @@ ended [] = []
 ended (part ∷ []) = []
 ended (part ∷ next ∷ parts) = part ∷ ended (next ∷ parts)
 
--- The lines of these bytes: what stands before each line feed, since the one before it, without one carriage return at its end.
+-- The lines of these bytes: what stands before each line feed, since the one before it, without one carriage return at
+-- its end.
 abbrev pub lines_of : List ℕ → List (List ℕ)
 lines_of bytes = map (strip_last 13) (ended (slice_split is_feed bytes))
 

@@ -8,6 +8,7 @@ use Rattle.gen_lines.specs.declared.answer.Wanted.{Wanted}
 use Rattle.gen_lines.specs.declared.answer.Wanted.TheVariants.{Outputs, Number}
 use Rattle.gen_lines.specs.declared.answer.Why.{Why}
 use Rattle.gen_lines.specs.declared.answer.Why.TheVariants.{Word, Count, Value}
+use Rattle.task_model.specs.declared.limits.TheConstants.{LARGEST_NUMBER}
 
 abbrev pub is_space : ℕ → Bool
 is_space b = b == 32
@@ -37,7 +38,7 @@ is_value field = nat_le 1 (length field) && nat_le (length field) 64 && list_all
 -- decimal digits that write a number of at most a million; leading zeros may stand
 unfoldable pub is_number : List ℕ → Bool
 is_number field =
-    is_filled field && list_all is_ascii_digit field && nat_le (digits_value 10 field) 1000000
+    is_filled field && list_all is_ascii_digit field && nat_le (digits_value 10 field) LARGEST_NUMBER
 
 -- Tuples
 
@@ -68,7 +69,8 @@ are_of_width width tuples =
 
 -- Replies
 
--- what a line says: a number of tuples with all their values in order, a number, that nothing more comes, or nothing that may stand
+-- what a line says: a number of tuples with all their values in order, a number, that nothing more comes, or nothing
+-- that may stand
 pub data Reply : Type 0 where
   yields : ℕ → List (List ℕ) → Reply
   number : ℕ → Reply
@@ -86,7 +88,8 @@ number_reply (field ∷ next ∷ given) = bad Count
 
 abbrev pub yield_reply : ℕ → List (List (List ℕ)) → Reply
 yield_reply width tuples =
-    if are_of_width width tuples then (if list_all is_value (joined tuples) then yields (length tuples) (joined tuples) else bad Value)
+    if are_of_width width tuples
+    then (if list_all is_value (joined tuples) then yields (length tuples) (joined tuples) else bad Value)
     else bad Count
 
 abbrev pub given_reply : Wanted → List (List ℕ) → Reply

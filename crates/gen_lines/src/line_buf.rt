@@ -25,7 +25,8 @@ impl Model for LineBuf {
 
     ghost view = { λ b. drop b.start b.bytes.items };
 
-    ghost invariant = { λ b. (b.start ≤ vec_len b.bytes) × (vec_len b.bytes ≤ 1025) × (1025 ≤ vec_capacity b.bytes) };
+    ghost invariant = { λ b. (b.start ≤ vec_len b.bytes) × (vec_len b.bytes ≤ 1025)
+        × (1025 ≤ vec_capacity b.bytes) };
 }
 
 /// What the bytes that are held begin with.
@@ -75,7 +76,8 @@ impl LineBuf {
 
     /// Takes the first line out and shows it, if one is held whole; else nothing changes.
     pub fn next_line(&mut self) -> Seen<'_>
-        ensures* after { sem 𝓛 (Rests the_row self.entry (λ new. new ≡ left_after self.old result)) }
+        ensures* after { sem 𝓛
+            (Rests the_row self.entry (λ new. new ≡ left_after self.old result)) }
         ensures shown { Shows self.old result }
     {
         let from = self.start;

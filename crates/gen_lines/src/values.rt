@@ -5,11 +5,10 @@ ghost use Rattle.std.specs.Char.{is_ascii_digit};
 ghost use Rattle.std.specs.Str.Parse.{digits_value};
 ghost use Rattle.gen_lines.specs.Reply.{is_bar, is_number, is_value, is_value_byte};
 
-/// The longest value, in bytes.
-const VALUE_BYTES: usize = 64;
+use task_model::LARGEST_NUMBER;
 
-/// The largest number.
-const LARGEST: u32 = 1_000_000;
+/// The longest value, in bytes.
+pub const VALUE_BYTES: usize = 64;
 
 /// Whether a field parts tuples.
 #[tactic(auto, unfolding(crate::specs::Reply::is_bar))]
@@ -39,7 +38,7 @@ fn is_value_byte(b: u8) -> bool
     matches!(b, b'!'..=b'~') && !matches!(b, b'(' | b')' | b';' | b'#' | b'@' | b'|')
 }
 
-/// The number that a field writes, if it is digits alone and the number is at most [`LARGEST`].
+/// The number that a field writes, if it is digits alone and the number is at most [`LARGEST_NUMBER`].
 #[tactic(auto, unfolding(crate::specs::Reply::is_number))]
 pub(crate) fn number_of(field: &[u8]) -> Option<u32>
     ensures { result ≡ (if is_number field.now then Some (digits_value 10 field.now) else None) }
@@ -53,7 +52,7 @@ pub(crate) fn number_of(field: &[u8]) -> Option<u32>
     let Ok(number) = text.parse::<u32>() else {
         return None;
     };
-    if number <= LARGEST {
+    if number <= LARGEST_NUMBER {
         Some(number)
     } else {
         None

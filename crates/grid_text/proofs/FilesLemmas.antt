@@ -12,7 +12,7 @@ use Rattle.std.proofs.lemmas.Str.Ascii.{IsAscii-nil}
 use Rattle.gen_lines.proofs.CuttingLemmas.{parts_left}
 use Rattle.gen_lines.specs.Lines.{ended, is_feed, open_part}
 use Rattle.grid_text.specs.Entries.{Item}
-use Rattle.grid_text.specs.Files.{IsGridOf, fault_at}
+use Rattle.grid_text.specs.Files.{IsGridOf, line_fault_at}
 use Rattle.grid_text.specs.Grids.{GridFile, NamedRect, block_of, block_told, fault_in, grid_of, item_in, obstacle_told, region_of, region_told, told, told_in}
 use Rattle.grid_text.specs.Laws.{AllHaveCells, ReadHasCells, ReadIsAscii, home_rect}
 use Rattle.grid_text.specs.Lines.{lines_in, may_stand, may_stand_in_line}
@@ -28,7 +28,7 @@ use Rattle.lemmas.proofs.ListTests.{all_cons}
 right_at : (bytes : List ℕ) (grid : GridFile) → IsGridOf bytes grid → (k : ℕ)
     → k < length (lines_in bytes)
     → fault_in (grid_of (take k (lines_in bytes))) (get_or (lines_in bytes) k []) ≡ None
-unfolding fault_at
+unfolding line_fault_at
 right_at bytes grid is k h = is.right k h
 
 -- ASCII
@@ -78,11 +78,13 @@ joined_ascii : (parts : List (List ℕ)) → All IsAscii parts → IsAscii (join
 joined_ascii [] each = IsAscii-nil
 joined_ascii (part ∷ []) each = each 0 [] (omega arith)
 joined_ascii (part ∷ next ∷ parts) each =
-    IsAscii-append part (10 ∷ join_with_byte 10 (next ∷ parts)) (each 0 [] (omega arith)) (feed_ascii (join_with_byte 10 (next ∷ parts)) (joined_ascii (next ∷ parts) (λ k d h. each (suc k) d (omega arith))))
+    IsAscii-append part (10 ∷ join_with_byte 10 (next ∷ parts)) (each 0 [] (omega arith))
+    (feed_ascii (join_with_byte 10 (next ∷ parts)) (joined_ascii (next ∷ parts) (λ k d h. each (suc k) d (omega arith))))
 
 -- parts of which all but the last may have a carriage return more
 parts_ascii : (parts : List (List ℕ)) → 0 < length parts
-    → ((k : ℕ) → k < length (map (strip_last 13) (ended parts) ++ open_part parts ∷ []) → IsAscii (get_or (map (strip_last 13) (ended parts) ++ open_part parts ∷ []) k []))
+    → ((k : ℕ) → k < length (map (strip_last 13) (ended parts) ++ open_part parts ∷ [])
+    → IsAscii (get_or (map (strip_last 13) (ended parts) ++ open_part parts ∷ []) k []))
     → All IsAscii parts
 parts_ascii [] some each k d h = absurd (omega arith)
 parts_ascii (part ∷ []) some each zero d h = each 0 (omega arith)
@@ -93,15 +95,19 @@ parts_ascii (part ∷ next ∷ parts) some each (suc k) d h =
 
 pub read_is_ascii : ReadIsAscii
 read_is_ascii bytes grid is =
-    let each = λ (k : ℕ) (h : k < length (lines_in bytes)). stands_ascii (get_or (lines_in bytes) k []) (right_stands (grid_of (take k (lines_in bytes))) (get_or (lines_in bytes) k []) (right_at bytes grid is k h)) in
-    subst IsAscii (join_with_byte-slice_split 10 bytes) (joined_ascii (slice_split is_feed bytes) (parts_ascii (slice_split is_feed bytes) (parts_left bytes) each))
+    let each = λ (k : ℕ) (h : k < length (lines_in bytes)).
+    stands_ascii (get_or (lines_in bytes) k [])
+    (right_stands (grid_of (take k (lines_in bytes))) (get_or (lines_in bytes) k []) (right_at bytes grid is k h)) in
+    subst IsAscii (join_with_byte-slice_split 10 bytes)
+    (joined_ascii (slice_split is_feed bytes) (parts_ascii (slice_split is_feed bytes) (parts_left bytes) each))
 
 -- Cells
 
 item_cells : (bytes : List ℕ) (grid : GridFile) → IsGridOf bytes grid → (k : ℕ) (item : Item)
     → k < length (lines_in bytes) → item_in (get_or (lines_in bytes) k []) ≡ Some item
     → HasCells item.rect
-item_cells bytes grid is k item h e = (right_item (grid_of (take k (lines_in bytes))) (get_or (lines_in bytes) k []) item (right_at bytes grid is k h) e).cells
+item_cells bytes grid is k item h e =
+    (right_item (grid_of (take k (lines_in bytes))) (get_or (lines_in bytes) k []) item (right_at bytes grid is k h) e).cells
 
 -- what is told by lines of which each tells what is so
 all_by : {A : Type 0} (P : A → Type 0) (o : Option A) (f : List ℕ → Option A) (line : List ℕ) (lines : List (List ℕ))
@@ -159,8 +165,10 @@ grid_cells : (lines : List (List ℕ))
     → AllHaveCells (grid_of lines)
 unfolding grid_of
 grid_cells lines right = record {
-  blocks = all_told block_told (λ (b : Block). HasCells (home_rect b)) (told_cells block_told (λ (b : Block). HasCells (home_rect b)) block_cells) lines right;
-  regions = all_told region_told (λ (r : NamedRect). HasCells r.rect) (told_cells region_told (λ (r : NamedRect). HasCells r.rect) region_cells) lines right;
+  blocks = all_told block_told (λ (b : Block). HasCells (home_rect b))
+      (told_cells block_told (λ (b : Block). HasCells (home_rect b)) block_cells) lines right;
+  regions = all_told region_told (λ (r : NamedRect). HasCells r.rect)
+      (told_cells region_told (λ (r : NamedRect). HasCells r.rect) region_cells) lines right;
   obstacles = all_told obstacle_told HasCells (told_cells obstacle_told HasCells obstacle_cells) lines right;
 }
 

@@ -17,7 +17,8 @@ pub first_of : (line rest : List ℕ) (start run : ℕ) → position other line 
 first_of line rest start run found same r =
     let at = found_at other line start found in
     let lt : start < length line = omega (arith, at.within, at.place) in
-    let letter : not (is_space (get_or line start 0)) ≡ true = subst (λ n. not (is_space (get_or line n 0)) ≡ true) at.place (passes_at_first other line 0 at.within) in
+    let letter : not (is_space (get_or line start 0)) ≡ true =
+    subst (λ n. not (is_space (get_or line n 0)) ≡ true) at.place (passes_at_first other line 0 at.within) in
     let some : 0 < position_or_len is_space (drop start line) = omega (arith, prefix_len-drop_yes other line start 0 lt letter) in
     let there : fields line ≡ fields rest = fields_skip line ∙ ap (λ n. fields (drop n line)) at.place ∙ ap fields (sym same) in
     let long : 0 < position_or_len is_space rest = subst (λ bs. 0 < position_or_len is_space bs) (sym same) some in

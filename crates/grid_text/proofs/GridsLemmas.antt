@@ -3,8 +3,8 @@ use Rattle.std.proofs.Common.{◌≡◌, ℕ, ◌+◌, ◌<◌, ◌≤◌, List,
 use Rattle.std.proofs.lemmas.List.{take_all}
 use Rattle.std.proofs.lemmas.List.Elements.{filter_map-append}
 use Rattle.grid_text.specs.Entries.{Item}
-use Rattle.grid_text.specs.Files.{Blames, IsGridOf, fault_at}
-use Rattle.grid_text.specs.Grids.{GridFile, NamedRect, area, nothing_read, size_told, block_told, region_told, obstacle_told, told, told_in, item_in, last_or, grid_of, grown, with_item, with_line, fault_in, LineBlames}
+use Rattle.grid_text.specs.Files.{BlamesGridText, IsGridOf, line_fault_at}
+use Rattle.grid_text.specs.Grids.{GridFile, NamedRect, area, nothing_read, size_told, block_told, region_told, obstacle_told, told, told_in, item_in, last_or, grid_of, grown, with_grid_item, with_line, fault_in, LineBlames}
 use Rattle.grid_text.specs.declared.entry.EntrySort.{EntrySort}
 use Rattle.grid_text.specs.declared.entry.EntrySort.TheVariants as sort
 use Rattle.grid_text.specs.Lines.{lines_in, is_bare}
@@ -43,10 +43,14 @@ grid_from sizes blocks regions obstacles = record {
   obstacles = obstacles;
 }
 
-grows_by : (sizes : List Rect) (blocks : List Block) (regions : List NamedRect) (obstacles : List Rect) (s : EntrySort) (name : List ℕ) (rect : Rect) →
-    grid_from (sizes ++ one (size_told s name rect)) (blocks ++ one (block_told s name rect)) (regions ++ one (region_told s name rect)) (obstacles ++ one (obstacle_told s name rect))
+grows_by : (sizes : List Rect) (blocks : List Block) (regions : List NamedRect) (obstacles : List Rect) (s : EntrySort)
+    (name : List ℕ) (rect : Rect)
+    →
+    grid_from (sizes ++ one (size_told s name rect)) (blocks ++ one (block_told s name rect))
+    (regions ++ one (region_told s name rect)) (obstacles ++ one (obstacle_told s name rect))
     ≡ grown (grid_from sizes blocks regions obstacles) s name rect
-grows_by sizes blocks regions obstacles sort.Size name rect = rw (last_push (area nothing_read) sizes rect, append-nil blocks, append-nil regions, append-nil obstacles) refl
+grows_by sizes blocks regions obstacles sort.Size name rect =
+    rw (last_push (area nothing_read) sizes rect, append-nil blocks, append-nil regions, append-nil obstacles) refl
 grows_by sizes blocks regions obstacles sort.Block name rect =
     rw (append-nil sizes, append-nil regions, append-nil obstacles) refl
 grows_by sizes blocks regions obstacles sort.Region name rect =
@@ -55,8 +59,9 @@ grows_by sizes blocks regions obstacles sort.Obstacle name rect =
     rw (append-nil sizes, append-nil blocks, append-nil regions) refl
 
 grows_with : (sizes : List Rect) (blocks : List Block) (regions : List NamedRect) (obstacles : List Rect) (item : Option Item) →
-    grid_from (sizes ++ one (told size_told item)) (blocks ++ one (told block_told item)) (regions ++ one (told region_told item)) (obstacles ++ one (told obstacle_told item))
-    ≡ with_item (grid_from sizes blocks regions obstacles) item
+    grid_from (sizes ++ one (told size_told item)) (blocks ++ one (told block_told item))
+    (regions ++ one (told region_told item)) (obstacles ++ one (told obstacle_told item))
+    ≡ with_grid_item (grid_from sizes blocks regions obstacles) item
 grows_with sizes blocks regions obstacles None =
     rw (append-nil sizes, append-nil blocks, append-nil regions, append-nil obstacles) refl
 grows_with sizes blocks regions obstacles (Some item) =
@@ -67,8 +72,14 @@ pub grid_more : (before : List (List ℕ)) (line : List ℕ)
     → grid_of (before ++ line ∷ []) ≡ with_line (grid_of before) line
 unfolding grid_of
 grid_more before line =
-    rw (told_more size_told before line, told_more block_told before line, told_more region_told before line, told_more obstacle_told before line)
-    (grows_with (told_in size_told before) (told_in block_told before) (told_in region_told before) (told_in obstacle_told before) (item_in line))
+    rw (
+      told_more size_told before line,
+      told_more block_told before line,
+      told_more region_told before line,
+      told_more obstacle_told before line,
+    )
+    (grows_with (told_in size_told before) (told_in block_told before) (told_in region_told before)
+    (told_in obstacle_told before) (item_in line))
 
 pub nothing_of : grid_of [] ≡ nothing_read
 unfolding grid_of
@@ -77,8 +88,8 @@ nothing_of = refl
 -- the line that is taken has the fault of its place
 pub fault_here : (lines : List (List ℕ)) (k : ℕ) (line : List ℕ) (more : List (List ℕ)) (grid : GridFile)
     → TakesLine lines k line more → grid ≡ grid_of (take k lines)
-    → fault_at lines k ≡ fault_in grid line
-unfolding fault_at
+    → line_fault_at lines k ≡ fault_in grid line
+unfolding line_fault_at
 fault_here lines k line more grid t g = rw (t.here, g) refl
 
 pub grid_next : (lines : List (List ℕ)) (k : ℕ) (line : List ℕ) (more : List (List ℕ)) (old new : GridFile)
@@ -88,8 +99,9 @@ grid_next lines k line more old new t o n =
     n ∙ ap (λ g. with_line g line) o ∙ sym (ap grid_of t.front ∙ grid_more (take k lines) line)
 
 pub blames : (bytes line : List ℕ) (k : ℕ) (more : List (List ℕ)) (grid : GridFile)
-    → is_bare bytes ≡ false → ((j : ℕ) → j < k → fault_at (lines_in bytes) j ≡ None) →
-    TakesLine (lines_in bytes) k line more → grid ≡ grid_of (take k (lines_in bytes)) → (why : GridFault) → LineBlames grid line (k + 1) why → Blames bytes why
+    → is_bare bytes ≡ false → ((j : ℕ) → j < k → line_fault_at (lines_in bytes) j ≡ None) →
+    TakesLine (lines_in bytes) k line more → grid ≡ grid_of (take k (lines_in bytes)) → (why : GridFault) → LineBlames grid line (k + 1) why
+    → BlamesGridText bytes why
 blames bytes line k more grid some before t g (At at kind) b =
     inr (record {
       some = some;
@@ -102,14 +114,17 @@ blames bytes line k more grid some before t g (At at kind) b =
 blames bytes line k more grid some before t g Memory b = tt
 
 pub right_more : (bytes line : List ℕ) (k : ℕ) (more : List (List ℕ)) (grid : GridFile)
-    → ((j : ℕ) → j < k → fault_at (lines_in bytes) j ≡ None) →
-    TakesLine (lines_in bytes) k line more → grid ≡ grid_of (take k (lines_in bytes)) → fault_in grid line ≡ None → (j : ℕ) → j < k + 1 → fault_at (lines_in bytes) j ≡ None
-right_more bytes line k more grid before t g e = below_more (λ j. fault_at (lines_in bytes) j ≡ None) k before (fault_here (lines_in bytes) k line more grid t g ∙ e)
+    → ((j : ℕ) → j < k → line_fault_at (lines_in bytes) j ≡ None) →
+    TakesLine (lines_in bytes) k line more → grid ≡ grid_of (take k (lines_in bytes)) → fault_in grid line ≡ None → (j : ℕ) → j < k + 1
+    → line_fault_at (lines_in bytes) j ≡ None
+right_more bytes line k more grid before t g e =
+    below_more (λ j. line_fault_at (lines_in bytes) j ≡ None) k before (fault_here (lines_in bytes) k line more grid t g ∙ e)
 
 -- behind the last line the grid is read
 pub reads : (bytes line : List ℕ) (k : ℕ) (old new : GridFile) → is_bare bytes ≡ false
-    → ((j : ℕ) → j < k → fault_at (lines_in bytes) j ≡ None) →
-    TakesLine (lines_in bytes) k line [] → old ≡ grid_of (take k (lines_in bytes)) → fault_in old line ≡ None → new ≡ with_line old line → IsGridOf bytes new
+    → ((j : ℕ) → j < k → line_fault_at (lines_in bytes) j ≡ None) →
+    TakesLine (lines_in bytes) k line [] → old ≡ grid_of (take k (lines_in bytes)) → fault_in old line ≡ None → new ≡ with_line old line
+    → IsGridOf bytes new
 reads bytes line k old new some before t o e n =
     let long : length (lines_in bytes) ≤ k + 1 = omega (arith, ap length t.back, length-drop (k + 1) (lines_in bytes)) in
     let whole : take (k + 1) (lines_in bytes) ≡ lines_in bytes = take_all (k + 1) (lines_in bytes) long in

@@ -9,11 +9,7 @@ use Rattle.gen_lines.proofs.LinesLemmas.{lines_none, lines_some}
 use Rattle.lemmas.proofs.Positions.{found_at, not_found, split_whole}
 use Rattle.grid_text.specs.Lines.{lines_in, is_bare, is_passed}
 use Rattle.grid_text.proofs.FirstFields.{behind}
-
-open_cons : (part : List ℕ) (parts : List (List ℕ)) → 0 < length parts
-    → open_part (part ∷ parts) ≡ open_part parts
-open_cons part [] h = absurd (omega arith)
-open_cons part (next ∷ parts) h = refl
+use Rattle.gen_lines.proofs.CuttingLemmas.{open_cons}
 
 rest_some : (bytes : List ℕ) (n : ℕ) → position is_feed bytes ≡ Some n
     → unfinished bytes ≡ unfinished (drop (n + 1) bytes)
@@ -21,7 +17,9 @@ rest_some bytes n e =
     let at = found_at is_feed bytes n e in
     let cut : slice_split is_feed bytes ≡ take n bytes ∷ slice_split is_feed (drop (n + 1) bytes) =
     rw (← at.place) (slice_split_first is_feed bytes 0 at.within) in
-    ap open_part cut ∙ open_cons (take n bytes) (slice_split is_feed (drop (n + 1) bytes)) (omega (arith, length-slice_split is_feed (drop (n + 1) bytes)))
+    ap open_part cut
+    ∙ open_cons (take n bytes) (slice_split is_feed (drop (n + 1) bytes))
+    (omega (arith, length-slice_split is_feed (drop (n + 1) bytes)))
 
 -- the first line, where a line feed stands
 pub line_some : (bytes line : List ℕ) (n : ℕ) → position is_feed bytes ≡ Some n

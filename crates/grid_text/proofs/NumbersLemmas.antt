@@ -26,7 +26,8 @@ pub not_decimal : {E : Type 0} (field text : List ℕ) (r : Result ℕ E) (e : E
     → list_all is_ascii_digit field ≡ true → ParsesUnsigned 32 10 text r → r ≡ Err e
     → is_decimal field ≡ false
 not_decimal {E} field text r e same digits h err =
-    refused field e digits (subst (λ t. ParsesUnsigned {E = E} 32 10 t (Err e)) same (subst (λ x. ParsesUnsigned {E = E} 32 10 text x) err h))
+    refused field e digits
+    (subst (λ t. ParsesUnsigned {E = E} 32 10 t (Err e)) same (subst (λ x. ParsesUnsigned {E = E} 32 10 text x) err h))
 
 small_value : (field : List ℕ) → is_decimal field ≡ true → length field ≤ 4
     → digits_value 10 field ≤ 9999
@@ -45,4 +46,5 @@ small_by false v h = tt
 pub short_small : (field : List ℕ) (r : Option ℕ) → length field ≤ 4
     → r ≡ (if is_decimal field then Some (digits_value 10 field) else None)
     → IfSome r (λ n. n ≤ 9999)
-short_small field r short e = subst (λ r. IfSome r (λ n. n ≤ 9999)) (sym e) (small_by (is_decimal field) (digits_value 10 field) (λ d. small_value field d short))
+short_small field r short e =
+    subst (λ r. IfSome r (λ n. n ≤ 9999)) (sym e) (small_by (is_decimal field) (digits_value 10 field) (λ d. small_value field d short))

@@ -4,14 +4,11 @@ use Rattle.std.proofs.lemmas.Bool.{and_parts}
 use Rattle.std.proofs.lemmas.Bool.Decides.{nat_tests}
 use Rattle.grid_text.specs.declared.rect.Rect.{Rect}
 use Rattle.grid_text.specs.Laws.{WithinIsByCells, MeetingIsByCells}
-use Rattle.grid_text.specs.Rects.{Cell, IsIn, HasCells, is_within, meets}
-use Rattle.lemmas.proofs.Numbers.{le_test}
+use Rattle.grid_text.specs.Rects.{Cell, IsCellOf, HasCells, is_within, meets}
+use Rattle.lemmas.proofs.Numbers.{le_test, lt_told}
 
 le_told : (m n : ℕ) → nat_le m n ≡ true → m ≤ n
 le_told m n e = grind (arith, nat_tests, e)
-
-lt_told : (m n : ℕ) → nat_lt m n ≡ true → m < n
-lt_told m n e = grind (arith, nat_tests, e)
 
 lt_test : (m n : ℕ) → m < n → nat_lt m n ≡ true
 lt_test m n h = grind (arith, nat_tests, h)
@@ -37,20 +34,22 @@ corners_told a b e =
 
 corners_test : (a b : Rect) → Corners a b → is_within a b ≡ true
 unfolding is_within
-corners_test a b c = rw (le_test b.x a.x c.left, le_test b.y a.y c.top, le_test (a.x + a.w) (b.x + b.w) c.right, le_test (a.y + a.h) (b.y + b.h) c.bottom) refl
+corners_test a b c =
+    rw (le_test b.x a.x c.left, le_test b.y a.y c.top, le_test (a.x + a.w) (b.x + b.w) c.right, le_test (a.y + a.h) (b.y + b.h) c.bottom)
+    refl
 
-cells_within : (a b : Rect) → Corners a b → (cell : Cell) → IsIn cell a → IsIn cell b
+cells_within : (a b : Rect) → Corners a b → (cell : Cell) → IsCellOf cell a → IsCellOf cell b
 cells_within a b c cell i =
     record { column = (omega arith, omega arith); row = (omega arith, omega arith) }
 
-first_cell : (a : Rect) → HasCells a → IsIn (record { x = a.x; y = a.y }) a
+first_cell : (a : Rect) → HasCells a → IsCellOf (record { x = a.x; y = a.y }) a
 first_cell a h =
     record { column = (omega arith, omega (arith, h.0)); row = (omega arith, omega (arith, h.1)) }
 
-last_cell : (a : Rect) → HasCells a → IsIn (record { x = a.x + a.w - 1; y = a.y + a.h - 1 }) a
+last_cell : (a : Rect) → HasCells a → IsCellOf (record { x = a.x + a.w - 1; y = a.y + a.h - 1 }) a
 last_cell a h = record { column = (omega (arith, h.0), omega (arith, h.0)); row = (omega (arith, h.1), omega (arith, h.1)) }
 
-corners_of_cells : (a b : Rect) → HasCells a → ((cell : Cell) → IsIn cell a → IsIn cell b)
+corners_of_cells : (a b : Rect) → HasCells a → ((cell : Cell) → IsCellOf cell a → IsCellOf cell b)
     → Corners a b
 corners_of_cells a b h each =
     let low = each (record { x = a.x; y = a.y }) (first_cell a h) in
@@ -86,20 +85,22 @@ crossing_told a b e =
 
 crossing_test : (a b : Rect) → Crossing a b → meets a b ≡ true
 unfolding meets
-crossing_test a b c = rw (lt_test a.x (b.x + b.w) c.left, lt_test b.x (a.x + a.w) c.right, lt_test a.y (b.y + b.h) c.top, lt_test b.y (a.y + a.h) c.bottom) refl
+crossing_test a b c =
+    rw (lt_test a.x (b.x + b.w) c.left, lt_test b.x (a.x + a.w) c.right, lt_test a.y (b.y + b.h) c.top, lt_test b.y (a.y + a.h) c.bottom)
+    refl
 
 common : Rect → Rect → Cell
 common a b = record { x = max a.x b.x; y = max a.y b.y }
 
 common_in : (a b : Rect) → HasCells a → HasCells b → Crossing a b
-    → IsIn (common a b) a × IsIn (common a b) b
+    → IsCellOf (common a b) a × IsCellOf (common a b) b
 unfolding common
 common_in a b ha hb c = (
   record { column = (omega arith, omega (arith, ha.0, c.left, c.right)); row = (omega arith, omega (arith, ha.1, c.top, c.bottom)) },
   record { column = (omega arith, omega (arith, hb.0, c.left, c.right)); row = (omega arith, omega (arith, hb.1, c.top, c.bottom)) },
 )
 
-crossing_of_cell : (a b : Rect) (cell : Cell) → IsIn cell a → IsIn cell b → Crossing a b
+crossing_of_cell : (a b : Rect) (cell : Cell) → IsCellOf cell a → IsCellOf cell b → Crossing a b
 crossing_of_cell a b cell i j =
     record { left = omega arith; right = omega arith; top = omega arith; bottom = omega arith }
 

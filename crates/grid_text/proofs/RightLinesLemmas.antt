@@ -7,8 +7,8 @@ use Rattle.gen_lines.specs.Reply.{fields}
 use Rattle.grid_text.specs.Entries.{Entry, Item, entry_of, has_numbers, item_of, most_extent, rect_of}
 use Rattle.grid_text.specs.Grids.{GridFile, area, entry_fault, fault_in, found_fault, is_due, is_full, is_inside, is_taken, item_in}
 use Rattle.grid_text.specs.Lines.{is_passed, may_stand_in_line}
-use Rattle.grid_text.specs.Numbers.{is_extent, is_number}
-use Rattle.grid_text.specs.Rects.{HasCells, IsSmall, is_within}
+use Rattle.grid_text.specs.Numbers.{is_extent, is_short_number}
+use Rattle.grid_text.specs.Rects.{HasCells, LiesInLargest, is_within}
 use Rattle.grid_text.specs.declared.entry.EntrySort.{EntrySort}
 use Rattle.grid_text.specs.declared.entry.EntrySort.TheVariants as sort
 use Rattle.grid_text.specs.declared.fault.GridKind.TheVariants.{Form, Number, Outside, Duplicate, TooMany}
@@ -24,7 +24,7 @@ extent_some : (most : ℕ) (field : List ℕ) → is_extent most field ≡ true 
 unfolding is_extent
 extent_some most field e =
     let p = and_parts _ (nat_le (digits_value 10 field) most) e in
-    let q = and_parts (is_number field) (nat_le 1 (digits_value 10 field)) p.0 in
+    let q = and_parts (is_short_number field) (nat_le 1 (digits_value 10 field)) p.0 in
     grind (arith, nat_tests, q.1)
 
 numbers_cells : (entry : Entry) → has_numbers entry ≡ true → HasCells (rect_of entry)
@@ -35,7 +35,9 @@ numbers_cells entry e =
     (extent_some (most_extent entry.sort) entry.w q.1, extent_some (most_extent entry.sort) entry.h p.1)
 
 no_fault_by : (due numbers inside taken full : Bool)
-    → (if not due then Some Form else if not numbers then Some Number else if not inside then Some Outside else if taken then Some Duplicate else if full then Some TooMany else None) ≡ None
+    → (if not due then Some Form else if not numbers then Some Number else if not inside then Some Outside else if taken then Some Duplicate
+    else if full then Some TooMany else None)
+    ≡ None
     → (numbers ≡ true) × (inside ≡ true)
 no_fault_by false numbers inside taken full e = absurd (cc)
 no_fault_by true false inside taken full e = absurd (cc)
@@ -46,7 +48,8 @@ right_entry : (grid : GridFile) (entry : Entry) → entry_fault grid entry ≡ N
     → RightItem grid (item_of entry)
 unfolding entry_fault
 right_entry grid entry e =
-    let p = no_fault_by (is_due grid entry.sort) (has_numbers entry) (is_inside grid entry.sort (rect_of entry)) (is_taken grid entry.sort entry.name) (is_full grid entry.sort) e in
+    let p = no_fault_by (is_due grid entry.sort) (has_numbers entry)
+    (is_inside grid entry.sort (rect_of entry)) (is_taken grid entry.sort entry.name) (is_full grid entry.sort) e in
     record { cells = numbers_cells entry p.0; inside = p.1 }
 
 right_by : (grid : GridFile) (stands passed : Bool) (entry : Option Entry) (item : Item)
@@ -77,7 +80,7 @@ right_stands grid line f =
 
 -- a region in the grid lies in the largest one
 pub small_region : (grid : GridFile) (s : EntrySort) (rect : Rect) → is_inside grid s rect ≡ true
-    → s ≡ sort.Region → grid.width ≤ 1000 → grid.height ≤ 1000 → IsSmall rect
+    → s ≡ sort.Region → grid.width ≤ 1000 → grid.height ≤ 1000 → LiesInLargest rect
 small_region grid s rect inside is wide high =
     let within : is_within rect (area grid) ≡ true = rw is at inside in
     let corners = corners_told rect (area grid) within in

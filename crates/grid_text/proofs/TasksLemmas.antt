@@ -16,6 +16,8 @@ pub row_more : (line : Row) (before : List ℕ) (n : ℕ)
 unfolding row_text
 row_more line before n =
     let one : 1 + n ≡ n + 1 = omega arith in
-    let all : numbers_from 1 (n + 1) ≡ numbers_from 1 n ++ (n + 1) ∷ [] = rw add-one (numbers_suc 1 n) ∙ ap (λ k. numbers_from 1 n ++ k ∷ []) one in
+    let all : numbers_from 1 (n + 1) ≡ numbers_from 1 n ++ (n + 1) ∷ [] =
+    rw add-one (numbers_suc 1 n) ∙ ap (λ k. numbers_from 1 n ++ k ∷ []) one in
     append_assoc before (flat_map (item_text line) (numbers_from 1 n)) (item_text line (n + 1))
-    ∙ ap (λ t. before ++ t) (sym (ap (flat_map (item_text line)) all ∙ flat_map-append (item_text line) (numbers_from 1 n) ((n + 1) ∷ []) ∙ ap (λ t. flat_map (item_text line) (numbers_from 1 n) ++ t) (append-nil (item_text line (n + 1)))))
+    ∙ ap (λ t. before ++ t) (sym (ap (flat_map (item_text line)) all ∙ flat_map-append (item_text line) (numbers_from 1 n) ((n + 1) ∷ [])
+    ∙ ap (λ t. flat_map (item_text line) (numbers_from 1 n) ++ t) (append-nil (item_text line (n + 1)))))

@@ -3,7 +3,7 @@ use Rattle.std.specs.Prelude.{ℕ, Bool, ◌&&◌, List, [], ◌∷◌, codes, O
 use Rattle.std.specs.Str.{bytes_eq}
 use Rattle.std.specs.Str.Parse.{digits_value}
 use Rattle.task_model.specs.Fit.{is_name}
-use Rattle.grid_text.specs.Numbers.{is_number, is_extent}
+use Rattle.grid_text.specs.Numbers.{is_short_number, is_extent}
 use Rattle.grid_text.specs.declared.entry.EntrySort.{EntrySort}
 use Rattle.grid_text.specs.declared.entry.EntrySort.TheVariants.{Size, Block, Region, Obstacle}
 use Rattle.grid_text.specs.declared.rect.Rect.{Rect}
@@ -60,7 +60,8 @@ region_of (name ∷ given) =
 
 -- `x y w h`
 abbrev pub obstacle_of : List (List ℕ) → Option Entry
-obstacle_of given = option_map (λ f. record { sort = Obstacle; name = []; x = f.0; y = f.1; w = f.2; h = f.3 }) (four_of given)
+obstacle_of given =
+    option_map (λ f. record { sort = Obstacle; name = []; x = f.0; y = f.1; w = f.2; h = f.3 }) (four_of given)
 
 abbrev pub given_of : Option EntrySort → List (List ℕ) → Option Entry
 given_of None given = None
@@ -85,7 +86,7 @@ most_extent Obstacle = 9999
 
 unfoldable pub has_numbers : Entry → Bool
 has_numbers entry =
-    is_number entry.x && is_number entry.y
+    is_short_number entry.x && is_short_number entry.y
     && is_extent (most_extent entry.sort) entry.w && is_extent (most_extent entry.sort) entry.h
 
 -- the rectangle that the numbers write

@@ -8,29 +8,29 @@ use Rattle.grid_text.specs.declared.fault.GridKind.{GridKind}
 use Rattle.grid_text.specs.declared.fault.GridKind.TheVariants.{Form}
 
 -- the first fault of the line at a place, by the lines before it
-unfoldable pub fault_at : List (List ℕ) → ℕ → Option GridKind
-fault_at lines k = fault_in (grid_of (take k lines)) (slice_index_or lines k [])
+unfoldable pub line_fault_at : List (List ℕ) → ℕ → Option GridKind
+line_fault_at lines k = fault_in (grid_of (take k lines)) (slice_index_or lines k [])
 
 -- some line isn't passed over, no line has a fault, and the grid is what they say
 pub record IsGridOf (bytes : List ℕ) (grid : GridFile) : Type 0 where
   pub some : is_bare bytes ≡ false
-  pub right : (k : ℕ) → k < length (lines_in bytes) → fault_at (lines_in bytes) k ≡ None
+  pub right : (k : ℕ) → k < length (lines_in bytes) → line_fault_at (lines_in bytes) k ≡ None
   pub says : grid ≡ grid_of (lines_in bytes)
 
 -- some line isn't passed over, and this is the first that has a fault, counted from 1, with its first fault
-pub record IsFirstFault (bytes : List ℕ) (line : ℕ) (kind : GridKind) : Type 0 where
+pub record IsFirstGridFault (bytes : List ℕ) (line : ℕ) (kind : GridKind) : Type 0 where
   pub some : is_bare bytes ≡ false
   pub place : ℕ
   pub is : line ≡ place + 1
   pub within : place < length (lines_in bytes)
-  pub before : (k : ℕ) → k < place → fault_at (lines_in bytes) k ≡ None
-  pub here : fault_at (lines_in bytes) place ≡ Some kind
+  pub before : (k : ℕ) → k < place → line_fault_at (lines_in bytes) k ≡ None
+  pub here : line_fault_at (lines_in bytes) place ≡ Some kind
 
 -- all lines are passed over, which is told at the first line whatever else they have
 pub record IsBareFault (bytes : List ℕ) (line : ℕ) (kind : GridKind) : Type 0 where
   pub all : is_bare bytes ≡ true
   pub is : (line ≡ 1) × (kind ≡ Form)
 
-abbrev pub Blames : List ℕ → GridFault → Type 0
-Blames bytes (At line kind) = IsBareFault bytes line kind ⊎ IsFirstFault bytes line kind
-Blames bytes Memory = Unit {0}
+abbrev pub BlamesGridText : List ℕ → GridFault → Type 0
+BlamesGridText bytes (At line kind) = IsBareFault bytes line kind ⊎ IsFirstGridFault bytes line kind
+BlamesGridText bytes Memory = Unit {0}

@@ -103,12 +103,12 @@ grown grid sort.Region name rect =
     record grid { regions = grid.regions ++ region_of name rect ∷ [] }
 grown grid sort.Obstacle name rect = record grid { obstacles = grid.obstacles ++ rect ∷ [] }
 
-abbrev pub with_item : GridFile → Option Item → GridFile
-with_item grid None = grid
-with_item grid (Some item) = grown grid item.sort item.name item.rect
+abbrev pub with_grid_item : GridFile → Option Item → GridFile
+with_grid_item grid None = grid
+with_grid_item grid (Some item) = grown grid item.sort item.name item.rect
 
 abbrev pub with_line : GridFile → List ℕ → GridFile
-with_line grid line = with_item grid (item_in line)
+with_line grid line = with_grid_item grid (item_in line)
 
 -- Faults of a line behind lines that say this grid
 

@@ -6,18 +6,18 @@ use Rattle.grid_text.specs.Files.{IsGridOf}
 use Rattle.grid_text.specs.Grids.{GridFile, NamedRect}
 use Rattle.grid_text.specs.declared.grid.Block.{Block}
 use Rattle.grid_text.specs.declared.rect.Rect.{Rect}
-use Rattle.grid_text.specs.Rects.{Cell, IsIn, HasCells, is_within, meets}
+use Rattle.grid_text.specs.Rects.{Cell, IsCellOf, HasCells, is_within, meets}
 
 -- To lie within another rectangle is to have no cell that isn't one of the other's.
 abbrev pub WithinIsByCells : Type 0
 WithinIsByCells =
-    (a b : Rect) → HasCells a → (is_within a b ≡ true) ↔ ((cell : Cell) → IsIn cell a → IsIn cell b)
+    (a b : Rect) → HasCells a → (is_within a b ≡ true) ↔ ((cell : Cell) → IsCellOf cell a → IsCellOf cell b)
 
 -- To meet another rectangle is to have a cell in common with it.
 abbrev pub MeetingIsByCells : Type 0
 MeetingIsByCells =
     (a b : Rect) → HasCells a → HasCells b
-    → (meets a b ≡ true) ↔ ((cell : Cell) × IsIn cell a × IsIn cell b)
+    → (meets a b ≡ true) ↔ ((cell : Cell) × IsCellOf cell a × IsCellOf cell b)
 
 -- A text that is read is ASCII.
 abbrev pub ReadIsAscii : Type 0

@@ -3,8 +3,8 @@ use Rattle.std.specs.Prelude.{ℕ, Bool, true, ◌&&◌, ◌==◌, nat_le, List,
 use Rattle.std.specs.List.{list_all}
 use Rattle.gen_lines.specs.Lines.{lines_of, unfinished}
 
--- The lines that end with a line feed, without it and without one carriage return before it; and then what stands behind
--- the last line feed, as it is. Where nothing stands there, that is an empty line more, which is passed over.
+-- The lines that end with a line feed, without it and without one carriage return before it; and then what stands
+-- behind the last line feed, as it is. Where nothing stands there, that is an empty line more, which is passed over.
 abbrev pub lines_in : List ℕ → List (List ℕ)
 lines_in bytes = lines_of bytes ++ unfinished bytes ∷ []
 

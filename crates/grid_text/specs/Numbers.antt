@@ -11,10 +11,10 @@ is_decimal field =
     is_filled field && list_all is_ascii_digit field && nat_lt (digits_value 10 field) (2 ^ 32)
 
 -- one to four digits
-unfoldable pub is_number : List ℕ → Bool
-is_number field = is_decimal field && nat_le (length field) 4
+unfoldable pub is_short_number : List ℕ → Bool
+is_short_number field = is_decimal field && nat_le (length field) 4
 
 -- one to four digits, whose value is from 1 to `most`
 unfoldable pub is_extent : ℕ → List ℕ → Bool
 is_extent most field =
-    is_number field && nat_le 1 (digits_value 10 field) && nat_le (digits_value 10 field) most
+    is_short_number field && nat_le 1 (digits_value 10 field) && nat_le (digits_value 10 field) most

@@ -7,7 +7,7 @@ pub record Cell : Type 0 where
   pub y : ℕ
 
 -- the cell is one of the rectangle's
-pub record IsIn (cell : Cell) (rect : Rect) : Type 0 where
+pub record IsCellOf (cell : Cell) (rect : Rect) : Type 0 where
   pub column : (rect.x ≤ cell.x) × (cell.x < rect.x + rect.w)
   pub row : (rect.y ≤ cell.y) × (cell.y < rect.y + rect.h)
 
@@ -16,8 +16,8 @@ abbrev pub HasCells : Rect → Type 0
 HasCells rect = (0 < rect.w) × (0 < rect.h)
 
 -- it lies in the largest grid that there may be
-abbrev pub IsSmall : Rect → Type 0
-IsSmall rect = (rect.x + rect.w ≤ 1000) × (rect.y + rect.h ≤ 1000)
+abbrev pub LiesInLargest : Rect → Type 0
+LiesInLargest rect = (rect.x + rect.w ≤ 1000) × (rect.y + rect.h ≤ 1000)
 
 -- the inner rectangle doesn't reach over an edge of the outer one
 unfoldable pub is_within : Rect → Rect → Bool

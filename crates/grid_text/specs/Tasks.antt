@@ -43,8 +43,8 @@ problem_text number =
     ++ row_text row.Facts number ++ codes ")\n  (:goal (and"
     ++ row_text row.Goals number ++ codes ")))\n"
 
--- blocks stand one cell above the bottom, two cells apart; their regions of two cells lie three cells further up, with an
--- obstacle on the first of the two
+-- blocks stand one cell above the bottom, two cells apart; their regions of two cells lie three cells further up, with
+-- an obstacle on the first of the two
 abbrev pub grid_text : ℕ → List ℕ
 grid_text number =
     codes "grid " ++ decimal (2 * number) ++ codes " 6\n"

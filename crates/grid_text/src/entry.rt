@@ -39,7 +39,14 @@ impl<'a> Model for Entry<'a> {
 
     ghost Value = { Entry };
 
-    ghost view = { λ e. record { sort = e.sort; name = e.name.now; x = e.x.now; y = e.y.now; w = e.w.now; h = e.h.now } };
+    ghost view = { λ e. record {
+      sort = e.sort;
+      name = e.name.now;
+      x = e.x.now;
+      y = e.y.now;
+      w = e.w.now;
+      h = e.h.now;
+    } };
 }
 
 impl<'a> Entry<'a> {

@@ -4,7 +4,7 @@ ghost use Rattle.std.specs.List.{list_any};
 ghost use Rattle.std.specs.Str.{bytes_eq};
 ghost use Rattle.grid_text.specs.Entries.{item_of};
 ghost use Rattle.grid_text.specs.Grids as specs;
-ghost use Rattle.grid_text.specs.Rects.{IsSmall};
+ghost use Rattle.grid_text.specs.Rects.{LiesInLargest};
 
 use crate::entry::{Entry, EntrySort, Item, entry_of, item_of};
 use crate::fault::{GridFault, GridKind};
@@ -44,13 +44,13 @@ pub struct Region {
 
 impl Model for Region {
     ghost use Rattle.grid_text.specs.Grids.{NamedRect};
-    ghost use Rattle.grid_text.specs.Rects.{IsSmall};
+    ghost use Rattle.grid_text.specs.Rects.{LiesInLargest};
 
     ghost Value = { NamedRect };
 
     ghost view = { λ r. record { name = r.name; rect = r.rect } };
 
-    ghost invariant = { λ r. IsSmall r.rect };
+    ghost invariant = { λ r. LiesInLargest r.rect };
 }
 
 impl Region {
@@ -64,7 +64,7 @@ impl Region {
     /// Its cells.
     pub fn rect(&self) -> Rect
         ensures rect { result ≡ self.now.rect }
-        ensures small { IsSmall result }
+        ensures small { LiesInLargest result }
     {
         self.rect
     }
@@ -86,7 +86,13 @@ impl Model for Grid {
 
     ghost Value = { GridFile };
 
-    ghost view = { λ g. record { width = g.width; height = g.height; blocks = g.blocks.items; regions = g.regions.items; obstacles = g.obstacles.items } };
+    ghost view = { λ g. record {
+      width = g.width;
+      height = g.height;
+      blocks = g.blocks.items;
+      regions = g.regions.items;
+      obstacles = g.obstacles.items;
+    } };
 
     ghost invariant = { λ g. (g.width ≤ 1000) × (g.height ≤ 1000) };
 }
@@ -307,7 +313,7 @@ fn block_of(alloc: Global, name: &[u8], rect: Rect) -> Result<Block, AllocError>
 }
 
 fn region_of(alloc: Global, name: &[u8], rect: Rect) -> Result<Region, AllocError>
-    requires { IsSmall rect }
+    requires { LiesInLargest rect }
     ensures { IfOk result (λ region. region ≡ specs.region_of name.now rect) }
 {
     let name = Name::new(Vec::from_slice(alloc, name)?);

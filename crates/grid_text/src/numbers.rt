@@ -3,7 +3,7 @@ ghost use Rattle.std.specs.Prelude.{◌≡◌, ◌≤◌, IfSome, Some, None, if
 ghost use Rattle.std.specs.List.{list_all};
 ghost use Rattle.std.specs.Char.{is_ascii_digit};
 ghost use Rattle.std.specs.Str.Parse.{digits_value};
-ghost use Rattle.grid_text.specs.Numbers.{is_decimal, is_number, is_extent};
+ghost use Rattle.grid_text.specs.Numbers.{is_decimal, is_short_number, is_extent};
 
 /// The number that a field writes by digits alone, if it is below 2^32. Leading zeros may stand.
 #[tactic(auto, unfolding(crate::specs::Numbers::is_decimal))]
@@ -33,9 +33,10 @@ pub fn are_digits(field: &[u8]) -> bool
 const DIGITS: usize = 4;
 
 /// The number of a field of a grid file: one to four digits.
-#[tactic(auto, unfolding(crate::specs::Numbers::is_number))]
+#[tactic(auto, unfolding(crate::specs::Numbers::is_short_number))]
 pub(crate) fn short_number(field: &[u8]) -> Option<u32>
-    ensures { result ≡ (if is_number field.now then Some (digits_value 10 field.now) else None) }
+    ensures { result
+        ≡ (if is_short_number field.now then Some (digits_value 10 field.now) else None) }
 {
     if field.len() > DIGITS {
         return None;

@@ -1,6 +1,6 @@
 //! The reader of grid files.
 ghost use Rattle.std.specs.Prelude.{◌<◌, ◌^◌, length, IfOk, IfErr};
-ghost use Rattle.grid_text.specs.Files.{Blames, IsGridOf};
+ghost use Rattle.grid_text.specs.Files.{BlamesGridText, IsGridOf};
 
 use crate::fault::{GridFault, GridKind};
 use crate::grid::Grid;
@@ -17,7 +17,7 @@ use std::alloc::Global;
 pub fn read_grid(alloc: Global, bytes: &[u8]) -> Result<Grid, GridFault>
     requires { length bytes.now < 2 ^ 31 }
     ensures grid { IfOk result (IsGridOf bytes.now) }
-    ensures fault { IfErr result (Blames bytes.now) }
+    ensures fault { IfErr result (BlamesGridText bytes.now) }
 {
     if is_bare(bytes) {
         return Err(GridFault::At {

@@ -13,7 +13,7 @@ use Rattle.lemmas.proofs.Digits.{own}
 use Rattle.grid_text.specs.Grids.{GridFile}
 use Rattle.std.specs.Io.BufRead.{strip_last}
 use Rattle.grid_world.specs.Answers.{answer_in}
-use Rattle.grid_world.specs.AnswerLines.{line_of, reply_line}
+use Rattle.grid_world.specs.AnswerLines.{line_of_answer, reply_line}
 
 digit_line : (b : ℕ) → is_ascii_digit b ≡ true → (b == 10) ≡ false
 digit_line b e = grind (arith, nat_tests, e)
@@ -43,6 +43,6 @@ front_is bytes line e =
     rw (e, n) (take_append line (10 ∷ []))
 
 pub reply_line_is : (grid : GridFile) (request : List ℕ)
-    → line_of (answer_in grid (strip_last 13 request)) ≡ reply_line grid request
+    → line_of_answer (answer_in grid (strip_last 13 request)) ≡ reply_line grid request
 unfolding reply_line
 reply_line_is grid request = refl

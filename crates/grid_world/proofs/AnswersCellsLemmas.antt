@@ -5,7 +5,7 @@ use Rattle.std.proofs.lemmas.Bool.{cases_lt}
 use Rattle.std.proofs.lemmas.List.Elements.{All-contains, Contains-append_left, Contains-append_right, Contains-get_or}
 use Rattle.std.proofs.lemmas.List.Folds.{list_any_at, list_any_none}
 use Rattle.lemmas.specs.Lists.{numbers_from}
-use Rattle.lemmas.proofs.Bools.{and_not_parts, not_both}
+use Rattle.lemmas.proofs.Bools.{and_not_parts, not_both, false_by}
 use Rattle.grid_text.specs.Grids.{GridFile}
 use Rattle.grid_text.specs.Laws.{AllHaveCells, home_rect}
 use Rattle.grid_text.specs.Rects.{HasCells, is_within, meets}
@@ -62,10 +62,12 @@ poses_only_at : (p : Corner → Bool) (cs : List Corner) (c d : Corner) (b : Boo
     → k < length (poses p (d ∷ cs)) → get_or (poses p (d ∷ cs)) k (pose_answer c) ≡ pose_answer c → p c ≡ true
 poses_only_at p cs c d true k good rest h e =
     let same = filter_good p d cs good in
-    poses_only_by p cs c d k good rest (subst (λ ds. k < length (map pose_answer ds)) same h) (subst (λ ds. get_or (map pose_answer ds) k (pose_answer c) ≡ pose_answer c) same e)
+    poses_only_by p cs c d k good rest (subst (λ ds. k < length (map pose_answer ds)) same h)
+    (subst (λ ds. get_or (map pose_answer ds) k (pose_answer c) ≡ pose_answer c) same e)
 poses_only_at p cs c d false k bad rest h e =
     let same = filter_bad p d cs bad in
-    rest k (subst (λ ds. k < length (map pose_answer ds)) same h) (subst (λ ds. get_or (map pose_answer ds) k (pose_answer c) ≡ pose_answer c) same e)
+    rest k (subst (λ ds. k < length (map pose_answer ds)) same h)
+    (subst (λ ds. get_or (map pose_answer ds) k (pose_answer c) ≡ pose_answer c) same e)
 
 poses_only : (p : Corner → Bool) (cs : List Corner) (c : Corner) (k : ℕ) → k < length (poses p cs)
     → get_or (poses p cs) k (pose_answer c) ≡ pose_answer c → p c ≡ true
@@ -105,10 +107,6 @@ has_corner x w first (suc n) c left right low high =
 
 -- Cells
 
-false_from : (b : Bool) → (b ≡ true → ⊥) → b ≡ false
-false_from true h = absurd (h refl)
-false_from false h = refl
-
 lies_free : (grid : GridFile) (block : Block) (region : Rect) (corner : Corner) → HasCells (rect_at block corner)
     → AllHaveCells grid → may_lie grid block region corner ≡ true → LiesFree grid block region corner
 lies_free grid block region corner cells all may =
@@ -117,8 +115,10 @@ lies_free grid block region corner cells all may =
     record {
       within = (within_is_by_cells rect region cells).0 parts.0;
       free = λ obstacle has cell i j.
-          let met : meets rect obstacle ≡ true = (meeting_is_by_cells rect obstacle cells (All-contains HasCells grid.obstacles obstacle all.obstacles has)).1 (cell, i, j) in
-          let some : is_blocked grid rect ≡ true = list_any_at (λ o. meets rect o) grid.obstacles has.0 obstacle has.1 (ap (λ o. meets rect o) has.2 ∙ met) in
+          let met : meets rect obstacle ≡ true =
+          (meeting_is_by_cells rect obstacle cells (All-contains HasCells grid.obstacles obstacle all.obstacles has)).1 (cell, i, j) in
+          let some : is_blocked grid rect ≡ true =
+          list_any_at (λ o. meets rect o) grid.obstacles has.0 obstacle has.1 (ap (λ o. meets rect o) has.2 ∙ met) in
           not_both (is_blocked grid rect) some parts.1;
     }
 
@@ -127,7 +127,7 @@ may_free : (grid : GridFile) (block : Block) (region : Rect) (corner : Corner) �
 may_free grid block region corner cells all free =
     let rect = rect_at block corner in
     let within : is_within rect region ≡ true = (within_is_by_cells rect region cells).1 free.within in
-    let open_by = λ (k : ℕ) (d : Rect) (h : k < length grid.obstacles). false_from (meets rect (get_or grid.obstacles k d)) (λ met.
+    let open_by = λ (k : ℕ) (d : Rect) (h : k < length grid.obstacles). false_by (meets rect (get_or grid.obstacles k d)) (λ met.
     let both = (meeting_is_by_cells rect (get_or grid.obstacles k d) cells (all.obstacles k d h)).0 met in
     free.free (get_or grid.obstacles k d) (Contains-get_or grid.obstacles k d h) both.0 both.1 both.2) in
     let clear : is_blocked grid rect ≡ false = list_any_none (λ o. meets rect o) grid.obstacles open_by in
@@ -136,11 +136,15 @@ may_free grid block region corner cells all free =
 pub places_are_by_cells : PlacesAreByCells
 places_are_by_cells bytes grid is block region has_block has_region corner =
     let all = read_has_cells bytes grid is in
-    let cells : HasCells (rect_at block corner) = All-contains (λ (b : Block). HasCells (home_rect b)) grid.blocks block all.blocks has_block in
+    let cells : HasCells (rect_at block corner) =
+    All-contains (λ (b : Block). HasCells (home_rect b)) grid.blocks block all.blocks has_block in
     let p = may_lie grid block region.rect in (
       λ c. lies_free grid block region.rect corner cells all (poses_only p (corners region.rect) corner c.0 c.1 c.2),
       λ free.
-          let first = free.within (record { x = corner.x; y = corner.y }) (record { column = (omega arith, omega (arith, cells.0)); row = (omega arith, omega (arith, cells.1)) }) in
-          let at = has_corner region.rect.x region.rect.w region.rect.y region.rect.h corner first.column.0 first.column.1 first.row.0 first.row.1 in
+          let first =
+          free.within (record { x = corner.x; y = corner.y })
+          (record { column = (omega arith, omega (arith, cells.0)); row = (omega arith, omega (arith, cells.1)) }) in
+          let at = has_corner region.rect.x region.rect.w region.rect.y region.rect.h corner first.column.0 first.column.1 first.row.0
+          first.row.1 in
           poses_have p (corners region.rect) corner at.0 at.1 at.2 (may_free grid block region.rect corner cells all free),
     )

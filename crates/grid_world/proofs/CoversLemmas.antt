@@ -7,9 +7,9 @@ use Rattle.grid_text.specs.Rects.{is_within, meets}
 use Rattle.grid_text.specs.declared.grid.Block.{Block}
 use Rattle.grid_text.specs.declared.rect.Rect.{Rect}
 use Rattle.grid_world.specs.Answers.{may_lie}
-use Rattle.grid_world.specs.Covers.{Covers, corner_in, reaches}
+use Rattle.grid_world.specs.Covers.{CoversColumns, corner_in, reaches}
 use Rattle.grid_world.specs.Words.{rect_at}
-use Rattle.lemmas.proofs.Bools.{or_assoc}
+use Rattle.lemmas.proofs.Bools.{or_assoc, or_false}
 
 pub lt_max : (c a b : ℕ) → nat_lt c (max a b) ≡ (nat_lt c a || nat_lt c b)
 lt_max c a b = grind (arith, nat_tests)
@@ -20,10 +20,6 @@ or_skip false true true = refl
 or_skip false true false = refl
 or_skip false false true = refl
 or_skip false false false = refl
-
-or_none : (b : Bool) → b ≡ (b || false)
-or_none true = refl
-or_none false = refl
 
 -- a number that is raised at a place passes a test more, if the place is among the first n
 any_raised : (p : ℕ → Bool) (xs : List ℕ) (n at y : ℕ) (more : Bool) → at < length xs
@@ -38,7 +34,8 @@ any_raised p (x ∷ xs) (suc n) zero y more h e =
     rw here (ap (λ b. b || list_any p (take n xs)) told ∙ or_skip (p x) more (list_any p (take n xs)))
 any_raised p (x ∷ xs) (suc n) (suc at) y more h e =
     let same : nat_lt (suc at) (suc n) ≡ nat_lt at n = grind (arith, nat_tests) in
-    rw same (ap (λ b. p x || b) (any_raised p xs n at y more (omega arith) e) ∙ or_assoc (p x) (list_any p (take n xs)) (nat_lt at n && more))
+    rw same
+    (ap (λ b. p x || b) (any_raised p xs n at y more (omega arith) e) ∙ or_assoc (p x) (list_any p (take n xs)) (nat_lt at n && more))
 
 any_blank : (n m column : ℕ)
     → list_any (λ (end : ℕ). nat_lt column end) (take m (replicate n 0)) ≡ false
@@ -60,7 +57,8 @@ pub reaches_raised : (ends : List ℕ) (begin end column : ℕ) → begin < leng
     → reaches (set ends begin (max (get_or ends begin 0) end)) column
     ≡ (reaches ends column || (nat_le begin column && nat_lt column end))
 reaches_raised ends begin end column h =
-    any_raised (λ (e : ℕ). nat_lt column e) ends (column + 1) begin (max (get_or ends begin 0) end) (nat_lt column end) h (lt_max column (get_or ends begin 0) end)
+    any_raised (λ (e : ℕ). nat_lt column e) ends (column + 1) begin (max (get_or ends begin 0) end)
+    (nat_lt column end) h (lt_max column (get_or ends begin 0) end)
     ∙ ap (λ b. reaches ends column || (b && nat_lt column end)) (before_more begin column)
 
 same_test : (a b : Bool) → (a ≡ true → b ≡ true) → (b ≡ true → a ≡ true) → a ≡ b
@@ -98,11 +96,11 @@ run_met obstacle region block y column begin end top bottom b e = grind (arith, 
 
 pub none_more : (ends : List ℕ) (column : ℕ) (met : Bool) → met ≡ false
     → reaches ends column ≡ (reaches ends column || met)
-none_more ends column met e = or_none (reaches ends column) ∙ ap (λ b. reaches ends column || b) (sym e)
+none_more ends column met e = sym (or_false (reaches ends column)) ∙ ap (λ b. reaches ends column || b) (sym e)
 
 -- the noted numbers say whether the block may lie at a corner
 pub may_same : (grid : GridFile) (block : Block) (region : Rect) (y column : ℕ) (ends : List ℕ)
-    → Covers ends grid.obstacles block region y → column < 1000
+    → CoversColumns ends grid.obstacles block region y → column < 1000
     → (is_within (rect_at block (corner_in region y column)) region && not (nat_lt column (get_or ends column 0)))
     ≡ may_lie grid block region (corner_in region y column)
 may_same grid block region y column ends covers h =

@@ -32,7 +32,8 @@ row_from grid block region y column =
     poses_at grid block region (row_corners (region.x + column) (region.w - column) y)
 
 abbrev pub rows_from : GridFile → Block → Rect → ℕ → List GridAnswer
-rows_from grid block region row = poses_at grid block region (flat_map (row_corners region.x region.w) (numbers_from (region.y + row) (region.h - row)))
+rows_from grid block region row =
+    poses_at grid block region (flat_map (row_corners region.x region.w) (numbers_from (region.y + row) (region.h - row)))
 
 pub whole_row : (grid : GridFile) (block : Block) (region : Rect) (y : ℕ)
     → row_from grid block region y 0 ≡ poses_at grid block region (row_corners region.x region.w y)
@@ -54,7 +55,8 @@ Leaves all turn left rest =
     (more : List GridAnswer) → nth turn (all ++ more) ≡ nth left (rest ++ more)
 
 corner_step : (region : Rect) (y column : ℕ) → column < region.w →
-    row_corners (region.x + column) (region.w - column) y ≡ record { x = region.x + column; y = y } ∷ row_corners (region.x + (column + 1)) (region.w - (column + 1)) y
+    row_corners (region.x + column) (region.w - column) y
+    ≡ record { x = region.x + column; y = y } ∷ row_corners (region.x + (column + 1)) (region.w - (column + 1)) y
 corner_step region y column h = rw (numbers_at region.x region.w column h) refl
 
 pub filter_good : (p : Corner → Bool) (c : Corner) (cs : List Corner) → p c ≡ true
@@ -112,14 +114,16 @@ pub counts : (grid : GridFile) (block : Block) (region : Rect) (y column turn le
     → may_lie grid block region corner ≡ true → 0 < left →
     Leaves all turn left (row_from grid block region y column) → Leaves all turn (left - 1) (row_from grid block region y (column + 1))
 counts grid block region y column turn left all corner h e good some i more =
-    i more ∙ ap (λ rest. nth left (rest ++ more)) (row_yes grid block region y column corner h e good) ∙ nth_later left (pose_answer corner) (row_from grid block region y (column + 1) ++ more) some
+    i more ∙ ap (λ rest. nth left (rest ++ more)) (row_yes grid block region y column corner h e good)
+    ∙ nth_later left (pose_answer corner) (row_from grid block region y (column + 1) ++ more) some
 
 pub finds : (grid : GridFile) (block : Block) (region : Rect) (y column turn left : ℕ) (all : List GridAnswer) (corner : Corner)
     → column < region.w → corner ≡ record { x = region.x + column; y = y }
     → may_lie grid block region corner ≡ true → left ≡ 0 →
     Leaves all turn left (row_from grid block region y column) → (more : List GridAnswer) → nth turn (all ++ more) ≡ pose_answer corner
 finds grid block region y column turn left all corner h e good none i more =
-    i more ∙ ap (λ rest. nth left (rest ++ more)) (row_yes grid block region y column corner h e good) ∙ ap (λ k. nth k (pose_answer corner ∷ (row_from grid block region y (column + 1) ++ more))) none
+    i more ∙ ap (λ rest. nth left (rest ++ more)) (row_yes grid block region y column corner h e good)
+    ∙ ap (λ k. nth k (pose_answer corner ∷ (row_from grid block region y (column + 1) ++ more))) none
 
 pub ends : (grid : GridFile) (block : Block) (region : Rect) (y column turn left : ℕ) (all : List GridAnswer)
     → region.w ≤ column →
@@ -130,13 +134,16 @@ ends grid block region y column turn left all h i more =
 poses_append : (grid : GridFile) (block : Block) (region : Rect) (xs ys : List Corner)
     → poses_at grid block region (xs ++ ys) ≡ poses_at grid block region xs ++ poses_at grid block region ys
 poses_append grid block region xs ys =
-    ap (map pose_answer) (filter-append (may_lie grid block region) xs ys) ∙ map-append pose_answer (filter (may_lie grid block region) xs) (filter (may_lie grid block region) ys)
+    ap (map pose_answer) (filter-append (may_lie grid block region) xs ys)
+    ∙ map-append pose_answer (filter (may_lie grid block region) xs) (filter (may_lie grid block region) ys)
 
 pub rows_more : (grid : GridFile) (block : Block) (region : Rect) (row : ℕ) → row < region.h →
-    rows_from grid block region row ≡ poses_at grid block region (row_corners region.x region.w (region.y + row)) ++ rows_from grid block region (row + 1)
+    rows_from grid block region row
+    ≡ poses_at grid block region (row_corners region.x region.w (region.y + row)) ++ rows_from grid block region (row + 1)
 rows_more grid block region row h =
     ap (λ ys. poses_at grid block region (flat_map (row_corners region.x region.w) ys)) (numbers_at region.y region.h row h)
-    ∙ poses_append grid block region (row_corners region.x region.w (region.y + row)) (flat_map (row_corners region.x region.w) (numbers_from (region.y + (row + 1)) (region.h - (row + 1))))
+    ∙ poses_append grid block region (row_corners region.x region.w (region.y + row))
+    (flat_map (row_corners region.x region.w) (numbers_from (region.y + (row + 1)) (region.h - (row + 1))))
 
 pub rows_none : (grid : GridFile) (block : Block) (region : Rect) (row : ℕ) → region.h ≤ row
     → rows_from grid block region row ≡ []

@@ -11,9 +11,9 @@ use Rattle.gen_lines.specs.Lines.{is_feed, lines_of, unfinished}
 use Rattle.gen_lines.proofs.LinesLemmas.{after_some, lines_none, lines_some}
 use Rattle.gen_lines.proofs.CuttingLemmas.{whole}
 use Rattle.grid_text.specs.Grids.{GridFile}
-use Rattle.grid_world.specs.AnswerLines.{line_of, replies_to, reply_to}
+use Rattle.grid_world.specs.AnswerLines.{line_of_answer, replies_to, answer_to_line}
 use Rattle.grid_world.specs.Answers.{answer_in}
-use Rattle.grid_world.specs.Filling.{Came, Comes}
+use Rattle.grid_world.specs.Filling.{Came, HoldsMore}
 use Rattle.grid_world.specs.Serving.{AnswersLines, EndsSo, Wrote}
 use Rattle.grid_world.specs.declared.status.GridStatus.{GridStatus}
 use Rattle.grid_world.specs.declared.status.GridStatus.TheVariants.{Done, Limit, Input, ReadFault, WriteFault, Memory}
@@ -22,7 +22,7 @@ pub came_none : (a : Option (List ℕ)) (held : List ℕ) → Came a a held held
 came_none a held = record { more = []; held = sym (append-nil held); from = Consumes-nil a }
 
 pub came_more : (a b c : Option (List ℕ)) (old mid new : List ℕ) (n : ℕ) → Came a b old mid
-    → Comes n b c mid new → Came a c old new
+    → HoldsMore n b c mid new → Came a c old new
 came_more a b c old mid new n p q = record {
   more = p.more ++ q.more;
   held = q.held ∙ ap (λ h. h ++ q.more) p.held ∙ append_assoc old p.more q.more;
@@ -45,7 +45,8 @@ pub record Stands (grid : GridFile) (before after old new : Option (List ℕ)) (
 
 pub stands_first : (grid : GridFile) (left taken : Option (List ℕ))
     → Stands grid left left taken taken [] 0
-stands_first grid left taken = record { all = []; answered = []; cut = fresh; from = Consumes-nil left; wrote = Appends-nil taken; count = refl }
+stands_first grid left taken = record
+    { all = []; answered = []; cut = fresh; from = Consumes-nil left; wrote = Appends-nil taken; count = refl }
 
 pub stands_filled : (grid : GridFile) (before mid after old new : Option (List ℕ)) (held more : List ℕ) (n : ℕ)
     → Stands grid before mid old new held n → Came mid after held more
@@ -67,25 +68,27 @@ cut_more : (all held : List ℕ) (answered : List (List ℕ)) (end : ℕ) → Cu
     → position is_feed held ≡ Some end
     → Cut all (answered ++ line_at end held ∷ []) (drop (end + 1) held)
 cut_more all held answered end cut feed =
-    let first : lines_of held ≡ line_at end held ∷ lines_of (after_first is_feed held) = rw (after_some held end feed) (lines_some held end feed) in
+    let first : lines_of held ≡ line_at end held ∷ lines_of (after_first is_feed held) =
+    rw (after_some held end feed) (lines_some held end feed) in
     subst (Cut all (answered ++ line_at end held ∷ [])) (after_some held end feed) (took cut first)
 
 replies_more : (grid : GridFile) (answered : List (List ℕ)) (line : List ℕ)
-    → replies_to grid (answered ++ line ∷ []) ≡ replies_to grid answered ++ reply_to grid line
+    → replies_to grid (answered ++ line ∷ []) ≡ replies_to grid answered ++ answer_to_line grid line
 replies_more grid answered line =
-    flat_map-append (reply_to grid) answered (line ∷ [])
-    ∙ ap (λ t. replies_to grid answered ++ t) (append-nil (reply_to grid line))
+    flat_map-append (answer_to_line grid) answered (line ∷ [])
+    ∙ ap (λ t. replies_to grid answered ++ t) (append-nil (answer_to_line grid line))
 
 pub stands_answered : (grid : GridFile) (before after old mid new : Option (List ℕ)) (held : List ℕ) (n end : ℕ)
     → Stands grid before after old mid held n → position is_feed held ≡ Some end
-    → Appends mid new (reply_to grid (line_at end held))
+    → Appends mid new (answer_to_line grid (line_at end held))
     → Stands grid before after old new (drop (end + 1) held) (n + 1)
 stands_answered grid before after old mid new held n end s feed w = record {
   all = s.all;
   answered = s.answered ++ line_at end held ∷ [];
   cut = cut_more s.all held s.answered end s.cut feed;
   from = s.from;
-  wrote = subst (Appends old new) (sym (replies_more grid s.answered (line_at end held))) (Appends-trans old mid new (replies_to grid s.answered) (reply_to grid (line_at end held)) s.wrote w);
+  wrote = subst (Appends old new) (sym (replies_more grid s.answered (line_at end held)))
+      (Appends-trans old mid new (replies_to grid s.answered) (answer_to_line grid (line_at end held)) s.wrote w);
   count = omega (arith, s.count, length-append s.answered (line_at end held ∷ []));
 }
 
@@ -99,7 +102,9 @@ lines_whole all held answered cut =
 pub ends_with : (grid : GridFile) (before after old new : Option (List ℕ)) (held : List ℕ) (n : ℕ) (status : GridStatus)
     → Stands grid before after old new held n → n ≤ 100000 →
     ((answered : List (List ℕ)) → Appends old new (replies_to grid answered) → Wrote status (replies_to grid answered) old new) →
-    ((answered : List (List ℕ)) (rest : List ℕ) → length answered ≡ n → (lines_of held ≡ [] → rest ≡ held) → EndsSo status answered (lines_of held) rest after) →
+    ((answered : List (List ℕ)) (rest : List ℕ) → length answered ≡ n → (lines_of held ≡ [] → rest ≡ held)
+    → EndsSo status answered (lines_of held) rest after)
+    →
     AnswersLines grid before after old new status
 ends_with grid before after old new held n status s few wrote so = record {
   read = s.all;
@@ -115,22 +120,27 @@ ends_with grid before after old new held n status s few wrote so = record {
 pub ends_done : (grid : GridFile) (before after old new : Option (List ℕ)) (held : List ℕ) (n : ℕ)
     → Stands grid before after old new held n → n ≤ 100000 → position is_feed held ≡ None
     → IsAtEnd after → AnswersLines grid before after old new Done
-ends_done grid before after old new held n s few none ended = ends_with grid before after old new held n Done s few (λ a w. w) (λ a r c h. (lines_none held none, ended))
+ends_done grid before after old new held n s few none ended =
+    ends_with grid before after old new held n Done s few (λ a w. w) (λ a r c h. (lines_none held none, ended))
 
 pub ends_input : (grid : GridFile) (before after old new : Option (List ℕ)) (held : List ℕ) (n : ℕ)
     → Stands grid before after old new held n → n ≤ 100000 → position is_feed held ≡ None
     → length held ≡ 4097 → AnswersLines grid before after old new Input
-ends_input grid before after old new held n s few none long = ends_with grid before after old new held n Input s few (λ a w. w) (λ a r c h. (lines_none held none, omega (arith, ap length (h (lines_none held none)), long)))
+ends_input grid before after old new held n s few none long =
+    ends_with grid before after old new held n Input s few
+    (λ a w. w) (λ a r c h. (lines_none held none, omega (arith, ap length (h (lines_none held none)), long)))
 
 pub ends_limit : (grid : GridFile) (before after old new : Option (List ℕ)) (held : List ℕ) (n : ℕ)
     → Stands grid before after old new held n → n ≡ 100000
     → AnswersLines grid before after old new Limit
-ends_limit grid before after old new held n s full = ends_with grid before after old new held n Limit s (omega (arith, full)) (λ a w. w) (λ a r c h. c ∙ full)
+ends_limit grid before after old new held n s full =
+    ends_with grid before after old new held n Limit s (omega (arith, full)) (λ a w. w) (λ a r c h. c ∙ full)
 
 pub ends_read : (grid : GridFile) (before after old new : Option (List ℕ)) (held : List ℕ) (n : ℕ)
     → Stands grid before after old new held n → n ≤ 100000 → position is_feed held ≡ None
     → AnswersLines grid before after old new ReadFault
-ends_read grid before after old new held n s few none = ends_with grid before after old new held n ReadFault s few (λ a w. w) (λ a r c h. lines_none held none)
+ends_read grid before after old new held n s few none =
+    ends_with grid before after old new held n ReadFault s few (λ a w. w) (λ a r c h. lines_none held none)
 
 pub ends_memory : (grid : GridFile) (left taken : Option (List ℕ))
     → AnswersLines grid left left taken taken Memory
@@ -151,12 +161,14 @@ part_more text reply n = take-append-add text reply n
 
 pub ends_write : (grid : GridFile) (before after old mid new : Option (List ℕ)) (held : List ℕ) (n end k : ℕ)
     → Stands grid before after old mid held n → n < 100000 → position is_feed held ≡ Some end →
-    k < length (reply_to grid (line_at end held)) → Appends mid new (take k (reply_to grid (line_at end held))) → AnswersLines grid before after old new WriteFault
+    k < length (answer_to_line grid (line_at end held)) → Appends mid new (take k (answer_to_line grid (line_at end held)))
+    → AnswersLines grid before after old new WriteFault
 ends_write grid before after old mid new held n end k s few feed short w =
     let line = line_at end held in
     let text = replies_to grid s.answered in
-    let all : replies_to grid (s.answered ++ line ∷ []) ≡ text ++ reply_to grid line = replies_more grid s.answered line in
-    let part : take (length text + k) (replies_to grid (s.answered ++ line ∷ [])) ≡ text ++ take k (reply_to grid line) = ap (take (length text + k)) all ∙ part_more text (reply_to grid line) k in
+    let all : replies_to grid (s.answered ++ line ∷ []) ≡ text ++ answer_to_line grid line = replies_more grid s.answered line in
+    let part : take (length text + k) (replies_to grid (s.answered ++ line ∷ [])) ≡ text ++ take k (answer_to_line grid line) =
+    ap (take (length text + k)) all ∙ part_more text (answer_to_line grid line) k in
     let cut = cut_more s.all held s.answered end s.cut feed in
     record {
       read = s.all;
@@ -165,13 +177,17 @@ ends_write grid before after old mid new held n end k s few feed short w =
       behind = lines_of (drop (end + 1) held);
       lines = lines_whole s.all (drop (end + 1) held) (s.answered ++ line ∷ []) cut;
       few = omega (arith, s.count, length-append s.answered (line ∷ []), few);
-      wrote = (length text + k, omega (arith, ap length all, length-append text (reply_to grid line), short), subst (Appends old new) (sym part) (Appends-trans old mid new text (take k (reply_to grid line)) s.wrote w));
+      wrote = (
+        length text + k,
+        omega (arith, ap length all, length-append text (answer_to_line grid line), short),
+        subst (Appends old new) (sym part) (Appends-trans old mid new text (take k (answer_to_line grid line)) s.wrote w),
+      );
       ends = omega (arith, length-append s.answered (line ∷ []));
     }
 
 pub reply_is : (grid : GridFile) (line : List ℕ)
-    → line_of (answer_in grid line) ++ 10 ∷ [] ≡ reply_to grid line
-unfolding reply_to
+    → line_of_answer (answer_in grid line) ++ 10 ∷ [] ≡ answer_to_line grid line
+unfolding answer_to_line
 reply_is grid line = refl
 
 pub two_words : {A : Type 0} (f : A → List ℕ) (words : List A) (first second : A) (p q : List ℕ)

@@ -6,12 +6,12 @@ use Rattle.std.proofs.lemmas.Grind.{flat_map-append}
 use Rattle.std.proofs.lemmas.List.{map-append, take-append-le, take_all}
 use Rattle.std.proofs.Math.Seq.{take-add}
 use Rattle.std.proofs.lemmas.Bool.Decides.{nat_tests}
-use Rattle.std.proofs.lemmas.List.Splits.{length-slice_split}
 use Rattle.gen_lines.specs.Lines.{ended, is_feed, lines_of, open_part, unfinished}
 use Rattle.grid_text.specs.Grids.{GridFile}
-use Rattle.grid_world.specs.AnswerLines.{answers_text, replies_to, reply_to}
+use Rattle.grid_world.specs.AnswerLines.{answers_text, replies_to, answer_to_line}
 use Rattle.io_world.specs.Talks.{heard_more, wrote_more}
-use Rattle.grid_world.specs.Sessions.{GoesOn, HearsByte, KeepsGiven, SessionState, left_of, talk_of}
+use Rattle.grid_world.specs.Sessions.{SessionGoesOn, SessionHearsByte, KeepsGiven, SessionState, left_of, talk_of}
+use Rattle.gen_lines.proofs.CuttingLemmas.{parts_left}
 
 -- a part behind others
 ended_push : (parts : List (List ℕ)) (part : List ℕ) → ended (parts ++ part ∷ []) ≡ parts
@@ -29,17 +29,16 @@ parts_whole [] h = absurd (omega arith)
 parts_whole (part ∷ []) h = refl
 parts_whole (first ∷ second ∷ parts) h = ap (λ ps. first ∷ ps) (parts_whole (second ∷ parts) (omega arith))
 
-some_part : (bytes : List ℕ) → 0 < length (slice_split is_feed bytes)
-some_part bytes = omega (arith, length-slice_split is_feed bytes)
-
-onto_push : (x : ℕ) (parts : List (List ℕ)) (part : List ℕ) → 0 < length parts → onto_first x (parts ++ part ∷ []) ≡ onto_first x parts ++ part ∷ []
+onto_push : (x : ℕ) (parts : List (List ℕ)) (part : List ℕ) → 0 < length parts
+    → onto_first x (parts ++ part ∷ []) ≡ onto_first x parts ++ part ∷ []
 onto_push x [] part h = absurd (omega arith)
 onto_push x (first ∷ parts) part h = refl
 
 split_feed_by : (b : Bool) (x : ℕ) (bytes : List ℕ) → slice_split is_feed (bytes ++ 10 ∷ []) ≡ slice_split is_feed bytes ++ [] ∷ [] →
-    cond b ([] ∷ slice_split is_feed (bytes ++ 10 ∷ [])) (onto_first x (slice_split is_feed (bytes ++ 10 ∷ []))) ≡ cond b ([] ∷ slice_split is_feed bytes) (onto_first x (slice_split is_feed bytes)) ++ [] ∷ []
+    cond b ([] ∷ slice_split is_feed (bytes ++ 10 ∷ [])) (onto_first x (slice_split is_feed (bytes ++ 10 ∷ [])))
+    ≡ cond b ([] ∷ slice_split is_feed bytes) (onto_first x (slice_split is_feed bytes)) ++ [] ∷ []
 split_feed_by true x bytes e = ap (λ ps. [] ∷ ps) e
-split_feed_by false x bytes e = ap (onto_first x) e ∙ onto_push x (slice_split is_feed bytes) [] (some_part bytes)
+split_feed_by false x bytes e = ap (onto_first x) e ∙ onto_push x (slice_split is_feed bytes) [] (parts_left bytes)
 
 split_feed : (bytes : List ℕ) → slice_split is_feed (bytes ++ 10 ∷ []) ≡ slice_split is_feed bytes ++ [] ∷ []
 split_feed [] = refl
@@ -59,9 +58,10 @@ longer_onto x (part ∷ []) b h = refl
 longer_onto x (part ∷ next ∷ parts) b h = refl
 
 split_other_by : (f : Bool) (x b : ℕ) (bytes : List ℕ) → slice_split is_feed (bytes ++ b ∷ []) ≡ longer (slice_split is_feed bytes) b →
-    cond f ([] ∷ slice_split is_feed (bytes ++ b ∷ [])) (onto_first x (slice_split is_feed (bytes ++ b ∷ []))) ≡ longer (cond f ([] ∷ slice_split is_feed bytes) (onto_first x (slice_split is_feed bytes))) b
-split_other_by true x b bytes e = ap (λ ps. [] ∷ ps) e ∙ longer_cons (slice_split is_feed bytes) b (some_part bytes)
-split_other_by false x b bytes e = ap (onto_first x) e ∙ longer_onto x (slice_split is_feed bytes) b (some_part bytes)
+    cond f ([] ∷ slice_split is_feed (bytes ++ b ∷ [])) (onto_first x (slice_split is_feed (bytes ++ b ∷ [])))
+    ≡ longer (cond f ([] ∷ slice_split is_feed bytes) (onto_first x (slice_split is_feed bytes))) b
+split_other_by true x b bytes e = ap (λ ps. [] ∷ ps) e ∙ longer_cons (slice_split is_feed bytes) b (parts_left bytes)
+split_other_by false x b bytes e = ap (onto_first x) e ∙ longer_onto x (slice_split is_feed bytes) b (parts_left bytes)
 
 split_other : (bytes : List ℕ) (b : ℕ) → is_feed b ≡ false → slice_split is_feed (bytes ++ b ∷ []) ≡ longer (slice_split is_feed bytes) b
 split_other [] b e = rw e refl
@@ -70,7 +70,7 @@ split_other (x ∷ bytes) b e = split_other_by (is_feed x) x b bytes (split_othe
 lines_feed : (bytes : List ℕ) → lines_of (bytes ++ 10 ∷ []) ≡ lines_of bytes ++ strip_last 13 (unfinished bytes) ∷ []
 lines_feed bytes =
     ap (λ ps. map (strip_last 13) (ended ps)) (split_feed bytes)
-    ∙ ap (map (strip_last 13)) (ended_push (slice_split is_feed bytes) [] ∙ parts_whole (slice_split is_feed bytes) (some_part bytes))
+    ∙ ap (map (strip_last 13)) (ended_push (slice_split is_feed bytes) [] ∙ parts_whole (slice_split is_feed bytes) (parts_left bytes))
     ∙ map-append (strip_last 13) (ended (slice_split is_feed bytes)) (unfinished bytes ∷ [])
 
 open_feed : (bytes : List ℕ) → unfinished (bytes ++ 10 ∷ []) ≡ []
@@ -84,13 +84,14 @@ lines_other bytes b e =
 open_other : (bytes : List ℕ) (b : ℕ) → is_feed b ≡ false → unfinished (bytes ++ b ∷ []) ≡ unfinished bytes ++ b ∷ []
 open_other bytes b e = ap open_part (split_other bytes b e) ∙ open_push (ended (slice_split is_feed bytes)) (unfinished bytes ++ b ∷ [])
 
-answers_feed : (grid : GridFile) (bytes : List ℕ) → answers_text grid (bytes ++ 10 ∷ []) ≡ answers_text grid bytes ++ reply_to grid (strip_last 13 (unfinished bytes))
+answers_feed : (grid : GridFile) (bytes : List ℕ)
+    → answers_text grid (bytes ++ 10 ∷ []) ≡ answers_text grid bytes ++ answer_to_line grid (strip_last 13 (unfinished bytes))
 answers_feed grid bytes =
     ap (replies_to grid) (lines_feed bytes)
-    ∙ flat_map-append (reply_to grid) (lines_of bytes) (strip_last 13 (unfinished bytes) ∷ [])
-    ∙ ap (λ t. answers_text grid bytes ++ t) (append-nil (reply_to grid (strip_last 13 (unfinished bytes))))
+    ∙ flat_map-append (answer_to_line grid) (lines_of bytes) (strip_last 13 (unfinished bytes) ∷ [])
+    ∙ ap (λ t. answers_text grid bytes ++ t) (append-nil (answer_to_line grid (strip_last 13 (unfinished bytes))))
 
-pub goes_first : (grid : GridFile) (written left : List ℕ) → unfinished written ≡ left → GoesOn grid written [] left []
+pub goes_first : (grid : GridFile) (written left : List ℕ) → unfinished written ≡ left → SessionGoesOn grid written [] left []
 goes_first grid written left e = record {
   left_is = sym e ∙ ap unfinished (sym (append-nil written));
   answers_are = ap (answers_text grid) (append-nil written) ∙ sym (append-nil (answers_text grid written));
@@ -99,15 +100,20 @@ goes_first grid written left e = record {
 feed_told : (b : ℕ) → (b == 10) ≡ true → b ≡ 10
 feed_told b e = grind (arith, nat_tests, e)
 
-goes_by : (f : Bool) (grid : GridFile) (written bytes left answers more_left more_answers : List ℕ) (b : ℕ) → (b == 10) ≡ f → GoesOn grid written bytes left answers → HearsByte grid b left answers more_left more_answers → GoesOn grid written (bytes ++ b ∷ []) more_left more_answers
+goes_by : (f : Bool) (grid : GridFile) (written bytes left answers more_left more_answers : List ℕ) (b : ℕ) → (b == 10) ≡ f
+    → SessionGoesOn grid written bytes left answers → SessionHearsByte grid b left answers more_left more_answers
+    → SessionGoesOn grid written (bytes ++ b ∷ []) more_left more_answers
 goes_by true grid written bytes left answers more_left more_answers b f g h =
     let is : b ≡ 10 = feed_told b f in
     let empty : more_left ≡ [] = rw f at h.left_is in
-    let added : more_answers ≡ answers ++ reply_to grid (strip_last 13 left) = rw f at h.answers_are in
+    let added : more_answers ≡ answers ++ answer_to_line grid (strip_last 13 left) = rw f at h.answers_are in
     let join : written ++ (bytes ++ b ∷ []) ≡ (written ++ bytes) ++ 10 ∷ [] = rw is (sym (append_assoc written bytes (10 ∷ []))) in
     record {
       left_is = empty ∙ sym (ap unfinished join ∙ open_feed (written ++ bytes));
-      answers_are = ap (answers_text grid) join ∙ answers_feed grid (written ++ bytes) ∙ rw (← g.left_is, g.answers_are, added) (append_assoc (answers_text grid written) answers (reply_to grid (strip_last 13 left)));
+      answers_are =
+          ap (answers_text grid) join ∙ answers_feed grid (written ++ bytes)
+          ∙ rw (← g.left_is, g.answers_are, added)
+          (append_assoc (answers_text grid written) answers (answer_to_line grid (strip_last 13 left)));
     }
 goes_by false grid written bytes left answers more_left more_answers b f g h =
     let longer_left : more_left ≡ left ++ b ∷ [] = rw f at h.left_is in
@@ -115,16 +121,21 @@ goes_by false grid written bytes left answers more_left more_answers b f g h =
     let join : written ++ (bytes ++ b ∷ []) ≡ (written ++ bytes) ++ b ∷ [] = sym (append_assoc written bytes (b ∷ [])) in
     record {
       left_is = longer_left ∙ ap (λ t. t ++ b ∷ []) g.left_is ∙ sym (ap unfinished join ∙ open_other (written ++ bytes) b f);
-      answers_are = ap (answers_text grid) join ∙ ap (replies_to grid) (lines_other (written ++ bytes) b f) ∙ g.answers_are ∙ ap (λ t. answers_text grid written ++ t) (sym same);
+      answers_are =
+          ap (answers_text grid) join ∙ ap (replies_to grid) (lines_other (written ++ bytes) b f) ∙ g.answers_are
+          ∙ ap (λ t. answers_text grid written ++ t) (sym same);
     }
 
-pub goes_more : (grid : GridFile) (written bytes left answers more_left more_answers : List ℕ) (b : ℕ) → GoesOn grid written bytes left answers → HearsByte grid b left answers more_left more_answers → GoesOn grid written (bytes ++ b ∷ []) more_left more_answers
-goes_more grid written bytes left answers more_left more_answers b g h = goes_by (b == 10) grid written bytes left answers more_left more_answers b refl g h
+pub goes_more : (grid : GridFile) (written bytes left answers more_left more_answers : List ℕ) (b : ℕ)
+    → SessionGoesOn grid written bytes left answers → SessionHearsByte grid b left answers more_left more_answers
+    → SessionGoesOn grid written (bytes ++ b ∷ []) more_left more_answers
+goes_more grid written bytes left answers more_left more_answers b g h =
+    goes_by (b == 10) grid written bytes left answers more_left more_answers b refl g h
 
 -- a line feed more
 pub hears_feed : (grid : GridFile) (byte : ℕ) (left answers more_left more_answers : List ℕ) → byte ≡ 10
-    → more_left ≡ [] → more_answers ≡ answers ++ reply_to grid (strip_last 13 left)
-    → HearsByte grid byte left answers more_left more_answers
+    → more_left ≡ [] → more_answers ≡ answers ++ answer_to_line grid (strip_last 13 left)
+    → SessionHearsByte grid byte left answers more_left more_answers
 hears_feed grid byte left answers more_left more_answers e l a =
     record { left_is = rw e l; answers_are = rw e a }
 
@@ -146,5 +157,6 @@ said_more was session new bytes w e k =
     rw (w, e, all, k) refl
 
 -- what was given stays the front, once more is written
-pub heard_stays : (grid : GridFile) (written bytes left answers : List ℕ) (n : ℕ) → GoesOn grid written bytes left answers → n ≤ length (answers_text grid written) → take n (answers_text grid (written ++ bytes)) ≡ take n (answers_text grid written)
+pub heard_stays : (grid : GridFile) (written bytes left answers : List ℕ) (n : ℕ) → SessionGoesOn grid written bytes left answers
+    → n ≤ length (answers_text grid written) → take n (answers_text grid (written ++ bytes)) ≡ take n (answers_text grid written)
 heard_stays grid written bytes left answers n g h = ap (take n) g.answers_are ∙ take-append-le n (answers_text grid written) answers h

@@ -11,7 +11,7 @@ use Rattle.std.proofs.lemmas.List.{take-append-drop}
 use Rattle.std.proofs.lemmas.List.Sums.{passes_at_first}
 use Rattle.std.proofs.Math.Seq.{drop-append-add}
 use Rattle.gen_lines.specs.Reply.{is_filled}
-use Rattle.lemmas.proofs.Bools.{not_both, not_true}
+use Rattle.lemmas.proofs.Bools.{not_both, not_true, false_by}
 use Rattle.lemmas.proofs.Digits.{own}
 use Rattle.lemmas.proofs.Members.{take_append}
 use Rattle.lemmas.proofs.Positions.{found_at}
@@ -19,6 +19,7 @@ use Rattle.grid_text.specs.Numbers.{is_decimal}
 use Rattle.grid_world.specs.Laws.{IsCornerText, PoseWordsAreSpelled}
 use Rattle.grid_world.specs.Words.{corner_at, corner_of, has_leading_zero, is_comma, is_plain, pose_of}
 use Rattle.grid_world.specs.declared.words.Corner.{Corner}
+use Rattle.gen_lines.proofs.FieldLemmas.{filled}
 
 equals : (b : ℕ) → b ≡ 48 → (b == 48) ≡ true
 equals b e = grind (arith, nat_tests, e)
@@ -28,10 +29,6 @@ zero_told b e = grind (arith, nat_tests, e)
 
 comma_told : (b : ℕ) → is_comma b ≡ true → b ≡ 44
 comma_told b e = grind (arith, nat_tests, e)
-
-false_by : (b : Bool) → (b ≡ true → ⊥) → b ≡ false
-false_by true h = absurd (h refl)
-false_by false h = refl
 
 differs : (b : ℕ) → (b ≡ 48 → ⊥) → (b == 48) ≡ false
 differs b h = false_by (b == 48) (λ e. h (zero_told b e))
@@ -58,13 +55,10 @@ plain_spelled text e =
     let r = and_parts (is_filled text) (list_all is_ascii_digit text) q.0 in
     let small : digits_value 10 text < 2 ^ 32 = grind (arith, nat_tests, q.1) in
     record {
-      is = decimal-digits_value own text r.1 (some_filled text r.0) (one_zero text (not_true (has_leading_zero text) p.0)) (omega (arith, small));
+      is = decimal-digits_value own text r.1 (some_filled text r.0)
+          (one_zero text (not_true (has_leading_zero text) p.0)) (omega (arith, small));
       small = small;
     }
-
-filled_some : (text : List ℕ) → 0 < length text → is_filled text ≡ true
-filled_some [] h = absurd (omega arith)
-filled_some (b ∷ bs) h = refl
 
 zero_first : (text : List ℕ) → (get_or text 0 0 ≡ 48 → length text ≡ 1) → has_leading_zero text ≡ false
 zero_first [] h = refl
@@ -80,7 +74,7 @@ decimal_plain : (n : ℕ) → n < 2 ^ 32 → is_plain (decimal n) ≡ true
 unfolding is_plain is_decimal
 decimal_plain n h =
     let zero_no : has_leading_zero (decimal n) ≡ false = zero_first (decimal n) (leads_by n h) in
-    let filled : is_filled (decimal n) ≡ true = filled_some (decimal n) (decimal_nonempty n (omega arith)) in
+    let filled : is_filled (decimal n) ≡ true = filled (decimal n) (decimal_nonempty n (omega arith)) in
     let digits : list_all is_ascii_digit (decimal n) ≡ true = digits_decimal own n (omega arith) in
     let value : digits_value 10 (decimal n) ≡ n = digits_value-decimal own n (omega arith) in
     let below : nat_lt n (2 ^ 32) ≡ true = grind (arith, nat_tests, h) in
@@ -133,7 +127,8 @@ text_by text corner (Some k) p e =
     let plain = and_parts (is_plain front) (is_plain back) read.0 in
     let x = plain_spelled front plain.0 in
     let y = plain_spelled back plain.1 in
-    let spelled : front ++ 44 ∷ back ≡ decimal (digits_value 10 front) ++ 44 ∷ [] ++ decimal (digits_value 10 back) = rw (x.is, y.is) (sym (append_assoc front (44 ∷ []) back)) in
+    let spelled : front ++ 44 ∷ back ≡ decimal (digits_value 10 front) ++ 44 ∷ [] ++ decimal (digits_value 10 back) =
+    rw (x.is, y.is) (sym (append_assoc front (44 ∷ []) back)) in
     subst (IsCornerText text) read.1 (record { is = cut_at text k p ∙ spelled; x = x.small; y = y.small })
 
 corner_there : (corner : Corner) → corner.x < 2 ^ 32 → corner.y < 2 ^ 32
@@ -155,7 +150,8 @@ corner_by text corner is =
     let y = decimal corner.y in
     let shape : text ≡ x ++ 44 ∷ y = is.is ∙ append_assoc x (44 ∷ []) y in
     let place : position_or_len is_comma (x ++ 44 ∷ y) ≡ length x = comma_behind x y (digits_decimal own corner.x (omega (arith, is.x))) in
-    let found : position is_comma (x ++ 44 ∷ y) ≡ Some (length x) = position_there is_comma (x ++ 44 ∷ y) (length x) place (omega (arith, length-append x (44 ∷ y))) in
+    let found : position is_comma (x ++ 44 ∷ y) ≡ Some (length x) =
+    position_there is_comma (x ++ 44 ∷ y) (length x) place (omega (arith, length-append x (44 ∷ y))) in
     ap corner_of shape ∙ ap (λ o. corner_at o (x ++ 44 ∷ y)) found ∙ corner_there corner is.x is.y
 
 pub pose_words_are_spelled : PoseWordsAreSpelled

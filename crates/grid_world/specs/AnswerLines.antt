@@ -18,25 +18,25 @@ side_line S = codes "yield s"
 side_line W = codes "yield w"
 
 -- `yield` and its value, or `end`
-abbrev pub line_of : GridAnswer → List ℕ
-line_of (answer.Pose x y) = codes "yield " ++ decimal x ++ codes "," ++ decimal y
-line_of (answer.Side side) = side_line side
-line_of (answer.Hand x y) = codes "yield h" ++ decimal x ++ codes "," ++ decimal y
-line_of answer.Yes = codes "yield"
-line_of answer.End = codes "end"
+abbrev pub line_of_answer : GridAnswer → List ℕ
+line_of_answer (answer.Pose x y) = codes "yield " ++ decimal x ++ codes "," ++ decimal y
+line_of_answer (answer.Side side) = side_line side
+line_of_answer (answer.Hand x y) = codes "yield h" ++ decimal x ++ codes "," ++ decimal y
+line_of_answer answer.Yes = codes "yield"
+line_of_answer answer.End = codes "end"
 
 -- the line of the answer to a request, with its line feed
-unfoldable pub reply_to : GridFile → List ℕ → List ℕ
-reply_to grid line = line_of (answer_in grid line) ++ 10 ∷ []
+unfoldable pub answer_to_line : GridFile → List ℕ → List ℕ
+answer_to_line grid line = line_of_answer (answer_in grid line) ++ 10 ∷ []
 
 -- The line of the answer to a request line, both without their line feed. A carriage return at the request's end is
 -- dropped.
 unfoldable pub reply_line : GridFile → List ℕ → List ℕ
-reply_line grid request = line_of (answer_in grid (strip_last 13 request))
+reply_line grid request = line_of_answer (answer_in grid (strip_last 13 request))
 
 -- The answers to these lines.
 abbrev pub replies_to : GridFile → List (List ℕ) → List ℕ
-replies_to grid lines = flat_map (reply_to grid) lines
+replies_to grid lines = flat_map (answer_to_line grid) lines
 
 -- The answers to the lines of these bytes.
 abbrev pub answers_text : GridFile → List ℕ → List ℕ

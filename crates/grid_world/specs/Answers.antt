@@ -46,14 +46,14 @@ pose_answer corner = answer.Pose corner.x corner.y
 abbrev pub poses_at : GridFile → Block → Rect → List Corner → List GridAnswer
 poses_at grid block region among = map pose_answer (filter (may_lie grid block region) among)
 
-abbrev pub places_in : GridFile → Option Block → Option NamedRect → List GridAnswer
-places_in grid None region = []
-places_in grid (Some block) None = []
-places_in grid (Some block) (Some region) = poses_at grid block region.rect (corners region.rect)
+abbrev pub poses_in : GridFile → Option Block → Option NamedRect → List GridAnswer
+poses_in grid None region = []
+poses_in grid (Some block) None = []
+poses_in grid (Some block) (Some region) = poses_at grid block region.rect (corners region.rect)
 
-abbrev pub places_of : GridFile → Option (List ℕ × List ℕ) → List GridAnswer
-places_of grid None = []
-places_of grid (Some names) = places_in grid (block_named grid names.0) (region_named grid names.1)
+abbrev pub poses_of : GridFile → Option (List ℕ × List ℕ) → List GridAnswer
+poses_of grid None = []
+poses_of grid (Some names) = poses_in grid (block_named grid names.0) (region_named grid names.1)
 
 -- grasp
 
@@ -94,13 +94,13 @@ covers rect cell =
     && nat_lt cell.y (rect.y + rect.h)
 
 -- the cell is in the grid, and in no obstacle
-unfoldable pub is_open : GridFile → Cell → Bool
-is_open grid cell =
+unfoldable pub is_open_cell : GridFile → Cell → Bool
+is_open_cell grid cell =
     nat_lt cell.x grid.width && nat_lt cell.y grid.height
     && not (list_any (λ obstacle. covers obstacle cell) grid.obstacles)
 
 abbrev pub hand_in : GridFile → Cell → Option GridAnswer
-hand_in grid cell = if is_open grid cell then Some (answer.Hand cell.x cell.y) else None
+hand_in grid cell = if is_open_cell grid cell then Some (answer.Hand cell.x cell.y) else None
 
 abbrev pub hand_at : GridFile → Option Cell → Option GridAnswer
 hand_at grid None = None
@@ -122,7 +122,8 @@ abbrev pub apart : GridFile → Option Rect → Option Rect → Option GridAnswe
 apart grid None second = None
 apart grid (Some first) None = None
 apart grid (Some first) (Some second) =
-    if is_within first (area grid) && is_within second (area grid) && not (meets first second) then Some answer.Yes else None
+    if is_within first (area grid) && is_within second (area grid) && not (meets first second) then Some answer.Yes
+    else None
 
 abbrev pub clear_of : GridFile → Option (List ℕ × List ℕ × List ℕ × List ℕ) → Option GridAnswer
 clear_of grid None = None
@@ -130,7 +131,7 @@ clear_of grid (Some words) = apart grid (posed grid words.0 words.1) (posed grid
 
 -- All answers of a stream with these inputs, in order.
 abbrev pub grid_list : GridFile → Stream → List (List ℕ) → List GridAnswer
-grid_list grid Place inputs = places_of grid (two_of inputs)
+grid_list grid Place inputs = poses_of grid (two_of inputs)
 grid_list grid Grasp inputs = grasps_of grid (one_of inputs)
 grid_list grid Reach inputs = option_to_list (hand_of grid (three_of inputs))
 grid_list grid Clear inputs = option_to_list (clear_of grid (four_of inputs))

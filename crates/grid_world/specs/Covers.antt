@@ -17,8 +17,8 @@ covered obstacles block region y column =
     list_any (λ obstacle. meets (rect_at block (corner_in region y column)) obstacle) obstacles
 
 -- at each column stands a number past it exactly where the block with its corner there meets an obstacle
-abbrev pub Covers : List ℕ → List Rect → Block → Rect → ℕ → Type 0
-Covers ends obstacles block region y =
+abbrev pub CoversColumns : List ℕ → List Rect → Block → Rect → ℕ → Type 0
+CoversColumns ends obstacles block region y =
     (column : ℕ) → column < 1000
     → nat_lt column (slice_index ends column) ≡ covered obstacles block region y column
 

@@ -7,7 +7,7 @@ use Rattle.grid_world.specs.declared.held.Filled.{Filled}
 use Rattle.grid_world.specs.declared.held.Filled.TheVariants.{Line, End, TooLong, Failed}
 
 -- so many bytes more are held, which the source had next; none only where it has ended
-pub record Comes (n : ℕ) (before after : Option (List ℕ)) (old new : List ℕ) : Type 0 where
+pub record HoldsMore (n : ℕ) (before after : Option (List ℕ)) (old new : List ℕ) : Type 0 where
   pub more : List ℕ
   pub held : new ≡ old ++ more
   pub count : length more ≡ n

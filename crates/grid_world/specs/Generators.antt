@@ -1,6 +1,6 @@
 -- The generator in the process.
 use Rattle.std.specs.Prelude.{◌≡◌, ℕ, ◌<◌, ◌^◌, ◌⊎◌, List, [], ◌∷◌, codes, length, Option, Some, None}
-use Rattle.grid_text.specs.Files.{Blames, IsGridOf}
+use Rattle.grid_text.specs.Files.{BlamesGridText, IsGridOf}
 use Rattle.grid_text.specs.Grids.{GridFile}
 use Rattle.grid_text.specs.declared.fault.GridFault.TheVariants.{At}
 use Rattle.grid_text.specs.declared.fault.GridKind.{GridKind}
@@ -16,7 +16,7 @@ pub record AreGridWords (words : List (List ℕ)) (text : List ℕ) : Type 0 whe
   pub short : length text < 2 ^ 31
 
 -- the words hold a grid, and nothing was said yet
-pub record Starts (words : List (List ℕ)) (session : Option SessionState) : Type 0 where
+pub record StartsGrid (words : List (List ℕ)) (session : Option SessionState) : Type 0 where
   pub text : List ℕ
   pub is : AreGridWords words text
   pub grid : GridFile
@@ -27,7 +27,7 @@ pub record Starts (words : List (List ℕ)) (session : Option SessionState) : Ty
 abbrev pub RefusesStart : List (List ℕ) → Type 0
 RefusesStart words =
     ((text : List ℕ) → ¬ (AreGridWords words text))
-    ⊎ ((text : List ℕ) × (line : ℕ) × (kind : GridKind) × AreGridWords words text × Blames text (At line kind))
+    ⊎ ((text : List ℕ) × (line : ℕ) × (kind : GridKind) × AreGridWords words text × BlamesGridText text (At line kind))
 
 -- all answers were given
 abbrev pub NothingLeft : Option SessionState → Type 0

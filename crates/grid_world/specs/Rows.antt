@@ -11,5 +11,5 @@ answer_behind more (Here answer) = answer
 answer_behind more (Left k) = nth k more
 
 -- whatever poses come behind the row, the answer at a place among all is what was found
-abbrev pub IsRow : List GridAnswer → ℕ → InRow → Type 0
-IsRow row k found = (more : List GridAnswer) → nth k (row ++ more) ≡ answer_behind more found
+abbrev pub IsPoseRow : List GridAnswer → ℕ → InRow → Type 0
+IsPoseRow row k found = (more : List GridAnswer) → nth k (row ++ more) ≡ answer_behind more found

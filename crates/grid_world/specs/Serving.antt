@@ -6,22 +6,23 @@ use Rattle.io_world.specs.FileMap.{Asked, FileMap, HasMore}
 use Rattle.io_world.specs.declared.files.FileFault.{FileFault}
 use Rattle.io_world.specs.declared.files.FileFault.TheVariants as fault
 use Rattle.gen_lines.specs.Lines.{lines_of, unfinished}
-use Rattle.grid_text.specs.Files.{Blames, IsGridOf}
+use Rattle.grid_text.specs.Files.{BlamesGridText, IsGridOf}
 use Rattle.grid_text.specs.Grids.{GridFile}
 use Rattle.grid_text.specs.declared.fault.GridFault.TheVariants.{At}
 use Rattle.grid_text.specs.declared.fault.GridKind.{GridKind}
 use Rattle.grid_world.specs.AnswerLines.{replies_to}
+use Rattle.grid_world.specs.declared.service.TheConstants.{MOST_LINES}
 use Rattle.grid_world.specs.declared.status.GridStatus.{GridStatus}
 use Rattle.grid_world.specs.declared.status.GridStatus.TheVariants.{Done, Limit, Usage, Input, ReadFault, WriteFault, Memory}
 
-abbrev pub code_of : GridStatus → ℕ
-code_of Done = 0
-code_of Limit = 2
-code_of Usage = 3
-code_of Input = 4
-code_of ReadFault = 6
-code_of WriteFault = 8
-code_of Memory = 9
+abbrev pub status_code : GridStatus → ℕ
+status_code Done = 0
+status_code Limit = 2
+status_code Usage = 3
+status_code Input = 4
+status_code ReadFault = 6
+status_code WriteFault = 8
+status_code Memory = 9
 
 -- all of the text was written, or a part of it where a write failed
 abbrev pub Wrote : GridStatus → List ℕ → Option (List ℕ) → Option (List ℕ) → Type 0
@@ -33,26 +34,26 @@ Wrote ReadFault text old new = Appends old new text
 Wrote WriteFault text old new = (n : ℕ) × (n < length text) × Appends old new (take n text)
 Wrote Memory text old new = Appends old new text
 
--- How the answers ended: by the lines that were answered, those that were read behind them, the bytes behind the last line
--- feed, and what the source has left.
+-- How the answers ended: by the lines that were answered, those that were read behind them, the bytes behind the last
+-- line feed, and what the source has left.
 abbrev pub EndsSo : GridStatus → List (List ℕ) → List (List ℕ) → List ℕ → Option (List ℕ) → Type 0
 EndsSo Done answered behind rest left = (behind ≡ []) × IsAtEnd left
-EndsSo Limit answered behind rest left = length answered ≡ 100000
+EndsSo Limit answered behind rest left = length answered ≡ MOST_LINES
 EndsSo Usage answered behind rest left = ⊥
 EndsSo Input answered behind rest left = (behind ≡ []) × (4097 ≤ length rest)
 EndsSo ReadFault answered behind rest left = behind ≡ []
 EndsSo WriteFault answered behind rest left = 0 < length answered
 EndsSo Memory answered behind rest left = answered ≡ []
 
--- Of the bytes that were read, which the source had next, the first lines were answered, at most 100,000; their answers were
--- written in order, and nothing else.
+-- Of the bytes that were read, which the source had next, the first lines were answered, at most 100,000; their answers
+-- were written in order, and nothing else.
 pub record AnswersLines (grid : GridFile) (before after old new : Option (List ℕ)) (status : GridStatus) : Type 0 where
   pub read : List ℕ
   pub from : Consumes before after read
   pub answered : List (List ℕ)
   pub behind : List (List ℕ)
   pub lines : lines_of read ≡ answered ++ behind
-  pub few : length answered ≤ 100000
+  pub few : length answered ≤ MOST_LINES
   pub wrote : Wrote status (replies_to grid answered) old new
   pub ends : EndsSo status answered behind (unfinished read) after
 
@@ -63,8 +64,8 @@ pub record HasFaults (source_old source_new sink_old sink_new : ℕ) (status : G
   pub read : status ≡ ReadFault → Rose last_count source_old source_new
   pub write : status ≡ WriteFault → Rose last_count sink_old sink_new
 
--- What is told of the outside: the files, the paths that were asked for, the counts of faults of the files, the source and
--- the sink, the bytes that the source had left, and those that the sink took.
+-- What is told of the outside: the files, the paths that were asked for, the counts of faults of the files, the source
+-- and the sink, the bytes that the source had left, and those that the sink took.
 pub record Outside : Type 0 where
   pub told : Option FileMap
   pub asked_old : Option (List Asked)
@@ -81,7 +82,7 @@ pub record Outside : Type 0 where
   pub new : Option (List ℕ)
 
 -- nothing was read of the source, and nothing written
-pub record IsUntouched (outside : Outside) : Type 0 where
+pub record NothingPassed (outside : Outside) : Type 0 where
   pub left : outside.after ≡ outside.before
   pub taken : outside.new ≡ outside.old
 
@@ -93,21 +94,21 @@ pub record HasServed (outside : Outside) (bytes : List ℕ) (status : GridStatus
   pub faults : HasFaults outside.source_old outside.source_new outside.sink_old outside.sink_new status
 
 -- the file is no grid file
-pub record IsRefused (outside : Outside) (bytes : List ℕ) (status : GridStatus) : Type 0 where
+pub record IsGridRefused (outside : Outside) (bytes : List ℕ) (status : GridStatus) : Type 0 where
   pub line : ℕ
   pub kind : GridKind
-  pub blames : Blames bytes (At line kind)
+  pub blames : BlamesGridText bytes (At line kind)
   pub is : status ≡ Input
-  pub untouched : IsUntouched outside
+  pub untouched : NothingPassed outside
 
 -- nothing was done with this status
 pub record HasStopped (outside : Outside) (status told : GridStatus) : Type 0 where
   pub is : status ≡ told
-  pub untouched : IsUntouched outside
+  pub untouched : NothingPassed outside
 
 abbrev pub GridSo : Outside → List ℕ → GridStatus → Type 0
 GridSo outside bytes status =
-    HasServed outside bytes status ⊎ IsRefused outside bytes status
+    HasServed outside bytes status ⊎ IsGridRefused outside bytes status
     ⊎ HasStopped outside status Memory
 
 -- what was done by what the read of the file answered

@@ -4,7 +4,7 @@ use Rattle.std.specs.Io.BufRead.{strip_last}
 use Rattle.io_world.specs.Talks.{Talk, silence}
 use Rattle.gen_lines.specs.Lines.{unfinished}
 use Rattle.grid_text.specs.Grids.{GridFile}
-use Rattle.grid_world.specs.AnswerLines.{answers_text, reply_to}
+use Rattle.grid_world.specs.AnswerLines.{answers_text, answer_to_line}
 
 -- whether it runs, its grid, what was written to it since its start, and how many bytes of its answers were given
 pub record SessionState : Type 0 where
@@ -16,9 +16,9 @@ pub record SessionState : Type 0 where
 abbrev pub new_session : GridFile → SessionState
 new_session grid = record { running = true; grid = grid; written = []; given = 0 }
 
-abbrev pub is_running : Option SessionState → Bool
-is_running None = false
-is_running (Some session) = session.running
+abbrev pub is_session_running : Option SessionState → Bool
+is_session_running None = false
+is_session_running (Some session) = session.running
 
 -- the bytes of answers that weren't given yet
 abbrev pub left_of : SessionState → List ℕ
@@ -39,12 +39,12 @@ KeepsGiven session bytes =
     ≡ take session.given (answers_text session.grid session.written)
 
 -- what is open, and the answers that came, once these bytes are written behind others
-pub record GoesOn (grid : GridFile) (written bytes left answers : List ℕ) : Type 0 where
+pub record SessionGoesOn (grid : GridFile) (written bytes left answers : List ℕ) : Type 0 where
   pub left_is : left ≡ unfinished (written ++ bytes)
   pub answers_are : answers_text grid (written ++ bytes) ≡ answers_text grid written ++ answers
 
 -- one byte more: a line feed ends the open line, which is answered
-pub record HearsByte (grid : GridFile) (byte : ℕ) (left answers more_left more_answers : List ℕ) : Type 0 where
+pub record SessionHearsByte (grid : GridFile) (byte : ℕ) (left answers more_left more_answers : List ℕ) : Type 0 where
   pub left_is : more_left ≡ (if byte == 10 then [] else left ++ byte ∷ [])
   pub answers_are : more_answers
-      ≡ (if byte == 10 then answers ++ reply_to grid (strip_last 13 left) else answers)
+      ≡ (if byte == 10 then answers ++ answer_to_line grid (strip_last 13 left) else answers)

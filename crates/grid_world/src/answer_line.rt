@@ -2,7 +2,7 @@
 ghost use Rattle.std.specs.Prelude.{◌≡◌, ◌+◌, ◌≤◌, [], ◌∷◌, ◌++◌, length};
 ghost use Rattle.std.specs.Fmt.{decimal};
 ghost use Rattle.io_world.specs.Replies.{IsLine};
-ghost use Rattle.grid_world.specs.AnswerLines.{line_of, side_line};
+ghost use Rattle.grid_world.specs.AnswerLines.{line_of_answer, side_line};
 
 use crate::answer::{GridAnswer, Side};
 use arrayvec::ArrayString;
@@ -13,8 +13,8 @@ pub(crate) const ANSWER_BYTES: usize = 32;
 
 /// The line of an answer, with its line feed. It takes no memory.
 pub(crate) fn answer_line(answer: GridAnswer) -> ArrayString<ANSWER_BYTES>
-    ensures line { result.bytes ≡ line_of answer ++ 10 ∷ [] }
-    ensures one { IsLine (line_of answer) }
+    ensures line { result.bytes ≡ line_of_answer answer ++ 10 ∷ [] }
+    ensures one { IsLine (line_of_answer answer) }
 {
     match answer {
         GridAnswer::Pose { x, y } => pair_line("yield ", x, y),

@@ -1,7 +1,7 @@
 //! Which corners of a row obstacles keep a block from.
 ghost use Rattle.std.specs.Prelude.{◌≡◌, ℕ, ◌<◌, ◌&&◌, ◌||◌, nat_le, nat_lt, slice_index};
 ghost use Rattle.grid_text.specs.Rects.{meets};
-ghost use Rattle.grid_world.specs.Covers.{Covers, corner_in, reaches};
+ghost use Rattle.grid_world.specs.Covers.{CoversColumns, corner_in, reaches};
 ghost use Rattle.grid_world.specs.Words.{rect_at};
 
 use grid_text::{Block, Rect};
@@ -17,7 +17,7 @@ pub(crate) fn row_cover(
     region: &Rect,
     y: u32,
 ) -> [u64; MOST_COLUMNS]
-    ensures { Covers result obstacles.now block.now region.now y }
+    ensures { CoversColumns result obstacles.now block.now region.now y }
 {
     let mut ends = [0; MOST_COLUMNS];
     for obstacle in obstacles {

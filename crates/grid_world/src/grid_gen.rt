@@ -5,7 +5,7 @@ ghost use Rattle.io_world.specs.Faults.{last_count, HasCause, Rose};
 ghost use Rattle.io_world.specs.Talks.{Talk, heard_more, silence, wrote_more};
 ghost use Rattle.io_world.specs.declared.host.HostFault.TheVariants.{Failed, Memory};
 ghost use Rattle.grid_world.specs.Generators as specs;
-ghost use Rattle.grid_world.specs.Sessions.{is_running, talk_of};
+ghost use Rattle.grid_world.specs.Sessions.{is_session_running, talk_of};
 
 use crate::talk::Session;
 use gen_host::Generator;
@@ -62,22 +62,22 @@ impl GridGen {
 impl Generator for GridGen {
     ghost faults = { λ g. g.faults };
 
-    ghost running = { λ g. is_running g.session };
+    ghost running = { λ g. is_session_running g.session };
 
     ghost spoken = { λ g. Some (talk_of g.session) };
 
     /// The words are `@grid` and the text of a grid, shorter than 2^31 bytes. `Failed` where they aren't.
     fn start(&mut self, argv: &[String]) -> Result<(), HostFault>
         requires words { 0 < length argv.now }
-        requires idle { is_running self.old.session ≡ false }
-        ensures running { is_running self.new.session ≡ is_ok result }
+        requires idle { is_session_running self.old.session ≡ false }
+        ensures running { is_session_running self.new.session ≡ is_ok result }
         ensures spoken { MatchResult result
             (λ _. Some (talk_of self.new.session)
             ≡ option_map (λ (talk : Talk). silence) (Some (talk_of self.old.session)))
             (λ _. Some (talk_of self.new.session) ≡ Some (talk_of self.old.session)) }
         ensures cause { HasCause Failed last_count self.old.faults self.new.faults result }
         ensures starts { OnOk result
-            (specs.Starts (map string_bytes argv.now) self.new.session) }
+            (specs.StartsGrid (map string_bytes argv.now) self.new.session) }
         ensures refused { IsErrOf result Failed → specs.RefusesStart (map string_bytes argv.now) }
     {
         let Some(text) = grid_text_in(argv) else {
@@ -96,9 +96,9 @@ impl Generator for GridGen {
     /// It takes all bytes. Only memory may be wanting.
     fn send(&mut self, bytes: &[u8]) -> Result<usize, HostFault>
         requires some { 0 < length bytes.now }
-        requires runs { is_running self.old.session ≡ true }
+        requires runs { is_session_running self.old.session ≡ true }
         ensures count { IfOk result (λ n. (0 < n) × (n ≤ length bytes.now)) }
-        ensures running { is_running self.new.session ≡ true }
+        ensures running { is_session_running self.new.session ≡ true }
         ensures spoken { MatchResult result
             (λ n. Some (talk_of self.new.session)
             ≡ option_map (wrote_more (take n bytes.now)) (Some (talk_of self.old.session)))
@@ -119,9 +119,9 @@ impl Generator for GridGen {
     /// It gives the first bytes of the answers that are left. `Failed` where none is.
     fn receive(&mut self, room: &mut [u8]) -> Result<usize, HostFault>
         requires some { 0 < length room.old }
-        requires runs { is_running self.old.session ≡ true }
+        requires runs { is_session_running self.old.session ≡ true }
         ensures count { IfOk result (λ n. (0 < n) × (n ≤ length room.new)) }
-        ensures running { is_running self.new.session ≡ true }
+        ensures running { is_session_running self.new.session ≡ true }
         ensures spoken { MatchResult result
             (λ n. Some (talk_of self.new.session)
             ≡ option_map (heard_more (take n room.new)) (Some (talk_of self.old.session)))
@@ -140,8 +140,8 @@ impl Generator for GridGen {
     }
 
     fn stop(&mut self) -> Result<(), HostFault>
-        requires runs { is_running self.old.session ≡ true }
-        ensures running { is_running self.new.session ≡ false }
+        requires runs { is_session_running self.old.session ≡ true }
+        ensures running { is_session_running self.new.session ≡ false }
         ensures spoken { Some (talk_of self.new.session) ≡ Some (talk_of self.old.session) }
         ensures cause { HasCause Failed last_count self.old.faults self.new.faults result }
         ensures sure { is_ok result ≡ true }

@@ -6,7 +6,7 @@ ghost use Rattle.gen_lines.specs.Lines.{is_feed};
 ghost use Rattle.io_world.specs.Faults.{last_count, HasCause};
 ghost use Rattle.io_world.specs.declared.source.SourceFault.TheVariants.{Failed};
 ghost use Rattle.grid_world.specs.Answers.{answer_in};
-ghost use Rattle.grid_world.specs.Filling.{Came, Comes, FillsSo, IsCaused};
+ghost use Rattle.grid_world.specs.Filling.{Came, HoldsMore, FillsSo, IsCaused};
 
 use crate::answer::GridAnswer;
 use crate::ask::grid_answer;
@@ -59,7 +59,8 @@ impl Held {
     /// Reads once, as much as there is room for: there has to be some.
     fn read_more<S: Source>(&mut self, source: &mut S) -> Result<usize, SourceFault>
         requires { length self.old < HELD_BYTES }
-        ensures came { IfOk result (λ n. Comes n (S.left source.old) (S.left source.new) self.old
+        ensures came { IfOk result (λ n. HoldsMore n (S.left source.old) (S.left source.new)
+            self.old
             self.new) }
         ensures same { OnErr result (self.new ≡ self.old) }
         ensures kept { OnErr result (Keeps (S.left source.old) (S.left source.new)) }

@@ -30,5 +30,5 @@ pub use grid_text::{
     Block, Grid, GridFault, GridKind, GridTask, Rect, Region, grid_task, read_grid,
 };
 pub use replies::GridReplies;
-pub use service::serve;
+pub use service::{MOST_LINES, serve};
 pub use status::GridStatus;

@@ -1,11 +1,11 @@
 //! Poses of blocks in regions.
 ghost use Rattle.std.specs.Prelude.{◌≡◌, ◌+◌, ◌<◌, ◌&&◌, nat_lt, not, slice_index};
 ghost use Rattle.gen_lines.specs.Reply.{fields};
-ghost use Rattle.grid_text.specs.Rects.{IsSmall, is_within};
+ghost use Rattle.grid_text.specs.Rects.{LiesInLargest, is_within};
 ghost use Rattle.grid_world.specs.Answers as specs;
 ghost use Rattle.grid_world.specs.Covers.{corner_in};
 ghost use Rattle.grid_world.specs.Inputs.{two_of};
-ghost use Rattle.grid_world.specs.Rows.{IsRow};
+ghost use Rattle.grid_world.specs.Rows.{IsPoseRow};
 ghost use Rattle.grid_world.specs.Words.{rect_at};
 
 use crate::answer::GridAnswer;
@@ -17,7 +17,7 @@ use grid_text::{Block, Grid, Rect};
 /// The answer for `BLOCK REGION`: a corner with which the block lies wholly in the region and shares no cell with an
 /// obstacle, by y and then by x.
 pub(crate) fn place_answer(grid: &Grid, turn: u32, inputs: &[u8]) -> GridAnswer
-    ensures { result ≡ specs.nth turn (specs.places_of grid.now (two_of (fields inputs.now))) }
+    ensures { result ≡ specs.nth turn (specs.poses_of grid.now (two_of (fields inputs.now))) }
 {
     let Some((block, region)) = two_fields(inputs) else {
         return GridAnswer::End;
@@ -33,7 +33,7 @@ pub(crate) fn place_answer(grid: &Grid, turn: u32, inputs: &[u8]) -> GridAnswer
 
 /// The pose with this number, from 0, among those in a region.
 fn pose_in(grid: &Grid, block: &Block, region: &Rect, turn: u32) -> GridAnswer
-    requires { IsSmall region.now }
+    requires { LiesInLargest region.now }
     ensures { result ≡ specs.nth turn
         (specs.poses_at grid.now block.now region.now (specs.corners region.now)) }
 {
@@ -58,8 +58,8 @@ pub(crate) enum InRow {
 
 /// The pose with this number, from 0, among those with their corners in a row of the region.
 fn pose_in_row(grid: &Grid, block: &Block, region: &Rect, y: u32, turn: u32) -> InRow
-    requires { IsSmall region.now }
-    ensures { IsRow (specs.poses_at grid.now block.now region.now
+    requires { LiesInLargest region.now }
+    ensures { IsPoseRow (specs.poses_at grid.now block.now region.now
         (specs.row_corners region.now.x region.now.w y)) turn result }
 {
     let ends = row_cover(grid.obstacles(), block, region, y);
@@ -80,7 +80,7 @@ fn pose_in_row(grid: &Grid, block: &Block, region: &Rect, y: u32, turn: u32) -> 
 
 /// Whether the block with its corner in this column lies wholly in the region, and no number past the column is noted there.
 fn is_free(ends: &[u64; MOST_COLUMNS], block: &Block, region: &Rect, y: u32, column: u32) -> bool
-    requires small { IsSmall region.now }
+    requires small { LiesInLargest region.now }
     requires within { column < region.now.w }
     ensures { result ≡ (is_within (rect_at block.now (corner_in region.now y column)) region.now
         && not (nat_lt column (slice_index ends.now column))) }

@@ -86,7 +86,7 @@ fn west(x: u64, y: u64) -> Option<WideCell>
 }
 
 /// The hand at a cell, if the cell lies in the grid and in no obstacle.
-#[tactic(auto, unfolding(crate::specs::Answers::is_open))]
+#[tactic(auto, unfolding(crate::specs::Answers::is_open_cell))]
 fn hand_at(grid: &Grid, cell: WideCell) -> Option<GridAnswer>
     ensures { result ≡ specs.hand_in grid.now (specs.cell_at cell) }
 {

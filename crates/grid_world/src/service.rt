@@ -13,7 +13,7 @@ use std::alloc::Global;
 const GRID_BYTES: usize = 4_194_304;
 
 /// How many lines are answered at most.
-const MOST_LINES: usize = 100_000;
+pub const MOST_LINES: usize = 100_000;
 
 /// Reads the grid at the one path that the words are, and then answers each line of the source by one line, written at once,
 /// until the source ends or 100,000 lines were answered. Bytes behind the last line feed are no line.

@@ -1,6 +1,6 @@
 //! How the program ends.
 ghost use Rattle.std.specs.Prelude.{◌≡◌};
-ghost use Rattle.grid_world.specs.Serving.{code_of};
+ghost use Rattle.grid_world.specs.Serving.{status_code};
 
 /// How the program ended. The codes are this project's.
 #[derive(Clone, Copy, Debug, PartialEq, Eq)]
@@ -24,7 +24,7 @@ pub enum GridStatus {
 impl GridStatus {
     /// The exit status of the program.
     pub fn code(&self) -> u8
-        ensures { result ≡ code_of self.now }
+        ensures { result ≡ status_code self.now }
     {
         match self {
             GridStatus::Done => 0,

@@ -1,7 +1,7 @@
 //! What is said with a generator in the process.
 ghost use Rattle.std.specs.Prelude.{◌≡◌, ◌+◌, ℕ, List, ◌++◌, false, length, min, take, IfOk, OnErr, OnOk};
 ghost use Rattle.gen_lines.specs.Lines.{unfinished};
-ghost use Rattle.grid_world.specs.Sessions.{GoesOn, HearsByte, KeepsGiven, left_of, new_session};
+ghost use Rattle.grid_world.specs.Sessions.{SessionGoesOn, SessionHearsByte, KeepsGiven, left_of, new_session};
 
 use crate::answer_line::answer_line;
 use crate::ask::grid_answer;
@@ -117,7 +117,7 @@ fn copy_front(bytes: &[u8], room: &mut [u8]) -> usize
 /// Goes through bytes that come behind an open line.
 fn hear(alloc: Global, grid: &Grid, left: &[u8], bytes: &[u8]) -> Result<Heard, AllocError>
     ensures { IfOk result (λ heard. (written : List ℕ) → unfinished written ≡ left.now
-        → GoesOn grid.now written bytes.now heard.open.items heard.answers.items) }
+        → SessionGoesOn grid.now written bytes.now heard.open.items heard.answers.items) }
 {
     let mut heard = Heard {
         open: Vec::from_slice(alloc, left)?,
@@ -131,7 +131,8 @@ fn hear(alloc: Global, grid: &Grid, left: &[u8], bytes: &[u8]) -> Result<Heard, 
 
 /// Hears one byte more: a line feed ends the open line, which is answered.
 fn hear_byte(grid: &Grid, heard: &mut Heard, byte: u8) -> Result<(), AllocError>
-    ensures { OnOk result (HearsByte grid.now byte heard.old.open.items heard.old.answers.items
+    ensures { OnOk result (SessionHearsByte grid.now byte heard.old.open.items
+        heard.old.answers.items
         heard.new.open.items heard.new.answers.items) }
 {
     if byte == b'\n' {

@@ -21,13 +21,14 @@ use Rattle.grounder.specs.Listing.{can_take, AreArguments, AreStepsOf, AddsSteps
 use Rattle.grounder.specs.Parts.{AreNeeded}
 use Rattle.lemmas.proofs.Ascending.{contains_none, contains_here, contains_later, contains_cases, all_from, all_at, rising_append, ascending}
 use Rattle.lemmas.specs.Lists.{AreDistinct}
-use Rattle.fact_join.proofs.OrderLemmas.{distinct_permuted, sorted_ascends, strictly_sorted}
+use Rattle.fact_join.proofs.OrderLemmas.{sorted_ascends, strictly_sorted}
 use Rattle.fact_join.specs.Adding.{Adds}
 use Rattle.fact_join.specs.Answers.{IsAnswer}
 use Rattle.fact_join.specs.Partials.{Agrees}
 use Rattle.fact_join.specs.declared.partial.Partial.{Partial}
 use Rattle.fact_join.specs.declared.query.QueryAtom.{QueryAtom}
 use Rattle.task_model.proofs.KnownLemmas.{numbers_decided}
+use Rattle.lemmas.proofs.Distinct.{distinct_permuted}
 
 pub on_ok_then : {T E P : Type 0} (r : Result T E) → is_ok r ≡ true → OnOk r P → P
 on_ok_then (Ok x) e h = h
@@ -57,7 +58,8 @@ module _ (task : Task) (known : Known) (state : Atoms) (action : Action) where
     λ (typed, can). record {
       agrees = free (slots_of args);
       types = typed;
-      known_atoms = needed.known known state (slots_of args) (first_so (is_true task.domain known state action.condition (slots_of args)) _ can);
+      known_atoms =
+          needed.known known state (slots_of args) (first_so (is_true task.domain known state action.condition (slots_of args)) _ can);
       wanted = can;
     },
   )
@@ -71,10 +73,15 @@ module _ (task : Task) (known : Known) (state : Atoms) (action : Action) where
   sorted_arguments partial atoms found rows free needed (more, is, all) moved up =
       let distinct : AreDistinct found = subst AreDistinct (sym is) all.distinct in
       record {
-        ascending = strictly_sorted (slice_cmp nat_cmp) rows (sorted_ascends (slice_cmp nat_cmp) nat_list_cmp_total numbers_tie rows (distinct_permuted same_numbers numbers_decided found rows moved distinct) up);
+        ascending = strictly_sorted (slice_cmp nat_cmp) rows
+            (sorted_ascends (slice_cmp nat_cmp) nat_list_cmp_total numbers_tie rows
+            (distinct_permuted same_numbers numbers_decided found rows moved distinct) up);
         each = λ args. (
-          λ m. (answer_is partial atoms free needed args).0 ((all.each args).0 (subst (λ xs. Contains xs args) is (Contains-permutation rows found args (IsPermutation-sym found rows moved) m))),
-          λ p. Contains-permutation found rows args moved (subst (λ xs. Contains xs args) (sym is) ((all.each args).1 ((answer_is partial atoms free needed args).1 p))),
+          λ m. (answer_is partial atoms free needed args).0
+              ((all.each args).0 (subst (λ xs. Contains xs args) is
+              (Contains-permutation rows found args (IsPermutation-sym found rows moved) m))),
+          λ p. Contains-permutation found rows args moved
+              (subst (λ xs. Contains xs args) (sym is) ((all.each args).1 ((answer_is partial atoms free needed args).1 p))),
         );
       }
 
@@ -101,7 +108,8 @@ in_steps : (number : ℕ) (rows : List (List ℕ)) (args : List ℕ) → Contain
 in_steps number [] args m = absurd (contains_none args m)
 in_steps number (row ∷ rows) args m =
     elim (contains_cases row rows args m) [
-      | inl e ↦ subst (λ r. Contains (map (step_with number) (row ∷ rows)) (step_with number r)) e (contains_here (step_with number row) (map (step_with number) rows))
+      | inl e ↦ subst (λ r. Contains (map (step_with number) (row ∷ rows)) (step_with number r)) e
+          (contains_here (step_with number row) (map (step_with number) rows))
       | inr n ↦ contains_later (step_with number row) (map (step_with number) rows) (step_with number args) (in_steps number rows args n)
     ]
 
@@ -112,7 +120,8 @@ steps_rise number [] up = tt
 steps_rise number (row ∷ rows) (first, rest) = (
   all_from (λ step. step_cmp (step_with number row) step ≡ Less) (map (step_with number) rows) (λ step m.
       let r = from_steps number rows step m in
-      ap (step_cmp (step_with number row)) r.2 ∙ ap (λ o. ordering_then o (slice_cmp nat_cmp row r.0)) (nat_cmp-same number) ∙ all_at (λ args. slice_cmp nat_cmp row args ≡ Less) rows first r.0 r.1),
+      ap (step_cmp (step_with number row)) r.2 ∙ ap (λ o. ordering_then o (slice_cmp nat_cmp row r.0)) (nat_cmp-same number)
+      ∙ all_at (λ args. slice_cmp nat_cmp row args ≡ Less) rows first r.0 r.1),
   steps_rise number rows rest,
 )
 
@@ -125,7 +134,8 @@ module _ (task : Task) (known : Known) (state : Atoms) (number : ℕ) (action : 
     each = λ step m.
         let r = from_steps number rows step m in
         let can = (are.each r.0).0 r.1 in
-        let value = some_value (cost_of task known action r.0) (second_so (is_true task.domain known state action.condition (slots_of r.0)) _ can.1) in
+        let value = some_value (cost_of task known action r.0)
+        (second_so (is_true task.domain known state action.condition (slots_of r.0)) _ can.1) in
         let is : IsStep task known state (step_with number r.0) (effect_of action r.0 state) value.0 = record {
           action = action;
           named = named;
@@ -134,16 +144,23 @@ module _ (task : Task) (known : Known) (state : Atoms) (number : ℕ) (action : 
               first_so (is_true task.domain known state action.condition (slots_of r.0)) _ can.1;
           costs = value.1;
           leads = refl;
-        } in
-        (ap (λ (s : GroundAction). s.action) r.2, subst (IsApplicable task known state) (sym r.2) (effect_of action r.0 state, value.0, is));
+        } in (
+          ap (λ (s : GroundAction). s.action) r.2,
+          subst (IsApplicable task known state) (sym r.2)
+              (effect_of action r.0 state, value.0, is),
+        );
     every = λ step same can.
         let s = can.2 in
         let here : s.action ≡ action = same_Some _ _ (sym s.named ∙ ap (slice_get task.domain.actions) same ∙ named) in
-        let typed : have_types known step.args action.params ≡ true = ap (λ (a : Action). have_types known step.args a.params) (sym here) ∙ s.typed in
-        let condition : is_true task.domain known state action.condition (slots_of step.args) ≡ true = ap (λ (a : Action). is_true task.domain known state a.condition (slots_of step.args)) (sym here) ∙ s.condition in
-        let costs : is_some (cost_of task known action step.args) ≡ true = is_some-of _ can.1 (ap (λ (a : Action). cost_of task known a step.args) (sym here) ∙ s.costs) in
+        let typed : have_types known step.args action.params ≡ true =
+        ap (λ (a : Action). have_types known step.args a.params) (sym here) ∙ s.typed in
+        let condition : is_true task.domain known state action.condition (slots_of step.args) ≡ true =
+        ap (λ (a : Action). is_true task.domain known state a.condition (slots_of step.args)) (sym here) ∙ s.condition in
+        let costs : is_some (cost_of task known action step.args) ≡ true =
+        is_some-of _ can.1 (ap (λ (a : Action). cost_of task known a step.args) (sym here) ∙ s.costs) in
         let is : step_with number step.args ≡ step = λ i. record { action = sym same i; args = step.args } in
-        subst (Contains (map (step_with number) rows)) is (in_steps number rows step.args ((are.each step.args).1 (typed, and_from _ _ condition costs)));
+        subst (Contains (map (step_with number) rows)) is
+        (in_steps number rows step.args ((are.each step.args).1 (typed, and_from _ _ condition costs)));
   }
 
 -- ---- the steps of all actions
@@ -165,7 +182,9 @@ module _ (task : Task) (known : Known) (state : Atoms) where
       → AddsSteps task known state number old new
       → AreListed (number + 1) new
   listed_next number old new are adds = record {
-    ascending = subst (IsStrictlySortedBy step_cmp) (sym adds.1) (rising_append step_cmp old adds.0 are.ascending adds.2.ascending (λ a b c d. by_action a b (omega (arith, (are.each a c).0, (adds.2.each b d).0))));
+    ascending = subst (IsStrictlySortedBy step_cmp) (sym adds.1)
+        (rising_append step_cmp old adds.0 are.ascending adds.2.ascending
+        (λ a b c d. by_action a b (omega (arith, (are.each a c).0, (adds.2.each b d).0))));
     each = λ step c.
         elim (Contains-append_cases old adds.0 step (subst (λ xs. Contains xs step) adds.1 c)) [
           | inl h ↦ let at = are.each step h in (omega (arith, at.0), at.1)

@@ -18,13 +18,15 @@ can_take task known state action args =
     is_true task.domain known state action.condition (slots_of args) && is_some (cost_of task known action args)
 
 -- These are the arguments with which the action can be taken, each once, in their order.
-pub record AreArguments (task : Task) (known : Known) (state : Atoms) (action : Action) (rows : List (List ℕ)) : Type 0 where
+pub record AreArguments (task : Task) (known : Known) (state : Atoms) (action : Action)
+    (rows : List (List ℕ)) : Type 0 where
   pub ascending : IsStrictlySortedBy (slice_cmp nat_cmp) rows
   pub each : (args : List ℕ) → Contains rows args
       ↔ ((have_types known args action.params ≡ true) × (can_take task known state action args ≡ true))
 
 -- These are the steps of one action that can be taken, each once, in their order.
-pub record AreStepsOf (task : Task) (known : Known) (state : Atoms) (number : ℕ) (steps : List GroundAction) : Type 0 where
+pub record AreStepsOf (task : Task) (known : Known) (state : Atoms) (number : ℕ)
+    (steps : List GroundAction) : Type 0 where
   pub ascending : IsStrictlySortedBy step_cmp steps
   pub each : (step : GroundAction) → Contains steps step
       → (step.action ≡ number) × IsApplicable task known state step

@@ -1,5 +1,5 @@
 //! The steps of one action.
-ghost use Rattle.std.specs.Prelude.{◌≡◌, ◌≤◌, List, ℕ, OnOk, IfOk, length, true, Some, slice_get};
+ghost use Rattle.std.specs.Prelude.{◌≡◌, ◌≤◌, OnOk, IfOk, length, true, Some, slice_get};
 ghost use Rattle.task_model.specs.Fit.{IsFit, is_fit_action};
 ghost use Rattle.grounder.specs.Listing.{AddsSteps, AreArguments};
 
@@ -25,9 +25,12 @@ impl<'a, L: Look> Wanted for Scene<'a, L> {
     ghost use Rattle.task_model.specs.Fit.{IsFit, is_fit_action};
     ghost use Rattle.grounder.specs.Listing.{can_take};
 
-    ghost can_judge = { λ scene args. IsFit scene.task.now × (is_fit_action scene.task.now.domain scene.action.now ≡ true) × (length args ≤ 16) };
+    ghost can_judge = { λ scene args. IsFit scene.task.now
+        × (is_fit_action scene.task.now.domain scene.action.now ≡ true)
+        × (length args ≤ 16) };
 
-    ghost wants = { λ scene args. can_take scene.task.now (L.known scene.look.now) scene.state.now scene.action.now args };
+    ghost wants = { λ scene args. can_take scene.task.now (L.known scene.look.now) scene.state.now
+        scene.action.now args };
 
     /// Whether the action can be taken with these objects: its condition is true, and its cost has a value.
     fn wants(&self, args: &[Obj]) -> bool {

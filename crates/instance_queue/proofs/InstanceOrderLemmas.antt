@@ -1,30 +1,26 @@
 -- The order of instances, and that what is sorted by it ascends.
-use Rattle.std.proofs.Common.{◌≡◌, ℕ, ◌<◌, Bool, true, false, inl, inr, List, [], ◌∷◌, map, length, get_or, refl, sym, ap, ◌∙◌, Option, Some, None, slice_get, option_map, arith, Contains, All, eqb-true}
-use Rattle.std.proofs.lemmas.Bool.{cases_lt}
+use Rattle.std.proofs.Common.{◌≡◌, ℕ, Bool, true, false, List, [], ◌∷◌, map, refl, sym, ap, ◌∙◌, Option, Some, None, slice_get, option_map, arith, Contains, All, eqb-true}
 use Rattle.std.proofs.lemmas.List.Elements.{All-nil, All-cons, All-head, All-tail, All-contains}
 use Rattle.std.proofs.lemmas.List.Sorted.{ranks_by, sorted_far}
-use Rattle.std.proofs.lemmas.Map.Keys.{IsDistinct-from_apart, apart_from_distinct, IsDistinct-IsPermutation}
-use Rattle.std.proofs.lemmas.Option.{slice_get_within, get_or_from_slice_get, slice_get-get_or, slice_get-map}
+use Rattle.std.proofs.lemmas.Option.{slice_get_within, get_or_from_slice_get, slice_get-map}
 use Rattle.std.specs.Cmp.{IsStrictWeakOrder, first_so, second_so, unsigned_ties}
 use Rattle.std.specs.Cmp.Lexicographic.{slice_cmp, lists_ties, pointwise_decides}
-use Rattle.std.specs.List.{IsDistinct}
-use Rattle.std.specs.List.Sorted.{IsPermutation, IsSortedBy}
+use Rattle.std.specs.List.Sorted.{IsSortedBy}
 use Rattle.std.specs.Ordering.{is_lt, is_eq, nat_cmp, ordering_reverse}
 use Rattle.std.specs.declared.cmp.Ordering.{Ordering}
 use Rattle.std.specs.declared.cmp.Ordering.TheVariants.{Less, Equal, Greater}
 use Rattle.task_model.proofs.KnownLemmas.{numbers_decided, fact_member}
-use Rattle.task_model.proofs.StreamsLemmas.{named_at, instance_itself, instances_apart, instances_total}
+use Rattle.task_model.proofs.StreamsLemmas.{named_at, instances_total}
 use Rattle.lemmas.proofs.Members.{member_at}
 use Rattle.lemmas.proofs.Bools.{not_both}
 use Rattle.lemmas.proofs.Ascending.{then_equal}
 use Rattle.task_model.specs.Known.{Known, IsCoherent, IsIn, type_fact}
 use Rattle.lemmas.specs.Lists.{AreDistinct, AreAscending}
-use Rattle.task_model.specs.Streams.{Note, IsDue, instance_cmp, name_at, same_instance}
+use Rattle.task_model.specs.Streams.{Note, IsDue, instance_cmp, name_at}
 use Rattle.task_model.specs.Truth.{have_types, has_type}
 use Rattle.task_model.specs.declared.fact.Fact.{Fact}
 use Rattle.task_model.specs.declared.stream.Instance.{Instance}
 use Rattle.task_model.specs.declared.task.Task.{Task}
-use Rattle.instance_queue.proofs.NotesLemmas.{instances_equivalence}
 use Rattle.instance_queue.specs.Level.{instances_of}
 use Rattle.instance_queue.specs.declared.due.Due.{Due}
 
@@ -56,13 +52,15 @@ same_objects names d (x ∷ xs) [] h g e = absurd (cc)
 same_objects names d (x ∷ xs) (y ∷ ys) h g e =
     let first : name_at names x ≡ name_at names y = cc in
     let rest : map (name_at names) xs ≡ map (name_at names) ys = cc in
-    let same : x ≡ y = d x y (name_at names y) (named_at names x (All-head (IsIn names) x xs h) ∙ ap Some first) (named_at names y (All-head (IsIn names) y ys g)) in
+    let same : x ≡ y = d x y (name_at names y) (named_at names x (All-head (IsIn names) x xs h) ∙ ap Some first)
+    (named_at names y (All-head (IsIn names) y ys g)) in
     λ i. same i ∷ same_objects names d xs ys (All-tail (IsIn names) x xs h) (All-tail (IsIn names) y ys g) rest i
 
 one_in : (known : Known) → IsCoherent known → (object sort : ℕ) → has_type known object sort ≡ true
     → IsIn known.names object
 one_in known c object sort e =
-    All-head (IsIn known.names) object [] (All-contains (λ (f : Fact). All (IsIn known.names) f.args) known.facts (type_fact sort object) c.objects ((fact_member known.facts (type_fact sort object)).0 e))
+    All-head (IsIn known.names) object [] (All-contains (λ (f : Fact). All (IsIn known.names) f.args) known.facts (type_fact sort object)
+    c.objects ((fact_member known.facts (type_fact sort object)).0 e))
 
 -- objects with types have names
 pub typed_in : (known : Known) → IsCoherent known → (objects sorts : List ℕ)
@@ -71,7 +69,9 @@ pub typed_in : (known : Known) → IsCoherent known → (objects sorts : List �
 typed_in known c [] [] e = All-nil (IsIn known.names)
 typed_in known c [] (s ∷ ss) e = absurd (cc)
 typed_in known c (o ∷ os) [] e = absurd (cc)
-typed_in known c (o ∷ os) (s ∷ ss) e = All-cons (IsIn known.names) o os (one_in known c o s (first_so (has_type known o s) (have_types known os ss) e)) (typed_in known c os ss (second_so (has_type known o s) (have_types known os ss) e))
+typed_in known c (o ∷ os) (s ∷ ss) e = All-cons (IsIn known.names) o os
+    (one_in known c o s (first_so (has_type known o s) (have_types known os ss) e))
+    (typed_in known c os ss (second_so (has_type known o s) (have_types known os ss) e))
 
 pub due_in : (task : Task) (known : Known) (notes : List Note) → IsCoherent known → (i : Instance)
     → IsDue task known notes i
@@ -83,37 +83,11 @@ pub same_dues : (task : Task) (known : Known) (notes : List Note) → IsCoherent
     → (a b : Instance) → IsDue task known notes a
     → IsDue task known notes b → instance_cmp known.names a b ≡ Equal → a ≡ b
 same_dues task known notes c a b da db e =
-    let both = then_equal (nat_cmp a.stream b.stream) (slice_cmp (slice_cmp nat_cmp) (map (name_at known.names) a.inputs) (map (name_at known.names) b.inputs)) e in
-    let inputs = same_objects known.names c.names a.inputs b.inputs (due_in task known notes c a da) (due_in task known notes c b db) (texts_tie _ _ both.1) in
+    let both = then_equal (nat_cmp a.stream b.stream)
+    (slice_cmp (slice_cmp nat_cmp) (map (name_at known.names) a.inputs) (map (name_at known.names) b.inputs)) e in
+    let inputs = same_objects known.names c.names a.inputs b.inputs (due_in task known notes c a da) (due_in task known notes c b db)
+    (texts_tie _ _ both.1) in
     λ i. record { stream = numbers_tie a.stream b.stream both.0 i; inputs = inputs i }
-
--- ---- distinct members, also after a sort
-
-tested : (xs : List Instance) → AreDistinct xs → IsDistinct same_instance xs
-tested xs d =
-    IsDistinct-from_apart same_instance xs
-    (λ i j z below within.
-    instances_apart (get_or xs i z) (get_or xs j z)
-    (λ same.
-    let i_in : i < length xs = omega (arith, below, within) in
-    let e : i ≡ j = d i j (get_or xs j z) (slice_get-get_or xs i z i_in ∙ ap Some same) (slice_get-get_or xs j z within) in
-    absurd (omega (arith, below, e))))
-
-by_test : (xs : List Instance) → IsDistinct same_instance xs → AreDistinct xs
-by_test xs d i j x at_i at_j =
-    elim (cases_lt i j) [
-      | inl below ↦ absurd (apart i j at_i at_j below)
-      | inr over ↦ elim (cases_lt j i) [ inl below ↦ absurd (apart j i at_j at_i below) | inr under ↦ omega (arith, over, under) ]
-    ]
-  where
-    apart : (i j : ℕ) → slice_get xs i ≡ Some x → slice_get xs j ≡ Some x → i < j → ⊥
-    apart i j at_i at_j below =
-        let f = apart_from_distinct same_instance xs i j x d below (slice_get_within xs j x at_j) in
-        not_both (same_instance x x) (instance_itself x) ((λ k. same_instance (sym (get_or_from_slice_get xs i x x at_i) k) (sym (get_or_from_slice_get xs j x x at_j) k)) ∙ f)
-
-pub distinct_permuted : (xs ys : List Instance) → IsPermutation xs ys → AreDistinct xs
-    → AreDistinct ys
-distinct_permuted xs ys p d = by_test ys (IsDistinct-IsPermutation same_instance instances_equivalence.symm xs ys p (tested xs d))
 
 -- ---- sorted dues ascend
 
@@ -142,9 +116,12 @@ pub ascending : (task : Task) (known : Known) (notes : List Note) → IsCoherent
 ascending task known notes c ys due d up i j a b below at_i at_j =
     let x = due_at ys i a at_i in
     let y = due_at ys j b at_j in
-    let far = sorted_far (comes_before known.names) (dues_ranked known.names) ys up i j x.0 (omega (arith, below)) (slice_get_within ys j y.0 y.1) in
+    let far = sorted_far (comes_before known.names) (dues_ranked known.names) ys up i j x.0 (omega (arith, below))
+    (slice_get_within ys j y.0 y.1) in
     let not_back : is_lt (instance_cmp known.names b a) ≡ false =
-    (λ k. is_lt (instance_cmp known.names (sym y.2 k) (sym x.2 k))) ∙ (λ k. comes_before known.names (sym (get_or_from_slice_get ys j y.0 x.0 y.1) k) (sym (get_or_from_slice_get ys i x.0 x.0 x.1) k)) ∙ far in
+    (λ k. is_lt (instance_cmp known.names (sym y.2 k) (sym x.2 k)))
+    ∙ (λ k. comes_before known.names (sym (get_or_from_slice_get ys j y.0 x.0 y.1) k) (sym (get_or_from_slice_get ys i x.0 x.0 x.1) k))
+    ∙ far in
     by (instance_cmp known.names a b) refl not_back
   where
     by : (o : Ordering) → instance_cmp known.names a b ≡ o
@@ -152,7 +129,8 @@ ascending task known notes c ys due d up i j a b below at_i at_j =
         → instance_cmp known.names a b ≡ Less
     by Less e not_back = e
     by Equal e not_back =
-        let same : a ≡ b = same_dues task known notes c a b (due a (member_at (instances_of ys) i a at_i)) (due b (member_at (instances_of ys) j b at_j)) e in
+        let same : a ≡ b = same_dues task known notes c a b (due a (member_at (instances_of ys) i a at_i))
+        (due b (member_at (instances_of ys) j b at_j)) e in
         let place : i ≡ j = d i j b (at_i ∙ ap Some same) at_j in
         absurd (omega (arith, below, place))
     by Greater e not_back =

@@ -4,14 +4,16 @@ use Rattle.std.proofs.lemmas.List.Elements.{All-nil, All-cons}
 use Rattle.std.proofs.lemmas.List.Sorted.{IsPermutation-map, IsPermutation-sym, Contains-permutation, All-permutation, length_permutation}
 use Rattle.std.specs.List.Sorted.{IsPermutation, IsSortedBy}
 use Rattle.task_model.specs.Known.{Known, IsCoherent}
-use Rattle.task_model.specs.Streams.{Note, IsDue, yields_of}
+use Rattle.task_model.specs.Streams.{Note, IsDue, yields_of, same_instance}
 use Rattle.task_model.specs.declared.stream.Instance.{Instance}
 use Rattle.task_model.specs.declared.task.Task.{Task}
 use Rattle.instance_queue.proofs.FoundLemmas.{due_below}
-use Rattle.instance_queue.proofs.InstanceOrderLemmas.{ascending, comes_before, distinct_permuted}
+use Rattle.instance_queue.proofs.InstanceOrderLemmas.{ascending, comes_before}
 use Rattle.instance_queue.specs.Found.{asks_of, due_of, IsDueBelow, AreAsksOf}
 use Rattle.instance_queue.specs.Level.{instances_of, AreDueInTurn}
 use Rattle.instance_queue.specs.declared.due.Due.{Due}
+use Rattle.lemmas.proofs.Distinct.{distinct_permuted}
+use Rattle.instance_queue.proofs.NotesLemmas.{instance_decided}
 
 asked : (notes : List Note) (xs : List Instance) → instances_of (asks_of notes xs) ≡ xs
 asked notes [] = refl
@@ -40,7 +42,7 @@ module _ (task : Task) (known : Known) (notes : List Note) (coherent : IsCoheren
       let back : IsPermutation sorted all = IsPermutation-sym all sorted moves in
       let due : (i : Instance) → Contains sorted i → IsDue task known notes i =
       λ i m. (due_below task known notes i).0 ((found_all.each i).0 (Contains-permutation sorted all i back m)) in
-      let distinct = distinct_permuted all sorted moves found_all.distinct in
+      let distinct = distinct_permuted same_instance instance_decided all sorted moves found_all.distinct in
       let told = subst (All HasTurn) (sym is) (turned notes all) in
       let long : length ys ≡ length xs = length_permutation xs ys moved in
       record {

@@ -17,7 +17,7 @@ use Rattle.instance_queue.specs.declared.queue.Tally.{Tally}
 
 -- ---- instances
 
-instance_decided : (a b : Instance) → Decides (same_instance a b) (a ≡ b)
+pub instance_decided : (a b : Instance) → Decides (same_instance a b) (a ≡ b)
 instance_decided a b =
     (instances_same a b, λ e. subst (λ x. same_instance a x ≡ true) e (instance_itself a))
 
@@ -63,7 +63,8 @@ tally_stays notes note q apart =
     let other : same_instance q (about note) ≡ false = instances_equivalence.symm q (about note) ∙ apart in
     λ i. record {
       yields = (count_one (is_yield_of q) notes note ∙ no_more (yields_of notes q) (is_yield_of q note) (yields_other note q other)) i;
-      ended = (list_any-append (is_end_of q) notes (note ∷ []) ∙ stays (list_any (is_end_of q) notes) (is_end_of q note) (ends_other note q other)) i;
+      ended = (list_any-append (is_end_of q) notes (note ∷ [])
+          ∙ stays (list_any (is_end_of q) notes) (is_end_of q note) (ends_other note q other)) i;
     }
 
 pub tallied_more : {S : Type 0} (old new : IndexMap Instance Tally S) (notes : List Note) (note : Note) (tally : Tally)
@@ -72,7 +73,8 @@ pub tallied_more : {S : Type 0} (old new : IndexMap Instance Tally S) (notes : L
     → AreTallied new (notes ++ note ∷ [])
 tallied_more old new notes note tally was now is q =
     ap tally_in (is q)
-    ∙ elim (same_instance (about note) q) as (λ b. same_instance (about note) q ≡ b → tally_in (cond b (Some tally) (get same_instance old q)) ≡ tally_of (notes ++ note ∷ []) q) [
+    ∙ elim (same_instance (about note) q) as (λ b. same_instance (about note) q ≡ b
+    → tally_in (cond b (Some tally) (get same_instance old q)) ≡ tally_of (notes ++ note ∷ []) q) [
       | true ↦ λ e. now ∙ ap (tally_of (notes ++ note ∷ [])) (instances_same (about note) q e)
       | false ↦ λ e. was q ∙ sym (tally_stays notes note q e)
     ] refl
@@ -108,7 +110,10 @@ ended_ended notes i =
 
 pub tally_yielded : (notes : List Note) (i : Instance) (tally : Tally) → tally ≡ tally_of notes i
     → record { yields = tally.yields + 1; ended = tally.ended } ≡ tally_of (notes ++ Yielded i ∷ []) i
-tally_yielded notes i tally is = λ k. record { yields = (ap (λ (t : Tally). t.yields + 1) is ∙ sym (yields_yielded notes i)) k; ended = (ap (λ (t : Tally). t.ended) is ∙ sym (ended_yielded notes i)) k }
+tally_yielded notes i tally is = λ k. record {
+  yields = (ap (λ (t : Tally). t.yields + 1) is ∙ sym (yields_yielded notes i)) k;
+  ended = (ap (λ (t : Tally). t.ended) is ∙ sym (ended_yielded notes i)) k;
+}
 
 pub tally_ended : (notes : List Note) (i : Instance) (tally : Tally) → tally ≡ tally_of notes i
     → record { yields = tally.yields; ended = true } ≡ tally_of (notes ++ Ended i ∷ []) i
@@ -133,9 +138,13 @@ yielded_some notes i = some_counted (is_yield_of i) notes
 -- ---- the notes that are kept
 
 pub about_noted : (noted : Noted) → about (note_of noted) ≡ noted.instance
-about_noted noted = elim noted.ended as (λ b. about (note_of (record { instance = noted.instance; ended = b })) ≡ noted.instance) [ true ↦ refl | false ↦ refl ]
+about_noted noted = elim noted.ended as (λ b. about (note_of (record { instance = noted.instance; ended = b })) ≡ noted.instance) [
+  | true ↦ refl
+  | false ↦ refl
+]
 
-pub noted_more : {S : Type 0} (old new : IndexMap Instance Tally S) (were are : List Noted) (noted : Noted) (key : Instance) (tally : Tally) (notes : List Note)
+pub noted_more : {S : Type 0} (old new : IndexMap Instance Tally S) (were are : List Noted) (noted : Noted) (key : Instance) (tally : Tally)
+    (notes : List Note)
     → AreTallied old (notes_in were) → notes_in were ≡ notes → tally ≡ tally_of (notes ++ note_of noted ∷ []) noted.instance
     → are ≡ were ++ noted ∷ [] → key ≡ noted.instance
     → ((q : Instance) → get same_instance new q ≡ cond (same_instance key q) (Some tally) (get same_instance old q))

@@ -22,12 +22,17 @@ readable_patterns : (domain : Domain) → IsFitDomain domain → (objects n : �
     → list_all (is_fit_pattern domain objects (numbers_from 0 n)) ps ≡ true → list_all is_readable_pattern ps ≡ true
 readable_patterns domain fit objects n few [] all = refl
 readable_patterns domain fit objects n few (p ∷ ps) all =
-    let one = first_so (is_fit_pattern domain objects (numbers_from 0 n) p) (list_all (is_fit_pattern domain objects (numbers_from 0 n)) ps) all in
-    let rest = second_so (is_fit_pattern domain objects (numbers_from 0 n) p) (list_all (is_fit_pattern domain objects (numbers_from 0 n)) ps) all in
-    let arity = first_so (has_arity domain.predicates p.pred (length p.args)) (list_all (is_fit_term objects (numbers_from 0 n)) p.args) one in
-    let terms = second_so (has_arity domain.predicates p.pred (length p.args)) (list_all (is_fit_term objects (numbers_from 0 n)) p.args) one in
+    let one = first_so (is_fit_pattern domain objects (numbers_from 0 n) p) (list_all (is_fit_pattern domain objects (numbers_from 0 n)) ps)
+    all in
+    let rest = second_so (is_fit_pattern domain objects (numbers_from 0 n) p)
+    (list_all (is_fit_pattern domain objects (numbers_from 0 n)) ps) all in
+    let arity =
+    first_so (has_arity domain.predicates p.pred (length p.args)) (list_all (is_fit_term objects (numbers_from 0 n)) p.args) one in
+    let terms =
+    second_so (has_arity domain.predicates p.pred (length p.args)) (list_all (is_fit_term objects (numbers_from 0 n)) p.args) one in
     and_from _ _
-    (and_from _ _ (few_arguments domain.predicates p.pred (length p.args) fit.predicates.arities arity) (readable_terms objects (numbers_from 0 n) p.args (few_slots n few) terms))
+    (and_from _ _ (few_arguments domain.predicates p.pred (length p.args) fit.predicates.arities arity)
+    (readable_terms objects (numbers_from 0 n) p.args (few_slots n few) terms))
     (readable_patterns domain fit objects n few ps rest)
 
 patterns_of : (domain : Domain) → IsFitDomain domain → (objects n : ℕ) → (ps : List Pattern)
@@ -46,15 +51,18 @@ pub fit_stream_at : (task : Task) → IsFit task → (place : ℕ) (s : Stream)
     → slice_get task.streams place ≡ Some s
     → is_fit_stream task.domain s ≡ true
 fit_stream_at task fit place s at =
-    all_at_or (is_fit_stream task.domain) task.streams place s (second_so (is_short task.streams) (list_all (is_fit_stream task.domain) task.streams) fit.streams.each) (slice_get_within task.streams place s at) (sym (get_or_from_slice_get task.streams place s s at))
-
-pub few_streams : (task : Task) → IsFit task → length task.streams ≤ 8388608
-few_streams task fit = leb-true (length task.streams) 8388608 (first_so (is_short task.streams) (list_all (is_fit_stream task.domain) task.streams) fit.streams.each)
+    all_at_or (is_fit_stream task.domain) task.streams place s
+    (second_so (is_short task.streams) (list_all (is_fit_stream task.domain) task.streams) fit.streams.each)
+    (slice_get_within task.streams place s at) (sym (get_or_from_slice_get task.streams place s s at))
 
 module _ (domain : Domain) (s : Stream) (fit : is_fit_stream domain s ≡ true) where
-  up_to_domain : (nat_le (length s.inputs) 8 && nat_le (length s.outputs) 8 && are_places (length domain.sorts) s.inputs && are_places (length domain.sorts) s.outputs && are_fit_patterns domain (length domain.constants) (numbers_from 0 (length s.inputs)) s.domain) ≡ true
+  up_to_domain : (nat_le (length s.inputs) 8 && nat_le (length s.outputs) 8 && are_places (length domain.sorts) s.inputs
+      && are_places (length domain.sorts) s.outputs
+      && are_fit_patterns domain (length domain.constants) (numbers_from 0 (length s.inputs)) s.domain) ≡ true
   up_to_domain =
-      let a = nat_le (length s.inputs) 8 && nat_le (length s.outputs) 8 && are_places (length domain.sorts) s.inputs && are_places (length domain.sorts) s.outputs && are_fit_patterns domain (length domain.constants) (numbers_from 0 (length s.inputs)) s.domain in
+      let a = nat_le (length s.inputs) 8 && nat_le (length s.outputs) 8 && are_places (length domain.sorts) s.inputs
+      && are_places (length domain.sorts) s.outputs
+      && are_fit_patterns domain (length domain.constants) (numbers_from 0 (length s.inputs)) s.domain in
       let b = are_static_patterns domain s.domain in
       let c = are_fit_patterns domain (length domain.constants) (numbers_from 0 (length s.inputs + length s.outputs)) s.certified in
       let d = are_static_patterns domain s.certified in
@@ -67,7 +75,8 @@ module _ (domain : Domain) (s : Stream) (fit : is_fit_stream domain s ≡ true) 
       let c = are_places (length domain.sorts) s.inputs in
       let d = are_places (length domain.sorts) s.outputs in
       let e = are_fit_patterns domain (length domain.constants) (numbers_from 0 (length s.inputs)) s.domain in
-      leb-true (length s.inputs) 8 (first_so a b (first_so (a && b) c (first_so (a && b && c) d (first_so (a && b && c && d) e up_to_domain))))
+      leb-true (length s.inputs) 8 (first_so a b (first_so (a && b) c
+      (first_so (a && b && c) d (first_so (a && b && c && d) e up_to_domain))))
 
   abbrev is_fit_atom : Pattern → Bool
   is_fit_atom = is_fit_pattern domain (length domain.constants) (numbers_from 0 (length s.inputs))

@@ -2,6 +2,7 @@
 use Rattle.std.specs.Prelude.{◌≡◌, ◌≤◌, List, map, length, All}
 use Rattle.task_model.specs.Known.{Known}
 use Rattle.task_model.specs.Streams.{Note, AreDue, MoreAreDue, yields_of}
+use Rattle.task_model.specs.declared.limits.TheConstants.{MOST_DUE}
 use Rattle.task_model.specs.declared.stream.Instance.{Instance}
 use Rattle.task_model.specs.declared.task.Task.{Task}
 use Rattle.instance_queue.specs.declared.due.Due.{Due}
@@ -15,9 +16,9 @@ instances_of = map (λ (d : Due). d.instance)
 pub record AreDueInTurn (task : Task) (known : Known) (notes : List Note) (dues : List Due) : Type 0 where
   pub due : AreDue task known notes (instances_of dues)
   pub turns : All (λ (d : Due). d.turn ≡ yields_of notes d.instance) dues
-  pub few : length dues ≤ 1000000
+  pub few : length dues ≤ MOST_DUE
 
 -- what is true where there is no list
 abbrev pub ComesOf : Task → Known → List Note → QueueFault → Type 0
-ComesOf task known notes TooManyInstances = MoreAreDue 1000000 task known notes
+ComesOf task known notes TooManyInstances = MoreAreDue MOST_DUE task known notes
 ComesOf task known notes Memory = Unit {0}

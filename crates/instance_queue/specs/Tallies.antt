@@ -20,4 +20,7 @@ note_by-parts_of (Yielded i) = refl
 note_by-parts_of (Ended i) = refl
 
 abbrev pub coded_notes : Coded (List Note)
-coded_notes = coded_list (code_by (Bool × (ℕ × List ℕ)) (coded× coded_bool (coded× coded_ℕ (coded_list coded_ℕ))) parts_of note_by note_by-parts_of)
+coded_notes =
+    coded_list
+    (code_by (Bool × (ℕ × List ℕ)) (coded× coded_bool (coded× coded_ℕ (coded_list coded_ℕ))) parts_of note_by
+    note_by-parts_of)

@@ -12,10 +12,7 @@ use crate::queue::Queue;
 use fact_join::{Partial, Query, QueryAtom, Wanted, join};
 use fact_store::Facts;
 use std::alloc::{AllocError, Global};
-use task_model::{Instance, Obj, Row, Stream, Task};
-
-/// The most instances that may be due.
-const MOST: usize = 1_000_000;
+use task_model::{Instance, MOST_DUE, Obj, Row, Stream, Task};
 
 /// What the instances of one stream are sought over.
 #[derive(Drop)]
@@ -88,18 +85,18 @@ fn due_inputs(search: &Search<'_>, most: usize) -> Result<Vec<Row>, QueueFault>
     Ok(rows)
 }
 
-/// Adds the asks that are due of one stream. Fails where more than `MOST` would stand there, and where memory is
+/// Adds the asks that are due of one stream. Fails where more than [`MOST_DUE`] would stand there, and where memory is
 /// wanting.
 fn add_asks(search: &Search<'_>, dues: &mut Vec<Due>) -> Result<(), QueueFault>
-    requires few { length dues.old.items ≤ MOST }
+    requires few { length dues.old.items ≤ MOST_DUE }
     requires readable { IsReadableStream search.now.stream.now }
     ensures due { OnOk result (AddsAsks search.now.facts.now.known search.now.queue.now
         search.now.stream.now search.now.place dues.old.items dues.new.items) }
-    ensures few { OnOk result (length dues.new.items ≤ MOST) }
-    ensures fault { IfErr result (LacksInputs (MOST - length dues.old.items)
+    ensures few { OnOk result (length dues.new.items ≤ MOST_DUE) }
+    ensures fault { IfErr result (LacksInputs (MOST_DUE - length dues.old.items)
         search.now.facts.now.known search.now.queue.now search.now.stream.now search.now.place) }
 {
-    let rows = due_inputs(search, MOST - dues.len())?;
+    let rows = due_inputs(search, MOST_DUE - dues.len())?;
     for inputs in rows.as_slice() {
         let instance = Instance {
             stream: search.place,
@@ -116,7 +113,7 @@ fn found(alloc: Global, queue: &Queue, task: &Task, facts: &Facts) -> Result<Vec
     requires { IsFit task.now }
     ensures due { IfOk result (λ dues. AreAsksOf (IsDueBelow task.now.streams facts.now.known
         queue.now (length task.now.streams)) queue.now dues.items) }
-    ensures few { IfOk result (λ dues. length dues.items ≤ MOST) }
+    ensures few { IfOk result (λ dues. length dues.items ≤ MOST_DUE) }
     ensures fault { IfErr result (ComesOf task.now facts.now.known queue.now) }
 {
     let mut dues = Vec::new(alloc);

@@ -47,7 +47,8 @@ ended answers bytes old now so_far = record {
   answered =
       ap (λ front. front ++ (answers now.request ++ 10 ∷ [])) so_far.answered
       ∙ append_assoc old.pending (lines_with_feeds (map answers so_far.requests)) (answers now.request ++ 10 ∷ [])
-      ∙ ap (λ tail. old.pending ++ tail) (sym (lines_with_feeds-more (map answers so_far.requests) (answers now.request)) ∙ ap lines_with_feeds (sym (map-append answers so_far.requests (now.request ∷ []))));
+      ∙ ap (λ tail. old.pending ++ tail) (sym (lines_with_feeds-more (map answers so_far.requests) (answers now.request))
+      ∙ ap lines_with_feeds (sym (map-append answers so_far.requests (now.request ∷ []))));
 }
 
 -- a byte of a request
@@ -69,7 +70,9 @@ continued answers bytes byte old now other so_far = record {
 by_case : (b : Bool) (answers : List ℕ → List ℕ) (bytes : List ℕ) (byte : ℕ) (old now new : ReplyState)
     → (byte == 10) ≡ b
     → Replies answers bytes old now
-    → new ≡ (if b then record { request = []; pending = now.pending ++ (answers now.request ++ 10 ∷ []) } else record { request = now.request ++ byte ∷ []; pending = now.pending })
+    → new
+    ≡ (if b then record { request = []; pending = now.pending ++ (answers now.request ++ 10 ∷ []) }
+    else record { request = now.request ++ byte ∷ []; pending = now.pending })
     → Replies answers (bytes ++ byte ∷ []) old new
 by_case true answers bytes byte old now new test so_far same =
     let P : ReplyState → Type 0 = λ reply. Replies answers (bytes ++ byte ∷ []) old reply in

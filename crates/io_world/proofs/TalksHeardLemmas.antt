@@ -42,12 +42,16 @@ pub gives_more : (child room : ℕ) (held xs piece zs : List ℕ) (events : List
     → zs ≡ xs ++ piece → IsLine (held ++ xs)
     → Gives child held xs events → Gives child held zs (events ++ heard child room (Ok piece) ∷ [])
 gives_more child room held xs piece zs events all line so_far = record {
-  each = All-append (IsGiven child) events (heard child room (Ok piece) ∷ []) so_far.each (all_one (IsGiven child) (heard child room (Ok piece)) refl);
+  each = All-append (IsGiven child) events (heard child room (Ok piece) ∷ []) so_far.each
+      (all_one (IsGiven child) (heard child room (Ok piece)) refl);
   spells =
       spelled-more child silence events (heard child room (Ok piece))
       ∙ rw (eq-eqb child child refl) (ap (heard_more piece) so_far.spells ∙ ap (λ bytes. heard_more bytes silence) (sym all));
   early = λ k below. elim (eqb_tells k (length events)) as (λ w. AtMost child held (take k (events ++ heard child room (Ok piece) ∷ []))) [
-    | inl same ↦ subst (AtMost child held) (sym (ap (λ m. take m (events ++ heard child room (Ok piece) ∷ [])) same.1 ∙ take-append_seam events (heard child room (Ok piece) ∷ []))) (subst (λ (talk : Talk). IsLine (held ++ talk.heard)) (sym so_far.spells) line)
+    | inl same ↦
+        subst (AtMost child held) (sym (ap (λ m. take m (events ++ heard child room (Ok piece) ∷ [])) same.1
+        ∙ take-append_seam events (heard child room (Ok piece) ∷ [])))
+        (subst (λ (talk : Talk). IsLine (held ++ talk.heard)) (sym so_far.spells) line)
     | inr other ↦
         let before : k < length events = omega (arith, other.1, below, length-append events (heard child room (Ok piece) ∷ [])) in
         let front : k ≤ length events = omega arith in
@@ -60,7 +64,8 @@ pub room_more : (filled n : ℕ) (room rest : List ℕ) → filled ≤ length ro
     → take (filled + n) (put_mid filled (length room - filled) room rest) ≡ take filled room ++ take n rest
 room_more filled n room rest within some =
     let tail : List ℕ = rest ++ post_of filled (length room - filled) room in
-    subst (λ m. take (m + n) (take filled room ++ tail) ≡ take filled room ++ take n tail) (length-take-le filled room within) (take-append-add (take filled room) tail n)
+    subst (λ m. take (m + n) (take filled room ++ tail) ≡ take filled room ++ take n tail)
+    (length-take-le filled room within) (take-append-add (take filled room) tail n)
     ∙ ap (λ piece. take filled room ++ piece) (take-append-le n rest (post_of filled (length room - filled) room) some)
 
 -- those behind the first ones
@@ -74,7 +79,13 @@ heard_behind held filled n room rest above within some =
 -- the room holds what was read
 pub room_within : (filled n : ℕ) (room rest : List ℕ) → filled ≤ length room → n ≤ length rest
     → filled + n ≤ length (put_mid filled (length room - filled) room rest)
-room_within filled n room rest within some = omega (arith, length-take-le filled room within, length-append (take filled room) (rest ++ post_of filled (length room - filled) room), length-append rest (post_of filled (length room - filled) room))
+room_within filled n room rest within some =
+    omega (
+      arith,
+      length-take-le filled room within,
+      length-append (take filled room) (rest ++ post_of filled (length room - filled) room),
+      length-append rest (post_of filled (length room - filled) room),
+    )
 
 -- the bytes held before and the bytes heard
 pub held_and_heard : (held filled : ℕ) (room : List ℕ) → held ≤ filled
@@ -91,14 +102,18 @@ pub quiet : (held filled : ℕ) (room start : List ℕ) → held ≤ filled
     → take held room ≡ take held start → IsLine (take filled room)
     → IsLine (take held start ++ drop held (take filled room))
 quiet held filled room start above kept line =
-    subst (λ (front : List ℕ). IsLine (front ++ drop held (take filled room))) kept (subst IsLine (sym (held_and_heard held filled room above)) line)
+    subst (λ (front : List ℕ). IsLine (front ++ drop held (take filled room))) kept
+    (subst IsLine (sym (held_and_heard held filled room above)) line)
 
 -- the log with one read more
 pub given_more : (child room : ℕ) (held xs piece zs : List ℕ) (old mid new : Option (List Event))
     → zs ≡ xs ++ piece → IsLine (held ++ xs)
     → LogsGiven child held xs old mid → Logs mid new (heard child room (Ok piece)) → LogsGiven child held zs old new
-given_more child room held xs piece zs old mid new all line so_far more =
-    (so_far.0 ++ heard child room (Ok piece) ∷ [], gives_more child room held xs piece zs so_far.0 all line so_far.1, extends_more old mid new so_far.0 (heard child room (Ok piece) ∷ []) so_far.2 more)
+given_more child room held xs piece zs old mid new all line so_far more = (
+  so_far.0 ++ heard child room (Ok piece) ∷ [],
+  gives_more child room held xs piece zs so_far.0 all line so_far.1,
+  extends_more old mid new so_far.0 (heard child room (Ok piece) ∷ []) so_far.2 more,
+)
 
 -- heard, and then nothing more
 pub hears_kept : (child : ℕ) (old mid new : ℕ → Option Talk) (xs : List ℕ) → Hears child xs old mid

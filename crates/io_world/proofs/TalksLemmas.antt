@@ -52,7 +52,8 @@ pub takes_more : (child n : ℕ) (xs piece zs : List ℕ) (events : List Event)
     → zs ≡ xs ++ take n piece → 0 < n → n ≤ length piece
     → Takes child xs events → Takes child zs (events ++ wrote child piece (Ok n) ∷ [])
 takes_more child n xs piece zs events all some within so_far = record {
-  each = All-append (IsTaken child) events (wrote child piece (Ok n) ∷ []) so_far.each (all_one (IsTaken child) (wrote child piece (Ok n)) (refl, some, within));
+  each = All-append (IsTaken child) events (wrote child piece (Ok n) ∷ []) so_far.each
+      (all_one (IsTaken child) (wrote child piece (Ok n)) (refl, some, within));
   spells =
       spelled-more child silence events (wrote child piece (Ok n))
       ∙ rw (eq-eqb child child refl) (ap (wrote_more (take n piece)) so_far.spells ∙ ap (λ bytes. wrote_more bytes silence) (sym all));
@@ -62,5 +63,8 @@ takes_more child n xs piece zs events all some within so_far = record {
 pub taken_more : (child n : ℕ) (xs piece zs : List ℕ) (old mid new : Option (List Event))
     → zs ≡ xs ++ take n piece → 0 < n
     → n ≤ length piece → LogsTaken child xs old mid → Logs mid new (wrote child piece (Ok n)) → LogsTaken child zs old new
-taken_more child n xs piece zs old mid new all some within so_far more =
-    (so_far.0 ++ wrote child piece (Ok n) ∷ [], takes_more child n xs piece zs so_far.0 all some within so_far.1, extends_more old mid new so_far.0 (wrote child piece (Ok n) ∷ []) so_far.2 more)
+taken_more child n xs piece zs old mid new all some within so_far more = (
+  so_far.0 ++ wrote child piece (Ok n) ∷ [],
+  takes_more child n xs piece zs so_far.0 all some within so_far.1,
+  extends_more old mid new so_far.0 (wrote child piece (Ok n) ∷ []) so_far.2 more,
+)

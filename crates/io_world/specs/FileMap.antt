@@ -28,7 +28,9 @@ HasMore (Some bytes) most = most < length bytes
 
 -- Ok gives the path's bytes, and `TooLong` comes where there are more than `most`
 abbrev pub ReadsFile : Option FileMap → List ℕ → ℕ → Result (Vec ℕ Global) FileFault → Type 0
-ReadsFile told path most result = IfSome told (λ files. MatchResult result (λ v. files path ≡ Some v.items) (λ fault. fault ≡ TooLong → HasMore (files path) most))
+ReadsFile told path most result =
+    IfSome told (λ files.
+    MatchResult result (λ v. files path ≡ Some v.items) (λ fault. fault ≡ TooLong → HasMore (files path) most))
 
 -- a file with its path
 pub record StoredFile : Type 0 where

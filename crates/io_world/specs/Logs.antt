@@ -27,4 +27,6 @@ Loses old new = new ≡ record old { whole = false }
 
 -- all calls that were kept spell what was said
 pub calls_spell : (calls : Calls) (child : ℕ) → Spells (told_of calls) child (said_of calls child)
-calls_spell calls child = elim (calls.whole) as (λ whole. Spells (if whole then Some calls.events else None) child (said_of calls child)) [ true ↦ refl | false ↦ tt ]
+calls_spell calls child =
+    elim (calls.whole) as (λ whole. Spells (if whole then Some calls.events else None) child (said_of calls child))
+    [ true ↦ refl | false ↦ tt ]

@@ -20,7 +20,9 @@ BlamesRead fails file most Memory = ⊤
 
 -- a read that fails exactly where it should, and else gives the file, if it isn't too long
 abbrev pub AnswersFile : Bool → Option (List ℕ) → ℕ → Result (Vec ℕ Global) FileFault → Type 0
-AnswersFile fails file most result = MatchResult result (λ v. (fails ≡ false) × (file ≡ Some v.items) × (length v.items ≤ most)) (BlamesRead fails file most)
+AnswersFile fails file most result =
+    MatchResult result (λ v. (fails ≡ false) × (file ≡ Some v.items) × (length v.items ≤ most))
+    (BlamesRead fails file most)
 
 -- all of these bytes, or `TooLong` where they are more than `most`
 abbrev pub Copies : List ℕ → ℕ → Result (Vec ℕ Global) FileFault → Type 0

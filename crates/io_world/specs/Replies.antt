@@ -28,7 +28,8 @@ no_reply = record { request = []; pending = [] }
 abbrev pub HearsByte : (List ℕ → List ℕ) → ℕ → ReplyState → ReplyState → Type 0
 HearsByte answers byte old new =
     new
-    ≡ (if byte == 10 then record { request = []; pending = old.pending ++ (answers old.request ++ 10 ∷ []) } else record { request = old.request ++ byte ∷ []; pending = old.pending })
+    ≡ (if byte == 10 then record { request = []; pending = old.pending ++ (answers old.request ++ 10 ∷ []) }
+    else record { request = old.request ++ byte ∷ []; pending = old.pending })
 
 -- with these bytes so many requests became whole, and each was answered
 pub record Replies (answers : List ℕ → List ℕ) (bytes : List ℕ) (old new : ReplyState) : Type 0 where

@@ -54,7 +54,9 @@ ready host child = open_bytes (script_of host.scripts child) host.progress (prog
 
 -- how many bytes the next read of the child gives, where it gives any
 abbrev pub most_given : ScriptHostState → ℕ → ℕ → ℕ
-most_given host child room = min (length (ready host child)) (min room (cut_or (script_of host.scripts child).cuts (progress_of host.progress child).reads room))
+most_given host child room =
+    min (length (ready host child))
+    (min room (cut_or (script_of host.scripts child).cuts (progress_of host.progress child).reads room))
 
 abbrev pub is_running : ScriptHostState → ℕ → Bool
 is_running host child = (progress_of host.progress child).running

@@ -4,6 +4,7 @@ ghost use Rattle.io_world.specs.Faults.{HasCause};
 ghost use Rattle.io_world.specs.Replies.{IsLine, HasLine};
 ghost use Rattle.io_world.specs.Talks.{Same, Writes, Hears, LogsTaken, LogsTakenPart, LogsGiven, LogsGivenPart};
 ghost use Rattle.io_world.specs.declared.host.HostFault.TheVariants.{Failed};
+ghost use Rattle.io_world.specs.declared.host.TheConstants.{CHILDREN};
 
 use crate::host::{Host, HostFault};
 use crate::pieces::has_line;
@@ -14,7 +15,7 @@ use crate::pieces::has_line;
 /// `Failed` where a write failed; the count of faults rose. `Memory` where there was none. The child
 /// took the first bytes then, but not all.
 pub fn send_all<H: Host>(host: &mut H, child: u8, bytes: &[u8]) -> Result<(), HostFault>
-    requires number { child < 17 }
+    requires number { child < CHILDREN }
     requires runs { H.running host.old child ≡ true }
     ensures running { Same (H.running host.old) (H.running host.new) }
     ensures all { OnOk result (Writes child bytes.now (H.spoken host.old) (H.spoken host.new)) }
@@ -45,7 +46,7 @@ pub fn hear_line<H: Host>(
     room: &mut [u8],
     held: usize,
 ) -> Result<usize, HostFault>
-    requires number { child < 17 }
+    requires number { child < CHILDREN }
     requires runs { H.running host.old child ≡ true }
     requires within { held ≤ length room.old }
     ensures count { IfOk result (λ n. (held ≤ n) × (n ≤ length room.new)) }

@@ -4,6 +4,9 @@ ghost use Rattle.io_world.specs.Faults.{last_count, HasCause};
 ghost use Rattle.io_world.specs.Talks.{Talk, Event, started, wrote, heard, stopped, given, Logs, Spells, Same, Becomes, Empties, Writes, Hears};
 ghost use Rattle.io_world.specs.declared.host.HostFault.TheVariants.{Failed};
 
+/// How many children a host has: their numbers are those below it.
+pub const CHILDREN: usize = 17;
+
 /// Why a call on a child was not done.
 #[derive(Clone, Copy, Debug, PartialEq, Eq)]
 pub enum HostFault {
@@ -43,7 +46,7 @@ pub trait Host {
     /// # Errors
     /// `Failed` only where the count of faults rose in this call; `Memory`. The child doesn't run.
     fn start(&mut self, child: u8, argv: &[String]) -> Result<(), HostFault>
-        requires number { child < 17 }
+        requires number { child < CHILDREN }
         requires words { 0 < length argv.now }
         requires idle { running self.old child ≡ false }
         ensures running { MatchResult result
@@ -61,7 +64,7 @@ pub trait Host {
     /// # Errors
     /// `Failed` only where the count of faults rose in this call; `Memory`. The child still runs.
     fn write(&mut self, child: u8, bytes: &[u8]) -> Result<usize, HostFault>
-        requires number { child < 17 }
+        requires number { child < CHILDREN }
         requires some { 0 < length bytes.now }
         requires runs { running self.old child ≡ true }
         ensures count { IfOk result (λ n. (0 < n) × (n ≤ length bytes.now)) }
@@ -79,7 +82,7 @@ pub trait Host {
     /// `Failed` only where the count of faults rose in this call, the end of the child's output being
     /// such a fault; `Memory`. The child still runs.
     fn read(&mut self, child: u8, room: &mut [u8]) -> Result<usize, HostFault>
-        requires number { child < 17 }
+        requires number { child < CHILDREN }
         requires some { 0 < length room.old }
         requires runs { running self.old child ≡ true }
         ensures count { IfOk result (λ n. (0 < n) × (n ≤ length room.new)) }
@@ -96,7 +99,7 @@ pub trait Host {
     /// # Errors
     /// `Failed` only where the count of faults rose in this call; `Memory`.
     fn stop(&mut self, child: u8) -> Result<(), HostFault>
-        requires number { child < 17 }
+        requires number { child < CHILDREN }
         requires runs { running self.old child ≡ true }
         ensures running { Becomes child false (running self.old) (running self.new) }
         ensures spoken { Same (spoken self.old) (spoken self.new) }
@@ -109,7 +112,8 @@ pub trait Host {
         ensures bound { result ≤ last };
 
     /// A log that is told says what was said with each child that runs.
-    ghost spells: { (host : Self) (child : ℕ) → running host child ≡ true → Spells (log host) child (spoken host child) };
+    ghost spells: { (host : Self) (child : ℕ) → running host child ≡ true
+        → Spells (log host) child (spoken host child) };
 
     /// A count stands at its last value only after very many faults.
     ghost high: { last_count ≤ last };

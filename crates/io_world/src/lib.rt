@@ -34,7 +34,7 @@ pub use answer_by::AnswerBy;
 pub use conversation::{hear_line, send_all};
 pub use fault_count::FaultCount;
 pub use files::{FileFault, Files};
-pub use host::{Host, HostFault};
+pub use host::{CHILDREN, Host, HostFault};
 pub use mem_files::MemFiles;
 pub use mem_sink::MemSink;
 pub use mem_source::MemSource;

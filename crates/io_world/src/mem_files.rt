@@ -27,7 +27,12 @@ pub struct MemFiles {
 impl Model for MemFiles {
     ghost Value = { MemFilesState };
 
-    ghost view = { λ s. record { files = map stored s.files.items; plan = s.schedule; faults = s.faults; asked = s.asked } };
+    ghost view = { λ s. record {
+      files = map stored s.files.items;
+      plan = s.schedule;
+      faults = s.faults;
+      asked = s.asked;
+    } };
 }
 
 impl MemFiles {

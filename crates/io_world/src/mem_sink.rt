@@ -26,9 +26,16 @@ pub struct MemSink {
 impl Model for MemSink {
     ghost Value = { MemSinkState };
 
-    ghost view = { λ s. record { piece = s.piece; room = s.room; plan = s.schedule; faults = s.faults; bytes = s.bytes.items } };
+    ghost view = { λ s. record {
+      piece = s.piece;
+      room = s.room;
+      plan = s.schedule;
+      faults = s.faults;
+      bytes = s.bytes.items;
+    } };
 
-    ghost invariant = { λ s. (0 < s.piece) × (length s.bytes.items ≤ s.room) × (s.room ≤ vec_capacity s.bytes) };
+    ghost invariant = { λ s. (0 < s.piece) × (length s.bytes.items ≤ s.room)
+        × (s.room ≤ vec_capacity s.bytes) };
 }
 
 impl MemSink {

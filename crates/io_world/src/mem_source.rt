@@ -26,7 +26,12 @@ pub struct MemSource {
 impl Model for MemSource {
     ghost Value = { MemSourceState };
 
-    ghost view = { λ s. record { left = drop s.given s.bytes.items; cuts = s.cuts.items; plan = s.schedule; faults = s.faults } };
+    ghost view = { λ s. record {
+      left = drop s.given s.bytes.items;
+      cuts = s.cuts.items;
+      plan = s.schedule;
+      faults = s.faults;
+    } };
 
     ghost invariant = { λ s. s.given ≤ length s.bytes.items };
 }

@@ -21,7 +21,8 @@ impl Model for ReplyBuffer {
 
     ghost view = { λ s. record { request = s.request.items; pending = drop s.given s.said.items } };
 
-    ghost invariant = { λ s. (IsLine s.request.items) × (s.given ≤ length s.said.items) × (4 ≤ vec_capacity s.said) };
+    ghost invariant = { λ s. (IsLine s.request.items) × (s.given ≤ length s.said.items)
+        × (4 ≤ vec_capacity s.said) };
 }
 
 impl ReplyBuffer {

@@ -7,10 +7,11 @@ ghost use Rattle.io_world.specs.Plans.{planned, after_call, fails_next, cut_or, 
 ghost use Rattle.io_world.specs.ScriptHostState.{Scripted, ScriptHostState, idle, begun, progress_of, script_of, open_bytes, ready, most_given, is_running, talk_with, start_fails, read_fails, more, given_count, line_feeds};
 ghost use Rattle.io_world.specs.Talks.{started, wrote, heard, stopped, given, Logs, Same, Becomes, Empties, Writes, Hears};
 ghost use Rattle.io_world.specs.declared.host.HostFault.TheVariants.{Failed, Memory};
+ghost use Rattle.io_world.specs.declared.host.TheConstants.{CHILDREN};
 
 use crate::call_log::CallLog;
 use crate::fault_count::FaultCount;
-use crate::host::{Host, HostFault};
+use crate::host::{CHILDREN, Host, HostFault};
 use crate::pieces::{cut_at, give};
 use crate::progress::{Progress, line_feeds, open_to, progress_of};
 use crate::schedule::Schedule;
@@ -32,7 +33,11 @@ pub struct Script {
 impl Model for Script {
     ghost Value = { Scripted };
 
-    ghost view = { λ s. record { bytes = s.bytes.items; cuts = s.cuts.items; needs = s.needs.items } };
+    ghost view = { λ s. record {
+      bytes = s.bytes.items;
+      cuts = s.cuts.items;
+      needs = s.needs.items;
+    } };
 }
 
 /// A host whose children play scripts. It keeps and tells its log as long as there is memory for it,
@@ -40,7 +45,7 @@ impl Model for Script {
 #[derive(Drop)]
 pub struct ScriptHost {
     scripts: Vec<Script>,
-    progress: [Progress; 17],
+    progress: [Progress; CHILDREN],
     log: CallLog,
     schedule: Schedule,
     faults: FaultCount,
@@ -49,9 +54,15 @@ pub struct ScriptHost {
 impl Model for ScriptHost {
     ghost Value = { ScriptHostState };
 
-    ghost view = { λ s. record { scripts = s.scripts.items; progress = s.progress; calls = s.log; plan = s.schedule; faults = s.faults } };
+    ghost view = { λ s. record {
+      scripts = s.scripts.items;
+      progress = s.progress;
+      calls = s.log;
+      plan = s.schedule;
+      faults = s.faults;
+    } };
 
-    ghost invariant = { λ s. length s.progress ≡ 17 };
+    ghost invariant = { λ s. length s.progress ≡ CHILDREN };
 }
 
 impl ScriptHost {
@@ -62,7 +73,7 @@ impl ScriptHost {
         ensures idle { (k : ℕ) → is_running result k ≡ false }
         ensures state { result ≡ record {
           scripts = children.items;
-          progress = replicate 17 idle;
+          progress = replicate CHILDREN idle;
           calls = record
               { events = []; whole = true };
           plan = planned fails.items;
@@ -71,7 +82,7 @@ impl ScriptHost {
     {
         ScriptHost {
             scripts: children,
-            progress: [Progress::idle(); 17],
+            progress: [Progress::idle(); CHILDREN],
             log: CallLog::new(alloc),
             schedule: Schedule::new(fails),
             faults: FaultCount::new(),
@@ -145,7 +156,7 @@ impl Host for ScriptHost {
     ghost high = { lit≤ tt };
 
     fn start(&mut self, child: u8, argv: &[String]) -> Result<(), HostFault>
-        requires number { child < 17 }
+        requires number { child < CHILDREN }
         requires words { 0 < length argv.now }
         requires idle { is_running self.old child ≡ false }
         ensures running { MatchResult result
@@ -190,7 +201,7 @@ impl Host for ScriptHost {
     }
 
     fn write(&mut self, child: u8, bytes: &[u8]) -> Result<usize, HostFault>
-        requires number { child < 17 }
+        requires number { child < CHILDREN }
         requires some { 0 < length bytes.now }
         requires runs { is_running self.old child ≡ true }
         ensures count { IfOk result (λ n. (0 < n) × (n ≤ length bytes.now)) }
@@ -236,7 +247,7 @@ impl Host for ScriptHost {
     }
 
     fn read(&mut self, child: u8, room: &mut [u8]) -> Result<usize, HostFault>
-        requires number { child < 17 }
+        requires number { child < CHILDREN }
         requires some { 0 < length room.old }
         requires runs { is_running self.old child ≡ true }
         ensures count { IfOk result (λ n. (0 < n) × (n ≤ length room.new)) }
@@ -289,7 +300,7 @@ impl Host for ScriptHost {
     }
 
     fn stop(&mut self, child: u8) -> Result<(), HostFault>
-        requires number { child < 17 }
+        requires number { child < CHILDREN }
         requires runs { is_running self.old child ≡ true }
         ensures running { Becomes child false (is_running self.old) (is_running self.new) }
         ensures spoken { Same (talk_with self.old) (talk_with self.new) }

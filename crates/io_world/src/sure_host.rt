@@ -7,6 +7,7 @@ ghost use Rattle.io_world.specs.Replies.{Replies, no_reply, next_bytes};
 ghost use Rattle.io_world.specs.SureHostState.{SureChild, SureHostState, child_of, runs};
 ghost use Rattle.io_world.specs.Talks.{started, wrote, heard, stopped, given, Logs, Same, Becomes, Empties, Writes, Hears};
 ghost use Rattle.io_world.specs.declared.host.HostFault.TheVariants.{Failed, Memory};
+ghost use Rattle.io_world.specs.declared.host.TheConstants.{CHILDREN};
 
 use crate::answer_by::AnswerBy;
 use crate::call_log::CallLog;
@@ -43,7 +44,11 @@ pub struct SureHost<A> {
 impl<A> Model for SureHost<A> {
     ghost Value = { SureHostState A };
 
-    ghost view = { λ s. record { answers = s.answers; children = s.children.items; calls = s.log } };
+    ghost view = { λ s. record {
+      answers = s.answers;
+      children = s.children.items;
+      calls = s.log;
+    } };
 }
 
 impl<A: AnswerBy> SureHost<A> {
@@ -118,7 +123,7 @@ impl<A: AnswerBy> Host for SureHost<A> {
     ghost high = { lit≤ tt };
 
     fn start(&mut self, child: u8, argv: &[String]) -> Result<(), HostFault>
-        requires number { child < 17 }
+        requires number { child < CHILDREN }
         requires words { 0 < length argv.now }
         requires idle { runs self.old.children child ≡ false }
         ensures running { MatchResult result
@@ -152,7 +157,7 @@ impl<A: AnswerBy> Host for SureHost<A> {
     }
 
     fn write(&mut self, child: u8, bytes: &[u8]) -> Result<usize, HostFault>
-        requires number { child < 17 }
+        requires number { child < CHILDREN }
         requires some { 0 < length bytes.now }
         requires runs { runs self.old.children child ≡ true }
         ensures count { IfOk result (λ n. (0 < n) × (n ≤ length bytes.now)) }
@@ -193,7 +198,7 @@ impl<A: AnswerBy> Host for SureHost<A> {
     }
 
     fn read(&mut self, child: u8, room: &mut [u8]) -> Result<usize, HostFault>
-        requires number { child < 17 }
+        requires number { child < CHILDREN }
         requires some { 0 < length room.old }
         requires runs { runs self.old.children child ≡ true }
         ensures count { IfOk result (λ n. (0 < n) × (n ≤ length room.new)) }
@@ -234,7 +239,7 @@ impl<A: AnswerBy> Host for SureHost<A> {
     }
 
     fn stop(&mut self, child: u8) -> Result<(), HostFault>
-        requires number { child < 17 }
+        requires number { child < CHILDREN }
         requires runs { runs self.old.children child ≡ true }
         ensures running { Becomes child false (runs self.old.children) (runs self.new.children) }
         ensures spoken { Same (said_of self.old.calls) (said_of self.new.calls) }

@@ -154,7 +154,9 @@ module _ {A : Type 0} (cmp : A → A → Ordering) (total : IsTotalOrder cmp) wh
       by (contains_cases y ys z (there z (contains_later x xs z m)))
     where
       by : (y ≡ z) ⊎ Contains ys z → Contains ys z
-      by (inl e) = let less : cmp x x ≡ Less = subst (λ w. cmp x w ≡ Less) (sym (same ∙ e)) (head_less cmp x z xs ascends m) in absurd (not_both_less cmp total x x less less)
+      by (inl e) =
+          let less : cmp x x ≡ Less = subst (λ w. cmp x w ≡ Less) (sym (same ∙ e)) (head_less cmp x z xs ascends m) in
+          absurd (not_both_less cmp total x x less less)
       by (inr n) = n
 
   pub same_list : (xs ys : List A) → AreAscending cmp xs → AreAscending cmp ys → Same xs ys
@@ -166,5 +168,6 @@ module _ {A : Type 0} (cmp : A → A → Ordering) (total : IsTotalOrder cmp) wh
       absurd (contains_none x (there x (contains_here x xs)))
   same_list (x ∷ xs) (y ∷ ys) first second there back =
       let e = same_heads x y xs ys first second there back in
-      let rest = same_list xs ys (tail_ascends cmp x xs first) (tail_ascends cmp y ys second) (tail_same x y xs ys first e there) (tail_same y x ys xs second (sym e) back) in
+      let rest = same_list xs ys (tail_ascends cmp x xs first) (tail_ascends cmp y ys second)
+      (tail_same x y xs ys first e there) (tail_same y x ys xs second (sym e) back) in
       λ i. e i ∷ rest i

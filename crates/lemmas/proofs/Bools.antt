@@ -46,7 +46,9 @@ and_not_parts false b e = absurd (cc)
 pub zero_and_not : (n : ℕ) (cut : Bool) → ((n == 0) && not cut) ≡ true → (n ≡ 0) × (cut ≡ false)
 zero_and_not zero false e = (refl, refl)
 zero_and_not zero true e = absurd (cc)
-zero_and_not (suc n) cut e = let busy : (suc n == 0) ≡ false = ne_eqb (suc n) 0 (λ is. omega (arith, is)) in let both : true ≡ false = sym e ∙ ap (λ (b : Bool). b && not cut) busy in absurd (cc)
+zero_and_not (suc n) cut e =
+    let busy : (suc n == 0) ≡ false = ne_eqb (suc n) 0 (λ is. omega (arith, is)) in
+    let both : true ≡ false = sym e ∙ ap (λ (b : Bool). b && not cut) busy in absurd (cc)
 
 pub right_true : (a b : Bool) → b ≡ true → (a || b) ≡ true
 right_true true b e = refl

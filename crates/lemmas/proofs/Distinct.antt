@@ -1,9 +1,17 @@
 -- Lists of distinct members.
-use Rattle.std.proofs.Common.{◌≡◌, suc, List, ◌∷◌, arith, zero, [], ◌++◌, map, Contains, refl, sym, ap, subst, inl, inr}
+use Rattle.std.proofs.Common.{◌≡◌, suc, List, ◌∷◌, arith, zero, [], ◌++◌, map, Contains, refl, sym, ap, subst, inl, inr, ℕ, ◌<◌, Bool, true, false, length, get_or, ◌∙◌, Some, slice_get}
 use Rattle.lemmas.specs.Lists.{AreDistinct}
 use Rattle.std.proofs.lemmas.List.Elements.{Contains-append_cases}
 use Rattle.lemmas.proofs.Ascending.{contains_none, contains_here, contains_later, contains_cases}
 use Rattle.lemmas.proofs.Members.{place_of, member_at, distinct_nil}
+use Rattle.std.proofs.lemmas.Bool.{cases_lt}
+use Rattle.std.proofs.lemmas.Map.Keys.{IsDistinct-from_apart, apart_from_distinct, IsDistinct-IsPermutation}
+use Rattle.std.proofs.lemmas.Option.{slice_get_within, get_or_from_slice_get, slice_get-get_or}
+use Rattle.std.specs.Bool.{Decides}
+use Rattle.std.specs.Cmp.{decided, IsEquivalence}
+use Rattle.std.specs.List.{IsDistinct}
+use Rattle.std.specs.List.Sorted.{IsPermutation}
+use Rattle.lemmas.proofs.Bools.{not_both}
 
 pub distinct_tail : {A : Type 0} (x : A) (xs : List A) → AreDistinct (x ∷ xs) → AreDistinct xs
 distinct_tail x xs d i j y at_i at_j =
@@ -56,3 +64,41 @@ distinct_mapped f one (x ∷ xs) d =
     distinct_cons (f x) (map f xs) (distinct_mapped f one xs (distinct_tail x xs d)) (λ m.
     let r = from_mapped f xs (f x) m in
     head_is_new x xs d (subst (Contains xs) (sym (one x r.0 r.2)) r.1))
+
+-- ---- distinct members, also after a sort
+
+module _ {A : Type 0} (test : A → A → Bool) (decides : (x y : A) → Decides (test x y) (x ≡ y)) where
+  apart_test : (x y : A) → ¬ (x ≡ y) → test x y ≡ false
+  apart_test x y other = by (test x y) refl
+    where
+      by : (b : Bool) → test x y ≡ b → test x y ≡ false
+      by true e = absurd (other ((decides x y).0 e))
+      by false e = e
+
+  tested : (xs : List A) → AreDistinct xs → IsDistinct test xs
+  tested xs d =
+      IsDistinct-from_apart test xs
+      (λ i j z below within.
+      apart_test (get_or xs i z) (get_or xs j z)
+      (λ same.
+      let i_in : i < length xs = omega (arith, below, within) in
+      let e : i ≡ j = d i j (get_or xs j z) (slice_get-get_or xs i z i_in ∙ ap Some same) (slice_get-get_or xs j z within) in
+      absurd (omega (arith, below, e))))
+
+  by_test : (xs : List A) → IsDistinct test xs → AreDistinct xs
+  by_test xs d i j x at_i at_j =
+      elim (cases_lt i j) [
+        | inl below ↦ absurd (apart i j at_i at_j below)
+        | inr over ↦ elim (cases_lt j i) [ inl below ↦ absurd (apart j i at_j at_i below) | inr under ↦ omega (arith, over, under) ]
+      ]
+    where
+      apart : (i j : ℕ) → slice_get xs i ≡ Some x → slice_get xs j ≡ Some x → i < j → ⊥
+      apart i j at_i at_j below =
+          let f = apart_from_distinct test xs i j x d below (slice_get_within xs j x at_j) in
+          not_both (test x x) ((decides x x).1 refl)
+          ((λ k. test (sym (get_or_from_slice_get xs i x x at_i) k) (sym (get_or_from_slice_get xs j x x at_j) k)) ∙ f)
+
+  pub distinct_permuted : (xs ys : List A) → IsPermutation xs ys → AreDistinct xs → AreDistinct ys
+  distinct_permuted xs ys p d =
+      let same : IsEquivalence test = decided test decides in
+      by_test ys (IsDistinct-IsPermutation test same.symm xs ys p (tested xs d))

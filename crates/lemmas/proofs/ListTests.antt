@@ -1,5 +1,5 @@
 -- Members of lists, and tests of all or some.
-use Rattle.std.proofs.Common.{◌≡◌, ℕ, zero, suc, ◌+◌, add-one, ◌<◌, Bool, true, false, ◌&&◌, ◌||◌, List, [], ◌∷◌, map, drop, ◌++◌, length, get_or, refl, sym, ap, ◌∙◌, subst, arith, Some, slice_get, All, inl, inr, cond, None}
+use Rattle.std.proofs.Common.{◌≡◌, ℕ, zero, suc, ◌+◌, add-one, ◌<◌, Bool, true, false, ◌&&◌, ◌||◌, List, [], ◌∷◌, map, drop, ◌++◌, length, get_or, refl, sym, ap, ◌∙◌, subst, arith, Some, slice_get, All, inl, inr, cond, None, ◌==◌, eqb-true}
 use Rattle.std.specs.Cmp.{first_so, second_so}
 use Rattle.std.specs.List.{list_any, list_all, find}
 use Rattle.std.proofs.lemmas.Bool.{or_left, or_right, or_cases, and_from}
@@ -15,6 +15,13 @@ any_found p (x ∷ xs) e =
       | true ↦ λ t _. (0, x, refl, t)
       | false ↦ λ _ rest. let found = any_found p xs rest in (suc found.0, found.1, found.2, found.3)
     ] refl e
+
+-- some number is this one
+pub number_found : (xs : List ℕ) (a : ℕ) → list_any (λ n. n == a) xs ≡ true
+    → (i : ℕ) × (slice_get xs i ≡ Some a)
+number_found xs a e =
+    let found = any_found (λ n. n == a) xs e in
+    (found.0, found.2 ∙ ap Some (eqb-true found.1 a found.3))
 
 -- each member passes
 pub all_at : {A : Type 0} (p : A → Bool) (xs : List A) (i : ℕ) (x : A) → list_all p xs ≡ true
@@ -84,7 +91,9 @@ all_by_place P xs each k d h = each k _ (slice_get-get_or xs k d h)
 pub any_append_left : {A : Type 0} (p : A → Bool) (xs ys : List A) → list_any p xs ≡ true
     → list_any p (xs ++ ys) ≡ true
 any_append_left p [] ys e = absurd (cc)
-any_append_left p (x ∷ xs) ys e = elim (or_cases (p x) (list_any p xs) e) [ inl t ↦ or_left (p x) (list_any p (xs ++ ys)) t | inr t ↦ or_right (p x) (list_any p (xs ++ ys)) (any_append_left p xs ys t) ]
+any_append_left p (x ∷ xs) ys e =
+    elim (or_cases (p x) (list_any p xs) e)
+    [ inl t ↦ or_left (p x) (list_any p (xs ++ ys)) t | inr t ↦ or_right (p x) (list_any p (xs ++ ys)) (any_append_left p xs ys t) ]
 
 pub any_append_right : {A : Type 0} (p : A → Bool) (xs ys : List A) → list_any p ys ≡ true
     → list_any p (xs ++ ys) ≡ true

@@ -22,7 +22,8 @@ pub position_mapped : {A B : Type 0} (f : A → B) (p : B → Bool) (xs : List A
     → position (λ x. p (f x)) xs ≡ position p (map f xs)
 position_mapped f p xs = λ i. cond (nat_lt (prefix_mapped f p xs i) (length_mapped f xs i)) (Some (prefix_mapped f p xs i)) None
 
-module _ {A : Type 0} (f : A → List ℕ) (old : List A) (key : A) (names : List (List ℕ)) (name : List ℕ) (same : map f old ≡ names) (is : f key ≡ name) where
+module _ {A : Type 0} (f : A → List ℕ) (old : List A) (key : A) (names : List (List ℕ)) (name : List ℕ)
+    (same : map f old ≡ names) (is : f key ≡ name) where
   pub key_there : list_any (λ k. bytes_eq (f key) (f k)) old ≡ list_any (bytes_eq name) names
   key_there = any_mapped f (bytes_eq (f key)) old ∙ (λ i. list_any (bytes_eq (is i)) (same i))
 

@@ -29,7 +29,8 @@ pub distinct_push : {A : Type 0} (xs : List A) (y : A) → AreDistinct xs → ¬
     → AreDistinct (xs ++ y ∷ [])
 distinct_push xs y distinct absent i j x at_i at_j =
     elim (push_cases xs y i x at_i) [
-      | inl h ↦ elim (push_cases xs y j x at_j) [ inl k ↦ distinct i j x h k | inr k ↦ absurd (absent (member_at xs i y (h ∙ ap Some k.1))) ]
+      | inl h ↦ elim (push_cases xs y j x at_j)
+          [ inl k ↦ distinct i j x h k | inr k ↦ absurd (absent (member_at xs i y (h ∙ ap Some k.1))) ]
       | inr h ↦ elim (push_cases xs y j x at_j) [ inl k ↦ absurd (absent (member_at xs j y (k ∙ ap Some h.1))) | inr k ↦ h.0 ∙ sym k.0 ]
     ]
 
@@ -89,6 +90,10 @@ take_next [] i x e = absurd (cc)
 take_next (y ∷ ys) zero x e = ap (λ z. z ∷ []) (same_Some y x e)
 take_next (y ∷ ys) (suc i) x e = ap (λ zs. y ∷ zs) (take_next ys i x e)
 
+pub next_taken : {A : Type 0} (xs : List A) (i : ℕ) (x : A) → slice_get xs i ≡ Some x
+    → take (i + 1) xs ≡ take i xs ++ x ∷ []
+next_taken xs i x e = ap (λ n. take n xs) (add-one i) ∙ take_next xs i x e
+
 pub take_append : {A : Type 0} (xs ys : List A) → take (length xs) (xs ++ ys) ≡ xs
 take_append [] ys = refl
 take_append (x ∷ xs) ys = ap (λ zs. x ∷ zs) (take_append xs ys)
@@ -114,4 +119,5 @@ pub flat_map_map_next : {X B A : Type 0} (f : B → List A) (g : X → B) (xs : 
     → i < length xs → x ≡ get_or xs i x
     → flat_map f (map g (take (i + 1) xs)) ≡ flat_map f (map g (take i xs)) ++ f (g x)
 flat_map_map_next f g xs i x lt is =
-    flat_map-map f g (take (i + 1) xs) ∙ flat_map_next (λ y. f (g y)) xs i x lt is ∙ ap (λ t. t ++ f (g x)) (sym (flat_map-map f g (take i xs)))
+    flat_map-map f g (take (i + 1) xs) ∙ flat_map_next (λ y. f (g y)) xs i x lt is
+    ∙ ap (λ t. t ++ f (g x)) (sym (flat_map-map f g (take i xs)))

@@ -21,7 +21,9 @@ plus_zero base = omega arith
 pub enough_next : (width bars size : ℕ) → 0 < bars → width + bars * width ≤ size
     → width + (bars - 1) * width ≤ size - width
 enough_next width zero size lt enough = absurd (omega arith)
-enough_next width (suc bars) size lt enough = rw (suc_minus_one bars) (next (bars * width) (subst (λ t. width + t ≤ size) (suc-mul bars width ∙ add_comm (bars * width) width) enough))
+enough_next width (suc bars) size lt enough =
+    rw (suc_minus_one bars)
+    (next (bars * width) (subst (λ t. width + t ≤ size) (suc-mul bars width ∙ add_comm (bars * width) width) enough))
   where
     next : (others : ℕ) → width + (width + others) ≤ size → width + others ≤ size - width
     next others all = omega arith
@@ -54,13 +56,16 @@ pub all_numbers : (p : ℕ → Bool) (first count : ℕ)
     → ((n : ℕ) → first ≤ n → n < first + count → p n ≡ true)
     → list_all p (numbers_from first count) ≡ true
 all_numbers p first zero each = refl
-all_numbers p first (suc count) each = and_from (p first) (list_all p (numbers_from (first + 1) count)) (each first (omega arith) (omega arith)) (all_numbers p (first + 1) count (λ n low high. each n (omega arith) (omega arith)))
+all_numbers p first (suc count) each =
+    and_from (p first) (list_all p (numbers_from (first + 1) count))
+    (each first (omega arith) (omega arith)) (all_numbers p (first + 1) count (λ n low high. each n (omega arith) (omega arith)))
 
 pub below_in_numbers : (first n k : ℕ) → list_any (λ slot. slot == k) (numbers_from first n) ≡ true
     → k < first + n
 below_in_numbers first zero k e = absurd (cc)
 below_in_numbers first (suc n) k e =
-    elim (first == k) as (λ b. (first == k) ≡ b → (b || list_any (λ slot. slot == k) (numbers_from (first + 1) n)) ≡ true → k < first + suc n) [
+    elim (first == k) as
+    (λ b. (first == k) ≡ b → (b || list_any (λ slot. slot == k) (numbers_from (first + 1) n)) ≡ true → k < first + suc n) [
       | true ↦ λ same _. omega (arith, eqb-true first k same)
       | false ↦ λ _ rest. omega (arith, below_in_numbers (first + 1) n k rest)
     ] refl e

@@ -38,5 +38,7 @@ pigeons {A} (x ∷ xs) ys distinct inside =
     let rest = pigeons xs (without at.0 ys) (λ i j y e f. suc_same i j (distinct (suc i) (suc j) y e f)) (λ y c.
     let place = place_of xs y c in
     let found = place_of ys y (inside y (contains_later x xs y c)) in
-    stays at.0 found.0 ys y (λ same. absurd (zero_suc place.0 (distinct 0 (suc place.0) y (ap Some (one_there ys at.0 x y at.1 (subst (λ n. slice_get ys n ≡ Some y) same found.1))) place.1))) found.1) in
+    stays at.0 found.0 ys y (λ same.
+    absurd (zero_suc place.0 (distinct 0 (suc place.0) y
+    (ap Some (one_there ys at.0 x y at.1 (subst (λ n. slice_get ys n ≡ Some y) same found.1))) place.1))) found.1) in
     omega arith

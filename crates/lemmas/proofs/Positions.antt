@@ -34,7 +34,8 @@ pub split_whole : (p : ℕ → Bool) (xs : List ℕ) → length xs ≤ position_
     → slice_split p xs ≡ xs ∷ []
 split_whole p [] h = refl
 split_whole p (x ∷ xs) h =
-    elim (p x) as (λ b. length (x ∷ xs) ≤ cond (not b) (1 + prefix_len (λ y. not (p y)) xs) 0 → cond b ([] ∷ slice_split p xs) (onto_first x (slice_split p xs)) ≡ (x ∷ xs) ∷ []) [
+    elim (p x) as (λ b. length (x ∷ xs) ≤ cond (not b) (1 + prefix_len (λ y. not (p y)) xs) 0
+    → cond b ([] ∷ slice_split p xs) (onto_first x (slice_split p xs)) ≡ (x ∷ xs) ∷ []) [
       | true ↦ λ k. absurd (omega arith)
       | false ↦ λ k. rw (split_whole p xs (omega arith)) refl
     ] h

@@ -59,12 +59,14 @@ pub cycle_in : (edge : ℕ → ℕ → Bool) (n : ℕ) (f : ℕ → ℕ) (inside
 cycle_in edge zero f inside below stays way s here = absurd (omega (arith, below s here))
 cycle_in edge (suc m) f inside below stays way s here =
     elim (inside m) as (λ b. inside m ≡ b → Cycle edge) [
-      | false ↦ λ out. cycle_in edge m f inside (λ i h. let lt = below i h in let ne = unlike inside m i h out in omega (arith, lt, ne)) stays way s here
+      | false ↦ λ out. cycle_in edge m f inside
+          (λ i h. let lt = below i h in let ne = unlike inside m i h out in omega (arith, lt, ne)) stays way s here
       | true ↦ λ last.
           elim (f m == m) as (λ b. (f m == m) ≡ b → Cycle edge) [
             | true ↦ λ same. (m, subst (λ k. Way edge m k) (eqb-true (f m) m same) (way m last))
             | false ↦ λ on.
-                let next : without inside m (f m) ≡ true = and_from (inside (f m)) (not (f m == m)) (stays m last) (not_from_false (f m == m) on) in
+                let next : without inside m (f m) ≡ true =
+                and_from (inside (f m)) (not (f m == m)) (stays m last) (not_from_false (f m == m) on) in
                 cycle_in edge m (skip f m) (without inside m)
                 (λ i h. let lt = below i (first_so (inside i) (not (i == m)) h) in let ne = other inside m i h in omega (arith, lt, ne))
                 (λ i h. skip_stays f inside m i (stays i (first_so (inside i) (not (i == m)) h)) next)

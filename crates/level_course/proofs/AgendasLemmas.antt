@@ -9,7 +9,7 @@ use Rattle.instance_queue.specs.declared.due.Due.{Due}
 use Rattle.task_model.specs.declared.stream.Instance.{Instance}
 use Rattle.transcript_model.specs.Rounds as rounds
 use Rattle.transcript_model.specs.Rounds.{IsFull, fits, serves}
-use Rattle.level_course.proofs.PoolsLemmas.{one_fits}
+use Rattle.transcript_model.proofs.RoundsFrontLemmas.{one_fits}
 use Rattle.level_course.specs.Pools.{AllWork, IsLongestFront, share_of, shares_of}
 use Rattle.level_course.specs.Agendas.{Agenda, IsSoundAgenda, Starts, shown, with_asked}
 use Rattle.level_course.specs.declared.course.Course.TheInside.{Inside}
@@ -52,7 +52,8 @@ all_asked from to dues le within none =
 
 one_left : (shares : List Share) (k : ℕ) (p : Share) (list : List Instance) → k < length shares
     → p ≡ get_or shares k p
-    → fits (shares_of (drop k shares)) list ≡ (nat_le (count_by (serves (share_of p)) list) p.workers && fits (shares_of (drop (k + 1) shares)) list)
+    → fits (shares_of (drop k shares)) list
+    ≡ (nat_le (count_by (serves (share_of p)) list) p.workers && fits (shares_of (drop (k + 1) shares)) list)
 one_left shares k p list lt is = ap (λ ps. fits (shares_of ps) list) (left shares k p lt is)
 
 pub too_many : (shares : List Share) (k : ℕ) (p : Share) (list : List Instance) → k < length shares
@@ -79,7 +80,8 @@ full_from pools taken (i ∷ is) zero stuck =
     ap (λ xs. fits pools (xs ++ i ∷ [])) (append-nil taken) ∙ stuck (omega arith)
 full_from pools taken (i ∷ is) (suc k) stuck =
     subst (λ xs. IsFull pools xs (drop k is)) (append_assoc taken (i ∷ []) (take k is))
-    (full_from pools (taken ++ i ∷ []) is k (λ lt. ap (fits pools) (append_assoc taken (i ∷ []) (take (suc k) is)) ∙ stuck (omega (arith, lt))))
+    (full_from pools (taken ++ i ∷ []) is k
+    (λ lt. ap (fits pools) (append_assoc taken (i ∷ []) (take (suc k) is)) ∙ stuck (omega (arith, lt))))
 
 some_front : (pools : List rounds.Share) (list : List Instance) (k : ℕ)
     → fits pools (take (suc k) list) ≡ false → AllWork pools
@@ -95,7 +97,9 @@ pub longest : (pools : List rounds.Share) (dues : List Due) (count : ℕ) → co
     → IsLongestFront pools (instances_of dues) count
 longest pools dues count lt fit stuck =
     let name = λ (d : Due). d.instance in
-    let more : fits pools (take (suc count) (instances_of dues)) ≡ false = ap (λ n. fits pools (take n (instances_of dues))) (sym (add-one count)) ∙ ap (fits pools) (take-map name (count + 1) dues) ∙ stuck in
+    let more : fits pools (take (suc count) (instances_of dues)) ≡ false =
+    ap (λ n. fits pools (take n (instances_of dues))) (sym (add-one count)) ∙ ap (fits pools) (take-map name (count + 1) dues)
+    ∙ stuck in
     record {
       within = omega (arith, lt, length-map dues (λ (d : Due). d.instance));
       fit = ap (fits pools) (take-map name count dues) ∙ fit;
@@ -109,7 +113,14 @@ abbrev pub asked_more : Inside → Inside
 asked_more s = record { dues = s.dues; asked = s.asked + 1; answered = s.answered; round = s.round; before = s.before; is_cut = s.is_cut }
 
 pub asked_on : (s : Inside) → shown (asked_more s) ≡ with_asked (shown s)
-asked_on s = λ i. record { to_ask = behind_next s.asked (take s.round s.dues.items) i; next = s.before + s.answered + 1; answers = s.round - s.answered; later = instances_of (drop s.round s.dues.items); is_cut = s.is_cut }
+asked_on s =
+    λ i. record {
+      to_ask = behind_next s.asked (take s.round s.dues.items) i;
+      next = s.before + s.answered + 1;
+      answers = s.round - s.answered;
+      later = instances_of (drop s.round s.dues.items);
+      is_cut = s.is_cut;
+    }
 
 -- all requests are made where none is left
 pub none_to_ask : (s : Inside) (a : Agenda) → IsSoundAgenda s → shown s ≡ a → a.to_ask ≡ []
@@ -123,15 +134,19 @@ some_to_answer s a is some = let e = ap (λ (x : Agenda). x.answers) is in omega
 pub next_round : (pools : List rounds.Share) (s : Inside) (count : ℕ) → IsSoundAgenda s
     → s.answered + 1 ≡ s.round → s.asked ≡ s.round
     → IsLongestFront pools (instances_of (drop s.round s.dues.items)) count
-    → Starts pools (instances_of (drop s.round s.dues.items)) (s.before + s.answered + 1 + 1) s.is_cut (shown (record { dues = s.dues; asked = s.asked; answered = s.answered + 1; round = s.round + count; before = s.before; is_cut = s.is_cut }))
+    → Starts pools (instances_of (drop s.round s.dues.items)) (s.before + s.answered + 1 + 1) s.is_cut
+    (shown (record
+    { dues = s.dues; asked = s.asked; answered = s.answered + 1; round = s.round + count; before = s.before; is_cut = s.is_cut }))
 next_round pools s count sound last asked front =
     let dues = s.dues.items in
     let list = instances_of (drop s.round dues) in
     let name = λ (d : Due). d.instance in
     let long : length (take count list) ≡ count = length-take-le count list front.within in
     let to_ask : instances_of (drop s.asked (take (s.round + count) dues)) ≡ take count list =
-    ap (λ n. instances_of (drop n (take (s.round + count) dues))) asked ∙ ap instances_of (drop-take s.round count dues) ∙ sym (take-map name count (drop s.round dues)) in
-    let later : instances_of (drop (s.round + count) dues) ≡ drop count list = ap instances_of (sym (drop_more s.round count dues)) ∙ sym (drop-map name count (drop s.round dues)) in
+    ap (λ n. instances_of (drop n (take (s.round + count) dues))) asked ∙ ap instances_of (drop-take s.round count dues)
+    ∙ sym (take-map name count (drop s.round dues)) in
+    let later : instances_of (drop (s.round + count) dues) ≡ drop count list =
+    ap instances_of (sym (drop_more s.round count dues)) ∙ sym (drop-map name count (drop s.round dues)) in
     let next : s.before + (s.answered + 1) + 1 ≡ s.before + s.answered + 1 + 1 = omega arith in
     let answers : s.round + count - (s.answered + 1) ≡ length (take count list) = omega (arith, last, long) in
     record {
@@ -159,7 +174,8 @@ first_round pools s list is none first front =
     let dues = s.dues.items in
     let name = λ (d : Due). d.instance in
     let long : length (take s.round (instances_of dues)) ≡ s.round = length-take-le s.round (instances_of dues) front.within in
-    let to_ask : instances_of (drop s.asked (take s.round dues)) ≡ take s.round (instances_of dues) = ap (λ n. instances_of (drop n (take s.round dues))) none ∙ sym (take-map name s.round dues) in
+    let to_ask : instances_of (drop s.asked (take s.round dues)) ≡ take s.round (instances_of dues) =
+    ap (λ n. instances_of (drop n (take s.round dues))) none ∙ sym (take-map name s.round dues) in
     let later : instances_of (drop s.round dues) ≡ drop s.round (instances_of dues) = sym (drop-map name s.round dues) in
     let next : s.before + s.answered + 1 ≡ s.before + 1 = omega (arith, first) in
     let answers : s.round - s.answered ≡ length (take s.round (instances_of dues)) = omega (arith, first, long) in

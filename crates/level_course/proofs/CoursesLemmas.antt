@@ -10,7 +10,7 @@ use Rattle.transcript_model.specs.Rounds.{Limits, calls_left, requests}
 use Rattle.transcript_model.specs.Transcript.{known_of, notes_of}
 use Rattle.transcript_model.specs.Turns.{is_cut}
 use Rattle.transcript_model.specs.declared.entry.Entry.{Entry}
-use Rattle.level_course.proofs.PoolsLemmas.{one_front}
+use Rattle.transcript_model.proofs.RoundsFrontLemmas.{one_front}
 use Rattle.level_course.specs.Courses.{Course, Opens, IsBehind, IsCourseStep, Leads, with_asks}
 
 -- ---- what is due
@@ -22,9 +22,16 @@ module _ (limits : Limits) (task : Task) (before : List Entry) where
       → cut ≡ also
       → Opens limits task before list cut c → Opens limits task before again also d → c ≡ d
   opens_once list again cut also c d lists cuts first second =
-      let one = one_front limits.pools first.round first.rest second.round second.rest (sym first.parts ∙ lists ∙ second.parts) first.fit second.fit first.full second.full in
+      let one = one_front limits.pools first.round first.rest second.round second.rest
+      (sym first.parts ∙ lists ∙ second.parts) first.fit second.fit first.full second.full in
       first.is
-      ∙ (λ k. record { asks = requests task before (one.0 k); next = asks_of before + 1; answers = length (one.0 k); later = one.1 k; is_cut = cuts k })
+      ∙ (λ k. record {
+        asks = requests task before (one.0 k);
+        next = asks_of before + 1;
+        answers = length (one.0 k);
+        later = one.1 k;
+        is_cut = cuts k;
+      })
       ∙ sym second.is
 
 pub nothing_left : (e : Entry) (es : List Entry) → [] ≡ e ∷ es → ⊥
@@ -43,7 +50,8 @@ module _ (limits : Limits) (task : Task) (before : List Entry) (c : Course) (e :
   step_once : IsCourseStep limits task before c e d → IsCourseStep limits task before c e f → d ≡ f
   step_once (inl a) (inl b) =
       let lists = due_once task (known_of task before) (notes_of task before) a.may.list b.may.list a.may.due b.may.due in
-      opens_once limits task (before ++ e ∷ []) (take (calls_left limits before) a.may.list) (take (calls_left limits before) b.may.list) (is_cut limits before a.may.list) (is_cut limits before b.may.list) d f
+      opens_once limits task (before ++ e ∷ []) (take (calls_left limits before) a.may.list)
+      (take (calls_left limits before) b.may.list) (is_cut limits before a.may.list) (is_cut limits before b.may.list) d f
       (ap (take (calls_left limits before)) lists) (ap (λ (is : List Instance). is_cut limits before is) lists) a.opens b.opens
   step_once (inl a) (inr (inl b)) = absurd (omega (arith, a.resting, b.more))
   step_once (inl a) (inr (inr b)) = absurd (zero_suc b.left (sym a.resting ∙ b.answers))
@@ -71,7 +79,12 @@ pub leads_then : (limits : Limits) (task : Task) (c : Course) (before first rest
     → Leads limits task c before first d → Leads limits task d (before ++ first) rest f → Leads limits task c before (first ++ rest) f
 leads_then limits task c before [] rest d f here there =
     subst (λ x. Leads limits task x before rest f) (sym here) (subst (λ es. Leads limits task d es rest f) (append-nil before) there)
-leads_then limits task c before (e ∷ es) rest d f (m, step, more) there = (m, step, leads_then limits task m (before ++ e ∷ []) es rest d f more (subst (λ xs. Leads limits task d xs rest f) (sym (append_assoc before (e ∷ []) es)) there))
+leads_then limits task c before (e ∷ es) rest d f (m, step, more) there = (
+  m,
+  step,
+  leads_then limits task m (before ++ e ∷ []) es rest d f more
+      (subst (λ xs. Leads limits task d xs rest f) (sym (append_assoc before (e ∷ []) es)) there),
+)
 
 pub leads_apart : (limits : Limits) (task : Task) (c : Course) (before first rest : List Entry) (f : Course)
     → Leads limits task c before (first ++ rest) f

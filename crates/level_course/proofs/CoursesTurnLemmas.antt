@@ -9,8 +9,8 @@ use Rattle.transcript_model.specs.Rounds.{Limits, Share, AreAnswers, AreRounds, 
 use Rattle.transcript_model.specs.Turns.{AreTurns, IncrementalTurn, IsLevel, Stage, between, after_cut, inside, cut_off, is_cut, none_left, stopped, whole}
 use Rattle.transcript_model.specs.declared.entry.Entry.{Entry}
 use Rattle.transcript_model.specs.declared.entry.Entry.TheVariants as entry
-use Rattle.level_course.proofs.CoursesStepLemmas.{same_asks}
-use Rattle.level_course.proofs.PoolsLemmas.{cuts}
+use Rattle.transcript_model.proofs.LegalNumberLemmas.{asks_marked}
+use Rattle.transcript_model.proofs.RoundsFrontLemmas.{cuts}
 use Rattle.level_course.specs.Courses.{Course, Opens, IsBehind, BeginsLevel, Leads, with_asks}
 use Rattle.level_course.specs.Laws.{IsAt}
 
@@ -52,7 +52,9 @@ opened_run limits task before es list cut c o f = by o.round refl
     by : (round : List Instance) → o.round ≡ round
         → (rounds : List (List Instance)) × AreRounds limits.pools list rounds × AreRoundsRun task before rounds es
     by [] e =
-        let over : f.answers ≡ [] = none_there (asks_of before + 1) f.answers (subst (λ (is : List Instance). AreAnswers (asks_of before + 1) (length is) f.answers) e answers_right) in
+        let over : f.answers ≡ [] =
+        none_there (asks_of before + 1) f.answers
+        (subst (λ (is : List Instance). AreAnswers (asks_of before + 1) (length is) f.answers) e answers_right) in
         let asks : c.asks ≡ [] = round_is ∙ ap (requests task before) e in
         let front : before ++ (c.asks ++ f.answers) ≡ before = (λ i. before ++ (asks i ++ over i)) ∙ append-nil before in
         let all : es ≡ f.later = f.is ∙ (λ i. asks i ++ (over i ++ f.later)) in
@@ -64,7 +66,8 @@ opened_run limits task before es list cut c o f = by o.round refl
     by (i ∷ is) e =
         let some : 0 < length o.round = omega (arith, ap length e) in
         let now = requests task before o.round ++ f.answers in
-        let all : es ≡ now ++ f.later = f.is ∙ ap (λ xs. xs ++ (f.answers ++ f.later)) round_is ∙ sym (append_assoc (requests task before o.round) f.answers f.later) in
+        let all : es ≡ now ++ f.later =
+        f.is ∙ ap (λ xs. xs ++ (f.answers ++ f.later)) round_is ∙ sym (append_assoc (requests task before o.round) f.answers f.later) in
         let front : before ++ (c.asks ++ f.answers) ≡ before ++ now = ap (λ xs. before ++ (xs ++ f.answers)) round_is in (
           o.round ∷ f.rounds,
           (o.rest, o.parts, some, o.fit, o.full, subst (λ is. AreRounds limits.pools is f.rounds) later_is f.cut),
@@ -111,8 +114,18 @@ finishing : (limits : Limits) (task : Task) (c : Course) (before : List Entry)
 finishing limits task c before workers =
     let answers = ends c.next c.answers in
     let rounds = cuts limits.pools (length c.later) c.later (omega arith) workers in
-    let later = runs task rounds.0 (before ++ (c.asks ++ answers)) in
-    (c.asks ++ (answers ++ later.0), record { answers = answers; later = later.0; is = refl; right = ends_answer c.next c.answers; rounds = rounds.0; cut = rounds.1; run = later.1 })
+    let later = runs task rounds.0 (before ++ (c.asks ++ answers)) in (
+      c.asks ++ (answers ++ later.0),
+      record {
+        answers = answers;
+        later = later.0;
+        is = refl;
+        right = ends_answer c.next c.answers;
+        rounds = rounds.0;
+        cut = rounds.1;
+        run = later.1;
+      },
+    )
 
 -- ---- one entry more in front
 
@@ -135,7 +148,8 @@ finish_ask : (limits : Limits) (task : Task) (c : Course) (before es : List Entr
     → c.asks ≡ e ∷ rest
     → Finishes limits task (with_asks c rest) (before ++ e ∷ []) es → Finishes limits task c before (e ∷ es)
 finish_ask limits task c before es e rest asks f =
-    let front : (before ++ e ∷ []) ++ (rest ++ f.answers) ≡ before ++ (c.asks ++ f.answers) = append_assoc before (e ∷ []) (rest ++ f.answers) ∙ ap (λ xs. before ++ (xs ++ f.answers)) (sym asks) in
+    let front : (before ++ e ∷ []) ++ (rest ++ f.answers) ≡ before ++ (c.asks ++ f.answers) =
+    append_assoc before (e ∷ []) (rest ++ f.answers) ∙ ap (λ xs. before ++ (xs ++ f.answers)) (sym asks) in
     record {
       answers = f.answers;
       later = f.later;
@@ -149,10 +163,12 @@ finish_ask limits task c before es e rest asks f =
 finish_answer : (limits : Limits) (task : Task) (c : Course) (before es : List Entry) (e : Entry) (n : ℕ)
     → c.asks ≡ []
     → c.answers ≡ suc (suc n) → is_answer_to c.next e ≡ true
-    → Finishes limits task (record { asks = []; next = c.next + 1; answers = suc n; later = c.later; is_cut = c.is_cut }) (before ++ e ∷ []) es
+    → Finishes limits task (record { asks = []; next = c.next + 1; answers = suc n; later = c.later; is_cut = c.is_cut })
+    (before ++ e ∷ []) es
     → Finishes limits task c before (e ∷ es)
 finish_answer limits task c before es e n asked count to f =
-    let front : (before ++ e ∷ []) ++ ([] ++ f.answers) ≡ before ++ (c.asks ++ e ∷ f.answers) = append_assoc before (e ∷ []) f.answers ∙ ap (λ xs. before ++ (xs ++ e ∷ f.answers)) (sym asked) in
+    let front : (before ++ e ∷ []) ++ ([] ++ f.answers) ≡ before ++ (c.asks ++ e ∷ f.answers) =
+    append_assoc before (e ∷ []) f.answers ∙ ap (λ xs. before ++ (xs ++ e ∷ f.answers)) (sym asked) in
     record {
       answers = e ∷ f.answers;
       later = f.later;
@@ -194,7 +210,9 @@ walk_on : (limits : Limits) (task : Task) (c m d : Course) (before es : List Ent
     → m.is_cut ≡ c.is_cut
     → ((xs : List Entry) → Finishes limits task m (before ++ e ∷ []) xs → Finishes limits task c before (e ∷ xs))
     → Walks limits task m (before ++ e ∷ []) es d → Walks limits task c before (e ∷ es) d
-walk_on limits task c m d before es e cut longer (done now rest n is finishes none same tidy leads) = done (e ∷ now) rest n (ap (λ xs. e ∷ xs) is) (longer now finishes) none (same ∙ cut) tidy (subst (λ xs. Leads limits task n xs rest d) (append_assoc before (e ∷ []) now) leads)
+walk_on limits task c m d before es e cut longer (done now rest n is finishes none same tidy leads) =
+    done (e ∷ now) rest n (ap (λ xs. e ∷ xs) is) (longer now finishes) none
+    (same ∙ cut) tidy (subst (λ xs. Leads limits task n xs rest d) (append_assoc before (e ∷ []) now) leads)
 walk_on limits task c m d before es e cut longer (within more finishes some) =
     within more (longer (es ++ more) finishes) some
 
@@ -204,7 +222,9 @@ some_tidy c n count none = absurd (omega (arith, count, none))
 pub walk : (limits : Limits) (task : Task) (c : Course) (before es : List Entry) (d : Course) (n : ℕ)
     → c.answers ≡ n → IsTidy c
     → All (λ (p : Share). 1 ≤ p.workers) limits.pools → Leads limits task c before es d → Walks limits task c before es d
-walk limits task c before es d zero none tidy workers leads = done [] es c refl (finish_none limits task c before tidy none) none refl tidy (subst (λ xs. Leads limits task c xs es d) (sym (append-nil before)) leads)
+walk limits task c before es d zero none tidy workers leads =
+    done [] es c refl (finish_none limits task c before tidy none) none refl tidy
+    (subst (λ xs. Leads limits task c xs es d) (sym (append-nil before)) leads)
 walk limits task c before [] d (suc n) count tidy workers leads =
     let f = finishing limits task c before workers in
     within f.0 f.1 (omega (arith, count, ap (λ (x : Course). x.answers) leads))
@@ -227,7 +247,8 @@ walk limits task c before (e ∷ es) d (suc n) count tidy workers (m, inr (inr a
     answered (suc k) left_is behind rest =
         let after : m.answers ≡ suc k = ap (λ (x : Course). x.answers) behind in
         walk_on limits task c m d before es e (ap (λ (x : Course). x.is_cut) behind)
-        (λ xs f. finish_answer limits task c before xs e k a.asked left_is a.to (subst (λ x. Finishes limits task x (before ++ e ∷ []) xs) behind f))
+        (λ xs f. finish_answer limits task c before xs e k a.asked left_is a.to
+        (subst (λ x. Finishes limits task x (before ++ e ∷ []) xs) behind f))
         (rest (suc k) after (some_tidy m k after))
 
 -- ---- turns
@@ -242,8 +263,10 @@ pub record Turned (limits : Limits) (task : Task) (before es : List Entry) (d : 
 level_of : (limits : Limits) (task : Task) (c m : Course) (before es : List Entry) (e : Entry) (b : BeginsLevel limits task before c e m)
     → Finishes limits task m (before ++ e ∷ []) es → IsLevel limits task before (e ∷ es) (is_cut limits before b.may.list)
 level_of limits task c m before es e b f =
-    let run = opened_run limits task (before ++ e ∷ []) es (take (calls_left limits before) b.may.list) (is_cut limits before b.may.list) m b.opens f in
-    let taken : take (calls_left limits before) b.may.list ≡ take (calls_left limits (before ++ entry.Level ∷ [])) b.may.list = ap (λ n. take (limits.calls - n) b.may.list) (sym (same_asks before)) in
+    let run = opened_run limits task (before ++ e ∷ []) es (take (calls_left limits before) b.may.list)
+    (is_cut limits before b.may.list) m b.opens f in
+    let taken : take (calls_left limits before) b.may.list ≡ take (calls_left limits (before ++ entry.Level ∷ [])) b.may.list =
+    ap (λ n. take (limits.calls - n) b.may.list) (sym (asks_marked before entry.Level refl)) in
     record {
       list = b.may.list;
       due = b.may.due;
@@ -280,7 +303,11 @@ turn_first : (limits : Limits) (task : Task) (n : ℕ) (c m d : Course) (before 
     → length es ≤ n → (b : BeginsLevel limits task before c e m) → Walks limits task m (before ++ e ∷ []) es d
     → Turned limits task before (e ∷ es) d
 turn_first limits task n c m d before es e shorter few b (within more finishes some) =
-    record { stage = inside; at = some; turns = stopped tt more (is_cut limits before b.may.list) b.may (level_of limits task c m before (es ++ more) e b finishes) }
+    record {
+      stage = inside;
+      at = some;
+      turns = stopped tt more (is_cut limits before b.may.list) b.may (level_of limits task c m before (es ++ more) e b finishes);
+    }
 turn_first limits task n c m d before es e shorter few b (done now rest k is finishes none cut tidy leads) =
     by (is_cut limits before b.may.list) refl
   where
@@ -296,11 +323,13 @@ turn_first limits task n c m d before es e shorter few b (done now rest k is fin
     by : (b_cut : Bool) → is_cut limits before b.may.list ≡ b_cut
         → Turned limits task before (e ∷ es) d
     by false uncut =
-        let t = shorter (before ++ e ∷ now) rest k d (omega (arith, few, ap length is, length-append now rest)) none (cut_is ∙ uncut) tidy later in
+        let t = shorter (before ++ e ∷ now) rest k d (omega (arith, few, ap length is, length-append now rest)) none
+        (cut_is ∙ uncut) tidy later in
         record {
           stage = t.stage;
           at = t.at;
-          turns = subst (λ xs. AreTurns limits task (IncrementalTurn limits task) tt before (e ∷ xs) t.stage) (sym is) (whole tt b.may (subst (IsLevel limits task before (e ∷ now)) uncut level) t.turns);
+          turns = subst (λ xs. AreTurns limits task (IncrementalTurn limits task) tt before (e ∷ xs) t.stage)
+              (sym is) (whole tt b.may (subst (IsLevel limits task before (e ∷ now)) uncut level) t.turns);
         }
     by true spent =
         let over = nothing_more limits task k d (before ++ e ∷ now) rest none (cut_is ∙ spent) later in
@@ -308,16 +337,24 @@ turn_first limits task n c m d before es e shorter few b (done now rest k is fin
         record {
           stage = after_cut;
           at = (ap (λ (x : Course). x.answers) (sym over.1) ∙ none, ap (λ (x : Course). x.is_cut) (sym over.1) ∙ cut_is ∙ spent);
-          turns = subst (λ xs. AreTurns limits task (IncrementalTurn limits task) tt before xs after_cut) (sym all) (cut_off tt b.may (subst (IsLevel limits task before (e ∷ now)) spent level));
+          turns = subst (λ xs. AreTurns limits task (IncrementalTurn limits task) tt before xs after_cut)
+              (sym all) (cut_off tt b.may (subst (IsLevel limits task before (e ∷ now)) spent level));
         }
 
 pub turned : (limits : Limits) (task : Task) (n : ℕ)
     → All (λ (p : Share). 1 ≤ p.workers) limits.pools → Shorter limits task n
-turned limits task n workers before [] c d few none uncut tidy leads = record { stage = between; at = (ap (λ (x : Course). x.answers) (sym leads) ∙ none, ap (λ (x : Course). x.is_cut) (sym leads) ∙ uncut); turns = none_left }
+turned limits task n workers before [] c d few none uncut tidy leads = record {
+  stage = between;
+  at = (ap (λ (x : Course). x.answers) (sym leads) ∙ none, ap (λ (x : Course). x.is_cut) (sym leads) ∙ uncut);
+  turns = none_left;
+}
 turned limits task zero workers before (e ∷ es) c d few none uncut tidy leads =
     absurd (omega (arith, few))
 turned limits task (suc n) workers before (e ∷ es) c d few none uncut tidy (m, inl b, more) =
-    turn_first limits task n c m d before es e (turned limits task n workers) (omega (arith, few)) b (walk limits task m (before ++ e ∷ []) es d m.answers refl (opened_tidy limits task (before ++ e ∷ []) (take (calls_left limits before) b.may.list) (is_cut limits before b.may.list) m b.opens) workers more)
+    turn_first limits task n c m d before es e (turned limits task n workers) (omega (arith, few)) b
+    (walk limits task m (before ++ e ∷ []) es d m.answers refl
+    (opened_tidy limits task (before ++ e ∷ []) (take (calls_left limits before) b.may.list)
+    (is_cut limits before b.may.list) m b.opens) workers more)
 turned limits task (suc n) workers before (e ∷ es) c d few none uncut tidy (m, inr (inl r), more) =
     absurd (omega (arith, none, r.more))
 turned limits task (suc n) workers before (e ∷ es) c d few none uncut tidy (m, inr (inr a), more) =

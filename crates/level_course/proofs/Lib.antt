@@ -1,4 +1,3 @@
-pub mod PoolsLemmas
 pub mod CoursesLemmas
 pub mod CoursesStepLemmas
 pub mod CoursesTurnLemmas

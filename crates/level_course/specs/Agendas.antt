@@ -6,12 +6,13 @@ use Rattle.task_model.specs.declared.task.Task.{Task}
 use Rattle.transcript_model.specs.Legal.{asks_of}
 use Rattle.transcript_model.specs.Rounds.{Share, IsFull, fits, requests_from}
 use Rattle.transcript_model.specs.declared.entry.Entry.{Entry}
+use Rattle.transcript_model.specs.declared.limits.TheConstants.{MOST_CALLS}
 use Rattle.level_course.specs.Courses.{Course as Place}
 use Rattle.level_course.specs.Pools.{AllWork}
 use Rattle.level_course.specs.declared.course.Course.TheInside.{Inside}
 
--- The instances of the open round that are still to be asked; the number of the request that is answered next, and how many
--- answers the round wants; the instances of later rounds; and whether calls were wanting for all that was due.
+-- The instances of the open round that are still to be asked; the number of the request that is answered next, and how
+-- many answers the round wants; the instances of later rounds; and whether calls were wanting for all that was due.
 pub record Agenda : Type 0 where
   pub to_ask : List Instance
   pub next : ℕ
@@ -44,7 +45,13 @@ pub record Starts (pools : List Share) (list : List Instance) (number : ℕ) (cu
 
 -- where a transcript stands behind which this is to be done
 abbrev pub place_in : Task → List Entry → Agenda → Place
-place_in task entries a = record { asks = requests_from task entries (asks_of entries + 1) a.to_ask; next = a.next; answers = a.answers; later = a.later; is_cut = a.is_cut }
+place_in task entries a = record {
+  asks = requests_from task entries (asks_of entries + 1) a.to_ask;
+  next = a.next;
+  answers = a.answers;
+  later = a.later;
+  is_cut = a.is_cut;
+}
 
 -- ---- the code's fields
 
@@ -62,4 +69,4 @@ pub record IsSoundAgenda (c : Inside) : Type 0 where
   pub asked : c.asked ≤ c.round
   pub answered : c.answered ≤ c.round
   pub round : c.round ≤ length c.dues.items
-  pub few : c.before + length c.dues.items ≤ 100000
+  pub few : c.before + length c.dues.items ≤ MOST_CALLS

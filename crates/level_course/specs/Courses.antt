@@ -1,5 +1,5 @@
--- Where in a level a transcript of incremental mode stands, and what may come next. A report is judged by whole turns; this says
--- the same entry by entry.
+-- Where in a level a transcript of incremental mode stands, and what may come next. A report is judged by whole turns;
+-- this says the same entry by entry.
 use Rattle.std.specs.Prelude.{◌≡◌, ◌⊎◌, ℕ, zero, suc, ◌+◌, ◌<◌, List, [], ◌∷◌, ◌++◌, length, take, Bool, true, false}
 use Rattle.task_model.specs.declared.stream.Instance.{Instance}
 use Rattle.task_model.specs.declared.task.Task.{Task}
@@ -9,8 +9,8 @@ use Rattle.transcript_model.specs.Turns.{MayBegin, is_cut}
 use Rattle.transcript_model.specs.declared.entry.Entry.{Entry}
 use Rattle.transcript_model.specs.declared.entry.Entry.TheVariants as entry
 
--- The requests of the open round that are still to come; the number of the request that is answered next, and how many of the
--- round have no answer; the instances of later rounds; and whether calls were wanting for all that was due.
+-- The requests of the open round that are still to come; the number of the request that is answered next, and how many
+-- of the round have no answer; the instances of later rounds; and whether calls were wanting for all that was due.
 pub record Course : Type 0 where
   pub asks : List Entry
   pub next : ℕ
@@ -36,7 +36,14 @@ module _ (limits : Limits) (task : Task) (before : List Entry) where
     pub fit : fits limits.pools round ≡ true
     pub full : IsFull limits.pools round rest
     pub some : 0 < length list → 0 < length round
-    pub is : after ≡ record { asks = requests task before round; next = asks_of before + 1; answers = length round; later = rest; is_cut = cut }
+    pub is : after
+        ≡ record {
+          asks = requests task before round;
+          next = asks_of before + 1;
+          answers = length round;
+          later = rest;
+          is_cut = cut;
+        }
 
 -- behind the next answer, if so many are left, or else the next round begins
 abbrev pub IsBehind : Limits → Task → List Entry → Course → ℕ → Course → Type 0
@@ -45,12 +52,14 @@ IsBehind limits task before c (suc left) after =
     after ≡ record { asks = []; next = c.next + 1; answers = suc left; later = c.later; is_cut = c.is_cut }
 
 -- nothing is open, and a level begins
-pub record BeginsLevel (limits : Limits) (task : Task) (before : List Entry) (c : Course) (e : Entry) (after : Course) : Type 0 where
+pub record BeginsLevel (limits : Limits) (task : Task) (before : List Entry) (c : Course) (e : Entry)
+    (after : Course) : Type 0 where
   pub resting : c.answers ≡ 0
   pub uncut : c.is_cut ≡ false
   pub is : e ≡ entry.Level
   pub may : MayBegin limits task before
-  pub opens : Opens limits task (before ++ e ∷ []) (take (calls_left limits before) may.list) (is_cut limits before may.list) after
+  pub opens : Opens limits task (before ++ e ∷ [])
+      (take (calls_left limits before) may.list) (is_cut limits before may.list) after
 
 -- the next request of the round is made
 pub record MakesRequest (c : Course) (e : Entry) (after : Course) : Type 0 where
@@ -60,7 +69,8 @@ pub record MakesRequest (c : Course) (e : Entry) (after : Course) : Type 0 where
   pub is : after ≡ with_asks c rest
 
 -- all requests of the round are made, and the next of them is answered
-pub record GivesAnswer (limits : Limits) (task : Task) (before : List Entry) (c : Course) (e : Entry) (after : Course) : Type 0 where
+pub record GivesAnswer (limits : Limits) (task : Task) (before : List Entry) (c : Course) (e : Entry)
+    (after : Course) : Type 0 where
   pub asked : c.asks ≡ []
   pub left : ℕ
   pub answers : c.answers ≡ suc left

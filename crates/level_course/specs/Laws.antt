@@ -19,12 +19,16 @@ IsAt c inside = 0 < c.answers
 -- Entries that lead somewhere are turns of incremental mode, the last of which stops there.
 abbrev pub CoursesAreTurns : Type 0
 CoursesAreTurns =
-    (limits : Limits) (task : Task) (entries : List Entry) (c : Course) → All (λ (p : Share). 1 ≤ p.workers) limits.pools → Leads limits task at_first [] entries c → (stage : Stage) × IsAt c stage × AreIncremental limits task entries stage
+    (limits : Limits) (task : Task) (entries : List Entry) (c : Course)
+    → All (λ (p : Share). 1 ≤ p.workers) limits.pools → Leads limits task at_first [] entries c
+    → (stage : Stage) × IsAt c stage × AreIncremental limits task entries stage
 
--- Turns of incremental mode lead somewhere; whole ones lead between levels, and behind a batch that was cut they lead there.
+-- Turns of incremental mode lead somewhere; whole ones lead between levels, and behind a batch that was cut they lead
+-- there.
 abbrev pub TurnsAreCourses : Type 0
 TurnsAreCourses =
-    (limits : Limits) (task : Task) (entries : List Entry) (stage : Stage) → AreIncremental limits task entries stage → (c : Course) × Leads limits task at_first [] entries c × (¬ (stage ≡ inside) → IsAt c stage)
+    (limits : Limits) (task : Task) (entries : List Entry) (stage : Stage) → AreIncremental limits task entries stage
+    → (c : Course) × Leads limits task at_first [] entries c × (¬ (stage ≡ inside) → IsAt c stage)
 
 -- The same entries lead to one place.
 abbrev pub CoursesAreOne : Type 0

@@ -1,4 +1,6 @@
 //! Where in a level a transcript stands.
+ghost use Rattle.transcript_model.specs.declared.limits.TheConstants.{MOST_CALLS};
+
 use crate::shares::{Share, longest_front};
 use instance_queue::Due;
 use std::alloc::Global;
@@ -83,7 +85,7 @@ impl Course {
     /// Begins a level over all that is due, after so many requests of so many.
     pub fn begin(&mut self, shares: &[Share], mut dues: Vec<Due>, before: u32, calls: u32)
         requires left { before ≤ calls }
-        requires few { calls ≤ 100000 }
+        requires few { calls ≤ MOST_CALLS }
         ensures { Starts (shares_of shares.now) (take (calls - before) (instances_of dues.items))
             (before + 1) (nat_lt (calls - before) (length dues.items)) self.new }
     {

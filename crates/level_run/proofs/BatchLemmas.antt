@@ -32,7 +32,8 @@ pub batch_none : (head : Head) (task : Task) (before : List Entry) (list : List 
     → take (rounds.calls_left (limits_of head) before) list ≡ [] → IsBatch (limits_of head) task before list []
 batch_none head task before list e = record { rounds = []; cut = e; run = refl }
 
-module _ (head : Head) (task : Task) (s : State) (dues : List Due) (count : ℕ) (of : IsOf head s) (h : IsSession task s) (n : IsNextRound s dues count) where
+module _ (head : Head) (task : Task) (s : State) (dues : List Due) (count : ℕ) (of : IsOf head s)
+    (h : IsSession task s) (n : IsNextRound s dues count) where
   abbrev left : ℕ
   left = head.calls - asks_of s.entries
 
@@ -65,7 +66,9 @@ module _ (head : Head) (task : Task) (s : State) (dues : List Due) (count : ℕ)
       list_is,
       omega (arith, some, n.within, length-map (take count dues) (λ (d : Due). d.instance), length-take count dues),
       subst (λ ps. fits ps (instances_of (take count dues)) ≡ true) (pools_same head s of) n.fit,
-      subst (IsFull (map share_of head.pools) (instances_of (take count dues))) rest_is (subst (λ ps. IsFull ps (instances_of (take count dues)) (instances_of (drop count (take (calls_left s) dues)))) (pools_same head s of) n.full),
+      subst (IsFull (map share_of head.pools) (instances_of (take count dues))) rest_is
+          (subst (λ ps. IsFull ps (instances_of (take count dues)) (instances_of (drop count (take (calls_left s) dues))))
+          (pools_same head s of) n.full),
       subst (λ m. AreRounds (map share_of head.pools) (take m (instances_of (drop count dues))) b.rounds) left_after b.cut,
     );
     run = (now, rest, refl, round, b.run);
@@ -75,7 +78,8 @@ module _ (head : Head) (task : Task) (s : State) (dues : List Due) (count : ℕ)
       left_after = ap (λ m. head.calls - m) counted ∙ less head.calls (asks_of s.entries) count
 
 -- The batch so far: with whatever makes a batch of what is left it makes one of the whole list.
-pub record SoFar (head : Head) (task : Task) (first : List Entry) (list : List Instance) (now : List Entry) (left : List Instance) : Type 0 where
+pub record SoFar (head : Head) (task : Task) (first : List Entry) (list : List Instance) (now : List Entry)
+    (left : List Instance) : Type 0 where
   pub more : List Entry
   pub pushed : now ≡ first ++ more
   pub with_rest : (tail : List Entry) → IsBatch (limits_of head) task now left tail
@@ -86,20 +90,30 @@ pub so_far_none : (head : Head) (task : Task) (first : List Entry) (list : List 
 so_far_none head task first list =
     record { more = []; pushed = sym (append-nil first); with_rest = λ tail b. b }
 
-pub so_far_step : (head : Head) (task : Task) (first : List Entry) (list : List Instance) (s : State) (dues : List Due) (count : ℕ) (after : List Entry)
-    → IsOf head s → IsSession task s → IsNextRound s dues count → 0 < count → (round : (now : List Entry) × (after ≡ s.entries ++ now) × IsRound task s.entries (instances_of (take count dues)) now) → asks_of after ≡ asks_of s.entries + count → SoFar head task first list s.entries (instances_of dues) → SoFar head task first list after (instances_of (drop count dues))
+pub so_far_step : (head : Head) (task : Task) (first : List Entry) (list : List Instance) (s : State) (dues : List Due)
+    (count : ℕ) (after : List Entry)
+    → IsOf head s → IsSession task s → IsNextRound s dues count → 0 < count
+    → (round : (now : List Entry) × (after ≡ s.entries ++ now) × IsRound task s.entries (instances_of (take count dues)) now)
+    → asks_of after ≡ asks_of s.entries + count → SoFar head task first list s.entries (instances_of dues)
+    → SoFar head task first list after (instances_of (drop count dues))
 so_far_step head task first list s dues count after of h n some round counted so = record {
   more = so.more ++ round.0;
   pushed = round.1 ∙ ap (λ es. es ++ round.0) so.pushed ∙ append_assoc first so.more round.0;
   with_rest = λ tail b.
       subst (IsBatch (limits_of head) task first list) (sym (append_assoc so.more round.0 tail))
-      (so.with_rest (round.0 ++ tail) (batch_step head task s dues count of h n round.0 tail some round.2 (ap asks_of (sym round.1) ∙ counted) (subst (λ es. IsBatch (limits_of head) task es (instances_of (drop count dues)) tail) round.1 b)));
+      (so.with_rest (round.0 ++ tail) (batch_step head task s dues count of h n round.0 tail some round.2
+      (ap asks_of (sym round.1) ∙ counted)
+      (subst (λ es. IsBatch (limits_of head) task es (instances_of (drop count dues)) tail) round.1 b)));
 }
 
 pub so_far_end : (head : Head) (task : Task) (first : List Entry) (list : List Instance) (now : List Entry) (left : List Instance)
     → take (rounds.calls_left (limits_of head) now) left ≡ [] → SoFar head task first list now left
     → (more : List Entry) × (now ≡ first ++ more) × IsBatch (limits_of head) task first list more
-so_far_end head task first list now left none so = (so.more, so.pushed, subst (IsBatch (limits_of head) task first list) (append-nil so.more) (so.with_rest [] (batch_none head task now left none)))
+so_far_end head task first list now left none so = (
+  so.more,
+  so.pushed,
+  subst (IsBatch (limits_of head) task first list) (append-nil so.more) (so.with_rest [] (batch_none head task now left none)),
+)
 
 -- ---- where a batch ends
 

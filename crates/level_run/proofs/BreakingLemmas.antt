@@ -82,8 +82,15 @@ hears_none child kept fault log tells =
 pub hears_given : (child : ℕ) (kept bytes : List ℕ) (fault : RunFault) (old new : Option (List Event))
     → lines_of kept ≡ []
     → Tells ⊥ fault [] → LogsGiven child [] bytes old new → LogHears child kept fault old new
-hears_given child kept bytes fault old new none tells (events, gives, grows) =
-    (events, [], gives.each, λ k below. still_part kept (spelled child silence (take k events)).heard none (gives.early k below), inl refl, tells, subst (Extends old new) (sym (append-nil events)) grows)
+hears_given child kept bytes fault old new none tells (events, gives, grows) = (
+  events,
+  [],
+  gives.each,
+  λ k below. still_part kept (spelled child silence (take k events)).heard none (gives.early k below),
+  inl refl,
+  tells,
+  subst (Extends old new) (sym (append-nil events)) grows,
+)
 
 -- a read was refused
 pub hears_refused : (child : ℕ) (kept : List ℕ) (fault : RunFault) (old new : Option (List Event))
@@ -107,8 +114,21 @@ module _ (task : Task) (version : ℕ) (pools : List Workers) where
       → Tells (HasNoneOpen (before ++ more)) fault [] → LogFollows task pools before more old new
       → LogBreaks task version pools before fault old new more
   breaks_done before more fault old None tells follows = tt
-  breaks_done before more fault old (Some after) tells (past, events, was, came, follows) =
-      (past, events, was, came, record { done = events; calls = []; refused = []; cut = sym (append-nil events) ∙ sym (append-nil (events ++ [])); follows = follows; begun = inl (refl, refl); told = tells })
+  breaks_done before more fault old (Some after) tells (past, events, was, came, follows) = (
+    past,
+    events,
+    was,
+    came,
+    record {
+      done = events;
+      calls = [];
+      refused = [];
+      cut = sym (append-nil events) ∙ sym (append-nil (events ++ []));
+      follows = follows;
+      begun = inl (refl, refl);
+      told = tells;
+    },
+  )
 
   breaks_begun : (before : List Entry) (fault : RunFault) (old new : Option (List Event)) (calls refused : List Event)
       → Tells (HasNoneOpen before) fault refused → Extends old new (calls ++ refused)
@@ -126,7 +146,8 @@ module _ (task : Task) (version : ℕ) (pools : List Workers) where
       refused = refused;
       cut = refl;
       follows = refl;
-      begun = subst (λ p. IsBegun task version pools p (before ++ []) calls refused) (sym (append-nil past)) (subst (λ es. IsBegun task version pools past es calls refused) (sym (append-nil before)) (begun past was));
+      begun = subst (λ p. IsBegun task version pools p (before ++ []) calls refused) (sym (append-nil past))
+          (subst (λ es. IsBegun task version pools past es calls refused) (sym (append-nil before)) (begun past was));
       told = subst (λ es. Tells (HasNoneOpen es) fault refused) (sym (append-nil before)) tells;
     },
   )
@@ -142,25 +163,45 @@ module _ (task : Task) (version : ℕ) (pools : List Workers) where
       → (cause : HostFault) × IsHostFault cause fault × LogsTakenPart r.child (text_of_request r) cause old new
       → LogBreaks task version pools before fault old new []
   breaks_writing before e r fault old new legal next (cause, is, (events, n, takes, grows)) =
-      breaks_begun before fault old new events (wrote r.child (drop n (text_of_request r)) (Err cause) ∷ []) (tells_of (HasNoneOpen before) cause fault (wrote r.child (drop n (text_of_request r)) (Err cause)) is refl) grows
-      (λ past was. inr (inl (record { entry = e; legal = legal; request = r; next = next; count = n; taken = takes; last = inr (cause, refl) })))
+      breaks_begun before fault old new events (wrote r.child (drop n (text_of_request r)) (Err cause) ∷ [])
+      (tells_of (HasNoneOpen before) cause fault (wrote r.child (drop n (text_of_request r)) (Err cause)) is refl) grows
+      (λ past was. inr
+      (inl (record { entry = e; legal = legal; request = r; next = next; count = n; taken = takes; last = inr (cause, refl) })))
 
   -- ---- an answer that wasn't taken
 
-  module _ (before : List Entry) (r : Request) (next : slice_get (requests_of task pools before) (length (replies_of before)) ≡ Some r) (one : IsOneOf pools r.child) (kept : ℕ → List ℕ) (spoken : ℕ → Option Talk) (talks : Talks task version pools (requests_of task pools before) (replies_of before) kept spoken) (old new : Option (List Event)) (spells : Spells old r.child (spoken r.child)) where
+  module _ (before : List Entry) (r : Request) (next : slice_get (requests_of task pools before) (length (replies_of before)) ≡ Some r)
+      (one : IsOneOf pools r.child) (kept : ℕ → List ℕ) (spoken : ℕ → Option Talk)
+      (talks : Talks task version pools (requests_of task pools before) (replies_of before) kept spoken) (old new : Option (List Event))
+      (spells : Spells old r.child (spoken r.child)) where
     pub breaks_hearing : (fault : RunFault) → LogHears r.child (kept r.child) fault old new
         → LogBreaks task version pools before fault old new []
     breaks_hearing fault (events, refused, each, early, last, tells, grows) =
-        breaks_begun before fault old new events refused (tells_map ⊥ (HasNoneOpen before) fault refused (λ never. absurd never) tells) grows (λ past was.
+        breaks_begun before fault old new events refused
+        (tells_map ⊥ (HasNoneOpen before) fault refused (λ never. absurd never) tells) grows (λ past was.
         let talk = told_talk (spoken r.child) past (subst (λ o. Spells o r.child (spoken r.child)) was spells) (talks.each r.child one) in
         inr (inr (record {
           request = r;
           next = next;
-          reads = record { each = each; early = reads_early task version pools (requests_of task pools before) (replies_of before) r next (kept r.child) (kept r.child) past events talk each early };
-          last = elim last as (λ w. (refused ≡ []) ⊎ ((cause : HostFault) × (room : ℕ) × (refused ≡ heard r.child room (Err cause) ∷ []) × (Rattle.level_run.specs.Calls.lines_read r.child (past ++ events) ≤ Rattle.level_run.specs.Calls.answers_by task pools before r.child))) [
-            | inl none ↦ inl none
-            | inr x ↦ inr (x.0, x.1, x.2, reads_quiet task version pools (requests_of task pools before) (replies_of before) r next (kept r.child) (kept r.child) past events talk each x.3)
-          ];
+          reads = record {
+            each = each;
+            early = reads_early task version pools (requests_of task pools before) (replies_of before) r next
+                (kept r.child) (kept r.child) past events talk each early;
+          };
+          last = elim last as (λ w.
+              (refused ≡ [])
+              ⊎ ((cause : HostFault) × (room : ℕ) × (refused ≡ heard r.child room (Err cause) ∷ [])
+              × (Rattle.level_run.specs.Calls.lines_read r.child (past ++ events)
+              ≤ Rattle.level_run.specs.Calls.answers_by task pools before r.child))) [
+                | inl none ↦ inl none
+                | inr x ↦ inr (
+                  x.0,
+                  x.1,
+                  x.2,
+                  reads_quiet task version pools (requests_of task pools before) (replies_of before) r next
+                      (kept r.child) (kept r.child) past events talk each x.3,
+                )
+              ];
         })))
 
   -- ---- entries before
@@ -177,7 +218,8 @@ module _ (task : Task) (version : ℕ) (pools : List Workers) where
         ap (λ xs. es ++ xs) b.cut ∙ sym (append_assoc es (b.done ++ b.calls) b.refused)
         ∙ ap (λ xs. xs ++ b.refused) (sym (append_assoc es b.done b.calls));
     follows = follows_join task pools past a front more es b.done follows b.follows;
-    begun = subst (λ p. IsBegun task version pools p (a ++ (front ++ more)) b.calls b.refused) (append_assoc past es b.done) (subst (λ xs. IsBegun task version pools ((past ++ es) ++ b.done) xs b.calls b.refused) (append_assoc a front more) b.begun);
+    begun = subst (λ p. IsBegun task version pools p (a ++ (front ++ more)) b.calls b.refused) (append_assoc past es b.done)
+        (subst (λ xs. IsBegun task version pools ((past ++ es) ++ b.done) xs b.calls b.refused) (append_assoc a front more) b.begun);
     told = subst (λ es. Tells (HasNoneOpen es) fault b.refused) (append_assoc a front more) b.told;
   }
 
@@ -185,7 +227,9 @@ module _ (task : Task) (version : ℕ) (pools : List Workers) where
       → (calls : Calls task pools a b old mid)
       → (front : List Entry) → b ≡ a ++ front → (more : List Entry) → LogBreaks task version pools b fault mid new more
       → LogBreaks task version pools a fault old new (front ++ more)
-  breaks_then a b fault old mid new calls front is more broken = by mid new (subst (λ es. LogFollows task pools a es old mid) same calls.log) (subst (λ es. LogBreaks task version pools es fault mid new more) is broken)
+  breaks_then a b fault old mid new calls front is more broken =
+      by mid new (subst (λ es. LogFollows task pools a es old mid) same calls.log)
+      (subst (λ es. LogBreaks task version pools es fault mid new more) is broken)
     where
       same : calls.more ≡ front
       same = append_cancel_left a calls.more front (sym calls.pushed ∙ is)
@@ -201,5 +245,6 @@ module _ (task : Task) (version : ℕ) (pools : List Workers) where
             es ++ events,
             was,
             grown ∙ ap (λ xs. xs ++ events) here ∙ append_assoc past es events,
-            breaks_join past a front more es events fault follows (subst (λ p. Breaks task version pools p (a ++ front) more fault events) here x),
+            breaks_join past a front more es events fault follows
+                (subst (λ p. Breaks task version pools p (a ++ front) more fault events) here x),
           )

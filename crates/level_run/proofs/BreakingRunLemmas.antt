@@ -22,7 +22,7 @@ use Rattle.level_run.specs.Dialogue.{workers_in}
 use Rattle.level_run.specs.declared.fault.RunFault.{RunFault}
 use Rattle.lemmas.proofs.Bools.{or_false}
 use Rattle.lemmas.proofs.Members.{get_append}
-use Rattle.level_course.proofs.CoursesStepLemmas.{same_asks}
+use Rattle.transcript_model.proofs.LegalNumberLemmas.{asks_marked}
 
 -- the starts that came before a batch of some asks
 pub same_after : (pools : List Pool) (asked many : ℕ) → 0 < many
@@ -51,11 +51,24 @@ start_refused task head before fault old (Some after) first (n, child, words, ca
   take n (starts_of head.pools) ++ started child words (Err cause) ∷ [],
   was,
   came,
-  inl (record { first = first; none = refl; were = inr (n, child, words, cause, at, refl, tells_of (HasNoneOpen (before ++ [])) cause fault (started child words (Err cause)) is refl) }),
+  inl (record {
+    first = first;
+    none = refl;
+    were = inr (
+      n,
+      child,
+      words,
+      cause,
+      at,
+      refl,
+      tells_of (HasNoneOpen (before ++ [])) cause fault (started child words (Err cause)) is refl,
+    );
+  }),
 )
 
 -- all workers run, and the rounds broke off
-pub rounds_broken : (task : Task) (head : Head) (before : List Entry) (starts : List Event) (fault : RunFault) (old mid new : Option (List Event))
+pub rounds_broken : (task : Task) (head : Head) (before : List Entry) (starts : List Event)
+    (fault : RunFault) (old mid new : Option (List Event))
     → starts ≡ starts_after head.pools (asks_of before) → Extends old mid starts → (more : List Entry)
     → LogBreaks task head.version (workers_in head) before fault mid new more → RunBreaks task head before fault old new more
 rounds_broken task head before starts fault old mid None is first more broken = tt
@@ -81,7 +94,12 @@ none_marked before more (inr is) none =
     subst (λ es. HasNoneOpen (before ++ es)) (sym is) (λ n. same n ∙ none n)
   where
     same : (n : ℕ) → is_open (before ++ entry.Level ∷ []) n ≡ is_open before n
-    same n = rw (list_any-append (is_ask_of n) before (entry.Level ∷ []), list_any-append (is_answer_to n) before (entry.Level ∷ []), or_false (list_any (is_ask_of n) before), or_false (list_any (is_answer_to n) before)) refl
+    same n = rw (
+      list_any-append (is_ask_of n) before (entry.Level ∷ []),
+      list_any-append (is_answer_to n) before (entry.Level ∷ []),
+      or_false (list_any (is_ask_of n) before),
+      or_false (list_any (is_answer_to n) before),
+    ) refl
 
 -- no call was made
 pub quiet_breaks : (task : Task) (head : Head) (before : List Entry) (fault : RunFault) (log : Option (List Event))
@@ -105,29 +123,47 @@ quiet_breaks task head before fault (Some log) tells more is =
     follows past es (inr e) = subst (λ xs. Follows task (workers_in head) past before xs []) (sym e) ([], [], refl, refl, refl)
 
     by : (n : ℕ) → asks_of before ≡ n
-        → Unstarted head before more fault [] ⊎ ((later : List Event) × ([] ≡ starts_after head.pools (asks_of before) ++ later) × Breaks task head.version (workers_in head) (log ++ starts_after head.pools (asks_of before)) before more fault later)
+        → Unstarted head before more fault []
+        ⊎ ((later : List Event) × ([] ≡ starts_after head.pools (asks_of before) ++ later)
+        × Breaks task head.version (workers_in head) (log ++ starts_after head.pools (asks_of before)) before more fault later)
     by zero e = inl (record { first = e; none = none more is; were = inl (refl, still) })
     by (suc n) e =
         let no : starts_after head.pools (asks_of before) ≡ [] = some_after head.pools (asks_of before) (omega (arith, e)) in
-        inr ([], sym (append-nil (starts_after head.pools (asks_of before)) ∙ no), record { done = []; calls = []; refused = []; cut = refl; follows = follows (log ++ starts_after head.pools (asks_of before)) more is; begun = inl (refl, refl); told = still })
+        inr (
+          [],
+          sym (append-nil (starts_after head.pools (asks_of before)) ∙ no),
+          record {
+            done = [];
+            calls = [];
+            refused = [];
+            cut = refl;
+            follows = follows (log ++ starts_after head.pools (asks_of before)) more is;
+            begun = inl (refl, refl);
+            told = still;
+          },
+        )
 
 -- the line of a level stands before
 pub marked_breaks : (task : Task) (head : Head) (before mid front : List Entry) (fault : RunFault) (old new : Option (List Event))
     → mid ≡ before ++ entry.Level ∷ [] → mid ≡ before ++ front → (more : List Entry) → RunBreaks task head mid fault old new more
     → RunBreaks task head before fault old new (front ++ more)
 marked_breaks task head before mid front fault old new marked pushed more broken =
-    subst (λ xs. RunBreaks task head before fault old new (xs ++ more)) same (by new (subst (λ es. RunBreaks task head es fault old new more) marked broken))
+    subst (λ xs. RunBreaks task head before fault old new (xs ++ more)) same
+    (by new (subst (λ es. RunBreaks task head es fault old new more) marked broken))
   where
     same : entry.Level ∷ [] ≡ front
     same = append_cancel_left before (entry.Level ∷ []) front (sym marked ∙ pushed)
 
     starts : starts_after head.pools (asks_of (before ++ entry.Level ∷ [])) ≡ starts_after head.pools (asks_of before)
-    starts = ap (starts_after head.pools) (same_asks before)
+    starts = ap (starts_after head.pools) (asks_marked before entry.Level refl)
 
     joined : (past later : List Event)
         → Breaks task head.version (workers_in head) past (before ++ entry.Level ∷ []) more fault later
         → Breaks task head.version (workers_in head) past before (entry.Level ∷ more) fault later
-    joined past later b = breaks_join task head.version (workers_in head) past before (entry.Level ∷ []) more [] later fault ([], [], refl, refl, refl) (subst (λ p. Breaks task head.version (workers_in head) p (before ++ entry.Level ∷ []) more fault later) (sym (append-nil past)) b)
+    joined past later b =
+        breaks_join task head.version (workers_in head) past before (entry.Level ∷ []) more [] later fault ([], [], refl, refl, refl)
+        (subst (λ p. Breaks task head.version (workers_in head) p (before ++ entry.Level ∷ []) more fault later)
+        (sym (append-nil past)) b)
 
     told : (events : List Event)
         → WereStarts head ((before ++ entry.Level ∷ []) ++ more) fault events
@@ -138,16 +174,35 @@ marked_breaks task head before mid front fault old new marked pushed more broken
         → RunBreaks task head (before ++ entry.Level ∷ []) fault old log more
         → RunBreaks task head before fault old log (entry.Level ∷ more)
     by None x = tt
-    by (Some after) (past, events, was, came, inl u) = (past, events, was, came, inl (record { first = sym (same_asks before) ∙ u.first; none = asks_behind more ∙ u.none; were = told events u.were }))
-    by (Some after) (past, events, was, came, inr (later, cut, b)) =
-        (past, events, was, came, inr (later, cut ∙ ap (λ es. es ++ later) starts, joined (past ++ starts_after head.pools (asks_of before)) later (subst (λ es. Breaks task head.version (workers_in head) (past ++ es) (before ++ entry.Level ∷ []) more fault later) starts b)))
+    by (Some after) (past, events, was, came, inl u) = (
+      past,
+      events,
+      was,
+      came,
+      inl (record
+          { first = sym (asks_marked before entry.Level refl) ∙ u.first; none = asks_behind more ∙ u.none; were = told events u.were }),
+    )
+    by (Some after) (past, events, was, came, inr (later, cut, b)) = (
+      past,
+      events,
+      was,
+      came,
+      inr (
+        later,
+        cut ∙ ap (λ es. es ++ later) starts,
+        joined (past ++ starts_after head.pools (asks_of before)) later
+            (subst (λ es. Breaks task head.version (workers_in head) (past ++ es) (before ++ entry.Level ∷ []) more fault later)
+            starts b),
+      ),
+    )
 
 -- whole levels stand before
 pub levels_broken : (task : Task) (head : Head) (a front : List Entry) (fault : RunFault) (old mid new : Option (List Event))
     → Runs task head [] a old mid → a ≡ front → (more : List Entry) → RunBreaks task head a fault mid new more
     → RunBreaks task head [] fault old new (front ++ more)
 levels_broken task head a front fault old mid new runs pushed more broken =
-    by mid new (subst (λ es. LogRuns task head [] es old mid) (sym runs.pushed ∙ pushed) runs.log) (subst (λ es. RunBreaks task head es fault mid new more) pushed broken)
+    by mid new (subst (λ es. LogRuns task head [] es old mid) (sym runs.pushed ∙ pushed) runs.log)
+    (subst (λ es. RunBreaks task head es fault mid new more) pushed broken)
   where
     pools : List Pool
     pools = head.pools
@@ -170,19 +225,28 @@ levels_broken task head a front fault old mid new runs pushed more broken =
         of : (n : ℕ) → asks_of front ≡ n
             → Follows task (workers_in head) (past ++ starts_before head.pools 0 n) [] front es
             → reached ≡ past ++ starts_before head.pools 0 n ++ es
-            → Unstarted head front more fault events ⊎ ((later : List Event) × (events ≡ starts_after head.pools (asks_of front) ++ later) × Breaks task head.version (workers_in head) (reached ++ starts_after head.pools (asks_of front)) front more fault later)
+            → Unstarted head front more fault events
+            ⊎ ((later : List Event) × (events ≡ starts_after head.pools (asks_of front) ++ later)
+            × Breaks task head.version (workers_in head)
+            (reached ++ starts_after head.pools (asks_of front)) front more fault later)
             → RunBreaks task head [] fault old (Some after) (front ++ more)
         of zero n f here (inl u) =
             let quiet = unasked task (workers_in head) (past ++ []) [] front es refl n f in
-            let still : reached ≡ past = here ∙ ap (λ xs. past ++ [] ++ xs) quiet.0 ∙ append-nil (past ++ []) ∙ append-nil past in
-            (past, events, was, grown ∙ ap (λ xs. xs ++ events) still, inl (record { first = refl; none = omega (arith, all, n, u.none); were = u.were }))
+            let still : reached ≡ past = here ∙ ap (λ xs. past ++ [] ++ xs) quiet.0 ∙ append-nil (past ++ []) ∙ append-nil past in (
+              past,
+              events,
+              was,
+              grown ∙ ap (λ xs. xs ++ events) still,
+              inl (record { first = refl; none = omega (arith, all, n, u.none); were = u.were }),
+            )
         of (suc k) n f here (inl u) = absurd (omega (arith, n, u.first))
         of zero n f here (inr (later, cut, b)) =
             let quiet = unasked task (workers_in head) (past ++ []) [] front es refl n f in
             let still : reached ≡ past = here ∙ ap (λ xs. past ++ [] ++ xs) quiet.0 ∙ append-nil (past ++ []) ∙ append-nil past in
             let starts : starts_after head.pools (asks_of front) ≡ starts_of head.pools = none_after head.pools (asks_of front) n in
             let front_b = subst (λ xs. Breaks task head.version (workers_in head) (reached ++ xs) front more fault later) starts b in
-            let here_b = subst (λ p. Breaks task head.version (workers_in head) (p ++ starts_of head.pools) front more fault later) still front_b in (
+            let here_b =
+            subst (λ p. Breaks task head.version (workers_in head) (p ++ starts_of head.pools) front more fault later) still front_b in (
               past,
               events,
               was,
@@ -190,19 +254,28 @@ levels_broken task head a front fault old mid new runs pushed more broken =
               inr (
                 later,
                 cut ∙ ap (λ xs. xs ++ later) starts,
-                breaks_join task head.version (workers_in head) (past ++ starts_of head.pools) [] front more [] later fault (quiet.1 (past ++ starts_of head.pools)) (subst (λ p. Breaks task head.version (workers_in head) p front more fault later) (sym (append-nil (past ++ starts_of head.pools))) here_b),
+                breaks_join task head.version (workers_in head) (past ++ starts_of head.pools) [] front more [] later fault
+                    (quiet.1 (past ++ starts_of head.pools))
+                    (subst (λ p. Breaks task head.version (workers_in head) p front more fault later)
+                    (sym (append-nil (past ++ starts_of head.pools))) here_b),
               ),
             )
         of (suc k) n f here (inr (later, cut, b)) =
             let none : starts_after head.pools (asks_of front) ≡ [] = some_after head.pools (asks_of front) (omega (arith, n)) in
             let events_are : events ≡ later = cut ∙ ap (λ xs. xs ++ later) none in
             let front_b = subst (λ xs. Breaks task head.version (workers_in head) (reached ++ xs) front more fault later) none b in
-            let here_b = subst (λ p. Breaks task head.version (workers_in head) p front more fault later) (append-nil reached ∙ here) front_b in (
+            let here_b =
+            subst (λ p. Breaks task head.version (workers_in head) p front more fault later) (append-nil reached ∙ here) front_b in (
               past,
               starts_of head.pools ++ (es ++ later),
               was,
-              grown ∙ ap (λ xs. xs ++ events) here ∙ ap (λ xs. past ++ starts_of head.pools ++ es ++ xs) events_are ∙ append_assoc (past ++ starts_of head.pools) es later ∙ append_assoc past (starts_of head.pools) (es ++ later),
-              inr (es ++ later, refl, breaks_join task head.version (workers_in head) (past ++ starts_of head.pools) [] front more es later fault f here_b),
+              grown ∙ ap (λ xs. xs ++ events) here ∙ ap (λ xs. past ++ starts_of head.pools ++ es ++ xs) events_are
+                  ∙ append_assoc (past ++ starts_of head.pools) es later ∙ append_assoc past (starts_of head.pools) (es ++ later),
+              inr (
+                es ++ later,
+                refl,
+                breaks_join task head.version (workers_in head) (past ++ starts_of head.pools) [] front more es later fault f here_b,
+              ),
             )
 
 -- ---- the line of a level
@@ -214,8 +287,10 @@ level_put before front more is = subst (λ es. HasLevel (es ++ more)) (append_ca
 pub marked_level : (task : Task) (head : Head) (before mid front : List Entry) (fault : RunFault) (old new : Option (List Event))
     → mid ≡ before ++ entry.Level ∷ [] → mid ≡ before ++ front → (more : List Entry) → RunBreaks task head mid fault old new more
     → LevelBreaks task head before fault old new (front ++ more)
-marked_level task head before mid front fault old new marked pushed more broken =
-    (marked_breaks task head before mid front fault old new marked pushed more broken, inr (level_put before front more (sym marked ∙ pushed)))
+marked_level task head before mid front fault old new marked pushed more broken = (
+  marked_breaks task head before mid front fault old new marked pushed more broken,
+  inr (level_put before front more (sym marked ∙ pushed)),
+)
 
 pub quiet_level : (task : Task) (head : Head) (before : List Entry) (fault : RunFault) (log : Option (List Event))
     → Tells (HasNoneOpen before) fault [] → (more : List Entry) → (more ≡ []) ⊎ (more ≡ entry.Level ∷ [])
@@ -274,8 +349,13 @@ broken_more task head entries fault old mid None b stops = tt
 broken_more task head entries fault old None (Some after) b (more, each, (before, is, grown)) =
     absurd (cc)
 broken_more task head entries fault old (Some now) (Some after) (events, stops, cut, all, b) (more, each, (before, is, grown)) =
-    let same : now ≡ before = cc in
-    (events, stops ++ more, grown ∙ ap (λ es. es ++ more) (sym same ∙ cut) ∙ append_assoc events stops more, All-append IsStop stops more all each, b)
+    let same : now ≡ before = cc in (
+      events,
+      stops ++ more,
+      grown ∙ ap (λ es. es ++ more) (sym same ∙ cut) ∙ append_assoc events stops more,
+      All-append IsStop stops more all each,
+      b,
+    )
 
 pub stops_then_stops : (old mid new : Option (List Event)) → LogStops old mid → LogStops mid new
     → LogStops old new

@@ -16,7 +16,9 @@ use Rattle.level_run.specs.Rolling.{IsHostFault, IsRolling, finished}
 use Rattle.level_run.specs.Talking.{IsTalking}
 use Rattle.level_run.specs.declared.fault.RunFault.{RunFault}
 
-module _ (task : Task) (s : State) (place : ℕ) (kept : ℕ → List ℕ) (spoken : ℕ → Option Talk) (t : Slot) (at : slice_get s.slots place ≡ Some t) (e : Entry) (at_e : slice_get s.asks place ≡ Some e) (opened : s.is_open ≡ true) (h : IsSession task s) (k : IsTalking task s place 0 kept spoken) where
+module _ (task : Task) (s : State) (place : ℕ) (kept : ℕ → List ℕ) (spoken : ℕ → Option Talk) (t : Slot)
+    (at : slice_get s.slots place ≡ Some t) (e : Entry) (at_e : slice_get s.asks place ≡ Some e) (opened : s.is_open ≡ true)
+    (h : IsSession task s) (k : IsTalking task s place 0 kept spoken) where
   -- the request at this place was written in part
   pub sent_part : (child : ℕ) (request : List ℕ) (fault : RunFault) (was now : Option (List Event))
       → child ≡ t.child → request ≡ t.request
@@ -24,16 +26,23 @@ module _ (task : Task) (s : State) (place : ℕ) (kept : ℕ → List ℕ) (spok
       → LogBreaks task s.version s.pools (s.entries ++ take place s.asks) fault was now []
   sent_part child request fault was now own same log =
       let r = request_at task s place kept spoken spoken t at k.slots in
-      breaks_writing task s.version s.pools (s.entries ++ take place s.asks) e r.0 fault was now (next_legal task s place kept spoken spoken t at e at_e opened h k) (sent_next task s place kept spoken t at e at_e opened h k r)
-      (subst (λ c. (cause : HostFault) × IsHostFault cause fault × LogsTakenPart c (text_of_request r.0) cause was now) (own ∙ r.2.child) (subst (λ bytes. (cause : HostFault) × IsHostFault cause fault × LogsTakenPart child bytes cause was now) (same ∙ r.2.text) log))
+      breaks_writing task s.version s.pools (s.entries ++ take place s.asks) e r.0 fault was now
+      (next_legal task s place kept spoken spoken t at e at_e opened h k) (sent_next task s place kept spoken t at e at_e opened h k r)
+      (subst (λ c. (cause : HostFault) × IsHostFault cause fault × LogsTakenPart c (text_of_request r.0) cause was now) (own ∙ r.2.child)
+      (subst (λ bytes. (cause : HostFault) × IsHostFault cause fault × LogsTakenPart child bytes cause was now) (same ∙ r.2.text) log))
 
-module _ (task : Task) (s : State) (running : ℕ → Bool) (place : ℕ) (rolling : IsRolling s running (length s.slots) place) (within : place < length s.slots) (t : Slot) (at : slice_get s.slots place ≡ Some t) (kept : ℕ → List ℕ) (old : ℕ → Option Talk) (h : IsSession task s) (k : IsTalking task s (length s.slots) place kept old) where
-  next_asked : slice_get (requests_of task s.pools (s.entries ++ s.asks ++ take place (finished s.slots))) (length (replies_of (s.entries ++ s.asks ++ take place (finished s.slots)))) ≡ Some (request_at task s place kept old old t at k.slots).0
+module _ (task : Task) (s : State) (running : ℕ → Bool) (place : ℕ) (rolling : IsRolling s running (length s.slots) place)
+    (within : place < length s.slots) (t : Slot) (at : slice_get s.slots place ≡ Some t) (kept : ℕ → List ℕ) (old : ℕ → Option Talk)
+    (h : IsSession task s) (k : IsTalking task s (length s.slots) place kept old) where
+  next_asked : slice_get (requests_of task s.pools (s.entries ++ s.asks ++ take place (finished s.slots)))
+      (length (replies_of (s.entries ++ s.asks ++ take place (finished s.slots))))
+      ≡ Some (request_at task s place kept old old t at k.slots).0
   next_asked =
       let asks = round_asks task s rolling.begun h in
       let each = front_each (finished s.slots) place (round_replies task s rolling.begun h) in
       let q = request_at task s place kept old old t at k.slots in
-      (λ i. slice_get (requests_heard task s.pools s.entries s.asks k.closed asks (take place (finished s.slots)) each i) (length (replies_heard task s.pools s.entries s.asks k.closed asks (take place (finished s.slots)) each i)))
+      (λ i. slice_get (requests_heard task s.pools s.entries s.asks k.closed asks (take place (finished s.slots)) each i)
+      (length (replies_heard task s.pools s.entries s.asks k.closed asks (take place (finished s.slots)) each i)))
       ∙ next_is task s running place rolling within t at (requests_of task s.pools s.entries) (replies_of s.entries) q.0 k.even q.1
 
   -- no answer was taken
@@ -44,5 +53,6 @@ module _ (task : Task) (s : State) (running : ℕ → Bool) (place : ℕ) (rolli
   heard_off child fault was now own spells log =
       let r = request_at task s place kept old old t at k.slots in
       let same = own ∙ r.2.child in
-      breaks_hearing task s.version s.pools (s.entries ++ s.asks ++ take place (finished s.slots)) r.0 next_asked r.2.one kept old (talks_at_heard task s place kept old rolling.begun h k) was now
+      breaks_hearing task s.version s.pools (s.entries ++ s.asks ++ take place (finished s.slots)) r.0 next_asked r.2.one kept old
+      (talks_at_heard task s place kept old rolling.begun h k) was now
       (subst (λ c. Spells was c (old c)) same spells) fault (subst (λ c. LogHears c (kept c) fault was now) same log)

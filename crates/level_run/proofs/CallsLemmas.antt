@@ -28,13 +28,16 @@ spelled_reads child talk [] all =
     ap (λ bytes. let t : Talk = record { written = talk.written; heard = bytes } in t) (sym (append-nil talk.heard))
 spelled_reads child talk (heard k room (Ok bytes) ∷ events) all =
     let own : k ≡ child = all 0 (heard k room (Ok bytes)) (omega arith) in
-    let here : (t : Talk) → said_after child t (heard k room (Ok bytes)) ≡ heard_more bytes t = λ t. ap (λ b. if b then heard_more bytes t else t) (eq-eqb k child own) in
+    let here : (t : Talk) → said_after child t (heard k room (Ok bytes)) ≡ heard_more bytes t =
+    λ t. ap (λ b. if b then heard_more bytes t else t) (eq-eqb k child own) in
     let rest = All-tail (IsGiven child) (heard k room (Ok bytes)) events all in
     let first : (spelled child silence (heard k room (Ok bytes) ∷ events)).heard ≡ bytes ++ (spelled child silence events).heard =
-    ap (λ (t : Talk). t.heard) (ap (λ t. spelled child t events) (here silence) ∙ spelled_reads child (heard_more bytes silence) events rest) in
+    ap (λ (t : Talk). t.heard)
+    (ap (λ t. spelled child t events) (here silence) ∙ spelled_reads child (heard_more bytes silence) events rest) in
     ap (λ t. spelled child t events) (here talk)
     ∙ spelled_reads child (heard_more bytes talk) events rest
-    ∙ ap (λ b. let t : Talk = record { written = talk.written; heard = b } in t) (append_assoc talk.heard bytes (spelled child silence events).heard)
+    ∙ ap (λ b. let t : Talk = record { written = talk.written; heard = b } in t)
+    (append_assoc talk.heard bytes (spelled child silence events).heard)
     ∙ ap (λ b. heard_more b talk) (sym first)
 spelled_reads child talk (heard k room (Err fault) ∷ events) all =
     absurd (all 0 (heard k room (Err fault)) (omega arith))
@@ -63,7 +66,8 @@ module _ (task : Task) (pools : List Workers) where
     calls,
     follows_join (past ++ now) (before ++ e ∷ []) xs ys later fs rest
         (subst (λ (zs : List Entry). Follows task pools ((past ++ now) ++ later) zs ys fs) (sym (append_assoc before (e ∷ []) xs))
-        (subst (λ (zs : List Event). Follows task pools zs (before ++ e ∷ xs) ys fs) (ap (λ zs. past ++ zs) cut ∙ sym (append_assoc past now later)) second)),
+        (subst (λ (zs : List Event). Follows task pools zs (before ++ e ∷ xs) ys fs)
+        (ap (λ zs. past ++ zs) cut ∙ sym (append_assoc past now later)) second)),
   )
 
   pub log_none : (before : List Entry) (log : Option (List Event))
@@ -113,7 +117,8 @@ module _ (task : Task) (pools : List Workers) where
     pushed =
         second.pushed ∙ ap (λ front. front ++ second.more) first.pushed
         ∙ append_assoc a first.more second.more;
-    log = log_join a first.more second.more old mid new first.log (subst (λ es. LogFollows task pools es second.more mid new) first.pushed second.log);
+    log = log_join a first.more second.more old mid new first.log
+        (subst (λ es. LogFollows task pools es second.more mid new) first.pushed second.log);
   }
 
   -- ---- one entry
@@ -124,7 +129,8 @@ module _ (task : Task) (pools : List Workers) where
       → AreCallsOf task pools past before e events
   ask_calls before (entry.Ask number turn call) r past events ask grown takes =
       let both : next_request task pools before number turn call ∷ [] ≡ r ∷ [] =
-      append_cancel_left (requests_of task pools before) (next_request task pools before number turn call ∷ []) (r ∷ []) (sym (requests_join task pools [] before (entry.Ask number turn call ∷ [])) ∙ grown) in
+      append_cancel_left (requests_of task pools before) (next_request task pools before number turn call ∷ [])
+      (r ∷ []) (sym (requests_join task pools [] before (entry.Ask number turn call ∷ [])) ∙ grown) in
       let one : next_request task pools before number turn call ≡ r = cc in
       subst (λ (q : Request). Takes q.child (text_of_request q) events) (sym one) takes
   ask_calls before entry.Level r past events ask grown takes = absurd (cc)

@@ -42,7 +42,8 @@ module _ (task : Task) (pools : List Workers) where
       → Follows task pools past before answers events → All IsRead events
   answers_read past before [] events each is = subst (All IsRead) (sym is) (All-nil IsRead)
   answers_read past before (e ∷ es) events each (now, later, cut, calls, follows) =
-      subst (All IsRead) (sym cut) (All-append IsRead now later (read_calls past before e now (each 0 e refl) calls) (answers_read (past ++ now) (before ++ e ∷ []) es later (λ k x at. each (suc k) x at) follows))
+      subst (All IsRead) (sym cut) (All-append IsRead now later (read_calls past before e now (each 0 e refl) calls)
+      (answers_read (past ++ now) (before ++ e ∷ []) es later (λ k x at. each (suc k) x at) follows))
 
   -- the calls of requests and of answers behind them are writes, and then reads
   pub written_first : (past : List Event) (before asks answers : List Entry) (events : List Event)
@@ -52,7 +53,8 @@ module _ (task : Task) (pools : List Workers) where
   written_first past before [] answers events each replies follows =
       ([], events, refl, All-nil IsWrite, answers_read past before answers events replies follows)
   written_first past before (entry.Ask number turn call ∷ asks) answers events each replies (now, later, cut, calls, follows) =
-      let rest = written_first (past ++ now) (before ++ entry.Ask number turn call ∷ []) asks answers later (λ k x at. each (suc k) x at) replies follows in (
+      let rest = written_first (past ++ now) (before ++ entry.Ask number turn call ∷ []) asks answers later
+      (λ k x at. each (suc k) x at) replies follows in (
         now ++ rest.0,
         rest.1,
         cut ∙ ap (λ es. now ++ es) rest.2 ∙ sym (append_assoc now rest.0 rest.1),

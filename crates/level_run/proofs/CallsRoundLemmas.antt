@@ -12,7 +12,6 @@ use Rattle.gen_lines.specs.Lines.{ended, is_feed, lines_of}
 use Rattle.io_world.specs.Replies.{IsLine}
 use Rattle.io_world.specs.Talks.{Talk, Event, silence, spelled, heard_more, IsGiven, LogsGiven, LogsTaken, Spells}
 use Rattle.io_world.proofs.TalksLemmas.{extends_none}
-use Rattle.session_core.proofs.LearningLemmas.{take_next}
 use Rattle.session_core.proofs.SessionLemmas.{count_joined, count_one}
 use Rattle.session_core.specs.Session.{IsSession, begun}
 use Rattle.transcript_model.specs.Legal.{is_answer}
@@ -30,13 +29,19 @@ use Rattle.level_run.specs.Calls.{Calls, LogFollows, LogReads, lines_read}
 use Rattle.level_run.specs.Dialogue.{IsOneOf, Request, count_to, replies_of, requests_of, text_of_request}
 use Rattle.level_run.specs.Rolling.{IsRolling, IsSameRound, finished}
 use Rattle.level_run.specs.Talking.{IsSlotOf, IsTalk, IsTalking, Talks}
+use Rattle.lemmas.proofs.Members.{next_taken}
 
 -- ---- lines of bytes that go on
 
 -- there are as many lines as line feeds
 lines_counted : (bytes : List ℕ) → length (lines_of bytes) ≡ count_by is_feed bytes
 lines_counted bytes =
-    omega (arith, length-map (ended (slice_split is_feed bytes)) (strip_last 13), ended_length (slice_split is_feed bytes) (omega (arith, length-slice_split is_feed bytes)), length-slice_split is_feed bytes)
+    omega (
+      arith,
+      length-map (ended (slice_split is_feed bytes)) (strip_last 13),
+      ended_length (slice_split is_feed bytes) (omega (arith, length-slice_split is_feed bytes)),
+      length-slice_split is_feed bytes,
+    )
 
 none_fed : (bytes : List ℕ) → list_any is_feed bytes ≡ false → count_by is_feed bytes ≡ 0
 none_fed [] e = refl
@@ -56,7 +61,15 @@ none_fed (b ∷ bs) e = by (none_fed bs) (is_feed b) refl e
 pub still_part : (kept bytes : List ℕ) → lines_of kept ≡ [] → IsLine bytes
     → lines_of (kept ++ bytes) ≡ []
 still_part kept bytes none line =
-    nil_from_length (lines_of (kept ++ bytes)) (omega (arith, lines_counted (kept ++ bytes), count_joined is_feed kept bytes, lines_counted kept, ap length none, none_fed bytes line))
+    nil_from_length (lines_of (kept ++ bytes))
+    (omega (
+      arith,
+      lines_counted (kept ++ bytes),
+      count_joined is_feed kept bytes,
+      lines_counted kept,
+      ap length none,
+      none_fed bytes line,
+    ))
 
 -- ---- the reads of one child
 
@@ -74,13 +87,15 @@ reads_given child kept bytes old new none (events, gives, grows) =
 -- ---- one answer
 
 -- what the log spells of a child was said with it
-pub told_talk : {task : Task} {version : ℕ} {rs : List Request} {replies : List Entry} {child : ℕ} {kept : List ℕ} (talk : Option Talk) (events : List Event)
+pub told_talk : {task : Task} {version : ℕ} {rs : List Request} {replies : List Entry} {child : ℕ} {kept : List ℕ}
+    (talk : Option Talk) (events : List Event)
     → talk ≡ Some (spelled child silence events) → IfSome talk (IsTalk task version rs replies child kept)
     → IsTalk task version rs replies child kept (spelled child silence events)
 told_talk {task} {version} {rs} {replies} {child} {kept} talk events is told =
     subst (λ o. IfSome o (IsTalk task version rs replies child kept)) is told
 
-module _ (task : Task) (version : ℕ) (pools : List Workers) (rs : List Request) (replies : List Entry) (r : Request) (next : slice_get rs (length replies) ≡ Some r) (kept left : List ℕ) (past events : List Event) where
+module _ (task : Task) (version : ℕ) (pools : List Workers) (rs : List Request) (replies : List Entry)
+    (r : Request) (next : slice_get rs (length replies) ≡ Some r) (kept left : List ℕ) (past events : List Event) where
   answered : ℕ
   answered = count_to r.child (take (length replies) rs)
 
@@ -93,8 +108,10 @@ module _ (task : Task) (version : ℕ) (pools : List Workers) (rs : List Request
       let piece = (spelled r.child silence events).heard in
       let spells : spelled r.child silence (past ++ events) ≡ heard_more piece (spelled r.child silence past) =
       spelled_join r.child silence past events ∙ spelled_reads r.child (spelled r.child silence past) events each in
-      let lines : lines_of ((spelled r.child silence past).heard ++ piece) ≡ t.taken ++ lines_of (kept ++ piece) = (whole (spelled r.child silence past).heard t.taken kept t.cut).lines piece in
-      let count : lines_read r.child (past ++ events) ≡ length (t.taken ++ lines_of (kept ++ piece)) = ap (λ (x : Talk). length (lines_of x.heard)) spells ∙ ap length lines in
+      let lines : lines_of ((spelled r.child silence past).heard ++ piece) ≡ t.taken ++ lines_of (kept ++ piece) =
+      (whole (spelled r.child silence past).heard t.taken kept t.cut).lines piece in
+      let count : lines_read r.child (past ++ events) ≡ length (t.taken ++ lines_of (kept ++ piece)) =
+      ap (λ (x : Talk). length (lines_of x.heard)) spells ∙ ap length lines in
       omega (arith, count, length-append t.taken (lines_of (kept ++ piece)), ap length none, t.many)
 
   pub reads_early : IsTalk task version rs replies r.child kept (spelled r.child silence past)
@@ -104,9 +121,12 @@ module _ (task : Task) (version : ℕ) (pools : List Workers) (rs : List Request
   reads_early t each early k below =
       let piece = (spelled r.child silence (take k events)).heard in
       let spells : spelled r.child silence (past ++ take k events) ≡ heard_more piece (spelled r.child silence past) =
-      spelled_join r.child silence past (take k events) ∙ spelled_reads r.child (spelled r.child silence past) (take k events) (All-take (IsGiven r.child) k events each) in
-      let lines : lines_of ((spelled r.child silence past).heard ++ piece) ≡ t.taken ++ lines_of (kept ++ piece) = (whole (spelled r.child silence past).heard t.taken kept t.cut).lines piece in
-      let count : lines_read r.child (past ++ take k events) ≡ length (t.taken ++ lines_of (kept ++ piece)) = ap (λ (x : Talk). length (lines_of x.heard)) spells ∙ ap length lines in
+      spelled_join r.child silence past (take k events)
+      ∙ spelled_reads r.child (spelled r.child silence past) (take k events) (All-take (IsGiven r.child) k events each) in
+      let lines : lines_of ((spelled r.child silence past).heard ++ piece) ≡ t.taken ++ lines_of (kept ++ piece) =
+      (whole (spelled r.child silence past).heard t.taken kept t.cut).lines piece in
+      let count : lines_read r.child (past ++ take k events) ≡ length (t.taken ++ lines_of (kept ++ piece)) =
+      ap (λ (x : Talk). length (lines_of x.heard)) spells ∙ ap length lines in
       omega (arith, count, length-append t.taken (lines_of (kept ++ piece)), ap length (early k below), t.many)
 
   reads_line : (e : Entry)
@@ -115,24 +135,37 @@ module _ (task : Task) (version : ℕ) (pools : List Workers) (rs : List Request
   reads_line e t =
       let longer : length (replies ++ e ∷ []) ≡ length replies + 1 = length-append replies (e ∷ []) in
       let one : count_to r.child (take (length (replies ++ e ∷ [])) rs) ≡ count_to r.child (take (length replies) rs) + 1 =
-      ap (λ n. count_to r.child (take n rs)) longer ∙ ap (count_to r.child) (take_next rs (length replies) r next) ∙ count_own (take (length replies) rs) r r.child refl in
-      omega (arith, ap length (all_lines task version rs (replies ++ e ∷ []) r.child left (spelled r.child silence (past ++ events)) t), length-append t.taken (lines_of left), t.many, one)
+      ap (λ n. count_to r.child (take n rs)) longer ∙ ap (count_to r.child) (next_taken rs (length replies) r next)
+      ∙ count_own (take (length replies) rs) r r.child refl in
+      omega (
+        arith,
+        ap length (all_lines task version rs (replies ++ e ∷ []) r.child left (spelled r.child silence (past ++ events)) t),
+        length-append t.taken (lines_of left),
+        t.many,
+        one,
+      )
 
 -- the answer to the next request is heard
-pub heard_log : (task : Task) (version : ℕ) (pools : List Workers) (before : List Entry) (e : Entry) (r : Request) (kept left : ℕ → List ℕ) (old new : ℕ → Option Talk) (was now : Option (List Event))
+pub heard_log : (task : Task) (version : ℕ) (pools : List Workers) (before : List Entry) (e : Entry) (r : Request)
+    (kept left : ℕ → List ℕ) (old new : ℕ → Option Talk) (was now : Option (List Event))
     → is_answer e ≡ true → slice_get (requests_of task pools before) (length (replies_of before)) ≡ Some r → IsOneOf pools r.child
     → Talks task version pools (requests_of task pools before) (replies_of before) kept old
     → Talks task version pools (requests_of task pools before) (replies_of before ++ e ∷ []) left new → Spells was r.child (old r.child)
     → Spells now r.child (new r.child) → LogReads r.child (kept r.child) was now → LogFollows task pools before (e ∷ []) was now
-heard_log task version pools before e r kept left old new was now answer next one talks later spells_was spells_now (events, each, early, grows) =
+heard_log task version pools before e r kept left old new was now answer next one talks later spells_was spells_now
+    (events, each, early, grows) =
     log_one task pools before e was now events grows (λ past is came. answer_calls task pools before e past events answer (record {
       request = r;
       next = next;
       reads = record {
         each = each;
-        early = reads_early task version pools (requests_of task pools before) (replies_of before) r next (kept r.child) (left r.child) past events (told_talk (old r.child) past (subst (λ o. Spells o r.child (old r.child)) is spells_was) (talks.each r.child one)) each early;
+        early = reads_early task version pools (requests_of task pools before) (replies_of before) r next (kept r.child) (left r.child) past
+            events (told_talk (old r.child) past (subst (λ o. Spells o r.child (old r.child)) is spells_was) (talks.each r.child one)) each
+            early;
       };
-      line = reads_line task version pools (requests_of task pools before) (replies_of before) r next (kept r.child) (left r.child) past events e (told_talk (new r.child) (past ++ events) (subst (λ o. Spells o r.child (new r.child)) came spells_now) (later.each r.child one));
+      line = reads_line task version pools (requests_of task pools before) (replies_of before) r next (kept r.child) (left r.child) past
+          events e
+          (told_talk (new r.child) (past ++ events) (subst (λ o. Spells o r.child (new r.child)) came spells_now) (later.each r.child one));
     }))
 
 -- ---- one request
@@ -141,17 +174,22 @@ sent_log : (task : Task) (pools : List Workers) (before : List Entry) (e : Entry
     → requests_of task pools (before ++ e ∷ []) ≡ requests_of task pools before ++ r ∷ [] → AreAsks (e ∷ [])
     → LogsTaken r.child (text_of_request r) was now → LogFollows task pools before (e ∷ []) was now
 sent_log task pools before e r was now grown asks (events, takes, grows) =
-    log_one task pools before e was now events grows (λ past is came. ask_calls task pools before e r past events (asks 0 e refl) grown takes)
+    log_one task pools before e was now events grows
+    (λ past is came. ask_calls task pools before e r past events (asks 0 e refl) grown takes)
 
-module _ (task : Task) (s : State) (place : ℕ) (kept : ℕ → List ℕ) (spoken : ℕ → Option Talk) (t : Slot) (at : slice_get s.slots place ≡ Some t) (e : Entry) (at_e : slice_get s.asks place ≡ Some e) (opened : s.is_open ≡ true) (h : IsSession task s) (k : IsTalking task s place 0 kept spoken) where
+module _ (task : Task) (s : State) (place : ℕ) (kept : ℕ → List ℕ) (spoken : ℕ → Option Talk) (t : Slot)
+    (at : slice_get s.slots place ≡ Some t) (e : Entry) (at_e : slice_get s.asks place ≡ Some e) (opened : s.is_open ≡ true)
+    (h : IsSession task s) (k : IsTalking task s place 0 kept spoken) where
   -- the request at this place comes next
   pub sent_next : (r : (r : Request) × (slice_get (requests_of task s.pools s.asks) place ≡ Some r) × IsSlotOf task s.version s.pools r t)
-      → requests_of task s.pools ((s.entries ++ take place s.asks) ++ e ∷ []) ≡ requests_of task s.pools (s.entries ++ take place s.asks) ++ r.0 ∷ []
+      → requests_of task s.pools ((s.entries ++ take place s.asks) ++ e ∷ [])
+      ≡ requests_of task s.pools (s.entries ++ take place s.asks) ++ r.0 ∷ []
   sent_next r =
       let asks = round_asks task s opened h in
-      ap (requests_of task s.pools) (append_assoc s.entries (take place s.asks) (e ∷ []) ∙ ap (λ es. s.entries ++ es) (sym (take_next s.asks place e at_e)))
+      ap (requests_of task s.pools)
+      (append_assoc s.entries (take place s.asks) (e ∷ []) ∙ ap (λ es. s.entries ++ es) (sym (next_taken s.asks place e at_e)))
       ∙ requests_sent task s.pools s.entries s.asks k.closed asks (place + 1)
-      ∙ ap (λ rs. requests_of task s.pools s.entries ++ rs) (take_next (requests_of task s.pools s.asks) place r.0 r.1)
+      ∙ ap (λ rs. requests_of task s.pools s.entries ++ rs) (next_taken (requests_of task s.pools s.asks) place r.0 r.1)
       ∙ sym (append_assoc (requests_of task s.pools s.entries) (take place (requests_of task s.pools s.asks)) (r.0 ∷ []))
       ∙ ap (λ rs. rs ++ r.0 ∷ []) (sym (requests_sent task s.pools s.entries s.asks k.closed asks place))
 
@@ -161,8 +199,10 @@ module _ (task : Task) (s : State) (place : ℕ) (kept : ℕ → List ℕ) (spok
       → LogsTaken child request was now → LogFollows task s.pools (s.entries ++ take place s.asks) (e ∷ []) was now
   sent_calls child request was now own same log =
       let r = request_at task s place kept spoken spoken t at k.slots in
-      sent_log task s.pools (s.entries ++ take place s.asks) e r.0 was now (sent_next r) (λ j x at_x. one (round_asks task s opened h) j x at_x)
-      (subst (λ c. LogsTaken c (text_of_request r.0) was now) (own ∙ r.2.child) (subst (λ bytes. LogsTaken child bytes was now) (same ∙ r.2.text) log))
+      sent_log task s.pools (s.entries ++ take place s.asks) e r.0 was now
+      (sent_next r) (λ j x at_x. one (round_asks task s opened h) j x at_x)
+      (subst (λ c. LogsTaken c (text_of_request r.0) was now)
+      (own ∙ r.2.child) (subst (λ bytes. LogsTaken child bytes was now) (same ∙ r.2.text) log))
     where
       one : AreAsks s.asks → AreAsks (e ∷ [])
       one asks zero x at_x = asks place x (at_e ∙ at_x)
@@ -170,17 +210,21 @@ module _ (task : Task) (s : State) (place : ℕ) (kept : ℕ → List ℕ) (spok
 
 -- ---- an answer of a round
 
-module _ (task : Task) (s : State) (running : ℕ → Bool) (place : ℕ) (rolling : IsRolling s running (length s.slots) place) (within : place < length s.slots) (t : Slot) (at : slice_get s.slots place ≡ Some t) where
+module _ (task : Task) (s : State) (running : ℕ → Bool) (place : ℕ) (rolling : IsRolling s running (length s.slots) place)
+    (within : place < length s.slots) (t : Slot) (at : slice_get s.slots place ≡ Some t) where
   -- the answer at this place is heard
-  pub heard_calls : (new : State) (slots : List Slot) (failed : Bool) (kept left : ℕ → List ℕ) (old now : ℕ → Option Talk) (e : Entry) (child : ℕ) (was came : Option (List Event))
+  pub heard_calls : (new : State) (slots : List Slot) (failed : Bool) (kept left : ℕ → List ℕ) (old now : ℕ → Option Talk)
+      (e : Entry) (child : ℕ) (was came : Option (List Event))
       → new ≡ with_slots s slots failed → IsSession task s → IsSession task new → IsTalking task s (length s.slots) place kept old
       → IsTalking task new (length new.slots) (place + 1) left now → slice_get (finished new.slots) place ≡ Some e
       → take place (finished new.slots) ≡ take place (finished s.slots) → child ≡ t.child → Spells was child (old child)
       → Spells came child (now child) → LogReads child (kept child) was came
       → LogFollows task s.pools (s.entries ++ s.asks ++ take place (finished s.slots)) (e ∷ []) was came
   heard_calls new slots failed kept left old now e child was came is h h_new k k_new at_e front own spells_was spells_came log =
-      heard_log task s.version s.pools before e r.0 kept left old now was came (round_replies task new open_new h_new place e at_e) next r.2.one talks later
-      (subst (λ c. Spells was c (old c)) same spells_was) (subst (λ c. Spells came c (now c)) same spells_came) (subst (λ c. LogReads c (kept c) was came) same log)
+      heard_log task s.version s.pools before e r.0 kept left old now was came
+      (round_replies task new open_new h_new place e at_e) next r.2.one talks later
+      (subst (λ c. Spells was c (old c)) same spells_was)
+      (subst (λ c. Spells came c (now c)) same spells_came) (subst (λ c. LogReads c (kept c) was came) same log)
     where
       before : List Entry
       before = s.entries ++ s.asks ++ take place (finished s.slots)
@@ -205,33 +249,41 @@ module _ (task : Task) (s : State) (running : ℕ → Bool) (place : ℕ) (rolli
 
       next : slice_get (requests_of task s.pools before) (length (replies_of before)) ≡ Some r.0
       next =
-          (λ i. slice_get (requests_heard task s.pools s.entries s.asks k.closed asks (take place (finished s.slots)) each i) (length (replies_heard task s.pools s.entries s.asks k.closed asks (take place (finished s.slots)) each i)))
+          (λ i. slice_get (requests_heard task s.pools s.entries s.asks k.closed asks (take place (finished s.slots)) each i)
+          (length (replies_heard task s.pools s.entries s.asks k.closed asks (take place (finished s.slots)) each i)))
           ∙ next_is task s running place rolling within t at (requests_of task s.pools s.entries) (replies_of s.entries) r.0 k.even r.1
 
       talks : Talks task s.version s.pools (requests_of task s.pools before) (replies_of before) kept old
       talks = talks_at_heard task s place kept old rolling.begun h k
 
-      moved : Talks task s.version s.pools (requests_of task s.pools (s.entries ++ s.asks ++ take (place + 1) (finished new.slots))) (replies_of (s.entries ++ s.asks ++ take (place + 1) (finished new.slots))) left now
-      moved = subst (λ (x : State). Talks task x.version x.pools (requests_of task x.pools (x.entries ++ x.asks ++ take (place + 1) (finished new.slots))) (replies_of (x.entries ++ x.asks ++ take (place + 1) (finished new.slots))) left now) is (talks_at_heard task new (place + 1) left now open_new h_new k_new)
+      moved : Talks task s.version s.pools (requests_of task s.pools (s.entries ++ s.asks ++ take (place + 1) (finished new.slots)))
+          (replies_of (s.entries ++ s.asks ++ take (place + 1) (finished new.slots))) left now
+      moved = subst (λ (x : State).
+          Talks task x.version x.pools (requests_of task x.pools (x.entries ++ x.asks ++ take (place + 1) (finished new.slots)))
+          (replies_of (x.entries ++ x.asks ++ take (place + 1) (finished new.slots))) left now) is
+          (talks_at_heard task new (place + 1) left now open_new h_new k_new)
 
       printed : take (place + 1) (finished new.slots) ≡ take place (finished s.slots) ++ e ∷ []
-      printed = take_next (finished new.slots) place e at_e ∙ ap (λ es. es ++ e ∷ []) front
+      printed = next_taken (finished new.slots) place e at_e ∙ ap (λ es. es ++ e ∷ []) front
 
       requests : requests_of task s.pools (s.entries ++ s.asks ++ take (place + 1) (finished new.slots)) ≡ requests_of task s.pools before
       requests =
-          requests_heard task s.pools s.entries s.asks k.closed asks (take (place + 1) (finished new.slots)) (front_each (finished new.slots) (place + 1) each_new)
+          requests_heard task s.pools s.entries s.asks k.closed asks
+          (take (place + 1) (finished new.slots)) (front_each (finished new.slots) (place + 1) each_new)
           ∙ sym (requests_heard task s.pools s.entries s.asks k.closed asks (take place (finished s.slots)) each)
 
       replies : replies_of (s.entries ++ s.asks ++ take (place + 1) (finished new.slots)) ≡ replies_of before ++ e ∷ []
       replies =
-          replies_heard task s.pools s.entries s.asks k.closed asks (take (place + 1) (finished new.slots)) (front_each (finished new.slots) (place + 1) each_new)
+          replies_heard task s.pools s.entries s.asks k.closed asks
+          (take (place + 1) (finished new.slots)) (front_each (finished new.slots) (place + 1) each_new)
           ∙ ap (λ es. replies_of s.entries ++ es) printed
           ∙ sym (append_assoc (replies_of s.entries) (take place (finished s.slots)) (e ∷ []))
           ∙ ap (λ es. es ++ e ∷ []) (sym (replies_heard task s.pools s.entries s.asks k.closed asks (take place (finished s.slots)) each))
 
       later : Talks task s.version s.pools (requests_of task s.pools before) (replies_of before ++ e ∷ []) left now
       later = subst (λ rs. Talks task s.version s.pools rs (replies_of before ++ e ∷ []) left now) requests
-          (subst (λ es. Talks task s.version s.pools (requests_of task s.pools (s.entries ++ s.asks ++ take (place + 1) (finished new.slots))) es left now) replies moved)
+          (subst (λ es. Talks task s.version s.pools
+          (requests_of task s.pools (s.entries ++ s.asks ++ take (place + 1) (finished new.slots))) es left now) replies moved)
 
 -- ---- a whole round
 
@@ -242,7 +294,8 @@ pub round_order : (task : Task) (s b m x : State) (dues : List Due) (old mid new
     → Calls task s.pools s.entries (x.entries ++ x.asks ++ answers_of x.slots) old new
 round_order task s b m x dues old mid new starts first second all sent heard =
     subst (λ es. Calls task s.pools s.entries es old new) (sym entries_are)
-    (calls_then task s.pools s.entries (s.entries ++ (begun task s dues).asks) (s.entries ++ (begun task s dues).asks ++ finished x.slots) old mid new
+    (calls_then task s.pools s.entries (s.entries ++ (begun task s dues).asks)
+    (s.entries ++ (begun task s dues).asks ++ finished x.slots) old mid new
     (subst (λ (y : State). Calls task y.pools y.entries (y.entries ++ y.asks) old mid) starts sent)
     (subst (λ (y : State). Calls task y.pools (y.entries ++ y.asks) (y.entries ++ y.asks ++ finished x.slots) mid new) m_is heard))
   where

@@ -30,7 +30,7 @@ use Rattle.level_run.specs.Turns.{EndsBatch}
 use Rattle.level_run.specs.declared.ending.Batch.{Batch}
 use Rattle.level_run.specs.declared.ending.Batch.TheVariants.{Done, CallsSpent}
 use Rattle.level_run.specs.declared.fault.RunFault.{RunFault}
-use Rattle.level_course.proofs.CoursesStepLemmas.{same_asks}
+use Rattle.transcript_model.proofs.LegalNumberLemmas.{asks_marked}
 
 -- ---- the starts of all children
 
@@ -48,15 +48,20 @@ part_behind front starts rest all fault old mid new whole first (n, child, words
   child,
   words,
   cause,
-  ap (λ es. slice_get es (length front + n)) whole ∙ get_behind front (starts ++ rest) n ∙ get_append starts rest n (started child words (Ok tt)) at,
+  ap (λ es. slice_get es (length front + n)) whole ∙ get_behind front (starts ++ rest) n
+      ∙ get_append starts rest n (started child words (Ok tt)) at,
   is,
   subst (Extends old new) (sym both) (extends_more old mid new front (take n starts ++ started child words (Err cause) ∷ []) first grows),
 )
   where
-    both : take (length front + n) all ++ started child words (Err cause) ∷ [] ≡ front ++ (take n starts ++ started child words (Err cause) ∷ [])
+    both : take (length front + n) all ++ started child words (Err cause) ∷ []
+        ≡ front ++ (take n starts ++ started child words (Err cause) ∷ [])
     both =
         ap (λ es. take (length front + n) es ++ started child words (Err cause) ∷ []) whole
-        ∙ ap (λ es. es ++ started child words (Err cause) ∷ []) (take-append-add front (starts ++ rest) n ∙ ap (λ es. front ++ es) (take-append-le n starts rest (omega (arith, slice_get_within starts n (started child words (Ok tt)) at))))
+        ∙ ap (λ es. es ++ started child words (Err cause) ∷ [])
+        (take-append-add front (starts ++ rest) n
+        ∙ ap (λ es. front ++ es)
+        (take-append-le n starts rest (omega (arith, slice_get_within starts n (started child words (Ok tt)) at))))
         ∙ append_assoc front (take n starts) (started child words (Err cause) ∷ [])
 
 part_first : (child : ℕ) (words : List (List ℕ)) (cause : HostFault) (fault : RunFault) (rest : List Event) (mid new : Option (List Event))
@@ -93,6 +98,12 @@ child_refused pools child pool fault old mid new below found before (cause, is, 
 pub starts_idle : (pools : List Pool) (before : ℕ) → starts_before pools before 0 ≡ []
 starts_idle pools zero = refl
 starts_idle pools (suc before) = refl
+
+pub starts_at_once : (pools : List Pool) (before more : ℕ) → before ≡ 0 → 0 < more
+    → starts_before pools before more ≡ starts_of pools
+starts_at_once pools zero zero none some = absurd (omega (arith, some))
+starts_at_once pools zero (suc more) none some = refl
+starts_at_once pools (suc before) more none some = absurd (omega (arith, none))
 
 pub starts_some : (pools : List Pool) (before more : ℕ) → 0 < before
     → starts_before pools before more ≡ []
@@ -132,7 +143,8 @@ runs_from task head before more starts old (Some middle) (Some after) is (past, 
     )
 
 -- a batch: its starts, and then its rounds
-pub batch_runs : (task : Task) (head : Head) (before after : List Entry) (asked asks many : ℕ) (b : Batch) (old mid new : Option (List Event))
+pub batch_runs : (task : Task) (head : Head) (before after : List Entry) (asked asks many : ℕ)
+    (b : Batch) (old mid new : Option (List Event))
     → asked ≡ asks_of before → asks ≡ asks_of after → 1 ≤ head.calls → EndsBatch task after asked asks head.calls many b
     → Extends old mid (starts_before head.pools asked many) → Calls task (workers_in head) before after mid new
     → Runs task head before after old new
@@ -180,9 +192,10 @@ runs_marked task head before mid after old new marked runs = record {
   log = by new (subst (λ es. LogRuns task head es runs.more old new) marked runs.log);
 }
   where
-    starts : starts_before head.pools (asks_of (before ++ entry.Level ∷ [])) (asks_of runs.more) ≡ starts_before head.pools (asks_of before) (asks_of (entry.Level ∷ runs.more))
+    starts : starts_before head.pools (asks_of (before ++ entry.Level ∷ [])) (asks_of runs.more)
+        ≡ starts_before head.pools (asks_of before) (asks_of (entry.Level ∷ runs.more))
     starts =
-        ap (λ n. starts_before head.pools n (asks_of runs.more)) (same_asks before)
+        ap (λ n. starts_before head.pools n (asks_of runs.more)) (asks_marked before entry.Level refl)
         ∙ ap (starts_before head.pools (asks_of before)) (sym (asks_behind runs.more))
 
     by : (log : Option (List Event))
@@ -190,12 +203,20 @@ runs_marked task head before mid after old new marked runs = record {
         → LogRuns task head before (entry.Level ∷ runs.more) old log
     by None l = tt
     by (Some now) (past, events, was, came, follows) =
-        subst (λ es. (p : List Event) × (later : List Event) × (old ≡ Some p) × (now ≡ p ++ es ++ later) × Follows task (workers_in head) (p ++ es) before (entry.Level ∷ runs.more) later) starts (
+        subst (λ es. (p : List Event) × (later : List Event) × (old ≡ Some p) × (now ≡ p ++ es ++ later)
+        × Follows task (workers_in head) (p ++ es) before (entry.Level ∷ runs.more) later) starts (
           past,
           events,
           was,
           came,
-          ([], events, refl, refl, subst (λ es. Follows task (workers_in head) es (before ++ entry.Level ∷ []) runs.more events) (sym (append-nil (past ++ starts_before head.pools (asks_of (before ++ entry.Level ∷ [])) (asks_of runs.more)))) follows),
+          (
+            [],
+            events,
+            refl,
+            refl,
+            subst (λ es. Follows task (workers_in head) es (before ++ entry.Level ∷ []) runs.more events)
+                (sym (append-nil (past ++ starts_before head.pools (asks_of (before ++ entry.Level ∷ [])) (asks_of runs.more)))) follows,
+          ),
         )
 
 -- ---- levels, one after another
@@ -233,7 +254,10 @@ unasked task pools past before (e ∷ es) events none no_more (now, later, cut, 
     longer = omega (arith, none, one, count_joined is_ask before (e ∷ []))
 
     no_hearing : Hearing task pools past before now → ⊥
-    no_hearing h = absurd (let bad : None ≡ Some h.request = ap (λ rs. slice_get rs (length (replies_of before))) (sym (none_asked task 0 pools before none)) ∙ h.next in cc)
+    no_hearing h =
+        absurd (let bad : None ≡ Some h.request =
+        ap (λ rs. slice_get rs (length (replies_of before))) (sym (none_asked task 0 pools before none)) ∙ h.next in
+        cc)
 
     of : (x : Entry) → asks_of (x ∷ []) ≡ 0 → AreCallsOf task pools past before x now
         → (now ≡ []) × ((p : List Event) → AreCallsOf task pools p before x [])
@@ -252,8 +276,11 @@ stops_none log = ([], λ k d below. absurd (omega (arith, below)), extends_none 
 pub stops_more : (child : ℕ) (answer : Result (Unit {0}) HostFault) (old mid new : Option (List Event))
     → LogStops old mid
     → Logs mid new (stopped child answer) → LogStops old new
-stops_more child answer old mid new (stops, each, grows) log =
-    (stops ++ stopped child answer ∷ [], All-append IsStop stops (stopped child answer ∷ []) each (all_one IsStop (stopped child answer) tt), extends_more old mid new stops (stopped child answer ∷ []) grows log)
+stops_more child answer old mid new (stops, each, grows) log = (
+  stops ++ stopped child answer ∷ [],
+  All-append IsStop stops (stopped child answer ∷ []) each (all_one IsStop (stopped child answer) tt),
+  extends_more old mid new stops (stopped child answer ∷ []) grows log,
+)
 
 -- two batches, one after the other
 pub runs_then : (task : Task) (head : Head) (a b : List Entry) (old mid new : Option (List Event))
@@ -274,8 +301,12 @@ runs_then task head a b old mid new first second = record {
     -- the first request comes in the second
     later : (past es fs : List Event) (n : ℕ) → asks_of first.more ≡ n → n ≡ 0
         → Follows task (workers_in head) (past ++ starts_before pools 0 n) [] first.more es
-        → Follows task (workers_in head) ((past ++ starts_before pools 0 n) ++ es ++ starts_before pools n (asks_of second.more)) first.more second.more fs
-        → Follows task (workers_in head) (past ++ starts_before pools 0 (asks_of (first.more ++ second.more))) [] (first.more ++ second.more) fs × ((past ++ starts_before pools 0 n) ++ es ++ starts_before pools n (asks_of second.more) ++ fs ≡ past ++ starts_before pools 0 (asks_of (first.more ++ second.more)) ++ fs)
+        → Follows task (workers_in head) ((past ++ starts_before pools 0 n) ++ es ++ starts_before pools n (asks_of second.more)) first.more
+        second.more fs
+        → Follows task (workers_in head) (past ++ starts_before pools 0 (asks_of (first.more ++ second.more))) []
+        (first.more ++ second.more) fs
+        × ((past ++ starts_before pools 0 n) ++ es ++ starts_before pools n (asks_of second.more) ++ fs
+        ≡ past ++ starts_before pools 0 (asks_of (first.more ++ second.more)) ++ fs)
     later past es fs (suc n) is none begins goes = absurd (omega (arith, none))
     later past es fs zero is none begins goes =
         let quiet = unasked task (workers_in head) (past ++ []) [] first.more es refl is begins in
@@ -295,27 +326,33 @@ runs_then task head a b old mid new first second = record {
     by (Some now) (Some after) (past, es, was, came, begins) (reached, fs, told, grown, goes) =
         let same : now ≡ reached = cc in
         let here : reached ≡ past ++ starts_before pools 0 (asks_of first.more) ++ es = sym same ∙ came in
-        let goes_here = subst (λ xs. Follows task (workers_in head) (xs ++ starts_before pools (asks_of first.more) (asks_of second.more)) first.more second.more fs) here goes in
+        let goes_here =
+        subst (λ xs. Follows task (workers_in head)
+        (xs ++ starts_before pools (asks_of first.more) (asks_of second.more)) first.more second.more fs) here goes in
         let grown_here = grown ∙ ap (λ xs. xs ++ starts_before pools (asks_of first.more) (asks_of second.more) ++ fs) here in
         of (asks_of first.more) refl begins goes_here grown_here
       where
         of : (n : ℕ) → asks_of first.more ≡ n
             → Follows task (workers_in head) (past ++ starts_before pools 0 n) [] first.more es
-            → Follows task (workers_in head) (past ++ starts_before pools 0 n ++ es ++ starts_before pools n (asks_of second.more)) first.more second.more fs
+            → Follows task (workers_in head) (past ++ starts_before pools 0 n ++ es ++ starts_before pools n (asks_of second.more))
+            first.more second.more fs
             → after ≡ past ++ starts_before pools 0 n ++ es ++ starts_before pools n (asks_of second.more) ++ fs
             → LogRuns task head [] (first.more ++ second.more) old (Some after)
         of zero is b g e =
             let l = later past es fs 0 is refl b g in
             (past, fs, was, e ∙ l.1, l.0)
         of (suc n) is b g e =
-            let start : starts_of pools ≡ starts_before pools 0 (asks_of (first.more ++ second.more)) = sym (starts_first pools 0 (asks_of (first.more ++ second.more)) refl (omega (arith, many, is))) in (
+            let start : starts_of pools ≡ starts_before pools 0 (asks_of (first.more ++ second.more)) =
+            sym (starts_first pools 0 (asks_of (first.more ++ second.more)) refl (omega (arith, many, is))) in (
               past,
               es ++ fs,
               was,
-              e ∙ ap (λ xs. xs ++ fs) (append-nil (past ++ starts_of pools ++ es)) ∙ append_assoc (past ++ starts_of pools) es fs ∙ ap (λ xs. past ++ xs ++ (es ++ fs)) start,
+              e ∙ ap (λ xs. xs ++ fs) (append-nil (past ++ starts_of pools ++ es)) ∙ append_assoc (past ++ starts_of pools) es fs
+                  ∙ ap (λ xs. past ++ xs ++ (es ++ fs)) start,
               subst (λ xs. Follows task (workers_in head) (past ++ xs) [] (first.more ++ second.more) (es ++ fs)) start
                   (follows_join task (workers_in head) (past ++ starts_of pools) [] first.more second.more es fs b
-                  (subst (λ xs. Follows task (workers_in head) xs first.more second.more fs) (append-nil (past ++ starts_of pools ++ es)) g)),
+                  (subst (λ xs. Follows task (workers_in head) xs first.more second.more fs)
+                  (append-nil (past ++ starts_of pools ++ es)) g)),
             )
 
 -- ---- with stops
@@ -329,7 +366,15 @@ ran_of task head entries old new runs =
     by : (log : Option (List Event)) → LogRuns task head [] entries old log
         → LogRan task head entries old log
     by None l = tt
-    by (Some after) (past, events, was, came, follows) = (past, events, [], was, came ∙ sym (append-nil (past ++ starts_before head.pools 0 (asks_of entries) ++ events)), follows, λ k d below. absurd (omega (arith, below)))
+    by (Some after) (past, events, was, came, follows) = (
+      past,
+      events,
+      [],
+      was,
+      came ∙ sym (append-nil (past ++ starts_before head.pools 0 (asks_of entries) ++ events)),
+      follows,
+      λ k d below. absurd (omega (arith, below)),
+    )
 
 pub ran_stopped : (task : Task) (head : Head) (entries : List Entry) (old mid new : Option (List Event))
     → LogRan task head entries old mid
@@ -343,7 +388,8 @@ ran_stopped task head entries old (Some now) (Some after) (past, events, stops, 
       events,
       stops ++ more,
       was,
-      grown ∙ ap (λ es. es ++ more) (sym same ∙ came) ∙ append_assoc (past ++ starts_before head.pools 0 (asks_of entries) ++ events) stops more,
+      grown ∙ ap (λ es. es ++ more) (sym same ∙ came)
+          ∙ append_assoc (past ++ starts_before head.pools 0 (asks_of entries) ++ events) stops more,
       follows,
       All-append IsStop stops more all each,
     )

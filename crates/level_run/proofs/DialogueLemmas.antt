@@ -12,11 +12,10 @@ use Rattle.gen_lines.specs.Reply.{reply_of}
 use Rattle.gen_lines.specs.declared.answer.Why.{Why}
 use Rattle.gen_lines.specs.declared.answer.Why.TheVariants.{TooLong}
 use Rattle.io_world.specs.Talks.{Talk, Hears, Writes, heard_more, wrote_more}
-use Rattle.session_core.proofs.LearningLemmas.{take_next}
 use Rattle.session_core.proofs.SessionLemmas.{count_joined, count_one}
 use Rattle.session_core.specs.Slots.{entry_of}
 use Rattle.session_core.specs.declared.pools.Workers.{Workers}
-use Rattle.lemmas.proofs.Members.{push_cases, get_append, get_pushed}
+use Rattle.lemmas.proofs.Members.{push_cases, get_append, get_pushed, next_taken}
 use Rattle.lemmas.proofs.Options.{same_some}
 use Rattle.task_model.specs.declared.task.Task.{Task}
 use Rattle.transcript_model.specs.Legal.{IsLegal}
@@ -97,7 +96,8 @@ module _ (task : Task) (version : ℕ) (rs : List Request) (replies : List Entry
     said_grown lines said k q e at own answer = by (push_cases rs r k q at)
       where
         by : (slice_get rs k ≡ Some q) ⊎ ((k ≡ length rs) × (q ≡ r))
-            → (line : List ℕ) × (slice_get lines (count_to child (take k (rs ++ r ∷ []))) ≡ Some line) × (entry_of q.number (reply_of line (wanted_by task version q)) ≡ Some e)
+            → (line : List ℕ) × (slice_get lines (count_to child (take k (rs ++ r ∷ []))) ≡ Some line)
+            × (entry_of q.number (reply_of line (wanted_by task version q)) ≡ Some e)
         by (inl there) =
             let f = said k q e there own answer in
             let within : k ≤ length rs = omega (arith, slice_get_within rs k q there) in
@@ -128,7 +128,8 @@ module _ (task : Task) (version : ℕ) (rs : List Request) (replies : List Entry
     talk_unsent kept talk other t = record {
       written =
           t.written
-          ∙ sym (bytes_more child rs (r ∷ []) ∙ ap (λ bytes. bytes_to child rs ++ bytes) (other_bytes r child other) ∙ append-nil (bytes_to child rs));
+          ∙ sym (bytes_more child rs (r ∷ []) ∙ ap (λ bytes. bytes_to child rs ++ bytes) (other_bytes r child other)
+          ∙ append-nil (bytes_to child rs));
       taken = t.taken;
       cut = t.cut;
       many = many_grown t.taken t.many;
@@ -149,7 +150,7 @@ module _ (task : Task) (version : ℕ) (rs : List Request) (replies : List Entry
       cut = took (pushed t.cut more) first;
       many =
           length-append t.taken (line ∷ []) ∙ ap (λ n. n + 1) t.many ∙ sym (count_own (take (length replies) rs) r child own)
-          ∙ ap (count_to child) (sym (take_next rs (length replies) r next)) ∙ ap (λ n. count_to child (take n rs)) (sym longer);
+          ∙ ap (count_to child) (sym (next_taken rs (length replies) r next)) ∙ ap (λ n. count_to child (take n rs)) (sym longer);
       said = said;
     }
       where
@@ -157,12 +158,17 @@ module _ (task : Task) (version : ℕ) (rs : List Request) (replies : List Entry
         said k q x at mine answer = by (push_cases replies e k x answer)
           where
             by : (slice_get replies k ≡ Some x) ⊎ ((k ≡ length replies) × (x ≡ e))
-                → (l : List ℕ) × (slice_get (t.taken ++ line ∷ []) (count_to child (take k rs)) ≡ Some l) × (entry_of q.number (reply_of l (wanted_by task version q)) ≡ Some x)
+                → (l : List ℕ) × (slice_get (t.taken ++ line ∷ []) (count_to child (take k rs)) ≡ Some l)
+                × (entry_of q.number (reply_of l (wanted_by task version q)) ≡ Some x)
             by (inl there) =
                 let f = t.said k q x at mine there in (f.0, get_append t.taken (line ∷ []) (count_to child (take k rs)) f.0 f.1, f.2)
             by (inr here) =
-                let same : q ≡ r = same_some (slice_get rs k) q r at (ap (slice_get rs) here.0 ∙ next) in
-                (line, get_pushed t.taken line (count_to child (take k rs)) (ap (λ n. count_to child (take n rs)) here.0 ∙ sym t.many), subst (λ (w : Request). entry_of w.number (reply_of line (wanted_by task version w)) ≡ Some x) (sym same) (says ∙ ap Some (sym here.1)))
+                let same : q ≡ r = same_some (slice_get rs k) q r at (ap (slice_get rs) here.0 ∙ next) in (
+                  line,
+                  get_pushed t.taken line (count_to child (take k rs)) (ap (λ n. count_to child (take n rs)) here.0 ∙ sym t.many),
+                  subst (λ (w : Request). entry_of w.number (reply_of line (wanted_by task version w)) ≡ Some x)
+                      (sym same) (says ∙ ap Some (sym here.1)),
+                )
 
     talk_unheard : (kept : List ℕ) (talk : Talk) → r.child ≢ child
         → IsTalk task version rs replies child kept talk
@@ -173,7 +179,7 @@ module _ (task : Task) (version : ℕ) (rs : List Request) (replies : List Entry
       cut = t.cut;
       many =
           t.many ∙ sym (count_other (take (length replies) rs) r child other)
-          ∙ ap (count_to child) (sym (take_next rs (length replies) r next)) ∙ ap (λ n. count_to child (take n rs)) (sym longer);
+          ∙ ap (count_to child) (sym (next_taken rs (length replies) r next)) ∙ ap (λ n. count_to child (take n rs)) (sym longer);
       said = said;
     }
       where
@@ -181,7 +187,8 @@ module _ (task : Task) (version : ℕ) (rs : List Request) (replies : List Entry
         said k q x at mine answer = by (push_cases replies e k x answer)
           where
             by : (slice_get replies k ≡ Some x) ⊎ ((k ≡ length replies) × (x ≡ e))
-                → (l : List ℕ) × (slice_get t.taken (count_to child (take k rs)) ≡ Some l) × (entry_of q.number (reply_of l (wanted_by task version q)) ≡ Some x)
+                → (l : List ℕ) × (slice_get t.taken (count_to child (take k rs)) ≡ Some l)
+                × (entry_of q.number (reply_of l (wanted_by task version q)) ≡ Some x)
             by (inl there) = t.said k q x at mine there
             by (inr here) =
                 let same : q ≡ r = same_some (slice_get rs k) q r at (ap (slice_get rs) here.0 ∙ next) in
@@ -196,21 +203,33 @@ module _ (task : Task) (version : ℕ) (rs : List Request) (replies : List Entry
   pub all_lines : (kept : List ℕ) (talk : Talk) (t : IsTalk task version rs replies child kept talk)
       → lines_of talk.heard ≡ t.taken ++ lines_of kept
   all_lines kept talk t =
-      ap lines_of (sym (append-nil talk.heard)) ∙ (whole talk.heard t.taken kept t.cut).lines [] ∙ ap (λ bytes. t.taken ++ lines_of bytes) (append-nil kept)
+      ap lines_of (sym (append-nil talk.heard)) ∙ (whole talk.heard t.taken kept t.cut).lines []
+      ∙ ap (λ bytes. t.taken ++ lines_of bytes) (append-nil kept)
 
   pub talk_said : (kept : List ℕ) (talk : Talk) → IsTalk task version rs replies child kept talk
       → AreSaid task version rs replies child (lines_of talk.heard)
   talk_said kept talk t k r e at own answer =
-      let f = t.said k r e at own answer in
-      (f.0, ap (λ ls. slice_get ls (count_to child (take k rs))) (all_lines kept talk t) ∙ get_append t.taken (lines_of kept) (count_to child (take k rs)) f.0 f.1, f.2)
+      let f = t.said k r e at own answer in (
+        f.0,
+        ap (λ ls. slice_get ls (count_to child (take k rs))) (all_lines kept talk t)
+            ∙ get_append t.taken (lines_of kept) (count_to child (take k rs)) f.0 f.1,
+        f.2,
+      )
 
   -- the first line that is kept is none that may stand, or too many bytes are kept
   pub talk_bad : (kept : List ℕ) (talk : Talk) (r : Request) (why : Why)
-      → ((line : List ℕ) × (lines_of kept ≡ line ∷ lines_of (after_first is_feed kept)) × (reply_of line (wanted_by task version r) ≡ reply.bad why)) ⊎ ((why ≡ TooLong) × (lines_of kept ≡ []) × (length kept ≡ 1025))
+      → ((line : List ℕ) × (lines_of kept ≡ line ∷ lines_of (after_first is_feed kept))
+      × (reply_of line (wanted_by task version r) ≡ reply.bad why))
+      ⊎ ((why ≡ TooLong) × (lines_of kept ≡ []) × (length kept ≡ 1025))
       → IsTalk task version rs replies child kept talk
       → IsBadLine talk.heard (count_to child (take (length replies) rs)) (wanted_by task version r) why
   talk_bad kept talk r why (inl (line, first, is)) t =
-      inl (line, ap (λ ls. slice_get ls (count_to child (take (length replies) rs))) (all_lines kept talk t ∙ ap (λ ls. t.taken ++ ls) first) ∙ seam t.taken line (lines_of (after_first is_feed kept)) (count_to child (take (length replies) rs)) t.many, is)
+      inl (
+        line,
+        ap (λ ls. slice_get ls (count_to child (take (length replies) rs))) (all_lines kept talk t ∙ ap (λ ls. t.taken ++ ls) first)
+            ∙ seam t.taken line (lines_of (after_first is_feed kept)) (count_to child (take (length replies) rs)) t.many,
+        is,
+      )
     where
       seam : {A : Type 0} (xs : List A) (x : A) (ys : List A) (n : ℕ) → length xs ≡ n
           → slice_get (xs ++ x ∷ ys) n ≡ Some x
@@ -236,11 +255,14 @@ module _ (task : Task) (version : ℕ) (pools : List Workers) (rs : List Request
       by : (child : ℕ) → IsOneOf pools child → (child ≡ r.child) ⊎ (child ≢ r.child)
           → IfSome (new child) (IsTalk task version (rs ++ r ∷ []) replies child (kept child))
       by child is (inl own) =
-          subst (λ o. IfSome o (IsTalk task version (rs ++ r ∷ []) replies child (kept child))) (sym (ap new own ∙ w.here ∙ ap (λ c. option_map (wrote_more (text_of_request r)) (old c)) (sym own)))
-          (mapped (wrote_more (text_of_request r)) _ _ (old child) (λ talk. talk_sent task version rs replies child r t.few (kept child) talk (sym own)) (t.each child is))
+          subst (λ o. IfSome o (IsTalk task version (rs ++ r ∷ []) replies child (kept child)))
+          (sym (ap new own ∙ w.here ∙ ap (λ c. option_map (wrote_more (text_of_request r)) (old c)) (sym own)))
+          (mapped (wrote_more (text_of_request r)) _ _
+          (old child) (λ talk. talk_sent task version rs replies child r t.few (kept child) talk (sym own)) (t.each child is))
       by child is (inr other) =
           subst (λ o. IfSome o (IsTalk task version (rs ++ r ∷ []) replies child (kept child))) (sym (w.others child other))
-          (told_map _ _ (old child) (λ talk. talk_unsent task version rs replies child r t.few (kept child) talk (λ e. other (sym e))) (t.each child is))
+          (told_map _ _ (old child) (λ talk. talk_unsent task version rs replies child r t.few (kept child) talk (λ e. other (sym e)))
+          (t.each child is))
 
   pub talks_heard : (kept left : ℕ → List ℕ) (r : Request) (e : Entry) (more line : List ℕ)
       → slice_get rs (length replies) ≡ Some r
@@ -257,13 +279,19 @@ module _ (task : Task) (version : ℕ) (pools : List Workers) (rs : List Request
       by : (child : ℕ) → IsOneOf pools child → (child ≡ r.child) ⊎ (child ≢ r.child)
           → IfSome (new child) (IsTalk task version rs (replies ++ e ∷ []) child (left child))
       by child is (inl own) =
-          subst (λ bytes. IfSome (new child) (IsTalk task version rs (replies ++ e ∷ []) child bytes)) (sym (ap left own ∙ here ∙ ap (λ c. after_first is_feed (kept c ++ more)) (sym own)))
-          (subst (λ o. IfSome o (IsTalk task version rs (replies ++ e ∷ []) child (after_first is_feed (kept child ++ more)))) (sym (ap new own ∙ h.here ∙ ap (λ c. option_map (heard_more more) (old c)) (sym own)))
-          (mapped (heard_more more) _ _ (old child) (λ talk. talk_heard task version rs replies child r e next (kept child) more line talk (sym own) (subst (λ c. lines_of (kept c ++ more) ≡ line ∷ lines_of (after_first is_feed (kept c ++ more))) (sym own) first) says) (t.each child is)))
+          subst (λ bytes. IfSome (new child) (IsTalk task version rs (replies ++ e ∷ []) child bytes))
+          (sym (ap left own ∙ here ∙ ap (λ c. after_first is_feed (kept c ++ more)) (sym own)))
+          (subst (λ o. IfSome o (IsTalk task version rs (replies ++ e ∷ []) child (after_first is_feed (kept child ++ more))))
+          (sym (ap new own ∙ h.here ∙ ap (λ c. option_map (heard_more more) (old c)) (sym own)))
+          (mapped (heard_more more) _ _ (old child)
+          (λ talk. talk_heard task version rs replies child r e next (kept child) more line talk (sym own)
+          (subst (λ c. lines_of (kept c ++ more) ≡ line ∷ lines_of (after_first is_feed (kept c ++ more))) (sym own) first) says)
+          (t.each child is)))
       by child is (inr other) =
           subst (λ bytes. IfSome (new child) (IsTalk task version rs (replies ++ e ∷ []) child bytes)) (sym (others child other))
           (subst (λ o. IfSome o (IsTalk task version rs (replies ++ e ∷ []) child (kept child))) (sym (h.others child other))
-          (told_map _ _ (old child) (λ talk. talk_unheard task version rs replies child r e next (kept child) talk (λ same. other (sym same))) (t.each child is)))
+          (told_map _ _ (old child)
+          (λ talk. talk_unheard task version rs replies child r e next (kept child) talk (λ same. other (sym same))) (t.each child is)))
 
 -- what is kept when these bytes of the child came, and no line is taken
 abbrev pub with_more : (ℕ → List ℕ) → ℕ → List ℕ → ℕ → List ℕ
@@ -281,10 +309,13 @@ module _ (task : Task) (version : ℕ) (pools : List Workers) (rs : List Request
       by child is true e =
           let own : child ≡ heard = eqb-true child heard e in
           subst (λ b. IfSome (new child) (IsTalk task version rs replies child (cond b (kept child ++ more) (kept child)))) (sym e)
-          (subst (λ o. IfSome o (IsTalk task version rs replies child (kept child ++ more))) (sym (ap new own ∙ h.here ∙ ap (λ c. option_map (heard_more more) (old c)) (sym own)))
-          (mapped (heard_more more) _ _ (old child) (λ talk. talk_more task version rs replies child (kept child) more talk) (t.each child is)))
+          (subst (λ o. IfSome o (IsTalk task version rs replies child (kept child ++ more)))
+          (sym (ap new own ∙ h.here ∙ ap (λ c. option_map (heard_more more) (old c)) (sym own)))
+          (mapped (heard_more more) _ _ (old child)
+          (λ talk. talk_more task version rs replies child (kept child) more talk) (t.each child is)))
       by child is false e =
-          let other : child ≢ heard = λ own. let yes : (child == heard) ≡ true = eq-eqb child heard own in let bad : true ≡ false = sym yes ∙ e in absurd (cc) in
+          let other : child ≢ heard =
+          λ own. let yes : (child == heard) ≡ true = eq-eqb child heard own in let bad : true ≡ false = sym yes ∙ e in absurd (cc) in
           subst (λ b. IfSome (new child) (IsTalk task version rs replies child (cond b (kept child ++ more) (kept child)))) (sym e)
           (subst (λ o. IfSome o (IsTalk task version rs replies child (kept child))) (sym (h.others child other)) (t.each child is))
 
@@ -314,7 +345,8 @@ module _ (task : Task) (version : ℕ) (pools : List Workers) (entries : List En
   }
 
 -- a request more was written, in whole or in part
-pub broken_one : (task : Task) (version : ℕ) (pools : List Workers) (entries : List Entry) (e : Entry) (r : Request) (n : ℕ) (kept : ℕ → List ℕ) (old new : ℕ → Option Talk)
+pub broken_one : (task : Task) (version : ℕ) (pools : List Workers) (entries : List Entry) (e : Entry) (r : Request)
+    (n : ℕ) (kept : ℕ → List ℕ) (old new : ℕ → Option Talk)
     → IsLegal version task (entries ++ e ∷ []) → requests_of task pools (entries ++ e ∷ []) ≡ requests_of task pools entries ++ r ∷ []
     → Writes r.child (take n (text_of_request r)) old new
     → Talks task version pools (requests_of task pools entries) (replies_of entries) kept old → BrokenOff task version pools entries new
@@ -336,33 +368,50 @@ broken_one task version pools entries e r n kept old new legal grown w t = recor
     nothing (suc m) = refl
 
     by : (child : ℕ) → IsOneOf pools child → (child ≡ r.child) ⊎ (child ≢ r.child)
-        → IfSome (new child) (IsSaid task version (requests_of task pools entries) (replies_of entries) (take n (bytes_to child (further_requests task pools entries (e ∷ [])))) child)
+        → IfSome (new child) (IsSaid task version (requests_of task pools entries)
+        (replies_of entries) (take n (bytes_to child (further_requests task pools entries (e ∷ [])))) child)
     by child is (inl own) =
-        subst (λ o. IfSome o (IsSaid task version (requests_of task pools entries) (replies_of entries) (take n (bytes_to child (further_requests task pools entries (e ∷ [])))) child)) (sym (ap new own ∙ w.here ∙ ap (λ c. option_map (wrote_more (take n (text_of_request r))) (old c)) (sym own)))
+        subst (λ o. IfSome o (IsSaid task version (requests_of task pools entries)
+        (replies_of entries) (take n (bytes_to child (further_requests task pools entries (e ∷ [])))) child))
+        (sym (ap new own ∙ w.here ∙ ap (λ c. option_map (wrote_more (take n (text_of_request r))) (old c)) (sym own)))
         (mapped (wrote_more (take n (text_of_request r))) _ _ (old child) (λ talk x. record {
           written =
               ap (λ bytes. bytes ++ take n (text_of_request r)) x.written
-              ∙ ap (λ bytes. bytes_to child (requests_of task pools entries) ++ take n bytes) (sym (ap (bytes_to child) further ∙ own_bytes r child (sym own)));
+              ∙ ap (λ bytes. bytes_to child (requests_of task pools entries) ++ take n bytes)
+              (sym (ap (bytes_to child) further ∙ own_bytes r child (sym own)));
           answered = talk_said task version (requests_of task pools entries) (replies_of entries) child (kept child) talk x;
         }) (t.each child is))
     by child is (inr other) =
-        subst (λ o. IfSome o (IsSaid task version (requests_of task pools entries) (replies_of entries) (take n (bytes_to child (further_requests task pools entries (e ∷ [])))) child)) (sym (w.others child other))
+        subst (λ o. IfSome o (IsSaid task version (requests_of task pools entries)
+        (replies_of entries) (take n (bytes_to child (further_requests task pools entries (e ∷ [])))) child))
+        (sym (w.others child other))
         (told_map _ _ (old child) (λ talk x. record {
           written =
               x.written ∙ sym (append-nil (bytes_to child (requests_of task pools entries)))
-              ∙ ap (λ bytes. bytes_to child (requests_of task pools entries) ++ bytes) (sym (ap (take n) (ap (bytes_to child) further ∙ other_bytes r child (λ same. other (sym same))) ∙ nothing n));
+              ∙ ap (λ bytes. bytes_to child (requests_of task pools entries) ++ bytes)
+              (sym (ap (take n) (ap (bytes_to child) further ∙ other_bytes r child (λ same. other (sym same))) ∙ nothing n));
           answered = talk_said task version (requests_of task pools entries) (replies_of entries) child (kept child) talk x;
         }) (t.each child is))
 
 -- the line that was heard for the next request is no answer
-pub bad_line : (task : Task) (version : ℕ) (pools : List Workers) (entries : List Entry) (r : Request) (more : List ℕ) (why : Why) (kept : ℕ → List ℕ) (old new : ℕ → Option Talk)
+pub bad_line : (task : Task) (version : ℕ) (pools : List Workers) (entries : List Entry) (r : Request) (more : List ℕ)
+    (why : Why) (kept : ℕ → List ℕ) (old new : ℕ → Option Talk)
     → IsOneOf pools r.child → slice_get (requests_of task pools entries) (length (replies_of entries)) ≡ Some r → Hears r.child more old new
-    → ((line : List ℕ) × (lines_of (kept r.child ++ more) ≡ line ∷ lines_of (after_first is_feed (kept r.child ++ more))) × (reply_of line (wanted_by task version r) ≡ reply.bad why)) ⊎ ((why ≡ TooLong) × (lines_of (kept r.child ++ more) ≡ []) × (length (kept r.child ++ more) ≡ 1025))
+    → ((line : List ℕ) × (lines_of (kept r.child ++ more) ≡ line ∷ lines_of (after_first is_feed (kept r.child ++ more)))
+    × (reply_of line (wanted_by task version r) ≡ reply.bad why))
+    ⊎ ((why ≡ TooLong) × (lines_of (kept r.child ++ more) ≡ []) × (length (kept r.child ++ more) ≡ 1025))
     → Talks task version pools (requests_of task pools entries) (replies_of entries) kept old
     → HasBadLine task version pools entries new r.number why
 bad_line task version pools entries r more why kept old new one next h bad t = record {
   request = r;
   numbered = refl;
   next = next;
-  heard = subst (λ o. IfSome o (λ (talk : Talk). IsBadLine talk.heard (count_to r.child (take (length (replies_of entries)) (requests_of task pools entries))) (wanted_by task version r) why)) (sym h.here) (mapped (heard_more more) _ _ (old r.child) (λ talk x. talk_bad task version (requests_of task pools entries) (replies_of entries) r.child (kept r.child ++ more) (heard_more more talk) r why bad (talk_more task version (requests_of task pools entries) (replies_of entries) r.child (kept r.child) more talk x)) (t.each r.child one));
+  heard = subst (λ o. IfSome o (λ (talk : Talk).
+      IsBadLine talk.heard (count_to r.child (take (length (replies_of entries)) (requests_of task pools entries)))
+      (wanted_by task version r) why)) (sym h.here)
+      (mapped (heard_more more) _ _ (old r.child)
+      (λ talk x. talk_bad task version (requests_of task pools entries) (replies_of entries) r.child (kept r.child ++ more)
+      (heard_more more talk) r why bad
+      (talk_more task version (requests_of task pools entries) (replies_of entries) r.child (kept r.child) more talk x))
+      (t.each r.child one));
 }

@@ -23,15 +23,24 @@ use Rattle.lemmas.proofs.Options.{and_then_some}
 
 module _ (task : Task) (pools : List Workers) where
   pub requests_join : (round : List ℕ) (xs ys : List Entry)
-      → requests_after task pools round (xs ++ ys) ≡ requests_after task pools round xs ++ requests_after task pools (last_round task round xs) ys
+      → requests_after task pools round (xs ++ ys)
+      ≡ requests_after task pools round xs ++ requests_after task pools (last_round task round xs) ys
   requests_join round [] ys = refl
-  requests_join round (entry.Ask number turn call ∷ xs) ys = ap (λ rs. record { child = child_for pools round (stream_of task call); number = number; turn = turn; call = call } ∷ rs) (requests_join (round ++ stream_of task call ∷ []) xs ys)
+  requests_join round (entry.Ask number turn call ∷ xs) ys =
+      ap (λ rs. record { child = child_for pools round (stream_of task call); number = number; turn = turn; call = call } ∷ rs)
+      (requests_join (round ++ stream_of task call ∷ []) xs ys)
   requests_join round (e ∷ xs) ys = requests_join [] xs ys
 
   pub requests_counted : (round : List ℕ) (xs : List Entry)
       → length (requests_after task pools round xs) ≡ asks_of xs
   requests_counted round [] = refl
-  requests_counted round (entry.Ask number turn call ∷ xs) = omega (arith, requests_counted (round ++ stream_of task call ∷ []) xs, count_joined is_ask (entry.Ask number turn call ∷ []) xs, count_one is_ask (entry.Ask number turn call))
+  requests_counted round (entry.Ask number turn call ∷ xs) =
+      omega (
+        arith,
+        requests_counted (round ++ stream_of task call ∷ []) xs,
+        count_joined is_ask (entry.Ask number turn call ∷ []) xs,
+        count_one is_ask (entry.Ask number turn call),
+      )
   requests_counted round (e ∷ xs) =
       omega (arith, requests_counted [] xs, count_joined is_ask (e ∷ []) xs, count_one is_ask e)
 
@@ -63,7 +72,9 @@ module _ (task : Task) (pools : List Workers) where
       → requests_after task pools round (take n es) ≡ take n (requests_after task pools round es)
   requests_front round es zero asks = refl
   requests_front round [] (suc n) asks = refl
-  requests_front round (entry.Ask number turn call ∷ es) (suc n) asks = ap (λ rs. record { child = child_for pools round (stream_of task call); number = number; turn = turn; call = call } ∷ rs) (requests_front (round ++ stream_of task call ∷ []) es n (λ k e at. asks (suc k) e at))
+  requests_front round (entry.Ask number turn call ∷ es) (suc n) asks =
+      ap (λ rs. record { child = child_for pools round (stream_of task call); number = number; turn = turn; call = call } ∷ rs)
+      (requests_front (round ++ stream_of task call ∷ []) es n (λ k e at. asks (suc k) e at))
   requests_front round (e ∷ es) (suc n) asks = absurd (let bad = asks 0 e refl in cc)
 
   pub requests_long : (round : List ℕ) (es : List Entry) → AreAsks es
@@ -103,7 +114,8 @@ no_replies (e ∷ es) asks = absurd (let bad = asks 0 e refl in cc)
 pub all_replies : (es : List Entry) → AreReplies es → replies_of es ≡ es
 all_replies [] replies = refl
 all_replies (e ∷ es) replies =
-    ap (λ b. cond b (e ∷ replies_of es) (replies_of es)) (replies 0 e refl) ∙ ap (λ xs. e ∷ xs) (all_replies es (λ k x at. replies (suc k) x at))
+    ap (λ b. cond b (e ∷ replies_of es) (replies_of es)) (replies 0 e refl)
+    ∙ ap (λ xs. e ∷ xs) (all_replies es (λ k x at. replies (suc k) x at))
 
 pub replies_join : (xs ys : List Entry) → replies_of (xs ++ ys) ≡ replies_of xs ++ replies_of ys
 replies_join xs ys = filter-append is_answer xs ys
@@ -116,9 +128,13 @@ pub stream_shown : (task : Task) (names : List (List ℕ)) (i : Instance) → Is
     → stream_of task (call_of_instance task names i) ≡ i.stream
 stream_shown task names i fit below =
     let bare : Instance = record { stream = i.stream; inputs = [] } in
-    let named = call_names_instance task [] bare fit (λ j k x at_j at_k. absurd (cc)) below (λ o inside. absurd (omega (arith, inside.1))) in
-    let stream = and_then_some (λ stream. option_map (λ inputs. record { stream = stream; inputs = inputs }) (places_of [] [])) (stream_named task (call_of_instance task [] bare).name) bare named in
-    let inputs = map_some (λ inputs. let j : Instance = record { stream = stream.0; inputs = inputs } in j) (places_of [] []) bare stream.2 in
+    let named =
+    call_names_instance task [] bare fit (λ j k x at_j at_k. absurd (cc)) below (λ o inside. absurd (omega (arith, inside.1))) in
+    let stream =
+    and_then_some (λ stream. option_map (λ inputs. record { stream = stream; inputs = inputs }) (places_of [] []))
+    (stream_named task (call_of_instance task [] bare).name) bare named in
+    let inputs =
+    map_some (λ inputs. let j : Instance = record { stream = stream.0; inputs = inputs } in j) (places_of [] []) bare stream.2 in
     ap (λ o. unwrap_or o 0) stream.1 ∙ ap (λ (j : Instance). j.stream) inputs.2
 
 module _ (task : Task) (names : List (List ℕ)) (version : ℕ) (pools : List Workers) (fit : IsFit task) where
@@ -126,22 +142,39 @@ module _ (task : Task) (names : List (List ℕ)) (version : ℕ) (pools : List W
   pub slots_ask : (n : ℕ) (before : List ℕ) (dues : List Due)
       → ((k : ℕ) (d : Due) → slice_get dues k ≡ Some d → d.instance.stream < length task.streams)
       → ((k : ℕ) (t : Slot) → slice_get (slots_from task names version pools n before dues) k ≡ Some t → IsOneOf pools t.child)
-      → (k : ℕ) (r : Request) (t : Slot) → slice_get (requests_after task pools before (asks_from task names n dues)) k ≡ Some r → slice_get (slots_from task names version pools n before dues) k ≡ Some t → IsSlotOf task version pools r t
+      → (k : ℕ) (r : Request) (t : Slot) → slice_get (requests_after task pools before (asks_from task names n dues)) k ≡ Some r
+      → slice_get (slots_from task names version pools n before dues) k ≡ Some t → IsSlotOf task version pools r t
   slots_ask n before [] within one k r t at_r at_t = absurd (cc)
   slots_ask n before (d ∷ ds) within one zero r t at_r at_t =
-      let here : stream_of task (call_of_instance task names d.instance) ≡ d.instance.stream = stream_shown task names d.instance fit (within 0 d refl) in
-      let asks : record { child = child_for pools before (stream_of task (call_of_instance task names d.instance)); number = n; turn = d.turn; call = call_of_instance task names d.instance } ≡ r = cc in
+      let here : stream_of task (call_of_instance task names d.instance) ≡ d.instance.stream =
+      stream_shown task names d.instance fit (within 0 d refl) in
+      let asks : record {
+        child = child_for pools before (stream_of task (call_of_instance task names d.instance));
+        number = n;
+        turn = d.turn;
+        call = call_of_instance task names d.instance;
+      } ≡ r =
+      cc in
       let slot : slot_for task names version pools n before d ≡ t = cc in
       subst (λ (q : Request). IsSlotOf task version pools q t) asks
-      (subst (λ (u : Slot). IsSlotOf task version pools (record { child = child_for pools before (stream_of task (call_of_instance task names d.instance)); number = n; turn = d.turn; call = call_of_instance task names d.instance }) u) slot
+      (subst (λ (u : Slot).
+      IsSlotOf task version pools (record {
+        child = child_for pools before (stream_of task (call_of_instance task names d.instance));
+        number = n;
+        turn = d.turn;
+        call = call_of_instance task names d.instance;
+      }) u) slot
       (record {
-        one = subst (λ stream. IsOneOf pools (child_for pools before stream)) (sym here) (subst (λ (u : Slot). IsOneOf pools u.child) (sym slot) (one 0 t at_t));
+        one = subst (λ stream. IsOneOf pools (child_for pools before stream))
+            (sym here) (subst (λ (u : Slot). IsOneOf pools u.child) (sym slot) (one 0 t at_t));
         child = ap (child_for pools before) (sym here);
         number = refl;
         text = refl;
         wanted = ap (λ stream. wanted_at task version stream) (sym here);
       }))
   slots_ask n before (d ∷ ds) within one (suc k) r t at_r at_t =
-      let here : stream_of task (call_of_instance task names d.instance) ≡ d.instance.stream = stream_shown task names d.instance fit (within 0 d refl) in
+      let here : stream_of task (call_of_instance task names d.instance) ≡ d.instance.stream =
+      stream_shown task names d.instance fit (within 0 d refl) in
       slots_ask (n + 1) (before ++ d.instance.stream ∷ []) ds (λ j u at. within (suc j) u at) (λ j u at. one (suc j) u at) k r t
-      (ap (λ stream. slice_get (requests_after task pools (before ++ stream ∷ []) (asks_from task names (n + 1) ds)) k) (sym here) ∙ at_r) at_t
+      (ap (λ stream. slice_get (requests_after task pools (before ++ stream ∷ []) (asks_from task names (n + 1) ds)) k) (sym here) ∙ at_r)
+      at_t

@@ -107,7 +107,8 @@ pub behind_cut : {T : Type 0} (r : Result T RunFault) (fault : RunFault) (old mi
     → left ≡ piece ++ rest → IsErrAnd r (λ y. y ≡ fault) → IsBehind old mid left all → (fault ≡ Write) × CutOff mid new piece
     → Prints r old new all
 behind_cut r fault old mid new piece left rest all is err b cut =
-    prints_later r fault old mid new b.bytes piece rest all (b.whole ∙ ap (λ t. b.bytes ++ t) is ∙ sym (append_assoc b.bytes piece rest)) err b.took cut
+    prints_later r fault old mid new b.bytes piece rest all
+    (b.whole ∙ ap (λ t. b.bytes ++ t) is ∙ sym (append_assoc b.bytes piece rest)) err b.took cut
 
 pub behind_last : {T : Type 0} (r : Result T RunFault) (old mid new : Option (List ℕ)) (left all : List ℕ)
     → IsBehind old mid left all
@@ -141,9 +142,11 @@ lines_three l first second =
 
 -- the next tuple and a bar, and the tuples behind them
 pub tuples_step : (width bars : ℕ) (rest : List (List ℕ)) → 0 < bars
-    → fields_text (tuples_of width bars rest) ≡ (fields_text (take width rest) ++ 32 ∷ codes "|") ++ fields_text (tuples_of width (bars - 1) (drop width rest))
+    → fields_text (tuples_of width bars rest)
+    ≡ (fields_text (take width rest) ++ 32 ∷ codes "|") ++ fields_text (tuples_of width (bars - 1) (drop width rest))
 tuples_step width zero rest lt = absurd (omega arith)
 tuples_step width (suc bars) rest lt =
     flat_map-append (λ field. 32 ∷ field) (take width rest) (codes "|" ∷ tuples_of width bars (drop width rest))
     ∙ sym (append_assoc (fields_text (take width rest)) (32 ∷ codes "|") (fields_text (tuples_of width bars (drop width rest))))
-    ∙ ap (λ n. (fields_text (take width rest) ++ 32 ∷ codes "|") ++ fields_text (tuples_of width n (drop width rest))) (sym (suc_minus_one bars))
+    ∙ ap (λ n. (fields_text (take width rest) ++ 32 ∷ codes "|") ++ fields_text (tuples_of width n (drop width rest)))
+    (sym (suc_minus_one bars))

@@ -32,7 +32,9 @@ none_joined xs ys first second = count_joined is_level xs ys ∙ (λ i. first i 
 requests_none : (task : Task) (before : List Entry) (number : ℕ) (is : List Instance)
     → count_by is_level (requests_from task before number is) ≡ 0
 requests_none task before number [] = refl
-requests_none task before number (i ∷ is) = none_more (entry.Ask number (yields_of (notes_of task before) i) (call_of_instance task (names_of task before) i)) (requests_from task before (number + 1) is) refl (requests_none task before (number + 1) is)
+requests_none task before number (i ∷ is) =
+    none_more (entry.Ask number (yields_of (notes_of task before) i) (call_of_instance task (names_of task before) i))
+    (requests_from task before (number + 1) is) refl (requests_none task before (number + 1) is)
 
 answer_is_none : (number : ℕ) (e : Entry) → is_answer_to number e ≡ true → is_level e ≡ false
 answer_is_none number (entry.Ask n turn call) is = refl
@@ -58,7 +60,9 @@ rounds_none : (task : Task) (before : List Entry) (rounds : List (List Instance)
     → AreRoundsRun task before rounds entries → count_by is_level entries ≡ 0
 rounds_none task before [] entries none = ap (count_by is_level) none
 rounds_none task before (round ∷ rounds) entries (now, rest, is, (answers, same, are), run) =
-    let first = ap (count_by is_level) same ∙ none_joined (requests task before round) answers (requests_none task before _ round) (answers_none _ _ answers are) in
+    let first =
+    ap (count_by is_level) same
+    ∙ none_joined (requests task before round) answers (requests_none task before _ round) (answers_none _ _ answers are) in
     ap (count_by is_level) is ∙ none_joined now rest first (rounds_none task (before ++ now) rounds rest run)
 
 -- a level is counted once
@@ -66,7 +70,8 @@ pub level_counts : (head : Head) (task : Task) (before after : List Entry) (b : 
     → RunsLevel head task before after b
     → count_by is_level after ≡ count_by is_level before + 1
 level_counts head task before after b (now, pushed, level) =
-    let one = ap (count_by is_level) level.level.is ∙ count_head entry.Level level.level.rest ∙ ap (λ n. 1 + n) (rounds_none task _ level.level.batch.rounds level.level.rest level.level.batch.run) in
+    let one = ap (count_by is_level) level.is ∙ count_head entry.Level level.rest
+    ∙ ap (λ n. 1 + n) (rounds_none task _ level.batch.rounds level.rest level.batch.run) in
     ap (count_by is_level) pushed ∙ count_joined is_level before now ∙ ap (λ n. count_by is_level before + n) one
 
 -- where calls are wanting some were made

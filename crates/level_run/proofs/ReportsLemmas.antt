@@ -9,8 +9,9 @@ use Rattle.transcript_model.specs.declared.entry.Entry.{Entry}
 use Rattle.transcript_model.specs.declared.head.Head.{Head}
 use Rattle.transcript_model.specs.declared.outcome.Outcome.{Outcome}
 use Rattle.transcript_model.specs.declared.head.Mode.TheVariants.{Incremental}
-use Rattle.level_run.proofs.RollingFrontLemmas.{run_between, run_stands}
+use Rattle.level_run.proofs.RollingFrontLemmas.{run_between}
 use Rattle.level_run.proofs.TurnsLemmas.{standing_first}
+use Rattle.mode_turns.specs.Modes.{nothing_kept}
 use Rattle.level_run.proofs.StoppedLemmas.{appends_none, appends_then, stops_then}
 use Rattle.io_world.specs.Talks.{Event, Same, Talk}
 use Rattle.level_run.proofs.BreakingRunLemmas.{broken_more, broken_of, levels_broken, needed_more, needed_stops, quiet_breaks, stops_then_stops}
@@ -32,7 +33,7 @@ module _ (task : Task) (head : Head) (spoken : ℕ → Option Talk) where
   legal_nil k e at = absurd (cc)
 
   front_nil : head.mode ≡ Incremental → IsFrontOfRun head task []
-  front_nil mode = run_between head task [] mode (standing_first head task) legal_nil
+  front_nil mode = run_between head task nothing_kept [] (standing_first head task) legal_nil
 
   talks_nil : BrokenOff task head.version (workers_in head) [] spoken
   talks_nil = broken_unasked task head.version (workers_in head) [] spoken refl legal_nil
@@ -57,7 +58,9 @@ module _ (task : Task) (head : Head) (spoken : ℕ → Option Talk) where
   pub broken_before : (was now : Option (List Event)) (sink : Option (List ℕ)) (fault : RunFault)
       → LogStops was now → fault ≡ Memory
       → IsBroken task head spoken was now sink sink fault
-  broken_before was now sink fault stops is = subst (IsBroken task head spoken was now sink sink) (sym is) (record { text = []; form = inl (refl, refl, stops); told = appends_none sink })
+  broken_before was now sink fault stops is =
+      subst (IsBroken task head spoken was now sink sink)
+      (sym is) (record { text = []; form = inl (refl, refl, stops); told = appends_none sink })
 
   -- the head was to be written
   pub broken_head : head.mode ≡ Incremental
@@ -69,7 +72,15 @@ module _ (task : Task) (head : Head) (spoken : ℕ → Option Talk) where
       record { text = []; form = inl (refl, refl, stops_none log); told = misses }
   broken_head mode Write log old new misses = record {
     text = text_of_head task head;
-    form = inr (inl (record { entries = []; front = front_nil mode; blamed = tt; talks = talks_nil; calls = broken_of task head [] Write log log (quiet_breaks task head [] Write log refl [] (inl refl)); needed = inl (stops_none log); is = only_head }));
+    form = inr (inl (record {
+      entries = [];
+      front = front_nil mode;
+      blamed = tt;
+      talks = talks_nil;
+      calls = broken_of task head [] Write log log (quiet_breaks task head [] Write log refl [] (inl refl));
+      needed = inl (stops_none log);
+      is = only_head;
+    }));
     told = misses;
   }
 
@@ -80,18 +91,35 @@ module _ (task : Task) (head : Head) (spoken : ℕ → Option Talk) where
   broken_behind mode fault log old new told is =
       subst (IsBroken task head spoken log log old new) (sym is) (record {
         text = text_of_head task head;
-        form = inr (inl (record { entries = []; front = front_nil mode; blamed = tt; talks = talks_nil; calls = broken_of task head [] Memory log log (quiet_breaks task head [] Memory log (inl (refl, λ n. refl)) [] (inl refl)); needed = inl (stops_none log); is = only_head }));
+        form = inr (inl (record {
+          entries = [];
+          front = front_nil mode;
+          blamed = tt;
+          talks = talks_nil;
+          calls = broken_of task head [] Memory log log (quiet_breaks task head [] Memory log (inl (refl, λ n. refl)) [] (inl refl));
+          needed = inl (stops_none log);
+          is = only_head;
+        }));
         told = told;
       })
 
   -- the head was written, and the levels stopped
   pub broken_levels : (fault : RunFault) (was now : Option (List Event)) (old mid new : Option (List ℕ))
       → Appends old mid (text_of_head task head)
-      → Stopped head.version task (workers_in head) (IsFrontOfRun head task) [] fault mid new spoken (LevelBreaks task head [] fault was now)
+      → Stopped head.version task (workers_in head)
+      (IsFrontOfRun head task) [] fault mid new spoken (LevelBreaks task head [] fault was now)
       → IsBroken task head spoken was now old new fault
   broken_levels fault was now old mid new first stopped = record {
     text = text_so_far task head stopped.more;
-    form = inr (inl (record { entries = stopped.more; front = stopped.front; blamed = stopped.blamed; talks = stopped.talks; calls = broken_of task head stopped.more fault was now stopped.logged.0; needed = needed_stops stopped.more was now stopped.logged.1; is = refl }));
+    form = inr (inl (record {
+      entries = stopped.more;
+      front = stopped.front;
+      blamed = stopped.blamed;
+      talks = stopped.talks;
+      calls = broken_of task head stopped.more fault was now stopped.logged.0;
+      needed = needed_stops stopped.more was now stopped.logged.1;
+      is = refl;
+    }));
     told = stops_then fault old mid new _ _ first stopped.told;
   }
 
@@ -115,17 +143,37 @@ module _ (task : Task) (head : Head) (spoken : ℕ → Option Talk) where
   broken_end mode entries o Memory was now old mid new run talks runs needed closed first misses =
       record {
         text = text_so_far task head entries;
-        form = inr (inl (record { entries = entries; front = run_stands head task entries run.stage mode run.legal run.turns run.needed; blamed = tt; talks = talks_whole entries run.legal talks; calls = ended; needed = needed_stops entries was now needed; is = refl }));
-        told = subst (Appends old new) (append-nil (text_so_far task head entries)) (appends_then old mid new (text_so_far task head entries) [] first misses);
+        form = inr (inl (record {
+          entries = entries;
+          front = record { stage = run.stage; turns = record { legal = run.legal; turns = run.turns }; lazy = run.lazy };
+          blamed = tt;
+          talks = talks_whole entries run.legal talks;
+          calls = ended;
+          needed = needed_stops entries was now needed;
+          is = refl;
+        }));
+        told = subst (Appends old new) (append-nil (text_so_far task head entries))
+            (appends_then old mid new (text_so_far task head entries) [] first misses);
       }
     where
       ended : LogBroken task head entries Memory was now
       ended = broken_of task head entries Memory was now (subst (RunBreaks task head [] Memory was now) (append-nil entries)
-          (levels_broken task head entries entries Memory was now now runs refl [] (quiet_breaks task head entries Memory now (inl (refl, closed)) [] (inl refl))))
+          (levels_broken task head entries entries Memory was now now runs refl []
+          (quiet_breaks task head entries Memory now (inl (refl, closed)) [] (inl refl))))
   broken_end mode entries o Write was now old mid new run talks runs needed closed first misses =
       record {
         text = whole_text task head entries o;
-        form = inr (inr (refl, record { entries = entries; outcome = o; run = run; talks = talks; calls = ran_of task head entries was now runs; is = refl }));
+        form = inr (inr (
+          refl,
+          record {
+            entries = entries;
+            outcome = o;
+            run = run;
+            talks = talks;
+            calls = ran_of task head entries was now runs;
+            is = refl;
+          },
+        ));
         told = stops_then Write old mid new (text_so_far task head entries) (text_of_end head.version o) first misses;
       }
 
@@ -146,13 +194,16 @@ module _ (task : Task) (head : Head) (spoken : ℕ → Option Talk) where
       }
 
 -- what was said stays, and stops come to the log, so the report is still of it
-pub reported_behind : (task : Task) (head : Head) (spoken later : ℕ → Option Talk) (was now after : Option (List Event)) (old new : Option (List ℕ)) (ran : Ran)
+pub reported_behind : (task : Task) (head : Head) (spoken later : ℕ → Option Talk)
+    (was now after : Option (List Event)) (old new : Option (List ℕ)) (ran : Ran)
     → Same spoken later → LogStops now after → IsReported task head spoken was now old new ran
     → IsReported task head later was after old new ran
 reported_behind task head spoken later was now after old new ran same stops r = record {
   entries = r.entries;
   run = r.run;
-  talks = λ child one some. subst (λ talk. IfSome talk (IsSaid task head.version (requests_of task (workers_in head) r.entries) (replies_of r.entries) [] child)) (sym (same child)) (r.talks child one some);
+  talks = λ child one some.
+      subst (λ talk. IfSome talk (IsSaid task head.version (requests_of task (workers_in head) r.entries) (replies_of r.entries) [] child))
+      (sym (same child)) (r.talks child one some);
   calls = ran_stopped task head r.entries was now after r.calls stops;
   told = r.told;
   levels = r.levels;
@@ -160,13 +211,38 @@ reported_behind task head spoken later was now after old new ran same stops r = 
 }
 
 -- the same where there is no outcome
-pub broken_stopped : (task : Task) (head : Head) (spoken later : ℕ → Option Talk) (was now after : Option (List Event)) (old new : Option (List ℕ)) (fault : RunFault)
+pub broken_stopped : (task : Task) (head : Head) (spoken later : ℕ → Option Talk)
+    (was now after : Option (List Event)) (old new : Option (List ℕ)) (fault : RunFault)
     → Same spoken later → LogStops now after → IsBroken task head spoken was now old new fault
     → IsBroken task head later was after old new fault
-broken_stopped task head spoken later was now after old new fault same stops b = record { text = b.text; form = subst (λ s. WasToWrite task head fault s was after b.text) (λ i. λ k. sym (same k) i) (of b.form); told = b.told }
+broken_stopped task head spoken later was now after old new fault same stops b = record {
+  text = b.text;
+  form = subst (λ s. WasToWrite task head fault s was after b.text) (λ i. λ k. sym (same k) i) (of b.form);
+  told = b.told;
+}
   where
     of : {text : List ℕ} → WasToWrite task head fault spoken was now text
         → WasToWrite task head fault spoken was after text
     of (inl (is, none, before)) = inl (is, none, stops_then_stops was now after before stops)
-    of (inr (inl p)) = inr (inl (record { entries = p.entries; front = p.front; blamed = p.blamed; talks = p.talks; calls = broken_more task head p.entries fault was now after p.calls stops; needed = needed_more p.entries was now after p.needed stops; is = p.is }))
-    of (inr (inr (is, w))) = inr (inr (is, record { entries = w.entries; outcome = w.outcome; run = w.run; talks = w.talks; calls = ran_stopped task head w.entries was now after w.calls stops; is = w.is }))
+    of (inr (inl p)) =
+        inr (inl (record {
+          entries = p.entries;
+          front = p.front;
+          blamed = p.blamed;
+          talks = p.talks;
+          calls = broken_more task head p.entries fault was now after p.calls stops;
+          needed = needed_more p.entries was now after p.needed stops;
+          is = p.is;
+        }))
+    of (inr (inr (is, w))) =
+        inr (inr (
+          is,
+          record {
+            entries = w.entries;
+            outcome = w.outcome;
+            run = w.run;
+            talks = w.talks;
+            calls = ran_stopped task head w.entries was now after w.calls stops;
+            is = w.is;
+          },
+        ))

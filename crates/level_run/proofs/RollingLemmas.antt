@@ -44,9 +44,6 @@ none_or : {A : Type 0} (o : Option A) (d : A) → is_none o ≡ true → unwrap_
 none_or None d e = refl
 none_or (Some x) d e = absurd (cc)
 
-less_same : (k n : ℕ) → nat_lt k n ≡ true → k < n
-less_same k n e = ltb-true k n e
-
 -- ---- one slot is changed
 
 -- after the slot at a place is changed, the slot there is that, and the others are as they were
@@ -109,7 +106,8 @@ not_less_here place = le-ltb place place (omega arith)
 
 -- ---- requests
 
-module _ (s : State) (running : ℕ → Bool) (place : ℕ) (r : IsRolling s running place 0) (t : Slot) (at : slice_get s.slots place ≡ Some t) where
+module _ (s : State) (running : ℕ → Bool) (place : ℕ) (r : IsRolling s running place 0)
+    (t : Slot) (at : slice_get s.slots place ≡ Some t) where
   pub unsent_there : IsUnsent s.slots t.child
   unsent_there = record {
     slot = t;
@@ -184,7 +182,8 @@ unprinted_there slots k t at is =
     slice_get-map (λ (v : Slot). unwrap_or v.answer (entry.End v.number)) slots k
     ∙ ap (option_map (λ (v : Slot). unwrap_or v.answer (entry.End v.number))) at ∙ ap (λ o. Some (unwrap_or o (entry.End t.number))) is
 
-module _ (s : State) (running : ℕ → Bool) (sent place : ℕ) (r : IsRolling s running sent place) (below : place < sent) (t : Slot) (at : slice_get s.slots place ≡ Some t) where
+module _ (s : State) (running : ℕ → Bool) (sent place : ℕ) (r : IsRolling s running sent place) (below : place < sent)
+    (t : Slot) (at : slice_get s.slots place ≡ Some t) where
   pub open_now : t.answer ≡ None
   open_now = was_none t.answer (r.each_open place t at ∙ ap not (not_less_here place))
 
@@ -200,25 +199,31 @@ module _ (s : State) (running : ℕ → Bool) (sent place : ℕ) (r : IsRolling 
       → IsLegal version task (s.entries ++ s.asks ++ finished s.slots)
       → is_open (s.entries ++ s.asks ++ take place (finished s.slots)) (number_at s.slots t.child) ≡ true
   blamed_there version task legal =
-      ap (is_open (s.entries ++ s.asks ++ take place (finished s.slots))) (number_is s.slots t.child t (own_slot s.slots place t r.apart at))
+      ap (is_open (s.entries ++ s.asks ++ take place (finished s.slots)))
+      (number_is s.slots t.child t (own_slot s.slots place t r.apart at))
       ∙ open_there version task s.entries s.asks (finished s.slots) place t.number legal (unprinted_there s.slots place t at open_now)
 
   module _ (line : List ℕ) (good : is_bad_at s.slots t.child line ≡ false) where
     pub answered_now : is_none (heard_slot line t).answer ≡ false
-    answered_now = reply_good t.number (reply_to line t) (sym (bad_is s.slots t.child line t (fault_of (reply_to line t)) (own_slot s.slots place t r.apart at) refl) ∙ good)
+    answered_now =
+        reply_good t.number (reply_to line t)
+        (sym (bad_is s.slots t.child line t (fault_of (reply_to line t)) (own_slot s.slots place t r.apart at) refl) ∙ good)
 
     pub rolling_heard : IsRolling (after_line s t.child line false) running sent (place + 1)
     rolling_heard = record {
       working = refl;
       begun = r.begun;
       asks = r.asks ∙ sym (length-map s.slots (at_child t.child (heard_slot line)));
-      apart = subst AreDistinct (sym (children_kept (at_child t.child (heard_slot line)) (child_kept t.child (heard_slot line) (λ u. refl)) s.slots)) r.apart;
+      apart = subst AreDistinct
+          (sym (children_kept (at_child t.child (heard_slot line)) (child_kept t.child (heard_slot line) (λ u. refl)) s.slots)) r.apart;
       each_sent = λ k u is. elim (changed_at s.slots place t (heard_slot line) r.apart at k u is) [
         | inl here ↦ ap (λ (v : Slot). v.sent) here.1 ∙ r.each_sent place t at ∙ ap (λ n. nat_lt n sent) (sym here.0)
         | inr there ↦ r.each_sent k u there.1
       ];
       each_open = λ k u is. elim (changed_at s.slots place t (heard_slot line) r.apart at k u is) [
-        | inl here ↦ ap (λ (v : Slot). is_none v.answer) here.1 ∙ answered_now ∙ sym (ap not (less_here place)) ∙ ap (λ n. not (nat_lt n (place + 1))) (sym here.0)
+        | inl here ↦
+            ap (λ (v : Slot). is_none v.answer) here.1 ∙ answered_now ∙ sym (ap not (less_here place))
+            ∙ ap (λ n. not (nat_lt n (place + 1))) (sym here.0)
         | inr there ↦ r.each_open k u there.1 ∙ ap not (less_more k place there.0)
       ];
       low = λ k u is. elim (changed_at s.slots place t (heard_slot line) r.apart at k u is) [
@@ -234,7 +239,8 @@ module _ (s : State) (running : ℕ → Bool) (sent place : ℕ) (r : IsRolling 
     pub front_same : take place (finished (map (at_child t.child (heard_slot line)) s.slots)) ≡ take place (finished s.slots)
     front_same =
         take-map printed place (map g s.slots) ∙ ap (map printed) (take-map g place s.slots) ∙ map-map printed g (take place s.slots)
-        ∙ map_at (λ u. printed (g u)) printed (take place s.slots) (λ k u is. ap printed (at_other t.child (heard_slot line) u (elsewhere k u is)))
+        ∙ map_at (λ u. printed (g u)) printed (take place s.slots)
+        (λ k u is. ap printed (at_other t.child (heard_slot line) u (elsewhere k u is)))
         ∙ sym (take-map printed place s.slots)
       where
         g : Slot → Slot
@@ -256,7 +262,9 @@ module _ (s : State) (running : ℕ → Bool) (sent place : ℕ) (r : IsRolling 
             by : (b : Bool) → is_slot_of t.child u ≡ b → is_slot_of t.child u ≡ false
             by false e = e
             by true e =
-                let same : k ≡ place = r.apart k place t.child (child_at k u (front_at s.slots place k u is) ∙ ap Some (eqb-true u.child t.child e)) (child_at place t at) in
+                let same : k ≡ place =
+                r.apart k place t.child (child_at k u (front_at s.slots place k u is) ∙ ap Some (eqb-true u.child t.child e))
+                (child_at place t at) in
                 absurd (omega (arith, same, slice_get_within (take place s.slots) k u is, length-take place s.slots))
 
 -- ---- after a line was taken
@@ -277,7 +285,8 @@ pub record HeardMore (s : State) (running : ℕ → Bool) (place : ℕ) (new : S
       → IsLegal s.version task ((s.entries ++ s.asks ++ take place (finished s.slots)) ++ entry ∷ [])
   pub part : (task : Task) → IsSession task new
       → IsFront s.entries (IsRound task s.entries s.instances) ((s.entries ++ s.asks ++ take place (finished s.slots)) ++ entry ∷ [])
-  pub more : s.entries ++ s.asks ++ take (place + 1) (finished new.slots) ≡ (s.entries ++ s.asks ++ take place (finished new.slots)) ++ entry ∷ []
+  pub more : s.entries ++ s.asks ++ take (place + 1) (finished new.slots)
+      ≡ (s.entries ++ s.asks ++ take place (finished new.slots)) ++ entry ∷ []
 
 pub heard_more : (s : State) (running : ℕ → Bool) (place child : ℕ) (new : State) (kept left : List ℕ) (before after : ℕ → Option Talk)
     → IsRolling s running (length s.slots) place → place < length s.slots → (t : Slot) → slice_get s.slots place ≡ Some t → child ≡ t.child
@@ -298,12 +307,14 @@ heard_more s running place child new kept left before after r within t at own ta
         ∙ ap Some (at_own t.child (heard_slot takes.line) t (eq-eqb t.child t.child refl))
 
     printed : slice_get (finished (map (at_child t.child (heard_slot takes.line)) s.slots)) place ≡ Some said_one.0
-    printed = printed_there (map (at_child t.child (heard_slot takes.line)) s.slots) place (heard_slot takes.line t) said_one.0 place_is said_one.1
+    printed = printed_there (map (at_child t.child (heard_slot takes.line)) s.slots) place
+        (heard_slot takes.line t) said_one.0 place_is said_one.1
 
     front_is : take place (finished (map (at_child t.child (heard_slot takes.line)) s.slots)) ≡ take place (finished s.slots)
     front_is = front_same s running (length s.slots) place r within t at takes.line good
 
-    more_is : s.entries ++ s.asks ++ take (place + 1) (finished (map (at_child t.child (heard_slot takes.line)) s.slots)) ≡ (s.entries ++ s.asks ++ take place (finished (map (at_child t.child (heard_slot takes.line)) s.slots))) ++ said_one.0 ∷ []
+    more_is : s.entries ++ s.asks ++ take (place + 1) (finished (map (at_child t.child (heard_slot takes.line)) s.slots))
+        ≡ (s.entries ++ s.asks ++ take place (finished (map (at_child t.child (heard_slot takes.line)) s.slots))) ++ said_one.0 ∷ []
     more_is = one_more (s.entries ++ s.asks) (finished (map (at_child t.child (heard_slot takes.line)) s.slots)) place said_one.0 printed
 
     here : HeardMore s running place (after_line s t.child takes.line false)
@@ -312,12 +323,18 @@ heard_more s running place child new kept left before after r within t at own ta
       entry = said_one.0;
       at = place_is;
       said = said_one.1;
-      rolling = subst (λ n. IsRolling (after_line s t.child takes.line false) running n (place + 1)) (sym (length-map s.slots (at_child t.child (heard_slot takes.line)))) (rolling_heard s running (length s.slots) place r within t at takes.line good);
+      rolling = subst (λ n. IsRolling (after_line s t.child takes.line false) running n (place + 1))
+          (sym (length-map s.slots (at_child t.child (heard_slot takes.line))))
+          (rolling_heard s running (length s.slots) place r within t at takes.line good);
       front = front_is;
       legal = λ task h. subst (λ es. IsLegal s.version task ((s.entries ++ s.asks ++ es) ++ said_one.0 ∷ [])) front_is
-          (subst (IsLegal s.version task) more_is (answers_legal s.version task s.entries s.asks (finished (map (at_child t.child (heard_slot takes.line)) s.slots)) (place + 1) (round_legal task (after_line s t.child takes.line false) r.begun h)));
-      part = λ task h. subst (λ es. IsFront s.entries (IsRound task s.entries s.instances) ((s.entries ++ s.asks ++ es) ++ said_one.0 ∷ [])) front_is
-          (subst (IsFront s.entries (IsRound task s.entries s.instances)) more_is (front_answers task (after_line s t.child takes.line false) (place + 1) r.begun h));
+          (subst (IsLegal s.version task) more_is
+          (answers_legal s.version task s.entries s.asks (finished (map (at_child t.child (heard_slot takes.line)) s.slots))
+          (place + 1) (round_legal task (after_line s t.child takes.line false) r.begun h)));
+      part = λ task h. subst (λ es. IsFront s.entries (IsRound task s.entries s.instances) ((s.entries ++ s.asks ++ es) ++ said_one.0 ∷ []))
+          front_is
+          (subst (IsFront s.entries (IsRound task s.entries s.instances)) more_is
+          (front_answers task (after_line s t.child takes.line false) (place + 1) r.begun h));
       more = more_is;
     }
 
@@ -335,8 +352,10 @@ with_answer : (t : Slot) (ts : List Slot) (o : Option Entry) → t.answer ≡ o
     → (all_answered ts ≡ true) × (finished ts ≡ answers_of ts) → (all_answered (t ∷ ts) ≡ true) × (finished (t ∷ ts) ≡ answers_of (t ∷ ts))
 with_answer t ts None is some rest =
     absurd (let bad : true ≡ false = sym (ap is_none is) ∙ some in cc)
-with_answer t ts (Some e) is some rest =
-    (ap (λ o. not (is_none o) && all_answered ts) is ∙ rest.0, (λ i. unwrap_or (is i) (entry.End t.number) ∷ rest.1 i) ∙ ap (λ o. cons_option o (answers_of ts)) (sym is))
+with_answer t ts (Some e) is some rest = (
+  ap (λ o. not (is_none o) && all_answered ts) is ∙ rest.0,
+  (λ i. unwrap_or (is i) (entry.End t.number) ∷ rest.1 i) ∙ ap (λ o. cons_option o (answers_of ts)) (sym is),
+)
 
 all_by : (slots : List Slot)
     → ((k : ℕ) (t : Slot) → slice_get slots k ≡ Some t → is_none t.answer ≡ false)
@@ -353,11 +372,13 @@ all_heard s running count is r =
 
 -- ---- a round that was begun
 
-fresh_at : (task : Task) (names : List (List ℕ)) (version : ℕ) (pools : List Workers) (n : ℕ) (before : List ℕ) (dues : List Due) (k : ℕ) (t : Slot)
+fresh_at : (task : Task) (names : List (List ℕ)) (version : ℕ) (pools : List Workers) (n : ℕ) (before : List ℕ) (dues : List Due)
+    (k : ℕ) (t : Slot)
     → slice_get (slots_from task names version pools n before dues) k ≡ Some t → (t.sent ≡ false) × (t.answer ≡ None)
 fresh_at task names version pools n before [] k t at = absurd (cc)
 fresh_at task names version pools n before (d ∷ ds) zero t at =
-    let same : slot_for task names version pools n before d ≡ t = cc in (ap (λ (v : Slot). v.sent) (sym same), ap (λ (v : Slot). v.answer) (sym same))
+    let same : slot_for task names version pools n before d ≡ t = cc in
+    (ap (λ (v : Slot). v.sent) (sym same), ap (λ (v : Slot). v.answer) (sym same))
 fresh_at task names version pools n before (d ∷ ds) (suc k) t at =
     fresh_at task names version pools (n + 1) (before ++ d.instance.stream ∷ []) ds k t at
 
@@ -383,7 +404,9 @@ rolling_begun task s dues running works may h all = record {
   apart = children_distinct task s dues works may h s.known.names s.version (length s.asked + 1);
   each_sent =
       λ k t at. (fresh_at task s.known.names s.version s.pools (length s.asked + 1) [] dues k t at).0 ∙ sym (le-ltb k 0 (omega arith));
-  each_open = λ k t at. ap is_none (fresh_at task s.known.names s.version s.pools (length s.asked + 1) [] dues k t at).1 ∙ sym (ap not (le-ltb k 0 (omega arith)));
+  each_open =
+      λ k t at. ap is_none (fresh_at task s.known.names s.version s.pools (length s.asked + 1) [] dues k t at).1
+      ∙ sym (ap not (le-ltb k 0 (omega arith)));
   low = λ k t at. let p = served k t at in omega (arith, h.pools.few p.0 p.1 p.2, p.3.to);
   runs = λ k t at. let p = served k t at in all p.0 t.child p.1 p.2 p.3;
 }
@@ -391,7 +414,10 @@ rolling_begun task s dues running works may h all = record {
     served : (k : ℕ) (t : Slot)
         → slice_get (slots_from task s.known.names s.version s.pools (length s.asked + 1) [] dues) k ≡ Some t
         → (j : ℕ) × (p : Workers) × (slice_get s.pools j ≡ Some p) × HasChild p t.child
-    served k t at = child_served task s dues works may h s.known.names s.version (length s.asked + 1) k t.child (slice_get-map (λ (v : Slot). v.child) (slots_from task s.known.names s.version s.pools (length s.asked + 1) [] dues) k ∙ ap (option_map (λ (v : Slot). v.child)) at)
+    served k t at =
+        child_served task s dues works may h s.known.names s.version (length s.asked + 1) k t.child
+        (slice_get-map (λ (v : Slot). v.child) (slots_from task s.known.names s.version s.pools (length s.asked + 1) [] dues) k
+        ∙ ap (option_map (λ (v : Slot). v.child)) at)
 
 -- ---- a round that ends
 

@@ -17,17 +17,24 @@ use Rattle.transcript_model.specs.Rounds.{AreAnswers, IsRound, requests, request
 use Rattle.transcript_model.specs.Transcript.{names_of, notes_of}
 use Rattle.transcript_model.specs.declared.entry.Entry.{Entry}
 use Rattle.transcript_model.specs.declared.entry.Entry.TheVariants as entry
-use Rattle.session_core.proofs.LearningLemmas.{take_next}
 use Rattle.session_core.proofs.RoundCloseLemmas.{close_kept}
 use Rattle.session_core.specs.Session.{IsSession, AreSlotsFor, begun}
 use Rattle.session_core.specs.Slots.{Slot, entry_of, answers_of, all_answered, asks_from}
 use Rattle.session_core.specs.State.{State, with_slots}
 use Rattle.level_run.specs.Rolling.{IsFront, finished}
+use Rattle.lemmas.proofs.Members.{next_taken}
 
 -- ---- what is printed of a round is legal
 
 abbrev complete : Slot → Slot
-complete t = record { number = t.number; child = t.child; request = t.request; wanted = t.wanted; sent = t.sent; answer = Some (unwrap_or t.answer (entry.End t.number)) }
+complete t = record {
+  number = t.number;
+  child = t.child;
+  request = t.request;
+  wanted = t.wanted;
+  sent = t.sent;
+  answer = Some (unwrap_or t.answer (entry.End t.number));
+}
 
 complete_answers : (slots : List Slot) → answers_of (map complete slots) ≡ finished slots
 complete_answers [] = refl
@@ -80,7 +87,15 @@ round_legal task s begun h =
       learnt = h.learnt;
       known = h.known;
       notes = h.notes;
-      round = λ _. record { dues = r.dues; due = r.due; turns = r.turns; distinct = r.distinct; instances = r.instances; asks = r.asks; slots = complete_slots task s.version (length s.asked + 1) r.dues s.slots r.slots };
+      round = λ _. record {
+        dues = r.dues;
+        due = r.due;
+        turns = r.turns;
+        distinct = r.distinct;
+        instances = r.instances;
+        asks = r.asks;
+        slots = complete_slots task s.version (length s.asked + 1) r.dues s.slots r.slots;
+      };
     } in
     let closed = close_kept task (with_slots s (map complete s.slots) s.failed) begun (complete_all s.slots) whole in
     subst (λ es. IsLegal s.version task (s.entries ++ s.asks ++ es)) (complete_answers s.slots) closed.legal
@@ -107,20 +122,24 @@ pub answers_legal : (version : ℕ) (task : Task) (es asks rest : List Entry) (n
     → IsLegal version task (es ++ asks ++ rest)
     → IsLegal version task (es ++ asks ++ take n rest)
 answers_legal version task es asks rest n legal =
-    front_legal version task (es ++ asks ++ take n rest) (drop n rest) (subst (IsLegal version task) (sym (append_assoc (es ++ asks) (take n rest) (drop n rest) ∙ ap (λ xs. es ++ asks ++ xs) (take-append-drop n rest))) legal)
+    front_legal version task (es ++ asks ++ take n rest) (drop n rest)
+    (subst (IsLegal version task)
+    (sym (append_assoc (es ++ asks) (take n rest) (drop n rest) ∙ ap (λ xs. es ++ asks ++ xs) (take-append-drop n rest))) legal)
 
 -- one entry more
 pub one_more : (es rest : List Entry) (n : ℕ) (e : Entry) → slice_get rest n ≡ Some e
     → es ++ take (n + 1) rest ≡ (es ++ take n rest) ++ e ∷ []
 one_more es rest n e at =
-    ap (λ xs. es ++ xs) (take_next rest n e at) ∙ sym (append_assoc es (take n rest) (e ∷ []))
+    ap (λ xs. es ++ xs) (next_taken rest n e at) ∙ sym (append_assoc es (take n rest) (e ∷ []))
 
 -- a request that waits for its answer is open
 pub open_there : (version : ℕ) (task : Task) (es asks rest : List Entry) (n number : ℕ)
     → IsLegal version task (es ++ asks ++ rest)
     → slice_get rest n ≡ Some (entry.End number) → is_open (es ++ asks ++ take n rest) number ≡ true
 open_there version task es asks rest n number legal at =
-    (grows version task (es ++ asks ++ take n rest)).last (entry.End number) (subst (IsLegal version task) (one_more (es ++ asks) rest n (entry.End number) at) (answers_legal version task es asks rest (n + 1) legal))
+    (grows version task (es ++ asks ++ take n rest)).last (entry.End number)
+    (subst (IsLegal version task) (one_more (es ++ asks) rest n (entry.End number) at)
+    (answers_legal version task es asks rest (n + 1) legal))
 
 -- ---- the round in the transcript
 
@@ -128,7 +147,10 @@ asks_are : (task : Task) (before : List Entry) (n : ℕ) (dues : List Due)
     → All (λ (d : Due). d.turn ≡ yields_of (notes_of task before) d.instance) dues
     → asks_from task (names_of task before) n dues ≡ requests_from task before n (instances_of dues)
 asks_are task before n [] turns = refl
-asks_are task before n (d ∷ ds) turns = λ i. entry.Ask n (All-head (λ (u : Due). u.turn ≡ yields_of (notes_of task before) u.instance) d ds turns i) (call_of_instance task (names_of task before) d.instance) ∷ asks_are task before (n + 1) ds (All-tail (λ (u : Due). u.turn ≡ yields_of (notes_of task before) u.instance) d ds turns) i
+asks_are task before n (d ∷ ds) turns =
+    λ i. entry.Ask n (All-head (λ (u : Due). u.turn ≡ yields_of (notes_of task before) u.instance) d ds turns i)
+    (call_of_instance task (names_of task before) d.instance)
+    ∷ asks_are task before (n + 1) ds (All-tail (λ (u : Due). u.turn ≡ yields_of (notes_of task before) u.instance) d ds turns) i
 
 answers_number : (n : ℕ) (r : Reply) (e : Entry) → entry_of n r ≡ Some e → is_answer_to n e ≡ true
 answers_number n (reply.yields tuples values) e is =
@@ -161,9 +183,12 @@ round_is task s begun h =
     let r = h.round begun in
     let first : length s.asked + 1 ≡ asks_of s.entries + 1 = ap (λ n. n + 1) h.counted in
     let asks : s.asks ≡ requests task s.entries s.instances =
-    r.asks ∙ asks_are task s.entries (length s.asked + 1) r.dues r.turns ∙ (λ i. requests_from task s.entries (first i) (sym r.instances i)) in
+    r.asks ∙ asks_are task s.entries (length s.asked + 1) r.dues r.turns
+    ∙ (λ i. requests_from task s.entries (first i) (sym r.instances i)) in
     let answers : AreAnswers (asks_of s.entries + 1) (length s.instances) (finished s.slots) =
-    subst (λ n. AreAnswers n (length s.instances) (finished s.slots)) first (subst (λ is. AreAnswers (length s.asked + 1) (length is) (finished s.slots)) (sym r.instances) (are_answers task s.version (length s.asked + 1) r.dues s.slots r.slots)) in
+    subst (λ n. AreAnswers n (length s.instances) (finished s.slots)) first
+    (subst (λ is. AreAnswers (length s.asked + 1) (length is) (finished s.slots))
+    (sym r.instances) (are_answers task s.version (length s.asked + 1) r.dues s.slots r.slots)) in
     (finished s.slots, ap (λ es. es ++ finished s.slots) asks, answers)
 
 -- ---- fronts of the round
@@ -175,7 +200,9 @@ front_asks task s n begun h = record {
   part = take n s.asks;
   rest = drop n s.asks ++ finished s.slots;
   is = refl;
-  whole = subst (IsRound task s.entries s.instances) (sym (sym (append_assoc (take n s.asks) (drop n s.asks) (finished s.slots)) ∙ ap (λ xs. xs ++ finished s.slots) (take-append-drop n s.asks))) (round_is task s begun h);
+  whole = subst (IsRound task s.entries s.instances)
+      (sym (sym (append_assoc (take n s.asks) (drop n s.asks) (finished s.slots))
+      ∙ ap (λ xs. xs ++ finished s.slots) (take-append-drop n s.asks))) (round_is task s begun h);
 }
 
 -- and so are all requests and the answers so far
@@ -185,5 +212,7 @@ front_answers task s n begun h = record {
   part = s.asks ++ take n (finished s.slots);
   rest = drop n (finished s.slots);
   is = append_assoc s.entries s.asks (take n (finished s.slots));
-  whole = subst (IsRound task s.entries s.instances) (sym (append_assoc s.asks (take n (finished s.slots)) (drop n (finished s.slots)) ∙ ap (λ xs. s.asks ++ xs) (take-append-drop n (finished s.slots)))) (round_is task s begun h);
+  whole = subst (IsRound task s.entries s.instances)
+      (sym (append_assoc s.asks (take n (finished s.slots)) (drop n (finished s.slots))
+      ∙ ap (λ xs. s.asks ++ xs) (take-append-drop n (finished s.slots)))) (round_is task s begun h);
 }

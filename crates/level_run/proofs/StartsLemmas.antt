@@ -179,8 +179,11 @@ starts_whole pools next is = ap (λ n. flat_map (start_at pools) (numbers_from 0
 
 pub startable : (task : Task) (head : Head) → IsRunnable task head → AreStartable head.pools
 startable task head runnable = record {
-  apart = λ j k child p q at_j at_k in_p in_q. runnable.fit.pools.apart j k child (workers_of p) (workers_of q) (seen j p at_j) (seen k q at_k) (record { from = in_p.from; to = in_p.to }) (record { from = in_q.from; to = in_q.to });
-  low = λ k d lt. runnable.fit.pools.few k (workers_of (get_or head.pools k d)) (seen k (get_or head.pools k d) (slice_get-get_or head.pools k d lt));
+  apart = λ j k child p q at_j at_k in_p in_q.
+      runnable.fit.pools.apart j k child (workers_of p) (workers_of q) (seen j p at_j)
+      (seen k q at_k) (record { from = in_p.from; to = in_p.to }) (record { from = in_q.from; to = in_q.to });
+  low = λ k d lt. runnable.fit.pools.few k (workers_of (get_or head.pools k d))
+      (seen k (get_or head.pools k d) (slice_get-get_or head.pools k d lt));
   words = runnable.words;
 }
   where
@@ -199,7 +202,10 @@ all_run pools workers running is all k child w at in_w =
     by None here e = absurd (cc)
     by (Some p) here e =
         let same : workers_of p ≡ w = cc in
-        all k child p here (record { from = subst (λ (v : Workers). v.first ≤ child) (sym same) in_w.from; to = subst (λ (v : Workers). child < v.first + v.workers) (sym same) in_w.to })
+        all k child p here (record {
+          from = subst (λ (v : Workers). v.first ≤ child) (sym same) in_w.from;
+          to = subst (λ (v : Workers). child < v.first + v.workers) (sym same) in_w.to;
+        })
 
 -- ---- after a batch
 
@@ -211,7 +217,8 @@ all_ok (Ok t) P A B R f p a b = f t p a b
 all_ok (Err e) P A B R f p a b = tt
 
 -- whether children run after a batch
-pub started_after : (task : Task) (entries : List Entry) (before after calls many : ℕ) (b : Batch) (pools later : List Workers) (old mid new : ℕ → Bool)
+pub started_after : (task : Task) (entries : List Entry) (before after calls many : ℕ) (b : Batch)
+    (pools later : List Workers) (old mid new : ℕ → Bool)
     → EndsBatch task entries before after calls many b → before ≤ after → 1 ≤ calls → AreStarted pools before old
     → (0 < many → AllRun pools mid) → (many ≡ 0 → Same old mid) → Same mid new → later ≡ pools → AreStarted later after new
 started_after task entries before after calls many b pools later old mid new ends grows some started ready idle running same =

@@ -60,7 +60,8 @@ goes_then a b c old mid new first second = record {
   pushed =
       second.pushed ∙ ap (λ front. front ++ second.more) first.pushed
       ∙ append_assoc a first.more second.more;
-  told = subst (Appends old new) (sym (flat_map-append text_of_entry first.more second.more)) (appends_then old mid new _ _ first.told second.told);
+  told = subst (Appends old new) (sym (flat_map-append text_of_entry first.more second.more))
+      (appends_then old mid new _ _ first.told second.told);
 }
 
 -- ---- stops
@@ -103,8 +104,24 @@ module _ (version : ℕ) (task : Task) (pools : List Workers) (spoken : ℕ → 
   pub stopped_hearing : (before : List Entry) (fault : RunFault) (sink : Option (List ℕ)) (log : List Entry → Type 0)
       → IsLegal version task before → Front before → BrokenOff task version pools before spoken → log [] → MayHear fault
       → Stopped version task pools Front before fault sink sink spoken log
-  stopped_hearing before Generator sink log legal front broken here may = record { more = []; legal = legal_none before legal; front = front_none before front; told = appends_none sink; blamed = tt; talks = broken_same before broken; logged = here }
-  stopped_hearing before Memory sink log legal front broken here may = record { more = []; legal = legal_none before legal; front = front_none before front; told = appends_none sink; blamed = tt; talks = broken_same before broken; logged = here }
+  stopped_hearing before Generator sink log legal front broken here may = record {
+    more = [];
+    legal = legal_none before legal;
+    front = front_none before front;
+    told = appends_none sink;
+    blamed = tt;
+    talks = broken_same before broken;
+    logged = here;
+  }
+  stopped_hearing before Memory sink log legal front broken here may = record {
+    more = [];
+    legal = legal_none before legal;
+    front = front_none before front;
+    told = appends_none sink;
+    blamed = tt;
+    talks = broken_same before broken;
+    logged = here;
+  }
   stopped_hearing before Write sink log legal front broken here may = absurd may
   stopped_hearing before (Answer number why) sink log legal front broken here may = absurd may
 
@@ -112,7 +129,9 @@ module _ (version : ℕ) (task : Task) (pools : List Workers) (spoken : ℕ → 
   pub stopped_memory : (before : List Entry) (fault : RunFault) (sink : Option (List ℕ)) (log : List Entry → Type 0)
       → IsLegal version task before → Front before → BrokenOff task version pools before spoken → log [] → fault ≡ Memory
       → Stopped version task pools Front before fault sink sink spoken log
-  stopped_memory before fault sink log legal front broken here is = subst (λ f. Stopped version task pools Front before f sink sink spoken log) (sym is) (stopped_hearing before Memory sink log legal front broken here tt)
+  stopped_memory before fault sink log legal front broken here is =
+      subst (λ f. Stopped version task pools Front before f sink sink spoken log)
+      (sym is) (stopped_hearing before Memory sink log legal front broken here tt)
 
   -- a child failed, or its line is no answer to the open request
   pub stopped_blamed : (before : List Entry) (fault : RunFault) (sink : Option (List ℕ)) (log : List Entry → Type 0)
@@ -143,7 +162,8 @@ module _ (version : ℕ) (task : Task) (pools : List Workers) (spoken : ℕ → 
         more = e ∷ [];
         legal = legal;
         front = front;
-        told = subst (λ bytes. (m : ℕ) × (m < length bytes) × Appends old new (take m bytes)) (sym (lines_of_one e)) (cut.count, cut.less, cut.took);
+        told = subst (λ bytes. (m : ℕ) × (m < length bytes) × Appends old new (take m bytes))
+            (sym (lines_of_one e)) (cut.count, cut.less, cut.took);
         blamed = tt;
         talks = after;
         logged = here is;
@@ -154,19 +174,22 @@ module _ (version : ℕ) (task : Task) (pools : List Workers) (spoken : ℕ → 
       → (goes : Goes a b old mid) → ((more : List Entry) → later more → log (goes.more ++ more))
       → Stopped version task pools Front b fault mid new spoken later → Stopped version task pools Front a fault old new spoken log
   stopped_then a b fault old mid new log later goes both stopped =
-      let all : b ++ stopped.more ≡ a ++ (goes.more ++ stopped.more) = ap (λ front. front ++ stopped.more) goes.pushed ∙ append_assoc a goes.more stopped.more in
+      let all : b ++ stopped.more ≡ a ++ (goes.more ++ stopped.more) =
+      ap (λ front. front ++ stopped.more) goes.pushed ∙ append_assoc a goes.more stopped.more in
       record {
         more = goes.more ++ stopped.more;
         legal = subst (IsLegal version task) all stopped.legal;
         front = subst Front all stopped.front;
-        told = subst (StopsAt fault old new) (sym (flat_map-append text_of_entry goes.more stopped.more)) (stops_then fault old mid new _ _ goes.told stopped.told);
+        told = subst (StopsAt fault old new) (sym (flat_map-append text_of_entry goes.more stopped.more))
+            (stops_then fault old mid new _ _ goes.told stopped.told);
         blamed = subst (Blames version task pools spoken fault) all stopped.blamed;
         talks = subst (λ es. BrokenOff task version pools es spoken) all stopped.talks;
         logged = both stopped.more stopped.logged;
       }
 
   -- the front of one is the front of another, and what the log tells is told otherwise
-  pub stopped_as : (Other : List Entry → Type 0) (before : List Entry) (fault : RunFault) (old new : Option (List ℕ)) (log later : List Entry → Type 0)
+  pub stopped_as : (Other : List Entry → Type 0) (before : List Entry) (fault : RunFault)
+      (old new : Option (List ℕ)) (log later : List Entry → Type 0)
       → ((es : List Entry) → IsLegal version task es → Other es → Front es) → ((more : List Entry) → log more → later more)
       → Stopped version task pools Other before fault old new spoken log
       → Stopped version task pools Front before fault old new spoken later
@@ -203,7 +226,8 @@ handed_err r e is = let p = err_from_is_err_and r is in p.1 ∙ ap Err p.2
 -- ---- causes
 
 -- another fault needs none
-pub no_cause : {T U : Type 0} (failed : RunFault) (last before mid : ℕ) (first : Result T RunFault) (fault : RunFault) (r : Result U RunFault)
+pub no_cause : {T U : Type 0} (failed : RunFault) (last before mid : ℕ) (first : Result T RunFault)
+    (fault : RunFault) (r : Result U RunFault)
     → HasCause failed last before mid first → (fault ≡ failed → ⊥) → r ≡ Err fault → HasCause failed last before mid r
 no_cause failed last before mid first fault r a never is = record {
   later = a.later;
@@ -245,6 +269,10 @@ on_ok (Err e) P p = tt
 pub ok_map : {T E : Type 0} (r : Result T E) (P Q : Type 0) → (P → Q) → OnOk r P → OnOk r Q
 ok_map (Ok x) P Q f p = f p
 ok_map (Err e) P Q f p = tt
+
+pub ok_two : {T E : Type 0} (r : Result T E) (P Q R : Type 0) → (P → Q → R) → OnOk r P → OnOk r Q → OnOk r R
+ok_two (Ok x) P Q R f p q = f p q
+ok_two (Err e) P Q R f p q = tt
 
 pub err_both : {T E : Type 0} (r : Result T E) (P : E → Type 0) (Q : Type 0) (R : E → Type 0)
     → ((e : E) → P e → Q → R e) → IfErr r P

@@ -3,14 +3,17 @@ use Rattle.std.proofs.Common.{◌≡◌, ℕ, ◌<◌, arith, Bool, true, false,
 use Rattle.std.proofs.lemmas.List.{append-nil, nil_from_length}
 use Rattle.gen_lines.specs.Cutting.{fresh}
 use Rattle.io_world.specs.Talks.{Talk}
+use Rattle.session_core.specs.Session.{IsOf}
+use Rattle.session_core.specs.State.{State}
 use Rattle.session_core.specs.declared.pools.Workers.{Workers}
 use Rattle.task_model.specs.declared.task.Task.{Task}
 use Rattle.transcript_model.specs.Legal.{IsLegal, asks_of}
 use Rattle.transcript_model.specs.declared.entry.Entry.{Entry}
 use Rattle.transcript_model.specs.declared.entry.Entry.TheVariants as entry
+use Rattle.transcript_model.specs.declared.head.Head.{Head}
 use Rattle.level_run.proofs.DialogueRequestLemmas.{last_join, replies_join, requests_counted, requests_join}
 use Rattle.level_run.proofs.DialogueLemmas.{talk_said, told_map}
-use Rattle.level_run.specs.Dialogue.{BrokenOff, Dialogue, bytes_to, replies_of, requests_of}
+use Rattle.level_run.specs.Dialogue.{BrokenOff, Dialogue, bytes_to, replies_of, requests_of, workers_in}
 use Rattle.level_run.specs.Talking.{AreSilent, IsTalk, IsTold}
 use Rattle.level_run.specs.Turns.{AllRun, AreStarted}
 
@@ -45,13 +48,17 @@ module _ (task : Task) (version : ℕ) (pools : List Workers) where
     even = ap length (replies_marked entries) ∙ t.even ∙ sym (ap length (requests_marked entries));
     idle = t.idle;
     each = λ child one runs.
-        subst (λ rs. IfSome (spoken child) (IsTalk task version rs (replies_of (entries ++ entry.Level ∷ [])) child (kept child))) (sym (requests_marked entries))
-        (subst (λ es. IfSome (spoken child) (IsTalk task version (requests_of task pools entries) es child (kept child))) (sym (replies_marked entries)) (t.each child one runs));
+        subst (λ rs. IfSome (spoken child) (IsTalk task version rs (replies_of (entries ++ entry.Level ∷ [])) child (kept child)))
+        (sym (requests_marked entries))
+        (subst (λ es. IfSome (spoken child) (IsTalk task version (requests_of task pools entries) es child (kept child)))
+        (sym (replies_marked entries)) (t.each child one runs));
   }
 
   -- ---- where all workers run that were asked
 
-  module _ (entries : List Entry) (asks : ℕ) (running : ℕ → Bool) (kept : ℕ → List ℕ) (spoken : ℕ → Option Talk) (counted : asks ≡ asks_of entries) (started : AreStarted pools asks running) (t : IsTold task version pools entries running kept spoken) where
+  module _ (entries : List Entry) (asks : ℕ) (running : ℕ → Bool) (kept : ℕ → List ℕ) (spoken : ℕ → Option Talk)
+      (counted : asks ≡ asks_of entries) (started : AreStarted pools asks running)
+      (t : IsTold task version pools entries running kept spoken) where
     pub dialogue_told : Dialogue task version pools entries spoken
     dialogue_told child one some =
         let asked : 0 < asks = omega (arith, some, counted, requests_counted task pools [] entries) in
@@ -124,7 +131,9 @@ module _ (task : Task) (version : ℕ) (pools : List Workers) where
         subst (λ rs. IsTalk task version rs (replies_of entries) child (left child) talk) (sym empty)
         (subst (λ es. IsTalk task version [] es child (left child) talk) (sym unanswered)
         (subst (λ bytes. IsTalk task version [] [] child bytes talk) (sym (same child ∙ t.idle child (idle child)))
-        (subst (IsTalk task version [] [] child []) (sym is) (record { written = refl; taken = []; cut = fresh; many = refl; said = λ k r e at own answer. absurd (cc) }))))) (silent child runs);
+        (subst (IsTalk task version [] [] child [])
+        (sym is) (record { written = refl; taken = []; cut = fresh; many = refl; said = λ k r e at own answer. absurd (cc) })))))
+        (silent child runs);
   }
     where
       empty : requests_of task pools entries ≡ []
@@ -132,3 +141,11 @@ module _ (task : Task) (version : ℕ) (pools : List Workers) where
 
       unanswered : replies_of entries ≡ []
       unanswered = nil_from_length (replies_of entries) (t.even ∙ ap length empty)
+
+-- what was said with the session's pools was said with the head's
+pub told_of : (head : Head) (s : State) → IsOf head s → (task : Task) (entries : List Entry) (running : ℕ → Bool) (kept : ℕ → List ℕ)
+    (spoken : ℕ → Option Talk)
+    → IsTold task s.version s.pools entries running kept spoken → IsTold task head.version (workers_in head) entries running kept spoken
+told_of head s of task entries running kept spoken told =
+    subst (λ v. IsTold task v (workers_in head) entries running kept spoken) of.version
+    (subst (λ ps. IsTold task s.version ps entries running kept spoken) of.pools told)

@@ -37,14 +37,24 @@ feeds (b ∷ bs) e = by (feeds bs) (is_feed b) refl e
 -- bytes with a line feed have a line
 has_line : (bytes : List ℕ) → list_any is_feed bytes ≡ true → lines_of bytes ≡ [] → ⊥
 has_line bytes fed none =
-    omega (arith, length-map (ended (slice_split is_feed bytes)) (strip_last 13), ap length none, ended_length (slice_split is_feed bytes) (omega (arith, length-slice_split is_feed bytes)), length-slice_split is_feed bytes, feeds bytes fed)
+    omega (
+      arith,
+      length-map (ended (slice_split is_feed bytes)) (strip_last 13),
+      ap length none,
+      ended_length (slice_split is_feed bytes) (omega (arith, length-slice_split is_feed bytes)),
+      length-slice_split is_feed bytes,
+      feeds bytes fed,
+    )
 
 -- where no line came, the buffer is full
 pub filled : (held room : List ℕ) (count most : ℕ) → length room + length held ≡ most
     → count ≤ length room
     → (count < length room → HasLine (take count room)) → lines_of (held ++ take count room) ≡ [] → length (held ++ take count room) ≡ most
 filled held room count most whole within line none = elim (cases_lt count (length room)) [
-  | inl less ↦ absurd (has_line (held ++ take count room) (list_any-append is_feed held (take count room) ∙ or_right (list_any is_feed held) (list_any is_feed (take count room)) (line less)) none)
+  | inl less ↦
+      absurd (has_line (held ++ take count room)
+      (list_any-append is_feed held (take count room)
+      ∙ or_right (list_any is_feed held) (list_any is_feed (take count room)) (line less)) none)
   | inr more ↦ omega (arith, length-append held (take count room), length-take-le count room within, whole, within, more)
 ]
 

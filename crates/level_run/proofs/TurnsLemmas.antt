@@ -1,68 +1,84 @@
--- A run between two levels.
-use Rattle.std.proofs.Common.{◌≡◌, ℕ, List, [], ◌++◌, refl, sym, subst, append_assoc, inl, inr}
-use Rattle.std.proofs.lemmas.List.{append-nil}
-use Rattle.instance_queue.specs.declared.due.Due.{Due}
+-- A run between two turns.
+use Rattle.std.proofs.Common.{◌≡◌, List, [], ◌++◌, Bool, true, false, refl, sym, subst, inl, inr}
+use Rattle.mode_turns.proofs.LazyLemmas.{lazy_first, level_lazy}
+use Rattle.mode_turns.proofs.ModesLemmas.{lead_more, lead_then, leads_between, of_mode}
+use Rattle.mode_turns.specs.Lazy.{IsLazy, IsLazyEnd, IsNeeded}
+use Rattle.mode_turns.specs.Modes.{Leaves, TurnOf, none_left, nothing_kept}
 use Rattle.task_model.specs.declared.task.Task.{Task}
-use Rattle.transcript_model.specs.Legal.{IsLegal, asks_of}
+use Rattle.transcript_model.specs.Legal.{IsLegal}
 use Rattle.transcript_model.specs.Rounds.{limits_of}
-use Rattle.transcript_model.specs.Turns.{AreTurns, IncrementalTurn, Stage, none_left, whole, cut_off, between, after_cut}
+use Rattle.transcript_model.specs.Turns.{AreTurnsOf, IsLevel, Kept, MayBegin, after_cut, between, cut_off}
 use Rattle.transcript_model.specs.declared.entry.Entry.{Entry}
 use Rattle.transcript_model.specs.declared.head.Head.{Head}
+use Rattle.transcript_model.specs.declared.head.Mode.{Mode}
+use Rattle.transcript_model.specs.declared.head.Mode.TheVariants.{Incremental}
 use Rattle.transcript_model.specs.declared.outcome.LimitKind.TheVariants.{Calls}
 use Rattle.transcript_model.specs.declared.outcome.Outcome.{Outcome}
 use Rattle.transcript_model.specs.declared.outcome.Outcome.TheVariants as outcome
-use Rattle.level_run.proofs.TurnsLevelLemmas.{may_begin}
 use Rattle.level_run.specs.Reports.{IsRun}
-use Rattle.level_run.specs.Turns.{IsSure, IsTurn, NeededTurn, RunsLevel}
-use Rattle.level_run.specs.declared.ending.Batch.TheVariants.{Done, CallsSpent}
+use Rattle.level_run.specs.Turns.{IsSettled, IsSure}
 
--- The levels so far: with turns from here on they make turns from the first entry on.
-pub record Standing (head : Head) (task : Task) (entries : List Entry) : Type 0 where
-  pub turns : (rest : List Entry) (stage : Stage)
-      → AreTurns (limits_of head) task (IncrementalTurn (limits_of head) task) tt entries rest stage
-      → AreTurns (limits_of head) task (IncrementalTurn (limits_of head) task) tt [] (entries ++ rest) stage
-  pub needed : (rest : List Entry) (stage : Stage)
-      → AreTurns (limits_of head) task (NeededTurn (limits_of head) task) tt entries rest stage
-      → AreTurns (limits_of head) task (NeededTurn (limits_of head) task) tt [] (entries ++ rest) stage
+-- whole turns so far, none of which was needless
+pub record Standing (head : Head) (task : Task) (kept : Kept) (entries : List Entry) : Type 0 where
+  pub whole : Leaves (limits_of head) task entries kept
+  pub lazy : IsLazy (limits_of head) task entries
 
-pub standing_first : (head : Head) (task : Task) → Standing head task []
-standing_first head task = record { turns = λ rest stage t. t; needed = λ rest stage t. t }
+pub standing_first : (head : Head) (task : Task) → Standing head task nothing_kept []
+standing_first head task = record { whole = none_left; lazy = lazy_first (limits_of head) task }
 
-pub standing_next : (head : Head) (task : Task) (before after : List Entry) (asks : ℕ) (dues : List Due)
-    → asks ≡ asks_of before
-    → IsTurn head task before asks dues → RunsLevel head task before after Done → Standing head task before → Standing head task after
-standing_next head task before after asks dues counted turn (now, pushed, level) st =
-    let may = may_begin head task before asks dues counted turn in
-    subst (Standing head task) (sym pushed) (record {
-      turns = λ rest stage t. subst (λ es. AreTurns (limits_of head) task (IncrementalTurn (limits_of head) task) tt [] es stage) (sym (append_assoc before now rest)) (st.turns (now ++ rest) stage (whole tt may level.level t));
-      needed = λ rest stage t. subst (λ es. AreTurns (limits_of head) task (NeededTurn (limits_of head) task) tt [] es stage) (sym (append_assoc before now rest)) (st.needed (now ++ rest) stage (whole tt may level t));
+-- a level is a turn of incremental mode
+pub level_turn : (head : Head) (task : Task) (before now : List Entry) (cut : Bool) → head.mode ≡ Incremental
+    → IsLevel (limits_of head) task before now cut
+    → TurnOf head.mode (limits_of head) task nothing_kept before now nothing_kept cut
+level_turn head task before now cut mode level =
+    subst (λ (m : Mode). TurnOf m (limits_of head) task nothing_kept before now nothing_kept cut) (sym mode) (level, refl)
+
+pub standing_next : (head : Head) (task : Task) (before after now : List Entry) → head.mode ≡ Incremental
+    → MayBegin (limits_of head) task before → IsNeeded (limits_of head) task before → after ≡ before ++ now
+    → IsLevel (limits_of head) task before now false
+    → Standing head task nothing_kept before → Standing head task nothing_kept after
+standing_next head task before after now mode may needed pushed level st =
+    subst (Standing head task nothing_kept) (sym pushed) (record {
+      whole = lead_more (limits_of head) task nothing_kept nothing_kept [] before now nothing_kept st.whole may
+          (level_turn head task before now false mode level);
+      lazy = level_lazy (limits_of head) task before now false st.lazy needed level;
     })
 
--- an outcome between two levels
-pub run_at : (head : Head) (task : Task) (entries : List Entry) (o : Outcome)
+-- an outcome between two turns
+pub run_at : (head : Head) (task : Task) (kept : Kept) (entries : List Entry) (o : Outcome)
     → IsLegal head.version task entries
-    → IsSure head task entries o → Standing head task entries → IsRun task head entries o
-run_at head task entries o legal sure st = record {
+    → IsSettled head task entries o → Standing head task kept entries → IsRun task head entries o
+run_at head task kept entries o legal settled st = record {
   stage = between;
   legal = legal;
-  turns = subst (λ es. AreTurns (limits_of head) task (IncrementalTurn (limits_of head) task) tt [] es between) (append-nil entries) (st.turns [] between none_left);
-  needed = subst (λ es. AreTurns (limits_of head) task (NeededTurn (limits_of head) task) tt [] es between) (append-nil entries) (st.needed [] between none_left);
+  turns = of_mode head.mode (limits_of head) task entries between
+      (leads_between (limits_of head) task nothing_kept kept [] entries st.whole);
+  lazy = st.lazy;
+  end = settled.end;
+  few = settled.few;
   stands = inl refl;
-  sure = sure;
+  sure = settled.sure;
 }
 
 -- the limit of calls after a level that was cut
-pub run_cut : (head : Head) (task : Task) (before after : List Entry) (asks : ℕ) (dues : List Due)
-    → asks ≡ asks_of before
-    → IsTurn head task before asks dues → RunsLevel head task before after CallsSpent → IsLegal head.version task after
-    → IsSure head task after (outcome.Limit Calls) → Standing head task before → IsRun task head after (outcome.Limit Calls)
-run_cut head task before after asks dues counted turn (now, pushed, level) legal sure st =
-    let may = may_begin head task before asks dues counted turn in
-    record {
-      stage = after_cut;
-      legal = legal;
-      turns = subst (λ es. AreTurns (limits_of head) task (IncrementalTurn (limits_of head) task) tt [] es after_cut) (sym pushed) (st.turns now after_cut (cut_off tt may level.level));
-      needed = subst (λ es. AreTurns (limits_of head) task (NeededTurn (limits_of head) task) tt [] es after_cut) (sym pushed) (st.needed now after_cut (cut_off tt may level));
-      stands = inr (refl, refl);
-      sure = sure;
-    }
+pub run_cut : (head : Head) (task : Task) (before after now : List Entry) → head.mode ≡ Incremental
+    → MayBegin (limits_of head) task before → IsNeeded (limits_of head) task before → after ≡ before ++ now
+    → IsLevel (limits_of head) task before now true → IsLegal head.version task after
+    → IsSure head task after (outcome.Limit Calls) → Standing head task nothing_kept before → IsRun task head after (outcome.Limit Calls)
+run_cut head task before after now mode may needed pushed level legal sure st = record {
+  stage = after_cut;
+  legal = legal;
+  turns = subst (λ es. AreTurnsOf head.mode (limits_of head) task es after_cut) (sym pushed)
+      (of_mode head.mode (limits_of head) task (before ++ now) after_cut
+      (lead_then (limits_of head) task nothing_kept nothing_kept [] before now after_cut st.whole
+      (cut_off nothing_kept may (level_turn head task before now true mode level))));
+  lazy = subst (IsLazy (limits_of head) task) (sym pushed) (level_lazy (limits_of head) task before now true st.lazy needed level);
+  end = no_end;
+  few = λ calls at. absurd (let bad : after_cut ≡ between = at in cc);
+  stands = inr (refl, refl);
+  sure = sure;
+}
+  where
+    no_end : IsLazyEnd (limits_of head) task after after_cut (outcome.Limit Calls)
+    no_end (inl bad) = absurd (cc)
+    no_end (inr bad) = absurd (let no : after_cut ≡ between = bad.1 in cc)

@@ -35,7 +35,8 @@ pub ready_marked : (version : ℕ) (task : Task) (before : List Entry) (dues : L
 ready_marked version task before dues fit legal ready =
     let same = (mark_adds version task before fit.problem.objects.names.distinct legal entry.Level refl).same in
     record {
-      due = λ i m. subst (λ ns. IsDue task (known_of task (before ++ entry.Level ∷ [])) ns i) (sym same.notes) (subst (λ k. IsDue task k (notes_of task before) i) (sym same.known) (ready.due i m));
+      due = λ i m. subst (λ ns. IsDue task (known_of task (before ++ entry.Level ∷ [])) ns i)
+          (sym same.notes) (subst (λ k. IsDue task k (notes_of task before) i) (sym same.known) (ready.due i m));
       turns = subst (λ ns. All (λ (d : Due). d.turn ≡ yields_of ns d.instance) dues) (sym same.notes) ready.turns;
       distinct = ready.distinct;
     }
@@ -63,7 +64,8 @@ marked s new works learnt is = subst (IsMarked s) (sym is) (record {
   calls = refl;
   pools = refl;
   working = works;
-  learnt = record { closed = learnt.closed; all = ap (λ b. cond b (s.learnt + 1) s.learnt) (eq-eqb s.learnt (length s.entries) learnt.all) ∙ longer };
+  learnt = record
+      { closed = learnt.closed; all = ap (λ b. cond b (s.learnt + 1) s.learnt) (eq-eqb s.learnt (length s.entries) learnt.all) ∙ longer };
 })
   where
     longer : s.learnt + 1 ≡ length (s.entries ++ entry.Level ∷ [])
@@ -80,15 +82,12 @@ level_of head task before marked_entries after asks later dues b counted turn is
   entry.Level ∷ more,
   pushed ∙ ap (λ es. es ++ more) is ∙ append_assoc before (entry.Level ∷ []) more,
   record {
-    level = record {
-      list = instances_of dues;
-      due = turn.due.due;
-      rest = more;
-      is = refl;
-      batch = subst (λ es. IsBatch (limits_of head) task es (instances_of dues) more) is batch;
-      cut_is = cut b ends;
-    };
-    unsolvable = turn.unsolvable;
+    list = instances_of dues;
+    due = turn.due.due;
+    rest = more;
+    is = refl;
+    batch = subst (λ es. IsBatch (limits_of head) task es (instances_of dues) more) is batch;
+    cut_is = cut b ends;
   },
 )
   where

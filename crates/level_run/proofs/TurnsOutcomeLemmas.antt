@@ -1,6 +1,7 @@
 -- Outcomes that are true.
-use Rattle.std.proofs.Common.{◌≡◌, ℕ, ◌^◌, ◌<◌, ◌≤◌, arith, List, [], ◌∷◌, length, take, refl, sym, subst, ap, ◌∙◌, false, true, ◌==◌, eqb-true, ◌+◌, Vec, Global}
+use Rattle.std.proofs.Common.{◌≡◌, ℕ, ◌^◌, ◌<◌, ◌≤◌, arith, List, [], ◌∷◌, length, take, refl, sym, subst, ap, ◌∙◌, false, true, ◌==◌, eqb-true, ◌+◌, Vec, Global, inl, inr}
 use Rattle.std.proofs.Math.Seq.{take-length}
+use Rattle.std.proofs.lemmas.List.{length-map}
 use Rattle.lemmas.proofs.Ascending.{contains_here}
 use Rattle.best_first.specs.Answer.{HasPlan, IsFoundPlan, IsLimit}
 use Rattle.best_first.specs.declared.found.Found.{Found}
@@ -13,6 +14,7 @@ use Rattle.session_core.specs.State.{State}
 use Rattle.shown_plan.proofs.ShownLemmas.{valid_named, true_outcome}
 use Rattle.shown_plan.specs.Shown.{AreNamedSteps, ShowsPlan}
 use Rattle.task_model.specs.Known.{Known, IsCoherent}
+use Rattle.task_model.specs.declared.limits.TheConstants.{MOST_DUE}
 use Rattle.task_model.specs.Plans.{IsSolvable, IsValid, IsFar, IsReached, MoreThan}
 use Rattle.task_model.proofs.StreamsLemmas.{nothing_due}
 use Rattle.task_model.specs.Streams.{IsDue, MoreAreDue, NothingIsDue, Note}
@@ -29,7 +31,9 @@ use Rattle.transcript_model.specs.declared.head.Mode.TheVariants.{Incremental}
 use Rattle.transcript_model.specs.declared.outcome.LimitKind.TheVariants.{Calls, States, Instances}
 use Rattle.transcript_model.specs.declared.outcome.Outcome.{Outcome}
 use Rattle.transcript_model.specs.declared.outcome.Outcome.TheVariants as outcome
-use Rattle.level_run.specs.Turns.{EndsBatch, HasRoom, IsDecided, IsSure, IsTurn}
+use Rattle.level_run.specs.Turns.{EndsBatch, HasRoom, IsDecided, IsSettled, IsSure, IsTurn}
+use Rattle.mode_turns.specs.Lazy.{IsLazyEnd}
+use Rattle.transcript_model.specs.Turns.{between}
 use Rattle.level_run.specs.declared.decide.Decision.{Decision}
 use Rattle.level_run.specs.declared.decide.Decision.TheVariants.{Ends, Asks}
 use Rattle.level_run.specs.declared.ending.Batch.{Batch}
@@ -71,7 +75,7 @@ module _ (task : Task) (s : State) (works : s.failed ≡ false) (learnt : IsLear
       pub legal_head : IsLegal head.version task s.entries
       legal_head = subst (λ v. IsLegal v task s.entries) of.version h.legal
 
-      pub plan_sure : (steps : List GroundAction) (cost : ℕ) (o : Outcome)
+      plan_sure : (steps : List GroundAction) (cost : ℕ) (o : Outcome)
           → ShowsPlan head.version task s.entries steps cost o
           → IsValid task known steps cost → cost < 2 ^ 64 → IsSure head task s.entries o
       plan_sure steps cost o shows valid small = record {
@@ -81,7 +85,17 @@ module _ (task : Task) (s : State) (works : s.failed ≡ false) (learnt : IsLear
         room = subst HasRoom (sym shows.is) small;
       }
 
-      pub states_sure : IsFar task known head.states
+      pub plan_settled : (steps : List GroundAction) (cost : ℕ) (o : Outcome)
+          → ShowsPlan head.version task s.entries steps cost o
+          → IsValid task known steps cost → cost < 2 ^ 64 → IsSettled head task s.entries o
+      plan_settled steps cost o shows valid small = record
+          { sure = plan_sure steps cost o shows valid small; end = end; few = λ e. let both = sym e ∙ shows.is in absurd (cc) }
+        where
+          end : IsLazyEnd (limits_of head) task s.entries between o
+          end (inl e) = let both = sym e ∙ shows.is in absurd (cc)
+          end (inr e) = let both = sym e.0 ∙ shows.is in absurd (cc)
+
+      states_sure : IsFar task known head.states
           → IsSure head task s.entries (outcome.Limit States)
       states_sure far =
           let there = subst (λ k. IsFar task k head.states) all_known far in
@@ -92,8 +106,16 @@ module _ (task : Task) (s : State) (works : s.failed ≡ false) (learnt : IsLear
             room = tt;
           }
 
+      pub states_settled : IsFar task known head.states
+          → IsSettled head task s.entries (outcome.Limit States)
+      states_settled far = record { sure = states_sure far; end = end; few = λ e. absurd (cc) }
+        where
+          end : IsLazyEnd (limits_of head) task s.entries between (outcome.Limit States)
+          end (inl e) = absurd (cc)
+          end (inr e) = let kinds = e.0 in absurd (cc)
+
   module _ (head : Head) (of : IsOf head s) where
-    pub instances_sure : MoreAreDue 1000000 task (known_of task s.entries) (notes_of task s.entries)
+    instances_sure : MoreAreDue MOST_DUE task (known_of task s.entries) (notes_of task s.entries)
         → IsSure head task s.entries (outcome.Limit Instances)
     instances_sure more = record {
       holds = more;
@@ -112,7 +134,22 @@ module _ (task : Task) (s : State) (works : s.failed ≡ false) (learnt : IsLear
       room = tt;
     }
 
-    pub no_plan_sure : ¬ (IsSolvable task (known_of task s.entries))
+    pub instances_settled : ¬ (IsSolvable task (known_of task s.entries))
+        → MoreAreDue MOST_DUE task (known_of task s.entries) (notes_of task s.entries)
+        → IsSettled head task s.entries (outcome.Limit Instances)
+    instances_settled none more = record { sure = instances_sure more; end = λ e. inl none; few = λ e. absurd (cc) }
+
+    pub calls_settled : ¬ (IsSolvable task (known_of task s.entries)) → length s.asked ≡ head.calls
+        → (dues : List Due) → AreDueInTurn task (known_of task s.entries) (notes_of task s.entries) dues
+        → (i : Instance) → IsDue task (known_of task s.entries) (notes_of task s.entries) i
+        → IsSettled head task s.entries (outcome.Limit Calls)
+    calls_settled none spent dues due i is_due = record {
+      sure = calls_sure spent i is_due;
+      end = λ e. inl none;
+      few = λ e at. (instances_of dues, due.due, omega (arith, due.few, length-map dues (λ (d : Due). d.instance)));
+    }
+
+    no_plan_sure : ¬ (IsSolvable task (known_of task s.entries))
         → ¬ (MoreThan head.states (IsReached task (known_of task s.entries)))
         → NothingIsDue task (known_of task s.entries) (notes_of task s.entries) → IsSure head task s.entries outcome.NoPlan
     no_plan_sure none few due = record {
@@ -124,6 +161,15 @@ module _ (task : Task) (s : State) (works : s.failed ≡ false) (learnt : IsLear
       within = λ e. few;
       room = tt;
     }
+
+    pub no_plan_settled : ¬ (IsSolvable task (known_of task s.entries))
+        → ¬ (MoreThan head.states (IsReached task (known_of task s.entries)))
+        → NothingIsDue task (known_of task s.entries) (notes_of task s.entries) → IsSettled head task s.entries outcome.NoPlan
+    no_plan_settled none few due = record { sure = no_plan_sure none few due; end = end; few = λ e. absurd (cc) }
+      where
+        end : IsLazyEnd (limits_of head) task s.entries between outcome.NoPlan
+        end (inl e) = absurd (cc)
+        end (inr e) = let kinds = e.0 in absurd (cc)
 
 -- ---- the list of what is due
 
@@ -165,7 +211,7 @@ found_limit task known limit f is far = far (subst IsLimit (sym is) tt)
 
 pub decided_outcome : (head : Head) (task : Task) (entries : List Entry) (asks : ℕ) (d : Decision) (o : Outcome)
     → d ≡ Ends o
-    → IsDecided head task entries asks d → IsSure head task entries o
+    → IsDecided head task entries asks d → IsSettled head task entries o
 decided_outcome head task entries asks d o is h = subst (IsDecided head task entries asks) is h
 
 pub decided_dues : (head : Head) (task : Task) (entries : List Entry) (asks : ℕ) (d : Decision) (dues : Vec Due Global)

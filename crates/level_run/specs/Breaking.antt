@@ -26,8 +26,8 @@ refusal (heard child room (Err fault)) = Some fault
 refusal (stopped child (Err fault)) = Some fault
 refusal e = None
 
--- The call that was refused, if one was: a fault of a generator has one that failed; want of memory has one that was refused for it, or
--- else the run holds `free`.
+-- The call that was refused, if one was: a fault of a generator has one that failed; want of memory has one that was
+-- refused for it, or else the run holds `free`.
 abbrev pub Tells : (free : Type 0) → RunFault → List Event → Type 0
 Tells free Generator refused = (e : Event) × (refused ≡ e ∷ []) × (refusal e ≡ Some host.Failed)
 Tells free Memory refused =
@@ -35,22 +35,29 @@ Tells free Memory refused =
 Tells free Write refused = refused ≡ []
 Tells free (Answer number why) refused = refused ≡ []
 
--- Writes of a request that may come next: they took the first bytes of its text, or all; if one was refused, it was of the others.
-pub record Writing (task : Task) (version : ℕ) (pools : List Workers) (before : List Entry) (calls refused : List Event) : Type 0 where
+-- Writes of a request that may come next: they took the first bytes of its text, or all; if one was refused, it was of
+-- the others.
+pub record Writing (task : Task) (version : ℕ) (pools : List Workers) (before : List Entry)
+    (calls refused : List Event) : Type 0 where
   pub entry : Entry
   pub legal : IsLegal version task (before ++ entry ∷ [])
   pub request : Request
   pub next : requests_of task pools (before ++ entry ∷ []) ≡ requests_of task pools before ++ request ∷ []
   pub count : ℕ
   pub taken : Takes request.child (take count (text_of_request request)) calls
-  pub last : (refused ≡ []) ⊎ ((cause : HostFault) × (refused ≡ wrote request.child (drop count (text_of_request request)) (Err cause) ∷ []))
+  pub last : (refused ≡ [])
+      ⊎ ((cause : HostFault) × (refused ≡ wrote request.child (drop count (text_of_request request)) (Err cause) ∷ []))
 
--- Reads for the next answer, each of them, and the one that was refused if one was, only while all lines of the child were taken.
-pub record Listening (task : Task) (pools : List Workers) (past : List Event) (before : List Entry) (calls refused : List Event) : Type 0 where
+-- Reads for the next answer, each of them, and the one that was refused if one was, only while all lines of the child
+-- were taken.
+pub record Listening (task : Task) (pools : List Workers) (past : List Event)
+    (before : List Entry) (calls refused : List Event) : Type 0 where
   pub request : Request
   pub next : slice_get (requests_of task pools before) (length (replies_of before)) ≡ Some request
   pub reads : Reads request.child (answers_by task pools before request.child) past calls
-  pub last : (refused ≡ []) ⊎ ((cause : HostFault) × (room : ℕ) × (refused ≡ heard request.child room (Err cause) ∷ []) × (lines_read request.child (past ++ calls) ≤ answers_by task pools before request.child))
+  pub last : (refused ≡ [])
+      ⊎ ((cause : HostFault) × (room : ℕ) × (refused ≡ heard request.child room (Err cause) ∷ [])
+      × (lines_read request.child (past ++ calls) ≤ answers_by task pools before request.child))
 
 -- the calls, behind those of the entries, of one entry that doesn't stand in the transcript
 abbrev pub IsBegun : Task → ℕ → List Workers → List Event → List Entry → List Event → List Event
@@ -59,9 +66,10 @@ IsBegun task version pools past before calls refused =
     ((calls ≡ []) × (refused ≡ [])) ⊎ Writing task version pools before calls refused
     ⊎ Listening task pools past before calls refused
 
--- The events are the calls of these entries; then calls of one entry more, in part or whole; and then at most one that was refused,
--- as the fault tells. Where memory is wanting and no call was refused for it, no request is open.
-pub record Breaks (task : Task) (version : ℕ) (pools : List Workers) (past : List Event) (before more : List Entry) (fault : RunFault) (events : List Event) : Type 0 where
+-- The events are the calls of these entries; then calls of one entry more, in part or whole; and then at most one that
+-- was refused, as the fault tells. Where memory is wanting and no call was refused for it, no request is open.
+pub record Breaks (task : Task) (version : ℕ) (pools : List Workers) (past : List Event)
+    (before more : List Entry) (fault : RunFault) (events : List Event) : Type 0 where
   pub done : List Event
   pub calls : List Event
   pub refused : List Event
@@ -76,7 +84,8 @@ abbrev pub LogBreaks : Task → ℕ → List Workers → List Entry → RunFault
     → List Entry → Type 0
 LogBreaks task version pools before fault old None more = ⊤
 LogBreaks task version pools before fault old (Some after) more =
-    (past : List Event) × (events : List Event) × (old ≡ Some past) × (after ≡ past ++ events) × Breaks task version pools past before more fault events
+    (past : List Event) × (events : List Event) × (old ≡ Some past) × (after ≡ past ++ events)
+    × Breaks task version pools past before more fault events
 
 -- ---- with the starts
 
@@ -89,7 +98,10 @@ starts_after pools (suc asked) = []
 abbrev pub WereStarts : Head → List Entry → RunFault → List Event → Type 0
 WereStarts head entries fault events =
     ((events ≡ []) × Tells (HasNoneOpen entries) fault [])
-    ⊎ ((n : ℕ) × (child : ℕ) × (words : List (List ℕ)) × (cause : HostFault) × (slice_get (starts_of head.pools) n ≡ Some (started child words (Ok tt))) × (events ≡ take n (starts_of head.pools) ++ started child words (Err cause) ∷ []) × Tells (HasNoneOpen entries) fault (started child words (Err cause) ∷ []))
+    ⊎ ((n : ℕ) × (child : ℕ) × (words : List (List ℕ)) × (cause : HostFault)
+    × (slice_get (starts_of head.pools) n ≡ Some (started child words (Ok tt)))
+    × (events ≡ take n (starts_of head.pools) ++ started child words (Err cause) ∷ [])
+    × Tells (HasNoneOpen entries) fault (started child words (Err cause) ∷ []))
 
 -- Before the first request.
 pub record Unstarted (head : Head) (before more : List Entry) (fault : RunFault) (events : List Event) : Type 0 where
@@ -97,8 +109,8 @@ pub record Unstarted (head : Head) (before more : List Entry) (fault : RunFault)
   pub none : asks_of more ≡ 0
   pub were : WereStarts head (before ++ more) fault events
 
--- The calls that came to the log, where it is told, are the starts of all workers, if none ran before, and then those of the entries,
--- up to where the run broke off; or it broke off before the first request was written.
+-- The calls that came to the log, where it is told, are the starts of all workers, if none ran before, and then those
+-- of the entries, up to where the run broke off; or it broke off before the first request was written.
 abbrev pub RunBreaks : Task → Head → List Entry → RunFault → Option (List Event)
     → Option (List Event) → List Entry
     → Type 0
@@ -106,7 +118,9 @@ RunBreaks task head before fault old None more = ⊤
 RunBreaks task head before fault old (Some after) more =
     (past : List Event) × (events : List Event) × (old ≡ Some past) × (after ≡ past ++ events)
     × (Unstarted head before more fault events
-    ⊎ ((later : List Event) × (events ≡ starts_after head.pools (asks_of before) ++ later) × Breaks task head.version (workers_in head) (past ++ starts_after head.pools (asks_of before)) before more fault later))
+    ⊎ ((later : List Event) × (events ≡ starts_after head.pools (asks_of before) ++ later)
+    × Breaks task head.version (workers_in head)
+    (past ++ starts_after head.pools (asks_of before)) before more fault later))
 
 -- the line of a level stands in the transcript
 abbrev pub HasLevel : List Entry → Type 0
@@ -129,10 +143,13 @@ LogBroken task head entries fault old (Some after) =
 
 -- ---- one child
 
--- The log grew by reads of a child, and at most one that was refused, as the fault tells: want of memory has one; each at a moment at
--- which the bytes kept and those that had come made no whole line.
+-- The log grew by reads of a child, and at most one that was refused, as the fault tells: want of memory has one; each
+-- at a moment at which the bytes kept and those that had come made no whole line.
 abbrev pub LogHears : ℕ → List ℕ → RunFault → Option (List Event) → Option (List Event) → Type 0
 LogHears child kept fault old new =
-    (events : List Event) × (refused : List Event) × All (IsGiven child) events × ((k : ℕ) → k < length events → lines_of (kept ++ (spelled child silence (take k events)).heard) ≡ [])
-    × ((refused ≡ []) ⊎ ((cause : HostFault) × (room : ℕ) × (refused ≡ heard child room (Err cause) ∷ []) × (lines_of (kept ++ (spelled child silence events).heard) ≡ [])))
+    (events : List Event) × (refused : List Event) × All (IsGiven child) events
+    × ((k : ℕ) → k < length events → lines_of (kept ++ (spelled child silence (take k events)).heard) ≡ [])
+    × ((refused ≡ [])
+    ⊎ ((cause : HostFault) × (room : ℕ) × (refused ≡ heard child room (Err cause) ∷ [])
+    × (lines_of (kept ++ (spelled child silence events).heard) ≡ [])))
     × Tells ⊥ fault refused × Extends old new (events ++ refused)

@@ -5,6 +5,7 @@ use Rattle.lemmas.specs.Lists.{numbers_from}
 use Rattle.gen_lines.specs.Lines.{lines_of}
 use Rattle.io_world.specs.Faults.{Extends}
 use Rattle.io_world.specs.declared.host.HostFault.{HostFault}
+use Rattle.io_world.specs.declared.host.TheConstants.{CHILDREN}
 use Rattle.io_world.specs.Talks.{Event, started, stopped, silence, spelled, IsGiven, Takes}
 use Rattle.session_core.specs.Pools.{child_for}
 use Rattle.session_core.specs.declared.pools.Workers.{Workers}
@@ -40,22 +41,29 @@ pub record Reads (child most : ℕ) (past events : List Event) : Type 0 where
 -- what a request asks that stands behind these entries, and whom
 abbrev pub next_request : Task → List Workers → List Entry → ℕ → ℕ → Call → Request
 next_request task pools before number turn call =
-    record { child = child_for pools (last_round task [] before) (stream_of task call); number = number; turn = turn; call = call }
+    record {
+      child = child_for pools (last_round task [] before) (stream_of task call);
+      number = number;
+      turn = turn;
+      call = call;
+    }
 
--- The calls of an answer: the child of the first request that isn't answered is read, only while all of its lines that had come were
--- taken, and until one more has come.
-pub record Hearing (task : Task) (pools : List Workers) (past : List Event) (before : List Entry) (events : List Event) : Type 0 where
+-- The calls of an answer: the child of the first request that isn't answered is read, only while all of its lines that
+-- had come were taken, and until one more has come.
+pub record Hearing (task : Task) (pools : List Workers) (past : List Event) (before : List Entry)
+    (events : List Event) : Type 0 where
   pub request : Request
   pub next : slice_get (requests_of task pools before) (length (replies_of before)) ≡ Some request
   pub reads : Reads request.child (answers_by task pools before request.child) past events
   pub line : answers_by task pools before request.child < lines_read request.child (past ++ events)
 
 module _ (task : Task) (pools : List Workers) where
-  -- The calls by which an entry comes behind these entries, after the calls that are past. A request is written to its child, by
-  -- writes that were taken and spell its text; an answer is read; another entry needs none.
+  -- The calls by which an entry comes behind these entries, after the calls that are past. A request is written to its
+  -- child, by writes that were taken and spell its text; an answer is read; another entry needs none.
   abbrev pub AreCallsOf : List Event → List Entry → Entry → List Event → Type 0
   AreCallsOf past before (entry.Ask number turn call) events =
-      Takes (child_for pools (last_round task [] before) (stream_of task call)) (text_of_request (next_request task pools before number turn call)) events
+      Takes (child_for pools (last_round task [] before) (stream_of task call))
+      (text_of_request (next_request task pools before number turn call)) events
   AreCallsOf past before (entry.Got number tuples values) events =
       Hearing task pools past before events
   AreCallsOf past before (entry.Value number value) events = Hearing task pools past before events
@@ -66,17 +74,20 @@ module _ (task : Task) (pools : List Workers) where
   abbrev pub Follows : List Event → List Entry → List Entry → List Event → Type 0
   Follows past before [] events = events ≡ []
   Follows past before (e ∷ entries) events =
-      (now : List Event) × (later : List Event) × (events ≡ now ++ later) × AreCallsOf past before e now × Follows (past ++ now) (before ++ e ∷ []) entries later
+      (now : List Event) × (later : List Event) × (events ≡ now ++ later) × AreCallsOf past before e now
+      × Follows (past ++ now) (before ++ e ∷ []) entries later
 
   -- the same of the calls that came to a log that is told
   abbrev pub LogFollows : List Entry → List Entry → Option (List Event) → Option (List Event)
       → Type 0
   LogFollows before more old None = ⊤
   LogFollows before more old (Some after) =
-      (past : List Event) × (events : List Event) × (old ≡ Some past) × (after ≡ past ++ events) × Follows past before more events
+      (past : List Event) × (events : List Event) × (old ≡ Some past) × (after ≡ past ++ events)
+      × Follows past before more events
 
 -- Entries came behind the others, by the calls that came to the log.
-pub record Calls (task : Task) (pools : List Workers) (before after : List Entry) (old new : Option (List Event)) : Type 0 where
+pub record Calls (task : Task) (pools : List Workers) (before after : List Entry)
+    (old new : Option (List Event)) : Type 0 where
   pub more : List Entry
   pub pushed : after ≡ before ++ more
   pub log : LogFollows task pools before more old new
@@ -97,22 +108,25 @@ start_at pools child = start_in child (find (has_child child) pools)
 
 -- the starts of the workers of all pools, in the order of their numbers
 unfoldable pub starts_of : List Pool → List Event
-starts_of pools = flat_map (start_at pools) (numbers_from 0 17)
+starts_of pools = flat_map (start_at pools) (numbers_from 0 CHILDREN)
 
--- The starts that stand before these requests, where so many were made before: all, where they have the first one; and else none.
+-- The starts that stand before these requests, where so many were made before: all, where they have the first one; and
+-- else none.
 abbrev pub starts_before : List Pool → (before more : ℕ) → List Event
 starts_before pools zero zero = []
 starts_before pools zero (suc more) = starts_of pools
 starts_before pools (suc before) more = []
 
--- Entries came behind the others, by the calls that came to the log: the starts of all workers, if the first request is among these
--- entries, and then the calls of the entries.
+-- Entries came behind the others, by the calls that came to the log: the starts of all workers, if the first request is
+-- among these entries, and then the calls of the entries.
 abbrev pub LogRuns : Task → Head → List Entry → List Entry → Option (List Event)
     → Option (List Event) → Type 0
 LogRuns task head before more old None = ⊤
 LogRuns task head before more old (Some after) =
-    (past : List Event) × (events : List Event) × (old ≡ Some past) × (after ≡ past ++ starts_before head.pools (asks_of before) (asks_of more) ++ events)
-    × Follows task (workers_in head) (past ++ starts_before head.pools (asks_of before) (asks_of more)) before more events
+    (past : List Event) × (events : List Event) × (old ≡ Some past)
+    × (after ≡ past ++ starts_before head.pools (asks_of before) (asks_of more) ++ events)
+    × Follows task (workers_in head) (past ++ starts_before head.pools (asks_of before) (asks_of more)) before more
+    events
 
 pub record Runs (task : Task) (head : Head) (before after : List Entry) (old new : Option (List Event)) : Type 0 where
   pub more : List Entry
@@ -123,7 +137,8 @@ pub record Runs (task : Task) (head : Head) (before after : List Entry) (old new
 abbrev pub LogStartsPart : List Event → RunFault → Option (List Event) → Option (List Event)
     → Type 0
 LogStartsPart starts fault old new =
-    (n : ℕ) × (child : ℕ) × (words : List (List ℕ)) × (cause : HostFault) × (slice_get starts n ≡ Some (started child words (Ok tt))) × IsHostFault cause fault
+    (n : ℕ) × (child : ℕ) × (words : List (List ℕ)) × (cause : HostFault)
+    × (slice_get starts n ≡ Some (started child words (Ok tt))) × IsHostFault cause fault
     × Extends old new (take n starts ++ started child words (Err cause) ∷ [])
 
 -- ---- stops
@@ -140,12 +155,17 @@ LogStops old new = (stops : List Event) × All IsStop stops × Extends old new s
 abbrev pub LogRan : Task → Head → List Entry → Option (List Event) → Option (List Event) → Type 0
 LogRan task head entries old None = ⊤
 LogRan task head entries old (Some after) =
-    (past : List Event) × (events : List Event) × (stops : List Event) × (old ≡ Some past) × (after ≡ past ++ starts_before head.pools 0 (asks_of entries) ++ events ++ stops)
-    × Follows task (workers_in head) (past ++ starts_before head.pools 0 (asks_of entries)) [] entries events × All IsStop stops
+    (past : List Event) × (events : List Event) × (stops : List Event) × (old ≡ Some past)
+    × (after ≡ past ++ starts_before head.pools 0 (asks_of entries) ++ events ++ stops)
+    × Follows task (workers_in head) (past ++ starts_before head.pools 0 (asks_of entries)) [] entries events
+    × All IsStop stops
 
 -- ---- one child
 
--- The log grew by reads of a child, all Ok, each at a moment at which the bytes kept and those that had come made no whole line.
+-- The log grew by reads of a child, all Ok, each at a moment at which the bytes kept and those that had come made no
+-- whole line.
 abbrev pub LogReads : ℕ → List ℕ → Option (List Event) → Option (List Event) → Type 0
 LogReads child kept old new =
-    (events : List Event) × All (IsGiven child) events × ((k : ℕ) → k < length events → lines_of (kept ++ (spelled child silence (take k events)).heard) ≡ []) × Extends old new events
+    (events : List Event) × All (IsGiven child) events
+    × ((k : ℕ) → k < length events → lines_of (kept ++ (spelled child silence (take k events)).heard) ≡ [])
+    × Extends old new events

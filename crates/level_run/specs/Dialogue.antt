@@ -36,14 +36,15 @@ text_of_request r = join_with_byte 32 (request_line r.turn r.call.name r.call.ar
 abbrev pub stream_of : Task → Call → ℕ
 stream_of task call = unwrap_or (stream_named task call.name) 0
 
--- The requests of a transcript, with their children. The requests of a round stand one after another, with nothing between them:
--- the first of them that a pool serves goes to its first child, the next to its second. Requests of these streams were made before
--- in the same round.
+-- The requests of a transcript, with their children. The requests of a round stand one after another, with nothing
+-- between them: the first of them that a pool serves goes to its first child, the next to its second. Requests of these
+-- streams were made before in the same round.
 module _ (task : Task) (pools : List Workers) where
   abbrev pub requests_after : List ℕ → List Entry → List Request
   requests_after round [] = []
   requests_after round (entry.Ask number turn call ∷ entries) =
-      record { child = child_for pools round (stream_of task call); number = number; turn = turn; call = call } ∷ requests_after (round ++ stream_of task call ∷ []) entries
+      record { child = child_for pools round (stream_of task call); number = number; turn = turn; call = call }
+      ∷ requests_after (round ++ stream_of task call ∷ []) entries
   requests_after round (e ∷ entries) = requests_after [] entries
 
   abbrev pub requests_of : List Entry → List Request
@@ -89,23 +90,27 @@ replies_of entries = filter is_answer entries
 abbrev pub wanted_by : Task → ℕ → Request → Wanted
 wanted_by task version r = wanted_at task version (stream_of task r.call)
 
--- The answer that stands at the same place among the answers as a request to the child among the requests is what a line says: the
--- one that stands at the same place among the child's lines as the request among those to the child.
+-- The answer that stands at the same place among the answers as a request to the child among the requests is what a
+-- line says: the one that stands at the same place among the child's lines as the request among those to the child.
 abbrev pub AreSaid : Task → ℕ → List Request → List Entry → ℕ → List (List ℕ) → Type 0
 AreSaid task version requests replies child lines =
     (k : ℕ) (r : Request) (e : Entry) → slice_get requests k ≡ Some r → r.child ≡ child → slice_get replies k ≡ Some e
-    → (line : List ℕ) × (slice_get lines (count_to child (take k requests)) ≡ Some line) × (entry_of r.number (reply_of line (wanted_by task version r)) ≡ Some e)
+    → (line : List ℕ) × (slice_get lines (count_to child (take k requests)) ≡ Some line)
+    × (entry_of r.number (reply_of line (wanted_by task version r)) ≡ Some e)
 
--- What was said with the child: the bytes of its requests were written to it, and then these; and its lines say its answers.
-pub record IsSaid (task : Task) (version : ℕ) (requests : List Request) (replies : List Entry) (further : List ℕ) (child : ℕ) (talk : Talk) : Type 0 where
+-- What was said with the child: the bytes of its requests were written to it, and then these; and its lines say its
+-- answers.
+pub record IsSaid (task : Task) (version : ℕ) (requests : List Request) (replies : List Entry)
+    (further : List ℕ) (child : ℕ) (talk : Talk) : Type 0 where
   pub written : talk.written ≡ bytes_to child requests ++ further
   pub answered : AreSaid task version requests replies child (lines_of talk.heard)
 
--- The dialogue of a transcript: where something was asked, each child of a pool that tells what was said with it was written
--- exactly its requests, and its lines say its answers.
+-- The dialogue of a transcript: where something was asked, each child of a pool that tells what was said with it was
+-- written exactly its requests, and its lines say its answers.
 abbrev pub Dialogue : Task → ℕ → List Workers → List Entry → (ℕ → Option Talk) → Type 0
 Dialogue task version pools entries spoken =
-    (child : ℕ) → IsOneOf pools child → 0 < length (requests_of task pools entries) → IfSome (spoken child) (IsSaid task version (requests_of task pools entries) (replies_of entries) [] child)
+    (child : ℕ) → IsOneOf pools child → 0 < length (requests_of task pools entries)
+    → IfSome (spoken child) (IsSaid task version (requests_of task pools entries) (replies_of entries) [] child)
 
 -- ---- dialogues that are broken off
 
@@ -114,28 +119,36 @@ abbrev pub further_requests : Task → List Workers → List Entry → List Entr
 further_requests task pools entries next =
     drop (length (requests_of task pools entries)) (requests_of task pools (entries ++ next))
 
--- At most one request more was written, in whole or in part: one that may come next. Lines may have been read whose answers don't
--- stand in the transcript.
-pub record BrokenOff (task : Task) (version : ℕ) (pools : List Workers) (entries : List Entry) (spoken : ℕ → Option Talk) : Type 0 where
+-- At most one request more was written, in whole or in part: one that may come next. Lines may have been read whose
+-- answers don't stand in the transcript.
+pub record BrokenOff (task : Task) (version : ℕ) (pools : List Workers)
+    (entries : List Entry) (spoken : ℕ → Option Talk) : Type 0 where
   pub next : List Entry
   pub few : length next ≤ 1
   pub legal : IsLegal version task (entries ++ next)
   pub count : ℕ
   pub said : (child : ℕ) → IsOneOf pools child
       → 0 < length (requests_of task pools (entries ++ next))
-      → IfSome (spoken child) (IsSaid task version (requests_of task pools entries) (replies_of entries) (take count (bytes_to child (further_requests task pools entries next))) child)
+      → IfSome (spoken child) (IsSaid task version (requests_of task pools entries)
+      (replies_of entries) (take count (bytes_to child (further_requests task pools entries next))) child)
 
 -- ---- lines that are no answer
 
--- At this place of the bytes' lines stands one that is none, for this cause; or 1,025 bytes without a line feed follow the lines before it.
+-- At this place of the bytes' lines stands one that is none, for this cause; or 1,025 bytes without a line feed follow
+-- the lines before it.
 abbrev pub IsBadLine : List ℕ → ℕ → Wanted → Why → Type 0
 IsBadLine heard place wanted why =
     ((line : List ℕ) × (slice_get (lines_of heard) place ≡ Some line) × (reply_of line wanted ≡ bad why))
     ⊎ ((why ≡ TooLong) × (length (lines_of heard) ≡ place) × (length (unfinished heard) ≡ 1025))
 
--- Each request before the one of this number is answered, and the line that its child says next is no answer, for this cause.
-pub record HasBadLine (task : Task) (version : ℕ) (pools : List Workers) (entries : List Entry) (spoken : ℕ → Option Talk) (number : ℕ) (why : Why) : Type 0 where
+-- Each request before the one of this number is answered, and the line that its child says next is no answer, for this
+-- cause.
+pub record HasBadLine (task : Task) (version : ℕ) (pools : List Workers)
+    (entries : List Entry) (spoken : ℕ → Option Talk) (number : ℕ) (why : Why) : Type 0 where
   pub request : Request
   pub numbered : request.number ≡ number
   pub next : slice_get (requests_of task pools entries) (length (replies_of entries)) ≡ Some request
-  pub heard : IfSome (spoken request.child) (λ (talk : Talk). IsBadLine talk.heard (count_to request.child (take (length (replies_of entries)) (requests_of task pools entries))) (wanted_by task version request) why)
+  pub heard : IfSome (spoken request.child)
+      (λ (talk : Talk). IsBadLine talk.heard
+      (count_to request.child (take (length (replies_of entries)) (requests_of task pools entries)))
+      (wanted_by task version request) why)

@@ -4,6 +4,7 @@ pub mod Dialogue
 pub mod Held
 pub mod Pieces
 pub mod Reports
+pub mod Resting
 pub mod Rolling
 pub mod Starts
 pub mod Stops

@@ -2,6 +2,7 @@
 use Rattle.std.specs.Prelude.{◌≡◌, ◌⊎◌, ℕ, ◌<◌, List, [], ◌++◌, length, All, Option, count_by}
 use Rattle.std.specs.Io.KnownBytes.{Appends}
 use Rattle.std.specs.List.{flat_map}
+use Rattle.mode_turns.specs.Lazy.{IsLazy, IsLazyEnd}
 use Rattle.task_model.specs.declared.task.Task.{Task}
 use Rattle.transcript_model.specs.Legal.{IsLegal, asks_of, is_level}
 use Rattle.transcript_model.specs.Outcomes.{MayStand}
@@ -10,7 +11,6 @@ use Rattle.report_text.specs.Texts.{done_line, line_text, text_of_entry, text_of
 use Rattle.transcript_model.specs.Turns.{AreTurnsOf, Stage}
 use Rattle.transcript_model.specs.declared.entry.Entry.{Entry}
 use Rattle.transcript_model.specs.declared.head.Head.{Head}
-use Rattle.transcript_model.specs.declared.head.Mode.TheVariants.{Incremental}
 use Rattle.transcript_model.specs.declared.head.Pool.{Pool}
 use Rattle.transcript_model.specs.declared.outcome.Outcome.{Outcome}
 use Rattle.io_world.specs.Talks.{Event, Talk}
@@ -19,7 +19,7 @@ use Rattle.level_run.specs.Calls.{LogRan, LogStops}
 use Rattle.level_run.specs.Dialogue.{BrokenOff, Dialogue, workers_in}
 use Rattle.level_run.specs.Rolling.{Blames}
 use Rattle.level_run.specs.Stops.{StopsAt}
-use Rattle.level_run.specs.Turns.{AreNeededTurns, IsFrontOfRun, IsSure}
+use Rattle.level_run.specs.Turns.{IsFewDue, IsFrontOfRun, IsSure}
 use Rattle.level_run.specs.declared.fault.RunFault.{RunFault}
 use Rattle.level_run.specs.declared.fault.RunFault.TheVariants.{Write, Memory}
 use Rattle.level_run.specs.declared.incremental_mode.Ran.{Ran}
@@ -45,19 +45,23 @@ whole_text task head entries o = text_so_far task head entries ++ text_of_end he
 
 -- ---- what was written
 
--- A legal transcript that is a list of whole turns of incremental mode, or one after a batch that was cut, each of which begins
--- where no plan exists; an outcome that may stand there and is true of it.
+-- A legal transcript that is a list of whole turns of the head's mode, or one after a batch that was cut, each of which
+-- begins where one is needed; an outcome that may stand there and is true of it, and a limit only where a further turn
+-- is needed.
 pub record IsRun (task : Task) (head : Head) (entries : List Entry) (o : Outcome) : Type 0 where
   pub stage : Stage
   pub legal : IsLegal head.version task entries
-  pub turns : AreTurnsOf Incremental (limits_of head) task entries stage
-  pub needed : AreNeededTurns (limits_of head) task entries stage
+  pub turns : AreTurnsOf head.mode (limits_of head) task entries stage
+  pub lazy : IsLazy (limits_of head) task entries
+  pub end : IsLazyEnd (limits_of head) task entries stage o
+  pub few : IsFewDue task entries stage o
   pub stands : MayStand stage o
   pub sure : IsSure head task entries o
 
--- A whole report was written, of a run, whose dialogue this was, by the calls that came to the log; the levels and the requests are
--- counted.
-pub record IsReported (task : Task) (head : Head) (spoken : ℕ → Option Talk) (was now : Option (List Event)) (old new : Option (List ℕ)) (ran : Ran) : Type 0 where
+-- A whole report was written, of a run, whose dialogue this was, by the calls that came to the log; the levels and the
+-- requests are counted.
+pub record IsReported (task : Task) (head : Head) (spoken : ℕ → Option Talk)
+    (was now : Option (List Event)) (old new : Option (List ℕ)) (ran : Ran) : Type 0 where
   pub entries : List Entry
   pub run : IsRun task head entries ran.outcome
   pub talks : Dialogue task head.version (workers_in head) entries spoken
@@ -66,10 +70,11 @@ pub record IsReported (task : Task) (head : Head) (spoken : ℕ → Option Talk)
   pub levels : ran.levels ≡ count_by is_level entries
   pub asks : ran.asks ≡ asks_of entries
 
--- The lines of the head and of a legal transcript of whole turns, the last of which may stop at any entry. In it the request that is
--- blamed is open, if one is; the dialogue was this, and the calls were those of the entries, up to where the run broke off. Where no line
--- of a level stands no child was started.
-pub record IsPart (task : Task) (head : Head) (fault : RunFault) (spoken : ℕ → Option Talk) (was now : Option (List Event)) (text : List ℕ) : Type 0 where
+-- The lines of the head and of a legal transcript of whole turns, the last of which may stop at any entry. In it the
+-- request that is blamed is open, if one is; the dialogue was this, and the calls were those of the entries, up to
+-- where the run broke off. Where no line of a level stands no child was started.
+pub record IsPart (task : Task) (head : Head) (fault : RunFault)
+    (spoken : ℕ → Option Talk) (was now : Option (List Event)) (text : List ℕ) : Type 0 where
   pub entries : List Entry
   pub front : IsFrontOfRun head task entries
   pub blamed : Blames head.version task (workers_in head) spoken fault entries
@@ -79,7 +84,8 @@ pub record IsPart (task : Task) (head : Head) (fault : RunFault) (spoken : ℕ �
   pub is : text ≡ text_so_far task head entries
 
 -- The text of a report of a run, whose dialogue this was, by the calls that came to the log.
-pub record IsWhole (task : Task) (head : Head) (spoken : ℕ → Option Talk) (was now : Option (List Event)) (text : List ℕ) : Type 0 where
+pub record IsWhole (task : Task) (head : Head) (spoken : ℕ → Option Talk)
+    (was now : Option (List Event)) (text : List ℕ) : Type 0 where
   pub entries : List Entry
   pub outcome : Outcome
   pub run : IsRun task head entries outcome
@@ -87,8 +93,8 @@ pub record IsWhole (task : Task) (head : Head) (spoken : ℕ → Option Talk) (w
   pub calls : LogRan task head entries was now
   pub is : text ≡ whole_text task head entries outcome
 
--- What was to be written before the fault: nothing, for want of memory, and no child was started; or the head and whole turns,
--- the last of which may have stopped; or, where the sink failed, a whole report.
+-- What was to be written before the fault: nothing, for want of memory, and no child was started; or the head and whole
+-- turns, the last of which may have stopped; or, where the sink failed, a whole report.
 abbrev pub WasToWrite : Task → Head → RunFault → (ℕ → Option Talk) → (was now : Option (List Event))
     → List ℕ → Type 0
 WasToWrite task head fault spoken was now text =
@@ -96,7 +102,8 @@ WasToWrite task head fault spoken was now text =
     ⊎ ((fault ≡ Write) × IsWhole task head spoken was now text)
 
 -- A run had no outcome. All that was to be written was written; but a fault of the sink left some of it out at the end.
-pub record IsBroken (task : Task) (head : Head) (spoken : ℕ → Option Talk) (was now : Option (List Event)) (old new : Option (List ℕ)) (fault : RunFault) : Type 0 where
+pub record IsBroken (task : Task) (head : Head) (spoken : ℕ → Option Talk)
+    (was now : Option (List Event)) (old new : Option (List ℕ)) (fault : RunFault) : Type 0 where
   pub text : List ℕ
   pub form : WasToWrite task head fault spoken was now text
   pub told : StopsAt fault old new text

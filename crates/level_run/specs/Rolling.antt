@@ -28,7 +28,8 @@ IsHostFault host.Memory fault = fault ≡ Memory
 
 -- ---- an open round
 
--- The first `sent` requests are sent, and the first `answered` of these are answered. Each slot has a child of its own, that runs.
+-- The first `sent` requests are sent, and the first `answered` of these are answered. Each slot has a child of its own,
+-- that runs.
 pub record IsRolling (s : State) (running : ℕ → Bool) (sent answered : ℕ) : Type 0 where
   pub working : s.failed ≡ false
   pub begun : s.is_open ≡ true
@@ -71,9 +72,11 @@ pub record IsFront (before : List Entry) (Whole : List Entry → Type 0) (entrie
   pub is : entries ≡ before ++ part
   pub whole : Whole (part ++ rest)
 
--- The entries that were to be written behind those before, with which it is such a front; what the sink took of them, the request that
--- is blamed, if one is, what was said with the children, and what the log tells of the calls.
-pub record Stopped (version : ℕ) (task : Task) (pools : List Workers) (Front : List Entry → Type 0) (before : List Entry) (fault : RunFault) (old new : Option (List ℕ)) (spoken : ℕ → Option Talk) (log : List Entry → Type 0) : Type 0 where
+-- The entries that were to be written behind those before, with which it is such a front; what the sink took of them,
+-- the request that is blamed, if one is, what was said with the children, and what the log tells of the calls.
+pub record Stopped (version : ℕ) (task : Task) (pools : List Workers) (Front : List Entry → Type 0)
+    (before : List Entry) (fault : RunFault) (old new : Option (List ℕ)) (spoken : ℕ → Option Talk)
+    (log : List Entry → Type 0) : Type 0 where
   pub more : List Entry
   pub legal : IsLegal version task (before ++ more)
   pub front : Front (before ++ more)

@@ -25,9 +25,10 @@ use Rattle.level_run.specs.declared.fault.RunFault.TheVariants.{Answer, Generato
 abbrev pub held_of : Held → ℕ → List ℕ
 held_of held child = unwrap_or (slice_get held.buffers child) []
 
--- The child was written its requests. Its bytes are one line for each of these that is answered, which says that answer, and then
--- the bytes that are kept.
-pub record IsTalk (task : Task) (version : ℕ) (requests : List Request) (replies : List Entry) (child : ℕ) (kept : List ℕ) (talk : Talk) : Type 0 where
+-- The child was written its requests. Its bytes are one line for each of these that is answered, which says that
+-- answer, and then the bytes that are kept.
+pub record IsTalk (task : Task) (version : ℕ) (requests : List Request) (replies : List Entry)
+    (child : ℕ) (kept : List ℕ) (talk : Talk) : Type 0 where
   pub written : talk.written ≡ bytes_to child requests
   pub taken : List (List ℕ)
   pub cut : Cut talk.heard taken kept
@@ -36,17 +37,20 @@ pub record IsTalk (task : Task) (version : ℕ) (requests : List Request) (repli
 
 -- ---- all children
 
--- Between two rounds: the transcript has no request at its end, and each of its requests is answered. Of children that don't run no
--- byte is kept; with each child of the pools that runs, and tells what was said with it, this was said.
-pub record IsTold (task : Task) (version : ℕ) (pools : List Workers) (entries : List Entry) (running : ℕ → Bool) (kept : ℕ → List ℕ) (spoken : ℕ → Option Talk) : Type 0 where
+-- Between two rounds: the transcript has no request at its end, and each of its requests is answered. Of children that
+-- don't run no byte is kept; with each child of the pools that runs, and tells what was said with it, this was said.
+pub record IsTold (task : Task) (version : ℕ) (pools : List Workers) (entries : List Entry)
+    (running : ℕ → Bool) (kept : ℕ → List ℕ) (spoken : ℕ → Option Talk) : Type 0 where
   pub closed : last_round task [] entries ≡ []
   pub even : length (replies_of entries) ≡ length (requests_of task pools entries)
   pub idle : (child : ℕ) → running child ≡ false → kept child ≡ []
   pub each : (child : ℕ) → IsOneOf pools child → running child ≡ true
-      → IfSome (spoken child) (IsTalk task version (requests_of task pools entries) (replies_of entries) child (kept child))
+      → IfSome (spoken child)
+      (IsTalk task version (requests_of task pools entries) (replies_of entries) child (kept child))
 
 -- The first requests are answered, and this was said with each child of the pools that tells it.
-pub record Talks (task : Task) (version : ℕ) (pools : List Workers) (requests : List Request) (replies : List Entry) (kept : ℕ → List ℕ) (spoken : ℕ → Option Talk) : Type 0 where
+pub record Talks (task : Task) (version : ℕ) (pools : List Workers) (requests : List Request)
+    (replies : List Entry) (kept : ℕ → List ℕ) (spoken : ℕ → Option Talk) : Type 0 where
   pub few : length replies ≤ length requests
   pub each : (child : ℕ) → IsOneOf pools child
       → IfSome (spoken child) (IsTalk task version requests replies child (kept child))
@@ -74,11 +78,14 @@ pub record AreSlotsOf (task : Task) (s : State) : Type 0 where
       → slice_get s.slots k ≡ Some t → IsSlotOf task s.version s.pools r t
 
 -- What was said when so many requests of the round are sent, and so many of them are answered.
-pub record IsTalking (task : Task) (s : State) (sent answered : ℕ) (kept : ℕ → List ℕ) (spoken : ℕ → Option Talk) : Type 0 where
+pub record IsTalking (task : Task) (s : State) (sent answered : ℕ) (kept : ℕ → List ℕ)
+    (spoken : ℕ → Option Talk) : Type 0 where
   pub closed : last_round task [] s.entries ≡ []
   pub even : length (replies_of s.entries) ≡ length (requests_of task s.pools s.entries)
   pub slots : AreSlotsOf task s
-  pub talks : Talks task s.version s.pools (requests_of task s.pools s.entries ++ take sent (requests_of task s.pools s.asks)) (replies_of s.entries ++ take answered (finished s.slots)) kept spoken
+  pub talks : Talks task s.version s.pools
+      (requests_of task s.pools s.entries ++ take sent (requests_of task s.pools s.asks))
+      (replies_of s.entries ++ take answered (finished s.slots)) kept spoken
 
 -- ---- a line that is heard
 
@@ -98,7 +105,8 @@ IsRefused slots child line Memory = ⊥
 IsRefused slots child line Write = ⊥
 
 -- Bytes of the child came, the first line of all that are kept of it is taken, and it is an answer.
-pub record TakesAnswer (old : State) (child : ℕ) (new : State) (kept left : List ℕ) (was now : ℕ → Option Talk) : Type 0 where
+pub record TakesAnswer (old : State) (child : ℕ) (new : State) (kept left : List ℕ)
+    (was now : ℕ → Option Talk) : Type 0 where
   pub more : List ℕ
   pub heard : Hears child more was now
   pub line : List ℕ
@@ -111,7 +119,8 @@ pub record TakesAnswer (old : State) (child : ℕ) (new : State) (kept left : Li
 -- the first line of these bytes is no answer, for this cause; or they are 1,025 bytes without a line feed
 abbrev pub IsBadFirst : List Slot → ℕ → List ℕ → ℕ → Why → Type 0
 IsBadFirst slots child bytes number why =
-    ((line : List ℕ) × (lines_of bytes ≡ line ∷ lines_of (after_first is_feed bytes)) × (heard_at slots child line ≡ heard.Bad number why))
+    ((line : List ℕ) × (lines_of bytes ≡ line ∷ lines_of (after_first is_feed bytes))
+    × (heard_at slots child line ≡ heard.Bad number why))
     ⊎ ((why ≡ TooLong) × (lines_of bytes ≡ []) × (length bytes ≡ 1025))
 
 -- why no answer of the child was taken, of which these bytes are known
@@ -123,7 +132,8 @@ IsBlamed slots child bytes Memory = Unit {0}
 IsBlamed slots child bytes Write = ⊥
 
 -- Bytes of the child came, and no answer was taken.
-pub record Misheard (slots : List Slot) (child : ℕ) (kept : List ℕ) (before after : ℕ → Option Talk) (fault : RunFault) : Type 0 where
+pub record Misheard (slots : List Slot) (child : ℕ) (kept : List ℕ) (before after : ℕ → Option Talk)
+    (fault : RunFault) : Type 0 where
   pub more : List ℕ
   pub heard : Hears child more before after
   pub blamed : IsBlamed slots child (kept ++ more) fault

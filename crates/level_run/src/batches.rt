@@ -1,22 +1,19 @@
 //! Batches: a list of asks, cut into rounds.
-ghost use Rattle.std.specs.Prelude.{◌≡◌, ◌<◌, ◌≤◌, ◌++◌, List, false, length, IfOk, IfErr, OnOk, OnErr};
-ghost use Rattle.instance_queue.specs.Level.{instances_of};
-ghost use Rattle.io_world.specs.Faults.{last_count, Extends, HasCause};
+ghost use Rattle.std.specs.Prelude.{◌≡◌, ◌<◌, length, IfOk, IfErr, OnOk};
+ghost use Rattle.io_world.specs.Faults.{HasCause};
 ghost use Rattle.io_world.specs.Talks.{Same};
 ghost use Rattle.level_run.specs.Breaking.{LogBreaks, RunBreaks};
-ghost use Rattle.level_run.specs.Calls.{Calls, LogStartsPart, Runs, starts_before, starts_of};
+ghost use Rattle.level_run.specs.Calls.{Calls, LogStartsPart, Runs, starts_of};
 ghost use Rattle.level_run.specs.Dialogue.{workers_in};
 ghost use Rattle.level_run.specs.Held.{is_running};
-ghost use Rattle.level_run.specs.Talking.{IsTold, held_of};
-ghost use Rattle.level_run.specs.Rolling.{Goes, IsFront, Stopped};
+ghost use Rattle.level_run.specs.Resting.{Adds, AreCaused, HasStarted, IsFrontOfBatch, RanBatch, Rests, Stays, Works};
+ghost use Rattle.level_run.specs.Rolling.{Stopped};
 ghost use Rattle.level_run.specs.Starts.{AreStartable};
 ghost use Rattle.level_run.specs.Stops.{MayHear};
-ghost use Rattle.level_run.specs.Turns.{AllRun, AreStarted, EndsBatch, IsRunnable};
-ghost use Rattle.level_run.specs.declared.fault.RunFault.TheVariants.{Generator, Write};
+ghost use Rattle.level_run.specs.Turns.{AllRun, IsRunnable};
+ghost use Rattle.level_run.specs.declared.fault.RunFault.TheVariants.{Generator};
 ghost use Rattle.session_core.specs.Ready.{AreReady};
-ghost use Rattle.session_core.specs.Session.{IsLearnt, IsOf, IsSession};
-ghost use Rattle.transcript_model.specs.Rounds.{IsBatch, limits_of};
-ghost use Rattle.transcript_model.specs.declared.entry.Entry.{Entry as AnyEntry};
+ghost use Rattle.session_core.specs.Session.{IsSession};
 
 use crate::ending::Batch;
 use crate::fault::RunFault;
@@ -38,42 +35,26 @@ fn run_rounds<H: Host, O: Sink>(
     dues: &[Due],
     head: &Head,
 ) -> Result<Batch, RunFault>
-    requires session { IsSession task.now session.old }
-    requires head { IsOf head.now session.old }
-    requires working { session.old.failed ≡ false }
-    requires learnt { IsLearnt session.old }
+    requires works { Works task.now head.now session.old lines.old (H.running host.old)
+        (H.spoken host.old) }
     requires ready { AreReady task.now session.old.entries dues.now }
     requires all_run { 0 < length dues.now → AllRun session.old.pools (H.running host.old) }
-    requires state { Same (H.running host.old) (is_running lines.old) }
-    requires told { IsTold task.now head.now.version (workers_in head.now) session.old.entries
-        (H.running host.old) (held_of lines.old) (H.spoken host.old) }
     ensures session { IsSession task.now session.new }
-    ensures head { OnOk result (IsOf head.now session.new) }
-    ensures working { OnOk result (session.new.failed ≡ false) }
-    ensures learnt { OnOk result (IsLearnt session.new) }
-    ensures batch { OnOk result ((more : List AnyEntry)
-        × (session.new.entries ≡ session.old.entries ++ more)
-        × IsBatch (limits_of head.now) task.now session.old.entries (instances_of dues.now) more) }
-    ensures grows { OnOk result (length session.old.asked ≤ length session.new.asked) }
-    ensures ends { IfOk result (EndsBatch task.now session.new.entries (length session.old.asked)
-        (length session.new.asked) head.now.calls (length dues.now)) }
-    ensures told { OnOk result (IsTold task.now head.now.version (workers_in head.now)
-        session.new.entries (H.running host.new) (held_of lines.new) (H.spoken host.new)) }
-    ensures goes { OnOk result (Goes session.old.entries session.new.entries (O.taken out.old)
-        (O.taken out.new)) }
-    ensures order { OnOk result (Calls task.now (workers_in head.now) session.old.entries
-        session.new.entries (H.log host.old) (H.log host.new)) }
-    ensures stopped { IfErr result (λ fault. Stopped head.now.version task.now (workers_in head.now)
-        (IsFront session.old.entries
-        (IsBatch (limits_of head.now) task.now session.old.entries (instances_of dues.now)))
-        session.old.entries fault (O.taken out.old) (O.taken out.new) (H.spoken host.new)
+    ensures works { OnOk result (Works task.now head.now session.new lines.new (H.running host.new)
+        (H.spoken host.new)) }
+    ensures ran { IfOk result (RanBatch task.now head.now dues.now session.old session.new) }
+    ensures adds { OnOk result (Adds session.old.entries session.new.entries (O.taken out.old)
+        (O.taken out.new) (Calls task.now (workers_in head.now) session.old.entries
+        session.new.entries (H.log host.old) (H.log host.new))) }
+    ensures stopped { IfErr result (λ fault. (0 < length dues.now)
+        × Stopped head.now.version task.now (workers_in head.now)
+        (IsFrontOfBatch task.now head.now session.old.entries dues.now) session.old.entries fault
+        (O.taken out.old) (O.taken out.new) (H.spoken host.new)
         (LogBreaks task.now head.now.version (workers_in head.now) session.old.entries fault
         (H.log host.old) (H.log host.new))) }
-    ensures some { OnErr result (0 < length dues.now) }
-    ensures started { lines.new.started ≡ lines.old.started }
-    ensures running { Same (H.running host.old) (H.running host.new) }
-    ensures host { HasCause Generator H.last (H.faults host.old) (H.faults host.new) result }
-    ensures sink { HasCause Write last_count (O.faults out.old) (O.faults out.new) result }
+    ensures same { Stays lines.old lines.new (H.running host.old) (H.running host.new) }
+    ensures causes { AreCaused H.last (H.faults host.old) (H.faults host.new) (O.faults out.old)
+        (O.faults out.new) result }
 {
     let mut rest = dues;
     'rounds: loop {
@@ -100,27 +81,15 @@ fn start_workers<H: Host>(
     dues: &[Due],
 ) -> Result<(), RunFault>
     requires pools { AreStartable head.now.pools }
-    requires head { IsOf head.now session.now }
-    requires started { AreStarted session.now.pools (length session.now.asked)
-        (H.running host.old) }
-    requires state { Same (H.running host.old) (is_running lines.old) }
-    requires session { IsSession task.now session.now }
-    requires told { IsTold task.now head.now.version (workers_in head.now) session.now.entries
-        (H.running host.old) (held_of lines.old) (H.spoken host.old) }
-    ensures told { IsTold task.now head.now.version (workers_in head.now) session.now.entries
-        (H.running host.new) (held_of lines.new) (H.spoken host.new) }
-    ensures early { OnErr result (length session.now.asked ≡ 0) }
-    ensures kept { lines.new.buffers ≡ lines.old.buffers }
-    ensures ready { OnOk result (0 < length dues.now
-        → AllRun session.now.pools (H.running host.new)) }
-    ensures idle { OnOk result (length dues.now ≡ 0
-        → Same (H.running host.old) (H.running host.new)) }
-    ensures log { OnOk result (Extends (H.log host.old) (H.log host.new)
-        (starts_before head.now.pools (length session.now.asked) (length dues.now))) }
-    ensures refused { IfErr result (λ fault. LogStartsPart (starts_of head.now.pools) fault
-        (H.log host.old) (H.log host.new)) }
+    requires rests { Rests task.now head.now session.now lines.old (H.running host.old)
+        (H.spoken host.old) }
+    ensures works { OnOk result (Works task.now head.now session.now lines.new (H.running host.new)
+        (H.spoken host.new)) }
+    ensures started { OnOk result (HasStarted head.now session.now dues.now (H.running host.old)
+        (H.running host.new) (H.log host.old) (H.log host.new)) }
+    ensures refused { IfErr result (λ fault. (length session.now.asked ≡ 0) × MayHear fault
+        × LogStartsPart (starts_of head.now.pools) fault (H.log host.old) (H.log host.new)) }
     ensures state { Same (H.running host.new) (is_running lines.new) }
-    ensures only { IfErr result MayHear }
     ensures cause { HasCause Generator H.last (H.faults host.old) (H.faults host.new) result }
 {
     if dues.is_empty() {
@@ -150,42 +119,23 @@ pub fn batch<H: Host, O: Sink>(
     dues: &[Due],
 ) -> Result<Batch, RunFault>
     requires runnable { IsRunnable task.now head.now }
-    requires session { IsSession task.now session.old }
-    requires head { IsOf head.now session.old }
-    requires working { session.old.failed ≡ false }
-    requires learnt { IsLearnt session.old }
+    requires rests { Rests task.now head.now session.old lines.old (H.running host.old)
+        (H.spoken host.old) }
     requires ready { AreReady task.now session.old.entries dues.now }
-    requires started { AreStarted session.old.pools (length session.old.asked)
-        (H.running host.old) }
-    requires state { Same (H.running host.old) (is_running lines.old) }
-    requires told { IsTold task.now head.now.version (workers_in head.now) session.old.entries
-        (H.running host.old) (held_of lines.old) (H.spoken host.old) }
     ensures session { IsSession task.now session.new }
-    ensures head { OnOk result (IsOf head.now session.new) }
-    ensures working { OnOk result (session.new.failed ≡ false) }
-    ensures learnt { OnOk result (IsLearnt session.new) }
-    ensures batch { OnOk result ((more : List AnyEntry)
-        × (session.new.entries ≡ session.old.entries ++ more)
-        × IsBatch (limits_of head.now) task.now session.old.entries (instances_of dues.now) more) }
-    ensures grows { OnOk result (length session.old.asked ≤ length session.new.asked) }
-    ensures ends { IfOk result (EndsBatch task.now session.new.entries (length session.old.asked)
-        (length session.new.asked) head.now.calls (length dues.now)) }
-    ensures told { OnOk result (IsTold task.now head.now.version (workers_in head.now)
-        session.new.entries (H.running host.new) (held_of lines.new) (H.spoken host.new)) }
-    ensures goes { OnOk result (Goes session.old.entries session.new.entries (O.taken out.old)
-        (O.taken out.new)) }
-    ensures order { OnOk result (Runs task.now head.now session.old.entries session.new.entries
-        (H.log host.old) (H.log host.new)) }
+    ensures rests { OnOk result (Rests task.now head.now session.new lines.new (H.running host.new)
+        (H.spoken host.new)) }
+    ensures ran { IfOk result (RanBatch task.now head.now dues.now session.old session.new) }
+    ensures adds { OnOk result (Adds session.old.entries session.new.entries (O.taken out.old)
+        (O.taken out.new) (Runs task.now head.now session.old.entries session.new.entries
+        (H.log host.old) (H.log host.new))) }
     ensures stopped { IfErr result (λ fault. Stopped head.now.version task.now (workers_in head.now)
-        (IsFront session.old.entries
-        (IsBatch (limits_of head.now) task.now session.old.entries (instances_of dues.now)))
-        session.old.entries fault (O.taken out.old) (O.taken out.new) (H.spoken host.new)
+        (IsFrontOfBatch task.now head.now session.old.entries dues.now) session.old.entries fault
+        (O.taken out.old) (O.taken out.new) (H.spoken host.new)
         (RunBreaks task.now head.now session.old.entries fault (H.log host.old) (H.log host.new))) }
-    ensures started { OnOk result (AreStarted session.new.pools (length session.new.asked)
-        (H.running host.new)) }
     ensures state { Same (H.running host.new) (is_running lines.new) }
-    ensures host { HasCause Generator H.last (H.faults host.old) (H.faults host.new) result }
-    ensures sink { HasCause Write last_count (O.faults out.old) (O.faults out.new) result }
+    ensures causes { AreCaused H.last (H.faults host.old) (H.faults host.new) (O.faults out.old)
+        (O.faults out.new) result }
 {
     start_workers(task, head, session, lines, host, dues)?;
     run_rounds(task, session, lines, host, out, dues, head)

@@ -3,6 +3,7 @@ ghost use Rattle.std.specs.Prelude.{◌≡◌, [], ◌<◌, ◌≤◌, ℕ, List
 ghost use Rattle.io_world.specs.Faults.{HasCause};
 ghost use Rattle.io_world.specs.Talks.{Same, Becomes, Empties, Writes, Hears, Logs, LogsTaken, LogsTakenPart, LogsGiven, LogsGivenPart, started};
 ghost use Rattle.io_world.specs.declared.host.HostFault.{HostFault as AnyHostFault};
+ghost use Rattle.io_world.specs.declared.host.TheConstants.{CHILDREN};
 ghost use Rattle.gen_lines.specs.declared.answer.Why.TheVariants.{TooLong};
 ghost use Rattle.level_run.specs.Breaking.{LogHears};
 ghost use Rattle.level_run.specs.Calls.{LogReads};
@@ -33,7 +34,7 @@ fn fault_of(fault: HostFault) -> RunFault
 
 /// Starts a child with its words.
 pub(crate) fn start<H: Host>(host: &mut H, child: u8, argv: &[String]) -> Result<(), RunFault>
-    requires number { child < 17 }
+    requires number { child < CHILDREN }
     requires words { 0 < length argv.now }
     requires idle { H.running host.old child ≡ false }
     ensures running { MatchResult result
@@ -57,7 +58,7 @@ pub(crate) fn start<H: Host>(host: &mut H, child: u8, argv: &[String]) -> Result
 
 /// Writes a request whole to a child.
 pub(crate) fn send<H: Host>(host: &mut H, child: u8, request: &[u8]) -> Result<(), RunFault>
-    requires number { child < 17 }
+    requires number { child < CHILDREN }
     requires runs { H.running host.old child ≡ true }
     ensures running { Same (H.running host.old) (H.running host.new) }
     ensures all { OnOk result (Writes child request.now (H.spoken host.old) (H.spoken host.new)) }
@@ -77,7 +78,7 @@ pub(crate) fn send<H: Host>(host: &mut H, child: u8, request: &[u8]) -> Result<(
 
 /// Hears a child until a line is held, or as many bytes as a line may have.
 fn fill<H: Host>(host: &mut H, child: u8, buffer: &mut LineBuf) -> Result<(), RunFault>
-    requires number { child < 17 }
+    requires number { child < CHILDREN }
     requires runs { H.running host.old child ≡ true }
     ensures running { Same (H.running host.old) (H.running host.new) }
     ensures heard { OnOk result (Fills child buffer.old buffer.new (H.spoken host.old)
@@ -139,7 +140,7 @@ pub(crate) fn hear<H: Host>(
     host: &mut H,
     child: u8,
 ) -> Result<(), RunFault>
-    requires number { child < 17 }
+    requires number { child < CHILDREN }
     requires runs { H.running host.old child ≡ true }
     requires working { session.old.failed ≡ false }
     requires awaited { IsAwaited session.old.slots child }

@@ -4,6 +4,7 @@ ghost use Rattle.std.specs.List.{find};
 ghost use Rattle.io_world.specs.Faults.{Extends, HasCause};
 ghost use Rattle.io_world.specs.Talks.{Becomes, Logs, Same, started};
 ghost use Rattle.io_world.specs.declared.host.HostFault.{HostFault as AnyHostFault};
+ghost use Rattle.io_world.specs.declared.host.TheConstants.{CHILDREN};
 ghost use Rattle.level_run.specs.Calls.{LogStartsPart, LogStops, has_child, starts_of};
 ghost use Rattle.level_run.specs.Held.{is_running};
 ghost use Rattle.level_run.specs.Rolling.{IsHostFault};
@@ -15,13 +16,10 @@ ghost use Rattle.level_run.specs.declared.fault.RunFault.TheVariants.{Generator}
 use crate::child::start;
 use crate::fault::RunFault;
 use gen_lines::LineBuf;
-use io_world::Host;
+use io_world::{CHILDREN, Host};
 use std::alloc::{AllocError, Global};
 use std::marker::Model;
 use transcript_model::Pool;
-
-/// How many children there may be.
-const CHILDREN: usize = 17;
 
 /// The pool that has the child.
 fn pool_with(pools: &[Pool], child: u8) -> Option<&Pool>
@@ -40,13 +38,14 @@ pub struct Lines {
 
 impl Model for Lines {
     ghost use Rattle.std.specs.Prelude.{◌≡◌, length};
+    ghost use Rattle.io_world.specs.declared.host.TheConstants.{CHILDREN};
     ghost use Rattle.level_run.specs.Held.{Held};
 
     ghost Value = { Held };
 
     ghost view = { λ l. record { buffers = l.buffers.items; started = l.started } };
 
-    ghost invariant = { λ l. (length l.buffers.items ≡ 17) × (length l.started ≡ 17) };
+    ghost invariant = { λ l. (length l.buffers.items ≡ CHILDREN) × (length l.started ≡ CHILDREN) };
 }
 
 impl Lines {
@@ -82,7 +81,7 @@ impl Lines {
         child: u8,
         argv: &[String],
     ) -> Result<(), RunFault>
-        requires number { child < 17 }
+        requires number { child < CHILDREN }
         requires words { 0 < length argv.now }
         requires idle { is_running self.old child ≡ false }
         requires state { Same (H.running host.old) (is_running self.old) }

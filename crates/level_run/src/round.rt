@@ -1,22 +1,21 @@
 //! One round: all its requests are written, and then its answers are heard, in the order of the requests.
-ghost use Rattle.std.specs.Prelude.{◌≡◌, ◌≢◌, ◌<◌, ◌+◌, ◌++◌, ℕ, List, true, false, drop, length, take, IfErr, OnOk};
+ghost use Rattle.std.specs.Prelude.{◌≡◌, ◌≢◌, ◌<◌, ◌+◌, ◌++◌, ℕ, List, true, false, length, take, IfErr, OnOk};
 ghost use Rattle.instance_queue.specs.Level.{instances_of};
-ghost use Rattle.instance_queue.specs.declared.due.Due.{Due as AnyDue};
-ghost use Rattle.io_world.specs.Faults.{last_count, HasCause};
+ghost use Rattle.io_world.specs.Faults.{HasCause};
 ghost use Rattle.io_world.specs.Talks.{Same};
+ghost use Rattle.io_world.specs.declared.host.TheConstants.{CHILDREN};
 ghost use Rattle.level_run.specs.Breaking.{LogBreaks, LogHears};
 ghost use Rattle.level_run.specs.Calls.{Calls, LogReads};
 ghost use Rattle.level_run.specs.Held.{is_running};
-ghost use Rattle.level_run.specs.Rolling.{Goes, IsFront, IsRolling, IsSameRound, Stopped, finished};
-ghost use Rattle.level_run.specs.Talking.{IsTalking, IsTold, Misheard, TakesAnswer, held_of};
+ghost use Rattle.level_run.specs.Resting.{Adds, AreCaused, Listens, RanRound, Rolled, Stays, StaysIdle};
+ghost use Rattle.level_run.specs.Rolling.{Goes, IsFront, IsRolling, Stopped, finished};
+ghost use Rattle.level_run.specs.Talking.{IsTalking, Misheard, TakesAnswer, held_of};
 ghost use Rattle.level_run.specs.Turns.{AllRun};
-ghost use Rattle.level_run.specs.declared.fault.RunFault.TheVariants.{Generator, Memory, Write};
-ghost use Rattle.session_core.specs.Ready.{AreReady};
-ghost use Rattle.session_core.specs.Session.{IsLearnt, IsSession, MayBeginRound};
+ghost use Rattle.level_run.specs.declared.fault.RunFault.TheVariants.{Generator, Memory};
+ghost use Rattle.session_core.specs.Session.{IsSession, MayBeginRound};
 ghost use Rattle.session_core.specs.Slots.{IsAwaited};
 ghost use Rattle.task_model.specs.declared.task.Task.{Task as AnyTask};
 ghost use Rattle.transcript_model.specs.Rounds.{IsRound};
-ghost use Rattle.transcript_model.specs.declared.entry.Entry.{Entry as AnyEntry};
 
 use crate::child::{hear, send};
 use crate::entry_line::print_entry;
@@ -43,19 +42,14 @@ fn send_one<H: Host, O: Sink>(
 ) -> Result<(), RunFault>
     requires rolling { IsRolling session.old (H.running host.old) place 0 }
     requires within { place < length session.old.slots }
-    ensures same { OnOk result (IsSameRound session.old session.new) }
-    ensures rolling { OnOk result (IsRolling session.new (H.running host.new) (place + 1) 0) }
-    ensures many { OnOk result (length session.new.slots ≡ length session.old.slots) }
+    ensures rolled { OnOk result (Rolled session.old session.new (H.running host.new) (place + 1) 0) }
     ensures goes { OnOk result (Goes (session.old.entries ++ take place session.old.asks)
         (session.old.entries ++ take (place + 1) session.old.asks) (O.taken out.old)
         (O.taken out.new)) }
-    ensures talking { (task : AnyTask) (kept : ℕ → List ℕ)
+    ensures said { (task : AnyTask) (kept : ℕ → List ℕ) → IsSession task session.old
         → IsTalking task session.old place 0 kept (H.spoken host.old)
-        → OnOk result (IsTalking task session.new (place + 1) 0 kept (H.spoken host.new)) }
-    ensures order { (task : AnyTask) (kept : ℕ → List ℕ) → IsSession task session.old
-        → IsTalking task session.old place 0 kept (H.spoken host.old)
-        → OnOk result (Calls task session.old.pools
-        (session.old.entries ++ take place session.old.asks)
+        → OnOk result (IsTalking task session.new (place + 1) 0 kept (H.spoken host.new)
+        × Calls task session.old.pools (session.old.entries ++ take place session.old.asks)
         (session.old.entries ++ take (place + 1) session.old.asks) (H.log host.old)
         (H.log host.new)) }
     ensures stopped { (task : AnyTask) (kept : ℕ → List ℕ) → IsSession task session.old
@@ -69,8 +63,8 @@ fn send_one<H: Host, O: Sink>(
         (H.log host.new))) }
     ensures kept { (task : AnyTask) → IsSession task session.old → IsSession task session.new }
     ensures running { Same (H.running host.old) (H.running host.new) }
-    ensures host { HasCause Generator H.last (H.faults host.old) (H.faults host.new) result }
-    ensures sink { HasCause Write last_count (O.faults out.old) (O.faults out.new) result }
+    ensures causes { AreCaused H.last (H.faults host.old) (H.faults host.new) (O.faults out.old)
+        (O.faults out.new) result }
 {
     let (child, request) = session.request(place);
     send(host, child, request)?;
@@ -87,17 +81,13 @@ fn send_all<H: Host, O: Sink>(
 ) -> Result<(), RunFault>
     requires rolling { IsRolling session.old (H.running host.old) 0 0 }
     requires count { count ≡ length session.old.slots }
-    ensures same { OnOk result (IsSameRound session.old session.new) }
-    ensures rolling { OnOk result (IsRolling session.new (H.running host.new) count 0) }
-    ensures many { OnOk result (length session.new.slots ≡ length session.old.slots) }
+    ensures rolled { OnOk result (Rolled session.old session.new (H.running host.new) count 0) }
     ensures goes { OnOk result (Goes session.old.entries (session.old.entries ++ session.old.asks)
         (O.taken out.old) (O.taken out.new)) }
-    ensures talking { (task : AnyTask) (kept : ℕ → List ℕ)
+    ensures said { (task : AnyTask) (kept : ℕ → List ℕ) → IsSession task session.old
         → IsTalking task session.old 0 0 kept (H.spoken host.old)
-        → OnOk result (IsTalking task session.new count 0 kept (H.spoken host.new)) }
-    ensures order { (task : AnyTask) (kept : ℕ → List ℕ) → IsSession task session.old
-        → IsTalking task session.old 0 0 kept (H.spoken host.old)
-        → OnOk result (Calls task session.old.pools session.old.entries
+        → OnOk result (IsTalking task session.new count 0 kept (H.spoken host.new)
+        × Calls task session.old.pools session.old.entries
         (session.old.entries ++ session.old.asks) (H.log host.old) (H.log host.new)) }
     ensures stopped { (task : AnyTask) (kept : ℕ → List ℕ) → IsSession task session.old
         → IsTalking task session.old 0 0 kept (H.spoken host.old)
@@ -108,8 +98,8 @@ fn send_all<H: Host, O: Sink>(
         (H.log host.old) (H.log host.new))) }
     ensures kept { (task : AnyTask) → IsSession task session.old → IsSession task session.new }
     ensures running { Same (H.running host.old) (H.running host.new) }
-    ensures host { HasCause Generator H.last (H.faults host.old) (H.faults host.new) result }
-    ensures sink { HasCause Write last_count (O.faults out.old) (O.faults out.new) result }
+    ensures causes { AreCaused H.last (H.faults host.old) (H.faults host.new) (O.faults out.old)
+        (O.faults out.new) result }
 {
     for place in 0..count {
         send_one(session, host, out, place)?;
@@ -125,7 +115,7 @@ fn hear_child<H: Host>(
     child: u8,
 ) -> Result<(), RunFault>
     requires there { child < length lines.old.started }
-    requires number { child < 17 }
+    requires number { child < CHILDREN }
     requires runs { H.running host.old child ≡ true }
     requires working { session.old.failed ≡ false }
     requires awaited { IsAwaited session.old.slots child }
@@ -158,27 +148,18 @@ fn hear_one<H: Host, O: Sink>(
     requires rolling { IsRolling session.old (H.running host.old) (length session.old.slots) place }
     requires within { place < length session.old.slots }
     requires state { Same (H.running host.old) (is_running lines.old) }
-    ensures same { OnOk result (IsSameRound session.old session.new) }
-    ensures rolling { OnOk result (IsRolling session.new (H.running host.new)
+    ensures rolled { OnOk result (Rolled session.old session.new (H.running host.new)
         (length session.new.slots) (place + 1)) }
-    ensures many { OnOk result (length session.new.slots ≡ length session.old.slots) }
-    ensures front { OnOk result (take place (finished session.new.slots)
-        ≡ take place (finished session.old.slots)) }
-    ensures goes { OnOk result (Goes
-        (session.old.entries ++ session.old.asks ++ take place (finished session.new.slots))
+    ensures goes { OnOk result
+        ((take place (finished session.new.slots) ≡ take place (finished session.old.slots))
+        × Goes (session.old.entries ++ session.old.asks ++ take place (finished session.new.slots))
         (session.old.entries ++ session.old.asks ++ take (place + 1) (finished session.new.slots))
         (O.taken out.old) (O.taken out.new)) }
-    ensures talking { (task : AnyTask) → IsSession task session.old
+    ensures said { (task : AnyTask) → IsSession task session.old
         → IsTalking task session.old (length session.old.slots) place (held_of lines.old)
         (H.spoken host.old) → OnOk result
         (IsTalking task session.new (length session.new.slots) (place + 1) (held_of lines.new)
-        (H.spoken host.new)) }
-    ensures idle { (k : ℕ) → H.running host.old k ≡ false → held_of lines.new k
-        ≡ held_of lines.old k }
-    ensures order { (task : AnyTask) → IsSession task session.old
-        → IsTalking task session.old (length session.old.slots) place (held_of lines.old)
-        (H.spoken host.old) → OnOk result
-        (Calls task session.old.pools
+        (H.spoken host.new) × Calls task session.old.pools
         (session.old.entries ++ session.old.asks ++ take place (finished session.new.slots))
         (session.old.entries ++ session.old.asks ++ take (place + 1) (finished session.new.slots))
         (H.log host.old) (H.log host.new)) }
@@ -193,10 +174,9 @@ fn hear_one<H: Host, O: Sink>(
         (session.old.entries ++ session.old.asks ++ take place (finished session.old.slots)) fault
         (H.log host.old) (H.log host.new))) }
     ensures kept { (task : AnyTask) → IsSession task session.old → IsSession task session.new }
-    ensures started { lines.new.started ≡ lines.old.started }
-    ensures running { Same (H.running host.old) (H.running host.new) }
-    ensures host { HasCause Generator H.last (H.faults host.old) (H.faults host.new) result }
-    ensures sink { HasCause Write last_count (O.faults out.old) (O.faults out.new) result }
+    ensures same { StaysIdle lines.old lines.new (H.running host.old) (H.running host.new) }
+    ensures causes { AreCaused H.last (H.faults host.old) (H.faults host.new) (O.faults out.old)
+        (O.faults out.new) result }
 {
     let (child, _) = session.request(place);
     hear_child(session, lines, host, child)?;
@@ -217,21 +197,15 @@ fn hear_all<H: Host, O: Sink>(
     requires rolling { IsRolling session.old (H.running host.old) count 0 }
     requires count { count ≡ length session.old.slots }
     requires state { Same (H.running host.old) (is_running lines.old) }
-    ensures same { OnOk result (IsSameRound session.old session.new) }
-    ensures rolling { OnOk result (IsRolling session.new (H.running host.new) count count) }
-    ensures many { OnOk result (length session.new.slots ≡ length session.old.slots) }
+    ensures rolled { OnOk result (Rolled session.old session.new (H.running host.new) count count) }
     ensures goes { OnOk result (Goes (session.old.entries ++ session.old.asks)
         (session.old.entries ++ session.old.asks ++ finished session.new.slots) (O.taken out.old)
         (O.taken out.new)) }
-    ensures talking { (task : AnyTask) → IsSession task session.old
+    ensures said { (task : AnyTask) → IsSession task session.old
         → IsTalking task session.old count 0 (held_of lines.old) (H.spoken host.old)
         → OnOk result (IsTalking task session.new count count (held_of lines.new)
-        (H.spoken host.new)) }
-    ensures idle { (k : ℕ) → H.running host.old k ≡ false → held_of lines.new k
-        ≡ held_of lines.old k }
-    ensures order { (task : AnyTask) → IsSession task session.old
-        → IsTalking task session.old count 0 (held_of lines.old) (H.spoken host.old)
-        → OnOk result (Calls task session.old.pools (session.old.entries ++ session.old.asks)
+        (H.spoken host.new) × Calls task session.old.pools
+        (session.old.entries ++ session.old.asks)
         (session.old.entries ++ session.old.asks ++ finished session.new.slots) (H.log host.old)
         (H.log host.new)) }
     ensures stopped { (task : AnyTask) → IsSession task session.old
@@ -242,10 +216,9 @@ fn hear_all<H: Host, O: Sink>(
         (H.spoken host.new) (LogBreaks task session.old.version session.old.pools
         (session.old.entries ++ session.old.asks) fault (H.log host.old) (H.log host.new))) }
     ensures kept { (task : AnyTask) → IsSession task session.old → IsSession task session.new }
-    ensures started { lines.new.started ≡ lines.old.started }
-    ensures running { Same (H.running host.old) (H.running host.new) }
-    ensures host { HasCause Generator H.last (H.faults host.old) (H.faults host.new) result }
-    ensures sink { HasCause Write last_count (O.faults out.old) (O.faults out.new) result }
+    ensures same { StaysIdle lines.old lines.new (H.running host.old) (H.running host.new) }
+    ensures causes { AreCaused H.last (H.faults host.old) (H.faults host.new) (O.faults out.old)
+        (O.faults out.new) result }
 {
     for place in 0..count {
         hear_one(session, lines, host, out, place)?;
@@ -262,42 +235,25 @@ pub(crate) fn run_round<H: Host, O: Sink>(
     out: &mut O,
     dues: &[Due],
 ) -> Result<(), RunFault>
-    requires session { IsSession task.now session.old }
-    requires working { session.old.failed ≡ false }
     requires round { MayBeginRound task.now session.old dues.now }
     requires all_run { AllRun session.old.pools (H.running host.old) }
-    requires state { Same (H.running host.old) (is_running lines.old) }
-    requires told { IsTold task.now session.old.version session.old.pools session.old.entries
-        (H.running host.old) (held_of lines.old) (H.spoken host.old) }
+    requires listens { Listens task.now session.old lines.old (H.running host.old)
+        (H.spoken host.old) }
     ensures session { IsSession task.now session.new }
-    ensures told { OnOk result (IsTold task.now session.new.version session.new.pools
-        session.new.entries (H.running host.new) (held_of lines.new) (H.spoken host.new)) }
-    ensures working { OnOk result (session.new.failed ≡ false) }
-    ensures learnt { OnOk result (IsLearnt session.new) }
-    ensures calls { OnOk result (session.new.calls ≡ session.old.calls) }
-    ensures version { OnOk result (session.new.version ≡ session.old.version) }
-    ensures pools { OnOk result (session.new.pools ≡ session.old.pools) }
-    ensures asked { OnOk result (length session.new.asked
-        ≡ length session.old.asked + length dues.now) }
-    ensures round { OnOk result ((more : List AnyEntry)
-        × (session.new.entries ≡ session.old.entries ++ more)
-        × IsRound task.now session.old.entries (instances_of dues.now) more) }
-    ensures rest { (rest : List AnyDue) (count : ℕ) → dues.now ≡ take count rest
-        → AreReady task.now session.old.entries rest
-        → OnOk result (AreReady task.now session.new.entries (drop count rest)) }
-    ensures goes { OnOk result (Goes session.old.entries session.new.entries (O.taken out.old)
-        (O.taken out.new)) }
-    ensures order { OnOk result (Calls task.now session.old.pools session.old.entries
-        session.new.entries (H.log host.old) (H.log host.new)) }
+    ensures listens { OnOk result (Listens task.now session.new lines.new (H.running host.new)
+        (H.spoken host.new)) }
+    ensures ran { OnOk result (RanRound task.now dues.now session.old session.new) }
+    ensures adds { OnOk result (Adds session.old.entries session.new.entries (O.taken out.old)
+        (O.taken out.new) (Calls task.now session.old.pools session.old.entries session.new.entries
+        (H.log host.old) (H.log host.new))) }
     ensures stopped { IfErr result (λ fault. Stopped session.old.version task.now session.old.pools
         (IsFront session.old.entries (IsRound task.now session.old.entries (instances_of dues.now)))
         session.old.entries fault (O.taken out.old) (O.taken out.new) (H.spoken host.new)
         (LogBreaks task.now session.old.version session.old.pools session.old.entries fault
         (H.log host.old) (H.log host.new))) }
-    ensures started { lines.new.started ≡ lines.old.started }
-    ensures running { Same (H.running host.old) (H.running host.new) }
-    ensures host { HasCause Generator H.last (H.faults host.old) (H.faults host.new) result }
-    ensures sink { HasCause Write last_count (O.faults out.old) (O.faults out.new) result }
+    ensures same { Stays lines.old lines.new (H.running host.old) (H.running host.new) }
+    ensures causes { AreCaused H.last (H.faults host.old) (H.faults host.new) (O.faults out.old)
+        (O.faults out.new) result }
 {
     let count = match session.begin_round(task, dues) {
         Ok(count) => count,

@@ -44,7 +44,8 @@ pass_more kind edges cs k d begun so_far found lt one passed =
     λ f rest.
     let next : k + 1 ≡ suc k = omega arith in
     let front : drop k cs ≡ get_or cs k d ∷ drop (k + 1) cs = drop-cons cs k d lt ∙ ap (λ n. get_or cs k d ∷ drop n cs) (sym next) in
-    passed f (subst (λ xs. AnswersCycles kind edges xs so_far f) (sym front) (one_more kind edges (get_or cs k d) (drop (k + 1) cs) so_far found f one rest))
+    passed f (subst (λ xs. AnswersCycles kind edges xs so_far f)
+    (sym front) (one_more kind edges (get_or cs k d) (drop (k + 1) cs) so_far found f one rest))
 
 pub pass_all : (kind : InputKind) (edges : List (List ℕ)) (cs : List Candidate) (k : ℕ) (begun so_far : Option Fault)
     → length cs ≤ k

@@ -11,7 +11,8 @@ drop_step : {A : Type 0} (xs : List A) (i : ℕ) (x : A) → slice_get xs i ≡ 
     → drop i xs ≡ x ∷ drop (i + 1) xs
 drop_step xs i x e =
     let one : i + 1 ≡ suc i = omega arith in
-    drop-cons xs i x (slice_get_within xs i x e) ∙ ap (λ y. y ∷ drop (suc i) xs) (get_or_from_slice_get xs i x x e) ∙ ap (λ n. x ∷ drop n xs) (sym one)
+    drop-cons xs i x (slice_get_within xs i x e) ∙ ap (λ y. y ∷ drop (suc i) xs) (get_or_from_slice_get xs i x x e)
+    ∙ ap (λ n. x ∷ drop n xs) (sym one)
 
 pub name_step : (ns : List (List ℕ)) (i : ℕ) → i < length ns
     → drop i ns ≡ name_at ns i ∷ drop (i + 1) ns
@@ -37,9 +38,12 @@ signature_none : (ns : List (List ℕ)) → signature_list ns [] ≡ []
 signature_none [] = refl
 signature_none (n ∷ ns) = refl
 
-module _ (ns ss : List (List ℕ)) (list : List declared.Declared) (i : ℕ) (so_far : declared_list ns ss ≡ list ++ declared_list (drop i ns) (drop i ss)) where
+module _ (ns ss : List (List ℕ)) (list : List declared.Declared)
+    (i : ℕ) (so_far : declared_list ns ss ≡ list ++ declared_list (drop i ns) (drop i ss)) where
   pub declared_end : slice_get ss i ≡ None → list ≡ declared_list ns ss
-  declared_end none = sym (so_far ∙ ap (λ xs. list ++ declared_list (drop i ns) xs) (past ss i none) ∙ ap (λ xs. list ++ xs) (declared_none (drop i ns)) ∙ append-nil list)
+  declared_end none =
+      sym (so_far ∙ ap (λ xs. list ++ declared_list (drop i ns) xs) (past ss i none) ∙ ap (λ xs. list ++ xs) (declared_none (drop i ns))
+      ∙ append-nil list)
 
   pub declared_more : (new : List declared.Declared) (name sorts : List ℕ) → i < length ns
       → slice_get ss i ≡ Some sorts → name ≡ name_at ns i
@@ -51,9 +55,12 @@ module _ (ns ss : List (List ℕ)) (list : List declared.Declared) (i : ℕ) (so
       ∙ sym (append_assoc list (record { name = name; sorts = sorts } ∷ []) (declared_list (drop (i + 1) ns) (drop (i + 1) ss)))
       ∙ ap (λ xs. xs ++ declared_list (drop (i + 1) ns) (drop (i + 1) ss)) (sym pushed)
 
-module _ (ns : List (List ℕ)) (as' : List ℕ) (list : List Signature) (i : ℕ) (so_far : signature_list ns as' ≡ list ++ signature_list (drop i ns) (drop i as')) where
+module _ (ns : List (List ℕ)) (as' : List ℕ) (list : List Signature)
+    (i : ℕ) (so_far : signature_list ns as' ≡ list ++ signature_list (drop i ns) (drop i as')) where
   pub signature_end : slice_get as' i ≡ None → list ≡ signature_list ns as'
-  signature_end none = sym (so_far ∙ ap (λ xs. list ++ signature_list (drop i ns) xs) (past as' i none) ∙ ap (λ xs. list ++ xs) (signature_none (drop i ns)) ∙ append-nil list)
+  signature_end none =
+      sym (so_far ∙ ap (λ xs. list ++ signature_list (drop i ns) xs) (past as' i none) ∙ ap (λ xs. list ++ xs) (signature_none (drop i ns))
+      ∙ append-nil list)
 
   pub signature_more : (new : List Signature) (name : List ℕ) (arity : ℕ) → i < length ns
       → slice_get as' i ≡ Some arity → name ≡ name_at ns i

@@ -30,7 +30,8 @@ use Rattle.name_tables.proofs.NoFaultLemmas.{some_fault}
 -- ---- what a head chooses
 
 -- no faults of what the head chooses, and what follows from it
-record Chosen (h : ConditionHead) (P : Condition → Type 0) (parts : Conditions) (single quantified equal atom : Condition) (fp fs fq fe fr fa np ns nq ne nr na : List Fault) : Type 0 where
+record Chosen (h : ConditionHead) (P : Condition → Type 0) (parts : Conditions)
+    (single quantified equal atom : Condition) (fp fs fq fe fr fa np ns nq ne nr na : List Fault) : Type 0 where
   all : fp ≡ [] → np ≡ [] → P (every parts)
   any : fp ≡ [] → np ≡ [] → P (Any parts)
   negated : fs ≡ [] → ns ≡ [] → P (Not single)
@@ -39,7 +40,8 @@ record Chosen (h : ConditionHead) (P : Condition → Type 0) (parts : Conditions
   refused : fr ≡ [] → ⊥
   atoms : fa ≡ [] → na ≡ [] → P atom
 
-by_head : (h : ConditionHead) (P : Condition → Type 0) (parts : Conditions) (single quantified equal atom : Condition) (fp fs fq fe fr fa np ns nq ne nr na : List Fault)
+by_head : (h : ConditionHead) (P : Condition → Type 0) (parts : Conditions)
+    (single quantified equal atom : Condition) (fp fs fq fe fr fa np ns nq ne nr na : List Fault)
     → Chosen h P parts single quantified equal atom fp fs fq fe fr fa np ns nq ne nr na
     → by_condition h fp fs fq fe fr fa ≡ [] → by_condition h np ns nq ne nr na ≡ []
     → P (condition_by h parts single quantified equal atom)
@@ -75,50 +77,70 @@ module _ (v : Vocabulary) (domain : Domain) (objects : ℕ) (knows : Knows v dom
   equal_sound : (filled : List ℕ) (terms : List Term)
       → list_all (is_fit_term objects filled) terms ≡ true → Sound filled (equal_of terms)
   equal_sound filled [] e = refl
-  equal_sound filled (s ∷ []) e = and_from (is_fit_term objects filled s) (is_fit_term objects filled s) (first_so (is_fit_term objects filled s) true e) (first_so (is_fit_term objects filled s) true e)
+  equal_sound filled (s ∷ []) e =
+      and_from (is_fit_term objects filled s) (is_fit_term objects filled s)
+      (first_so (is_fit_term objects filled s) true e) (first_so (is_fit_term objects filled s) true e)
   equal_sound filled (s ∷ t ∷ ts) e =
       let rest = second_so (is_fit_term objects filled s) (list_all (is_fit_term objects filled) (t ∷ ts)) e in
-      and_from (is_fit_term objects filled s) (is_fit_term objects filled t) (first_so (is_fit_term objects filled s) (list_all (is_fit_term objects filled) (t ∷ ts)) e) (first_so (is_fit_term objects filled t) (list_all (is_fit_term objects filled) ts) rest)
+      and_from (is_fit_term objects filled s) (is_fit_term objects filled t)
+      (first_so (is_fit_term objects filled s) (list_all (is_fit_term objects filled) (t ∷ ts)) e)
+      (first_so (is_fit_term objects filled t) (list_all (is_fit_term objects filled) ts) rest)
 
   terms_sound : (scope : List (List ℕ)) (filled : List ℕ) (slots : AreFilled filled (length scope)) (ts : Trees)
       → terms_names v.objects scope ts ≡ []
       → list_all (is_fit_term objects filled) (terms_of v.objects scope ts) ≡ true
-  terms_sound scope filled slots ts e = subst (λ n. list_all (is_fit_term n filled) (terms_of v.objects scope ts) ≡ true) (sym knows.objects_long) (terms_fit v.objects scope filled slots ts e)
+  terms_sound scope filled slots ts e =
+      subst (λ n. list_all (is_fit_term n filled) (terms_of v.objects scope ts) ≡ true)
+      (sym knows.objects_long) (terms_fit v.objects scope filled slots ts e)
 
-  atom_sound : (scope : List (List ℕ)) (filled : List ℕ) (slots : AreFilled filled (length scope)) (place : ℕ) (text : List ℕ) (at : ℕ) (rest : Trees)
+  atom_sound : (scope : List (List ℕ)) (filled : List ℕ) (slots : AreFilled filled (length scope)) (place : ℕ) (text : List ℕ)
+      (at : ℕ) (rest : Trees)
       → application_faults Predicate Term' place (word text at rest) ≡ []
       → application_names v.predicates v.objects scope place (word text at rest) ≡ []
       → Sound filled (Atom (declared_place v.predicates text) (terms_of v.objects scope rest))
   atom_sound scope filled slots place text at rest f n =
-      (λ i. is_fit_application (knows.predicates i) (knows.objects_long i) filled (declared_place v.predicates text) (terms_of v.objects scope rest)) ∙ application_fits v.predicates v.objects scope filled slots Predicate Term' place (word text at rest) f n
+      (λ i. is_fit_application (knows.predicates i) (knows.objects_long i) filled
+      (declared_place v.predicates text) (terms_of v.objects scope rest))
+      ∙ application_fits v.predicates v.objects scope filled slots Predicate Term' place (word text at rest) f n
 
   all_sound : (filled : List ℕ) (scope : List (List ℕ)) (ts : Trees) → size ts ≤ 8388608
       → are_sound domain objects (conditions_of v scope ts) filled ≡ true
       → (nat_le (count_of (conditions_of v scope ts)) 8388608 && are_sound domain objects (conditions_of v scope ts) filled) ≡ true
-  all_sound filled scope ts few s = and_from (nat_le (count_of (conditions_of v scope ts)) 8388608) (are_sound domain objects (conditions_of v scope ts) filled) (le-leb (count_of (conditions_of v scope ts)) 8388608 (omega (arith, parts_count v scope ts))) s
+  all_sound filled scope ts few s =
+      and_from (nat_le (count_of (conditions_of v scope ts)) 8388608) (are_sound domain objects (conditions_of v scope ts) filled)
+      (le-leb (count_of (conditions_of v scope ts)) 8388608 (omega (arith, parts_count v scope ts))) s
 
   -- the variables of a condition, with a sound condition
   exists_sound : (scope : List (List ℕ)) (filled : List ℕ) (items : Trees) (body : Condition)
       → length scope ≤ 16 → variables_names v.sorts (length scope) items ≡ []
-      → (length (scope ++ named_words Start items) ≤ 16 → Sound (numbers_from (length scope) (length (named_sorts v.sorts Start 0 items)) ++ filled) body)
+      → (length (scope ++ named_words Start items) ≤ 16
+      → Sound (numbers_from (length scope) (length (named_sorts v.sorts Start 0 items)) ++ filled) body)
       → Sound filled (Exists (length scope) (named_sorts v.sorts Start 0 items) body)
   exists_sound scope filled items body few n sound =
       let doubles = doubles_names [] Start items in
       let scopes = scope_names (length scope) Start items in
-      let types : types_names v.sorts Start items ≡ [] = append_nil_first (types_names v.sorts Start items) doubles (append_nil_first (types_names v.sorts Start items ++ doubles) scopes n) in
-      let room : length scope + length (named_words Start items) ≤ 16 = scope_bound (length scope) Start items few (append_nil_second (types_names v.sorts Start items ++ doubles) scopes n) in
+      let types : types_names v.sorts Start items ≡ [] =
+      append_nil_first (types_names v.sorts Start items) doubles
+      (append_nil_first (types_names v.sorts Start items ++ doubles) scopes n) in
+      let room : length scope + length (named_words Start items) ≤ 16 =
+      scope_bound (length scope) Start items few (append_nil_second (types_names v.sorts Start items ++ doubles) scopes n) in
       let long : length (named_sorts v.sorts Start 0 items) ≡ length (named_words Start items) = sorts_as_long v.sorts items in
       let places : are_places (length domain.sorts) (named_sorts v.sorts Start 0 items) ≡ true =
-      subst (λ k. are_places k (named_sorts v.sorts Start 0 items) ≡ true) (sym knows.sorts) (few_places v.sorts knows.typed items (omega arith) types) in
-      and_from _ _ (and_from _ _ (le-leb (length scope + length (named_sorts v.sorts Start 0 items)) 16 (omega arith)) places) (sound (omega (arith, length-append scope (named_words Start items))))
+      subst (λ k. are_places k (named_sorts v.sorts Start 0 items) ≡ true)
+      (sym knows.sorts) (few_places v.sorts knows.typed items (omega arith) types) in
+      and_from _ _ (and_from _ _ (le-leb (length scope + length (named_sorts v.sorts Start 0 items)) 16 (omega arith)) places)
+      (sound (omega (arith, length-append scope (named_words Start items))))
 
   filled_inside : (scope : List (List ℕ)) (filled : List ℕ) (items : Trees)
       → AreFilled filled (length scope)
-      → AreFilled (numbers_from (length scope) (length (named_sorts v.sorts Start 0 items)) ++ filled) (length (scope ++ named_words Start items))
+      → AreFilled (numbers_from (length scope) (length (named_sorts v.sorts Start 0 items)) ++ filled)
+      (length (scope ++ named_words Start items))
   filled_inside scope filled items slots =
       let long : length (named_sorts v.sorts Start 0 items) ≡ length (named_words Start items) = sorts_as_long v.sorts items in
       subst (λ k. AreFilled (numbers_from (length scope) k ++ filled) (length (scope ++ named_words Start items))) (sym long)
-      (subst (AreFilled (numbers_from (length scope) (length (named_words Start items)) ++ filled)) (sym (length-append scope (named_words Start items))) (filled_more filled (length scope) (length (named_words Start items)) slots))
+      (subst (AreFilled (numbers_from (length scope) (length (named_words Start items)) ++ filled))
+      (sym (length-append scope (named_words Start items)))
+      (filled_more filled (length scope) (length (named_words Start items)) slots))
 
   mutual
     conditions_sound : (scope : List (List ℕ)) (filled : List ℕ) → AreFilled filled (length scope)
@@ -129,9 +151,14 @@ module _ (v : Vocabulary) (domain : Domain) (objects : ℕ) (knows : Knows v dom
     conditions_sound scope filled slots few (word text at rest) small f n =
         absurd (some_fault (shape at) [] f)
     conditions_sound scope filled slots few (list items at rest) small f n =
-        and_from (is_sound domain objects (condition_of v scope items) filled) (are_sound domain objects (conditions_of v scope rest) filled)
-        (condition_sound scope filled slots few at items (omega arith) (append_nil_first (condition_faults at items) (conditions_faults rest) f) (append_nil_first (condition_names v scope at items) (conditions_names v scope rest) n))
-        (conditions_sound scope filled slots few rest (omega arith) (append_nil_second (condition_faults at items) (conditions_faults rest) f) (append_nil_second (condition_names v scope at items) (conditions_names v scope rest) n))
+        and_from (is_sound domain objects (condition_of v scope items) filled)
+        (are_sound domain objects (conditions_of v scope rest) filled)
+        (condition_sound scope filled slots few at items (omega arith)
+        (append_nil_first (condition_faults at items) (conditions_faults rest) f)
+        (append_nil_first (condition_names v scope at items) (conditions_names v scope rest) n))
+        (conditions_sound scope filled slots few rest (omega arith)
+        (append_nil_second (condition_faults at items) (conditions_faults rest) f)
+        (append_nil_second (condition_names v scope at items) (conditions_names v scope rest) n))
 
     pub condition_sound : (scope : List (List ℕ)) (filled : List ℕ)
         → AreFilled filled (length scope) → length scope ≤ 16 → (place : ℕ) (ts : Trees)
@@ -141,9 +168,12 @@ module _ (v : Vocabulary) (domain : Domain) (objects : ℕ) (knows : Knows v dom
     condition_sound scope filled slots few place (list items at rest) small f n =
         absurd (some_fault (shape at) [] f)
     condition_sound scope filled slots few place (word text at rest) small f n =
-        by_head (condition_head_of text) (Sound filled) (conditions_of v scope rest) (single_of v scope rest) (exists_of v scope rest) (equal_of (terms_of v.objects scope rest)) (Atom (declared_place v.predicates text) (terms_of v.objects scope rest))
-        (conditions_faults rest) (single_faults place rest) (exists_faults place rest) (two_faults Term' place rest) (unsupported place ∷ []) (application_faults Predicate Term' place (word text at rest))
-        (conditions_names v scope rest) (conditions_names v scope rest) (exists_names v scope rest) (terms_names v.objects scope rest) [] (application_names v.predicates v.objects scope place (word text at rest))
+        by_head (condition_head_of text) (Sound filled) (conditions_of v scope rest) (single_of v scope rest) (exists_of v scope rest)
+        (equal_of (terms_of v.objects scope rest)) (Atom (declared_place v.predicates text) (terms_of v.objects scope rest))
+        (conditions_faults rest) (single_faults place rest) (exists_faults place rest)
+        (two_faults Term' place rest) (unsupported place ∷ []) (application_faults Predicate Term' place (word text at rest))
+        (conditions_names v scope rest) (conditions_names v scope rest) (exists_names v scope rest)
+        (terms_names v.objects scope rest) [] (application_names v.predicates v.objects scope place (word text at rest))
         (record {
           all = λ g m. all_sound filled scope rest (omega arith) (conditions_sound scope filled slots few rest (omega arith) g m);
           any = λ g m. all_sound filled scope rest (omega arith) (conditions_sound scope filled slots few rest (omega arith) g m);
@@ -164,7 +194,8 @@ module _ (v : Vocabulary) (domain : Domain) (objects : ℕ) (knows : Knows v dom
     single_sound scope filled slots few place (word text at rest) small f n =
         absurd (some_fault (shape at) [] f)
     single_sound scope filled slots few place (list items at rest) small f n =
-        condition_sound scope filled slots few at items (omega arith) (append_nil_first (condition_faults at items) (end_faults rest) f) (append_nil_first (condition_names v scope at items) (conditions_names v scope rest) n)
+        condition_sound scope filled slots few at items (omega arith) (append_nil_first (condition_faults at items) (end_faults rest) f)
+        (append_nil_first (condition_names v scope at items) (conditions_names v scope rest) n)
 
     exists_all : (scope : List (List ℕ)) (filled : List ℕ) → AreFilled filled (length scope)
         → length scope ≤ 16 → (place : ℕ) (ts : Trees) → size ts ≤ 8388608
@@ -175,8 +206,11 @@ module _ (v : Vocabulary) (domain : Domain) (objects : ℕ) (knows : Knows v dom
     exists_all scope filled slots few place (word text at rest) small f n =
         absurd (some_fault (shape at) [] f)
     exists_all scope filled slots few place (list items at rest) small f n =
-        exists_sound scope filled items (single_of v (scope ++ named_words Start items) rest) few (append_nil_first (variables_names v.sorts (length scope) items) (conditions_names v (scope ++ named_words Start items) rest) n)
-        (λ room. single_sound (scope ++ named_words Start items) (numbers_from (length scope) (length (named_sorts v.sorts Start 0 items)) ++ filled) (filled_inside scope filled items slots) room place rest (omega arith) (append_nil_second (groups_faults Variable at Start items) (single_faults place rest) f)
+        exists_sound scope filled items (single_of v (scope ++ named_words Start items) rest) few
+        (append_nil_first (variables_names v.sorts (length scope) items) (conditions_names v (scope ++ named_words Start items) rest) n)
+        (λ room. single_sound (scope ++ named_words Start items)
+        (numbers_from (length scope) (length (named_sorts v.sorts Start 0 items)) ++ filled) (filled_inside scope filled items slots)
+        room place rest (omega arith) (append_nil_second (groups_faults Variable at Start items) (single_faults place rest) f)
         (append_nil_second (variables_names v.sorts (length scope) items) (conditions_names v (scope ++ named_words Start items) rest) n))
 
 -- ---- depth
@@ -198,8 +232,10 @@ module _ (v : Vocabulary) where
     conditions_deep scope (list items at rest) f n =
         omega (
           arith,
-          condition_deep scope at items (append_nil_first (condition_faults at items) (conditions_faults rest) f) (append_nil_first (condition_names v scope at items) (conditions_names v scope rest) n),
-          conditions_deep scope rest (append_nil_second (condition_faults at items) (conditions_faults rest) f) (append_nil_second (condition_names v scope at items) (conditions_names v scope rest) n),
+          condition_deep scope at items (append_nil_first (condition_faults at items) (conditions_faults rest) f)
+              (append_nil_first (condition_names v scope at items) (conditions_names v scope rest) n),
+          conditions_deep scope rest (append_nil_second (condition_faults at items) (conditions_faults rest) f)
+              (append_nil_second (condition_names v scope at items) (conditions_names v scope rest) n),
         )
 
     pub condition_deep : (scope : List (List ℕ)) (place : ℕ) (ts : Trees)
@@ -208,9 +244,13 @@ module _ (v : Vocabulary) where
     condition_deep scope place nothing f n = omega arith
     condition_deep scope place (list items at rest) f n = absurd (some_fault (shape at) [] f)
     condition_deep scope place (word text at rest) f n =
-        by_head (condition_head_of text) (NoDeeper (depth rest + 1)) (conditions_of v scope rest) (single_of v scope rest) (exists_of v scope rest) (equal_of (terms_of v.objects scope rest)) (Atom (declared_place v.predicates text) (terms_of v.objects scope rest))
-        (conditions_faults rest) (single_faults place rest) (exists_faults place rest) (two_faults Term' place rest) (unsupported place ∷ []) (application_faults Predicate Term' place (word text at rest))
-        (conditions_names v scope rest) (conditions_names v scope rest) (exists_names v scope rest) (terms_names v.objects scope rest) [] (application_names v.predicates v.objects scope place (word text at rest))
+        by_head (condition_head_of text) (NoDeeper (depth rest + 1)) (conditions_of v scope rest) (single_of v scope rest)
+        (exists_of v scope rest) (equal_of (terms_of v.objects scope rest))
+        (Atom (declared_place v.predicates text) (terms_of v.objects scope rest))
+        (conditions_faults rest) (single_faults place rest) (exists_faults place rest)
+        (two_faults Term' place rest) (unsupported place ∷ []) (application_faults Predicate Term' place (word text at rest))
+        (conditions_names v scope rest) (conditions_names v scope rest) (exists_names v scope rest)
+        (terms_names v.objects scope rest) [] (application_names v.predicates v.objects scope place (word text at rest))
         (record {
           all = λ g m. omega (arith, conditions_deep scope rest g m);
           any = λ g m. omega (arith, conditions_deep scope rest g m);
@@ -227,7 +267,11 @@ module _ (v : Vocabulary) where
     single_deep scope place nothing f n = absurd (some_fault (shape place) [] f)
     single_deep scope place (word text at rest) f n = absurd (some_fault (shape at) [] f)
     single_deep scope place (list items at rest) f n =
-        omega (arith, condition_deep scope at items (append_nil_first (condition_faults at items) (end_faults rest) f) (append_nil_first (condition_names v scope at items) (conditions_names v scope rest) n))
+        omega (
+          arith,
+          condition_deep scope at items (append_nil_first (condition_faults at items) (end_faults rest) f)
+              (append_nil_first (condition_names v scope at items) (conditions_names v scope rest) n),
+        )
 
     exists_deep : (scope : List (List ℕ)) (place : ℕ) (ts : Trees) → exists_faults place ts ≡ []
         → exists_names v scope ts ≡ [] → depth_of (exists_of v scope ts) ≤ depth ts + 1
@@ -236,19 +280,23 @@ module _ (v : Vocabulary) where
     exists_deep scope place (list items at rest) f n =
         omega (
           arith,
-          single_deep (scope ++ named_words Start items) place rest (append_nil_second (groups_faults Variable at Start items) (single_faults place rest) f)
-              (append_nil_second (variables_names v.sorts (length scope) items) (conditions_names v (scope ++ named_words Start items) rest) n),
+          single_deep (scope ++ named_words Start items) place rest
+              (append_nil_second (groups_faults Variable at Start items) (single_faults place rest) f)
+              (append_nil_second (variables_names v.sorts (length scope) items)
+              (conditions_names v (scope ++ named_words Start items) rest) n),
         )
 
 -- ---- fit conditions
 
-module _ (v : Vocabulary) (domain : Domain) (objects : ℕ) (knows : Knows v domain objects) (scope : List (List ℕ)) (filled : List ℕ) (slots : AreFilled filled (length scope)) (few : length scope ≤ 16) where
+module _ (v : Vocabulary) (domain : Domain) (objects : ℕ) (knows : Knows v domain objects) (scope : List (List ℕ))
+    (filled : List ℕ) (slots : AreFilled filled (length scope)) (few : length scope ≤ 16) where
   -- the condition that the list at a place is
   pub condition_fits : (place : ℕ) (ts : Trees) → size ts ≤ 8388608 → depth ts < 64
       → condition_faults place ts ≡ [] → condition_names v scope place ts ≡ []
       → is_fit_condition domain objects filled (condition_of v scope ts) ≡ true
   condition_fits place ts small shallow f n =
-      and_from (is_sound domain objects (condition_of v scope ts) filled) (nat_le (depth_of (condition_of v scope ts)) 64) (condition_sound v domain objects knows scope filled slots few place ts small f n)
+      and_from (is_sound domain objects (condition_of v scope ts) filled) (nat_le (depth_of (condition_of v scope ts)) 64)
+      (condition_sound v domain objects knows scope filled slots few place ts small f n)
       (le-leb (depth_of (condition_of v scope ts)) 64 (omega (arith, condition_deep v scope place ts f n)))
 
   -- the one condition of a row
@@ -256,5 +304,6 @@ module _ (v : Vocabulary) (domain : Domain) (objects : ℕ) (knows : Knows v dom
       → single_faults place ts ≡ [] → conditions_names v scope ts ≡ []
       → is_fit_condition domain objects filled (single_of v scope ts) ≡ true
   single_fits place ts small shallow f n =
-      and_from (is_sound domain objects (single_of v scope ts) filled) (nat_le (depth_of (single_of v scope ts)) 64) (single_sound v domain objects knows scope filled slots few place ts small f n)
+      and_from (is_sound domain objects (single_of v scope ts) filled)
+      (nat_le (depth_of (single_of v scope ts)) 64) (single_sound v domain objects knows scope filled slots few place ts small f n)
       (le-leb (depth_of (single_of v scope ts)) 64 (omega (arith, single_deep v scope place ts f n)))

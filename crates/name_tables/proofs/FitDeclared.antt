@@ -18,7 +18,9 @@ use Rattle.name_tables.specs.Names.{has_name, place_of, with_name}
 use Rattle.name_tables.specs.Variables.{is_named, named_sorts, named_words, seen_after, types_names}
 use Rattle.name_tables.proofs.GraphsOrderLemmas.{Ascends, ascends_places, ascends_with}
 use Rattle.name_tables.proofs.FitGroups.{sort_places, sorts_as_long, words_are_names}
-use Rattle.name_tables.proofs.NamesLemmas.{distinct_with, name_there, place_named, place_there}
+use Rattle.name_tables.proofs.NamesLemmas.{name_there, place_named, place_there}
+use Rattle.task_model.proofs.KnownLemmas.{with_name-distinct}
+use Rattle.task_model.specs.Known.{with_names}
 
 -- ---- one name more
 
@@ -30,35 +32,14 @@ named_with names name all one =
       | false ↦ all_push is_name names name all one
     ]
 
-pub length_with : (names : List (List ℕ)) (name : List ℕ)
-    → length (with_name names name) ≤ length names + 1
-length_with names name =
-    elim (has_name name names) as (λ b. length (cond b names (names ++ name ∷ [])) ≤ length names + 1) [
-      | true ↦ omega arith
-      | false ↦ omega (arith, length-append names (name ∷ []))
-    ]
-
 -- ---- names behind others, each once
-
-abbrev pub with_names : List (List ℕ) → List (List ℕ) → List (List ℕ)
-with_names names [] = names
-with_names names (n ∷ ns) = with_names (with_name names n) ns
-
-pub distinct_names : (names ns : List (List ℕ)) → AreDistinct names
-    → AreDistinct (with_names names ns)
-distinct_names names [] d = d
-distinct_names names (n ∷ ns) d = distinct_names (with_name names n) ns (distinct_with names n d)
 
 pub named_names : (names ns : List (List ℕ)) → list_all is_name names ≡ true
     → list_all is_name ns ≡ true → list_all is_name (with_names names ns) ≡ true
 named_names names [] e f = e
-named_names names (n ∷ ns) e f = named_names (with_name names n) ns (named_with names n e (first_so (is_name n) (list_all is_name ns) f)) (second_so (is_name n) (list_all is_name ns) f)
-
-pub length_names : (names ns : List (List ℕ))
-    → length (with_names names ns) ≤ length names + length ns
-length_names names [] = omega arith
-length_names names (n ∷ ns) =
-    omega (arith, length_names (with_name names n) ns, length_with names n)
+named_names names (n ∷ ns) e f =
+    named_names (with_name names n) ns (named_with names n e (first_so (is_name n) (list_all is_name ns) f))
+    (second_so (is_name n) (list_all is_name ns) f)
 
 pub seen_names : (names : List (List ℕ)) (spot : Spot) (ts : Trees)
     → seen_after names spot ts ≡ with_names names (named_words spot ts)
@@ -66,7 +47,9 @@ seen_names names spot nothing = refl
 seen_names names spot (list items at rest) = refl
 seen_names names spot (word text at rest) =
     seen_names (cond (is_named spot text) (with_name names text) names) (after_word spot text) rest
-    ∙ elim (is_named spot text) as (λ b. with_names (cond b (with_name names text) names) (named_words (after_word spot text) rest) ≡ with_names names (cond b (text ∷ named_words (after_word spot text) rest) (named_words (after_word spot text) rest))) [
+    ∙ elim (is_named spot text) as (λ b.
+    with_names (cond b (with_name names text) names) (named_words (after_word spot text) rest)
+    ≡ with_names names (cond b (text ∷ named_words (after_word spot text) rest) (named_words (after_word spot text) rest))) [
       | true ↦ refl
       | false ↦ refl
     ]
@@ -98,7 +81,8 @@ put_ascends : (size : ℕ) (lists : List (List ℕ)) (place n : ℕ) → n < siz
     → AllAscend size (number_put lists place n)
 put_ascends size [] place n lt a = tt
 put_ascends size (ns ∷ lists) zero n lt a = (ascends_with 0 size ns n (omega arith) lt a.0, a.1)
-put_ascends size (ns ∷ lists) (suc place) n lt a = subst (AllAscend size) (sym (put_behind ns lists place n (slice_get lists place))) (a.0, put_ascends size lists place n lt a.1)
+put_ascends size (ns ∷ lists) (suc place) n lt a =
+    subst (AllAscend size) (sym (put_behind ns lists place n (slice_get lists place))) (a.0, put_ascends size lists place n lt a.1)
 
 pub put_long : (lists : List (List ℕ)) (place n : ℕ)
     → length (number_put lists place n) ≡ length lists
@@ -111,11 +95,18 @@ put_long (ns ∷ lists) (suc place) n =
 typed_by : (size : ℕ) (t : Typed) (name : List ℕ) (sort : ℕ) (o : Option ℕ)
     → place_of name t.names ≡ o → AreTyped size t → is_name name ≡ true → sort < size
     → AreTyped size (declared_by t name sort o)
-typed_by size t name sort (Some place) e a one lt = record { distinct = a.distinct; named = a.named; even = a.even ∙ sym (put_long t.sorts place sort); ascend = put_ascends size t.sorts place sort lt a.ascend }
+typed_by size t name sort (Some place) e a one lt = record {
+  distinct = a.distinct;
+  named = a.named;
+  even = a.even ∙ sym (put_long t.sorts place sort);
+  ascend = put_ascends size t.sorts place sort lt a.ascend;
+}
 typed_by size t name sort None e a one lt =
-    let absent : has_name name t.names ≡ false = false_from_ne_true (has_name name t.names) (λ h. let found = place_there name t.names h in let none : None ≡ Some found.0 = sym e ∙ found.1 in cc) in
+    let absent : has_name name t.names ≡ false =
+    false_from_ne_true (has_name name t.names)
+    (λ h. let found = place_there name t.names h in let none : None ≡ Some found.0 = sym e ∙ found.1 in cc) in
     record {
-      distinct = distinct_with t.names name a.distinct;
+      distinct = with_name-distinct t.names name a.distinct;
       named = named_with t.names name a.named one;
       even =
           ap (λ b. length (cond b t.names (t.names ++ name ∷ []))) absent
@@ -131,7 +122,8 @@ typed_each size t [] ss a e f = a
 typed_each size t (n ∷ ns) [] a e f = a
 typed_each size t (n ∷ ns) (s ∷ ss) a e f =
     typed_each size (declare t n s) ns ss
-    (typed_by size t n s (place_of n t.names) refl a (first_so (is_name n) (list_all is_name ns) e) (ltb-true s size (first_so (nat_lt s size) (list_all (λ n. nat_lt n size) ss) f)))
+    (typed_by size t n s (place_of n t.names) refl a
+    (first_so (is_name n) (list_all is_name ns) e) (ltb-true s size (first_so (nat_lt s size) (list_all (λ n. nat_lt n size) ss) f)))
     (second_so (is_name n) (list_all is_name ns) e) (second_so (nat_lt s size) (list_all (λ n. nat_lt n size) ss) f)
 
 -- a list of names with types, as it stands in a text
@@ -139,14 +131,17 @@ pub typed_groups : (sorts : List (List ℕ)) (t : Typed) (place : ℕ) (ts : Tre
     → AreTyped (length sorts) t → groups_faults Name place Start ts ≡ []
     → types_names sorts Start ts ≡ []
     → AreTyped (length sorts) (declare_each t (named_words Start ts) (named_sorts sorts Start 0 ts))
-typed_groups sorts t place ts typed a f n = typed_each (length sorts) t (named_words Start ts) (named_sorts sorts Start 0 ts) a (words_are_names place Start ts f) (sort_places sorts typed Start 0 ts n)
+typed_groups sorts t place ts typed a f n =
+    typed_each (length sorts) t (named_words Start ts) (named_sorts sorts Start 0 ts) a
+    (words_are_names place Start ts f) (sort_places sorts typed Start 0 ts n)
 
 -- ---- the names of what is declared
 
 declared_name : (t : Typed) (name : List ℕ) (sort : ℕ) (o : Option ℕ) → place_of name t.names ≡ o
     → (declared_by t name sort o).names ≡ with_name t.names name
 declared_name t name sort None e = refl
-declared_name t name sort (Some place) e = sym (ap (λ b. cond b t.names (t.names ++ name ∷ [])) (name_there name t.names place (place_named name t.names place e)))
+declared_name t name sort (Some place) e =
+    sym (ap (λ b. cond b t.names (t.names ++ name ∷ [])) (name_there name t.names place (place_named name t.names place e)))
 
 pub declared_names : (t : Typed) (ns : List (List ℕ)) (ss : List ℕ) → length ss ≡ length ns
     → (declare_each t ns ss).names ≡ with_names t.names ns
@@ -179,7 +174,9 @@ list_typed : (size : ℕ) (ns ss : List (List ℕ)) → size ≤ 8388608 → All
     → list_all (λ (d : declared.Declared). are_places size d.sorts) (declared_list ns ss) ≡ true
 list_typed size [] ss few a = refl
 list_typed size (n ∷ ns) [] few a = refl
-list_typed size (n ∷ ns) (s ∷ ss) few a = and_from (are_places size s) (list_all (λ (d : declared.Declared). are_places size d.sorts) (declared_list ns ss)) (ascends_places size s few a.0) (list_typed size ns ss few a.1)
+list_typed size (n ∷ ns) (s ∷ ss) few a =
+    and_from (are_places size s) (list_all (λ (d : declared.Declared). are_places size d.sorts) (declared_list ns ss))
+    (ascends_places size s few a.0) (list_typed size ns ss few a.1)
 
 -- names with types are fit as constants or objects of a domain with so many types
 pub typed_fit : (domain : Domain) (t : Typed) → length domain.sorts ≤ 8388608

@@ -30,12 +30,18 @@ sorts_long sorts spot waiting (list items at rest) = copies_long waiting 0 ∙ o
 sorts_long sorts Start waiting (word text at rest) =
     sorts_long sorts Named (waiting + 1) rest ∙ omega arith
 sorts_long sorts Named waiting (word text at rest) =
-    elim (is_dash text) as (λ b. length (if not b then named_sorts sorts Named (waiting + 1) rest else named_sorts sorts Typed waiting rest) ≡ waiting + length (if not b then text ∷ named_words (if b then Typed else Named) rest else named_words (if b then Typed else Named) rest)) [
+    elim (is_dash text) as (λ b.
+    length (if not b then named_sorts sorts Named (waiting + 1) rest else named_sorts sorts Typed waiting rest)
+    ≡ waiting
+    + length
+    (if not b then text ∷ named_words (if b then Typed else Named) rest else named_words (if b then Typed else Named) rest)) [
       | true ↦ sorts_long sorts Typed waiting rest
       | false ↦ sorts_long sorts Named (waiting + 1) rest ∙ omega arith
     ]
 sorts_long sorts Typed waiting (word text at rest) =
-    length-append (copies waiting (sort_of sorts text)) (named_sorts sorts Start 0 rest) ∙ ap (λ n. n + length (named_sorts sorts Start 0 rest)) (copies_long waiting (sort_of sorts text)) ∙ ap (λ n. waiting + n) (sorts_long sorts Start 0 rest) ∙ omega arith
+    length-append (copies waiting (sort_of sorts text)) (named_sorts sorts Start 0 rest)
+    ∙ ap (λ n. n + length (named_sorts sorts Start 0 rest)) (copies_long waiting (sort_of sorts text))
+    ∙ ap (λ n. waiting + n) (sorts_long sorts Start 0 rest) ∙ omega arith
 
 pub sorts_as_long : (sorts : List (List ℕ)) (ts : Trees)
     → length (named_sorts sorts Start 0 ts) ≡ length (named_words Start ts)
@@ -66,13 +72,20 @@ module _ (sorts : List (List ℕ)) (typed : 0 < length sorts) where
   sort_places spot waiting (list items at rest) e = all_copies is_place waiting 0 first_place
   sort_places Start waiting (word text at rest) e = sort_places Named (waiting + 1) rest e
   sort_places Named waiting (word text at rest) e =
-      elim (is_dash text) as (λ b. types_names sorts (if b then Typed else Named) rest ≡ [] → list_all (λ n. nat_lt n (length sorts)) (if not b then named_sorts sorts Named (waiting + 1) rest else named_sorts sorts Typed waiting rest) ≡ true) [
+      elim (is_dash text) as (λ b.
+      types_names sorts (if b then Typed else Named) rest ≡ []
+      → list_all (λ n. nat_lt n (length sorts))
+      (if not b then named_sorts sorts Named (waiting + 1) rest else named_sorts sorts Typed waiting rest)
+      ≡ true) [
         | true ↦ λ f. sort_places Typed waiting rest f
         | false ↦ λ f. sort_places Named (waiting + 1) rest f
       ] e
   sort_places Typed waiting (word text at rest) e =
-      let there = met (has_name text sorts) Unknown at (append_nil_first (unless (has_name text sorts) Unknown at) (types_names sorts Start rest) e) in
-      all_append is_place (copies waiting (sort_of sorts text)) (named_sorts sorts Start 0 rest) (all_copies is_place waiting (sort_of sorts text) (lt-ltb (sort_of sorts text) (length sorts) (sort_there sorts text there)))
+      let there =
+      met (has_name text sorts) Unknown at
+      (append_nil_first (unless (has_name text sorts) Unknown at) (types_names sorts Start rest) e) in
+      all_append is_place (copies waiting (sort_of sorts text)) (named_sorts sorts Start 0 rest)
+      (all_copies is_place waiting (sort_of sorts text) (lt-ltb (sort_of sorts text) (length sorts) (sort_there sorts text there)))
       (sort_places Start 0 rest (append_nil_second (unless (has_name text sorts) Unknown at) (types_names sorts Start rest) e))
 
   -- the types of few names are places in the list of types
@@ -80,7 +93,8 @@ module _ (sorts : List (List ℕ)) (typed : 0 < length sorts) where
       → types_names sorts Start ts ≡ []
       → are_places (length sorts) (named_sorts sorts Start 0 ts) ≡ true
   few_places ts few e =
-      and_from (is_short (named_sorts sorts Start 0 ts)) (list_all is_place (named_sorts sorts Start 0 ts)) (le-leb (length (named_sorts sorts Start 0 ts)) 8388608 (omega (arith, sorts_as_long sorts ts))) (sort_places Start 0 ts e)
+      and_from (is_short (named_sorts sorts Start 0 ts)) (list_all is_place (named_sorts sorts Start 0 ts))
+      (le-leb (length (named_sorts sorts Start 0 ts)) 8388608 (omega (arith, sorts_as_long sorts ts))) (sort_places Start 0 ts e)
 
 -- ---- how many variables are in scope
 
@@ -89,10 +103,17 @@ pub scope_bound : (size : ℕ) (spot : Spot) (ts : Trees) → size ≤ 16 → sc
 scope_bound size spot nothing few e = omega arith
 scope_bound size spot (list items at rest) few e = omega arith
 scope_bound size spot (word text at rest) few e =
-    elim (is_named spot text) as (λ b. (if b then unless (not (size == 16)) TooMany at else []) ++ scope_names (if b then size + 1 else size) (after_word spot text) rest ≡ [] → size + length (if b then text ∷ named_words (after_word spot text) rest else named_words (after_word spot text) rest) ≤ 16) [
+    elim (is_named spot text) as (λ b.
+    (if b then unless (not (size == 16)) TooMany at else []) ++ scope_names (if b then size + 1 else size) (after_word spot text) rest
+    ≡ []
+    → size + length (if b then text ∷ named_words (after_word spot text) rest else named_words (after_word spot text) rest) ≤ 16) [
       | true ↦ λ f.
-          let room : (size == 16) ≡ false = not-true (size == 16) (met (not (size == 16)) TooMany at (append_nil_first (unless (not (size == 16)) TooMany at) (scope_names (size + 1) (after_word spot text) rest) f)) in
-          let more : (size + 1) + length (named_words (after_word spot text) rest) ≤ 16 = scope_bound (size + 1) (after_word spot text) rest (omega (arith, eqb-false size 16 room)) (append_nil_second (unless (not (size == 16)) TooMany at) (scope_names (size + 1) (after_word spot text) rest) f) in
+          let room : (size == 16) ≡ false =
+          not-true (size == 16) (met (not (size == 16)) TooMany at
+          (append_nil_first (unless (not (size == 16)) TooMany at) (scope_names (size + 1) (after_word spot text) rest) f)) in
+          let more : (size + 1) + length (named_words (after_word spot text) rest) ≤ 16 =
+          scope_bound (size + 1) (after_word spot text) rest (omega (arith, eqb-false size 16 room))
+          (append_nil_second (unless (not (size == 16)) TooMany at) (scope_names (size + 1) (after_word spot text) rest) f) in
           omega arith
       | false ↦ λ f. scope_bound size (after_word spot text) rest few f
     ] e
@@ -107,10 +128,15 @@ words_are_names place Start (word text at rest) e =
     let parts = chosen (is_name text) (groups_faults Name place Named rest) (shape at) [] e in
     and_from (is_name text) (list_all is_name (named_words Named rest)) parts.0 (words_are_names place Named rest parts.1)
 words_are_names place Named (word text at rest) e =
-    elim (is_dash text) as (λ b. (if (if b then true else is_name text) then groups_faults Name place (if b then Typed else Named) rest else shape at ∷ []) ≡ [] → list_all is_name (if not b then text ∷ named_words (if b then Typed else Named) rest else named_words (if b then Typed else Named) rest) ≡ true) [
+    elim (is_dash text) as (λ b.
+    (if (if b then true else is_name text) then groups_faults Name place (if b then Typed else Named) rest else shape at ∷ []) ≡ []
+    → list_all is_name
+    (if not b then text ∷ named_words (if b then Typed else Named) rest else named_words (if b then Typed else Named) rest)
+    ≡ true) [
       | true ↦ λ f. words_are_names place Typed rest f
       | false ↦ λ f.
           let parts = chosen (is_name text) (groups_faults Name place Named rest) (shape at) [] f in
           and_from (is_name text) (list_all is_name (named_words Named rest)) parts.0 (words_are_names place Named rest parts.1)
     ] e
-words_are_names place Typed (word text at rest) e = words_are_names place Start rest (chosen (is_name text) (groups_faults Name place Start rest) (shape at) [] e).1
+words_are_names place Typed (word text at rest) e =
+    words_are_names place Start rest (chosen (is_name text) (groups_faults Name place Start rest) (shape at) [] e).1

@@ -58,15 +58,20 @@ module _ (objects scope : List (List ℕ)) (filled : List ℕ) (slots : AreFille
       let absent : has_name text scope ≡ false = (last_none 0 None text scope e).1 in
       let there : has_name text objects ≡ true = subst (λ b. (b || has_name text objects) ≡ true) absent t in
       let found = place_there text objects there in
-      lt-ltb (unwrap_or (place_of text objects) 0) (length objects) (subst (λ n. n < length objects) (ap (λ o. unwrap_or o 0) (sym found.1)) (place_within text objects found.0 found.1))
+      lt-ltb (unwrap_or (place_of text objects) 0) (length objects)
+      (subst (λ n. n < length objects) (ap (λ o. unwrap_or o 0) (sym found.1)) (place_within text objects found.0 found.1))
 
   pub terms_fit : (ts : Trees) → terms_names objects scope ts ≡ []
       → list_all (is_fit_term (length objects) filled) (terms_of objects scope ts) ≡ true
   terms_fit nothing e = refl
   terms_fit (word text at rest) e =
-      and_from (is_fit_term (length objects) filled (term_of objects scope text)) (list_all (is_fit_term (length objects) filled) (terms_of objects scope rest))
-      (term_fits text (last_place 0 None text scope) refl (met (has_name text scope || has_name text objects) Unknown at (append_nil_first (unless (has_name text scope || has_name text objects) Unknown at) (terms_names objects scope rest) e)))
-      (terms_fit rest (append_nil_second (unless (has_name text scope || has_name text objects) Unknown at) (terms_names objects scope rest) e))
+      and_from (is_fit_term (length objects) filled (term_of objects scope text))
+      (list_all (is_fit_term (length objects) filled) (terms_of objects scope rest))
+      (term_fits text (last_place 0 None text scope) refl
+      (met (has_name text scope || has_name text objects) Unknown at
+      (append_nil_first (unless (has_name text scope || has_name text objects) Unknown at) (terms_names objects scope rest) e)))
+      (terms_fit rest
+      (append_nil_second (unless (has_name text scope || has_name text objects) Unknown at) (terms_names objects scope rest) e))
   terms_fit (list items at rest) e = terms_fit rest e
 
 -- a row of words has a term for each
@@ -106,7 +111,8 @@ used None count at place e = absurd (cc)
 used (Some arity) count at place e =
     ap Some (eqb-true arity count (met (arity == count) Arity place e))
 
-pub use_there : (s : Signed) (text : List ℕ) (count at place : ℕ) → use_names (arity_of s text) count at place ≡ [] → has_arity (signature_list s.names s.arities) (declared_place s text) count ≡ true
+pub use_there : (s : Signed) (text : List ℕ) (count at place : ℕ) → use_names (arity_of s text) count at place ≡ []
+    → has_arity (signature_list s.names s.arities) (declared_place s text) count ≡ true
 use_there s text count at place e =
     arity_there s text count (used (arity_of s text) count at place e)
 
@@ -115,7 +121,9 @@ use_there s text count at place e =
 pub application_fits : (s : Signed) (objects scope : List (List ℕ)) (filled : List ℕ)
     → AreFilled filled (length scope) → (head args : WordSort) (place : ℕ) (ts : Trees)
     → application_faults head args place ts ≡ [] → application_names s objects scope place ts ≡ []
-    → is_fit_application (signature_list s.names s.arities) (length objects) filled (declared_place s (head_of ts)) (terms_of objects scope (tail_of ts)) ≡ true
+    → is_fit_application (signature_list s.names s.arities) (length objects) filled
+    (declared_place s (head_of ts)) (terms_of objects scope (tail_of ts))
+    ≡ true
 application_fits s objects scope filled slots head args place nothing f e =
     absurd (some_fault (shape place) [] f)
 application_fits s objects scope filled slots head args place (list items at rest) f e =
@@ -124,6 +132,8 @@ application_fits s objects scope filled slots head args place (word text at rest
     let used_names = use_names (arity_of s text) (width rest) at place in
     let row = (chosen (is_of head text) (row_faults args rest) (shape at) [] f).1 in
     let declared = use_there s text (width rest) at place (append_nil_first used_names (terms_names objects scope rest) e) in
-    and_from (has_arity (signature_list s.names s.arities) (declared_place s text) (length (terms_of objects scope rest))) (list_all (is_fit_term (length objects) filled) (terms_of objects scope rest))
-    (subst (λ n. has_arity (signature_list s.names s.arities) (declared_place s text) n ≡ true) (sym (terms_long objects scope args rest row)) declared)
+    and_from (has_arity (signature_list s.names s.arities) (declared_place s text) (length (terms_of objects scope rest)))
+    (list_all (is_fit_term (length objects) filled) (terms_of objects scope rest))
+    (subst (λ n. has_arity (signature_list s.names s.arities) (declared_place s text) n ≡ true)
+    (sym (terms_long objects scope args rest row)) declared)
     (terms_fit objects scope filled slots rest (append_nil_second used_names (terms_names objects scope rest) e))

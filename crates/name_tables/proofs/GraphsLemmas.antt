@@ -1,12 +1,12 @@
 -- Which numbers are reached.
-use Rattle.std.proofs.Common.{◌≡◌, ℕ, suc, ◌+◌, ◌≤◌, Bool, true, false, cond, ◌==◌, List, [], ◌∷◌, ◌++◌, length, take, refl, sym, ap, subst, ◌∙◌, ◌⊎◌, inl, inr, Some, None, slice_get, append_assoc, eq-eqb, arith}
+use Rattle.std.proofs.Common.{◌≡◌, ℕ, ◌+◌, ◌≤◌, Bool, true, false, cond, ◌==◌, List, [], ◌∷◌, ◌++◌, length, take, refl, sym, ap, subst, ◌∙◌, ◌⊎◌, inl, inr, Some, None, slice_get, append_assoc, eq-eqb, arith}
 use Rattle.std.proofs.lemmas.Bool.{eqb-true, or_cases, or_left, or_right}
 use Rattle.std.proofs.lemmas.Map.Keys.{any_passes_from_place}
 use Rattle.std.proofs.lemmas.List.{take-append-le, take_all, append-nil}
-use Rattle.std.proofs.lemmas.Option.{slice_get_within, slice_get_cases, get_or_from_slice_get}
-use Rattle.std.proofs.Math.Seq.{take-suc}
+use Rattle.std.proofs.lemmas.Option.{slice_get_within, slice_get_cases}
 use Rattle.lemmas.specs.Lists.{LeadsAlong, has_number}
 use Rattle.name_tables.specs.Graphs.{AreReached, HasWay, leads, next_of, with_number, with_numbers}
+use Rattle.lemmas.proofs.Members.{next_taken}
 
 -- one number more at the end
 
@@ -68,7 +68,8 @@ pub gets_all : (ns ms : List ℕ) (b : ℕ) → has_number ms b ≡ true
 gets_all ns [] b h = absurd (cc)
 gets_all ns (m ∷ ms) b h =
     elim (or_cases (b == m) (has_number ms b) h) [
-      | inl e ↦ keeps_all (with_number ns m) ms b (subst (λ x. has_number (with_number ns m) x ≡ true) (sym (eqb-true b m e)) (gets_if (has_number ns m) ns m refl))
+      | inl e ↦ keeps_all (with_number ns m) ms b
+          (subst (λ x. has_number (with_number ns m) x ≡ true) (sym (eqb-true b m e)) (gets_if (has_number ns m) ns m refl))
       | inr e ↦ gets_all (with_number ns m) ms b e
     ]
 
@@ -102,23 +103,19 @@ grows_not xs = grows_if true xs 0
 
 pub grows_all : (ns ms : List ℕ) → Grows ns (with_numbers ns ms)
 grows_all ns [] = grows_not ns
-grows_all ns (m ∷ ms) = grows_twice ns (with_number ns m) (with_numbers (with_number ns m) ms) (grows_if (has_number ns m) ns m) (grows_all (with_number ns m) ms)
-
-take_next : (xs : List ℕ) (i x : ℕ) → slice_get xs i ≡ Some x
-    → take (i + 1) xs ≡ take i xs ++ x ∷ []
-take_next xs i x e =
-    let one : i + 1 ≡ suc i = omega arith in
-    ap (λ n. take n xs) one ∙ take-suc xs i 0 (slice_get_within xs i x e) ∙ ap (λ y. take i xs ++ y ∷ []) (get_or_from_slice_get xs i x 0 e)
+grows_all ns (m ∷ ms) =
+    grows_twice ns (with_number ns m) (with_numbers (with_number ns m) ms)
+    (grows_if (has_number ns m) ns m) (grows_all (with_number ns m) ms)
 
 pub take_grown : (old new : List ℕ) (i x : ℕ) → Grows old new → slice_get old i ≡ Some x
     → take (i + 1) new ≡ take i old ++ x ∷ []
 take_grown old new i x g e =
     let within : i + 1 ≤ length old = let w = slice_get_within old i x e in omega arith in
-    ap (take (i + 1)) g.split ∙ take-append-le (i + 1) old g.more within ∙ take_next old i x e
+    ap (take (i + 1)) g.split ∙ take-append-le (i + 1) old g.more within ∙ next_taken old i x e
 
 has_at : (xs : List ℕ) (i x : ℕ) → slice_get xs i ≡ Some x → has_number (take (i + 1) xs) x ≡ true
 has_at xs i x e =
-    subst (λ ys. has_number ys x ≡ true) (sym (take_next xs i x e)) (gets_push (take i xs) x)
+    subst (λ ys. has_number ys x ≡ true) (sym (next_taken xs i x e)) (gets_push (take i xs) x)
 
 pub number_there : (xs : List ℕ) (i x : ℕ) → slice_get xs i ≡ Some x → has_number xs x ≡ true
 number_there xs i x e = any_passes_from_place (λ m. x == m) xs i x e (eq-eqb x x refl)
@@ -184,10 +181,12 @@ module _ (edges : List (List ℕ)) where
           | inr f ↦ further start a b (x.reached a (number_there seen done a at)) f
         ];
         begun = λ b h. keeps_all seen (next_of edges a) b (x.begun b h);
-        closed = λ c b h f. elim (splits_push (take done seen) a c (subst (λ ys. has_number ys c ≡ true) (take_grown seen (with_numbers seen (next_of edges a)) done a (grows_all seen (next_of edges a)) at) h)) [
-          | inl g ↦ keeps_all seen (next_of edges a) b (x.closed c b g f)
-          | inr g ↦ gets_all seen (next_of edges a) b (subst (λ d. leads edges d b ≡ true) g f)
-        ];
+        closed = λ c b h f. elim (splits_push (take done seen) a c
+            (subst (λ ys. has_number ys c ≡ true)
+            (take_grown seen (with_numbers seen (next_of edges a)) done a (grows_all seen (next_of edges a)) at) h)) [
+              | inl g ↦ keeps_all seen (next_of edges a) b (x.closed c b g f)
+              | inr g ↦ gets_all seen (next_of edges a) b (subst (λ d. leads edges d b ≡ true) g f)
+            ];
       }
       )
 

@@ -38,13 +38,15 @@ ascends_long low high (n ∷ ns) a = omega (arith, ascends_long (n + 1) high ns 
 ascends_below : (low high : ℕ) (ns : List ℕ) → Ascends low high ns
     → list_all (λ n. nat_lt n high) ns ≡ true
 ascends_below low high [] a = refl
-ascends_below low high (n ∷ ns) a = and_from (nat_lt n high) (list_all (λ n. nat_lt n high) ns) (lt-ltb n high a.1) (ascends_below (n + 1) high ns a.2)
+ascends_below low high (n ∷ ns) a =
+    and_from (nat_lt n high) (list_all (λ n. nat_lt n high) ns) (lt-ltb n high a.1) (ascends_below (n + 1) high ns a.2)
 
 -- ascending places of a list are fit
 pub ascends_places : (size : ℕ) (ns : List ℕ) → size ≤ 8388608 → Ascends 0 size ns
     → are_places size ns ≡ true
 ascends_places size ns few a =
-    and_from (is_short ns) (list_all (λ n. nat_lt n size) ns) (le-leb (length ns) 8388608 (omega (arith, ascends_long 0 size ns a))) (ascends_below 0 size ns a)
+    and_from (is_short ns) (list_all (λ n. nat_lt n size) ns)
+    (le-leb (length ns) 8388608 (omega (arith, ascends_long 0 size ns a))) (ascends_below 0 size ns a)
 
 -- ---- which numbers there are
 
@@ -65,16 +67,19 @@ pub in_with : (ns : List ℕ) (n b : ℕ) → has_number (ascending_with ns n) b
 in_with [] n b h =
     elim (or_cases (b == n) false h) [ inl e ↦ inl (eqb-true b n e) | inr e ↦ absurd (cc) ]
 in_with (m ∷ ms) n b h =
-    elim (nat_lt n m) as (λ c. has_number (cond c (n ∷ m ∷ ms) (cond (n == m) (m ∷ ms) (m ∷ ascending_with ms n))) b ≡ true → (b ≡ n) ⊎ (has_number (m ∷ ms) b ≡ true)) [
+    elim (nat_lt n m) as (λ c.
+    has_number (cond c (n ∷ m ∷ ms) (cond (n == m) (m ∷ ms) (m ∷ ascending_with ms n))) b ≡ true
+    → (b ≡ n) ⊎ (has_number (m ∷ ms) b ≡ true)) [
       | true ↦ λ g. elim (or_cases (b == n) (has_number (m ∷ ms) b) g) [ inl e ↦ inl (eqb-true b n e) | inr e ↦ inr e ]
-      | false ↦ λ g. elim (n == m) as (λ c. has_number (cond c (m ∷ ms) (m ∷ ascending_with ms n)) b ≡ true → (b ≡ n) ⊎ (has_number (m ∷ ms) b ≡ true)) [
-        | true ↦ λ f. inr f
-        | false ↦ λ f.
-            elim (or_cases (b == m) (has_number (ascending_with ms n) b) f) [
-              | inl e ↦ inr (or_left (b == m) (has_number ms b) e)
-              | inr e ↦ elim (in_with ms n b e) [ inl k ↦ inl k | inr k ↦ inr (or_right (b == m) (has_number ms b) k) ]
-            ]
-      ] g
+      | false ↦ λ g. elim (n == m) as
+          (λ c. has_number (cond c (m ∷ ms) (m ∷ ascending_with ms n)) b ≡ true → (b ≡ n) ⊎ (has_number (m ∷ ms) b ≡ true)) [
+            | true ↦ λ f. inr f
+            | false ↦ λ f.
+                elim (or_cases (b == m) (has_number (ascending_with ms n) b) f) [
+                  | inl e ↦ inr (or_left (b == m) (has_number ms b) e)
+                  | inr e ↦ elim (in_with ms n b e) [ inl k ↦ inl k | inr k ↦ inr (or_right (b == m) (has_number ms b) k) ]
+                ]
+          ] g
     ] h
 
 pub with_in : (ns : List ℕ) (n b : ℕ) → (b ≡ n) ⊎ (has_number ns b ≡ true)
@@ -83,12 +88,16 @@ with_in [] n b (inl e) = or_left (b == n) false (eq-eqb b n e)
 with_in [] n b (inr e) = absurd (cc)
 with_in (m ∷ ms) n b h =
     elim (nat_lt n m) as (λ c. has_number (cond c (n ∷ m ∷ ms) (cond (n == m) (m ∷ ms) (m ∷ ascending_with ms n))) b ≡ true) [
-      | true ↦ elim h [ inl e ↦ or_left (b == n) (has_number (m ∷ ms) b) (eq-eqb b n e) | inr e ↦ or_right (b == n) (has_number (m ∷ ms) b) e ]
+      | true ↦ elim h
+          [ inl e ↦ or_left (b == n) (has_number (m ∷ ms) b) (eq-eqb b n e) | inr e ↦ or_right (b == n) (has_number (m ∷ ms) b) e ]
       | false ↦ elim (n == m) as (λ c. (n == m) ≡ c → has_number (cond c (m ∷ ms) (m ∷ ascending_with ms n)) b ≡ true) [
         | true ↦ λ same. elim h [ inl e ↦ or_left (b == m) (has_number ms b) (eq-eqb b m (e ∙ eqb-true n m same)) | inr e ↦ e ]
         | false ↦ λ _. elim h [
           | inl e ↦ or_right (b == m) (has_number (ascending_with ms n) b) (with_in ms n b (inl e))
-          | inr e ↦ elim (or_cases (b == m) (has_number ms b) e) [ inl k ↦ or_left (b == m) (has_number (ascending_with ms n) b) k | inr k ↦ or_right (b == m) (has_number (ascending_with ms n) b) (with_in ms n b (inr k)) ]
+          | inr e ↦ elim (or_cases (b == m) (has_number ms b) e) [
+            | inl k ↦ or_left (b == m) (has_number (ascending_with ms n) b) k
+            | inr k ↦ or_right (b == m) (has_number (ascending_with ms n) b) (with_in ms n b (inr k))
+          ]
         ]
       ] refl
     ]

@@ -18,4 +18,5 @@ pub mod FitTerms
 pub mod FitConditions
 pub mod GraphsOrderLemmas
 pub mod FitDeclared
+pub mod FitVocabulary
 pub mod OneTreeLemmas

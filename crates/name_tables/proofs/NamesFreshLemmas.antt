@@ -25,14 +25,16 @@ get_middle (y ∷ xs) x ys = get_middle xs x ys
 
 pub fresh_from : (seen ns : List (List ℕ)) → AreDistinct (seen ++ ns) → AreFresh seen ns
 fresh_from seen [] d = tt
-fresh_from seen (n ∷ ns) d = (false_from_ne_true (has_name n seen) clash, fresh_from (seen ++ n ∷ []) ns (subst AreDistinct (sym (append_assoc seen (n ∷ []) ns)) d))
+fresh_from seen (n ∷ ns) d =
+    (false_from_ne_true (has_name n seen) clash, fresh_from (seen ++ n ∷ []) ns (subst AreDistinct (sym (append_assoc seen (n ∷ []) ns)) d))
   where
     clash : has_name n seen ≡ true → ⊥
     clash there =
         let found = any_found (bytes_eq n) seen there in
         let same : n ≡ found.1 = (bytes_eq-Decides n found.1).0 found.3 in
         let inside = slice_get_within seen found.0 found.1 found.2 in
-        let twice : found.0 ≡ length seen = d found.0 (length seen) n (get_append seen (n ∷ ns) found.0 n (found.2 ∙ ap Some (sym same))) (get_middle seen n ns) in
+        let twice : found.0 ≡ length seen =
+        d found.0 (length seen) n (get_append seen (n ∷ ns) found.0 n (found.2 ∙ ap Some (sym same))) (get_middle seen n ns) in
         omega (arith, twice, inside)
 
 -- a table of fresh names has all of them, in their order

@@ -7,7 +7,6 @@ use Rattle.std.proofs.lemmas.List.Quantifiers.{position-Some}
 use Rattle.std.proofs.lemmas.Option.{slice_get-get_or}
 use Rattle.std.proofs.lemmas.Slice.Eq.{bytes_eq-Decides}
 use Rattle.std.proofs.lemmas.Map.Keys.{any_passes_from_place}
-use Rattle.lemmas.proofs.Members.{distinct_push, place_of as place_in}
 use Rattle.lemmas.proofs.ListTests.{any_found, any_append_right}
 use Rattle.lemmas.specs.Lists.{AreDistinct}
 use Rattle.name_tables.specs.Names.{has_name, last_place, place_of, with_name}
@@ -31,7 +30,11 @@ first_within p (x ∷ xs) e =
 
 pub place_there : (name : List ℕ) (names : List (List ℕ)) → has_name name names ≡ true
     → (i : ℕ) × (place_of name names ≡ Some i)
-place_there name names e = (position_or_len (bytes_eq name) names, cond-true (nat_lt (position_or_len (bytes_eq name) names) (length names)) (Some (position_or_len (bytes_eq name) names)) None (lt-ltb _ _ (first_within (bytes_eq name) names e)))
+place_there name names e = (
+  position_or_len (bytes_eq name) names,
+  cond-true (nat_lt (position_or_len (bytes_eq name) names) (length names))
+      (Some (position_or_len (bytes_eq name) names)) None (lt-ltb _ _ (first_within (bytes_eq name) names e)),
+)
 
 pub place_within : (name : List ℕ) (names : List (List ℕ)) (i : ℕ) → place_of name names ≡ Some i
     → i < length names
@@ -50,7 +53,8 @@ name_there name names i e =
 
 pub name_found : (name : List ℕ) (names : List (List ℕ)) → has_name name names ≡ true
     → (i : ℕ) × (slice_get names i ≡ Some name)
-name_found name names e = let found = any_found (bytes_eq name) names e in (found.0, found.2 ∙ ap Some (sym (same_name name found.1 found.3)))
+name_found name names e =
+    let found = any_found (bytes_eq name) names e in (found.0, found.2 ∙ ap Some (sym (same_name name found.1 found.3)))
 
 pub place_is : (name : List ℕ) (names : List (List ℕ)) (i : ℕ) → AreDistinct names
     → slice_get names i ≡ Some name → place_of name names ≡ Some i
@@ -58,23 +62,14 @@ place_is name names i distinct at =
     let found = place_there name names (name_there name names i at) in
     found.1 ∙ ap Some (distinct found.0 i name (place_named name names found.0 found.1) at)
 
--- ---- tables in which each name stands once
-
-pub distinct_with : (names : List (List ℕ)) (name : List ℕ) → AreDistinct names
-    → AreDistinct (with_name names name)
-distinct_with names name d =
-    elim (has_name name names) as (λ b. has_name name names ≡ b → AreDistinct (cond b names (names ++ name ∷ []))) [
-      | true ↦ λ _. d
-      | false ↦ λ absent. distinct_push names name d (λ m. let at = place_in names name m in false≢true (sym absent ∙ name_there name names at.0 at.1))
-    ] refl
-
 -- ---- the last place of a name
 
 pub last_within : (at : ℕ) (so_far : Option ℕ) (name : List ℕ) (names : List (List ℕ)) (size : ℕ)
     → ((k : ℕ) → so_far ≡ Some k → k < size) → at + length names ≤ size → (k : ℕ)
     → last_place at so_far name names ≡ Some k → k < size
 last_within at so_far name [] size low fits k e = low k e
-last_within at so_far name (n ∷ ns) size low fits k e = last_within (at + 1) (cond (bytes_eq n name) (Some at) so_far) name ns size (here (bytes_eq n name)) (omega arith) k e
+last_within at so_far name (n ∷ ns) size low fits k e =
+    last_within (at + 1) (cond (bytes_eq n name) (Some at) so_far) name ns size (here (bytes_eq n name)) (omega arith) k e
   where
     here : (b : Bool) (m : ℕ) → cond b (Some at) so_far ≡ Some m → m < size
     here true m f = let same : at ≡ m = cc in omega arith
@@ -86,7 +81,8 @@ pub last_none : (at : ℕ) (so_far : Option ℕ) (name : List ℕ) (names : List
 last_none at so_far name [] e = (e, refl)
 last_none at so_far name (n ∷ ns) e =
     let rest = last_none (at + 1) (cond (bytes_eq n name) (Some at) so_far) name ns e in
-    elim (bytes_eq n name) as (λ b. bytes_eq n name ≡ b → cond b (Some at) so_far ≡ None → (so_far ≡ None) × ((bytes_eq name n || has_name name ns) ≡ false)) [
+    elim (bytes_eq n name) as
+    (λ b. bytes_eq n name ≡ b → cond b (Some at) so_far ≡ None → (so_far ≡ None) × ((bytes_eq name n || has_name name ns) ≡ false)) [
       | true ↦ λ _ f. absurd (cc)
       | false ↦ λ other f. (f, other_name other rest.1)
     ] refl rest.0

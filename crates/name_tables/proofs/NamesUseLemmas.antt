@@ -37,8 +37,10 @@ place_push n y ns e =
     let inside : k < length ns = ltb-true k (length ns) low in
     let long : length (ns ++ y ∷ []) ≡ length ns + 1 = length-append ns (y ∷ []) in
     let same : position_or_len (bytes_eq n) (ns ++ y ∷ []) ≡ k =
-    position_or_len_push (bytes_eq n) ns y ∙ cond-false (k == length ns) (length ns + cond (bytes_eq n y) 0 1) k (ne_eqb k (length ns) (λ h. omega arith)) in
-    ap (λ m. cond (nat_lt m (length (ns ++ y ∷ []))) (Some m) None) same ∙ cond-true (nat_lt k (length (ns ++ y ∷ []))) (Some k) None (lt-ltb k (length (ns ++ y ∷ [])) (omega arith))
+    position_or_len_push (bytes_eq n) ns y
+    ∙ cond-false (k == length ns) (length ns + cond (bytes_eq n y) 0 1) k (ne_eqb k (length ns) (λ h. omega arith)) in
+    ap (λ m. cond (nat_lt m (length (ns ++ y ∷ []))) (Some m) None) same
+    ∙ cond-true (nat_lt k (length (ns ++ y ∷ []))) (Some k) None (lt-ltb k (length (ns ++ y ∷ [])) (omega arith))
     ∙ sym (cond-true (nat_lt k (length ns)) (Some k) None low)
 
 -- ---- declared names
@@ -52,16 +54,19 @@ usable_by : (s : Signed) (n : List ℕ) (count at place : ℕ) (o : Option ℕ)
     → has_name n s.names ≡ true → slice_get s.arities (declared_place s n) ≡ o
     → use_names o count at place ≡ [] → IsUsable s n count
 usable_by s n count at place None there is e = absurd (cc)
-usable_by s n count at place (Some a) there is e = record { there = there; arity = is ∙ ap Some (eqb-true a count (met (a == count) Arity place e)) }
+usable_by s n count at place (Some a) there is e = record
+    { there = there; arity = is ∙ ap Some (eqb-true a count (met (a == count) Arity place e)) }
 
 pub usable : (s : Signed) (n : List ℕ) (count at place : ℕ)
     → use_names (arity_of s n) count at place ≡ [] → IsUsable s n count
 usable s n count at place e =
     elim (cases_Bool (has_name n s.names)) [
       | inl there ↦
-          usable_by s n count at place (slice_get s.arities (declared_place s n)) there refl (ap (λ o. use_names (arity_at s o) count at place) (sym (place_some n s.names there)) ∙ e)
+          usable_by s n count at place (slice_get s.arities (declared_place s n)) there refl
+          (ap (λ o. use_names (arity_at s o) count at place) (sym (place_some n s.names there)) ∙ e)
       | inr gone ↦
-          let none : use_names None count at place ≡ [] = ap (λ o. use_names (arity_at s o) count at place) (sym (place_none n s.names gone)) ∙ e in
+          let none : use_names None count at place ≡ [] =
+          ap (λ o. use_names (arity_at s o) count at place) (sym (place_none n s.names gone)) ∙ e in
           absurd (cc)
     ]
 

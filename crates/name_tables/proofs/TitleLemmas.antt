@@ -23,7 +23,8 @@ one_name place (list items at rest) e = absurd (cc)
 titled_name : (text : TextKind) (place : ℕ) (ts : Trees) → title_faults text place ts ≡ []
     → is_name (head_of (tail_of ts)) ≡ true
 titled_name text place nothing e = absurd (cc)
-titled_name text place (word w at rest) e = one_name place rest ((chosen (bytes_eq w (title_of text)) (one_faults Name place rest) (shape at) [] e).1)
+titled_name text place (word w at rest) e =
+    one_name place rest ((chosen (bytes_eq w (title_of text)) (one_faults Name place rest) (shape at) [] e).1)
 titled_name text place (list items at rest) e = absurd (cc)
 
 -- a name, and items without form faults
@@ -42,7 +43,8 @@ titled_rest text place w at (list items at' rest) e =
 defined : (text : TextKind) (place : ℕ) (ts : Trees) → define_faults text place ts ≡ []
     → IsTitled text ts
 defined text place nothing e = absurd (cc)
-defined text place (word w at rest) e = titled_rest text place w at rest ((chosen (bytes_eq w (codes "define")) (titled_faults text place rest) (shape at) [] e).1)
+defined text place (word w at rest) e =
+    titled_rest text place w at rest ((chosen (bytes_eq w (codes "define")) (titled_faults text place rest) (shape at) [] e).1)
 defined text place (list items at rest) e = absurd (cc)
 
 pub titled : (text : TextKind) (items : Trees) (at : ℕ) (rest : Trees)

@@ -37,4 +37,5 @@ words_length place spot nothing e = omega arith
 words_length place spot (list items at rest) e = omega arith
 words_length place spot (word w at rest) e =
     let c = chosen (can_stand Name spot w) (groups_faults Name place (after_word spot w) rest) (shape at) [] e in
-    length_step (is_named spot w) w (named_words (after_word spot w) rest) (size rest) (stands spot w c.0) (words_length place (after_word spot w) rest c.1)
+    length_step (is_named spot w) w (named_words (after_word spot w) rest) (size rest)
+    (stands spot w c.0) (words_length place (after_word spot w) rest c.1)

@@ -27,12 +27,15 @@ pub record AreNamesOf (d : Domain) (objects : ℕ) (v : Vocabulary) : Type 0 whe
   pub long : length v.objects ≡ objects
 
 -- what is used has its number of arguments
-pub used_arity : (all : List Signature) (s : Signed) (n : List ℕ) (count : ℕ) → AreSigned all s → IsUsable s n count → has_arity all (declared_place s n) count ≡ true
-used_arity all s n count are used = has_arity_at all (declared_place s n) count (ap (λ as'. slice_get as' (declared_place s n)) (sym are.arities) ∙ used.arity)
+pub used_arity : (all : List Signature) (s : Signed) (n : List ℕ) (count : ℕ) → AreSigned all s → IsUsable s n count
+    → has_arity all (declared_place s n) count ≡ true
+used_arity all s n count are used =
+    has_arity_at all (declared_place s n) count (ap (λ as'. slice_get as' (declared_place s n)) (sym are.arities) ∙ used.arity)
 
 -- ---- roles
 
-pub used_inside : (all : List Signature) (s : Signed) (n : List ℕ) (count : ℕ) → AreSigned all s → IsUsable s n count → declared_place s n < length all
+pub used_inside : (all : List Signature) (s : Signed) (n : List ℕ) (count : ℕ) → AreSigned all s → IsUsable s n count
+    → declared_place s n < length all
 used_inside all s n count are used =
     let inside = slice_get_within s.names (declared_place s n) n (place_holds n s.names used.there) in
     let long : length s.names ≡ length all = ap length are.names ∙ length-map all (λ (g : Signature). g.name) in
@@ -43,7 +46,8 @@ number_at : {A : Type 0} (f : ℕ → A) (first count k : ℕ) → k < count
 number_at f first zero k h = absurd (omega arith)
 number_at f first (suc count) zero h =
     let e : first ≡ first + 0 = omega arith in ap (λ n. Some (f n)) e
-number_at f first (suc count) (suc k) h = let e : first + 1 + k ≡ first + suc k = omega arith in number_at f (first + 1) count k (omega arith) ∙ ap (λ n. Some (f n)) e
+number_at f first (suc count) (suc k) h =
+    let e : first + 1 + k ≡ first + suc k = omega arith in number_at f (first + 1) count k (omega arith) ∙ ap (λ n. Some (f n)) e
 
 -- each predicate's role stands at its place
 pub role_at : (d : Domain) (k : ℕ)
@@ -67,4 +71,10 @@ listed all s are =
 
 pub knows_from : (d : Domain) (n : ℕ) (v : Vocabulary) → 0 < length v.sorts → AreNamesOf d n v
     → Knows v d n
-knows_from d n v some are = record { predicates = listed d.predicates v.predicates are.predicates; functions = listed d.functions v.functions are.functions; sorts = sym are.sorts; typed = some; objects_long = sym are.long }
+knows_from d n v some are = record {
+  predicates = listed d.predicates v.predicates are.predicates;
+  functions = listed d.functions v.functions are.functions;
+  sorts = sym are.sorts;
+  typed = some;
+  objects_long = sym are.long;
+}

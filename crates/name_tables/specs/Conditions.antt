@@ -46,7 +46,8 @@ module _ (v : Vocabulary) where
     pub condition_names : List (List ℕ) → ℕ → Trees → List Fault
     condition_names scope place nothing = []
     condition_names scope place (word text at rest) =
-        by_condition (condition_head_of text) (conditions_names scope rest) (conditions_names scope rest) (exists_names scope rest) (terms_names v.objects scope rest) []
+        by_condition (condition_head_of text) (conditions_names scope rest)
+        (conditions_names scope rest) (exists_names scope rest) (terms_names v.objects scope rest) []
         (application_names v.predicates v.objects scope place (word text at rest))
     condition_names scope place (list items at rest) = []
 
@@ -68,7 +69,8 @@ module _ (v : Vocabulary) where
     pub condition_of : List (List ℕ) → Trees → Condition
     condition_of scope nothing = truth
     condition_of scope (word text at rest) =
-        condition_by (condition_head_of text) (conditions_of scope rest) (single_of scope rest) (exists_of scope rest) (equal_of (terms_of v.objects scope rest))
+        condition_by (condition_head_of text) (conditions_of scope rest) (single_of scope rest)
+        (exists_of scope rest) (equal_of (terms_of v.objects scope rest))
         (Atom (declared_place v.predicates text) (terms_of v.objects scope rest))
     condition_of scope (list items at rest) = truth
 
@@ -82,4 +84,5 @@ module _ (v : Vocabulary) where
     pub exists_of : List (List ℕ) → Trees → Condition
     exists_of scope nothing = truth
     exists_of scope (word text at rest) = truth
-    exists_of scope (list items at rest) = Exists (length scope) (named_sorts v.sorts Start 0 items) (single_of (scope ++ named_words Start items) rest)
+    exists_of scope (list items at rest) =
+        Exists (length scope) (named_sorts v.sorts Start 0 items) (single_of (scope ++ named_words Start items) rest)

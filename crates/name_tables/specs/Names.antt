@@ -31,4 +31,5 @@ pub record Signed : Type 0 where
 
 -- the first declaration of a name counts
 abbrev pub with_signature : Signed → List ℕ → ℕ → Signed
-with_signature s name arity = if has_name name s.names then s else record { names = s.names ++ name ∷ []; arities = s.arities ++ arity ∷ [] }
+with_signature s name arity =
+    if has_name name s.names then s else record { names = s.names ++ name ∷ []; arities = s.arities ++ arity ∷ [] }

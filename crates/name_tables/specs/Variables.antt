@@ -28,7 +28,9 @@ is_type Typed = true
 -- the names or variables in order, each as often as it is written
 abbrev pub named_words : Spot → Trees → List (List ℕ)
 named_words spot nothing = []
-named_words spot (word text at rest) = if is_named spot text then text ∷ named_words (after_word spot text) rest else named_words (after_word spot text) rest
+named_words spot (word text at rest) =
+    if is_named spot text then text ∷ named_words (after_word spot text) rest
+    else named_words (after_word spot text) rest
 named_words spot (list items at rest) = []
 
 -- so many copies of a number
@@ -46,7 +48,8 @@ abbrev pub named_sorts : List (List ℕ) → Spot → ℕ → Trees → List ℕ
 named_sorts sorts spot waiting nothing = copies waiting 0
 named_sorts sorts spot waiting (word text at rest) =
     if is_type spot then copies waiting (sort_of sorts text) ++ named_sorts sorts Start 0 rest
-    else (if is_named spot text then named_sorts sorts Named (waiting + 1) rest else named_sorts sorts Typed waiting rest)
+    else (if is_named spot text then named_sorts sorts Named (waiting + 1) rest
+    else named_sorts sorts Typed waiting rest)
 named_sorts sorts spot waiting (list items at rest) = copies waiting 0
 
 -- of one word, which is there if it is a type
@@ -75,14 +78,16 @@ seen_after seen spot (list items at rest) = seen
 abbrev pub doubles_names : List (List ℕ) → Spot → Trees → List Fault
 doubles_names seen spot nothing = []
 doubles_names seen spot (word text at rest) =
-    (if is_named spot text then unless (not (has_name text seen)) Duplicate at else []) ++ doubles_names (seen_with seen spot text) (after_word spot text) rest
+    (if is_named spot text then unless (not (has_name text seen)) Duplicate at else [])
+    ++ doubles_names (seen_with seen spot text) (after_word spot text) rest
 doubles_names seen spot (list items at rest) = []
 
 -- no variable is the 17th in scope, where so many are in scope before it
 abbrev pub scope_names : ℕ → Spot → Trees → List Fault
 scope_names size spot nothing = []
 scope_names size spot (word text at rest) =
-    (if is_named spot text then unless (not (size == 16)) TooMany at else []) ++ scope_names (if is_named spot text then size + 1 else size) (after_word spot text) rest
+    (if is_named spot text then unless (not (size == 16)) TooMany at else [])
+    ++ scope_names (if is_named spot text then size + 1 else size) (after_word spot text) rest
 scope_names size spot (list items at rest) = []
 
 -- of a list of variables, where so many are in scope around it

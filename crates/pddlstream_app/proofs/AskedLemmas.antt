@@ -28,7 +28,18 @@ module _ (words : List (List ℕ)) (files : FilesSeen) where
   -- the files up to that at which a run ends
   up_to : (why : Stop) → HasNoInput words files why → AsksUpTo words files
   up_to why (inl n) = let s = n.stopped in
-      record { command = n.command; meant = n.meant; all = n.all; are = n.are; before = s.before; wanted = s.wanted; later = s.later; order = s.order; answer = s.answer; asked = s.asked }
+      record {
+        command = n.command;
+        meant = n.meant;
+        all = n.all;
+        are = n.are;
+        before = s.before;
+        wanted = s.wanted;
+        later = s.later;
+        order = s.order;
+        answer = s.answer;
+        asked = s.asked;
+      }
   up_to why (inr n) =
       let paths = n.asked.files in
       record {

@@ -16,7 +16,7 @@ use Rattle.pddlstream_app.specs.Outside.{Outside, Written}
 use Rattle.pddlstream_app.specs.Runs.{ClosesRun, HasOutcome, HasVerdict, IsBeforeLast, IsCompleted, kind_of}
 use Rattle.pddlstream_app.specs.Stop.{status_at}
 use Rattle.command_line.specs.Words.{Command, ReplayWords, SolveWords, command_of, replay, solve}
-use Rattle.grid_text.specs.Files.{Blames, IsGridOf}
+use Rattle.grid_text.specs.Files.{BlamesGridText, IsGridOf}
 use Rattle.grid_text.specs.Grids.{GridFile}
 use Rattle.grid_text.specs.declared.fault.GridFault.TheVariants as grid
 use Rattle.stream_map.specs.Accepted.{Accepted, AcceptedMap}
@@ -109,7 +109,8 @@ other_command : (words : List (List ℕ)) (a : SolveWords) (b : ReplayWords)
     → command_of words ≡ Some (replay b) → ⊥
 other_command words a b x y = let both = sym x ∙ y in absurd (cc)
 
-module _ {words : List (List ℕ)} {outside : Outside} {host_rose sink_rose : Type 0} (well : GoesWell words outside host_rose sink_rose) where
+module _ {words : List (List ℕ)} {outside : Outside}
+    {host_rose sink_rose : Type 0} (well : GoesWell words outside host_rose sink_rose) where
   abbrev asked : SolveWords
   asked = well.asked
 
@@ -142,7 +143,8 @@ module _ {words : List (List ℕ)} {outside : Outside} {host_rose sink_rose : Ty
       (
         t.are.1.1.0,
         tt,
-        good_both well.files well.task (file_at role.Map asked.path) (file_at role.Grid (grid_file (map plain s.meant))) of_map.0 of_grid.0 of_map.1 of_grid.1,
+        good_both well.files well.task (file_at role.Map asked.path)
+            (file_at role.Grid (grid_file (map plain s.meant))) of_map.0 of_grid.0 of_map.1 of_grid.1,
       ),
     ),
   )
@@ -154,7 +156,8 @@ module _ {words : List (List ℕ)} {outside : Outside} {host_rose sink_rose : Ty
       (file_at role.Grid (grid_file (map plain s.meant)), ap (λ fs. fs ++ file_at role.Grid (grid_file (map plain s.meant))) (sym named))
   among_all all (inr (task, pools, spelled, means, are)) =
       let task_is = one_spelled well.files asked.files well.task task t spelled in
-      let same = one_meaning well.files asked well.task asked.path s.meant pools s.means (subst (λ u. MeansPools (Some well.files) asked u pools) task_is means) in
+      let same = one_meaning well.files asked well.task asked.path s.meant pools s.means
+      (subst (λ u. MeansPools (Some well.files) asked u pools) task_is means) in
       ([], ap (λ ps. files_named (solve asked) ++ file_at role.Grid (grid_file ps)) (sym same) ∙ sym are ∙ sym (append-nil all))
 
   at : (why : Stop) (n : EndsReading words outside.files why)
@@ -162,17 +165,20 @@ module _ {words : List (List ℕ)} {outside : Outside} {host_rose sink_rose : Ty
   at why n =
       let r = n.stopped in
       let same = same_command words n.command (solve asked) n.meant well.meant in
-      let are = subst (λ o. MayBeFilesOf o (solve asked) n.all) well.are_told (subst (λ c. MayBeFilesOf outside.files.told c n.all) same n.are) in
+      let are = subst (λ o. MayBeFilesOf o (solve asked) n.all) well.are_told
+      (subst (λ c. MayBeFilesOf outside.files.told c n.all) same n.are) in
       let more = among_all n.all are in
       let order = order_of n.all all_files r.before r.wanted r.later more.0 more.1 r.order in
-      text_at well.files well.task r.before r.wanted (r.later ++ more.0) r.texts texts_of (subst (λ o. AreBytes o r.before r.texts) well.are_told r.are)
+      text_at well.files well.task r.before r.wanted
+      (r.later ++ more.0) r.texts texts_of (subst (λ o. AreBytes o r.before r.texts) well.are_told r.are)
       (subst (λ fs. AreGood well.files well.task fs texts_of) order all_good)
 
   -- the same text is told
   told_text : (why : Stop) (n : EndsReading words outside.files why) (bytes : List ℕ)
       → HasBytes outside.files.told n.stopped.wanted bytes → bytes ≡ (at why n).text
   told_text why n bytes has =
-      one_text well.files n.stopped.wanted (at why n).text bytes (at why n).has (subst (λ o. HasBytes o n.stopped.wanted bytes) well.are_told has)
+      one_text well.files n.stopped.wanted (at why n).text bytes
+      (at why n).has (subst (λ o. HasBytes o n.stopped.wanted bytes) well.are_told has)
 
   -- no text is refused, and each is read
   no_reading : (why : Stop) → EndsReading words outside.files why → why ≡ stop.Run fault.Memory
@@ -181,12 +187,14 @@ module _ {words : List (List ℕ)} {outside : Outside} {host_rose sink_rose : Ty
       let here = at (stop.Input which kind place) n in
       let refused = n.stopped.cause.1 in
       let same = told_text (stop.Input which kind place) n refused.bytes refused.has in
-      absurd (none_refused t.domain t.problem t.streams (of_map.0 ++ of_grid.0) well.task t.spelled n.stopped.texts here.text here.rest which kind place here.split (subst (λ b. IsRefused n.stopped.texts which b kind place) same refused.so))
+      absurd (none_refused t.domain t.problem t.streams (of_map.0 ++ of_grid.0) well.task t.spelled n.stopped.texts here.text here.rest
+      which kind place here.split (subst (λ b. IsRefused n.stopped.texts which b kind place) same refused.so))
   no_reading (stop.Map why) n =
       let here = at (stop.Map why) n in
       let refused = n.stopped.cause.1 in
       let same = told_text (stop.Map why) n refused.bytes refused.has in
-      let no = before_map t.domain t.problem t.streams (of_map.0 ++ of_grid.0) well.task t.spelled n.stopped.texts here.text here.rest why here.split (subst (λ b. IsRefusedMap n.stopped.texts b why) same refused.so) in
+      let no = before_map t.domain t.problem t.streams (of_map.0 ++ of_grid.0) well.task t.spelled n.stopped.texts here.text here.rest why
+      here.split (subst (λ b. IsRefusedMap n.stopped.texts b why) same refused.so) in
       let good = subst (λ r. IsGood well.files well.task r here.text) (sym n.stopped.cause.0) here.good in
       absurd (map_not_refused well.task here.text good.0 why good.1 no.0 no.1)
   no_reading (stop.Grid kind line) n =
@@ -194,11 +202,12 @@ module _ {words : List (List ℕ)} {outside : Outside} {host_rose sink_rose : Ty
       let refused = n.stopped.cause.1 in
       let same = told_text (stop.Grid kind line) n refused.bytes refused.has in
       let good = subst (λ r. IsGood well.files well.task r here.text) (sym n.stopped.cause.0) here.good in
-      absurd (grid_not_blamed here.text good.0 line kind good.1 (subst (λ b. Blames b (grid.At line kind)) same refused.so))
+      absurd (grid_not_blamed here.text good.0 line kind good.1 (subst (λ b. BlamesGridText b (grid.At line kind)) same refused.so))
   no_reading (stop.Failed which) n = absurd (well.read n.stopped.cause.1)
   no_reading (stop.TooLong which) n =
       let here = at (stop.TooLong which) n in
-      absurd (not_long well.files n.stopped.wanted here.text here.has (subst (λ o. IsTooLong o n.stopped.wanted) well.are_told n.stopped.cause.1))
+      absurd (not_long well.files n.stopped.wanted here.text here.has
+      (subst (λ o. IsTooLong o n.stopped.wanted) well.are_told n.stopped.cause.1))
   no_reading (stop.Run (fault.Answer number why)) n = absurd n.stopped.cause
   no_reading (stop.Run fault.Generator) n = absurd n.stopped.cause
   no_reading (stop.Run fault.Write) n = absurd n.stopped.cause
@@ -210,11 +219,17 @@ module _ {words : List (List ℕ)} {outside : Outside} {host_rose sink_rose : Ty
       let both : Some (solve n.asked) ≡ Some (solve asked) = sym n.meant ∙ well.meant in
       let same : n.asked ≡ asked = cc in
       let none : asked.path ≡ None = ap (λ (w : SolveWords). w.path) (sym same) ∙ n.no_map in
-      let spelled = subst (λ o. IsTaskOf o asked.files n.task) well.are_told (subst (λ (w : SolveWords). IsTaskOf outside.files.told w.files n.task) same n.spelled) in
+      let spelled =
+      subst (λ o. IsTaskOf o asked.files n.task) well.are_told
+      (subst (λ (w : SolveWords). IsTaskOf outside.files.told w.files n.task) same n.spelled) in
       let task = one_spelled well.files asked.files well.task n.task t spelled in
-      let means : Accepted well.task (words_form well.task asked.program asked.workers) s.meant = subst (λ p. MeansBy p (Some well.files) asked well.task s.meant) none s.means in
-      let refused = subst (λ u. Refused (stream_names u) (words_form u asked.program asked.workers) n.fault) task (subst (λ (w : SolveWords). Refused (stream_names n.task) (words_form n.task w.program w.workers) n.fault) same n.refused) in
-      form_not_refused (stream_names well.task) (words_form well.task asked.program asked.workers) means.spelled n.fault means.form_is means.right n.certain refused
+      let means : Accepted well.task (words_form well.task asked.program asked.workers) s.meant =
+      subst (λ p. MeansBy p (Some well.files) asked well.task s.meant) none s.means in
+      let refused =
+      subst (λ u. Refused (stream_names u) (words_form u asked.program asked.workers) n.fault) task
+      (subst (λ (w : SolveWords). Refused (stream_names n.task) (words_form n.task w.program w.workers) n.fault) same n.refused) in
+      form_not_refused (stream_names well.task)
+      (words_form well.task asked.program asked.workers) means.spelled n.fault means.form_is means.right n.certain refused
 
   no_input : (why : Stop) → HasNoInput words outside.files why → why ≡ stop.Run fault.Memory
   no_input why (inl n) = no_reading why n

@@ -56,7 +56,17 @@ module _ (words : List (List ℕ)) (outside : Outside) (written : Written) where
       → Printed run o → PrintsPlan words outside.files.told written
   plan_from (outcome.Plan calls cost from) kind run turns took =
       let plan = turns.sure.holds in
-      record { run = run; steps = plan.steps; calls = calls; cost = cost; from = from; shown = plan.shown; valid = plan.valid; origins = plan.origins; took = took }
+      record {
+        run = run;
+        steps = plan.steps;
+        calls = calls;
+        cost = cost;
+        from = from;
+        shown = plan.shown;
+        valid = plan.valid;
+        origins = plan.origins;
+        took = took;
+      }
   plan_from outcome.NoPlan kind run turns took = absurd (cc)
   plan_from (outcome.Limit limit) kind run turns took = absurd (cc)
 

@@ -1,6 +1,6 @@
 -- Heads of runs.
 use Rattle.std.proofs.Common.{◌≡◌, ℕ, zero, suc, ◌+◌, ◌<◌, ◌≤◌, ◌==◌, arith, Bool, true, false, cond, ◌||◌, List, [], ◌∷◌, map, length, string_bytes, refl, sym, subst, ap, ◌∙◌, All, Option, Some, None, slice_get}
-use Rattle.std.proofs.lemmas.Bool.{eqb-true, eq-eqb}
+use Rattle.std.proofs.lemmas.Bool.{eq-eqb}
 use Rattle.std.proofs.lemmas.List.{length-map}
 use Rattle.std.proofs.lemmas.List.Elements.{All-contains}
 use Rattle.std.proofs.lemmas.Option.{same_Some}
@@ -9,7 +9,7 @@ use Rattle.command_line.specs.Ranges.{AreInRange}
 use Rattle.command_line.specs.Words.{SolveWords}
 use Rattle.io_world.specs.FileMap.{FileMap}
 use Rattle.lemmas.proofs.Bools.{right_true}
-use Rattle.lemmas.proofs.ListTests.{all_by_place, any_found}
+use Rattle.lemmas.proofs.ListTests.{all_by_place, number_found}
 use Rattle.lemmas.proofs.Members.{member_at, place_of}
 use Rattle.level_run.specs.Turns.{IsRunnable}
 use Rattle.session_core.specs.Pools.{AreFitPools, serves, server, workers_of}
@@ -17,7 +17,7 @@ use Rattle.session_core.specs.Pools as children
 use Rattle.session_core.specs.declared.pools.Workers.{Workers}
 use Rattle.stream_map.proofs.LawsLemmas.{accepted_maps, accepted_words, texts_keep}
 use Rattle.stream_map.specs.Children.{PlainPool, grid_file, plain}
-use Rattle.stream_map.specs.Laws.{AreWhole, HasChild}
+use Rattle.stream_map.specs.Laws.{AreWhole, PoolHasChild}
 use Rattle.task_model.specs.declared.task.Task.{Task}
 use Rattle.transcript_model.specs.declared.head.Head.{Head}
 use Rattle.transcript_model.specs.declared.head.Pool.{Pool}
@@ -51,12 +51,6 @@ among (s ∷ ss) zero stream at =
     ap (λ b. b || list_any (λ t. t == stream) ss) (eq-eqb s stream (same_Some s stream at))
 among (s ∷ ss) (suc k) stream at = right_true (s == stream) _ (among ss k stream at)
 
-found : (streams : List ℕ) (stream : ℕ) → list_any (λ s. s == stream) streams ≡ true
-    → (k : ℕ) × (slice_get streams k ≡ Some stream)
-found streams stream e =
-    let there = any_found (λ s. s == stream) streams e in
-    (there.0, there.2 ∙ ap Some (eqb-true there.1 stream there.3))
-
 -- ---- pools
 
 -- a stream that a pool serves has a server
@@ -86,7 +80,7 @@ module _ (task : Task) (pools : List Pool) (all : AreWhole task (map plain pools
 
   -- its children
   has_child : (p : Pool) (q : Workers) (child : ℕ) → workers_of p ≡ q → children.HasChild q child
-      → HasChild (plain p) child
+      → PoolHasChild (plain p) child
   has_child p q child is has =
       let here = subst (λ w. children.HasChild w child) (sym is) has in
       record { from = here.from; to = here.to }
@@ -94,7 +88,7 @@ module _ (task : Task) (pools : List Pool) (all : AreWhole task (map plain pools
   -- where it serves a stream
   serves_at : (p : Pool) (q : Workers) (stream : ℕ) → workers_of p ≡ q → serves q stream ≡ true
       → (a : ℕ) × (slice_get p.streams a ≡ Some stream)
-  serves_at p q stream is e = found p.streams stream (ap (λ w. serves w stream) is ∙ e)
+  serves_at p q stream is e = number_found p.streams stream (ap (λ w. serves w stream) is ∙ e)
 
   served : (stream : ℕ) → stream < length task.streams
       → (q : Workers) × (server (map workers_of pools) stream ≡ Some q)
@@ -103,7 +97,8 @@ module _ (task : Task) (pools : List Pool) (all : AreWhole task (map plain pools
       let pool = mapped_at plain pools there.0 there.1 there.2 in
       let place = place_of there.1.streams stream there.3 in
       let one = subst (λ (p : PlainPool). slice_get p.streams place.0 ≡ Some stream) (sym pool.2) place.1 in
-      served_by (map workers_of pools) there.0 stream (workers_of pool.0) (at_mapped workers_of pools there.0 pool.0 pool.1) (among pool.0.streams place.0 stream one)
+      served_by (map workers_of pools) there.0 stream (workers_of pool.0)
+      (at_mapped workers_of pools there.0 pool.0 pool.1) (among pool.0.streams place.0 stream one)
 
   -- pools of their own are fit
   pub fit_pools : AreFitPools task (map workers_of pools)
@@ -112,7 +107,8 @@ module _ (task : Task) (pools : List Pool) (all : AreWhole task (map plain pools
     apart = λ j k child p q at_j at_k in_p in_q.
         let one = is_at j p at_j in
         let other = is_at k q at_k in
-        all.apart j k child (plain one.0) (plain other.0) one.2 other.2 (has_child one.0 p child one.1 in_p) (has_child other.0 q child other.1 in_q);
+        all.apart j k child (plain one.0) (plain other.0) one.2 other.2
+        (has_child one.0 p child one.1 in_p) (has_child other.0 q child other.1 in_q);
     once = λ j k stream p q at_j at_k in_p in_q.
         let one = is_at j p at_j in
         let other = is_at k q at_k in

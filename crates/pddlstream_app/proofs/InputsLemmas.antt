@@ -172,5 +172,6 @@ ends_at_report words asked meant task told later same first mid last earlier old
       meant = meant;
       all = files_named (replay asked);
       are = inl refl;
-      stopped = ends_behind told first mid last earlier old middle new later same (task_files asked.files) read texts t.are (task, t.spelled) (file_of role.Report asked.report) [] why (ends texts);
+      stopped = ends_behind told first mid last earlier old middle new later same
+          (task_files asked.files) read texts t.are (task, t.spelled) (file_of role.Report asked.report) [] why (ends texts);
     })

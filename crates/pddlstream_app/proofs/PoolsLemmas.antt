@@ -5,14 +5,14 @@ use Rattle.std.proofs.lemmas.Str.{IsUtf8-from_ascii}
 use Rattle.grid_text.proofs.FilesLemmas.{read_is_ascii}
 use Rattle.grid_text.specs.Grids.{GridFile}
 use Rattle.command_line.specs.Words.{SolveWords, TaskFiles, command_of, solve}
-use Rattle.grid_text.specs.Files.{Blames, IsGridOf}
+use Rattle.grid_text.specs.Files.{BlamesGridText, IsGridOf}
 use Rattle.grid_text.specs.declared.fault.GridFault.{GridFault}
 use Rattle.grid_text.specs.declared.fault.GridFault.TheVariants as grid
 use Rattle.io_world.proofs.TalksLemmas.{extends_more}
 use Rattle.io_world.specs.FileMap.{Asked, FileMap}
 use Rattle.io_world.specs.Faults.{Extends}
 use Rattle.level_run.specs.declared.fault.RunFault.TheVariants as fault
-use Rattle.stream_map.specs.Accepted.{Refuses}
+use Rattle.stream_map.specs.Accepted.{RefusesMap}
 use Rattle.stream_map.specs.Children.{grid_file, plain}
 use Rattle.stream_map.specs.Faults.{Refused}
 use Rattle.stream_map.specs.Form.{stream_names, words_form}
@@ -83,7 +83,7 @@ which_stop maps.Memory = inl refl
 pub map_refused : (files : FilesSeen) (d p s : List ℕ) (task : Task) → Spells d p s task → (path bytes : List ℕ)
     → HasBytes files.told (file_of role.Map path) bytes
     → Extends files.before files.after (ask (Ok tt) (file_of role.Map path) ∷ [])
-    → (f : MapFault) → Refuses task bytes f
+    → (f : MapFault) → RefusesMap task bytes f
     → EndsHere files (d ∷ p ∷ s ∷ []) (file_of role.Map path) (stop_for_map f)
 map_refused files d p s task spelled path bytes has asked f r = by (which_stop f)
   where
@@ -103,7 +103,7 @@ map_refused files d p s task spelled path bytes has asked f r = by (which_stop f
 pub grid_refused : (files : FilesSeen) (texts : List (List ℕ)) (path bytes : List ℕ)
     → HasBytes files.told (file_of role.Grid path) bytes
     → Extends files.before files.after (ask (Ok tt) (file_of role.Grid path) ∷ [])
-    → (f : GridFault) → Blames bytes f
+    → (f : GridFault) → BlamesGridText bytes f
     → EndsHere files texts (file_of role.Grid path) (stop_for_grid f)
 grid_refused files texts path bytes has asked (grid.At line kind) b =
     record { cause = (refl, record { bytes = bytes; has = has; so = b }); answer = Ok tt; answered = refl; asked = asked }
@@ -122,7 +122,8 @@ pub none_made : {X : Type 0} (path : Option (List ℕ)) → path ≡ None → (f
     → IfErr r (λ why. (d p s : List ℕ) → Spells d p s task → EndsAtPools path files (d ∷ p ∷ s ∷ []) w task why)
 none_made path none files nothing w task (Ok x) made = tt
 none_made path none files nothing w task (Err why) made = λ d p s spelled.
-    subst (λ o. EndsAtPools o files (d ∷ p ∷ s ∷ []) w task why) (sym none) (record { fault = made.0; is = made.1; refused = made.2; asked = nothing })
+    subst (λ o. EndsAtPools o files (d ∷ p ∷ s ∷ []) w task why)
+    (sym none) (record { fault = made.0; is = made.1; refused = made.2; asked = nothing })
 
 -- a grid's text is UTF-8
 pub grid_is_utf8 : (bytes : List ℕ) (g : GridFile) → IsGridOf bytes g → IsUtf8 bytes
@@ -146,7 +147,8 @@ module _ (words : List (List ℕ)) (asked : SolveWords) (meant : command_of word
     stopped = ends;
   })
 
-  module _ (task : Task) (told : Option FileMap) (first mid last : ℕ) (earlier : first ≤ mid) (old middle new : Option (List Asked)) (t : IsTaskOf told asked.files task) (read : Extends old middle (reads (task_files asked.files))) where
+  module _ (task : Task) (told : Option FileMap) (first mid last : ℕ) (earlier : first ≤ mid) (old middle new : Option (List Asked))
+      (t : IsTaskOf told asked.files task) (read : Extends old middle (reads (task_files asked.files))) where
     abbrev texts : List (List ℕ)
     texts = t.domain ∷ t.problem ∷ t.streams ∷ []
 
@@ -201,9 +203,12 @@ module _ (words : List (List ℕ)) (asked : SolveWords) (meant : command_of word
             → HasNoInput words here why
         by None none m = no_pool why m.fault none m.is m.refused m.asked
         by (Some path) is at = ends_named here why (subst (λ p. EndsAtFile here (task_files asked.files ++ file_at role.Map p) why) (sym is)
-            (ends_behind told first mid last earlier old middle new later same (task_files asked.files) read texts t.are (task, t.spelled) (file_of role.Map path) [] why at))
+            (ends_behind told first mid last earlier old middle new later same (task_files asked.files) read texts t.are
+            (task, t.spelled) (file_of role.Map path) [] why at))
 
-  module _ (task : Task) (pools : List Pool) (told : Option FileMap) (first mid last : ℕ) (earlier : first ≤ mid) (old middle new : Option (List Asked)) (t : IsTaskOf told asked.files task) (means : MeansPools told asked task pools) (read : Extends old middle (reads (files_named (solve asked)))) where
+  module _ (task : Task) (pools : List Pool) (told : Option FileMap) (first mid last : ℕ) (earlier : first ≤ mid)
+      (old middle new : Option (List Asked)) (t : IsTaskOf told asked.files task) (means : MeansPools told asked task pools)
+      (read : Extends old middle (reads (files_named (solve asked)))) where
     -- the texts of the files that the words name
     record AreRead (files : List FileWanted) : Type 0 where
       texts : List (List ℕ)
@@ -221,7 +226,8 @@ module _ (words : List (List ℕ)) (asked : SolveWords) (meant : command_of word
 
     -- the grid's file wasn't read, or holds no grid
     pub ends_at_grid : (later : Option FileMap) → later ≡ told → (why : Stop)
-        → ((texts : List (List ℕ)) → EndsFirst (looks later mid last middle new) texts (file_at role.Grid (grid_file (map plain pools))) why)
+        → ((texts : List (List ℕ))
+        → EndsFirst (looks later mid last middle new) texts (file_at role.Grid (grid_file (map plain pools))) why)
         → HasNoInput words (looks told first last old new) why
     ends_at_grid later same why ends = by (grid_file (map plain pools)) refl ends
       where
@@ -236,7 +242,8 @@ module _ (words : List (List ℕ)) (asked : SolveWords) (meant : command_of word
               meant = meant;
               all = files_named (solve asked) ++ file_of role.Grid path ∷ [];
               are = inr (task, pools, t, means, ap (λ p. files_named (solve asked) ++ file_at role.Grid p) (sym is));
-              stopped = ends_behind told first mid last earlier old middle new later same (files_named (solve asked)) read r.texts r.are r.accepted (file_of role.Grid path) [] why (at r.texts);
+              stopped = ends_behind told first mid last earlier old middle new later same
+                  (files_named (solve asked)) read r.texts r.are r.accepted (file_of role.Grid path) [] why (at r.texts);
             })
 
     -- all files were asked for

@@ -10,14 +10,14 @@ use Rattle.pddlstream_app.specs.Files.{FileWanted, HasBytes, file_of, most_of}
 use Rattle.pddlstream_app.specs.Heads.{MeansBy}
 use Rattle.pddlstream_app.specs.Inputs.{IsRefused, IsRefusedMap, IsTaskOf, IsTooLong}
 use Rattle.command_line.specs.Words.{SolveWords, TaskFiles}
-use Rattle.grid_text.specs.Files.{Blames, IsGridOf}
+use Rattle.grid_text.specs.Files.{BlamesGridText, IsGridOf}
 use Rattle.grid_text.specs.Grids.{GridFile}
 use Rattle.grid_text.specs.declared.fault.GridFault.TheVariants as grid
 use Rattle.grid_text.specs.declared.fault.GridKind.{GridKind}
 use Rattle.serde_json.specs.Data.{Data}
-use Rattle.stream_map.specs.Accepted.{Accepted, AcceptedMap, IsJson, RefusedMap, Refuses}
+use Rattle.stream_map.specs.Accepted.{Accepted, AcceptedMap, IsJson, RefusedMap, RefusesMap}
 use Rattle.stream_map.specs.Children.{numbered, plain}
-use Rattle.stream_map.specs.Faults.{Refused, fault_of}
+use Rattle.stream_map.specs.Faults.{Refused, map_fault}
 use Rattle.stream_map.specs.Form.{map_of, stream_names, words_form}
 use Rattle.stream_map.specs.Spelled.{Spelled}
 use Rattle.stream_map.specs.declared.fault.MapFault.{MapFault}
@@ -66,13 +66,15 @@ module _ (d p s : List ℕ) (more : List (List ℕ)) (task : Task) (spelled : Sp
   none_refused (a ∷ []) text rest Problem kind place is r =
       let first : a ≡ d = cc in
       let same : text ≡ p = cc in
-      (task_not_refused d p s task spelled).second kind place (subst (λ b. RefusesSecond b p kind place) first (subst (λ b. RefusesSecond a b kind place) same r))
+      (task_not_refused d p s task spelled).second kind place
+      (subst (λ b. RefusesSecond b p kind place) first (subst (λ b. RefusesSecond a b kind place) same r))
   none_refused (a ∷ b ∷ []) text rest Streams kind place is r =
       let first : a ≡ d = cc in
       let second : b ≡ p = cc in
       let same : text ≡ s = cc in
       (task_not_refused d p s task spelled).third kind place
-      (subst (λ x. RefusesThird x p s kind place) first (subst (λ x. RefusesThird a x s kind place) second (subst (λ x. RefusesThird a b x kind place) same r)))
+      (subst (λ x. RefusesThird x p s kind place) first
+      (subst (λ x. RefusesThird a x s kind place) second (subst (λ x. RefusesThird a b x kind place) same r)))
   none_refused [] text rest Problem kind place is r = absurd r
   none_refused [] text rest Streams kind place is r = absurd r
   none_refused (a ∷ []) text rest Domain kind place is r = absurd r
@@ -86,13 +88,16 @@ module _ (d p s : List ℕ) (more : List (List ℕ)) (task : Task) (spelled : Sp
   -- the texts before a map spell the task
   pub before_map : (texts : List (List ℕ)) (text : List ℕ) (rest : List (List ℕ)) (why : MapFault)
       → d ∷ p ∷ s ∷ more ≡ texts ++ text ∷ rest → IsRefusedMap texts text why
-      → ¬ (why ≡ maps.Memory) × Refuses task text why
+      → ¬ (why ≡ maps.Memory) × RefusesMap task text why
   before_map (a ∷ b ∷ c ∷ []) text rest why is r =
       let first : a ≡ d = cc in
       let second : b ≡ p = cc in
       let third : c ≡ s = cc in
-      let same : r.0 ≡ task = one_task d p s r.0 task (subst (λ x. Spells x p s r.0) first (subst (λ x. Spells a x s r.0) second (subst (λ x. Spells a b x r.0) third r.1))) spelled in
-      (r.2, subst (λ t. Refuses t text why) same r.3)
+      let same : r.0 ≡ task =
+      one_task d p s r.0 task
+      (subst (λ x. Spells x p s r.0) first (subst (λ x. Spells a x s r.0) second (subst (λ x. Spells a b x r.0) third r.1))) spelled
+      in
+      (r.2, subst (λ t. RefusesMap t text why) same r.3)
   before_map [] text rest why is r = absurd r
   before_map (a ∷ []) text rest why is r = absurd r
   before_map (a ∷ b ∷ []) text rest why is r = absurd r
@@ -102,11 +107,11 @@ module _ (d p s : List ℕ) (more : List (List ℕ)) (task : Task) (spelled : Sp
 
 -- pools in which there is no fault aren't refused
 pub form_not_refused : (names : List (List ℕ)) (form : Option (List Spelled)) (spelled : List Spelled) (why : MapFault)
-    → form ≡ Some spelled → fault_of names spelled ≡ None → ¬ (why ≡ maps.Memory) → Refused names form why → ⊥
+    → form ≡ Some spelled → map_fault names spelled ≡ None → ¬ (why ≡ maps.Memory) → Refused names form why → ⊥
 form_not_refused names form spelled why is right certain r =
     by why certain (subst (λ f. Refused names f why) is r)
   where
-    none : (f : MapFault) → fault_of names spelled ≡ Some f → ⊥
+    none : (f : MapFault) → map_fault names spelled ≡ Some f → ⊥
     none f e = let both = sym right ∙ e in absurd (cc)
 
     by : (f : MapFault) → ¬ (f ≡ maps.Memory) → Refused names (Some spelled) f → ⊥
@@ -124,15 +129,16 @@ one_value bytes a b x y = let both : Some b ≡ Some a = sym y.value ∙ x.value
 
 -- a map that is accepted isn't refused
 pub map_not_refused : (task : Task) (text : List ℕ) (pools : List Pool) (why : MapFault) → AcceptedMap task text pools
-    → ¬ (why ≡ maps.Memory) → Refuses task text why → ⊥
+    → ¬ (why ≡ maps.Memory) → RefusesMap task text why → ⊥
 map_not_refused task text pools why a certain r = by why certain r
   where
     none : (f : MapFault) → ¬ (f ≡ maps.Memory) → RefusedMap task text f → ⊥
     none f c x =
         let same = one_value text a.data_of x.data_of a.json x.json in
-        form_not_refused (stream_names task) (map_of a.data_of) a.accepted.spelled f a.accepted.form_is a.accepted.right c (subst (λ v. Refused (stream_names task) (map_of v) f) same x.refused)
+        form_not_refused (stream_names task) (map_of a.data_of) a.accepted.spelled f a.accepted.form_is a.accepted.right c
+        (subst (λ v. Refused (stream_names task) (map_of v) f) same x.refused)
 
-    by : (f : MapFault) → ¬ (f ≡ maps.Memory) → Refuses task text f → ⊥
+    by : (f : MapFault) → ¬ (f ≡ maps.Memory) → RefusesMap task text f → ⊥
     by maps.Json c x = let both = sym (x a.json.utf8) ∙ a.json.value in absurd (cc)
     by maps.Shape c x = none maps.Shape c x
     by maps.Workers c x = none maps.Workers c x
@@ -143,7 +149,7 @@ map_not_refused task text pools why a certain r = by why certain r
 
 -- a text that is a grid has no fault
 pub grid_not_blamed : (text : List ℕ) (g : GridFile) (line : ℕ) (kind : GridKind) → IsGridOf text g
-    → Blames text (grid.At line kind) → ⊥
+    → BlamesGridText text (grid.At line kind) → ⊥
 grid_not_blamed text g line kind is (inl b) = let both = sym is.some ∙ b.all in absurd (cc)
 grid_not_blamed text g line kind is (inr f) =
     let both = sym (is.right f.place f.within) ∙ f.here in absurd (cc)

@@ -65,7 +65,8 @@ module _ (words : List (List ℕ)) (outside : Outside) (written : Written) where
   -- the sink took all
   all_taken : (status : Status) → is_write_fault status ≡ false → TookAll words outside written status
       → Ends words outside written status
-  all_taken status whole all = subst (λ b. MatchBool b (TookPart words outside written) (TookAll words outside written status)) (sym whole) all
+  all_taken status whole all =
+      subst (λ b. MatchBool b (TookPart words outside written) (TookAll words outside written status)) (sym whole) all
 
   pub taken_all : (status : Status) → is_write_fault status ≡ false → Ends words outside written status
       → TookAll words outside written status
@@ -88,12 +89,16 @@ module _ (words : List (List ℕ)) (outside : Outside) (written : Written) where
     where
       of : (has : HasOutcome words outside status c.text ⊎ HasVerdict words outside status c.text)
           → IsUnneeded has → Ends words outside written status
-      of (inl h) none = all_taken status (ap is_write_fault (sym h.kind) ∙ outcome_whole h.outcome) (record { text = c.text; writes = inl h; unneeded = none; took = c.took })
-      of (inr h) none = all_taken status (ap is_write_fault (sym h.kind) ∙ verdict_whole h.verdict) (record { text = c.text; writes = inr (inl h); unneeded = tt; took = c.took })
+      of (inl h) none =
+          all_taken status (ap is_write_fault (sym h.kind) ∙ outcome_whole h.outcome)
+          (record { text = c.text; writes = inl h; unneeded = none; took = c.took })
+      of (inr h) none =
+          all_taken status (ap is_write_fault (sym h.kind) ∙ verdict_whole h.verdict)
+          (record { text = c.text; writes = inr (inl h); unneeded = tt; took = c.took })
 
 -- ---- reports
 
-whole_is : (task : Task) (head : Head) (entries : List Entry) (o : Outcome)
+pub whole_is : (task : Task) (head : Head) (entries : List Entry) (o : Outcome)
     → whole_text task head entries o ≡ text_of_report (report_of task head entries o)
 whole_is task head entries o = sym (append_assoc (text_so_far task head entries) (text_of_outcome head.version o) (line_text done_line))
 
@@ -140,15 +145,30 @@ module _ (words : List (List ℕ)) (outside : Outside) where
       record { text = []; cause = inl (refl, none); took = nothing }
 
   -- a report is to be judged
-  module _ (asked : ReplayWords) (meant : command_of words ≡ Some (replay asked)) (task : Task) (spelled : IsTaskOf outside.files.told asked.files task) (fit : IsFit task) (none : IsUntouched outside) (bytes : List ℕ) (has : HasBytes outside.files.told (file_of role.Report asked.report) bytes) (written : Written) where
+  module _ (asked : ReplayWords) (meant : command_of words ≡ Some (replay asked)) (task : Task)
+      (spelled : IsTaskOf outside.files.told asked.files task) (fit : IsFit task) (none : IsUntouched outside) (bytes : List ℕ)
+      (has : HasBytes outside.files.told (file_of role.Report asked.report) bytes) (written : Written) where
     has_verdict : (v : Verdict) → IsVerdict asked.states task bytes v
         → HasVerdict words outside (kind_of_verdict v) (verdict_text v)
-    has_verdict v is = record { asked = asked; meant = meant; task = task; spelled = spelled; fit = fit; verdict = v; report = record { bytes = bytes; has = has; so = is }; kind = refl; untouched = none; is = refl }
+    has_verdict v is = record {
+      asked = asked;
+      meant = meant;
+      task = task;
+      spelled = spelled;
+      fit = fit;
+      verdict = v;
+      report = record { bytes = bytes; has = has; so = is };
+      kind = refl;
+      untouched = none;
+      is = refl;
+    }
 
     -- the verdict was written
     pub completed_said : (r : Result Status Stop) → IsSaid (IsVerdict asked.states task bytes) written r
         → IfOk r (IsCompleted words outside written)
-    completed_said (Ok status) (v, is, shown) = subst (IsCompleted words outside written) (sym shown.0) (record { text = verdict_text v; has = inr (has_verdict v is); unneeded = tt; took = shown.1 })
+    completed_said (Ok status) (v, is, shown) =
+        subst (IsCompleted words outside written)
+        (sym shown.0) (record { text = verdict_text v; has = inr (has_verdict v is); unneeded = tt; took = shown.1 })
     completed_said (Err why) said = tt
 
     -- it was not written, or in part
@@ -160,19 +180,42 @@ module _ (words : List (List ℕ)) (outside : Outside) where
         subst (IsStopped words outside written) (sym x.0) (stopped_early written x.1 stops)
     stopped_said stops (Err why) (inr (v, is, inl x)) =
         subst (IsStopped words outside written) (sym x.0) (stopped_early written x.1 stops)
-    stopped_said stops (Err why) (inr (v, is, inr (failed, n, less, app))) = subst (IsStopped words outside written) (sym failed) (record { text = verdict_text v; was = inl (kind_of_verdict v, inr (inl (has_verdict v is))); count = n; less = less; took = app })
+    stopped_said stops (Err why) (inr (v, is, inr (failed, n, less, app))) =
+        subst (IsStopped words outside written) (sym failed)
+        (record
+        { text = verdict_text v; was = inl (kind_of_verdict v, inr (inl (has_verdict v is))); count = n; less = less; took = app })
 
   -- a task is to be solved
-  module _ (asked : SolveWords) (meant : command_of words ≡ Some (solve asked)) (task : Task) (spelled : IsTaskOf outside.files.told asked.files task) (fit : IsFit task) (head : Head) (headed : IsHeadOf outside.files.told asked task head) where
+  module _ (asked : SolveWords) (meant : command_of words ≡ Some (solve asked)) (task : Task)
+      (spelled : IsTaskOf outside.files.told asked.files task) (fit : IsFit task) (head : Head)
+      (headed : IsHeadOf outside.files.told asked task head) where
     abbrev run_with : (entries : List Entry) → IsLegal head.version task entries
         → ProgramRun words outside.files.told
-    run_with entries legal = record { asked = asked; meant = meant; task = task; spelled = spelled; fit = fit; head = head; headed = headed; entries = entries; legal = legal }
+    run_with entries legal = record {
+      asked = asked;
+      meant = meant;
+      task = task;
+      spelled = spelled;
+      fit = fit;
+      head = head;
+      headed = headed;
+      entries = entries;
+      legal = legal;
+    }
 
     outcome_with : (text : List ℕ) (entries : List Entry) (o : Outcome)
         → reports.IsRun task head entries o
         → Dialogue task head.version (workers_in head) entries outside.spoken → LogRan task head entries outside.was outside.now
         → text ≡ whole_text task head entries o → HasOutcome words outside (kind_of o) text
-    outcome_with text entries o turns talks calls is = record { run = run_with entries turns.legal; outcome = o; kind = refl; turns = turns; talks = talks; calls = calls; is = is ∙ whole_is task head entries o }
+    outcome_with text entries o turns talks calls is = record {
+      run = run_with entries turns.legal;
+      outcome = o;
+      kind = refl;
+      turns = turns;
+      talks = talks;
+      calls = calls;
+      is = is ∙ whole_is task head entries o;
+    }
 
     -- the report was written
     pub completed : (written : Written) (ran : Ran) (status : Status)
@@ -191,7 +234,15 @@ module _ (words : List (List ℕ)) (outside : Outside) where
 
     part_with : (text : List ℕ) (f : RunFault) → IsPart task head f outside.spoken outside.was outside.now text
         → IsPartOfRun words outside f text
-    part_with text f p = record { run = run_with p.entries p.front.turns.legal; front = p.front; blamed = p.blamed; talks = p.talks; calls = p.calls; needed = p.needed; is = p.is }
+    part_with text f p = record {
+      run = run_with p.entries p.front.turns.legal;
+      front = p.front;
+      blamed = p.blamed;
+      talks = p.talks;
+      calls = p.calls;
+      needed = p.needed;
+      is = p.is;
+    }
 
     abbrev ToWrite : RunFault → List ℕ → Type 0
     ToWrite f text = WasToWrite task head f outside.spoken outside.was outside.now text
@@ -231,7 +282,8 @@ module _ (words : List (List ℕ)) (outside : Outside) where
             → ((other : Status) × RunWrites words outside other text) ⊎ IsPartOfRun words outside fault.Write text
         of (inl x) = absurd (let e = x.0 in cc)
         of {text} (inr (inl p)) = inr (part_with text fault.Write p)
-        of {text} (inr (inr x)) = let w = x.1 in inl (kind_of w.outcome, inl (outcome_with text w.entries w.outcome w.run w.talks w.calls w.is))
+        of {text} (inr (inr x)) =
+            let w = x.1 in inl (kind_of w.outcome, inl (outcome_with text w.entries w.outcome w.run w.talks w.calls w.is))
 
   -- ---- last lines
 
@@ -272,7 +324,8 @@ module _ (words : List (List ℕ)) (outside : Outside) where
         was = inl (status_at why, inr (inr faulty));
         count = length b.text + n;
         less = omega (arith, less, length-append b.text (last_text why));
-        took = subst (Appends old new) (sym (take-append-add b.text (last_text why) n)) (appends_then old mid new b.text (take n (last_text why)) b.took app);
+        took = subst (Appends old new) (sym (take-append-add b.text (last_text why) n))
+            (appends_then old mid new b.text (take n (last_text why)) b.took app);
       })
 
     pub ends_closed : (why : Stop) (status : Status)
@@ -286,7 +339,8 @@ module _ (words : List (List ℕ)) (outside : Outside) where
             → ClosesRun why (record { before = mid; after = new }) status
             → Ends words outside ended status
         of b (inl x) = ends_told why b status other x
-        of b (inr x) = ends_told (stop.Run fault.Memory) (record { text = b.text; cause = for_memory why b.text b.cause; took = b.took }) status refl x
+        of b (inr x) =
+            ends_told (stop.Run fault.Memory) (record { text = b.text; cause = for_memory why b.text b.cause; took = b.took }) status refl x
 
 -- ---- replays
 

@@ -46,8 +46,8 @@ pub record AsksUpTo (words : List (List ℕ)) (files : FilesSeen) : Type 0 where
 abbrev pub AsksSome : List (List ℕ) → FilesSeen → Type 0
 AsksSome words files = AsksNothing files ⊎ AsksAll words files ⊎ AsksUpTo words files
 
--- The file that the last line names is the cause of the run's end, and the files were asked for up to that one; or, where
--- no map is named, the words of the program are, and the texts were asked for.
+-- The file that the last line names is the cause of the run's end, and the files were asked for up to that one; or,
+-- where no map is named, the words of the program are, and the texts were asked for.
 pub record AsksToNamed (words : List (List ℕ)) (files : FilesSeen) (written : Written) (status : Status) : Type 0 where
   pub why : Stop
   pub kind : status_at why ≡ status

@@ -28,7 +28,8 @@ pub record PrintsPlan (words : List (List ℕ)) (told : Option FileMap) (written
   pub shown : calls ≡ map (call_of_step run.task (names_of run.task run.entries)) steps
   pub valid : IsValid run.task (known_of run.task run.entries) steps cost
   pub origins : AreOrigins run.head.version run.entries calls from
-  pub took : Appends written.before written.after (text_of_report (report_of run.task run.head run.entries (outcome.Plan calls cost from)))
+  pub took : Appends written.before written.after
+      (text_of_report (report_of run.task run.head run.entries (outcome.Plan calls cost from)))
 
 -- The sink took the whole report of a run with `no plan`. In its transcript no request waits and each instance that is
 -- reachable has finished; and over what is known then no plan exists.
@@ -36,4 +37,5 @@ pub record PrintsNoPlan (words : List (List ℕ)) (told : Option FileMap) (writt
   pub run : ProgramRun words told
   pub closed : IsClosed run.head.version run.task run.entries
   pub unsolvable : ¬ (IsSolvable run.task (known_of run.task run.entries))
-  pub took : Appends written.before written.after (text_of_report (report_of run.task run.head run.entries outcome.NoPlan))
+  pub took : Appends written.before written.after
+      (text_of_report (report_of run.task run.head run.entries outcome.NoPlan))

@@ -35,7 +35,8 @@ HaveText None told meant pools = pools ≡ meant
 HaveText (Some path) told meant pools =
     HoldsFile told (file_of role.Grid path) (HasGridText meant pools)
 
--- The pools of a head are those that the words mean; each generator's words start it, the grid's with the text of its file.
+-- The pools of a head are those that the words mean; each generator's words start it, the grid's with the text of its
+-- file.
 pub record AreServed (told : Option FileMap) (w : SolveWords) (task : Task) (pools : List Pool) : Type 0 where
   pub meant : List Pool
   pub means : MeansPools told w task meant

@@ -14,10 +14,10 @@ use Rattle.task_reader.specs.declared.refusal.InputRefusal.{InputRefusal}
 use Rattle.task_reader.specs.declared.refusal.InputRefusal.TheVariants as refusal
 use Rattle.pddlstream_app.specs.Outside.{FilesSeen, HaveFailed}
 use Rattle.command_line.specs.Words.{Command, SolveWords, TaskFiles, command_of, generate, replay, solve}
-use Rattle.grid_text.specs.Files.{Blames}
+use Rattle.grid_text.specs.Files.{BlamesGridText}
 use Rattle.grid_text.specs.declared.fault.GridFault.{GridFault}
 use Rattle.grid_text.specs.declared.fault.GridFault.TheVariants as grid
-use Rattle.stream_map.specs.Accepted.{AcceptedMap, Refuses}
+use Rattle.stream_map.specs.Accepted.{AcceptedMap, RefusesMap}
 use Rattle.stream_map.specs.Children.{grid_file, plain}
 use Rattle.stream_map.specs.Faults.{Refused}
 use Rattle.stream_map.specs.Form.{stream_names, words_form}
@@ -98,7 +98,7 @@ IsRefused texts which text kind place = ⊥
 -- behind these texts, which spell a task, this map is refused for this fault
 abbrev pub IsRefusedMap : List (List ℕ) → List ℕ → MapFault → Type 0
 IsRefusedMap (domain ∷ problem ∷ streams ∷ []) text why =
-    (task : Task) × Spells domain problem streams task × ¬ (why ≡ Memory) × Refuses task text why
+    (task : Task) × Spells domain problem streams task × ¬ (why ≡ Memory) × RefusesMap task text why
 IsRefusedMap texts text why = ⊥
 
 -- what a refusal of a map stops for
@@ -137,7 +137,7 @@ MayEnd files texts wanted (Input which kind place) =
 MayEnd files texts wanted (Map why) =
     (role.Map ≡ wanted.role) × HoldsFile files.told wanted (λ text. IsRefusedMap texts text why)
 MayEnd files texts wanted (Grid kind line) =
-    (role.Grid ≡ wanted.role) × HoldsFile files.told wanted (λ text. Blames text (grid.At line kind))
+    (role.Grid ≡ wanted.role) × HoldsFile files.told wanted (λ text. BlamesGridText text (grid.At line kind))
 MayEnd files texts wanted (Failed which) = (which ≡ wanted.role) × HaveFailed files
 MayEnd files texts wanted (TooLong which) = (which ≡ wanted.role) × IsTooLong files.told wanted
 MayEnd files texts wanted (Run fault.Memory) = ⊤
@@ -182,7 +182,8 @@ pub record EndsReading (words : List (List ℕ)) (files : FilesSeen) (why : Stop
   pub are : MayBeFilesOf files.told command all
   pub stopped : EndsAtFile files all why
 
--- The words mean that a task is to be solved, and name no map; the task was read, and their program makes no pool for it.
+-- The words mean that a task is to be solved, and name no map; the task was read, and their program makes no pool for
+-- it.
 pub record HasNoPool (words : List (List ℕ)) (files : FilesSeen) (why : Stop) : Type 0 where
   pub asked : SolveWords
   pub meant : command_of words ≡ Some (solve asked)

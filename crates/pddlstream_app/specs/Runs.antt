@@ -82,7 +82,7 @@ kind_of (outcome.Limit kind) = Limit
 
 -- The text is the report of a run, with an outcome of the status's kind. The run's transcript is a list of whole turns
 -- of incremental mode, or one after a batch that was cut, each of which begins where no plan exists; the outcome may
--- stand there and is sure. What was said with the children is the transcript's dialogue, and the calls that came to the
+-- stand there and is sure, and a limit that a plan would have avoided stands only where there is none. What was said with the children is the transcript's dialogue, and the calls that came to the
 -- log are its calls, in order, and then stops.
 pub record HasOutcome (words : List (List ℕ)) (outside : Outside) (status : Status) (text : List ℕ) : Type 0 where
   pub run : ProgramRun words outside.files.told

@@ -15,6 +15,7 @@ ghost use Rattle.command_line.specs.Held.{held_replay};
 ghost use Rattle.command_line.specs.Ranges.{IsBetween};
 ghost use Rattle.command_line.specs.Words.{command_of, replay as to_replay};
 ghost use Rattle.task_model.specs.Fit.{IsFit};
+ghost use Rattle.task_model.specs.declared.limits.TheConstants.{MOST_STATES};
 ghost use Rattle.replay_check.specs.Kinds.{breach_number};
 ghost use Rattle.replay_check.specs.Verdicts.{IsVerdict};
 ghost use Rattle.level_run.specs.declared.fault.RunFault.TheVariants as fault;
@@ -86,7 +87,7 @@ fn judge_bytes<O: Sink>(
 ) -> Result<Status, Stop>
     requires fit { IsFit task.now }
     requires some { 1 ≤ states }
-    requires few { states ≤ 200000 }
+    requires few { states ≤ MOST_STATES }
     requires bytes { length bytes.now < 2 ^ 31 }
     ensures said { IsSaid (IsVerdict states task.now bytes.now) (written_of O.taken out.old out.new)
         result }
@@ -131,7 +132,7 @@ pub(crate) fn judge<F: Files, O: Sink>(
     files: &mut F,
     out: &mut O,
 ) -> Result<Status, Stop>
-    requires within { IsBetween 200000 words.now.states }
+    requires within { IsBetween MOST_STATES words.now.states }
     ensures completed { (line : List (List ℕ)) (spoken : ℕ → Option Talk)
         (log : Option (List Event)) → command_of line ≡ Some (to_replay (held_replay words.now))
         → IfOk result (IsCompleted line (resting (seen_of F.told F.faults F.asked files.old

@@ -75,7 +75,8 @@ fn read_as<F: Files, T, P: FnOnce(&[u8]) -> Result<T, InputRefusal>>(
 ) -> Result<T, Stop>
     requires { P.IsAlwaysCallable parse }
     ensures parsed { IfOk result (λ x. HoldsFile (F.told files.old)
-        (file_of (role.Text text) path.now) (λ bytes. FnOnceReturnsAt P.FnOnce parse bytes (Ok x))) }
+        (file_of (role.Text text) path.now)
+        (λ bytes. FnOnceReturnsAt P.FnOnce parse bytes (Ok x))) }
     ensures asked { IfOk result (λ _. Extends (F.asked files.old) (F.asked files.new)
         (ask (Ok tt) (file_of (role.Text text) path.now) ∷ [])) }
     // Where each refusal of the text has its cause behind these texts, the run ends at the file.

@@ -36,7 +36,8 @@ least_value : (p : Valued → Bool) (vs : List Valued) → All (λ (v : Valued).
 least_value p [] all = tt
 least_value p (v ∷ vs) all =
     elim (p v) as (λ b. IfSome (least (map (λ (w : Valued). w.value) (cond b (v ∷ filter p vs) (filter p vs)))) (λ n. n ≤ 1000000)) [
-      | true ↦ least_from-small 1000000 v.value (map (λ (w : Valued). w.value) (filter p vs)) (All-head (λ (w : Valued). w.value ≤ 1000000) v vs all)
+      | true ↦ least_from-small 1000000 v.value
+          (map (λ (w : Valued). w.value) (filter p vs)) (All-head (λ (w : Valued). w.value ≤ 1000000) v vs all)
       | false ↦ least_value p vs (All-tail (λ (w : Valued). w.value ≤ 1000000) v vs all)
     ]
 

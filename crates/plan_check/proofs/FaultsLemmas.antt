@@ -23,7 +23,9 @@ module _ (task : Task) (known : Known) (steps : List GroundAction) where
       → Executes task known (initial_state task) (take (suc place) steps) after (cost + more)
   next_step place step state after cost more at front last =
       let one : Executes task known state (step ∷ []) after more = (after, more, 0, last, (refl, refl), omega arith) in
-      let whole = whole_of_parts task known (initial_state task) after (take place steps) (step ∷ []) (cost + more) (state, cost, more, front, one, refl) in
+      let whole =
+      whole_of_parts task known (initial_state task) after (take place steps) (step ∷ [])
+      (cost + more) (state, cost, more, front, one, refl) in
       subst (λ xs. Executes task known (initial_state task) xs after (cost + more)) (sym (take_next steps place step at)) whole
 
   pub fails_here : (place : ℕ) (step : GroundAction) (state : Atoms) (cost : ℕ) (fault : StepFault)

@@ -62,7 +62,8 @@ pub fluents_same : (domain : Domain) (facts : List Fact) (i : ℕ) (x : Fact) �
     → x ≡ get_or facts i x → x.kind ≡ Predicate → role_of domain x.name ≢ Fluent
     → fluents_of domain facts (suc i) ≡ fluents_of domain facts i
 fluents_same domain facts i x h e kind other =
-    fluents_next domain facts i x h e ∙ ap (λ o. fluents_of domain facts i ++ cons_option o []) (not_fluent domain x kind other) ∙ append-nil (fluents_of domain facts i)
+    fluents_next domain facts i x h e ∙ ap (λ o. fluents_of domain facts i ++ cons_option o []) (not_fluent domain x kind other)
+    ∙ append-nil (fluents_of domain facts i)
 
 pub fluents_whole : (domain : Domain) (facts : List Fact) (n : ℕ) → length facts ≤ n
     → fluents_of domain facts n ≡ filter_map (fluent_atom domain) facts
@@ -79,7 +80,9 @@ fluents_whole domain facts n h = ap (filter_map (fluent_atom domain)) (take-all 
 pub fit_fact : (task : Task) → IsFit task → (i : ℕ) (x : Fact) → i < length task.problem.init
     → x ≡ get_or task.problem.init i x
     → is_fit_fact task.domain (length task.problem.objects) x ≡ true
-fit_fact task fit i x h e = all_at_or (is_fit_fact task.domain (length task.problem.objects)) task.problem.init i x (second_so (is_short task.problem.init) _ fit.problem.init) h e
+fit_fact task fit i x h e =
+    all_at_or (is_fit_fact task.domain (length task.problem.objects)) task.problem.init i x
+    (second_so (is_short task.problem.init) _ fit.problem.init) h e
 
 predicate_is : (k : Kind) → is_predicate k ≡ true → k ≡ Predicate
 predicate_is Predicate e = refl
@@ -99,7 +102,8 @@ fact_kind domain objects x e =
 pub fact_place : (domain : Domain) (objects : ℕ) (x : Fact) → is_fit_fact domain objects x ≡ true
     → x.name < length domain.predicates
 fact_place domain objects x e =
-    ltb-true x.name (length domain.predicates) (has_place domain.predicates x.name (length x.args) (second_so (is_predicate x.kind) _ (fact_front domain objects x e)))
+    ltb-true x.name (length domain.predicates)
+    (has_place domain.predicates x.name (length x.args) (second_so (is_predicate x.kind) _ (fact_front domain objects x e)))
 
 pub static_not_fluent : Static ≢ Fluent
 static_not_fluent e = absurd (cc)

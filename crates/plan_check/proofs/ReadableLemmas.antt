@@ -35,20 +35,25 @@ module _ (domain : Domain) (fit : IsFitDomain domain) where
       → list_all is_readable_pattern ps ≡ true
   fit_patterns n most objects [] e = refl
   fit_patterns n most objects (p ∷ ps) e =
-      and_from _ _ (fit_args domain.predicates fit.predicates.arities n most objects p.pred p.args (first_so (is_fit_pattern domain objects (numbers_from 0 n) p) _ e))
+      and_from _ _ (fit_args domain.predicates fit.predicates.arities n most objects p.pred p.args
+      (first_so (is_fit_pattern domain objects (numbers_from 0 n) p) _ e))
       (fit_patterns n most objects ps (second_so (is_fit_pattern domain objects (numbers_from 0 n) p) _ e))
 
   fit_effects : (n : ℕ) → n ≤ 16 → (ps : List Pattern)
       → are_fit_effects domain (numbers_from 0 n) ps ≡ true → list_all is_readable_pattern ps ≡ true
-  fit_effects n most ps e = fit_patterns n most (length domain.constants) ps (second_so (is_short ps) _ (first_so (are_fit_patterns domain (length domain.constants) (numbers_from 0 n) ps) _ e))
+  fit_effects n most ps e =
+      fit_patterns n most (length domain.constants) ps
+      (second_so (is_short ps) _ (first_so (are_fit_patterns domain (length domain.constants) (numbers_from 0 n) ps) _ e))
 
   fit_costs : (n : ℕ) → n ≤ 16 → (ts : List CostTerm)
       → list_all (is_fit_cost domain (numbers_from 0 n)) ts ≡ true
       → list_all is_readable_cost ts ≡ true
   fit_costs n most [] e = refl
-  fit_costs n most (Number k ∷ ts) e = and_from _ _ (first_so (nat_le k 1000000) _ e) (fit_costs n most ts (second_so (nat_le k 1000000) _ e))
+  fit_costs n most (Number k ∷ ts) e =
+      and_from _ _ (first_so (nat_le k 1000000) _ e) (fit_costs n most ts (second_so (nat_le k 1000000) _ e))
   fit_costs n most (Value func args ∷ ts) e =
-      and_from _ _ (fit_args domain.functions fit.functions.arities n most (length domain.constants) func args (first_so (is_fit_application domain.functions (length domain.constants) (numbers_from 0 n) func args) _ e))
+      and_from _ _ (fit_args domain.functions fit.functions.arities n most (length domain.constants) func args
+      (first_so (is_fit_application domain.functions (length domain.constants) (numbers_from 0 n) func args) _ e))
       (fit_costs n most ts (second_so (is_fit_application domain.functions (length domain.constants) (numbers_from 0 n) func args) _ e))
 
   -- what the checker asks of an action

@@ -26,9 +26,12 @@ StepFails task known state step NoAction = slice_get task.domain.actions step.ac
 StepFails task known state step Args =
     (a : Action) × Names task step a × (have_types known step.args a.params ≡ false)
 StepFails task known state step Condition =
-    (a : Action) × Names task step a × (have_types known step.args a.params ≡ true) × (is_true task.domain known state a.condition (slots_of step.args) ≡ false)
+    (a : Action) × Names task step a × (have_types known step.args a.params ≡ true)
+    × (is_true task.domain known state a.condition (slots_of step.args) ≡ false)
 StepFails task known state step NoCost =
-    (a : Action) × Names task step a × (have_types known step.args a.params ≡ true) × (is_true task.domain known state a.condition (slots_of step.args) ≡ true) × (cost_of task known a step.args ≡ None)
+    (a : Action) × Names task step a × (have_types known step.args a.params ≡ true)
+    × (is_true task.domain known state a.condition (slots_of step.args) ≡ true)
+    × (cost_of task known a step.args ≡ None)
 StepFails task known state step Memory = Unit {0}
 
 -- ---- plans
@@ -36,7 +39,9 @@ StepFails task known state step Memory = Unit {0}
 -- the steps before this place can be executed, and the step there fails so
 abbrev pub FailsAt : Task → Known → List GroundAction → ℕ → StepFault → Type 0
 FailsAt task known steps place fault =
-    (state : Atoms) × (cost : ℕ) × (step : GroundAction) × Executes task known (initial_state task) (take place steps) state cost × (slice_get steps place ≡ Some step) × StepFails task known state step fault
+    (state : Atoms) × (cost : ℕ) × (step : GroundAction)
+    × Executes task known (initial_state task) (take place steps) state cost × (slice_get steps place ≡ Some step)
+    × StepFails task known state step fault
 
 -- the fault of a step as one of a plan
 abbrev pub fault_at : ℕ → StepFault → CheckFault
@@ -62,5 +67,6 @@ PlanFails task known steps (check.Args place) = FailsAt task known steps place A
 PlanFails task known steps (check.Condition place) = FailsAt task known steps place Condition
 PlanFails task known steps (check.NoCost place) = FailsAt task known steps place NoCost
 PlanFails task known steps check.Goal =
-    (state : Atoms) × (cost : ℕ) × Executes task known (initial_state task) steps state cost × (is_true task.domain known state task.problem.goal (slots_of []) ≡ false)
+    (state : Atoms) × (cost : ℕ) × Executes task known (initial_state task) steps state cost
+    × (is_true task.domain known state task.problem.goal (slots_of []) ≡ false)
 PlanFails task known steps check.Memory = Unit {0}

@@ -2,6 +2,7 @@
 ghost use Rattle.std.specs.Prelude.{◌≡◌, ◌≤◌, ◌*◌, IfSome, length, true};
 ghost use Rattle.std.specs.List.{list_all};
 ghost use Rattle.task_model.specs.Steps.{term_cost as cost_of_term, terms_cost as cost_of_terms};
+ghost use Rattle.task_model.specs.declared.limits.TheConstants.{LARGEST_NUMBER};
 ghost use Rattle.plan_check.specs.Readable.{is_readable_cost};
 
 use formula_eval::{Env, objects_at};
@@ -12,7 +13,7 @@ use task_model::{CostTerm, Look};
 fn term_cost<L: Look>(alloc: Global, look: &L, term: &CostTerm, env: &Env) -> Option<u32>
     requires { is_readable_cost term.now ≡ true }
     ensures value { result ≡ cost_of_term (L.known look.now) env.now term.now }
-    ensures small { IfSome result (λ n. n ≤ 1000000) }
+    ensures small { IfSome result (λ n. n ≤ LARGEST_NUMBER) }
 {
     match term {
         CostTerm::Number(number) => Some(*number),
@@ -33,7 +34,7 @@ pub(crate) fn terms_cost<L: Look>(
     requires few { length terms.now ≤ 262144 }
     requires readable { list_all is_readable_cost terms.now ≡ true }
     ensures value { result ≡ cost_of_terms (L.known look.now) env.now terms.now }
-    ensures small { IfSome result (λ n. n ≤ 1000000 * length terms.now) }
+    ensures small { IfSome result (λ n. n ≤ LARGEST_NUMBER * length terms.now) }
 {
     let mut total: u64 = 0;
     for term in terms {

@@ -44,18 +44,17 @@ fn put_in(state: &mut State, patterns: &[Pattern], env: &Env) -> Result<(), Allo
     Ok(())
 }
 
-/// The state without the action's deletes and then with its adds.
-pub(crate) fn effect(state: &State, action: &Action, env: &Env) -> Result<State, AllocError>
+/// Takes out of the state what the action with these arguments deletes, and then puts in what it adds. Where
+/// memory is wanting, the state is one in between.
+pub(crate) fn change(state: &mut State, action: &Action, args: &[Obj]) -> Result<(), AllocError>
+    requires few { length args.now ≤ 16 }
     requires adds { list_all is_readable_pattern action.now.adds ≡ true }
     requires deletes { list_all is_readable_pattern action.now.deletes ≡ true }
-    ensures { IfOk result (λ after. after
-        ≡ with_atoms (without_atoms state.now (map (atom_of env.now) action.now.deletes))
-        (map (atom_of env.now) action.now.adds)) }
+    ensures { OnOk result (state.new ≡ effect_of action.now args.now state.old) }
 {
-    let mut after = state.copy()?;
-    take_out(&mut after, action.deletes.as_slice(), env);
-    put_in(&mut after, action.adds.as_slice(), env)?;
-    Ok(after)
+    let env = Env::new(args);
+    take_out(state, action.deletes.as_slice(), &env);
+    put_in(state, action.adds.as_slice(), &env)
 }
 
 /// The state after the action with these arguments: what it deletes is taken out, and then what it adds is
@@ -69,5 +68,7 @@ pub fn after(state: &State, action: &Action, args: &[Obj]) -> Result<State, Allo
     requires deletes { list_all is_readable_pattern action.now.deletes ≡ true }
     ensures { IfOk result (λ after. after ≡ effect_of action.now args.now state.now) }
 {
-    effect(state, action, &Env::new(args))
+    let mut after = state.copy()?;
+    change(&mut after, action, args)?;
+    Ok(after)
 }

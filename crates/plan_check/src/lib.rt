@@ -12,4 +12,4 @@ pub use effect::after;
 pub use fault::{CheckFault, StepFault};
 pub use plan::check;
 pub use start::initial;
-pub use step::{Applied, apply, cost as step_cost};
+pub use step::{Applied, advance, apply, cost as step_cost};

@@ -7,7 +7,7 @@ ghost use Rattle.plan_check.specs.Faults.{PlanFails, StepsRun, fault_at as fault
 
 use crate::fault::{CheckFault, StepFault};
 use crate::start::initial;
-use crate::step::{Applied, apply};
+use crate::step::{Applied, advance};
 use formula_eval::{Env, holds};
 use std::alloc::Global;
 use task_model::{GroundAction, Look, Plan, State, Task};
@@ -43,11 +43,8 @@ fn run<L: Look>(
     };
     let mut cost: u64 = 0;
     for (place, step) in steps.iter().enumerate() {
-        match apply(task, look, &state, step) {
-            Ok(applied) => {
-                cost += applied.cost;
-                state = applied.state;
-            }
+        match advance(task, look, &mut state, step) {
+            Ok(more) => cost += more,
             Err(fault) => return Err(fault_at(place, fault)),
         }
     }

@@ -1,11 +1,12 @@
 //! What one step does and costs.
 ghost use Rattle.std.specs.Prelude.{◌≡◌, ◌≤◌, IfOk, IfErr, IfSome, length, option_copied, slice_get, true};
 ghost use Rattle.task_model.specs.Fit.{IsFit, is_fit_action};
-ghost use Rattle.task_model.specs.Steps.{IsStep, cost_of as cost_of_action};
+ghost use Rattle.task_model.specs.Steps.{IsStep, cost_of as cost_of_action, effect_of};
 ghost use Rattle.plan_check.specs.Faults.{StepFails};
+ghost use Rattle.plan_check.specs.declared.fault.StepFault.TheVariants.{Memory};
 
 use crate::cost::terms_cost;
-use crate::effect::effect;
+use crate::effect::{after, change};
 use crate::fault::StepFault;
 use formula_eval::{Env, have_types, holds};
 use task_model::{Action, GroundAction, Look, Obj, State, Task};
@@ -51,6 +52,38 @@ pub fn cost<L: Look>(
     )
 }
 
+/// The action that the step names and what it costs, if it is applicable. Of several faults the first is told: no
+/// such action, arguments, condition, cost.
+fn judged<'a, L: Look>(
+    task: &'a Task,
+    look: &L,
+    state: &State,
+    step: &GroundAction,
+) -> Result<(&'a Action, u64), StepFault>
+    requires { IsFit task.now }
+    ensures ok { IfOk result (λ found. IsStep task.now (L.known look.now) state.now step.now
+        (effect_of found.0.now step.now.args state.now) found.1) }
+    ensures fit { IfOk result (λ found. is_fit_action task.now.domain found.0.now ≡ true) }
+    ensures few { IfOk result (λ _. length step.now.args ≤ 16) }
+    ensures err { IfErr result (StepFails task.now (L.known look.now) state.now step.now) }
+    ensures small { IfOk result (λ found. found.1 ≤ 262144000000) }
+{
+    let Some(action) = action_of(task, step) else {
+        return Err(StepFault::NoAction);
+    };
+    let args = step.args.as_slice();
+    if !have_types(state.allocator(), look, args, action.params.as_slice()) {
+        return Err(StepFault::Args);
+    }
+    if !holds(task, look, state, &action.condition, &mut Env::new(args)) {
+        return Err(StepFault::Condition);
+    }
+    match cost(task, look, state, action, args) {
+        Some(cost) => Ok((action, cost)),
+        None => Err(StepFault::NoCost),
+    }
+}
+
 /// What the step does in the state and what it costs (PDDL 2.1; costs as in IPC 2008).
 ///
 /// Of several faults the first is told: no such action, arguments, condition, cost. Fails besides where
@@ -67,22 +100,33 @@ pub fn apply<L: Look>(
     ensures err { IfErr result (StepFails task.now (L.known look.now) state.now step.now) }
     ensures small { IfOk result (λ applied. applied.cost ≤ 262144000000) }
 {
-    let Some(action) = action_of(task, step) else {
-        return Err(StepFault::NoAction);
-    };
-    let args = step.args.as_slice();
-    if !have_types(state.allocator(), look, args, action.params.as_slice()) {
-        return Err(StepFault::Args);
-    }
-    let mut env = Env::new(args);
-    if !holds(task, look, state, &action.condition, &mut env) {
-        return Err(StepFault::Condition);
-    }
-    let Some(cost) = cost(task, look, state, action, args) else {
-        return Err(StepFault::NoCost);
-    };
-    match effect(state, action, &env) {
+    let (action, cost) = judged(task, look, state, step)?;
+    match after(state, action, step.args.as_slice()) {
         Ok(state) => Ok(Applied { state, cost }),
+        Err(_) => Err(StepFault::Memory),
+    }
+}
+
+/// Takes the step in the state itself, which becomes the one after it, and answers what the step costs (PDDL 2.1;
+/// costs as in IPC 2008). No state is copied.
+///
+/// Fails as `apply` does, and leaves the state as it was; but where memory is wanting, the state is of no further use.
+pub fn advance<L: Look>(
+    task: &Task,
+    look: &L,
+    state: &mut State,
+    step: &GroundAction,
+) -> Result<u64, StepFault>
+    requires { IsFit task.now }
+    ensures ok { IfOk result (λ cost. IsStep task.now (L.known look.now) state.old step.now
+        state.new cost) }
+    ensures err { IfErr result (StepFails task.now (L.known look.now) state.old step.now) }
+    ensures same { IfErr result (λ fault. ¬ (fault ≡ Memory) → state.new ≡ state.old) }
+    ensures small { IfOk result (λ cost. cost ≤ 262144000000) }
+{
+    let (action, cost) = judged(task, look, state, step)?;
+    match change(state, action, step.args.as_slice()) {
+        Ok(()) => Ok(cost),
         Err(_) => Err(StepFault::Memory),
     }
 }

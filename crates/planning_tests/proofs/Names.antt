@@ -12,4 +12,5 @@ pub two_within : (names : List (List ℕ)) (object : ℕ) (objects : List ℕ)
     → All (λ o. o < length names) objects
 two_within names object objects e h =
     let P : List ℕ → Type 0 = λ os. All (λ o. o < length names) os in
-    subst P (sym e) (All-cons (λ o. o < length names) object (object ∷ []) h (All-cons (λ o. o < length names) object [] h (All-nil (λ o. o < length names))))
+    subst P (sym e) (All-cons (λ o. o < length names) object
+    (object ∷ []) h (All-cons (λ o. o < length names) object [] h (All-nil (λ o. o < length names))))

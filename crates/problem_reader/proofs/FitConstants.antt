@@ -36,7 +36,9 @@ AllSome (ns ∷ lists) = (0 < length ns) × AllSome lists
 
 some_with : (ns : List ℕ) (n : ℕ) → 0 < length (ascending_with ns n)
 some_with [] n = omega arith
-some_with (m ∷ ms) n = cond_both (nat_lt n m) (n ∷ m ∷ ms) (cond (n == m) (m ∷ ms) (m ∷ ascending_with ms n)) (λ xs. 0 < length xs) (λ less. omega arith) (λ more. cond_both (n == m) (m ∷ ms) (m ∷ ascending_with ms n) (λ xs. 0 < length xs) (λ same. omega arith) (λ other. omega arith))
+some_with (m ∷ ms) n =
+    cond_both (nat_lt n m) (n ∷ m ∷ ms) (cond (n == m) (m ∷ ms) (m ∷ ascending_with ms n)) (λ xs. 0 < length xs) (λ less. omega arith)
+    (λ more. cond_both (n == m) (m ∷ ms) (m ∷ ascending_with ms n) (λ xs. 0 < length xs) (λ same. omega arith) (λ other. omega arith))
 
 some_push : (lists : List (List ℕ)) (n : ℕ) → AllSome lists → AllSome (lists ++ (n ∷ []) ∷ [])
 some_push [] n s = (omega arith, tt)

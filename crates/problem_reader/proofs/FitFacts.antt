@@ -43,7 +43,9 @@ objects_there objects (word w at rest) e f =
     let inside = slice_get_within objects (unwrap_or (place_of w objects) 0) w (place_holds w objects known) in
     record {
       count = omega (arith, more.count);
-      each = and_from (nat_lt (unwrap_or (place_of w objects) 0) (length objects)) (list_all (λ o. nat_lt o (length objects)) (places_of objects rest)) (lt-ltb (unwrap_or (place_of w objects) 0) (length objects) inside) more.each;
+      each = and_from (nat_lt (unwrap_or (place_of w objects) 0) (length objects))
+          (list_all (λ o. nat_lt o (length objects)) (places_of objects rest))
+          (lt-ltb (unwrap_or (place_of w objects) 0) (length objects) inside) more.each;
     }
 
 -- ---- facts
@@ -60,7 +62,8 @@ module _ (d : Domain) (n : ℕ) (v : Vocabulary) (fit : IsFitDomain d) (named : 
   not_derived w count place used e =
       let at = role_at d (declared_place v.predicates w) fit.roles (used_inside d.predicates v.predicates w count named.predicates used) in
       let is : is_derived_at d.roles (place_of w v.predicates.names) ≡ is_derived_role (role_of d (declared_place v.predicates w)) =
-      ap (is_derived_at d.roles) (place_some w v.predicates.names used.there) ∙ derived_some d.roles (declared_place v.predicates w) (role_of d (declared_place v.predicates w)) at in
+      ap (is_derived_at d.roles) (place_some w v.predicates.names used.there)
+      ∙ derived_some d.roles (declared_place v.predicates w) (role_of d (declared_place v.predicates w)) at in
       ap not (sym is) ∙ met (not (is_derived_at d.roles (place_of w v.predicates.names))) EffectOnStatic place e
 
   pub fact_fit : (place : ℕ) (items : Trees) → application_faults Predicate Name place items ≡ []
@@ -69,10 +72,13 @@ module _ (d : Domain) (n : ℕ) (v : Vocabulary) (fit : IsFitDomain d) (named : 
   fact_fit place nothing e f = absurd (cc)
   fact_fit place (list items at rest) e f = absurd (cc)
   fact_fit place (word w at rest) e f =
-      let parts = none_both (application_names v.predicates v.objects [] place (word w at rest)) (unless (not (is_derived_at d.roles (place_of w v.predicates.names))) EffectOnStatic place) f in
+      let parts =
+      none_both (application_names v.predicates v.objects [] place (word w at rest))
+      (unless (not (is_derived_at d.roles (place_of w v.predicates.names))) EffectOnStatic place) f in
       let uses = none_both (use_names (arity_of v.predicates w) (width rest) at place) (terms_names v.objects [] rest) parts.0 in
       let used = usable v.predicates w (width rest) at place uses.0 in
       let are = objects_there v.objects rest ((chosen (is_of Predicate w) (row_faults Name rest) (shape at) [] e).1) uses.1 in
       let pred : ℕ = declared_place v.predicates w in
-      let arity : has_arity d.predicates pred (length (places_of v.objects rest)) ≡ true = ap (has_arity d.predicates pred) are.count ∙ used_arity d.predicates v.predicates w (width rest) named.predicates used in
+      let arity : has_arity d.predicates pred (length (places_of v.objects rest)) ≡ true =
+      ap (has_arity d.predicates pred) are.count ∙ used_arity d.predicates v.predicates w (width rest) named.predicates used in
       and_from _ _ (and_from _ _ arity are.each) (not_derived w (width rest) place used parts.1)

@@ -48,7 +48,9 @@ module _ (v : Vocabulary) (d : Domain) where
 
     goal_here : (b : Bool) (rest behind : Trees) → size rest ≤ 8388608 → depth rest ≤ 64
         → (b ≡ true → IsGoal rest) → IsFitGoal behind → IsFitGoal (cond b rest behind)
-    goal_here true rest behind small shallow is more = single_fits v d objects knows [] [] (filled_first 0) (omega arith) (is refl).place rest small shallow (is refl).formed (is refl).named
+    goal_here true rest behind small shallow is more =
+        single_fits v d objects knows [] [] (filled_first 0) (omega arith) (is refl).place rest small shallow
+        (is refl).formed (is refl).named
     goal_here false rest behind small shallow is more = more
 
     pub goal_fit : (body : Trees) → size body ≤ 8388608 → depth body ≤ 64
@@ -59,7 +61,9 @@ module _ (v : Vocabulary) (d : Domain) where
         let it : Item = item_of text.Problem (head_of items) in
         let forms = none_both (item_faults text.Problem at items) (items_faults text.Problem rest) e in
         let names = none_both (body_names v d it (tail_of items)) (items_names v d rest) f in
-        goal_here (is_goal it) (tail_of items) (goal_of rest) (omega (arith, tail_small items, small)) (omega (arith, tail_shallow items, shallow)) (is_good_goal at items forms.0 names.0) (goal_fit rest (omega (arith, small)) (omega (arith, shallow)) forms.1 names.1)
+        goal_here (is_goal it) (tail_of items) (goal_of rest) (omega (arith, tail_small items, small))
+        (omega (arith, tail_shallow items, shallow)) (is_good_goal at items forms.0 names.0)
+        (goal_fit rest (omega (arith, small)) (omega (arith, shallow)) forms.1 names.1)
 
   -- ---- the initial facts and values
 
@@ -89,7 +93,11 @@ module _ (v : Vocabulary) (d : Domain) where
   init_here : (b : Bool) (rest behind more : Trees) → (b ≡ true → IsFormed rest)
       → (cond b (row_names nothing_given rest) [] ++ values_names (cond b (row_put nothing_given rest) nothing_given) more ≡ [])
       → (values_names nothing_given more ≡ [] → IsInit behind) → IsInit (cond b rest behind)
-  init_here true rest behind more is e next = record { formed = (is refl).formed; named = (is refl).named; valued = (none_both (row_names nothing_given rest) (values_names (row_put nothing_given rest) more) e).0 }
+  init_here true rest behind more is e next = record {
+    formed = (is refl).formed;
+    named = (is refl).named;
+    valued = (none_both (row_names nothing_given rest) (values_names (row_put nothing_given rest) more) e).0;
+  }
   init_here false rest behind more is e next = next e
 
   pub init_good : (body : Trees) → items_faults text.Problem body ≡ [] → items_names v d body ≡ []
@@ -110,4 +118,6 @@ init_less false rest behind n h k = k
 pub init_small : (body : Trees) → size (init_of body) ≤ size body
 init_small nothing = omega arith
 init_small (word w at rest) = omega (arith, init_small rest)
-init_small (list items at rest) = init_less (is_init (item_of text.Problem (head_of items))) (tail_of items) (init_of rest) (size items + 2 + size rest) (omega (arith, tail_small items)) (omega (arith, init_small rest))
+init_small (list items at rest) =
+    init_less (is_init (item_of text.Problem (head_of items))) (tail_of items) (init_of rest)
+    (size items + 2 + size rest) (omega (arith, tail_small items)) (omega (arith, init_small rest))

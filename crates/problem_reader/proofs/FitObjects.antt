@@ -1,10 +1,8 @@
 -- The objects of a problem without faults, over a fit domain.
-use Rattle.std.proofs.Common.{◌≡◌, ℕ, suc, ◌+◌, ◌<◌, ◌≤◌, Bool, true, false, cond, nat_lt, List, [], ◌∷◌, ◌++◌, map, take, length, refl, sym, ap, subst, ◌∙◌, append_assoc, codes, arith}
+use Rattle.std.proofs.Common.{◌≡◌, ℕ, suc, ◌+◌, ◌<◌, ◌≤◌, Bool, true, false, cond, nat_lt, List, [], ◌∷◌, ◌++◌, take, length, refl, sym, ap, subst, ◌∙◌, arith}
 use Rattle.std.specs.Cmp.{first_so, second_so}
 use Rattle.std.specs.List.{list_all}
 use Rattle.std.proofs.lemmas.Bool.{and_from, leb-true, cond-true}
-use Rattle.std.proofs.lemmas.Option.{slice_get_within}
-use Rattle.std.proofs.lemmas.List.{append-nil}
 use Rattle.sexpr_text.specs.Trees.{Trees, nothing, word, list, size}
 use Rattle.lemmas.proofs.Members.{distinct_nil}
 use Rattle.task_model.specs.Fit.{AreFitObjects, IsFitDomain, are_places, is_name, is_short}
@@ -21,22 +19,21 @@ use Rattle.form_reader.specs.Rows.{groups_faults, head_of, tail_of}
 use Rattle.name_tables.specs.Declarations.{Typed, declare, declare_each, declared_list, no_typed}
 use Rattle.name_tables.specs.Names.{has_name, with_name}
 use Rattle.name_tables.specs.Variables.{named_sorts, named_words, seen_after, types_names}
+use Rattle.name_tables.specs.Vocabulary.{put_constants}
 use Rattle.name_tables.specs.declared.vocabulary.Vocabulary.{Vocabulary}
 use Rattle.name_tables.proofs.FitDeclared.{AreTyped, list_long, list_named, typed_each, typed_fit, typed_groups}
 use Rattle.name_tables.proofs.FitGroups.{sorts_as_long}
-use Rattle.name_tables.proofs.NamesFreshLemmas.{AreFresh, fresh_from, name_new}
+use Rattle.name_tables.proofs.FitVocabulary.{constant_names, constants_put, sorts_some}
+use Rattle.name_tables.proofs.NamesFreshLemmas.{fresh_from}
 use Rattle.name_tables.proofs.Parted.{none_both}
 use Rattle.name_tables.proofs.NamesLemmas.{has_with}
 use Rattle.problem_reader.specs.Names.{body_names, items_names}
 use Rattle.problem_reader.specs.Problems.{all_typed, constants_typed, declare_all, objects_typed}
-use Rattle.problem_reader.specs.Tables.{is_objects, objects_in, put_constants}
+use Rattle.problem_reader.specs.Tables.{is_objects, objects_in}
 use Rattle.problem_reader.proofs.TablesObjectLemmas.{names_declared, names_each, seen_put}
 use Rattle.problem_reader.proofs.TablesAppendLemmas.{BeginsWith, begins_each, begins_itself, begins_twice, declared_length, first_ones}
 
 -- ---- constants
-
-abbrev pub constant_names : List declared.Declared → List (List ℕ)
-constant_names cs = map (λ (c : declared.Declared). c.name) cs
 
 -- each constant has a type
 abbrev pub HaveTypes : List declared.Declared → Type 0
@@ -64,21 +61,14 @@ constants_named t (c ∷ cs) h =
     constants_named (declare_all t c.name c.sorts) cs h.1
     ∙ ap (λ ns. put_constants ns cs) (once_named t c.name c.sorts h.0)
 
-pub constants_put : (names : List (List ℕ)) (cs : List declared.Declared)
-    → AreFresh names (constant_names cs) → put_constants names cs ≡ names ++ constant_names cs
-constants_put names [] f = sym (append-nil names)
-constants_put names (c ∷ cs) f =
-    ap (λ ns. put_constants ns cs) (name_new names c.name f.0)
-    ∙ constants_put (names ++ c.name ∷ []) cs f.1
-    ∙ append_assoc names (c.name ∷ []) (constant_names cs)
-
 typed_all : (sorts : ℕ) (t : Typed) (n : List ℕ) (ss : List ℕ) → is_name n ≡ true
     → list_all (λ s. nat_lt s sorts) ss ≡ true → AreTyped sorts t
     → AreTyped sorts (declare_all t n ss)
 typed_all sorts t n [] e f a = a
 typed_all sorts t n (s ∷ ss) e f a =
     typed_all sorts (declare t n s) n ss e (second_so (nat_lt s sorts) (list_all (λ s. nat_lt s sorts) ss) f)
-    (typed_each sorts t (n ∷ []) (s ∷ []) a (and_from (is_name n) true e refl) (and_from (nat_lt s sorts) true (first_so (nat_lt s sorts) (list_all (λ s. nat_lt s sorts) ss) f) refl))
+    (typed_each sorts t (n ∷ []) (s ∷ []) a (and_from (is_name n) true e refl)
+    (and_from (nat_lt s sorts) true (first_so (nat_lt s sorts) (list_all (λ s. nat_lt s sorts) ss) f) refl))
 
 typed_constants : (sorts : ℕ) (t : Typed) (cs : List declared.Declared)
     → list_all is_name (constant_names cs) ≡ true
@@ -87,8 +77,10 @@ typed_constants : (sorts : ℕ) (t : Typed) (cs : List declared.Declared)
 typed_constants sorts t [] e f a = a
 typed_constants sorts t (c ∷ cs) e f a =
     let places = first_so (are_places sorts c.sorts) (list_all (λ (c : declared.Declared). are_places sorts c.sorts) cs) f in
-    typed_constants sorts (declare_all t c.name c.sorts) cs (second_so (is_name c.name) (list_all is_name (constant_names cs)) e) (second_so (are_places sorts c.sorts) (list_all (λ (c : declared.Declared). are_places sorts c.sorts) cs) f)
-    (typed_all sorts t c.name c.sorts (first_so (is_name c.name) (list_all is_name (constant_names cs)) e) (second_so (is_short c.sorts) (list_all (λ s. nat_lt s sorts) c.sorts) places) a)
+    typed_constants sorts (declare_all t c.name c.sorts) cs (second_so (is_name c.name) (list_all is_name (constant_names cs)) e)
+    (second_so (are_places sorts c.sorts) (list_all (λ (c : declared.Declared). are_places sorts c.sorts) cs) f)
+    (typed_all sorts t c.name c.sorts (first_so (is_name c.name) (list_all is_name (constant_names cs)) e)
+    (second_so (is_short c.sorts) (list_all (λ s. nat_lt s sorts) c.sorts) places) a)
 
 none_typed : (sorts : ℕ) → AreTyped sorts no_typed
 none_typed sorts = record { even = refl; named = refl; distinct = distinct_nil; ascend = tt }
@@ -114,7 +106,8 @@ begins_all sorts t nothing = begins_itself t.names
 begins_all sorts t (word w at rest) = begins_all sorts t rest
 begins_all sorts t (list items at rest) =
     let it : Item = item_of text.Problem (head_of items) in
-    begins_twice t.names (grown_by sorts t it (tail_of items)).names (objects_typed sorts (grown_by sorts t it (tail_of items)) rest).names (begins_here sorts t (tail_of items) (is_objects it)) (begins_all sorts (grown_by sorts t it (tail_of items)) rest)
+    begins_twice t.names (grown_by sorts t it (tail_of items)).names (objects_typed sorts (grown_by sorts t it (tail_of items)) rest).names
+    (begins_here sorts t (tail_of items) (is_objects it)) (begins_all sorts (grown_by sorts t it (tail_of items)) rest)
 
 same_here : (sorts : List (List ℕ)) (t : Typed) (rest : Trees) (b : Bool)
     → (cond b (declared_here sorts t rest) t).names ≡ cond b (seen_after t.names Start rest) t.names
@@ -129,7 +122,8 @@ same_all sorts t nothing = refl
 same_all sorts t (word w at rest) = same_all sorts t rest
 same_all sorts t (list items at rest) =
     let it : Item = item_of text.Problem (head_of items) in
-    same_all sorts (grown_by sorts t it (tail_of items)) rest ∙ ap (λ ns. objects_in ns rest) (same_here sorts t (tail_of items) (is_objects it))
+    same_all sorts (grown_by sorts t it (tail_of items)) rest
+    ∙ ap (λ ns. objects_in ns rest) (same_here sorts t (tail_of items) (is_objects it))
 
 -- the names of such an item, without faults
 record AreGood (v : Vocabulary) (rest : Trees) : Type 0 where
@@ -168,7 +162,8 @@ module _ (v : Vocabulary) (d : Domain) (typed : 0 < length v.sorts) where
       let it : Item = item_of text.Problem (head_of items) in
       let forms = none_both (item_faults text.Problem at items) (items_faults text.Problem rest) e in
       let names = none_both (body_names v d it (tail_of items)) (items_names v d rest) f in
-      typed_objects (grown_by v.sorts t it (tail_of items)) rest forms.1 names.1 (typed_here t (tail_of items) (is_objects it) (good v d at items forms.0 names.0) a)
+      typed_objects (grown_by v.sorts t it (tail_of items)) rest forms.1 names.1
+      (typed_here t (tail_of items) (is_objects it) (good v d at items forms.0 names.0) a)
 
   few_here : (t : Typed) (rest : Trees) (b : Bool) → (b ≡ true → AreGood v rest)
       → length (cond b (declared_here v.sorts t rest) t).names ≤ length t.names + size rest
@@ -195,9 +190,10 @@ pub record AreConstants (cs : List declared.Declared) : Type 0 where
   pub typed : HaveTypes cs
   pub few : length cs ≤ 4194304
 
-module _ (d : Domain) (v : Vocabulary) (body : Trees) (fit : IsFitDomain d) (constants : AreConstants d.constants) (sorts : length v.sorts ≡ length d.sorts) (formed : items_faults text.Problem body ≡ []) (named : items_names v d body ≡ []) where
+module _ (d : Domain) (v : Vocabulary) (body : Trees) (fit : IsFitDomain d) (constants : AreConstants d.constants)
+    (sorts : length v.sorts ≡ length d.sorts) (formed : items_faults text.Problem body ≡ []) (named : items_names v d body ≡ []) where
   some : 0 < length v.sorts
-  some = omega (arith, sorts, slice_get_within d.sorts 0 (record { name = codes "object"; above = [] }) fit.types.first)
+  some = sorts_some d v fit sorts
 
   abbrev all : Typed
   all = all_typed d v.sorts body
@@ -208,7 +204,9 @@ module _ (d : Domain) (v : Vocabulary) (body : Trees) (fit : IsFitDomain d) (con
       ∙ fit.constants.types
 
   typed_whole : AreTyped (length v.sorts) all
-  typed_whole = typed_objects v d some (constants_typed no_typed d.constants) body formed named (typed_constants (length v.sorts) no_typed d.constants fit.constants.names.each places (none_typed (length v.sorts)))
+  typed_whole =
+      typed_objects v d some (constants_typed no_typed d.constants) body formed named
+      (typed_constants (length v.sorts) no_typed d.constants fit.constants.names.each places (none_typed (length v.sorts)))
 
   pub constants_are : (constants_typed no_typed d.constants).names ≡ constant_names d.constants
   constants_are =
@@ -237,11 +235,14 @@ module _ (d : Domain) (v : Vocabulary) (body : Trees) (fit : IsFitDomain d) (con
   pub objects_fit : size body ≤ 4194304 → AreFitObjects d all_objects
   objects_fit small =
       let many = few_objects v d some (constants_typed no_typed d.constants) body formed named in
-      let long : length (constants_typed no_typed d.constants).names ≡ length d.constants = ap length constants_are ∙ length_mapped d.constants in
-      typed_fit d all (leb-true (length d.sorts) 8388608 fit.types.short) (omega (arith, many, long, constants.few, small)) (subst (λ k. AreTyped k all) sorts typed_whole)
+      let long : length (constants_typed no_typed d.constants).names ≡ length d.constants =
+      ap length constants_are ∙ length_mapped d.constants in
+      typed_fit d all (leb-true (length d.sorts) 8388608 fit.types.short)
+      (omega (arith, many, long, constants.few, small)) (subst (λ k. AreTyped k all) sorts typed_whole)
 
   -- the constants are the first of them
   pub constants_first : constant_names d.constants ≡ take (length d.constants) (constant_names all_objects)
   constants_first =
-      let begins : BeginsWith (constant_names d.constants) all.names = subst (λ ns. BeginsWith ns all.names) constants_are (begins_all v.sorts (constants_typed no_typed d.constants) body) in
+      let begins : BeginsWith (constant_names d.constants) all.names =
+      subst (λ ns. BeginsWith ns all.names) constants_are (begins_all v.sorts (constants_typed no_typed d.constants) body) in
       first_ones (constant_names d.constants) all.names begins ∙ (λ i. take (length_mapped d.constants i) (sym objects_named i))

@@ -29,7 +29,7 @@ use Rattle.problem_reader.specs.Tables.{problem_names}
 use Rattle.problem_reader.specs.Values.{nothing_given, values_names}
 use Rattle.problem_reader.proofs.FitConstants.{constants_read}
 use Rattle.problem_reader.proofs.FitItems.{IsInit, goal_fit, init_good, init_small}
-use Rattle.problem_reader.proofs.FitNames.{names_known, problem_knows}
+use Rattle.problem_reader.proofs.FitNames.{problem_known, problem_knows}
 use Rattle.problem_reader.proofs.FitObjects.{AreConstants, constants_first, objects_fit, objects_long, objects_same}
 use Rattle.problem_reader.proofs.FitRows.{facts_fit, facts_length, one_value, valueds_length, values_fit}
 
@@ -48,7 +48,8 @@ formed (list items at rest) some e =
 
 -- ---- the problem
 
-module _ (d : Domain) (t : Trees) (over : IsFitRead d) (bounded : IsBounded t) (some : ¬ (t ≡ nothing)) (p : Problem) (read : IsProblemRead d t p) (streams : List Stream) where
+module _ (d : Domain) (t : Trees) (over : IsFitRead d) (bounded : IsBounded t) (some : ¬ (t ≡ nothing))
+    (p : Problem) (read : IsProblemRead d t p) (streams : List Stream) where
   abbrev body : Trees
   body = body_of t
 
@@ -56,7 +57,7 @@ module _ (d : Domain) (t : Trees) (over : IsFitRead d) (bounded : IsBounded t) (
   v = problem_names d body
 
   names : AreNamesOf d (length v.objects) v
-  names = names_known d body over.fit
+  names = problem_known d body over.fit
 
   form : IsFormed t
   form = formed t some read.formed
@@ -75,7 +76,8 @@ module _ (d : Domain) (t : Trees) (over : IsFitRead d) (bounded : IsBounded t) (
 
   -- as many objects as there are names of objects
   long : length v.objects ≡ length (problem_of d t).objects
-  long = sym (objects_long d v body over.fit constants names.sorts form.items items_clean ∙ ap length (objects_same d v body over.fit constants names.sorts form.items items_clean))
+  long = sym (objects_long d v body over.fit constants names.sorts form.items items_clean
+      ∙ ap length (objects_same d v body over.fit constants names.sorts form.items items_clean))
 
   abbrev init : Trees
   init = init_of body
@@ -88,18 +90,23 @@ module _ (d : Domain) (t : Trees) (over : IsFitRead d) (bounded : IsBounded t) (
 
   init_fit : (is_short (facts_of v init) && list_all (is_fit_fact d (length (problem_of d t).objects)) (facts_of v init)) ≡ true
   init_fit =
-      and_from (is_short (facts_of v init)) (list_all (is_fit_fact d (length (problem_of d t).objects)) (facts_of v init)) (le-leb (length (facts_of v init)) 8388608 (omega (arith, facts_length v init, init_bytes)))
-      (ap (λ n. list_all (is_fit_fact d n) (facts_of v init)) (sym long) ∙ facts_fit d (length v.objects) v over.fit names init init_is.formed init_is.named)
+      and_from (is_short (facts_of v init)) (list_all (is_fit_fact d (length (problem_of d t).objects)) (facts_of v init))
+      (le-leb (length (facts_of v init)) 8388608 (omega (arith, facts_length v init, init_bytes)))
+      (ap (λ n. list_all (is_fit_fact d n) (facts_of v init)) (sym long)
+      ∙ facts_fit d (length v.objects) v over.fit names init init_is.formed init_is.named)
 
   valued_fit : (is_short (valueds_of v init) && list_all (is_fit_value d (length (problem_of d t).objects)) (valueds_of v init)) ≡ true
   valued_fit =
-      and_from (is_short (valueds_of v init)) (list_all (is_fit_value d (length (problem_of d t).objects)) (valueds_of v init)) (le-leb (length (valueds_of v init)) 8388608 (omega (arith, valueds_length v init, init_bytes)))
-      (ap (λ n. list_all (is_fit_value d n) (valueds_of v init)) (sym long) ∙ values_fit d (length v.objects) v over.fit names init init_is.formed init_is.named)
+      and_from (is_short (valueds_of v init)) (list_all (is_fit_value d (length (problem_of d t).objects)) (valueds_of v init))
+      (le-leb (length (valueds_of v init)) 8388608 (omega (arith, valueds_length v init, init_bytes)))
+      (ap (λ n. list_all (is_fit_value d n) (valueds_of v init)) (sym long)
+      ∙ values_fit d (length v.objects) v over.fit names init init_is.formed init_is.named)
 
   goal_is : is_fit_condition d (length (problem_of d t).objects) [] (problem_of d t).goal ≡ true
   goal_is =
       ap (λ n. is_fit_condition d n [] (problem_of d t).goal) (sym long)
-      ∙ goal_fit v d (length v.objects) (problem_knows d body over.fit) body (omega (arith, few)) (omega (arith, body_shallow t, bounded.shallow)) form.items items_clean
+      ∙ goal_fit v d (length v.objects) (problem_knows d body over.fit) body
+      (omega (arith, few)) (omega (arith, body_shallow t, bounded.shallow)) form.items items_clean
 
   spelled_fit : IsFitProblem (record { domain = d; problem = problem_of d t; streams = streams })
   spelled_fit = record {
@@ -116,7 +123,9 @@ module _ (d : Domain) (t : Trees) (over : IsFitRead d) (bounded : IsBounded t) (
 -- over a fit domain that was read
 pub read_problems_fit : (d : Domain) (t : Trees) (p : Problem) → IsFitRead d → IsBounded t
     → ¬ (t ≡ nothing) → IsProblemRead d t p → IsFitOver d p
-read_problems_fit d t p over bounded some read streams = subst (λ (q : Problem). IsFitProblem (record { domain = d; problem = q; streams = streams })) (sym read.problem) (spelled_fit d t over bounded some p read streams)
+read_problems_fit d t p over bounded some read streams =
+    subst (λ (q : Problem). IsFitProblem (record { domain = d; problem = q; streams = streams }))
+    (sym read.problem) (spelled_fit d t over bounded some p read streams)
 
 -- where it was read
 pub fit_if_read : (d : Domain) (t : Tree) (result : Result Problem InputFault)

@@ -32,7 +32,8 @@ facts_by false fact facts n m h = omega arith
 pub facts_length : (v : Vocabulary) (row : Trees) → length (facts_of v row) ≤ size row
 facts_length v nothing = omega arith
 facts_length v (word w at rest) = omega (arith, facts_length v rest)
-facts_length v (list items at rest) = facts_by (is_worth items) (fact_of v items) (facts_of v rest) (size rest) (size items) (facts_length v rest)
+facts_length v (list items at rest) =
+    facts_by (is_worth items) (fact_of v items) (facts_of v rest) (size rest) (size items) (facts_length v rest)
 
 valueds_by : (b : Bool) (value : Valued) (values : List Valued) (n m : ℕ) → length values ≤ n
     → length (cond b (value ∷ []) [] ++ values) ≤ m + 2 + n
@@ -42,7 +43,8 @@ valueds_by false value values n m h = omega arith
 pub valueds_length : (v : Vocabulary) (row : Trees) → length (valueds_of v row) ≤ size row
 valueds_length v nothing = omega arith
 valueds_length v (word w at rest) = omega (arith, valueds_length v rest)
-valueds_length v (list items at rest) = valueds_by (is_worth items) (valued_of v items) (valueds_of v rest) (size rest) (size items) (valueds_length v rest)
+valueds_length v (list items at rest) =
+    valueds_by (is_worth items) (valued_of v items) (valueds_of v rest) (size rest) (size items) (valueds_length v rest)
 
 -- ---- each fact and each value
 
@@ -67,7 +69,8 @@ module _ (d : Domain) (n : ℕ) (v : Vocabulary) (fit : IsFitDomain d) (named : 
       → list_all fact_passes facts ≡ true
       → list_all fact_passes (cond b [] (fact_of v items ∷ []) ++ facts) ≡ true
   facts_step true place items facts is e f more = more
-  facts_step false place items facts is e f more = and_from (fact_passes (fact_of v items)) (list_all fact_passes facts) (atom_of_list place items is e f) more
+  facts_step false place items facts is e f more =
+      and_from (fact_passes (fact_of v items)) (list_all fact_passes facts) (atom_of_list place items is e f) more
 
   pub facts_fit : (row : Trees) → facts_faults row ≡ [] → facts_names v d.roles row ≡ []
       → list_all fact_passes (facts_of v row) ≡ true
@@ -83,7 +86,9 @@ module _ (d : Domain) (n : ℕ) (v : Vocabulary) (fit : IsFitDomain d) (named : 
       → list_all value_passes values ≡ true
       → list_all value_passes (cond b (valued_of v items ∷ []) [] ++ values) ≡ true
   values_step false place items values is e f more = more
-  values_step true place items values is e f more = and_from (value_passes (valued_of v items)) (list_all value_passes values) (value_good d n v named d.roles place items is e f).fit more
+  values_step true place items values is e f more =
+      and_from (value_passes (valued_of v items)) (list_all value_passes values)
+      (value_good d n v named d.roles place items is e f).fit more
 
   pub values_fit : (row : Trees) → facts_faults row ≡ [] → facts_names v d.roles row ≡ []
       → list_all value_passes (valueds_of v row) ≡ true
@@ -121,7 +126,9 @@ module _ (d : Domain) (n : ℕ) (v : Vocabulary) (fit : IsFitDomain d) (named : 
   step_agrees true g place items t x values term given is e f h more (suc j) w at = more j w at
   step_agrees true g place items t x values term given is e f h more zero w at =
       let same : valued_of v items ≡ w = cc in
-      λ func args. here_agrees g place items t x term given is e f h (func ∙ ap (λ (u : Valued). u.func) (sym same)) (args ∙ ap (λ (u : Valued). u.args) (sym same)) ∙ ap (λ (u : Valued). u.value) same
+      λ func args. here_agrees g place items t x term given is e f h
+      (func ∙ ap (λ (u : Valued). u.func) (sym same)) (args ∙ ap (λ (u : Valued). u.args) (sym same))
+      ∙ ap (λ (u : Valued). u.value) same
 
   later_agrees : (g : Given) (row t : Trees) (x : ℕ) → IsTerm v t → value_of g (spelled t) ≡ Some x
       → facts_faults row ≡ [] → facts_names v d.roles row ≡ [] → row_names g row ≡ []
@@ -153,10 +160,12 @@ module _ (d : Domain) (n : ℕ) (v : Vocabulary) (fit : IsFitDomain d) (named : 
       ap (λ (x : Valued). x.value) (same_valued u w (sym p ∙ q))
   one_step true items values later more zero (suc j) u w p q func args =
       let same : valued_of v items ≡ u = same_valued (valued_of v items) u p in
-      sym (ap (λ (x : Valued). x.value) same) ∙ later refl j w q (ap (λ (x : Valued). x.func) same ∙ func) (ap (λ (x : Valued). x.args) same ∙ args)
+      sym (ap (λ (x : Valued). x.value) same)
+      ∙ later refl j w q (ap (λ (x : Valued). x.func) same ∙ func) (ap (λ (x : Valued). x.args) same ∙ args)
   one_step true items values later more (suc i) zero u w p q func args =
       let same : valued_of v items ≡ w = same_valued (valued_of v items) w q in
-      sym (later refl i u p (ap (λ (x : Valued). x.func) same ∙ sym func) (ap (λ (x : Valued). x.args) same ∙ sym args)) ∙ ap (λ (x : Valued). x.value) same
+      sym (later refl i u p (ap (λ (x : Valued). x.func) same ∙ sym func) (ap (λ (x : Valued). x.args) same ∙ sym args))
+      ∙ ap (λ (x : Valued). x.value) same
 
   pub one_value : (g : Given) (row : Trees) → IsEven g → facts_faults row ≡ []
       → facts_names v d.roles row ≡ [] → row_names g row ≡ [] → HaveOne (valueds_of v row)
@@ -167,5 +176,7 @@ module _ (d : Domain) (n : ℕ) (v : Vocabulary) (fit : IsFitDomain d) (named : 
       let names = none_both (fact_names v d.roles place items) (facts_names v d.roles rest) f in
       let values = none_both (value_names g place items) (row_names (value_put g items) rest) h in
       one_step (is_worth items) items (valueds_of v rest)
-      (λ is. later_agrees (value_put g items) rest (term_in items) (value_in items) (value_good d n v named d.roles place items is forms.0 names.0).term (gets g place items even is (value_clean g place items is values.0)) forms.1 names.1 values.1)
+      (λ is. later_agrees (value_put g items) rest (term_in items) (value_in items)
+      (value_good d n v named d.roles place items is forms.0 names.0).term
+      (gets g place items even is (value_clean g place items is values.0)) forms.1 names.1 values.1)
       (one_value (value_put g items) rest (even_put g items even) forms.1 names.1 values.1)

@@ -72,8 +72,10 @@ row_same objects (word a at rest) (word b at' rest') p q e f same =
     let second = none_both (unless (has_name b [] || has_name b objects) Unknown at') (terms_names objects [] rest') f in
     let heads : unwrap_or (place_of a objects) 0 ≡ unwrap_or (place_of b objects) 0 = cc in
     let tails : places_of objects rest ≡ places_of objects rest' = cc in
-    let one : a ≡ b = same_word objects a b (met (has_name a objects) Unknown at first.0) (met (has_name b objects) Unknown at' second.0) heads in
-    let more = row_same objects rest rest' ((chosen (is_of Name a) (row_faults Name rest) (shape at) [] p).1) ((chosen (is_of Name b) (row_faults Name rest') (shape at') [] q).1) first.1 second.1 tails in
+    let one : a ≡ b =
+    same_word objects a b (met (has_name a objects) Unknown at first.0) (met (has_name b objects) Unknown at' second.0) heads in
+    let more = row_same objects rest rest' ((chosen (is_of Name a) (row_faults Name rest) (shape at) [] p).1)
+    ((chosen (is_of Name b) (row_faults Name rest') (shape at') [] q).1) first.1 second.1 tails in
     λ i. one i ++ 32 ∷ more i
 
 -- terms of the same function and objects are written the same
@@ -105,7 +107,8 @@ module _ (d : Domain) (n : ℕ) (v : Vocabulary) (named : AreNamesOf d n v) (rol
       let words = (chosen (is_of Name g) (row_faults Name args) (shape at'') [] e).1 in
       let are = objects_there v.objects args words uses.1 in
       let func : ℕ = declared_place v.functions g in
-      let arity : has_arity d.functions func (length (places_of v.objects args)) ≡ true = ap (has_arity d.functions func) are.count ∙ used_arity d.functions v.functions g (width args) named.functions used in
+      let arity : has_arity d.functions func (length (places_of v.objects args)) ≡ true =
+      ap (has_arity d.functions func) are.count ∙ used_arity d.functions v.functions g (width args) named.functions used in
       record {
         term = record { there = used.there; words = words; known = uses.1; headed = refl };
         fit = and_from _ _ (and_from _ _ arity are.each) (number_small (head_of rest));
@@ -115,7 +118,9 @@ module _ (d : Domain) (n : ℕ) (v : Vocabulary) (named : AreNamesOf d n v) (rol
       → worth_names v rest ≡ [] → IsGood (word w at rest)
   worth_good w at place nothing e f = absurd (cc)
   worth_good w at place (word x at' rest) e f = absurd (cc)
-  worth_good w at place (list term at' rest) e f = application_good w at at' place term rest nothing ((none_both (application_faults Name Name at' term) (number_faults place rest) e).0) f
+  worth_good w at place (list term at' rest) e f =
+      application_good w at at' place term rest nothing
+      ((none_both (application_faults Name Name at' term) (number_faults place rest) e).0) f
 
   -- a list that gives a value, without faults
   pub value_good : (place : ℕ) (items : Trees) → is_worth items ≡ true

@@ -13,13 +13,14 @@ use Rattle.name_tables.proofs.FitGroups.{sorts_long}
 use Rattle.name_tables.specs.Declarations.{Typed, declare_each, no_typed}
 use Rattle.name_tables.specs.Names.{with_name}
 use Rattle.name_tables.specs.Variables.{named_sorts, named_words, seen_after}
+use Rattle.name_tables.specs.Vocabulary.{nothing_signed, put_constants, put_signatures, put_sorts}
 use Rattle.name_tables.specs.declared.vocabulary.Vocabulary.{Vocabulary}
 use Rattle.domain_reader.specs.Cycles.{AreSorts, no_sorts, more_sorts, type_edges}
 use Rattle.domain_reader.specs.Domains.{IsDomainRead, constants_in, is_constants}
 use Rattle.domain_reader.specs.Tables.{no_names, vocabulary_of, with_item, with_items}
 use Rattle.name_tables.specs.Texts.{body_of}
-use Rattle.problem_reader.specs.Laws.{NamesAreTheDomains, with_objects}
-use Rattle.problem_reader.specs.Tables.{problem_names, nothing_signed, objects_in, put_constants, put_signatures, put_sorts}
+use Rattle.problem_reader.specs.Laws.{NamesAreTheDomains}
+use Rattle.problem_reader.specs.Tables.{problem_names, objects_in, with_objects}
 use Rattle.problem_reader.proofs.TablesObjectLemmas.{constants_put, even_each, names_each, none_more, seen_put}
 use Rattle.problem_reader.proofs.TablesLemmas.{built, put, signed_again}
 
@@ -64,7 +65,8 @@ names_here : (sorts : List (List ℕ)) (t : Typed) (names : List (List ℕ)) (re
     → cond b (seen_after names Start rest) names ≡ (cond b (declared_here sorts t rest) t).names
 names_here sorts t names rest true e =
     seen_put names Start rest ∙ ap (λ m. put m (named_words Start rest)) e
-    ∙ sym (names_each t (named_words Start rest) (named_sorts sorts Start 0 rest) (sorts_long sorts Start 0 rest ∙ none_more (length (named_words Start rest))))
+    ∙ sym (names_each t (named_words Start rest)
+    (named_sorts sorts Start 0 rest) (sorts_long sorts Start 0 rest ∙ none_more (length (named_words Start rest))))
 names_here sorts t names rest false e = e
 
 even_here : (sorts : List (List ℕ)) (t : Typed) (rest : Trees) (b : Bool)
@@ -79,8 +81,10 @@ objects_same : (sorts : List (List ℕ)) (v : Vocabulary) (t : Typed) (body : Tr
 objects_same sorts v t nothing e = e
 objects_same sorts v t (word w at rest) e = objects_same sorts v t rest e
 objects_same sorts v t (list items at rest) e =
-    objects_same sorts (with_item v (item_of text.Domain (head_of items)) (tail_of items)) (cond (is_constants (item_of text.Domain (head_of items))) (declared_here sorts t (tail_of items)) t) rest
-    (objects_by v (item_of text.Domain (head_of items)) (tail_of items) ∙ names_here sorts t v.objects (tail_of items) (is_constants (item_of text.Domain (head_of items))) e)
+    objects_same sorts (with_item v (item_of text.Domain (head_of items)) (tail_of items))
+    (cond (is_constants (item_of text.Domain (head_of items))) (declared_here sorts t (tail_of items)) t) rest
+    (objects_by v (item_of text.Domain (head_of items)) (tail_of items)
+    ∙ names_here sorts t v.objects (tail_of items) (is_constants (item_of text.Domain (head_of items))) e)
 
 objects_even : (sorts : List (List ℕ)) (t : Typed) (body : Trees) → length t.names ≡ length t.sorts
     → length (constants_in sorts t body).names ≡ length (constants_in sorts t body).sorts
@@ -116,11 +120,18 @@ module _ (t : Trees) (d : domain.Domain) (read : IsDomainRead t d) where
 
   known_objects : put_constants [] d.constants ≡ v.objects
   known_objects =
-      ap (put_constants []) read.domain.parts.constants ∙ constants_put [] typed.names typed.sorts (objects_even v.sorts no_typed (body_of t) refl)
+      ap (put_constants []) read.domain.parts.constants
+      ∙ constants_put [] typed.names typed.sorts (objects_even v.sorts no_typed (body_of t) refl)
       ∙ ap (put []) (sym (objects_same v.sorts no_names no_typed (body_of t) refl)) ∙ (built (body_of t)).objects
 
   known : (body : Trees) → problem_names d body ≡ with_objects v body
-  known body = λ k. record { sorts = known_sorts k; predicates = known_predicates k; functions = known_functions k; objects = objects_in (known_objects k) body }
+  known body =
+      λ k. record {
+        sorts = known_sorts k;
+        predicates = known_predicates k;
+        functions = known_functions k;
+        objects = objects_in (known_objects k) body;
+      }
 
 pub names_are_known : NamesAreTheDomains
 names_are_known t d body read = known t d read body

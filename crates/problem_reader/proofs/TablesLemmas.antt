@@ -13,9 +13,9 @@ use Rattle.form_reader.specs.Rows.{after_word, head_of, is_dash, tail_of}
 use Rattle.name_tables.specs.Declarations.{signature_list}
 use Rattle.name_tables.specs.Names.{Signed, has_name, with_name, with_signature}
 use Rattle.name_tables.specs.Variables.{is_named, named_words, seen_after, seen_with}
+use Rattle.name_tables.specs.Vocabulary.{nothing_signed, put_signatures, with_total_cost}
 use Rattle.name_tables.specs.declared.vocabulary.Vocabulary.{Vocabulary}
-use Rattle.domain_reader.specs.Tables.{declared_arity, functions_in, no_names, predicates_in, types_in, vocabulary_of, with_item, with_items, with_total_cost}
-use Rattle.problem_reader.specs.Tables.{nothing_signed, put_signatures}
+use Rattle.domain_reader.specs.Tables.{declared_arity, functions_in, no_names, predicates_in, types_in, vocabulary_of, with_item, with_items}
 
 -- names behind those so far, each once
 abbrev pub put : List (List ℕ) → List (List ℕ) → List (List ℕ)
@@ -46,12 +46,14 @@ table_if false xs ys s t = t
 pub table_seen : (ns : List (List ℕ)) (spot : Spot) (ts : Trees) → IsTable ns
     → IsTable (seen_after ns spot ts)
 table_seen ns spot nothing t = t
-table_seen ns spot (word w at rest) t = table_seen (seen_with ns spot w) (after_word spot w) rest (table_if (is_named spot w) (with_name ns w) ns (table_grows ns w t) t)
+table_seen ns spot (word w at rest) t =
+    table_seen (seen_with ns spot w) (after_word spot w) rest (table_if (is_named spot w) (with_name ns w) ns (table_grows ns w t) t)
 table_seen ns spot (list items at rest) t = t
 
 pub table_types : (ns : List (List ℕ)) (ts : Trees) → IsTable ns → IsTable (types_in ns ts)
 table_types ns nothing t = t
-table_types ns (word w at rest) t = table_types (cond (is_dash w) ns (with_name ns w)) rest (table_if (is_dash w) ns (with_name ns w) t (table_grows ns w t))
+table_types ns (word w at rest) t =
+    table_types (cond (is_dash w) ns (with_name ns w)) rest (table_if (is_dash w) ns (with_name ns w) t (table_grows ns w t))
 table_types ns (list items at rest) t = table_types ns rest t
 
 -- ---- declared names with their numbers of arguments
@@ -107,12 +109,16 @@ signed_again s i =
 pub signed_predicates : (s : Signed) (ts : Trees) → IsSigned s → IsSigned (predicates_in s ts)
 signed_predicates s nothing i = i
 signed_predicates s (word w at rest) i = signed_predicates s rest i
-signed_predicates s (list items at rest) i = signed_predicates (with_signature s (head_of items) (length (named_words Start (tail_of items)))) rest (signed_grows s (head_of items) (length (named_words Start (tail_of items))) i)
+signed_predicates s (list items at rest) i =
+    signed_predicates (with_signature s (head_of items) (length (named_words Start (tail_of items)))) rest
+    (signed_grows s (head_of items) (length (named_words Start (tail_of items))) i)
 
 pub signed_functions : (s : Signed) (ts : Trees) → IsSigned s → IsSigned (functions_in s ts)
 signed_functions s nothing i = i
 signed_functions s (word w at rest) i = signed_functions s rest i
-signed_functions s (list items at rest) i = signed_functions (with_signature s (head_of items) (declared_arity (head_of items) (tail_of items))) rest (signed_grows s (head_of items) (declared_arity (head_of items) (tail_of items)) i)
+signed_functions s (list items at rest) i =
+    signed_functions (with_signature s (head_of items) (declared_arity (head_of items) (tail_of items))) rest
+    (signed_grows s (head_of items) (declared_arity (head_of items) (tail_of items)) i)
 
 -- ---- all the names of a domain's text
 
@@ -123,10 +129,14 @@ pub record IsBuilt (v : Vocabulary) : Type 0 where
   pub objects : IsTable v.objects
 
 built_item : (v : Vocabulary) (it : Item) (rest : Trees) → IsBuilt v → IsBuilt (with_item v it rest)
-built_item v item.Types rest b = record { sorts = table_types v.sorts rest b.sorts; predicates = b.predicates; functions = b.functions; objects = b.objects }
-built_item v item.Constants rest b = record { sorts = b.sorts; predicates = b.predicates; functions = b.functions; objects = table_seen v.objects Start rest b.objects }
-built_item v item.Predicates rest b = record { sorts = b.sorts; predicates = signed_predicates v.predicates rest b.predicates; functions = b.functions; objects = b.objects }
-built_item v item.Functions rest b = record { sorts = b.sorts; predicates = b.predicates; functions = signed_functions v.functions rest b.functions; objects = b.objects }
+built_item v item.Types rest b = record
+    { sorts = table_types v.sorts rest b.sorts; predicates = b.predicates; functions = b.functions; objects = b.objects }
+built_item v item.Constants rest b = record
+    { sorts = b.sorts; predicates = b.predicates; functions = b.functions; objects = table_seen v.objects Start rest b.objects }
+built_item v item.Predicates rest b = record
+    { sorts = b.sorts; predicates = signed_predicates v.predicates rest b.predicates; functions = b.functions; objects = b.objects }
+built_item v item.Functions rest b = record
+    { sorts = b.sorts; predicates = b.predicates; functions = signed_functions v.functions rest b.functions; objects = b.objects }
 built_item v item.Requirements rest b = b
 built_item v item.Derived rest b = b
 built_item v item.Action rest b = b
@@ -143,14 +153,21 @@ built_item v item.NoItem rest b = b
 built_items : (v : Vocabulary) (body : Trees) → IsBuilt v → IsBuilt (with_items v body)
 built_items v nothing b = b
 built_items v (word w at rest) b = built_items v rest b
-built_items v (list items at rest) b = built_items (with_item v (item_of text.Domain (head_of items)) (tail_of items)) rest (built_item v (item_of text.Domain (head_of items)) (tail_of items) b)
+built_items v (list items at rest) b =
+    built_items (with_item v (item_of text.Domain (head_of items)) (tail_of items)) rest
+    (built_item v (item_of text.Domain (head_of items)) (tail_of items) b)
 
 built_first : IsBuilt no_names
 built_first =
     record { sorts = refl; predicates = none_signed; functions = none_signed; objects = refl }
 
 built_total : (v : Vocabulary) → IsBuilt v → IsBuilt (with_total_cost v)
-built_total v b = record { sorts = b.sorts; predicates = b.predicates; functions = signed_grows v.functions (codes "total-cost") 0 b.functions; objects = b.objects }
+built_total v b = record {
+  sorts = b.sorts;
+  predicates = b.predicates;
+  functions = signed_grows v.functions (codes "total-cost") 0 b.functions;
+  objects = b.objects;
+}
 
 pub built : (body : Trees) → IsBuilt (vocabulary_of body)
 built body = built_total (with_items no_names body) (built_items no_names body built_first)

@@ -12,7 +12,7 @@ use Rattle.name_tables.specs.Declarations.{Typed, declare, declare_each, declare
 use Rattle.name_tables.specs.Graphs.{ascending_with}
 use Rattle.name_tables.specs.Names.{has_name, place_of, with_name}
 use Rattle.name_tables.specs.Variables.{is_named, named_sorts, named_words, seen_after}
-use Rattle.problem_reader.specs.Tables.{put_constants}
+use Rattle.name_tables.specs.Vocabulary.{put_constants}
 use Rattle.problem_reader.proofs.TablesLemmas.{put}
 
 -- ---- a name has a place exactly where it is there
@@ -43,13 +43,15 @@ even_by : (t : Typed) (n : List ℕ) (s k : ℕ) (b : Bool) → has_name n t.nam
     → length (declared_by t n s (cond b (Some k) None)).names ≡ length (declared_by t n s (cond b (Some k) None)).sorts
 even_by t n s k true e h = h ∙ sym (put_names_length t.sorts k s (slice_get t.sorts k))
 even_by t n s k false e h =
-    ap (λ b. length (cond b t.names (t.names ++ n ∷ []))) e ∙ length-append t.names (n ∷ []) ∙ ap (λ m. m + 1) h ∙ sym (length-append t.sorts ((s ∷ []) ∷ []))
+    ap (λ b. length (cond b t.names (t.names ++ n ∷ []))) e ∙ length-append t.names (n ∷ []) ∙ ap (λ m. m + 1) h
+    ∙ sym (length-append t.sorts ((s ∷ []) ∷ []))
 
 -- as many names as lists of types
 even_declared : (t : Typed) (n : List ℕ) (s : ℕ) → length t.names ≡ length t.sorts
     → length (declare t n s).names ≡ length (declare t n s).sorts
 even_declared t n s h =
-    (λ k. length (declared_by t n s (placed n t.names k)).names) ∙ even_by t n s (position_or_len (bytes_eq n) t.names) (has_name n t.names) refl h
+    (λ k. length (declared_by t n s (placed n t.names k)).names)
+    ∙ even_by t n s (position_or_len (bytes_eq n) t.names) (has_name n t.names) refl h
     ∙ sym (λ k. length (declared_by t n s (placed n t.names k)).sorts)
 
 pub names_each : (t : Typed) (ns : List (List ℕ)) (ss : List ℕ) → length ss ≡ length ns
@@ -87,7 +89,8 @@ behind :
     (sorts : List (List ℕ)) (waiting : ℕ) (w : List ℕ) (rest : Trees) (b : Bool) →
     length (named_sorts sorts Typed' waiting rest) ≡ waiting + length (named_words Typed' rest) →
     length (named_sorts sorts Named (waiting + 1) rest) ≡ waiting + 1 + length (named_words Named rest) →
-    length (cond (not b) (named_sorts sorts Named (waiting + 1) rest) (named_sorts sorts Typed' waiting rest)) ≡ waiting + length (cond (not b) (w ∷ named_words (cond b Typed' Named) rest) (named_words (cond b Typed' Named) rest))
+    length (cond (not b) (named_sorts sorts Named (waiting + 1) rest) (named_sorts sorts Typed' waiting rest))
+    ≡ waiting + length (cond (not b) (w ∷ named_words (cond b Typed' Named) rest) (named_words (cond b Typed' Named) rest))
 behind sorts waiting w rest true typed more = typed
 behind sorts waiting w rest false typed more = omega (arith, more)
 

@@ -56,7 +56,9 @@ kept_with g k t x n e =
 -- what was given stays
 pub kept : (g : Given) (items : Trees) (k : List ℕ) (n : ℕ) → value_of g k ≡ Some n
     → value_of (value_put g items) k ≡ Some n
-kept g items k n e = kept_if (is_worth items) (with_value g (spelled (term_in items)) (value_in items)) g k n (kept_with g k (spelled (term_in items)) (value_in items) n e) e
+kept g items k n e =
+    kept_if (is_worth items) (with_value g (spelled (term_in items)) (value_in items)) g k n
+    (kept_with g k (spelled (term_in items)) (value_in items) n e) e
 
 even_if : (b : Bool) (g h : Given) → IsEven g → IsEven h → IsEven (cond b g h)
 even_if true g h e f = e
@@ -69,7 +71,8 @@ even_pushed g t x e =
 pub even_put : (g : Given) (items : Trees) → IsEven g → IsEven (value_put g items)
 even_put g items e =
     even_if (is_worth items) (with_value g (spelled (term_in items)) (value_in items)) g
-    (even_if (has_name (spelled (term_in items)) g.terms) g (pushed g (spelled (term_in items)) (value_in items)) e (even_pushed g (spelled (term_in items)) (value_in items) e)) e
+    (even_if (has_name (spelled (term_in items)) g.terms) g
+    (pushed g (spelled (term_in items)) (value_in items)) e (even_pushed g (spelled (term_in items)) (value_in items) e)) e
 
 -- ---- a new value
 
@@ -77,14 +80,18 @@ even_put g items e =
 pushed_value : (g : Given) (t : List ℕ) (x : ℕ) → IsEven g → has_name t g.terms ≡ false
     → value_of (pushed g t x) t ≡ Some x
 pushed_value g t x even none =
-    let there : has_name t (g.terms ++ t ∷ []) ≡ true = any_passes_from_place (bytes_eq t) (g.terms ++ t ∷ []) (length g.terms) t (get_middle g.terms t []) ((bytes_eq-Decides t t).1 refl) in
+    let there : has_name t (g.terms ++ t ∷ []) ≡ true =
+    any_passes_from_place (bytes_eq t) (g.terms ++ t ∷ []) (length g.terms) t (get_middle g.terms t [])
+    ((bytes_eq-Decides t t).1 refl) in
     let q : ℕ = unwrap_or (place_of t (g.terms ++ t ∷ [])) 0 in
     let at_end : q ≡ length g.terms =
     elim (push_cases g.terms t q t (place_holds t (g.terms ++ t ∷ []) there)) [
-      | inl h ↦ absurd (let known : has_name t g.terms ≡ true = any_passes_from_place (bytes_eq t) g.terms q t h ((bytes_eq-Decides t t).1 refl) in cc)
+      | inl h ↦ absurd
+          (let known : has_name t g.terms ≡ true = any_passes_from_place (bytes_eq t) g.terms q t h ((bytes_eq-Decides t t).1 refl) in cc)
       | inr h ↦ h.0
     ] in
-    ap (given_value (pushed g t x)) (place_some t (g.terms ++ t ∷ []) there) ∙ ap (slice_get (g.values ++ x ∷ [])) (at_end ∙ even) ∙ get_middle g.values x []
+    ap (given_value (pushed g t x)) (place_some t (g.terms ++ t ∷ []) there) ∙ ap (slice_get (g.values ++ x ∷ [])) (at_end ∙ even)
+    ∙ get_middle g.values x []
 
 same_by : (o : Option ℕ) (m x : ℕ) → o ≡ Some m → not (differs o x) ≡ true → o ≡ Some x
 same_by None m x e f = absurd (cc)
@@ -116,7 +123,8 @@ gets_with g t x even fine =
     elim (cases_Bool (has_name t g.terms)) [
       | inl known ↦
           let old = there_value g t even known in
-          ap (λ h. value_of h t) (cond-true (has_name t g.terms) g (pushed g t x) known) ∙ old.1 ∙ ap Some (differs_not g t old.0 x old.1 fine)
+          ap (λ h. value_of h t) (cond-true (has_name t g.terms) g (pushed g t x) known) ∙ old.1
+          ∙ ap Some (differs_not g t old.0 x old.1 fine)
       | inr absent ↦ ap (λ h. value_of h t) (cond-false (has_name t g.terms) g (pushed g t x) absent) ∙ pushed_value g t x even absent
     ]
 
@@ -125,7 +133,9 @@ pub gets : (g : Given) (place : ℕ) (items : Trees) → IsEven g → is_worth i
     → not (differs (value_of g (spelled (term_in items))) (value_in items)) ≡ true
     → value_of (value_put g items) (spelled (term_in items)) ≡ Some (value_in items)
 gets g place items even is fine =
-    ap (λ h. value_of h (spelled (term_in items))) (cond-true (is_worth items) (with_value g (spelled (term_in items)) (value_in items)) g is) ∙ gets_with g (spelled (term_in items)) (value_in items) even fine
+    ap (λ h. value_of h (spelled (term_in items)))
+    (cond-true (is_worth items) (with_value g (spelled (term_in items)) (value_in items)) g is)
+    ∙ gets_with g (spelled (term_in items)) (value_in items) even fine
 
 -- the test that a list without faults passes
 pub value_clean : (g : Given) (place : ℕ) (items : Trees) → is_worth items ≡ true
@@ -133,4 +143,5 @@ pub value_clean : (g : Given) (place : ℕ) (items : Trees) → is_worth items �
     → not (differs (value_of g (spelled (term_in items))) (value_in items)) ≡ true
 value_clean g place items is e =
     let fault = unless (not (differs (value_of g (spelled (term_in items))) (value_in items))) Duplicate place in
-    met (not (differs (value_of g (spelled (term_in items))) (value_in items))) Duplicate place (sym (cond-true (is_worth items) fault [] is) ∙ e)
+    met (not (differs (value_of g (spelled (term_in items))) (value_in items))) Duplicate place
+    (sym (cond-true (is_worth items) fault [] is) ∙ e)

@@ -2,14 +2,9 @@
 use Rattle.std.specs.Prelude.{◌≡◌}
 use Rattle.sexpr_text.specs.Trees.{Trees}
 use Rattle.task_model.specs.declared.domain.Domain.{Domain}
-use Rattle.name_tables.specs.declared.vocabulary.Vocabulary.{Vocabulary}
 use Rattle.domain_reader.specs.Domains.{IsDomainRead}
 use Rattle.domain_reader.specs.Domains as domains
-use Rattle.problem_reader.specs.Tables.{problem_names, objects_in}
-
--- names with the objects that items declare behind the others
-abbrev pub with_objects : Vocabulary → Trees → Vocabulary
-with_objects v body = record v { objects = objects_in v.objects body }
+use Rattle.problem_reader.specs.Tables.{problem_names, with_objects}
 
 -- Of a domain that was read from a text, a problem's names are those in the domain's text, with their numbers, and its
 -- objects behind them.

@@ -42,7 +42,8 @@ is_derived_at roles (Some place) = is (slice_get roles place)
 -- an atom, as the list at this place; none of a derived predicate
 abbrev pub atom_names : Vocabulary → List Role → ℕ → Trees → List Fault
 atom_names v roles place items =
-    application_names v.predicates v.objects [] place items ++ unless (not (is_derived_at roles (place_of (head_of items) v.predicates.names))) EffectOnStatic place
+    application_names v.predicates v.objects [] place items
+    ++ unless (not (is_derived_at roles (place_of (head_of items) v.predicates.names))) EffectOnStatic place
 
 -- the function term that stands first in a row
 abbrev pub worth_names : Vocabulary → Trees → List Fault

@@ -60,7 +60,8 @@ abbrev pub objects_typed : List (List ℕ) → Typed → Trees → Typed
 objects_typed sorts t nothing = t
 objects_typed sorts t (word w at rest) = objects_typed sorts t rest
 objects_typed sorts t (list items at rest) =
-    objects_typed sorts (if is_objects (item_of text.Problem (head_of items)) then declare_each t (named_words Start (tail_of items)) (named_sorts sorts Start 0 (tail_of items)) else t) rest
+    objects_typed sorts (if is_objects (item_of text.Problem (head_of items))
+    then declare_each t (named_words Start (tail_of items)) (named_sorts sorts Start 0 (tail_of items)) else t) rest
 
 abbrev pub all_typed : Domain → List (List ℕ) → Trees → Typed
 all_typed d sorts body = objects_typed sorts (constants_typed no_typed d.constants) body
@@ -79,12 +80,17 @@ places_of objects (list items at rest) = places_of objects rest
 
 -- (NAME NAME*)
 abbrev pub fact_of : Vocabulary → Trees → Fact
-fact_of v items = record { kind = Predicate; name = declared_place v.predicates (head_of items); args = places_of v.objects (tail_of items) }
+fact_of v items = record
+    { kind = Predicate; name = declared_place v.predicates (head_of items); args = places_of v.objects (tail_of items) }
 
 -- (= (NAME NAME*) NUMBER)
 abbrev pub valued_of : Vocabulary → Trees → Valued
 valued_of v items =
-    record { func = declared_place v.functions (head_of (term_in items)); args = places_of v.objects (tail_of (term_in items)); value = value_in items }
+    record {
+      func = declared_place v.functions (head_of (term_in items));
+      args = places_of v.objects (tail_of (term_in items));
+      value = value_in items;
+    }
 
 abbrev pub facts_of : Vocabulary → Trees → List Fact
 facts_of v nothing = []

@@ -57,7 +57,8 @@ value_of g term = given_value g (place_of term g.terms)
 
 -- the first value of a term stays
 abbrev pub with_value : Given → List ℕ → ℕ → Given
-with_value g term value = if has_name term g.terms then g else record { terms = g.terms ++ term ∷ []; values = g.values ++ value ∷ [] }
+with_value g term value =
+    if has_name term g.terms then g else record { terms = g.terms ++ term ∷ []; values = g.values ++ value ∷ [] }
 
 -- ---- the faults
 
@@ -68,7 +69,9 @@ differs (Some before) value = not (before == value)
 
 -- of a fact, which is the list at this place
 abbrev pub value_names : Given → ℕ → Trees → List Fault
-value_names g place items = if is_worth items then unless (not (differs (value_of g (spelled (term_in items))) (value_in items))) Duplicate place else []
+value_names g place items =
+    if is_worth items
+    then unless (not (differs (value_of g (spelled (term_in items))) (value_in items))) Duplicate place else []
 
 abbrev pub value_put : Given → Trees → Given
 value_put g items =

@@ -5,40 +5,10 @@ ghost use Rattle.problem_reader.specs.Tables as specs;
 
 use domain_reader::add_named;
 use form_reader::{Item, TextKind, head_of, tail_of};
-use name_tables::{NameTable, Signatures, Vocabulary};
+use name_tables::{NameTable, Vocabulary};
 use sexpr_text::{Front, Tree, front_of};
 use std::alloc::{AllocError, Global};
-use task_model::{Declared, Domain, Signature, Sort};
-
-/// Adds the names of types.
-fn add_sorts(names: &mut NameTable, sorts: &[Sort]) -> Result<(), AllocError>
-    ensures { OnOk result (names.new ≡ specs.put_sorts names.old sorts.now) }
-{
-    for sort in sorts {
-        let _new = names.add(sort.name.bytes())?;
-    }
-    Ok(())
-}
-
-/// Declares predicates or functions.
-fn add_signatures(signatures: &mut Signatures, declared: &[Signature]) -> Result<(), AllocError>
-    ensures { OnOk result (signatures.new ≡ specs.put_signatures signatures.old declared.now) }
-{
-    for signature in declared {
-        signatures.declare(signature.name.bytes(), usize::from(signature.arity))?;
-    }
-    Ok(())
-}
-
-/// Adds the names of constants.
-fn add_constants(names: &mut NameTable, constants: &[Declared]) -> Result<(), AllocError>
-    ensures { OnOk result (names.new ≡ specs.put_constants names.old constants.now) }
-{
-    for constant in constants {
-        let _new = names.add(constant.name.bytes())?;
-    }
-    Ok(())
-}
+use task_model::Domain;
 
 /// Whether the item declares objects.
 pub(crate) fn is_objects(item: Item) -> bool
@@ -75,16 +45,7 @@ pub(crate) fn names_of(
 ) -> Result<Vocabulary, AllocError>
     ensures { IfOk result (λ names. names ≡ specs.problem_names domain.now (trees body.now)) }
 {
-    let mut names = Vocabulary {
-        sorts: NameTable::new(alloc),
-        predicates: Signatures::new(alloc),
-        functions: Signatures::new(alloc),
-        objects: NameTable::new(alloc),
-    };
-    add_sorts(&mut names.sorts, domain.sorts.as_slice())?;
-    add_signatures(&mut names.predicates, domain.predicates.as_slice())?;
-    add_signatures(&mut names.functions, domain.functions.as_slice())?;
-    add_constants(&mut names.objects, domain.constants.as_slice())?;
+    let mut names = Vocabulary::of(alloc, domain)?;
     add_objects(&mut names.objects, body)?;
     Ok(names)
 }

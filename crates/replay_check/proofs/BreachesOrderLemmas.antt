@@ -41,7 +41,8 @@ none_to_ask task es number (i ∷ is) e = absurd (cc)
 -- where this request is the first to come, it is that of the first instance
 first_request : (task : Task) (es : List Entry) (number : ℕ) (is : List Instance) (e : Entry) (rest : List Entry)
     → requests_from task es number is ≡ e ∷ rest
-    → (i : Instance) × (slice_get is 0 ≡ Some i) × (e ≡ entry.Ask number (yields_of (notes_of task es) i) (call_of_instance task (names_of task es) i))
+    → (i : Instance) × (slice_get is 0 ≡ Some i)
+    × (e ≡ entry.Ask number (yields_of (notes_of task es) i) (call_of_instance task (names_of task es) i))
 first_request task es number [] e rest asks = absurd (nothing_left e rest asks)
 first_request task es number (i ∷ is) e rest asks =
     (i, refl, let same : e ≡ entry.Ask number (yields_of (notes_of task es) i) (call_of_instance task (names_of task es) i) = cc in same)
@@ -80,15 +81,18 @@ some_is m n e = cc
 
 -- ---- turns
 
-module _ (limits : Limits) (task : Task) (entries : List Entry) (l : Ledger) (a : Agenda) (mode : limits.mode ≡ Incremental) (s : StandsBehind limits task entries l a) where
+module _ (limits : Limits) (task : Task) (entries : List Entry) (l : Ledger) (a : Agenda)
+    (mode : limits.mode ≡ Incremental) (s : StandsBehind limits task entries l a) where
   -- where a turn goes on with the entry, it is a step from here
   step_of : (e : Entry) → AreBegun limits task (entries ++ e ∷ [])
       → (after : Course) × IsCourseStep limits task entries (place_in task entries a) e after
   step_of e (stage, turns) =
-      let those : AreTurns limits task (IncrementalTurn limits task) tt [] (entries ++ e ∷ []) stage = subst (λ m. AreTurnsOf m limits task (entries ++ e ∷ []) stage) mode turns in
+      let those : AreTurns limits task (IncrementalTurn limits task) tt [] (entries ++ e ∷ []) stage =
+      subst (λ m. AreTurnsOf m limits task (entries ++ e ∷ []) stage) mode turns in
       let to = turns_lead limits task tt [] (entries ++ e ∷ []) stage at_first those refl refl in
       let parts = leads_apart limits task at_first [] entries (e ∷ []) to.last to.leads in
-      let same : parts.0 ≡ place_in task entries a = leads_once limits task at_first [] entries parts.0 (place_in task entries a) parts.1 s.leads in
+      let same : parts.0 ≡ place_in task entries a =
+      leads_once limits task at_first [] entries parts.0 (place_in task entries a) parts.1 s.leads in
       (parts.2.0, subst (λ c. IsCourseStep limits task entries c e parts.2.0) same parts.2.1)
 
   -- a request with which a turn goes on is the next
@@ -107,7 +111,8 @@ module _ (limits : Limits) (task : Task) (entries : List Entry) (l : Ledger) (a 
             head = first.1;
             is =
                 first.2
-                ∙ (λ k. entry.Ask (sym s.ledger.counted k + 1) (yields_of (sym s.ledger.notes k) first.0) (call_of_instance task (sym s.ledger.known k).names first.0));
+                ∙ (λ k. entry.Ask (sym s.ledger.counted k + 1)
+                (yields_of (sym s.ledger.notes k) first.0) (call_of_instance task (sym s.ledger.known k).names first.0));
           }
       by (after, inr (inr g)) = absurd (let to = g.to in cc)
 
@@ -161,7 +166,8 @@ module _ (limits : Limits) (task : Task) (entries : List Entry) (l : Ledger) (a 
       → AreDueInTurn task l.facts.known l.queue dues → MayBegin limits task entries → ⊥
   none_begins dues none turn may =
       let due = all_due limits.version task entries l s.ledger dues turn in
-      let same : instances_of dues ≡ may.list = due_once task (known_of task entries) (notes_of task entries) (instances_of dues) may.list due may.due in
+      let same : instances_of dues ≡ may.list =
+      due_once task (known_of task entries) (notes_of task entries) (instances_of dues) may.list due may.due in
       let long : length (instances_of dues) ≡ length dues = length-map dues (λ (d : Due). d.instance) in
       let lists = ap length same in
       let some = may.some in

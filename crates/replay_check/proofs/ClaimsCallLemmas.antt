@@ -75,4 +75,5 @@ module _ (b : Bounds) (limit : ℕ) (task : Task) (entries : List Entry) (l : Le
         (λ p. none_due_at b.version task entries l h [] refl turn p.instance p.due, λ none. none)
     past_some (d ∷ more) turn =
         let not_empty : (length (d ∷ more) == 0) ≡ false = ne_eqb (length (d ∷ more)) 0 (λ e. omega (arith, e)) in
-        subst (λ is. IsSaid (claim_of (not is))) (sym not_empty) (past d.instance (some_due b.version task entries l h (d ∷ more) d more turn refl))
+        subst (λ is. IsSaid (claim_of (not is)))
+        (sym not_empty) (past d.instance (some_due b.version task entries l h (d ∷ more) d more turn refl))

@@ -23,7 +23,9 @@ module _ (version : ℕ) (task : Task) (entries : List Entry) (l : Ledger) (h : 
   -- what is due after the entries
   pub all_due : (dues : List Due) → AreDueInTurn task l.facts.known l.queue dues
       → AreDue task (known_of task entries) (notes_of task entries) (instances_of dues)
-  all_due dues turn = subst (λ k. AreDue task k (notes_of task entries) (instances_of dues)) h.known (subst (λ notes. AreDue task l.facts.known notes (instances_of dues)) h.notes turn.due)
+  all_due dues turn =
+      subst (λ k. AreDue task k (notes_of task entries) (instances_of dues)) h.known
+      (subst (λ notes. AreDue task l.facts.known notes (instances_of dues)) h.notes turn.due)
 
   -- not too much is due
   pub few_due : (dues : List Due) → AreDueInTurn task l.facts.known l.queue dues

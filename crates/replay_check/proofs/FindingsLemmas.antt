@@ -59,9 +59,18 @@ module _ (task : Task) (entries : List Entry) where
   pub front_can : (calls : List Call) (k : ℕ) → CanRun task entries calls
       → CanRun task entries (take k calls)
   front_can calls k can =
-      let whole = subst (λ steps. Executes task (known_of task entries) (initial_state task) steps can.state can.cost) (sym (take-append-drop k can.steps)) can.runs in
-      let parts = parts_of_whole task (known_of task entries) (initial_state task) can.state (take k can.steps) (drop k can.steps) can.cost whole in
-      record { steps = take k can.steps; shown = ap (take k) can.shown ∙ shown_front k can.steps; state = parts.0; cost = parts.1; runs = parts.3 }
+      let whole =
+      subst (λ steps. Executes task (known_of task entries) (initial_state task) steps can.state can.cost)
+      (sym (take-append-drop k can.steps)) can.runs in
+      let parts =
+      parts_of_whole task (known_of task entries) (initial_state task) can.state (take k can.steps) (drop k can.steps) can.cost whole in
+      record {
+        steps = take k can.steps;
+        shown = ap (take k) can.shown ∙ shown_front k can.steps;
+        state = parts.0;
+        cost = parts.1;
+        runs = parts.3;
+      }
 
   -- a plan can be taken
   pub plan_can : (calls : List Call) (cost : ℕ) → IsPlan task entries calls cost
@@ -88,7 +97,8 @@ module _ (task : Task) (entries : List Entry) where
 
 -- ---- plans
 
-module _ (limits : Limits) (limit : ℕ) (task : Task) (entries : List Entry) (calls : List Call) (cost : ℕ) (from : List Origin) (legal : IsLegal limits.version task entries) (placed : IsPlaced limits limit task entries (outcome.Plan calls cost from)) where
+module _ (limits : Limits) (limit : ℕ) (task : Task) (entries : List Entry) (calls : List Call) (cost : ℕ) (from : List Origin)
+    (legal : IsLegal limits.version task entries) (placed : IsPlaced limits limit task entries (outcome.Plan calls cost from)) where
   -- of a plan that stands in its place only the plan can be wrong
   said : (offset : ℕ) (k : BreachKind)
       → BreaksOutcome limits task entries (outcome.Plan calls cost from) offset k
@@ -116,7 +126,9 @@ module _ (limits : Limits) (limit : ℕ) (task : Task) (entries : List Entry) (c
       let le = not_later other kind.Plan (place + 1) kind.Plan before in let within = stops.within in omega (arith, within, is, le)
   stuck_first place other kind.Cost stops (is, wrong) before =
       let le = not_later other kind.Cost (place + 1) kind.Plan before in let within = stops.within in omega (arith, within, is, le)
-  stuck_first place other kind.From stops b before = let le = not_later other kind.From (place + 1) kind.Plan before in let within = stops.within in let is = b.is in omega (arith, within, is, le)
+  stuck_first place other kind.From stops b before =
+      let le = not_later other kind.From (place + 1) kind.Plan before in
+      let within = stops.within in let is = b.is in omega (arith, within, is, le)
   stuck_first place other kind.Text stops wrong before = wrong
   stuck_first place other kind.Head stops wrong before = wrong
   stuck_first place other kind.Ask stops wrong before = wrong
@@ -168,7 +180,9 @@ module _ (limits : Limits) (limit : ℕ) (task : Task) (entries : List Entry) (c
   from_first place other kind.Plan plan differs (inr (is, none)) before = none cost plan
   from_first place other kind.Cost plan differs (is, wrong) before = wrong plan
   from_first place other kind.From plan differs b before =
-      b.other (subst (λ due. slice_get from b.place ≡ slice_get due b.place) (origins_once limits.version task entries calls differs.due b.due legal differs.origins b.origins) (differs.before b.place (earlier before)))
+      b.other (subst (λ due. slice_get from b.place ≡ slice_get due b.place)
+      (origins_once limits.version task entries calls differs.due b.due legal differs.origins b.origins)
+      (differs.before b.place (earlier before)))
     where
       earlier : Precedes other kind.From (length calls + 2 + place) kind.From → b.place < place
       earlier (inl lt) = omega (arith, lt, b.is)
@@ -200,14 +214,23 @@ module _ (limits : Limits) (limit : ℕ) (task : Task) (entries : List Entry) (c
       → IsFound limits limit task entries (outcome.Plan calls cost from) (finding.Breaks (n + 1) kind.Plan)
   no_goal_found n is missed =
       subst (λ m. IsFound limits limit task entries (outcome.Plan calls cost from) (finding.Breaks (m + 1) kind.Plan)) is
-      (record { breaks = inr (refl, missed.1); first = λ other than wrong. goal_first other than missed.0 (said other than wrong); decided = λ none. absurd none })
+      (record {
+        breaks = inr (refl, missed.1);
+        first = λ other than wrong. goal_first other than missed.0 (said other than wrong);
+        decided = λ none. absurd none;
+      })
 
   pub wrong_cost_found : (n : ℕ) → length calls ≡ n
       → IsPlanned limits.version task entries calls cost from planned.WrongCost
       → IsFound limits limit task entries (outcome.Plan calls cost from) (finding.Breaks (n + 1) kind.Cost)
   wrong_cost_found n is wrong_cost =
       subst (λ m. IsFound limits limit task entries (outcome.Plan calls cost from) (finding.Breaks (m + 1) kind.Cost)) is
-      (record { breaks = (refl, wrong_cost.1); first = λ other than wrong. cost_first other wrong_cost.0.0 than wrong_cost.0.1 (said other than wrong); decided = λ none. absurd none })
+      (record {
+        breaks = (refl, wrong_cost.1);
+        first = λ other than wrong.
+            cost_first other wrong_cost.0.0 than wrong_cost.0.1 (said other than wrong);
+        decided = λ none. absurd none;
+      })
 
   pub wrong_origin_found : (n place : ℕ) → length calls ≡ n
       → IsPlanned limits.version task entries calls cost from (planned.WrongOrigin place)

@@ -41,7 +41,8 @@ module _ (b : Bounds) (limit : ℕ) (bounds : AreBounds b) (entries : List Entry
 
   stops : Stops
   stops =
-      let t = turned (limits_by b) b.task.now (length entries) bounds.workers [] entries at_first here (omega arith) refl refl (λ none. (refl, refl)) stands.leads in
+      let t = turned (limits_by b) b.task.now (length entries) bounds.workers [] entries at_first here
+      (omega arith) refl refl (λ none. (refl, refl)) stands.leads in
       record { stage = t.stage; at = t.at; turns = t.turns }
 
   -- between levels each outcome may stand
@@ -94,7 +95,8 @@ module _ (b : Bounds) (limit : ℕ) (bounds : AreBounds b) (entries : List Entry
       let left = stands.left in
       let count = stands.count in
       let calls = past.calls in
-      let waits : is_open entries s.course.next ≡ true = stands.waiting s.course.next (omega arith) (omega (arith, left, count, calls, some)) in
+      let waits : is_open entries s.course.next ≡ true =
+      stands.waiting s.course.next (omega arith) (omega (arith, left, count, calls, some)) in
       let both : true ≡ false = sym waits ∙ past.none_open s.course.next in
       absurd (cc)
 

@@ -12,7 +12,8 @@ use Rattle.replay_check.specs.Breaches.{BreaksHead}
 use Rattle.replay_check.specs.Heads.{AreFitPoolLines, are_fit_limits, is_fit_pool}
 use Rattle.replay_check.specs.Lines.{line_behind_pools}
 
-module _ (task : Task) (r : Report) (place : ℕ) (mode : r.mode ≡ Incremental) (limits : are_fit_limits r ≡ true) (fit : AreFitPoolLines task (take place r.pools)) (within : place < length r.pools) where
+module _ (task : Task) (r : Report) (place : ℕ) (mode : r.mode ≡ Incremental)
+    (limits : are_fit_limits r ≡ true) (fit : AreFitPoolLines task (take place r.pools)) (within : place < length r.pools) where
   not_earlier : (b : ℕ) (pool : PoolLine) → slice_get r.pools b ≡ Some pool
       → is_fit_pool task (take b r.pools) pool ≡ false → b < place → ⊥
   not_earlier b pool at wrong lt =
@@ -33,5 +34,8 @@ module _ (task : Task) (r : Report) (place : ℕ) (mode : r.mode ≡ Incremental
       → BreaksHead task r (place + 3) × (place + 3 ≤ line_behind_pools r) × ((other : ℕ) → BreaksHead task r other → place + 3 ≤ other)
   first_wrong said =
       let here = get_there r.pools place within in
-      let wrong = subst (λ o. IfSome o (λ pool. is_fit_pool task (take place r.pools) pool ≡ false)) here.1 said in
-      (inr (inr (inl (record { place = place; pool = here.0; there = here.1; wrong = wrong; is = refl }))), omega (arith, within), none_before)
+      let wrong = subst (λ o. IfSome o (λ pool. is_fit_pool task (take place r.pools) pool ≡ false)) here.1 said in (
+        inr (inr (inl (record { place = place; pool = here.0; there = here.1; wrong = wrong; is = refl }))),
+        omega (arith, within),
+        none_before,
+      )

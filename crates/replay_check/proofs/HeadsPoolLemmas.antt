@@ -32,13 +32,16 @@ module _ (task : Task) (before : List PoolLine) (pool : PoolLine) (b : Before) (
       → is_fit_pool task before pool ≡ true
   pool_fits some few together new =
       let all : workers_in before + pool.workers ≤ 17 = let is = h.workers in omega (arith, is, together) in
-      and_four (nat_le 1 pool.workers) (nat_le pool.workers 16) (nat_le (workers_in before + pool.workers) 17) (are_new task (served_by task before) pool.streams)
-      (le_test 1 pool.workers some) (le_test pool.workers 16 few) (le_test (workers_in before + pool.workers) 17 all) (ap (λ (s : List ℕ). are_new task s pool.streams) (sym h.served) ∙ new)
+      and_four (nat_le 1 pool.workers) (nat_le pool.workers 16)
+      (nat_le (workers_in before + pool.workers) 17) (are_new task (served_by task before) pool.streams)
+      (le_test 1 pool.workers some) (le_test pool.workers 16 few)
+      (le_test (workers_in before + pool.workers) 17 all) (ap (λ (s : List ℕ). are_new task s pool.streams) (sym h.served) ∙ new)
 
   fit_more : is_fit_pool task before pool ≡ true → AreFitPoolLines task (before ++ pool ∷ [])
   fit_more fits place other at = by (last_or_before before pool place other at)
     where
-      by : ((slice_get before place ≡ Some other) × (take place (before ++ pool ∷ []) ≡ take place before)) ⊎ ((pool ≡ other) × (take place (before ++ pool ∷ []) ≡ before))
+      by : ((slice_get before place ≡ Some other) × (take place (before ++ pool ∷ []) ≡ take place before))
+          ⊎ ((pool ≡ other) × (take place (before ++ pool ∷ []) ≡ before))
           → is_fit_pool task (take place (before ++ pool ∷ [])) other ≡ true
       by (inl (there, front)) =
           ap (λ (ps : List PoolLine). is_fit_pool task ps other) front ∙ h.fit place other there
@@ -58,7 +61,8 @@ module _ (task : Task) (before : List PoolLine) (pool : PoolLine) (b : Before) (
         served =
             served ∙ (λ i. h.served i ++ sym (append-nil (streams_in task pool)) i)
             ∙ sym (flat_map-append (streams_in task) before (pool ∷ []));
-        workers = let sums = sum_by-append (λ (p : PoolLine). p.workers) before (pool ∷ []) in let was = h.workers in omega (arith, sums, was, workers);
+        workers = let sums = sum_by-append (λ (p : PoolLine). p.workers) before (pool ∷ []) in
+            let was = h.workers in omega (arith, sums, was, workers);
         few = omega (arith, few, workers);
         fit = fit_more fits;
       }
@@ -67,4 +71,10 @@ module _ (task : Task) (before : List PoolLine) (pool : PoolLine) (b : Before) (
 pub none_passed : (task : Task) (b : Before) → b.shares.items ≡ [] → b.served.items ≡ []
     → b.workers ≡ 0 → IsAfter task [] b
 none_passed task b shares served workers =
-    record { shares = ap shares_of shares; served = served; workers = workers; few = omega (arith, workers); fit = λ place pool at. absurd (cc) }
+    record {
+      shares = ap shares_of shares;
+      served = served;
+      workers = workers;
+      few = omega (arith, workers);
+      fit = λ place pool at. absurd (cc);
+    }

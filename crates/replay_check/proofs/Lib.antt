@@ -17,4 +17,3 @@ pub mod HeadsServeLemmas
 pub mod ClaimsStateLemmas
 pub mod WalksLemmas
 pub mod RunsLemmas
-pub mod TurnFrontLemmas

@@ -77,7 +77,8 @@ lines_rise (x ∷ xs) (suc j) (suc k) within lt =
 pub lines_past : (xs : List Entry) (j : ℕ) → j < length xs
     → length (flat_map entry_lines (take j xs)) + 1 ≤ length (flat_map entry_lines xs)
 lines_past xs j within =
-    let all : length (flat_map entry_lines (take (length xs) xs)) ≡ length (flat_map entry_lines xs) = ap (λ (es : List Entry). length (flat_map entry_lines es)) (take_all (length xs) xs (omega arith)) in
+    let all : length (flat_map entry_lines (take (length xs) xs)) ≡ length (flat_map entry_lines xs) =
+    ap (λ (es : List Entry). length (flat_map entry_lines es)) (take_all (length xs) xs (omega arith)) in
     let rise = lines_rise xs j (length xs) within within in
     omega (arith, all, rise)
 
@@ -120,11 +121,18 @@ module _ (limits : Limits) (limit : ℕ) (task : Task) (entries : List Entry) wh
       earlier : length from < b.place → ⊥
       earlier lt = at (there_or_past b.due (length from))
         where
-          at : ((o : Origin) × (slice_get b.due (length from) ≡ Some o)) ⊎ ((slice_get b.due (length from) ≡ None) × (length b.due ≤ length from))
+          at : ((o : Origin) × (slice_get b.due (length from) ≡ Some o))
+              ⊎ ((slice_get b.due (length from) ≡ None) × (length b.due ≤ length from))
               → ⊥
           at (inl (o, there)) =
               let here : BreaksFrom limits.version entries calls from (length calls + 2 + length from) =
-              record { due = b.due; origins = b.origins; place = length from; other = λ same. none-some o (sym (slice_get_past from (length from) (omega arith)) ∙ same ∙ there); is = refl } in
+              record {
+                due = b.due;
+                origins = b.origins;
+                place = length from;
+                other = λ same. none-some o (sym (slice_get_past from (length from) (omega arith)) ∙ same ∙ there);
+                is = refl;
+              } in
               let is = b.is in
               first (length calls + 2 + length from) kind.From here (inl (omega (arith, is, lt)))
           at (inr (none, past)) =

@@ -24,11 +24,13 @@ module _ (task : Task) (names : List (List ℕ)) (notes : List Note) (number : �
   pub same_yes : is_same_request task names notes number i shown turn call ≡ true
       → entry.Ask shown turn call ≡ entry.Ask number (yields_of notes i) (call_of_instance task names i)
   same_yes e =
-      let p = four_parts (shown == number) (turn == yields_of notes i) (same_numbers call.name (stream_name task i.stream)) (pointwise same_numbers call.args (map (name_at names) i.inputs)) e in
+      let p = four_parts (shown == number) (turn == yields_of notes i)
+      (same_numbers call.name (stream_name task i.stream)) (pointwise same_numbers call.args (map (name_at names) i.inputs)) e in
       let first : shown ≡ number = eqb-true shown number p.0 in
       let second : turn ≡ yields_of notes i = eqb-true turn (yields_of notes i) p.1 in
       let third : call.name ≡ stream_name task i.stream = (numbers_decided call.name (stream_name task i.stream)).0 p.2 in
-      let fourth : call.args ≡ map (name_at names) i.inputs = (pointwise_decides numbers_decided call.args (map (name_at names) i.inputs)).0 p.3 in
+      let fourth : call.args ≡ map (name_at names) i.inputs =
+      (pointwise_decides numbers_decided call.args (map (name_at names) i.inputs)).0 p.3 in
       λ k. entry.Ask (first k) (second k) (record { name = third k; args = fourth k })
 
   pub same_no : entry.Ask shown turn call ≡ entry.Ask number (yields_of notes i) (call_of_instance task names i)
@@ -37,7 +39,8 @@ module _ (task : Task) (names : List (List ℕ)) (notes : List Note) (number : �
       let first : shown ≡ number = cc in
       let second : turn ≡ yields_of notes i = cc in
       let calls : call ≡ call_of_instance task names i = cc in
-      and_four (shown == number) (turn == yields_of notes i) (same_numbers call.name (stream_name task i.stream)) (pointwise same_numbers call.args (map (name_at names) i.inputs))
+      and_four (shown == number) (turn == yields_of notes i)
+      (same_numbers call.name (stream_name task i.stream)) (pointwise same_numbers call.args (map (name_at names) i.inputs))
       (eq-eqb shown number first)
       (eq-eqb turn (yields_of notes i) second)
       ((numbers_decided call.name (stream_name task i.stream)).1 (λ k. (calls k).name))

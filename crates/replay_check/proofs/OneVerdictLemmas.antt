@@ -26,7 +26,8 @@ use Rattle.replay_check.specs.declared.verdict.Verdict.TheVariants.{Valid, Inval
 same_report : (first second : Report) → IsFormed first → IsFormed second
     → text_of_report first ≡ text_of_report second → first ≡ second
 same_report first second formed also same =
-    lines_determine first second formed also (sym (lines_read (report_lines first) (report_clear first formed)) ∙ ap read_lines (sym (report_text first) ∙ same ∙ report_text second) ∙ lines_read (report_lines second) (report_clear second also))
+    lines_determine first second formed also (sym (lines_read (report_lines first) (report_clear first formed))
+    ∙ ap read_lines (sym (report_text first) ∙ same ∙ report_text second) ∙ lines_read (report_lines second) (report_clear second also))
 
 -- ---- faults of the text
 
@@ -38,7 +39,8 @@ begins_front lines n m le begins =
     let back = drop n (take m lines) in
     let parts : take m lines ≡ front ++ back = sym (take-append-drop n (take m lines)) in
     let text : lines_with_feeds (take m lines) ++ begins.0 ≡ lines_with_feeds front ++ (lines_with_feeds back ++ begins.0) =
-    ap (λ ls. lines_with_feeds ls ++ begins.0) parts ∙ ap (λ t. t ++ begins.0) (flat_map-append (λ line. line ++ 10 ∷ []) front back) ∙ append_assoc (lines_with_feeds front) (lines_with_feeds back) begins.0 in
+    ap (λ ls. lines_with_feeds ls ++ begins.0) parts ∙ ap (λ t. t ++ begins.0) (flat_map-append (λ line. line ++ 10 ∷ []) front back)
+    ∙ append_assoc (lines_with_feeds front) (lines_with_feeds back) begins.0 in
     let there : IsReport (lines_with_feeds front ++ (lines_with_feeds back ++ begins.0)) = subst IsReport text begins.1 in
     subst (λ ls. BeginsReport ls) (twice lines n m le) (lines_with_feeds back ++ begins.0, there)
   where
@@ -66,8 +68,10 @@ fault_once bytes n m first second = by (cases_lt n m) (cases_lt m n)
 -- the kind of this number
 kind_at : ℕ → BreachKind
 kind_at n =
-    if n == 1 then kind.Text else if n == 2 then kind.Head else if n == 3 then kind.Ask else if n == 4 then kind.Answer else if n == 5 then kind.Order
-    else if n == 6 then kind.Dream else if n == 7 then kind.Plan else if n == 8 then kind.Cost else if n == 9 then kind.From else kind.Outcome
+    if n == 1 then kind.Text else if n == 2 then kind.Head else if n == 3 then kind.Ask else if n == 4 then kind.Answer else if n == 5
+    then kind.Order
+    else if n == 6 then kind.Dream else if n == 7 then kind.Plan else if n == 8 then kind.Cost else if n == 9 then kind.From else
+    kind.Outcome
 
 kind_is : (k : BreachKind) → kind_at (breach_number k) ≡ k
 unfolding kind_at
@@ -141,4 +145,5 @@ pub right_valid : (limit : ℕ) (task : Task) (r : Report) (v : Verdict) → IsF
     → IsRightReport task r → ¬ (IsUndecided limit task r)
     → IsVerdict limit task (text_of_report r) v → v ≡ Valid
 right_valid limit task r v formed right decided is =
-    verdict_once limit task (text_of_report r) v Valid is (inr (record { report = r; formed = formed; spelled = refl; said = (right, decided) }))
+    verdict_once limit task (text_of_report r) v Valid is
+    (inr (record { report = r; formed = formed; spelled = refl; said = (right, decided) }))

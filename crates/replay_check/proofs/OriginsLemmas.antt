@@ -33,7 +33,8 @@ answered_before : (version : ℕ) (task : Task) (entries : List Entry) (n j k : 
 answered_before version task entries n j k e f legal at_j at_k first second lt =
     let open_there = waiting_of version task (take k entries) n f (legal k f at_k) second in
     let unanswered = second_so (list_any (is_ask_of n) (take k entries)) (not (list_any (is_answer_to n) (take k entries))) open_there in
-    not_both (list_any (is_answer_to n) (take k entries)) (any_passes_from_place (is_answer_to n) (take k entries) j e (get_take entries j k e at_j lt) first) unanswered
+    not_both (list_any (is_answer_to n) (take k entries))
+    (any_passes_from_place (is_answer_to n) (take k entries) j e (get_take entries j k e at_j lt) first) unanswered
 
 pub answered_once : (version : ℕ) (task : Task) (entries : List Entry) (n j k : ℕ) (e f : Entry)
     → IsLegal version task entries
@@ -57,7 +58,9 @@ chosen false o t e = absurd (cc)
 -- a yield with the value answers the request
 found_answers : (value : List ℕ) (n t : ℕ) (e : Entry) → tuple_with value n e ≡ Some t
     → is_answer_to n e ≡ true
-found_answers value n t (entry.Got number tuples values) is = chosen (n == number) (option_map (λ place. place + 1) (position (list_any (same_numbers value)) (tuples_in (length values / tuples) tuples values))) t is
+found_answers value n t (entry.Got number tuples values) is =
+    chosen (n == number)
+    (option_map (λ place. place + 1) (position (list_any (same_numbers value)) (tuples_in (length values / tuples) tuples values))) t is
 found_answers value n t e is = absurd (cc)
 
 -- ---- one origin
@@ -69,13 +72,15 @@ module _ (version : ℕ) (task : Task) (entries : List Entry) (legal : IsLegal v
   tuple_once value n s t e f in_e in_f first second =
       let j = place_of entries e in_e in
       let k = place_of entries f in_f in
-      let same = answered_once version task entries n j.0 k.0 e f legal j.1 k.1 (found_answers value n s e first) (found_answers value n t f second) in
+      let same = answered_once version task entries n j.0 k.0 e f legal j.1 k.1
+      (found_answers value n s e first) (found_answers value n t f second) in
       same_some (tuple_with value n f) s t (ap (tuple_with value n) (sym same) ∙ first) second
 
   origin_once : (o p : Origin) → IsOrigin version entries o → IsOrigin version entries p
       → o.object ≡ p.object → o ≡ p
   origin_once o p first second same =
-      let values : first.value ≡ second.value = let both : 35 ∷ first.value ≡ 35 ∷ second.value = sym first.named ∙ same ∙ second.named in cc in
+      let values : first.value ≡ second.value =
+      let both : 35 ∷ first.value ≡ 35 ∷ second.value = sym first.named ∙ same ∙ second.named in cc in
       let low = first.first p.number (subst (λ v. has_value entries p.number v ≡ true) (sym values) second.there) in
       let high = second.first o.number (subst (λ v. has_value entries o.number v ≡ true) values first.there) in
       let numbers : o.number ≡ p.number = omega (arith, low, high) in
@@ -91,7 +96,8 @@ module _ (version : ℕ) (task : Task) (entries : List Entry) (legal : IsLegal v
           let x = first.tuple other in
           let y = second.tuple other in
           tuple_once first.value o.number o.tuple p.tuple x.0 y.0 x.1 y.1 x.2
-          (subst (λ n. tuple_with first.value n y.0 ≡ Some p.tuple) (sym numbers) (subst (λ v. tuple_with v p.number y.0 ≡ Some p.tuple) (sym values) y.2))
+          (subst (λ n. tuple_with first.value n y.0 ≡ Some p.tuple)
+          (sym numbers) (subst (λ v. tuple_with v p.number y.0 ≡ Some p.tuple) (sym values) y.2))
 
 -- ---- one list
 

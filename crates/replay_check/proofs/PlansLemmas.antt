@@ -24,12 +24,14 @@ use Rattle.replay_check.specs.declared.steps.Run.{Run}
 
 -- ---- goals and costs
 
-module _ (version : ℕ) (task : Task) (fit : IsFit task) (entries : List Entry) (coherent : IsCoherent (known_of task entries)) (calls : List Call) (from : List Origin) (run : Run) (r : IsRunOf task entries calls run) where
+module _ (version : ℕ) (task : Task) (fit : IsFit task) (entries : List Entry) (coherent : IsCoherent (known_of task entries))
+    (calls : List Call) (from : List Origin) (run : Run) (r : IsRunOf task entries calls run) where
   -- a plan that the calls show ends where the run does, and costs as much
   same_end : (cost : ℕ) (plan : IsPlan task entries calls cost)
       → (plan.valid.0 ≡ run.state) × (cost ≡ r.total)
   same_end cost plan =
-      let same = same_steps task fit entries coherent (initial_state task) plan.valid.0 run.state plan.steps run.steps.items cost r.total plan.valid.1 r.runs (sym plan.shown ∙ r.shown) in
+      let same = same_steps task fit entries coherent (initial_state task) plan.valid.0 run.state plan.steps run.steps.items cost r.total
+      plan.valid.1 r.runs (sym plan.shown ∙ r.shown) in
       let ran = subst (λ steps. Executes task (known_of task entries) (initial_state task) steps plan.valid.0 cost) same plan.valid.1 in
       execution_determined task (known_of task entries) (initial_state task) run.steps.items plan.valid.0 run.state cost r.total ran r.runs
 
@@ -60,12 +62,20 @@ module _ (version : ℕ) (task : Task) (fit : IsFit task) (entries : List Entry)
       → IsPlanOf task entries calls cost run.steps.items
   plan_run cost reached is =
       let total : r.total ≡ cost = sym (subst (IsSum r.total) is r.sum) in
-      record { shown = r.shown; valid = (run.state, subst (Executes task (known_of task entries) (initial_state task) run.steps.items run.state) total r.runs, reached) }
+      record {
+        shown = r.shown;
+        valid = (
+          run.state,
+          subst (Executes task (known_of task entries) (initial_state task) run.steps.items run.state) total r.runs,
+          reached,
+        );
+      }
 
 -- ---- origins
 
 -- the origins that are shown with a plan are those that are due
-pub shown_origins : (version : ℕ) (task : Task) (entries : List Entry) (steps : List GroundAction) (cost : ℕ) (o : Outcome) (calls told : List Call) (other : ℕ) (from : List Origin)
+pub shown_origins : (version : ℕ) (task : Task) (entries : List Entry) (steps : List GroundAction) (cost : ℕ)
+    (o : Outcome) (calls told : List Call) (other : ℕ) (from : List Origin)
     → ShowsPlan version task entries steps cost o → o ≡ outcome.Plan told other from
     → calls ≡ map (call_of_step task (names_of task entries)) steps → AreOrigins version entries calls from
 shown_origins version task entries steps cost o calls told other from s is shown =

@@ -2,6 +2,8 @@
 use Rattle.std.proofs.Common.{◌≡◌, ℕ, zero, suc, ◌+◌, ◌≤◌, inl, inr, true, false, List, [], ◌∷◌, ◌++◌, map, take, drop, refl, sym, ap, subst, ◌∙◌, Some, slice_get, arith}
 use Rattle.std.proofs.lemmas.List.{take-append-drop}
 use Rattle.std.proofs.lemmas.Bool.{true≢false}
+use Rattle.mode_turns.proofs.CountsLemmas.{levels_keep}
+use Rattle.mode_turns.proofs.FrontsLemmas.{front_turns}
 use Rattle.task_model.proofs.StepsLemmas.{parts_of_whole}
 use Rattle.task_model.specs.Initial.{initial_state}
 use Rattle.task_model.specs.Plans.{Executes}
@@ -23,7 +25,6 @@ use Rattle.transcript_model.specs.declared.outcome.Origin.{Origin}
 use Rattle.transcript_model.specs.declared.outcome.Outcome.{Outcome}
 use Rattle.transcript_model.specs.declared.outcome.Outcome.TheVariants as outcome
 use Rattle.transcript_model.specs.declared.report.Report.{Report}
-use Rattle.replay_check.proofs.TurnFrontLemmas.{front_turns, turns_count}
 use Rattle.replay_check.proofs.OriginsLemmas.{origins_once}
 use Rattle.replay_check.specs.Breaches.{AreBegun, BreaksClaim, BreaksEntry, BreaksHead, BreaksOutcome, BreaksPlan, BreaksSaid, IsBreach, IsMisplaced, MayAsk}
 use Rattle.replay_check.specs.Heads.{IsFitHead, limits_in}
@@ -44,12 +45,13 @@ head_right task r line fit (inr (inr (inr (at, wrong)))) = true≢false (sym fit
 
 -- ---- entries
 
-module _ (limits : Limits) (task : Task) (entries : List Entry) (stage : Stage) (mode : limits.mode ≡ Incremental) (legal : IsLegal limits.version task entries) (turns : AreTurnsOf limits.mode limits task entries stage) where
+module _ (limits : Limits) (task : Task) (entries : List Entry) (stage : Stage) (mode : limits.mode ≡ Incremental)
+    (legal : IsLegal limits.version task entries) (turns : AreTurnsOf limits.mode limits task entries stage) where
   incremental : AreTurns limits task (IncrementalTurn limits task) tt [] entries stage
   incremental = subst (λ m. AreTurnsOf m limits task entries stage) mode turns
 
   all_few : asks_of entries ≤ limits.calls
-  all_few = turns_count limits task tt [] entries stage incremental (omega arith)
+  all_few = levels_keep limits task entries stage incremental
 
   front_few : (place : ℕ) (e : Entry) → slice_get entries place ≡ Some e
       → asks_of (take place entries ++ e ∷ []) ≤ limits.calls
@@ -90,8 +92,11 @@ module _ (limits : Limits) (task : Task) (entries : List Entry) (stage : Stage) 
   begun : (place : ℕ) (e : Entry) → slice_get entries place ≡ Some e
       → AreBegun limits task (take place entries ++ e ∷ [])
   begun place e at =
-      let front = front_turns limits task tt [] entries stage incremental (suc place) in
-      (front.0, subst (λ m. AreTurnsOf m limits task (take place entries ++ e ∷ []) front.0) (sym mode) (subst (λ es. AreTurns limits task (IncrementalTurn limits task) tt [] es front.0) (front_is place e at) front.1))
+      let front = front_turns limits task (IncrementalTurn limits task) tt [] entries stage incremental (suc place) in (
+        front.0,
+        subst (λ m. AreTurnsOf m limits task (take place entries ++ e ∷ []) front.0)
+            (sym mode) (subst (λ es. AreTurns limits task (IncrementalTurn limits task) tt [] es front.0) (front_is place e at) front.1),
+      )
 
   pub entry_right : (place : ℕ) (e : Entry) (k : BreachKind) → slice_get entries place ≡ Some e
       → BreaksEntry limits task (take place entries) e k → ⊥
@@ -108,7 +113,8 @@ module _ (limits : Limits) (task : Task) (entries : List Entry) (stage : Stage) 
 
 -- ---- plans
 
-module _ (limits : Limits) (task : Task) (entries : List Entry) (calls : List Call) (cost : ℕ) (from : List Origin) (legal : IsLegal limits.version task entries) (plan : IsTruePlan limits.version task entries calls cost from) where
+module _ (limits : Limits) (task : Task) (entries : List Entry) (calls : List Call) (cost : ℕ)
+    (from : List Origin) (legal : IsLegal limits.version task entries) (plan : IsTruePlan limits.version task entries calls cost from) where
   take_map : (k : ℕ) (steps : List GroundAction)
       → take k (map (call_of_step task (names_of task entries)) steps) ≡ map (call_of_step task (names_of task entries)) (take k steps)
   take_map zero steps = refl
@@ -118,9 +124,19 @@ module _ (limits : Limits) (task : Task) (entries : List Entry) (calls : List Ca
 
   front_runs : (k : ℕ) → CanRun task entries (take k calls)
   front_runs k =
-      let whole = subst (λ steps. Executes task (known_of task entries) (initial_state task) steps plan.valid.0 cost) (sym (take-append-drop k plan.steps)) plan.valid.1 in
-      let parts = parts_of_whole task (known_of task entries) (initial_state task) plan.valid.0 (take k plan.steps) (drop k plan.steps) cost whole in
-      record { steps = take k plan.steps; shown = ap (take k) plan.shown ∙ take_map k plan.steps; state = parts.0; cost = parts.1; runs = parts.3 }
+      let whole =
+      subst (λ steps. Executes task (known_of task entries) (initial_state task) steps plan.valid.0 cost)
+      (sym (take-append-drop k plan.steps)) plan.valid.1 in
+      let parts =
+      parts_of_whole task (known_of task entries) (initial_state task) plan.valid.0 (take k plan.steps)
+      (drop k plan.steps) cost whole in
+      record {
+        steps = take k plan.steps;
+        shown = ap (take k) plan.shown ∙ take_map k plan.steps;
+        state = parts.0;
+        cost = parts.1;
+        runs = parts.3;
+      }
 
   is_plan : IsPlan task entries calls cost
   is_plan = record { steps = plan.steps; shown = plan.shown; valid = plan.valid }
@@ -130,7 +146,9 @@ module _ (limits : Limits) (task : Task) (entries : List Entry) (calls : List Ca
   plan_right offset kind.Plan (inl breaks) = breaks.stuck (front_runs (breaks.place + 1))
   plan_right offset kind.Plan (inr (at, none)) = none cost is_plan
   plan_right offset kind.Cost wrong = wrong.1 is_plan
-  plan_right offset kind.From breaks = breaks.other (ap (λ os. slice_get os breaks.place) (origins_once limits.version task entries calls from breaks.due legal plan.origins breaks.origins))
+  plan_right offset kind.From breaks =
+      breaks.other (ap (λ os. slice_get os breaks.place)
+      (origins_once limits.version task entries calls from breaks.due legal plan.origins breaks.origins))
   plan_right offset kind.Text wrong = wrong
   plan_right offset kind.Head wrong = wrong
   plan_right offset kind.Ask wrong = wrong
@@ -154,7 +172,8 @@ claim_right limits task entries o offset kind.Plan holds wrong = wrong
 claim_right limits task entries o offset kind.Cost holds wrong = wrong
 claim_right limits task entries o offset kind.From holds wrong = wrong
 
-module _ (limits : Limits) (task : Task) (entries : List Entry) (stage : Stage) (legal : IsLegal limits.version task entries) (turns : AreTurnsOf limits.mode limits task entries stage) where
+module _ (limits : Limits) (task : Task) (entries : List Entry) (stage : Stage)
+    (legal : IsLegal limits.version task entries) (turns : AreTurnsOf limits.mode limits task entries stage) where
   placed : (o : Outcome) → MayStand stage o → IsMisplaced limits task entries o → ⊥
   placed o (inl rests) wrong =
       wrong.1 (subst (λ s. AreTurnsOf limits.mode limits task entries s) rests turns)
@@ -191,5 +210,9 @@ module _ (limits : Limits) (task : Task) (entries : List Entry) (stage : Stage) 
 pub no_breach : (task : Task) (r : Report) (line : ℕ) (k : BreachKind) → IsRightReport task r
     → IsBreach task r line k → ⊥
 no_breach task r line k right (inl (is, wrong)) = head_right task r line right.head wrong
-no_breach task r line k right (inr (inl breaks)) = entry_right (limits_in task r) task r.entries right.stage right.head.mode right.legal.legal right.legal.turns breaks.place breaks.e k breaks.there breaks.wrong
-no_breach task r line k right (inr (inr breaks)) = outcome_right (limits_in task r) task r.entries right.stage right.legal.legal right.legal.turns r.outcome breaks.offset k right.stands right.true breaks.wrong
+no_breach task r line k right (inr (inl breaks)) =
+    entry_right (limits_in task r) task r.entries right.stage right.head.mode right.legal.legal right.legal.turns breaks.place breaks.e k
+    breaks.there breaks.wrong
+no_breach task r line k right (inr (inr breaks)) =
+    outcome_right (limits_in task r) task r.entries right.stage right.legal.legal right.legal.turns r.outcome breaks.offset k right.stands
+    right.true breaks.wrong

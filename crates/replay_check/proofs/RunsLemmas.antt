@@ -70,7 +70,9 @@ module _ (task : Task) (fit : IsFit task) (names : List (List ℕ)) (distinct : 
   pub step_shown : (call : Call) (step : GroundAction) → step_named task names call ≡ Some step
       → call ≡ call_of_step task names step
   step_shown call step is =
-      let action = and_then_some (λ a. option_map (λ (args : List ℕ). record { action = a; args = args }) (places_of names call.args)) (action_named task call.name) step is in
+      let action =
+      and_then_some (λ a. option_map (λ (args : List ℕ). record { action = a; args = args }) (places_of names call.args))
+      (action_named task call.name) step is in
       let args = map_some (λ (args : List ℕ). record { action = action.0; args = args }) (places_of names call.args) step action.2 in
       let objects = names_there names call.args args.0 ((places_exact names call.args args.0 distinct).0 args.1) in
       (λ i. record { name = sym (named_action call.name action.0 action.1) i; args = sym objects i }) ∙ ap (call_of_step task names) args.2
@@ -79,7 +81,10 @@ module _ (task : Task) (fit : IsFit task) (names : List (List ℕ)) (distinct : 
       → action_named task (action_name task k) ≡ Some k
   action_found k a at =
       let named : action_name task k ≡ a.name = rw at refl in
-      position_only (λ (b : Action). same_numbers (action_name task k) b.name) task.domain.actions k a at ((numbers_decided (action_name task k) a.name).1 named) (λ m b there same. fit.domain.action_names.distinct m k a.name (name_there m b there ∙ ap Some (sym ((numbers_decided (action_name task k) b.name).0 same) ∙ named)) (name_there k a at))
+      position_only (λ (b : Action). same_numbers (action_name task k) b.name) task.domain.actions k a at
+      ((numbers_decided (action_name task k) a.name).1 named)
+      (λ m b there same. fit.domain.action_names.distinct m k a.name
+      (name_there m b there ∙ ap Some (sym ((numbers_decided (action_name task k) b.name).0 same) ∙ named)) (name_there k a at))
     where
       name_there : (m : ℕ) (b : Action) → slice_get task.domain.actions m ≡ Some b
           → slice_get (map (λ (c : Action). c.name) task.domain.actions) m ≡ Some b.name
@@ -92,7 +97,10 @@ module _ (task : Task) (fit : IsFit task) (names : List (List ℕ)) (distinct : 
       → slice_get task.domain.actions step.action ≡ Some a → All (IsIn names) step.args
       → step_named task names (call_of_step task names step) ≡ Some step
   step_found step a at all =
-      rw (action_found step.action a at, (places_exact names (map (name_at names) step.args) step.args distinct).1 (there_named names step.args all)) refl
+      rw (
+        action_found step.action a at,
+        (places_exact names (map (name_at names) step.args) step.args distinct).1 (there_named names step.args all),
+      ) refl
 
 -- ---- lists of calls
 
@@ -120,7 +128,11 @@ module _ (task : Task) (fit : IsFit task) (entries : List Entry) (coherent : IsC
   found : (before after : Atoms) (step : GroundAction) (cost : ℕ)
       → IsStep task (known_of task entries) before step after cost
       → found_in (cs step) ≡ Some step
-  found before after step cost s = step_found task fit (names_of task entries) coherent.names step s.action s.named (All-head (λ (x : GroundAction). All (IsIn (names_of task entries)) x.args) step [] (named_steps task (known_of task entries) coherent before after (step ∷ []) cost (after, cost, 0, s, (refl, refl), omega arith)).objects)
+  found before after step cost s =
+      step_found task fit (names_of task entries) coherent.names step s.action s.named
+      (All-head (λ (x : GroundAction). All (IsIn (names_of task entries)) x.args) step []
+      (named_steps task (known_of task entries) coherent before after
+      (step ∷ []) cost (after, cost, 0, s, (refl, refl), omega arith)).objects)
 
   -- calls show one list of steps that can be taken
   pub same_steps : (before a b : Atoms) (xs ys : List GroundAction) (m n : ℕ)
@@ -132,10 +144,12 @@ module _ (task : Task) (fit : IsFit task) (entries : List Entry) (coherent : IsC
   same_steps before a b (x ∷ xs) (y ∷ ys) m n first second e =
       let heads : cs x ≡ cs y = cc in
       let tails : map cs xs ≡ map cs ys = cc in
-      let same : x ≡ y = same_Some x y (sym (found before first.0 x first.1 first.3) ∙ ap found_in heads ∙ found before second.0 y second.1 second.3) in
+      let same : x ≡ y =
+      same_Some x y (sym (found before first.0 x first.1 first.3) ∙ ap found_in heads ∙ found before second.0 y second.1 second.3) in
       let also = subst (λ s. IsStep task (known_of task entries) before s second.0 second.1) (sym same) second.3 in
       let middle = (step_determined task (known_of task entries) before first.0 second.0 x first.1 second.1 first.3 also).0 in
-      let rest = same_steps first.0 a b xs ys first.2 second.2 first.4 (subst (λ s. Executes task (known_of task entries) s ys b second.2) (sym middle) second.4) tails in
+      let rest = same_steps first.0 a b xs ys first.2 second.2 first.4
+      (subst (λ s. Executes task (known_of task entries) s ys b second.2) (sym middle) second.4) tails in
       λ i. same i ∷ rest i
 
   -- the last step of calls that can be taken
@@ -157,7 +171,18 @@ module _ (task : Task) (fit : IsFit task) (entries : List Entry) (coherent : IsC
       let e = ends cs calls call can.steps can.shown in
       let whole = subst (λ steps. Executes task (known_of task entries) (initial_state task) steps can.state can.cost) e.2 can.runs in
       let parts = parts_of_whole task (known_of task entries) (initial_state task) can.state e.0 (e.1 ∷ []) can.cost whole in
-      record { front = e.0; last = e.1; shown = e.3; is = e.4; state = parts.0; after = parts.4.0; cost = parts.1; more = parts.4.1; runs = parts.3; step = parts.4.3 }
+      record {
+        front = e.0;
+        last = e.1;
+        shown = e.3;
+        is = e.4;
+        state = parts.0;
+        after = parts.4.0;
+        cost = parts.1;
+        more = parts.4.1;
+        runs = parts.3;
+        step = parts.4.3;
+      }
 
   -- a call of no step can't be taken
   pub no_step : (calls : List Call) (call : Call) → found_in call ≡ None
@@ -197,9 +222,12 @@ module _ (task : Task) (fit : IsFit task) (entries : List Entry) (coherent : IsC
   step_stuck calls call run step fault other r is fails can =
       let l = last_of calls call can in
       let same : l.last ≡ step = same_Some l.last step (sym (found l.state l.after l.last l.more l.step) ∙ ap found_in (sym l.is) ∙ is) in
-      let fronts = same_steps (initial_state task) l.state run.state l.front run.steps.items l.cost r.total l.runs r.runs (sym l.shown ∙ r.shown) in
+      let fronts =
+      same_steps (initial_state task) l.state run.state l.front run.steps.items l.cost r.total l.runs r.runs (sym l.shown ∙ r.shown) in
       let ran = subst (λ steps. Executes task (known_of task entries) (initial_state task) steps l.state l.cost) fronts l.runs in
-      let states = (execution_determined task (known_of task entries) (initial_state task) run.steps.items l.state run.state l.cost r.total ran r.runs).0 in
+      let states =
+      (execution_determined task (known_of task entries)
+      (initial_state task) run.steps.items l.state run.state l.cost r.total ran r.runs).0 in
       let there = subst (λ s. IsStep task (known_of task entries) s l.last l.after l.more) states l.step in
       let taken = subst (λ s. IsStep task (known_of task entries) run.state s l.after l.more) same there in
       fails_not run.state l.after step l.more fault other taken fails
@@ -211,8 +239,11 @@ module _ (task : Task) (fit : IsFit task) (entries : List Entry) (coherent : IsC
       → next.steps.items ≡ run.steps.items ++ step ∷ [] → ((total : ℕ) → IsSum total run.cost → IsSum (total + cost) next.cost)
       → IsRunOf task entries (calls ++ call ∷ []) next
   step_more calls call run next step cost r is taken steps sum =
-      let one : Executes task (known_of task entries) run.state (step ∷ []) next.state cost = (next.state, cost, 0, taken, (refl, refl), omega arith) in
-      let whole = whole_of_parts task (known_of task entries) (initial_state task) next.state run.steps.items (step ∷ []) (r.total + cost) (run.state, r.total, cost, r.runs, one, refl) in
+      let one : Executes task (known_of task entries) run.state (step ∷ []) next.state cost =
+      (next.state, cost, 0, taken, (refl, refl), omega arith) in
+      let whole =
+      whole_of_parts task (known_of task entries) (initial_state task) next.state run.steps.items (step ∷ [])
+      (r.total + cost) (run.state, r.total, cost, r.runs, one, refl) in
       record {
         shown =
             (λ i. r.shown i ++ step_shown task fit (names_of task entries) coherent.names call step is i ∷ [])
@@ -238,7 +269,8 @@ pub stops_at : (task : Task) (entries : List Entry) (calls : List Call) (place :
     → IsRunOf task entries (take place calls) run → place < length calls → call ≡ get_or calls place call
     → ¬ (CanRun task entries (take place calls ++ call ∷ [])) → StopsAtStep task entries calls place
 stops_at task entries calls place call run r lt is stuck =
-    let next : take (place + 1) calls ≡ take place calls ++ call ∷ [] = take_more calls place call lt ∙ ap (λ (c : Call). take place calls ++ c ∷ []) (sym is) in
+    let next : take (place + 1) calls ≡ take place calls ++ call ∷ [] =
+    take_more calls place call lt ∙ ap (λ (c : Call). take place calls ++ c ∷ []) (sym is) in
     record {
       within = lt;
       runs = record { steps = run.steps.items; shown = r.shown; state = run.state; cost = r.total; runs = r.runs };

@@ -94,7 +94,13 @@ starts_open limits task es list number cut b workers next st =
       some = st.some workers;
       is =
           ap (place_in task es) st.is
-          ∙ (λ k. record { asks = requests_from task es (asks_of es + 1) st.round; next = next k; answers = length st.round; later = st.rest; is_cut = cut });
+          ∙ (λ k. record {
+            asks = requests_from task es (asks_of es + 1) st.round;
+            next = next k;
+            answers = length st.round;
+            later = st.rest;
+            is_cut = cut;
+          });
     }
 
 -- ---- answers
@@ -125,7 +131,8 @@ module _ (limits : Limits) (task : Task) (entries : List Entry) (l : Ledger) (a 
 
   -- ---- a request
 
-  module _ (number turn : ℕ) (call : Call) (n : IsNextRequest task l a number turn call) (right : IsRightAsk task entries number turn call) where
+  module _ (number turn : ℕ) (call : Call) (n : IsNextRequest task l a number turn call)
+      (right : IsRightAsk task entries number turn call) where
     request : Entry
     request = entry.Ask number turn call
 
@@ -135,27 +142,41 @@ module _ (limits : Limits) (task : Task) (entries : List Entry) (l : Ledger) (a 
     is_longer : length a.to_ask ≡ length (drop 1 a.to_ask) + 1
     is_longer = let e : length a.to_ask ≡ length (n.instance ∷ drop 1 a.to_ask) = ap length head_asked in omega (arith, e)
 
-    request_is : entry.Ask number turn call ≡ entry.Ask (asks_of entries + 1) (yields_of (notes_of task entries) n.instance) (call_of_instance task (names_of task entries) n.instance)
+    request_is : entry.Ask number turn call
+        ≡ entry.Ask (asks_of entries + 1) (yields_of (notes_of task entries) n.instance)
+        (call_of_instance task (names_of task entries) n.instance)
     request_is =
         n.is
-        ∙ (λ k. entry.Ask (s.ledger.counted k + 1) (yields_of (s.ledger.notes k) n.instance) (call_of_instance task (s.ledger.known k).names n.instance))
+        ∙ (λ k. entry.Ask (s.ledger.counted k + 1)
+        (yields_of (s.ledger.notes k) n.instance) (call_of_instance task (s.ledger.known k).names n.instance))
 
-    adds : AddsRequest task entries (entries ++ entry.Ask number turn call ∷ []) number (record { stream = right.due.stream; instance = right.instance })
+    adds : AddsRequest task entries (entries ++ entry.Ask number turn call ∷ []) number
+        (record { stream = right.due.stream; instance = right.instance })
     adds =
-        let fresh : list_any (is_ask_of number) entries ≡ false = ap (λ m. list_any (is_ask_of m) entries) right.next ∙ next_is_fresh limits.version task entries s.ledger.legal in
-        request_adds limits.version task entries s.ledger.fit.problem.objects.names.distinct s.ledger.legal number turn call right.due.stream right.instance right fresh right.named right.due.named
+        let fresh : list_any (is_ask_of number) entries ≡ false =
+        ap (λ m. list_any (is_ask_of m) entries) right.next ∙ next_is_fresh limits.version task entries s.ledger.legal in
+        request_adds limits.version task entries s.ledger.fit.problem.objects.names.distinct s.ledger.legal number turn call
+        right.due.stream right.instance right fresh right.named right.due.named
 
-    ask_leads : Leads limits task at_first [] (entries ++ entry.Ask number turn call ∷ []) (place_in task (entries ++ entry.Ask number turn call ∷ []) (with_asked a))
+    ask_leads : Leads limits task at_first [] (entries ++ entry.Ask number turn call ∷ [])
+        (place_in task (entries ++ entry.Ask number turn call ∷ []) (with_asked a))
     ask_leads =
         let after = entries ++ entry.Ask number turn call ∷ [] in
         let rest = requests_from task entries (asks_of entries + 1 + 1) (drop 1 a.to_ask) in
         let asks : requests_from task entries (asks_of entries + 1) a.to_ask ≡ entry.Ask number turn call ∷ rest =
         ap (requests_from task entries (asks_of entries + 1)) head_asked ∙ ap (λ e. e ∷ rest) (sym request_is) in
         let later : requests_from task after (asks_of after + 1) (drop 1 a.to_ask) ≡ rest =
-        ap (λ m. requests_from task after (m + 1) (drop 1 a.to_ask)) adds.asks ∙ requests_same task entries after (asks_of entries + 1 + 1) (drop 1 a.to_ask) (ap (λ (k : Known). k.names) adds.same.known) adds.same.notes in
+        ap (λ m. requests_from task after (m + 1) (drop 1 a.to_ask)) adds.asks
+        ∙ requests_same task entries after (asks_of entries + 1 + 1) (drop 1 a.to_ask)
+        (ap (λ (k : Known). k.names) adds.same.known) adds.same.notes in
         let some : 0 < a.answers = let few = s.some in omega (arith, few, is_longer) in
         one_step (entry.Ask number turn call) (place_in task after (with_asked a))
-        (inr (inl (record { more = some; rest = rest; asks = asks; is = λ k. record { asks = later k; next = a.next; answers = a.answers; later = a.later; is_cut = a.is_cut } })))
+        (inr (inl (record {
+          more = some;
+          rest = rest;
+          asks = asks;
+          is = λ k. record { asks = later k; next = a.next; answers = a.answers; later = a.later; is_cut = a.is_cut };
+        })))
 
     ask_waits : (m : ℕ) → a.next ≤ m → m ≤ asks_of (entries ++ entry.Ask number turn call ∷ [])
         → is_open (entries ++ entry.Ask number turn call ∷ []) m ≡ true
@@ -206,7 +227,8 @@ module _ (limits : Limits) (task : Task) (entries : List Entry) (l : Ledger) (a 
 
   -- ---- an answer
 
-  module _ (n : ℕ) (e : Entry) (is : answered_number e ≡ Some n) (next : n ≡ a.next) (none : a.to_ask ≡ []) (may : MayFollow limits.version task entries e) (workers : AllWork limits.pools) (few : limits.calls ≤ 100000) where
+  module _ (n : ℕ) (e : Entry) (is : answered_number e ≡ Some n) (next : n ≡ a.next) (none : a.to_ask ≡ [])
+      (may : MayFollow limits.version task entries e) (workers : AllWork limits.pools) (few : limits.calls ≤ 100000) where
     no_more : length a.to_ask ≡ 0
     no_more = ap length none
 
@@ -218,7 +240,8 @@ module _ (limits : Limits) (task : Task) (entries : List Entry) (l : Ledger) (a 
     here = asked_here limits.version task entries l e n s.ledger few_asked is may
 
     gives : AddsAnswer task entries e n here.0
-    gives = answer_adds limits.version task entries s.ledger.fit.problem.objects.names.distinct s.ledger.legal n here.0 here.1 e (answers_to e n is)
+    gives = answer_adds limits.version task entries s.ledger.fit.problem.objects.names.distinct s.ledger.legal n here.0 here.1 e
+        (answers_to e n is)
 
     one_line : (d : Entry) → answered_number d ≡ Some n → length (entry_lines d) ≡ 1
     one_line (entry.Got m tuples values) at = refl
@@ -273,7 +296,13 @@ module _ (limits : Limits) (task : Task) (entries : List Entry) (l : Ledger) (a 
                 left = suc left.0;
                 answers = left.1;
                 to = subst (λ m. is_answer_to m e ≡ true) next (answers_to e n is);
-                behind = λ k. record { asks = requests_from task (entries ++ e ∷ []) (asks_of (entries ++ e ∷ []) + 1) (none k); next = a.next + 1; answers = one_less left.0 left.1 k; later = a.later; is_cut = a.is_cut };
+                behind = λ k. record {
+                  asks = requests_from task (entries ++ e ∷ []) (asks_of (entries ++ e ∷ []) + 1) (none k);
+                  next = a.next + 1;
+                  answers = one_less left.0 left.1 k;
+                  later = a.later;
+                  is_cut = a.is_cut;
+                };
               })));
           count = omega (arith, count, same, some);
           left = omega (arith, bound, same);
@@ -340,25 +369,37 @@ module _ (limits : Limits) (task : Task) (entries : List Entry) (l : Ledger) (a 
         known = h.known ∙ sym adds.same.known;
         notes = h.notes ∙ sym adds.same.notes;
         counted = h.counted ∙ sym adds.asks;
-        asks = λ k i at. let r = h.asks k i at in record { stream = r.stream; streamed = r.streamed; asks = asked-kept task entries (entry.Level ∷ []) (k + 1) (record { stream = r.stream; instance = i }) r.asks };
+        asks = λ k i at. let r = h.asks k i at in
+            record {
+              stream = r.stream;
+              streamed = r.streamed;
+              asks = asked-kept task entries (entry.Level ∷ []) (k + 1) (record { stream = r.stream; instance = i }) r.asks;
+            };
         unanswered = λ m. h.unanswered m ∙ sym (adds.waiting m);
-        answered = let was = h.answered in let same = adds.asks in let joined = count_joined is_answer entries (entry.Level ∷ []) in let none = count_one is_answer entry.Level in omega (arith, was, same, joined, none);
+        answered = let was = h.answered in
+            let same = adds.asks in
+            let joined = count_joined is_answer entries (entry.Level ∷ []) in
+            let none = count_one is_answer entry.Level in omega (arith, was, same, joined, none);
       }
 
-  module _ (b : Agenda) (dues : List Due) (resting : a.answers ≡ 0) (uncut : a.is_cut ≡ false) (turn : AreDueInTurn task l.facts.known l.queue dues) (some : 0 < length dues) (left : asks_of entries < limits.calls) (workers : AllWork limits.pools) where
+  module _ (b : Agenda) (dues : List Due) (resting : a.answers ≡ 0) (uncut : a.is_cut ≡ false)
+      (turn : AreDueInTurn task l.facts.known l.queue dues) (some : 0 < length dues) (left : asks_of entries < limits.calls)
+      (workers : AllWork limits.pools) where
     may_begin : MayBegin limits task entries
     may_begin =
         let long : length (instances_of dues) ≡ length dues = length-map dues (λ (d : Due). d.instance) in
         let few = turn.few in
         record {
           list = instances_of dues;
-          due = subst (λ (ns : List Note). AreDue task (known_of task entries) ns (instances_of dues)) s.ledger.notes (subst (λ (k : Known). AreDue task k l.queue (instances_of dues)) s.ledger.known turn.due);
+          due = subst (λ (ns : List Note). AreDue task (known_of task entries) ns (instances_of dues)) s.ledger.notes
+              (subst (λ (k : Known). AreDue task k l.queue (instances_of dues)) s.ledger.known turn.due);
           some = omega (arith, some, long);
           few = omega (arith, few, long);
           left = left;
         }
 
-    pub level_onward : Starts limits.pools (take (limits.calls - asks_of entries) (instances_of dues)) (asks_of entries + 1) (nat_lt (limits.calls - asks_of entries) (length dues)) b
+    pub level_onward : Starts limits.pools (take (limits.calls - asks_of entries) (instances_of dues))
+        (asks_of entries + 1) (nat_lt (limits.calls - asks_of entries) (length dues)) b
         → StandsBehind limits task (entries ++ entry.Level ∷ []) l b
     unfolding may_begin
     level_onward st =
@@ -382,7 +423,8 @@ module _ (limits : Limits) (task : Task) (entries : List Entry) (l : Ledger) (a 
                 uncut = uncut;
                 is = refl;
                 may = may_begin;
-                opens = subst (λ c. Opens limits task (entries ++ entry.Level ∷ []) list c (place_in task (entries ++ entry.Level ∷ []) b)) cut_is (starts_open limits task (entries ++ entry.Level ∷ []) list (asks_of entries + 1) cut b workers number st);
+                opens = subst (λ c. Opens limits task (entries ++ entry.Level ∷ []) list c (place_in task (entries ++ entry.Level ∷ []) b))
+                    cut_is (starts_open limits task (entries ++ entry.Level ∷ []) list (asks_of entries + 1) cut b workers number st);
               }));
           count = omega (arith, b_next, b_answers, same);
           left = omega (arith, b_all, same, taken, left);

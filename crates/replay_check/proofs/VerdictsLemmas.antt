@@ -134,7 +134,8 @@ module _ (limit : ℕ) (task : Task) (r : Report) (line : ℕ) (h : IsHeaded tas
 
 -- ---- a head that fits
 
-module _ (b : Bounds) (r : Report) (limit : ℕ) (bounds : AreBounds b) (head : IsFitHead b.task.now r) (limits : limits_in b.task.now r ≡ limits_by b) where
+module _ (b : Bounds) (r : Report) (limit : ℕ) (bounds : AreBounds b)
+    (head : IsFitHead b.task.now r) (limits : limits_in b.task.now r ≡ limits_by b) where
   abbrev task : Task
   task = b.task.now
 
@@ -142,7 +143,8 @@ module _ (b : Bounds) (r : Report) (limit : ℕ) (bounds : AreBounds b) (head : 
   turns_of : (es : List Entry) (s : Standing) → IsStanding b es s
       → (stage : Stage) × AreTurnsOf Incremental (limits_by b) task es stage
   turns_of es s stands =
-      let t = turned (limits_by b) task (length es) bounds.workers [] es at_first (place_in task es s.course) (omega arith) refl refl (λ none. (refl, refl)) stands.leads in
+      let t = turned (limits_by b) task (length es) bounds.workers [] es at_first (place_in task es s.course)
+      (omega arith) refl refl (λ none. (refl, refl)) stands.leads in
       (t.stage, t.turns)
 
   -- none of them is wrong
@@ -196,7 +198,8 @@ module _ (b : Bounds) (r : Report) (limit : ℕ) (bounds : AreBounds b) (head : 
     not_here other than x same before =
         w.wrong.first than (smaller before)
         (subst (λ e. BreaksEntry (limits_by b) task (take place r.entries) e than) entry_is
-        (subst (λ p. BreaksEntry (limits_by b) task (take p r.entries) x.e than) same (by_bounds (take x.place r.entries) x.e than x.wrong)))
+        (subst (λ p. BreaksEntry (limits_by b) task (take p r.entries) x.e than) same
+        (by_bounds (take x.place r.entries) x.e than x.wrong)))
       where
         some_is : (x y : Entry) → Some x ≡ Some y → x ≡ y
         some_is x y e = cc
@@ -231,7 +234,13 @@ module _ (b : Bounds) (r : Report) (limit : ℕ) (bounds : AreBounds b) (head : 
     pub entry_found : IsReportVerdict limit task r (Invalid (line_behind_pools r + place) k)
     entry_found =
         record {
-          breach = inr (inl (record { place = place; e = w.e; there = w.there; wrong = subst (λ ls. BreaksEntry ls task (take place r.entries) w.e k) (sym limits) w.wrong.breaks; is = line_is }));
+          breach = inr (inl (record {
+            place = place;
+            e = w.e;
+            there = w.there;
+            wrong = subst (λ ls. BreaksEntry ls task (take place r.entries) w.e k) (sym limits) w.wrong.breaks;
+            is = line_is;
+          }));
           first = entry_first;
           decided = λ unsure. inl before_end;
         }
@@ -286,7 +295,8 @@ module _ (b : Bounds) (r : Report) (limit : ℕ) (bounds : AreBounds b) (head : 
         → NonePrecedes task r (outcome_line r + offset) k
     none_ahead offset k none other than breach before =
         let at = in_end other than breach in
-        none at.0 than at.2 (nearer (outcome_line r) at.0 than offset k (subst (λ l. Precedes l than (outcome_line r + offset) k) at.1 before))
+        none at.0 than at.2
+        (nearer (outcome_line r) at.0 than offset k (subst (λ l. Precedes l than (outcome_line r + offset) k) at.1 before))
 
     pub open_end : IsFound (limits_by b) limit task r.entries r.outcome finding.Open
         → IsReportVerdict limit task r Limit
@@ -300,17 +310,24 @@ module _ (b : Bounds) (r : Report) (limit : ℕ) (bounds : AreBounds b) (head : 
         → IsReportVerdict limit task r (Invalid (outcome_line r + offset) k)
     wrong_end offset k w =
         record {
-          breach = inr (inr (record { offset = offset; wrong = subst (λ ls. BreaksOutcome ls task r.entries r.outcome offset k) (sym limits) w.breaks; is = refl }));
+          breach = inr (inr (record {
+            offset = offset;
+            wrong = subst (λ ls. BreaksOutcome ls task r.entries r.outcome offset k) (sym limits) w.breaks;
+            is = refl;
+          }));
           first = none_ahead offset k w.first;
           decided = λ unsure. subst (λ l. Precedes (outcome_line r + offset) k l kind.Outcome) (plus_zero (outcome_line r))
-              (further (outcome_line r) offset k 0 kind.Outcome (w.decided (subst (λ n. IsUndecidedClaim limit n task r.entries r.outcome) states_same unsure)));
+              (further (outcome_line r) offset k 0 kind.Outcome
+              (w.decided (subst (λ n. IsUndecidedClaim limit n task r.entries r.outcome) states_same unsure)));
         }
 
 -- ---- what a head that fits binds
 
 some_worker : (task : Task) (before : List PoolLine) (pool : PoolLine)
     → is_fit_pool task before pool ≡ true → 1 ≤ pool.workers
-some_worker task before pool fits = leb-true 1 pool.workers (first_of (nat_le 1 pool.workers) (nat_le pool.workers 16) (nat_le (workers_in before + pool.workers) 17) (are_new task (served_by task before) pool.streams) fits)
+some_worker task before pool fits =
+    leb-true 1 pool.workers (first_of (nat_le 1 pool.workers) (nat_le pool.workers 16)
+    (nat_le (workers_in before + pool.workers) 17) (are_new task (served_by task before) pool.streams) fits)
   where
     first_of : (x y z w : Bool) → (x && y && z && w) ≡ true → x ≡ true
     first_of true y z w e = refl
@@ -339,7 +356,8 @@ pools_work task pools fit =
 pub limits_fit : (r : Report) → are_fit_limits r ≡ true
     → (r.calls ≤ 100000) × (1 ≤ r.states) × (r.states ≤ 200000)
 limits_fit r e =
-    let p = six_parts (nat_le 1 r.calls) (nat_le r.calls 100000) (nat_le 1 r.states) (nat_le r.states 200000) (nat_le 1 r.depth) (nat_le r.depth 8) e in
+    let p = six_parts (nat_le 1 r.calls) (nat_le r.calls 100000) (nat_le 1 r.states) (nat_le r.states 200000)
+    (nat_le 1 r.depth) (nat_le r.depth 8) e in
     (leb-true r.calls 100000 p.0, leb-true 1 r.states p.1, leb-true r.states 200000 p.2)
   where
     six_parts : (u v w x y z : Bool) → (u && v && w && x && y && z) ≡ true

@@ -6,8 +6,7 @@ use Rattle.instance_queue.specs.Level.{AreDueInTurn, instances_of}
 use Rattle.instance_queue.specs.declared.due.Due.{Due}
 use Rattle.level_course.specs.Agendas.{Starts, with_answer, with_asked}
 use Rattle.level_course.specs.Pools.{shares_of}
-use Rattle.session_core.proofs.LearningLemmas.{take_next}
-use Rattle.lemmas.proofs.Members.{member_at}
+use Rattle.lemmas.proofs.Members.{member_at, next_taken}
 use Rattle.task_model.specs.Streams.{MoreAreDue}
 use Rattle.task_model.specs.declared.stream.Instance.{Instance}
 use Rattle.transcript_ledger.specs.Ledgers.{IsLedger}
@@ -47,7 +46,8 @@ not_ask entry.Reset other = refl
 not_ask (entry.Pick m) other = refl
 not_ask (entry.Retire m) other = refl
 
-module _ (b : Bounds) (entries : List Entry) (place : ℕ) (s : Standing) (can : CanTake b entries place s) (e : Entry) (there : slice_get entries place ≡ Some e) where
+module _ (b : Bounds) (entries : List Entry) (place : ℕ) (s : Standing) (can : CanTake b entries place s)
+    (e : Entry) (there : slice_get entries place ≡ Some e) where
   -- the entry is wrong, where the judge stands
   pub is_wrong : (k : BreachKind) → IsWrong (limits_by b) b.task.now (take place entries) e k
       → IsWrongAt b entries place k
@@ -58,7 +58,7 @@ module _ (b : Bounds) (entries : List Entry) (place : ℕ) (s : Standing) (can :
   pub is_taken : (new : Standing) → IsStanding b (take place entries ++ e ∷ []) new
       → IsStanding b (take (place + 1) entries) new
   is_taken new stands =
-      subst (λ es. IsStanding b es new) (sym (take_next entries place e there)) stands
+      subst (λ es. IsStanding b es new) (sym (next_taken entries place e there)) stands
 
   pub few_asked : length s.ledger.asked.items ≤ 100000
   few_asked =
@@ -69,10 +69,13 @@ module _ (b : Bounds) (entries : List Entry) (place : ℕ) (s : Standing) (can :
 
 -- ---- requests
 
-module _ (b : Bounds) (entries : List Entry) (place : ℕ) (s : Standing) (can : CanTake b entries place s) (number turn : ℕ) (call : Call) (there : slice_get entries place ≡ Some (entry.Ask number turn call)) where
+module _ (b : Bounds) (entries : List Entry) (place : ℕ) (s : Standing) (can : CanTake b entries place s) (number turn : ℕ)
+    (call : Call) (there : slice_get entries place ≡ Some (entry.Ask number turn call)) where
   ask_refused : IsAskedBy b.calls b.task.now (take place entries) number turn call None
       → IsWrongAt b entries place kind.Ask
-  ask_refused refused = is_wrong b entries place s can (entry.Ask number turn call) there kind.Ask (wrong_ask (limits_by b) b.task.now (take place entries) (entry.Ask number turn call) refl refused)
+  ask_refused refused =
+      is_wrong b entries place s can (entry.Ask number turn call) there kind.Ask
+      (wrong_ask (limits_by b) b.task.now (take place entries) (entry.Ask number turn call) refl refused)
 
   pub ask_is_refused : (asked : Option Instance) → asked ≡ None
       → IsAskedBy b.calls b.task.now (take place entries) number turn call asked
@@ -84,8 +87,10 @@ module _ (b : Bounds) (entries : List Entry) (place : ℕ) (s : Standing) (can :
       → ¬ (IsNextRequest b.task.now s.ledger s.course number turn call) → IsWrongAt b entries place kind.Order
   ask_out_of_order i said other =
       is_wrong b entries place s can (entry.Ask number turn call) there kind.Order
-      (wrong_order (limits_by b) b.task.now (take place entries) (entry.Ask number turn call) (λ is. (said.0, said.1)) (λ is. absurd (false≢true is))
-      (λ begun. other (next_request (limits_by b) b.task.now (take place entries) s.ledger s.course refl can.standing number turn call begun)))
+      (wrong_order (limits_by b) b.task.now (take place entries) (entry.Ask number turn call)
+      (λ is. (said.0, said.1)) (λ is. absurd (false≢true is))
+      (λ begun. other
+      (next_request (limits_by b) b.task.now (take place entries) s.ledger s.course refl can.standing number turn call begun)))
 
   -- the request has the next number, of which there are as many as calls at the most
   pub ask_number : (i : Instance)
@@ -105,11 +110,13 @@ module _ (b : Bounds) (entries : List Entry) (place : ℕ) (s : Standing) (can :
   ask_taken new next right ledger course =
       is_taken b entries place s can (entry.Ask number turn call) there new
       (subst (λ a. StandsBehind (limits_by b) b.task.now (take place entries ++ entry.Ask number turn call ∷ []) new.ledger a) (sym course)
-      (ask_onward (limits_by b) b.task.now (take place entries) s.ledger s.course can.standing number turn call next right new.ledger ledger))
+      (ask_onward (limits_by b) b.task.now (take place entries) s.ledger s.course can.standing number turn call next right new.ledger
+      ledger))
 
 -- ---- answers
 
-module _ (b : Bounds) (entries : List Entry) (place : ℕ) (s : Standing) (can : CanTake b entries place s) (n : ℕ) (e : Entry) (there : slice_get entries place ≡ Some e) (is : answered_number e ≡ Some n) where
+module _ (b : Bounds) (entries : List Entry) (place : ℕ) (s : Standing) (can : CanTake b entries place s) (n : ℕ)
+    (e : Entry) (there : slice_get entries place ≡ Some e) (is : answered_number e ≡ Some n) where
   pub answer_refused : ¬ (MayFollow b.version b.task.now (take place entries) e)
       → IsWrongAt b entries place kind.Answer
   answer_refused bad =
@@ -134,21 +141,28 @@ module _ (b : Bounds) (entries : List Entry) (place : ℕ) (s : Standing) (can :
       is_taken b entries place s can e there new (by (cases_lt 1 s.course.answers))
     where
       here : IsLedger b.version b.task.now (take place entries ++ e ∷ []) new.ledger
-      here = subst (λ es. IsLedger b.version b.task.now es new.ledger) (take_next entries place e there) ledger
+      here = subst (λ es. IsLedger b.version b.task.now es new.ledger) (next_taken entries place e there) ledger
 
       by : (1 < s.course.answers) ⊎ (s.course.answers ≤ 1)
           → StandsBehind (limits_by b) b.task.now (take place entries ++ e ∷ []) new.ledger new.course
-      by (inl lt) = answer_more (limits_by b) b.task.now (take place entries) s.ledger s.course can.standing n e is next none may can.bounds.workers can.bounds.calls new.ledger new.course here lt (more lt)
+      by (inl lt) =
+          answer_more (limits_by b) b.task.now (take place entries) s.ledger s.course can.standing n e is next none may can.bounds.workers
+          can.bounds.calls new.ledger new.course here lt (more lt)
       by (inr le) =
           let one : s.course.answers ≡ 1 = omega (arith, le, some) in
-          answer_last (limits_by b) b.task.now (take place entries) s.ledger s.course can.standing n e is next none may can.bounds.workers can.bounds.calls new.ledger new.course here one (last one)
+          answer_last (limits_by b) b.task.now (take place entries) s.ledger s.course can.standing n e is next none may can.bounds.workers
+          can.bounds.calls new.ledger new.course here one (last one)
 
 -- ---- levels
 
-module _ (b : Bounds) (entries : List Entry) (place : ℕ) (s : Standing) (can : CanTake b entries place s) (there : slice_get entries place ≡ Some entry.Level) where
+module _ (b : Bounds) (entries : List Entry) (place : ℕ) (s : Standing)
+    (can : CanTake b entries place s) (there : slice_get entries place ≡ Some entry.Level) where
   level_wrong : ¬ (AreBegun (limits_by b) b.task.now (take place entries ++ entry.Level ∷ []))
       → IsWrongAt b entries place kind.Order
-  level_wrong bad = is_wrong b entries place s can entry.Level there kind.Order (wrong_order (limits_by b) b.task.now (take place entries) entry.Level (λ is. absurd (false≢true is)) (λ is. absurd (false≢true is)) bad)
+  level_wrong bad =
+      is_wrong b entries place s can entry.Level there kind.Order
+      (wrong_order (limits_by b) b.task.now (take place entries) entry.Level
+      (λ is. absurd (false≢true is)) (λ is. absurd (false≢true is)) bad)
 
   -- something is to do, or calls were wanting, or none is left
   pub level_early : ¬ ((s.course.answers ≡ 0) × (s.course.is_cut ≡ false) × (length s.ledger.asked.items < b.calls))
@@ -165,36 +179,47 @@ module _ (b : Bounds) (entries : List Entry) (place : ℕ) (s : Standing) (can :
   pub level_too_great : MoreAreDue 1000000 b.task.now s.ledger.facts.known s.ledger.queue
       → IsWrongAt b entries place kind.Order
   level_too_great more =
-      level_wrong (λ begun. many_begin (limits_by b) b.task.now (take place entries) s.ledger s.course refl can.standing more (next_level (limits_by b) b.task.now (take place entries) s.ledger s.course refl can.standing begun).2)
+      level_wrong (λ begun.
+      many_begin (limits_by b) b.task.now (take place entries) s.ledger s.course refl can.standing more
+      (next_level (limits_by b) b.task.now (take place entries) s.ledger s.course refl can.standing begun).2)
 
   -- nothing is due
   pub level_of_none : (dues : List Due) → length dues ≡ 0
       → AreDueInTurn b.task.now s.ledger.facts.known s.ledger.queue dues
       → IsWrongAt b entries place kind.Order
   level_of_none dues none turn =
-      level_wrong (λ begun. none_begins (limits_by b) b.task.now (take place entries) s.ledger s.course refl can.standing dues none turn (next_level (limits_by b) b.task.now (take place entries) s.ledger s.course refl can.standing begun).2)
+      level_wrong (λ begun.
+      none_begins (limits_by b) b.task.now (take place entries) s.ledger s.course refl can.standing dues none turn
+      (next_level (limits_by b) b.task.now (take place entries) s.ledger s.course refl can.standing begun).2)
 
   pub level_taken : (new : Standing) (dues : List Due) (before : ℕ) → new.ledger ≡ s.ledger
       → s.course.answers ≡ 0 → s.course.is_cut ≡ false
       → AreDueInTurn b.task.now s.ledger.facts.known s.ledger.queue dues → 0 < length dues → before ≡ length s.ledger.asked.items
       → before < b.calls
-      → Starts (shares_of b.shares.now) (take (b.calls - before) (instances_of dues)) (before + 1) (nat_lt (b.calls - before) (length dues)) new.course
+      → Starts (shares_of b.shares.now) (take (b.calls - before) (instances_of dues)) (before + 1)
+      (nat_lt (b.calls - before) (length dues)) new.course
       → IsStanding b (take (place + 1) entries) new
   level_taken new dues before ledger resting uncut turn some is left st =
       let counted : before ≡ asks_of (take place entries) = is ∙ can.standing.ledger.counted in
-      let at : Starts (shares_of b.shares.now) (take (b.calls - asks_of (take place entries)) (instances_of dues)) (asks_of (take place entries) + 1) (nat_lt (b.calls - asks_of (take place entries)) (length dues)) new.course =
-      subst (λ m. Starts (shares_of b.shares.now) (take (b.calls - m) (instances_of dues)) (m + 1) (nat_lt (b.calls - m) (length dues)) new.course) counted st in
+      let at : Starts (shares_of b.shares.now) (take (b.calls - asks_of (take place entries)) (instances_of dues))
+      (asks_of (take place entries) + 1) (nat_lt (b.calls - asks_of (take place entries)) (length dues)) new.course =
+      subst (λ m. Starts (shares_of b.shares.now) (take (b.calls - m) (instances_of dues)) (m + 1)
+      (nat_lt (b.calls - m) (length dues)) new.course) counted st in
       is_taken b entries place s can entry.Level there new
       (subst (λ l. StandsBehind (limits_by b) b.task.now (take place entries ++ entry.Level ∷ []) l new.course) (sym ledger)
-      (level_onward (limits_by b) b.task.now (take place entries) s.ledger s.course can.standing new.course dues resting uncut turn some (omega (arith, counted, left)) can.bounds.workers at))
+      (level_onward (limits_by b) b.task.now (take place entries) s.ledger s.course can.standing new.course dues resting uncut turn some
+      (omega (arith, counted, left)) can.bounds.workers at))
 
 -- ---- all other entries
 
-pub other_refused : (b : Bounds) (entries : List Entry) (place : ℕ) (s : Standing) (can : CanTake b entries place s) (e : Entry) (there : slice_get entries place ≡ Some e)
+pub other_refused : (b : Bounds) (entries : List Entry) (place : ℕ) (s : Standing) (can : CanTake b entries place s)
+    (e : Entry) (there : slice_get entries place ≡ Some e)
     → is_ask e ≡ false → answered_number e ≡ None → ¬ (e ≡ entry.Level) → IsWrongAt b entries place kind.Order
 other_refused b entries place s can e there no_ask no_answer no_level =
     is_wrong b entries place s can e there kind.Order
-    (wrong_order (limits_by b) b.task.now (take place entries) e (λ ask. absurd (false≢true (sym no_ask ∙ ask))) (λ answer. absurd (no_number e answer no_answer)) (next_other (limits_by b) b.task.now (take place entries) s.ledger s.course refl can.standing e no_ask no_answer no_level))
+    (wrong_order (limits_by b) b.task.now (take place entries) e (λ ask. absurd (false≢true (sym no_ask ∙ ask)))
+    (λ answer. absurd (no_number e answer no_answer))
+    (next_other (limits_by b) b.task.now (take place entries) s.ledger s.course refl can.standing e no_ask no_answer no_level))
   where
     no_number : (d : Entry) → is_answer d ≡ true → answered_number d ≡ None → ⊥
     no_number (entry.Got m tuples values) is none = absurd (cc)

@@ -31,11 +31,13 @@ pub record BreaksPool (task : Task) (r : Report) (line : ℕ) : Type 0 where
   pub wrong : is_fit_pool task (take place r.pools) pool ≡ false
   pub is : line ≡ place + 3
 
--- The mode isn't one that is replayed; a limit is out of its range; a pool doesn't fit; a stream has no pool, which is told
--- behind the pools.
+-- The mode isn't one that is replayed; a limit is out of its range; a pool doesn't fit; a stream has no pool, which is
+-- told behind the pools.
 abbrev pub BreaksHead : Task → Report → ℕ → Type 0
 BreaksHead task r line =
-    ((line ≡ 1) × ¬ (r.mode ≡ Incremental)) ⊎ (((line ≡ 2) × (are_fit_limits r ≡ false)) ⊎ (BreaksPool task r line ⊎ ((line ≡ line_behind_pools r) × (are_served task r.pools ≡ false))))
+    ((line ≡ 1) × ¬ (r.mode ≡ Incremental))
+    ⊎ (((line ≡ 2) × (are_fit_limits r ≡ false))
+    ⊎ (BreaksPool task r line ⊎ ((line ≡ line_behind_pools r) × (are_served task r.pools ≡ false))))
 
 -- ---- entries
 
@@ -75,15 +77,16 @@ pub record BreaksStep (task : Task) (entries : List Entry) (calls : List Call) (
   pub is : offset ≡ place + 1
 
 -- the origin here isn't the one that is due, or is missing, or needless
-pub record BreaksFrom (version : ℕ) (entries : List Entry) (calls : List Call) (from : List Origin) (offset : ℕ) : Type 0 where
+pub record BreaksFrom (version : ℕ) (entries : List Entry) (calls : List Call) (from : List Origin)
+    (offset : ℕ) : Type 0 where
   pub due : List Origin
   pub origins : AreOrigins version entries calls due
   pub place : ℕ
   pub other : ¬ (slice_get from place ≡ slice_get due place)
   pub is : offset ≡ length calls + 2 + place
 
--- So many lines behind the plan's first: a step that can't be taken, or a plan that doesn't reach the goal, which is told with its
--- cost; a wrong cost; a wrong origin.
+-- So many lines behind the plan's first: a step that can't be taken, or a plan that doesn't reach the goal, which is
+-- told with its cost; a wrong cost; a wrong origin.
 abbrev pub BreaksPlan : Limits → Task → List Entry → List Call → ℕ → List Origin → ℕ → BreachKind
     → Type 0
 BreaksPlan limits task entries calls cost from offset kind.Plan =

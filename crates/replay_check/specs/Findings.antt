@@ -32,8 +32,8 @@ module _ (limits : Limits) (limit : ℕ) (task : Task) (entries : List Entry) (o
     pub stands : MayStand stage o
     pub true : IsTrueOutcome limits task entries o
 
-  -- It isn't misplaced, and it may stand here if what it says is true. The limit of calls may be claimed inside a turn, where it is
-  -- false.
+  -- It isn't misplaced, and it may stand here if what it says is true. The limit of calls may be claimed inside a turn,
+  -- where it is false.
   pub record IsPlaced : Type 0 where
     pub right : ¬ (IsMisplaced limits task entries o)
     pub stands : IsTrueOutcome limits task entries o → IsRightEnd

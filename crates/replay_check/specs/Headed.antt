@@ -10,13 +10,14 @@ use Rattle.replay_check.specs.Lines.{line_behind_pools}
 use Rattle.replay_check.specs.declared.head.Before.{Before}
 use Rattle.replay_check.specs.declared.head.Headed.{Headed}
 use Rattle.replay_check.specs.declared.head.Headed.TheVariants.{Fits, Breaks}
+use Rattle.io_world.specs.declared.host.TheConstants.{CHILDREN}
 
 -- These pools were passed, and they fit.
 pub record IsAfter (task : Task) (pools : List PoolLine) (b : Before) : Type 0 where
   pub shares : shares_of b.shares.items ≡ map (share_in task) pools
   pub served : b.served.items ≡ served_by task pools
   pub workers : b.workers ≡ workers_in pools
-  pub few : b.workers ≤ 17
+  pub few : b.workers ≤ CHILDREN
   pub fit : AreFitPoolLines task pools
 
 -- the next pool fits, and was passed; or it doesn't fit

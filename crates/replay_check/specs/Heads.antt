@@ -3,13 +3,16 @@ use Rattle.std.specs.Prelude.{◌≡◌, ℕ, ◌+◌, List, [], ◌∷◌, ◌+
 use Rattle.std.specs.List.{list_any, list_all, filter_map, flat_map}
 use Rattle.std.specs.Option.{option_map}
 use Rattle.task_model.specs.Known.{same_numbers}
+use Rattle.task_model.specs.declared.limits.TheConstants.{MOST_STATES}
 use Rattle.task_model.specs.declared.stream.Stream.{Stream}
 use Rattle.task_model.specs.declared.task.Task.{Task}
 use Rattle.transcript_model.specs.Names.{stream_named}
 use Rattle.transcript_model.specs.Rounds.{Share, Limits}
 use Rattle.transcript_model.specs.declared.head.Mode.TheVariants.{Incremental}
 use Rattle.transcript_model.specs.declared.head.PoolLine.{PoolLine}
+use Rattle.transcript_model.specs.declared.limits.TheConstants.{MOST_CALLS, MOST_DEPTH, WORKERS}
 use Rattle.transcript_model.specs.declared.report.Report.{Report}
+use Rattle.io_world.specs.declared.host.TheConstants.{CHILDREN}
 
 -- ---- what a head says
 
@@ -22,15 +25,23 @@ share_in task pool = record { workers = pool.workers; streams = streams_in task 
 
 -- what the head binds the transcript to
 abbrev pub limits_in : Task → Report → Limits
-limits_in task r = record { version = r.version; mode = r.mode; calls = r.calls; states = r.states; depth = r.depth; pools = map (share_in task) r.pools }
+limits_in task r = record {
+  version = r.version;
+  mode = r.mode;
+  calls = r.calls;
+  states = r.states;
+  depth = r.depth;
+  pools = map (share_in task) r.pools;
+}
 
 -- ---- whether it fits
 
 -- from 1 to 100,000 calls, from 1 to 200,000 states, and from 1 to 8 deep
 abbrev pub are_fit_limits : Report → Bool
 are_fit_limits r =
-    nat_le 1 r.calls && nat_le r.calls 100000 && nat_le 1 r.states && nat_le r.states 200000 && nat_le 1 r.depth
-    && nat_le r.depth 8
+    nat_le 1 r.calls && nat_le r.calls MOST_CALLS && nat_le 1 r.states && nat_le r.states MOST_STATES
+    && nat_le 1 r.depth
+    && nat_le r.depth MOST_DEPTH
 
 -- the workers of these pools together
 abbrev pub workers_in : List PoolLine → ℕ
@@ -55,7 +66,7 @@ are_new task before (name ∷ names) =
 -- From 1 to 16 workers, with the pools before at most 17 together; streams of the task that aren't served before.
 abbrev pub is_fit_pool : Task → List PoolLine → PoolLine → Bool
 is_fit_pool task before pool =
-    nat_le 1 pool.workers && nat_le pool.workers 16 && nat_le (workers_in before + pool.workers) 17
+    nat_le 1 pool.workers && nat_le pool.workers WORKERS && nat_le (workers_in before + pool.workers) CHILDREN
     && are_new task (served_by task before) pool.streams
 
 -- each stream of the task has a pool

@@ -11,7 +11,8 @@ use Rattle.replay_check.specs.declared.verdict.Verdict.TheVariants.{Valid}
 -- Of the text of a report that is right and whose claim is decided nothing else is said than that it is valid.
 abbrev pub RightReportsAreValid : Type 0
 RightReportsAreValid =
-    (limit : ℕ) (task : Task) (r : Report) (v : Verdict) → IsFormed r → IsRightReport task r → ¬ (IsUndecided limit task r) → IsVerdict limit task (text_of_report r) v → v ≡ Valid
+    (limit : ℕ) (task : Task) (r : Report) (v : Verdict) → IsFormed r → IsRightReport task r
+    → ¬ (IsUndecided limit task r) → IsVerdict limit task (text_of_report r) v → v ≡ Valid
 
 -- Of one text, with one limit, one thing is said.
 abbrev pub VerdictsAreUnique : Type 0

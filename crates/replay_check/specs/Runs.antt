@@ -44,12 +44,14 @@ IsRan task entries calls (Stops place) = StopsAtStep task entries calls place
 IsRan task entries calls (Ends run) = IsRunOf task entries calls run
 
 -- these steps are a valid plan of this cost, which the calls show
-pub record IsPlanOf (task : Task) (entries : List Entry) (calls : List Call) (cost : ℕ) (steps : List GroundAction) : Type 0 where
+pub record IsPlanOf (task : Task) (entries : List Entry) (calls : List Call) (cost : ℕ)
+    (steps : List GroundAction) : Type 0 where
   pub shown : Shows task entries calls steps
   pub valid : IsValid task (known_of task entries) steps cost
 
 -- the origin here is the first that isn't the one that is due
-pub record DiffersAt (version : ℕ) (entries : List Entry) (calls : List Call) (from : List Origin) (place : ℕ) : Type 0 where
+pub record DiffersAt (version : ℕ) (entries : List Entry) (calls : List Call) (from : List Origin)
+    (place : ℕ) : Type 0 where
   pub due : List Origin
   pub origins : AreOrigins version entries calls due
   pub other : ¬ (slice_get from place ≡ slice_get due place)

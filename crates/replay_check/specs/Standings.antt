@@ -3,6 +3,7 @@ use Rattle.std.specs.Prelude.{◌≡◌, ℕ, ◌+◌, ◌≤◌, ◌<◌, List,
 use Rattle.std.specs.List.{flat_map}
 use Rattle.task_model.specs.Fit.{IsFit}
 use Rattle.task_model.specs.Streams.{yields_of}
+use Rattle.task_model.specs.declared.limits.TheConstants.{MOST_STATES}
 use Rattle.task_model.specs.declared.stream.Instance.{Instance}
 use Rattle.task_model.specs.declared.task.Task.{Task}
 use Rattle.transcript_model.specs.Legal.{asks_of, is_open}
@@ -13,6 +14,7 @@ use Rattle.transcript_model.specs.declared.entry.Call.{Call}
 use Rattle.transcript_model.specs.declared.entry.Entry.{Entry}
 use Rattle.transcript_model.specs.declared.entry.Entry.TheVariants as entry
 use Rattle.transcript_model.specs.declared.head.Mode.TheVariants.{Incremental}
+use Rattle.transcript_model.specs.declared.limits.TheConstants.{MOST_CALLS}
 use Rattle.level_course.specs.Agendas.{Agenda, place_in}
 use Rattle.level_course.specs.Courses.{Leads, at_first}
 use Rattle.level_course.specs.Pools.{AllWork, shares_of}
@@ -26,18 +28,25 @@ use Rattle.replay_check.specs.declared.verdict.BreachKind.{BreachKind}
 
 -- what the transcript is bound to
 abbrev pub limits_by : Bounds → Limits
-limits_by b = record { version = b.version; mode = Incremental; calls = b.calls; states = b.states; depth = b.depth; pools = shares_of b.shares.now }
+limits_by b = record {
+  version = b.version;
+  mode = Incremental;
+  calls = b.calls;
+  states = b.states;
+  depth = b.depth;
+  pools = shares_of b.shares.now;
+}
 
 -- the task is fit, each pool has a worker, and there are at most 100,000 calls and from 1 to 200,000 states
 pub record AreBounds (b : Bounds) : Type 0 where
   pub fit : IsFit b.task.now
   pub workers : AllWork (shares_of b.shares.now)
-  pub calls : b.calls ≤ 100000
+  pub calls : b.calls ≤ MOST_CALLS
   pub some_states : 1 ≤ b.states
-  pub few_states : b.states ≤ 200000
+  pub few_states : b.states ≤ MOST_STATES
 
--- The judge's ledger is that of the entries, and what is to be done is what may come behind them. No more requests are to come
--- than calls are left, and those that were made and are to be answered are open.
+-- The judge's ledger is that of the entries, and what is to be done is what may come behind them. No more requests are
+-- to come than calls are left, and those that were made and are to be answered are open.
 pub record StandsBehind (limits : Limits) (task : Task) (entries : List Entry) (l : Ledger) (a : Agenda) : Type 0 where
   pub ledger : IsLedger limits.version task entries l
   pub leads : Leads limits task at_first [] entries (place_in task entries a)
@@ -61,4 +70,6 @@ pub record IsWrong (limits : Limits) (task : Task) (before : List Entry) (e : En
 pub record IsNextRequest (task : Task) (l : Ledger) (a : Agenda) (number turn : ℕ) (call : Call) : Type 0 where
   pub instance : Instance
   pub head : slice_get a.to_ask 0 ≡ Some instance
-  pub is : entry.Ask number turn call ≡ entry.Ask (length l.asked.items + 1) (yields_of l.queue instance) (call_of_instance task l.facts.known.names instance)
+  pub is : entry.Ask number turn call
+      ≡ entry.Ask (length l.asked.items + 1)
+      (yields_of l.queue instance) (call_of_instance task l.facts.known.names instance)

@@ -24,8 +24,8 @@ use Rattle.replay_check.specs.declared.verdict.Verdict.TheVariants.{Valid, Inval
 
 -- ---- claims that aren't decided
 
--- More than so many states are reached. So it isn't decided that there is no plan, where nothing is due; nor, where the report
--- allows more states, that more than those are reached.
+-- More than so many states are reached. So it isn't decided that there is no plan, where nothing is due; nor, where the
+-- report allows more states, that more than those are reached.
 abbrev pub IsUndecidedClaim : ℕ → ℕ → Task → List Entry → Outcome → Type 0
 IsUndecidedClaim limit states task entries outcome.NoPlan =
     NothingIsDue task (known_of task entries) (notes_of task entries)
@@ -39,8 +39,8 @@ IsUndecided limit task r = IsUndecidedClaim limit r.states task r.entries r.outc
 
 -- ---- reports
 
--- All that the report says is right: its head fits the task, its transcript is legal and made of whole turns, and its outcome may
--- stand there and is true.
+-- All that the report says is right: its head fits the task, its transcript is legal and made of whole turns, and its
+-- outcome may stand there and is true.
 pub record IsRightReport (task : Task) (r : Report) : Type 0 where
   pub head : IsFitHead task r
   pub stage : Stage

@@ -7,6 +7,7 @@ ghost use Rattle.transcript_model.specs.Legal.{HasNoneOpen};
 ghost use Rattle.transcript_model.specs.declared.entry.Entry.{Entry as AnyEntry};
 ghost use Rattle.transcript_model.specs.declared.outcome.LimitKind.TheVariants.{Calls, Instances, States};
 ghost use Rattle.transcript_model.specs.declared.outcome.Outcome.TheVariants as outcome;
+ghost use Rattle.task_model.specs.declared.limits.TheConstants.{MOST_STATES};
 
 use crate::bounds::Bounds;
 use best_first::{Blind, Found, exceeds, search};
@@ -39,7 +40,7 @@ pub(crate) fn judge_no_plan(
 ) -> Result<Claim, AllocError>
     requires bounds { AreBounds bounds.now }
     requires some { 1 ≤ limit }
-    requires few { limit ≤ 200000 }
+    requires few { limit ≤ MOST_STATES }
     ensures { (entries : List AnyEntry)
         → IsLedger bounds.now.version bounds.now.task.now entries ledger.now → HasNoneOpen entries
         → IfOk result (IsJudged (limits_by bounds.now) limit bounds.now.task.now entries
@@ -89,7 +90,7 @@ pub(crate) fn judge_states(
 ) -> Result<Claim, AllocError>
     requires bounds { AreBounds bounds.now }
     requires some { 1 ≤ limit }
-    requires few { limit ≤ 200000 }
+    requires few { limit ≤ MOST_STATES }
     ensures { (entries : List AnyEntry)
         → IsLedger bounds.now.version bounds.now.task.now entries ledger.now
         → IfOk result (IsJudged (limits_by bounds.now) limit bounds.now.task.now entries

@@ -5,6 +5,7 @@ ghost use Rattle.replay_check.specs.Standings.{AreBounds, IsNextRequest};
 ghost use Rattle.transcript_model.specs.Legal.{answered_number as number_in};
 ghost use Rattle.report_text.specs.Forms.{IsFormedEntry};
 ghost use Rattle.transcript_model.specs.declared.entry.Entry.TheVariants as entry;
+ghost use Rattle.transcript_model.specs.declared.limits.TheConstants.{MOST_CALLS};
 
 use crate::bounds::Bounds;
 use crate::verdict::BreachKind;
@@ -26,7 +27,7 @@ pub(crate) type Wrong = Option<BreachKind>;
 impl Standing {
     /// Whether the request is the next of the open round.
     fn is_next(&self, bounds: &Bounds<'_>, number: u32, turn: u32, call: &Call) -> bool
-        requires { length self.now.ledger.asked.items ≤ 100000 }
+        requires { length self.now.ledger.asked.items ≤ MOST_CALLS }
         ensures yes { IsTrue result
             → IsNextRequest bounds.now.task.now self.now.ledger self.now.course number turn
             call.now }

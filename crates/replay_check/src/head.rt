@@ -8,18 +8,14 @@ ghost use Rattle.task_model.specs.Fit.{IsFit};
 ghost use Rattle.task_model.specs.Known.{same_numbers};
 ghost use Rattle.transcript_model.specs.Names.{stream_named as stream_at};
 ghost use Rattle.transcript_model.specs.declared.head.PoolLine.{PoolLine as AnyPool};
+ghost use Rattle.io_world.specs.declared.host.TheConstants.{CHILDREN};
 
+use io_world::CHILDREN;
 use level_course::Share;
 use std::alloc::{AllocError, Global};
-use task_model::{Name, Seq, Task};
+use task_model::{MOST_STATES, Name, Seq, Task};
 use transcript_ledger::stream_named;
-use transcript_model::{Mode, PoolLine, Report};
-
-/// The most workers of a pool.
-const MOST_WORKERS: u8 = 16;
-
-/// The most workers of all pools together: sixteen children and the generator in the process.
-const MOST_TOGETHER: u32 = 17;
+use transcript_model::{MOST_CALLS, MOST_DEPTH, Mode, PoolLine, Report, WORKERS};
 
 /// What is said of a head.
 #[derive(Drop)]
@@ -35,11 +31,11 @@ fn are_fit_limits(report: &Report) -> bool
     ensures { result ≡ limits_fit report.now }
 {
     1 <= report.calls
-        && report.calls <= 100_000
+        && report.calls <= MOST_CALLS
         && 1 <= report.states
-        && report.states <= 200_000
+        && report.states <= MOST_STATES
         && 1 <= report.depth
-        && report.depth <= 8
+        && report.depth <= MOST_DEPTH
 }
 
 /// The streams of a pool, behind those that were served before; None where one isn't the task's or was served before.
@@ -85,13 +81,13 @@ impl Before {
     /// Adds the next pool, and answers whether it fits.
     fn add(&mut self, alloc: Global, task: &Task, pool: &PoolLine) -> Result<bool, AllocError>
         requires fit { IsFit task.now }
-        requires few { self.old.workers ≤ 17 }
+        requires few { self.old.workers ≤ CHILDREN }
         ensures { (before : List AnyPool) → IsAfter task.now before self.old
             → IfOk result (IsPassed task.now before pool.now self.new) }
     {
         let workers = pool.workers;
         self.workers += workers as u32;
-        if workers < 1 || workers > MOST_WORKERS || self.workers > MOST_TOGETHER {
+        if workers < 1 || workers > WORKERS || self.workers > CHILDREN as u32 {
             return Ok(false);
         }
         let names = pool.streams.as_slice();

@@ -6,6 +6,7 @@ ghost use Rattle.replay_check.specs.Standings.{AreBounds, IsStanding, limits_by}
 ghost use Rattle.replay_check.specs.Verdicts.{IsReportVerdict, IsVerdict};
 ghost use Rattle.replay_check.specs.declared.verdict.Verdict.TheVariants.{Invalid};
 ghost use Rattle.task_model.specs.Fit.{IsFit};
+ghost use Rattle.task_model.specs.declared.limits.TheConstants.{MOST_STATES};
 ghost use Rattle.report_text.specs.Forms.{IsFormed};
 
 use crate::bounds::Bounds;
@@ -43,7 +44,7 @@ fn judge_end(
     requires lines { length (lines_of_report report.now) < 2 ^ 31 }
     requires standing { IsStanding bounds.now report.now.entries standing.now }
     requires some { 1 ≤ limit }
-    requires few { limit ≤ 200000 }
+    requires few { limit ≤ MOST_STATES }
     ensures { IfOk result (IsReportVerdict limit bounds.now.task.now report.now) }
 {
     let entries = report.entries.as_slice();
@@ -63,7 +64,7 @@ fn judge_rest(bounds: &Bounds<'_>, report: &Report, limit: u32) -> Result<Verdic
     requires formed { IsFormed report.now }
     requires lines { length (lines_of_report report.now) < 2 ^ 31 }
     requires some { 1 ≤ limit }
-    requires few { limit ≤ 200000 }
+    requires few { limit ≤ MOST_STATES }
     ensures { IfOk result (IsReportVerdict limit bounds.now.task.now report.now) }
 {
     match walk(bounds, report.entries.as_slice())? {
@@ -78,7 +79,7 @@ fn judge(alloc: Global, task: &Task, report: &Report, limit: u32) -> Result<Verd
     requires formed { IsFormed report.now }
     requires lines { length (lines_of_report report.now) < 2 ^ 31 }
     requires some { 1 ≤ limit }
-    requires few { limit ≤ 200000 }
+    requires few { limit ≤ MOST_STATES }
     ensures { IfOk result (IsReportVerdict limit task.now report.now) }
 {
     let shares = match judge_head(alloc, task, report)? {
@@ -107,7 +108,7 @@ fn judge(alloc: Global, task: &Task, report: &Report, limit: u32) -> Result<Verd
 pub fn replay(alloc: Global, task: &Task, bytes: &[u8], limit: u32) -> Result<Verdict, AllocError>
     requires fit { IsFit task.now }
     requires some { 1 ≤ limit }
-    requires few { limit ≤ 200000 }
+    requires few { limit ≤ MOST_STATES }
     requires bytes { length bytes.now < 2 ^ 31 }
     ensures { IfOk result (IsVerdict limit task.now bytes.now) }
 {

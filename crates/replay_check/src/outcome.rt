@@ -4,6 +4,7 @@ ghost use Rattle.replay_check.specs.Claims.{IsJudged};
 ghost use Rattle.replay_check.specs.Findings.{IsClaim, IsFound, IsPlaced};
 ghost use Rattle.replay_check.specs.Runs.{IsNear, IsPlanned};
 ghost use Rattle.replay_check.specs.Standings.{AreBounds, IsStanding, limits_by};
+ghost use Rattle.task_model.specs.declared.limits.TheConstants.{MOST_STATES};
 ghost use Rattle.task_model.specs.declared.task.Task.{Task as AnyTask};
 ghost use Rattle.transcript_model.specs.Legal.{HasNoneOpen, IsLegal};
 ghost use Rattle.transcript_model.specs.Rounds.{Limits};
@@ -93,7 +94,7 @@ impl Standing {
             outcome.now }
         requires resting { outcome.now ≡ said.NoPlan → HasNoneOpen entries.now }
         requires some { 1 ≤ limit }
-        requires few { limit ≤ 200000 }
+        requires few { limit ≤ MOST_STATES }
         ensures { IfOk result (IsFound (limits_by bounds.now) limit bounds.now.task.now entries.now
             outcome.now) }
     {
@@ -127,7 +128,7 @@ impl Standing {
         requires bounds { AreBounds bounds.now }
         requires standing { IsStanding bounds.now entries.now self.now }
         requires some { 1 ≤ limit }
-        requires few { limit ≤ 200000 }
+        requires few { limit ≤ MOST_STATES }
         ensures { IfOk result (IsFound (limits_by bounds.now) limit bounds.now.task.now entries.now
             outcome.now) }
     {

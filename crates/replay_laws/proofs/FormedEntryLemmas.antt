@@ -42,7 +42,8 @@ placed_formed names (name ∷ more) objects all is =
     let first = and_then_some (λ object. option_map (λ os. object ∷ os) (places_of names more)) (place_of names name) objects is in
     let second = map_some (λ os. first.0 ∷ os) (places_of names more) objects first.2 in
     let here = place_at names name first.0 first.1 in
-    All-cons IsObject name more (All-contains IsObject names name all (member_at names first.0 name here)) (placed_formed names more second.0 all second.1)
+    All-cons IsObject name more (All-contains IsObject names name all (member_at names first.0 name here))
+    (placed_formed names more second.0 all second.1)
 
 -- ---- entries
 
@@ -68,14 +69,16 @@ pub record AreFew (entries : List Entry) : Type 0 where
   pub asks : asks_of entries ≤ 100000
   pub answers : count_by is_answer entries ≤ 100000
 
-module _ (version : ℕ) (task : Task) (fit : IsFit task) (entries : List Entry) (legal : IsLegal version task entries) (few : AreFew entries) where
+module _ (version : ℕ) (task : Task) (fit : IsFit task) (entries : List Entry)
+    (legal : IsLegal version task entries) (few : AreFew entries) where
   asked_few : (n : ℕ) → list_any (is_ask_of n) entries ≡ true → n ≤ 100000
   asked_few n there = omega (arith, (number_below version task entries n legal there).1, few.asks)
 
   open_few : (k n : ℕ) → is_open (take k entries) n ≡ true → n ≤ 100000
   open_few k n waiting =
       let there = first_so (list_any (is_ask_of n) (take k entries)) (not (list_any (is_answer_to n) (take k entries))) waiting in
-      asked_few n (subst (λ es. list_any (is_ask_of n) es ≡ true) (take-append-drop k entries) (any_append_left (is_ask_of n) (take k entries) (drop k entries) there))
+      asked_few n (subst (λ es. list_any (is_ask_of n) es ≡ true)
+      (take-append-drop k entries) (any_append_left (is_ask_of n) (take k entries) (drop k entries) there))
 
   -- an answer's number is one of a request's
   pub answer_few : (k number tuples : ℕ) (values : List (List ℕ))
@@ -89,13 +92,19 @@ module _ (version : ℕ) (task : Task) (fit : IsFit task) (entries : List Entry)
       → IsFormedCall IsObject call
   call_formed k call i named =
       let names = names_of task (take k entries) in
-      let first = and_then_some (λ stream. option_map (λ inputs. record { stream = stream; inputs = inputs }) (places_of names call.args)) (stream_named task call.name) i named in
+      let first =
+      and_then_some (λ stream. option_map (λ inputs. record { stream = stream; inputs = inputs }) (places_of names call.args))
+      (stream_named task call.name) i named in
       let second = map_some (λ inputs. record { stream = first.0; inputs = inputs }) (places_of names call.args) i first.2 in
       let place = position_at (λ (s : Stream). same_numbers call.name s.name) task.streams first.0 first.1 in
       let same = (numbers_decided call.name place.0.name).0 place.2 in
       let there = slice_get-map (λ (s : Stream). s.name) task.streams first.0 ∙ ap (option_map (λ (s : Stream). s.name)) place.1 in
       let stream_name = all_at is_name (map (λ (s : Stream). s.name) task.streams) first.0 place.0.name fit.streams.names.each there in
-      record { name = ap is_name same ∙ stream_name; args = placed_formed names call.args second.0 (names_formed version task fit (take k entries) (legal_take version task entries k legal)) second.1 }
+      record {
+        name = ap is_name same ∙ stream_name;
+        args = placed_formed names call.args second.0
+            (names_formed version task fit (take k entries) (legal_take version task entries k legal)) second.1;
+      }
 
   pub entry_formed : (k : ℕ) (e : Entry) → slice_get entries k ≡ Some e → is_plain e ≡ true
       → IsFormedEntry version e
@@ -104,11 +113,15 @@ module _ (version : ℕ) (task : Task) (fit : IsFit task) (entries : List Entry)
       let yields = yields_few version task (take k entries) right.instance (legal_take version task entries k legal) in
       let parts = ap (count_by is_answer) (take-append-drop k entries) in
       let sums = count_joined is_answer (take k entries) (drop k entries) in
-      let asked = asked_few number (any_passes_from_place (is_ask_of number) entries k (entry.Ask number turn call) at (eq-eqb number number refl)) in
+      let asked =
+      asked_few number (any_passes_from_place (is_ask_of number) entries k (entry.Ask number turn call) at (eq-eqb number number refl))
+      in
       (omega (arith, asked), omega (arith, right.turned, yields, parts, sums, few.answers), call_formed k call right.instance right.named)
   entry_formed k (entry.Got number tuples values) at plain =
-      let right = legal k (entry.Got number tuples values) at in
-      (omega (arith, open_few k number right.waiting), tuples_formed version (length right.request.stream.outputs) tuples values right.right)
+      let right = legal k (entry.Got number tuples values) at in (
+        omega (arith, open_few k number right.waiting),
+        tuples_formed version (length right.request.stream.outputs) tuples values right.right,
+      )
   entry_formed k (entry.Value number value) at plain =
       let right = legal k (entry.Value number value) at in
       (omega (arith, open_few k number right.waiting), right.few)

@@ -61,7 +61,9 @@ module _ (version : ℕ) (task : Task) (fit : IsFit task) (entries : List Entry)
     where
       by : (o : Option (List ℕ)) → slice_get (names_of task entries) object ≡ o → IsSome o
           → IsObject (unwrap_or o [])
-      by (Some name) at here = All-contains IsObject (names_of task entries) name (names_formed version task fit entries legal) (member_at (names_of task entries) object name at)
+      by (Some name) at here =
+          All-contains IsObject (names_of task entries) name
+          (names_formed version task fit entries legal) (member_at (names_of task entries) object name at)
       by None at here = absurd (cc)
 
   action_formed : (k : ℕ) → k < length task.domain.actions → IsName (action_name task k)
@@ -94,7 +96,9 @@ module _ (version : ℕ) (task : Task) (fit : IsFit task) (entries : List Entry)
           record {
             name =
                 action_formed s.action (All-contains (λ (x : GroundAction). x.action < length task.domain.actions) steps s actions there);
-            args = All-map IsTerm (name_at (names_of task entries)) s.args (All-weaker (IsIn (names_of task entries)) (λ o. IsTerm (name_at (names_of task entries) o)) (λ o within. inl (name_formed o within)) s.args args);
+            args = All-map IsTerm (name_at (names_of task entries)) s.args
+                (All-weaker (IsIn (names_of task entries))
+                (λ o. IsTerm (name_at (names_of task entries) o)) (λ o within. inl (name_formed o within)) s.args args);
           }
 
   plan_formed : (limits : Limits) (calls : List Call) (cost : ℕ) (from : List Origin)
@@ -120,7 +124,8 @@ has_at number value (entry.Got n tuples values ∷ xs) has =
     by false other all later = let r = later all in (suc r.0, r.1, r.2, r.3)
 has_at number value (x ∷ xs) has = let r = has_at number value xs has in (suc r.0, r.1, r.2, r.3)
 
-module _ (version : ℕ) (task : Task) (fit : IsFit task) (entries : List Entry) (legal : IsLegal version task entries) (few : AreFew entries) where
+module _ (version : ℕ) (task : Task) (fit : IsFit task) (entries : List Entry)
+    (legal : IsLegal version task entries) (few : AreFew entries) where
   -- the value is one of an answer's, and the request is one that was made
   given : (number : ℕ) (value : List ℕ) (k : ℕ) (e : Entry) → slice_get entries k ≡ Some e
       → has_value (e ∷ []) number value ≡ true
@@ -164,7 +169,12 @@ module _ (version : ℕ) (task : Task) (fit : IsFit task) (entries : List Entry)
   origin_formed : (o : Origin) → IsOrigin version entries o → IsFormedOrigin version o
   origin_formed o origin =
       let there = value_given o.number origin.value origin.there in
-      record { object = inr (origin.value, origin.named, there.0); number = omega (arith, there.1); tuple = by (version == 1) refl; one = origin.one }
+      record {
+        object = inr (origin.value, origin.named, there.0);
+        number = omega (arith, there.1);
+        tuple = by (version == 1) refl;
+        one = origin.one;
+      }
     where
       by : (b : Bool) → (version == 1) ≡ b → o.tuple ≤ 255
       by true e = omega (arith, origin.one (eqb-true version 1 e))
@@ -180,7 +190,11 @@ module _ (version : ℕ) (task : Task) (fit : IsFit task) (entries : List Entry)
       → length (lines_text (outcome_lines version o)) < 2 ^ 31 → IsFormedOutcome version o
   outcome_formed limits same (outcome.Plan calls cost from) plan room short =
       let steps = steps_few version cost calls from in
-      let origins = subst (λ v. (o : Origin) → Contains from o → IsOrigin v entries o) same plan.origins.origins in
-      (omega (arith, steps, short), room, plan_formed version task fit entries legal limits calls cost from plan, all_by_place (IsFormedOrigin version) from (λ k o at. origin_formed o (origins o (member_at from k o at))))
+      let origins = subst (λ v. (o : Origin) → Contains from o → IsOrigin v entries o) same plan.origins.origins in (
+        omega (arith, steps, short),
+        room,
+        plan_formed version task fit entries legal limits calls cost from plan,
+        all_by_place (IsFormedOrigin version) from (λ k o at. origin_formed o (origins o (member_at from k o at))),
+      )
   outcome_formed limits same outcome.NoPlan holds room short = tt
   outcome_formed limits same (outcome.Limit kind) holds room short = tt

@@ -8,7 +8,7 @@ use Rattle.std.proofs.lemmas.Option.{same_Some}
 use Rattle.io_world.specs.FileMap.{FileMap}
 use Rattle.lemmas.proofs.Bools.{left_false, right_false}
 use Rattle.lemmas.proofs.ListTests.{all_cons}
-use Rattle.lemmas.proofs.Options.{and_then_some}
+use Rattle.lemmas.proofs.Options.{and_then_some, where_true}
 use Rattle.lemmas.specs.Lists.{AreDistinct}
 use Rattle.command_line.specs.Words.{SolveWords}
 use Rattle.serde_json.specs.Data.{Data}
@@ -19,7 +19,7 @@ use Rattle.stream_map.proofs.LawsLemmas.{no_fault}
 use Rattle.stream_map.proofs.ServedLemmas.{one_place}
 use Rattle.stream_map.specs.Accepted.{Accepted}
 use Rattle.stream_map.specs.Children.{PlainPool, grid_file, numbered, plain, with_second, with_text}
-use Rattle.stream_map.specs.Faults.{fault_of, has_wrong_number, have_wrong_workers, names_unknown, own_workers, place_of}
+use Rattle.stream_map.specs.Faults.{map_fault, has_wrong_number, have_wrong_workers, names_unknown, own_workers, place_of}
 use Rattle.stream_map.specs.Form.{datas, each_of, has_only, if_some, is_map_key, is_pool_key, listed, map_of, name_of, names_of, pool_of, pool_with, program_of, stream_names, words_form, workers_of}
 use Rattle.stream_map.specs.Spelled.{Spelled, begins_grid, is_program}
 use Rattle.task_model.specs.declared.stream.Stream.{Stream}
@@ -42,11 +42,6 @@ not_told : {A : Type 0} (b : Bool) (x : A) (o : Option A) → cond b (Some x) o 
 not_told true x o e = absurd (cc)
 not_told false x o e = (refl, e)
 
-where_true : {A : Type 0} (b : Bool) (o : Option A) (y : A) → cond b o None ≡ Some y
-    → (b ≡ true) × (o ≡ Some y)
-where_true true o y e = (refl, e)
-where_true false o y e = absurd (cc)
-
 -- each of the pools names a stream
 abbrev AreNamed : List Spelled → Type 0
 AreNamed pools = (k : ℕ) (s : Spelled) → slice_get pools k ≡ Some s → 1 ≤ length s.streams
@@ -67,7 +62,8 @@ module _ (names : List (List ℕ)) where
       → All (λ (p : PlainPool). p.workers ≤ 16) (numbered names next pools)
   few_numbered next [] right = All-nil (λ (p : PlainPool). p.workers ≤ 16)
   few_numbered next (s ∷ pools) right =
-      all_cons (λ (p : PlainPool). p.workers ≤ 16) _ (numbered names (next + own_workers s) pools) (is_right s (left_false (has_wrong_number s) _ right)).few
+      all_cons (λ (p : PlainPool). p.workers ≤ 16) _
+      (numbered names (next + own_workers s) pools) (is_right s (left_false (has_wrong_number s) _ right)).few
       (few_numbered (next + own_workers s) pools (right_false (has_wrong_number s) _ right))
 
   some_numbered : (next : ℕ) (pools : List Spelled) → list_any (names_unknown names) pools ≡ false
@@ -79,7 +75,7 @@ module _ (names : List (List ℕ)) where
       (some_numbered (next + own_workers s) pools (right_false (names_unknown names s) _ known) (λ k t at. named (suc k) t at))
 
   -- pools without a fault
-  numbered_plain : (pools : List Spelled) → fault_of names pools ≡ None → AreNamed pools
+  numbered_plain : (pools : List Spelled) → map_fault names pools ≡ None → AreNamed pools
       → ArePlain (numbered names 0 pools)
   numbered_plain pools right named =
       let none = no_fault names pools right in
@@ -109,7 +105,9 @@ streams_of (Some r) (Some w) (Some names) s e =
 pool_named : (d : Data) (s : Spelled) → pool_of d ≡ Some s → 1 ≤ length s.streams
 pool_named d s e =
     let parts = where_true (has_only is_pool_key d) _ s e in
-    let streams = streams_of (option_and_then program_of (get (codes "run") d)) (workers_of (get (codes "workers") d)) (option_and_then names_of (get (codes "streams") d)) s parts.1 in
+    let streams =
+    streams_of (option_and_then program_of (get (codes "run") d))
+    (workers_of (get (codes "workers") d)) (option_and_then names_of (get (codes "streams") d)) s parts.1 in
     let value = and_then_some names_of (get (codes "streams") d) s.streams streams in
     let names = and_then_some if_some (listed name_of value.0) s.streams value.2 in
     some_named names.0 s.streams names.2
@@ -193,7 +191,8 @@ module _ (text : List ℕ) where
     where
       by : (b : Bool)
           → flat_map (λ (q : PlainPool). q.streams) (with_text text ps) ≡ flat_map (λ (q : PlainPool). q.streams) ps
-          → flat_map (λ (q : PlainPool). q.streams) (cond b (changed p ∷ ps) (p ∷ with_text text ps)) ≡ flat_map (λ (q : PlainPool). q.streams) (p ∷ ps)
+          → flat_map (λ (q : PlainPool). q.streams) (cond b (changed p ∷ ps) (p ∷ with_text text ps))
+          ≡ flat_map (λ (q : PlainPool). q.streams) (p ∷ ps)
       by true rest = refl
       by false rest = ap (λ ks. p.streams ++ ks) rest
 
@@ -228,7 +227,8 @@ module _ (told : Option FileMap) (w : SolveWords) (task : Task) where
 
   pub served_shown : (pools : List Pool) → AreServed told w task pools → ArePoolsOfReports pools
   served_shown pools served =
-      let are = placed_plain (grid_file (map plain served.meant)) served.meant pools served.text (meant_plain w.path served.meant served.means) in
+      let are = placed_plain (grid_file (map plain served.meant)) served.meant pools served.text
+      (meant_plain w.path served.meant served.means) in
       record {
         few = all_before plain (λ (p : PlainPool). p.workers ≤ 16) pools are.few;
         some = all_before plain (λ (p : PlainPool). 0 < length p.streams) pools are.some;

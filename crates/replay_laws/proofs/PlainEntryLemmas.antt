@@ -52,7 +52,11 @@ requests_unanswered : (task : Task) (before : List Entry) (number : ℕ) (is : L
 requests_unanswered task before number [] = refl
 requests_unanswered task before number (i ∷ is) =
     let one = entry.Ask number (yields_of (notes_of task before) i) (call_of_instance task (names_of task before) i) in
-    omega (arith, count_joined is_answer (one ∷ []) (requests_from task before (number + 1) is), requests_unanswered task before (number + 1) is)
+    omega (
+      arith,
+      count_joined is_answer (one ∷ []) (requests_from task before (number + 1) is),
+      requests_unanswered task before (number + 1) is,
+    )
 
 -- an answer is one entry of them, and no request
 answer_plain : (number : ℕ) (e : Entry) → is_answer_to number e ≡ true
@@ -76,14 +80,19 @@ answers_plain number (suc n) (e ∷ es) are =
 
 rounds_plain : (limits : Limits) (task : Task) (rounds : List (List Instance)) (list : List Instance) (before es : List Entry)
     → AreRounds limits.pools list rounds → AreRoundsRun task before rounds es → ArePlain es (length list)
-rounds_plain limits task [] list before es none run = subst (λ xs. ArePlain xs (length list)) (sym run) (subst (λ is. ArePlain [] (length is)) (sym none) (record { plain = refl; answers = refl; asks = refl }))
-rounds_plain limits task (round ∷ rounds) list before es (rest, parts, some, fit, full, more) (now, later, es_is, (answers, now_is, right), run) =
+rounds_plain limits task [] list before es none run =
+    subst (λ xs. ArePlain xs (length list)) (sym run)
+    (subst (λ is. ArePlain [] (length is)) (sym none) (record { plain = refl; answers = refl; asks = refl }))
+rounds_plain limits task (round ∷ rounds) list before es
+    (rest, parts, some, fit, full, more) (now, later, es_is, (answers, now_is, right), run) =
     let next = rounds_plain limits task rounds rest (before ++ now) later more run in
     let asks = requests task before round in
     let told = answers_plain (asks_of before + 1) (length round) answers right in
     let all : es ≡ (asks ++ answers) ++ later = es_is ∙ ap (λ xs. xs ++ later) now_is in
     let size = ap length parts ∙ length-append round rest in
-    let plain = joined_plain (asks ++ answers) later (joined_plain asks answers (requests_plain task before (asks_of before + 1) round) told.0) next.plain in
+    let plain =
+    joined_plain (asks ++ answers) later (joined_plain asks answers (requests_plain task before (asks_of before + 1) round) told.0)
+    next.plain in
     let first = count_joined is_answer (asks ++ answers) later in
     let second = count_joined is_answer asks answers in
     let none = requests_unanswered task before (asks_of before + 1) round in
@@ -102,10 +111,13 @@ level_plain : (limits : Limits) (task : Task) (before now : List Entry) (cut : B
     → ArePlain now (asks_of now)
 level_plain limits task before now cut level =
     let marked = before ++ entry.Level ∷ [] in
-    let batch = rounds_plain limits task level.batch.rounds (take (calls_left limits marked) level.list) marked level.rest level.batch.cut level.batch.run in
+    let batch =
+    rounds_plain limits task level.batch.rounds
+    (take (calls_left limits marked) level.list) marked level.rest level.batch.cut level.batch.run in
     let count = count_joined is_answer (entry.Level ∷ []) level.rest in
     let asks = asks_more (entry.Level ∷ []) level.rest in
-    subst (λ xs. ArePlain xs (asks_of xs)) (sym level.is) (record { plain = batch.plain; answers = omega (arith, count, asks, batch.answers, batch.asks); asks = refl })
+    subst (λ xs. ArePlain xs (asks_of xs)) (sym level.is)
+    (record { plain = batch.plain; answers = omega (arith, count, asks, batch.answers, batch.asks); asks = refl })
 
 -- Turns none of which stops inside have as many answers as requests.
 pub turns_plain : (limits : Limits) (task : Task) (kept : Unit {0}) (before es : List Entry) (stage : Stage)
@@ -117,7 +129,11 @@ turns_plain limits task kept before es stage (whole next {now = now} {rest = res
     let later = turns_plain limits task next (before ++ now) rest stage more resting in
     let count = count_joined is_answer now rest in
     let asks = asks_more now rest in
-    record { plain = joined_plain now rest here.plain later.plain; answers = omega (arith, here.answers, later.answers, count, asks); asks = refl }
+    record {
+      plain = joined_plain now rest here.plain later.plain;
+      answers = omega (arith, here.answers, later.answers, count, asks);
+      asks = refl;
+    }
 turns_plain limits task kept before es stage (cut_off next may turn) resting =
     level_plain limits task before es true turn
 turns_plain limits task kept before es stage (stopped next more cut may turn) resting =

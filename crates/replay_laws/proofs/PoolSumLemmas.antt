@@ -26,7 +26,9 @@ cover_more m p = by (cases_lt m p.first) (cases_lt m (p.first + p.workers))
     by (inl below) q = omega (arith, below)
     by (inr from) (inr past) = omega (arith, from, past)
     by (inr from) (inl within) =
-        let here : cond {A = ℕ} (has m p) 1 0 ≡ 1 = ap (λ b. cond {A = ℕ} b 1 0) (and_from (nat_le p.first m) (nat_lt m (p.first + p.workers)) (le-leb p.first m from) (lt-ltb m (p.first + p.workers) within)) in
+        let here : cond {A = ℕ} (has m p) 1 0 ≡ 1 =
+        ap (λ b. cond {A = ℕ} b 1 0) (and_from (nat_le p.first m) (nat_lt m (p.first + p.workers))
+        (le-leb p.first m from) (lt-ltb m (p.first + p.workers) within)) in
         omega (arith, from, within, here)
 
 module _ {A : Type 0} where
@@ -52,7 +54,9 @@ module _ {A : Type 0} where
   at_most_one : (f : A → Bool) (xs : List A)
       → ((j k : ℕ) (x y : A) → slice_get xs j ≡ Some x → slice_get xs k ≡ Some y → f x ≡ true → f y ≡ true → j ≡ k) → count_by f xs ≤ 1
   at_most_one f [] one = omega arith
-  at_most_one f (x ∷ xs) one = by (f x) refl (at_most_one f xs (λ j k y z at_j at_k. let same = one (suc j) (suc k) y z at_j at_k in λ fy fz. suc_same j k (same fy fz)))
+  at_most_one f (x ∷ xs) one =
+      by (f x) refl
+      (at_most_one f xs (λ j k y z at_j at_k. let same = one (suc j) (suc k) y z at_j at_k in λ fy fz. suc_same j k (same fy fz)))
     where
       by : (b : Bool) → f x ≡ b → count_by f xs ≤ 1 → count_by f (x ∷ xs) ≤ 1
       by true e rest =
@@ -79,7 +83,10 @@ module _ (task : Task) (all : List Workers) (fit : AreFitPools task all) where
   covered (suc m) = omega (arith, covered m, sum_more m all, at_most_one (has m) all own)
     where
       child : (p : Workers) → has m p ≡ true → HasChild p m
-      child p e = record { from = leb-true p.first m (first_so (nat_le p.first m) (nat_lt m (p.first + p.workers)) e); to = ltb-true m (p.first + p.workers) (second_so (nat_le p.first m) (nat_lt m (p.first + p.workers)) e) }
+      child p e = record {
+        from = leb-true p.first m (first_so (nat_le p.first m) (nat_lt m (p.first + p.workers)) e);
+        to = ltb-true m (p.first + p.workers) (second_so (nat_le p.first m) (nat_lt m (p.first + p.workers)) e);
+      }
 
       own : (j k : ℕ) (p q : Workers) → slice_get all j ≡ Some p → slice_get all k ≡ Some q
           → has m p ≡ true → has m q ≡ true → j ≡ k
@@ -100,7 +107,13 @@ module _ (task : Task) (all : List Workers) (fit : AreFitPools task all) where
 kept_workers : (pools : List Pool)
     → sum_by (λ (p : Workers). p.workers) (map workers_of pools) ≡ sum_by (λ (p : Pool). p.workers) pools
 kept_workers [] = refl
-kept_workers (p ∷ pools) = omega (arith, sum_next (λ (q : Workers). q.workers) (workers_of p) (map workers_of pools), sum_next (λ (q : Pool). q.workers) p pools, kept_workers pools)
+kept_workers (p ∷ pools) =
+    omega (
+      arith,
+      sum_next (λ (q : Workers). q.workers) (workers_of p) (map workers_of pools),
+      sum_next (λ (q : Pool). q.workers) p pools,
+      kept_workers pools,
+    )
 
 -- at most 17 together
 pub together : (task : Task) (pools : List Pool) → AreFitPools task (map workers_of pools)

@@ -17,9 +17,10 @@ use Rattle.task_model.specs.declared.task.Task.{Task}
 use Rattle.task_reader.specs.Tasks.{Spells}
 use Rattle.transcript_model.specs.declared.head.Head.{Head}
 use Rattle.replay_laws.proofs.MapPoolLemmas.{served_shown}
-use Rattle.replay_laws.proofs.WrittenLemmas.{text_same, written_valid}
+use Rattle.replay_laws.proofs.WrittenLemmas.{written_valid}
 use Rattle.replay_laws.specs.Solved.{AreSameTexts, SolvedReportsAreValid}
 use Rattle.replay_laws.specs.Written.{IsHeadOfReports}
+use Rattle.pddlstream_app.proofs.RunsLemmas.{whole_is}
 
 -- ---- the head of a run
 
@@ -46,9 +47,12 @@ same_task : (files later : FileMap) (paths others : TaskFiles) (t u : Task)
     → AreSameTexts files later paths others
     → IsTaskOf (Some files) paths t → IsTaskOf (Some later) others u → u ≡ t
 same_task files later paths others t u same x y =
-    let domain : y.domain ≡ x.domain = same_bytes files later paths.domain others.domain x.domain y.domain same.domain x.are.0.held y.are.0.held in
-    let problem : y.problem ≡ x.problem = same_bytes files later paths.problem others.problem x.problem y.problem same.problem x.are.1.0.held y.are.1.0.held in
-    let streams : y.streams ≡ x.streams = same_bytes files later paths.streams others.streams x.streams y.streams same.streams x.are.1.1.0.held y.are.1.1.0.held in
+    let domain : y.domain ≡ x.domain =
+    same_bytes files later paths.domain others.domain x.domain y.domain same.domain x.are.0.held y.are.0.held in
+    let problem : y.problem ≡ x.problem =
+    same_bytes files later paths.problem others.problem x.problem y.problem same.problem x.are.1.0.held y.are.1.0.held in
+    let streams : y.streams ≡ x.streams =
+    same_bytes files later paths.streams others.streams x.streams y.streams same.streams x.are.1.1.0.held y.are.1.1.0.held in
     one_task x.domain x.problem x.streams u t
     (subst (λ b. Spells x.domain x.problem b u) streams
     (subst (λ b. Spells x.domain b y.streams u) problem
@@ -62,18 +66,23 @@ solved_valid files later words others outside after status end text said solved 
     let run = solved.run in
     let whole = whole_text run.task run.head run.entries solved.outcome in
     let judging = judged.report in
-    let held : Holds (Some later) judged.asked.report judging.bytes = subst (λ told. Holds told judged.asked.report judging.bytes) second judging.has.held in
+    let held : Holds (Some later) judged.asked.report judging.bytes =
+    subst (λ told. Holds told judged.asked.report judging.bytes) second judging.has.held in
     let both : Some judging.bytes ≡ Some text = sym held ∙ report in
     let read : judging.bytes ≡ text = cc in
-    let wrote : judging.bytes ≡ whole = read ∙ solved.is ∙ sym (text_same run.task run.head run.entries solved.outcome) in
+    let wrote : judging.bytes ≡ whole = read ∙ solved.is ∙ sym (whole_is run.task run.head run.entries solved.outcome) in
     let task : judged.task ≡ run.task =
     same_task files later run.asked.files judged.asked.files run.task judged.task same
-    (subst (λ told. IsTaskOf told run.asked.files run.task) first run.spelled) (subst (λ told. IsTaskOf told judged.asked.files judged.task) second judged.spelled) in
+    (subst (λ told. IsTaskOf told run.asked.files run.task) first run.spelled)
+    (subst (λ told. IsTaskOf told judged.asked.files judged.task) second judged.spelled) in
     let verdict : IsVerdict judged.asked.states run.task whole judged.verdict =
-    subst (λ b. IsVerdict judged.asked.states run.task b judged.verdict) wrote (subst (λ t. IsVerdict judged.asked.states t judging.bytes judged.verdict) task judging.so) in
+    subst (λ b. IsVerdict judged.asked.states run.task b judged.verdict) wrote
+    (subst (λ t. IsVerdict judged.asked.states t judging.bytes judged.verdict) task judging.so) in
     let can = shown_head outside.files.told run.task run.asked run.head run.headed (in_range words (solve run.asked) run.meant) in
     let most = judging.has.short in
     let short : length whole < 2 ^ 31 = omega (arith, most, ap length wrote) in
     let states : run.head.states ≤ judged.asked.states = omega (arith, le, run.headed.states) in
-    let valid : judged.verdict ≡ Valid = written_valid run.task run.head run.entries solved.outcome run.fit can solved.turns judged.asked.states judged.verdict short states verdict in
+    let valid : judged.verdict ≡ Valid =
+    written_valid run.task run.head run.entries solved.outcome run.fit can solved.turns judged.asked.states judged.verdict short states
+    verdict in
     (sym judged.kind ∙ ap kind_of_verdict valid, judged.is ∙ ap verdict_text valid)

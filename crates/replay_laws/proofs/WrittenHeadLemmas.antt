@@ -34,15 +34,10 @@ use Rattle.transcript_model.specs.declared.head.Head.{Head}
 use Rattle.transcript_model.specs.declared.head.Pool.{Pool}
 use Rattle.transcript_model.specs.declared.head.PoolLine.{PoolLine}
 use Rattle.transcript_model.specs.declared.outcome.Outcome.{Outcome}
-use Rattle.transcript_model.specs.declared.report.Report.{Report}
 use Rattle.replay_laws.proofs.PoolSumLemmas.{together}
 use Rattle.replay_laws.specs.Written.{IsHeadOfReports}
 use Rattle.lemmas.proofs.Options.{and_then_some}
-
--- the report of a run with this outcome
-abbrev pub report_of : Task → Head → List Entry → Outcome → Report
-report_of task head entries o =
-    record { version = head.version; mode = head.mode; calls = head.calls; states = head.states; depth = head.depth; pools = map (shown_pool task) head.pools; entries = entries; outcome = o }
+use Rattle.pddlstream_app.specs.Runs.{report_of}
 
 -- the streams are the task's
 abbrev AreStreams : Task → List ℕ → Type 0
@@ -57,8 +52,11 @@ module _ (task : Task) (fit : IsFit task) where
   stream_found : (k : ℕ) → k < length task.streams → stream_named task (stream_name task k) ≡ Some k
   stream_found k below =
       let i : Instance = record { stream = k; inputs = [] } in
-      let whole = call_names_instance task [] i fit (λ a b x at_a at_b. absurd (nothing a x at_a)) below (λ o there. absurd (none o there)) in
-      let first = and_then_some (λ stream. option_map (λ inputs. record { stream = stream; inputs = inputs }) (Some [])) (stream_named task (stream_name task k)) i whole in
+      let whole =
+      call_names_instance task [] i fit (λ a b x at_a at_b. absurd (nothing a x at_a)) below (λ o there. absurd (none o there)) in
+      let first =
+      and_then_some (λ stream. option_map (λ inputs. record { stream = stream; inputs = inputs }) (Some []))
+      (stream_named task (stream_name task k)) i whole in
       let second = map_some (λ inputs. record { stream = first.0; inputs = inputs }) (Some []) i first.2 in
       let same : first.0 ≡ k = ap (λ (j : Instance). j.stream) second.2 in
       first.1 ∙ ap Some same
@@ -75,7 +73,10 @@ module _ (task : Task) (fit : IsFit task) where
       let place = position_at (λ (s : Stream). same_numbers (stream_name task k) s.name) task.streams k (stream_found k below) in
       let same = (numbers_decided (stream_name task k) place.0.name).0 place.2 in
       let there = slice_get-map (λ (s : Stream). s.name) task.streams k ∙ ap (option_map (λ (s : Stream). s.name)) place.1 in
-      ap is_name same ∙ All-contains (λ name. is_name name ≡ true) (map (λ (s : Stream). s.name) task.streams) place.0.name (passes_all is_name (λ name. is_name name ≡ true) (map (λ (s : Stream). s.name) task.streams) (λ name e. e) fit.streams.names.each) (member_at (map (λ (s : Stream). s.name) task.streams) k place.0.name there)
+      ap is_name same
+      ∙ All-contains (λ name. is_name name ≡ true) (map (λ (s : Stream). s.name) task.streams) place.0.name
+      (passes_all is_name (λ name. is_name name ≡ true) (map (λ (s : Stream). s.name) task.streams)
+      (λ name e. e) fit.streams.names.each) (member_at (map (λ (s : Stream). s.name) task.streams) k place.0.name there)
 
   all_found : (streams : List ℕ) → AreStreams task streams
       → filter_map (stream_named task) (map (stream_name task) streams) ≡ streams
@@ -100,7 +101,15 @@ module _ (task : Task) (fit : IsFit task) where
   pub limits_same : (head : Head) (entries : List Entry) (o : Outcome)
       → All (λ (p : Pool). AreStreams task p.streams) head.pools
       → limits_in task (report_of task head entries o) ≡ limits_of head
-  limits_same head entries o are = λ i. record { version = head.version; mode = head.mode; calls = head.calls; states = head.states; depth = head.depth; pools = shares_same head.pools are i }
+  limits_same head entries o are =
+      λ i. record {
+        version = head.version;
+        mode = head.mode;
+        calls = head.calls;
+        states = head.states;
+        depth = head.depth;
+        pools = shares_same head.pools are i;
+      }
 
   -- ---- pools
 
@@ -143,7 +152,8 @@ module _ (task : Task) (fit : IsFit task) where
   all_new before [] are distinct = refl
   all_new before (s ∷ streams) are distinct =
       let found = stream_found s (All-head (λ stream. stream < length task.streams) s streams are) in
-      let rest = all_new (before ++ s ∷ []) streams (All-tail (λ stream. stream < length task.streams) s streams are) (subst AreDistinct (sym (append_assoc before (s ∷ []) streams)) distinct) in
+      let rest = all_new (before ++ s ∷ []) streams (All-tail (λ stream. stream < length task.streams) s streams are)
+      (subst AreDistinct (sym (append_assoc before (s ∷ []) streams)) distinct) in
       rw (found, fresh before s streams distinct, rest) refl
 
   front_distinct : (xs ys : List ℕ) → AreDistinct (xs ++ ys) → AreDistinct xs
@@ -173,7 +183,8 @@ module _ (task : Task) (fit : IsFit task) where
     one_fits place p at =
         let there = member_at head.pools place p at in
         let before = take place head.pools in
-        let own = can.runnable.fit.pools.some place (workers_of p) (slice_get-map workers_of head.pools place ∙ ap (option_map workers_of) at) in
+        let own = can.runnable.fit.pools.some place
+        (workers_of p) (slice_get-map workers_of head.pools place ∙ ap (option_map workers_of) at) in
         let few = All-contains (λ (q : Pool). q.workers ≤ 16) head.pools p can.pools.few there in
         let parts = cut_at head.pools place p at in
         let sums = ap (sum_by (λ (q : Pool). q.workers)) parts in
@@ -183,10 +194,15 @@ module _ (task : Task) (fit : IsFit task) where
         let sum = together task head.pools can.runnable.fit.pools in
         let taken = All-take (λ (q : Pool). AreStreams task q.streams) place head.pools are in
         let lists : streams_of head.pools ≡ (streams_of before ++ p.streams) ++ streams_of (drop (suc place) head.pools) =
-        ap streams_of parts ∙ flat_map-append (λ (q : Pool). q.streams) before (p ∷ drop (suc place) head.pools) ∙ sym (append_assoc (streams_of before) p.streams (streams_of (drop (suc place) head.pools))) in
-        let apart = front_distinct (streams_of before ++ p.streams) (streams_of (drop (suc place) head.pools)) (subst AreDistinct lists can.pools.once) in
-        let new = all_new (streams_of before) p.streams (All-contains (λ (q : Pool). AreStreams task q.streams) head.pools p are there) apart in
-        and_four (nat_le 1 p.workers) (nat_le p.workers 16) (nat_le (workers_in (map (shown_pool task) before) + p.workers) 17) (are_new task (served_by task (map (shown_pool task) before)) (map (stream_name task) p.streams))
+        ap streams_of parts ∙ flat_map-append (λ (q : Pool). q.streams) before (p ∷ drop (suc place) head.pools)
+        ∙ sym (append_assoc (streams_of before) p.streams (streams_of (drop (suc place) head.pools))) in
+        let apart =
+        front_distinct (streams_of before ++ p.streams)
+        (streams_of (drop (suc place) head.pools)) (subst AreDistinct lists can.pools.once) in
+        let new = all_new (streams_of before) p.streams
+        (All-contains (λ (q : Pool). AreStreams task q.streams) head.pools p are there) apart in
+        and_four (nat_le 1 p.workers) (nat_le p.workers 16) (nat_le (workers_in (map (shown_pool task) before) + p.workers) 17)
+        (are_new task (served_by task (map (shown_pool task) before)) (map (stream_name task) p.streams))
         (le-leb 1 p.workers own) (le-leb p.workers 16 few)
         (le-leb (workers_in (map (shown_pool task) before) + p.workers) 17 (omega (arith, sums, first, second, shown, sum)))
         (subst (λ ss. are_new task ss (map (stream_name task) p.streams) ≡ true) (sym (served_same before taken)) new)
@@ -208,8 +224,12 @@ module _ (task : Task) (fit : IsFit task) where
         let in_pool : list_any (λ t. t == k) p.0.streams ≡ true = ap (λ (w : Workers). list_any (λ t. t == k) w.streams) p.2 ∙ found.2 in
         let place = any_found (λ t. t == k) p.0.streams in_pool in
         let name : stream_name task place.1 ≡ s.name = ap (stream_name task) (eqb-true place.1 k place.3) ∙ (rw at refl) in
-        let inner = any_passes_from_place (same_numbers s.name) (map (stream_name task) p.0.streams) place.0 (stream_name task place.1) (slice_get-map (stream_name task) p.0.streams place.0 ∙ ap (option_map (stream_name task)) place.2) ((numbers_decided s.name (stream_name task place.1)).1 (sym name)) in
-        any_passes_from_place (λ (q : PoolLine). list_any (same_numbers s.name) q.streams) (map (shown_pool task) head.pools) found.0 (shown_pool task p.0) (slice_get-map (shown_pool task) head.pools found.0 ∙ ap (option_map (shown_pool task)) p.1) inner
+        let inner =
+        any_passes_from_place (same_numbers s.name) (map (stream_name task) p.0.streams) place.0 (stream_name task place.1)
+        (slice_get-map (stream_name task) p.0.streams place.0 ∙ ap (option_map (stream_name task)) place.2)
+        ((numbers_decided s.name (stream_name task place.1)).1 (sym name)) in
+        any_passes_from_place (λ (q : PoolLine). list_any (same_numbers s.name) q.streams) (map (shown_pool task) head.pools) found.0
+        (shown_pool task p.0) (slice_get-map (shown_pool task) head.pools found.0 ∙ ap (option_map (shown_pool task)) p.1) inner
 
     -- ---- the head fits
 
@@ -221,8 +241,13 @@ module _ (task : Task) (fit : IsFit task) where
         → IsFitHead task (report_of task head entries o)
     head_fits entries o = record {
       mode = can.mode;
-      limits = six (nat_le 1 head.calls) (nat_le head.calls 100000) (nat_le 1 head.states) (nat_le head.states 200000) (nat_le 1 head.depth) (nat_le head.depth 8)
-          (le-leb 1 head.calls can.runnable.fit.some_calls) (le-leb head.calls 100000 can.runnable.fit.calls) (le-leb 1 head.states can.runnable.some_states) (le-leb head.states 200000 can.runnable.few_states) (le-leb 1 head.depth can.some_depth) (le-leb head.depth 8 can.depth);
+      limits = six (nat_le 1 head.calls) (nat_le head.calls 100000) (nat_le 1 head.states) (nat_le head.states 200000)
+          (nat_le 1 head.depth) (nat_le head.depth 8)
+          (le-leb 1 head.calls can.runnable.fit.some_calls) (le-leb head.calls 100000 can.runnable.fit.calls)
+          (le-leb 1 head.states can.runnable.some_states) (le-leb head.states 200000 can.runnable.few_states)
+          (le-leb 1 head.depth can.some_depth) (le-leb head.depth 8 can.depth);
       pools = pools_fit;
-      served = all_from (λ (s : Stream). list_any (λ (p : PoolLine). list_any (same_numbers s.name) p.streams) (map (shown_pool task) head.pools)) task.streams is_served;
+      served = all_from
+          (λ (s : Stream). list_any (λ (p : PoolLine). list_any (same_numbers s.name) p.streams) (map (shown_pool task) head.pools))
+          task.streams is_served;
     }

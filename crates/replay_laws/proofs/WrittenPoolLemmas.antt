@@ -27,6 +27,7 @@ one_pool task pools (inl none) = subst ArePoolsOfReports (sym none) (record {
 one_pool task pools (inr (pool, is, few, streams, some)) =
     subst ArePoolsOfReports (sym is) (record {
       few = all_one (λ (p : Pool). p.workers ≤ 16) pool few;
-      some = all_one (λ (p : Pool). 0 < length p.streams) pool (omega (arith, some, ap length streams, length-numbers_from 0 (length task.streams)));
+      some = all_one (λ (p : Pool). 0 < length p.streams) pool
+          (omega (arith, some, ap length streams, length-numbers_from 0 (length task.streams)));
       once = subst AreDistinct (sym (append-nil pool.streams ∙ streams)) (numbers_distinct 0 (length task.streams));
     })

@@ -1,4 +1,5 @@
--- What a run of incremental mode writes is valid. Each law is the contract of a public function of `lib.rt`, and so is proved.
+-- What a run of incremental mode writes is valid. Each law is the contract of a public function of `lib.rt`, and so is
+-- proved.
 use Rattle.std.specs.Prelude.{◌≡◌, ◌⊎◌, ℕ, ◌^◌, ◌<◌, ◌≤◌, List, [], ◌∷◌, length, All}
 use Rattle.std.specs.List.{flat_map}
 use Rattle.level_run.specs.Reports.{IsRun, whole_text}
@@ -13,11 +14,12 @@ use Rattle.transcript_model.specs.declared.entry.Entry.{Entry}
 use Rattle.transcript_model.specs.declared.head.Head.{Head}
 use Rattle.transcript_model.specs.declared.head.Mode.TheVariants.{Incremental}
 use Rattle.transcript_model.specs.declared.head.Pool.{Pool}
+use Rattle.transcript_model.specs.declared.limits.TheConstants.{MOST_DEPTH, WORKERS}
 use Rattle.transcript_model.specs.declared.outcome.Outcome.{Outcome}
 
 -- Each pool has at most 16 workers, and one stream at least; no stream is in two places.
 pub record ArePoolsOfReports (pools : List Pool) : Type 0 where
-  pub few : All (λ (p : Pool). p.workers ≤ 16) pools
+  pub few : All (λ (p : Pool). p.workers ≤ WORKERS) pools
   pub some : All (λ (p : Pool). 0 < length p.streams) pools
   pub once : AreDistinct (flat_map (λ (p : Pool). p.streams) pools)
 
@@ -25,7 +27,8 @@ pub record ArePoolsOfReports (pools : List Pool) : Type 0 where
 abbrev pub IsOnePool : Task → List Pool → Type 0
 IsOnePool task pools =
     (pools ≡ [])
-    ⊎ ((pool : Pool) × (pools ≡ pool ∷ []) × (pool.workers ≤ 16) × (pool.streams ≡ numbers_from 0 (length task.streams)) × (0 < length task.streams))
+    ⊎ ((pool : Pool) × (pools ≡ pool ∷ []) × (pool.workers ≤ WORKERS)
+    × (pool.streams ≡ numbers_from 0 (length task.streams)) × (0 < length task.streams))
 
 -- The one pool of a run without a map is such as a report shows.
 abbrev pub OnePoolIsOfReports : Type 0
@@ -37,11 +40,13 @@ pub record IsHeadOfReports (task : Task) (head : Head) : Type 0 where
   pub runnable : IsRunnable task head
   pub mode : head.mode ≡ Incremental
   pub some_depth : 1 ≤ head.depth
-  pub depth : head.depth ≤ 8
+  pub depth : head.depth ≤ MOST_DEPTH
   pub pools : ArePoolsOfReports head.pools
 
--- Of a whole report that a run wrote, of fewer than 2^31 bytes, a replay with a limit of at least the run's says nothing but that
--- it is valid.
+-- Of a whole report that a run wrote, of fewer than 2^31 bytes, a replay with a limit of at least the run's says
+-- nothing but that it is valid.
 abbrev pub WrittenReportsAreValid : Type 0
 WrittenReportsAreValid =
-    (limit : ℕ) (task : Task) (head : Head) (entries : List Entry) (o : Outcome) (v : Verdict) → IsFit task → IsHeadOfReports task head → IsRun task head entries o → length (whole_text task head entries o) < 2 ^ 31 → head.states ≤ limit → IsVerdict limit task (whole_text task head entries o) v → v ≡ Valid
+    (limit : ℕ) (task : Task) (head : Head) (entries : List Entry) (o : Outcome) (v : Verdict) → IsFit task
+    → IsHeadOfReports task head → IsRun task head entries o → length (whole_text task head entries o) < 2 ^ 31
+    → head.states ≤ limit → IsVerdict limit task (whole_text task head entries o) v → v ≡ Valid

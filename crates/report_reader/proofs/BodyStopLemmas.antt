@@ -67,32 +67,49 @@ uses_front : (v : ℕ) (us : List DreamUse) (steps m k : ℕ) → k ≡ length u
 uses_front v [] steps m k e all =
     let same : k ≡ m = omega (arith, e) in ap (λ n. dreaming v n steps) same
 uses_front v (u ∷ us) steps m zero e all = absurd (omega (arith, e))
-uses_front v (u ∷ us) steps m (suc k) e all = (dreaming v k steps, (u, All-head IsFormedUse u us all, refl, refl), uses_front v us steps m k (omega (arith, e)) (All-tail IsFormedUse u us all))
+uses_front v (u ∷ us) steps m (suc k) e all = (
+  dreaming v k steps,
+  (u, All-head IsFormedUse u us all, refl, refl),
+  uses_front v us steps m k (omega (arith, e)) (All-tail IsFormedUse u us all),
+)
 
 steps_front : (v : ℕ) (cs : List Call) (m k : ℕ) → k ≡ length cs + m → All (IsFormedCall IsTerm) cs
     → IsPath (dreaming v 0 k) (map step_line cs) (dreaming v 0 m)
 steps_front v [] m k e all = let same : k ≡ m = omega (arith, e) in ap (λ n. dreaming v 0 n) same
 steps_front v (c ∷ cs) m zero e all = absurd (omega (arith, e))
-steps_front v (c ∷ cs) m (suc k) e all = (dreaming v 0 k, (c, All-head (IsFormedCall IsTerm) c cs all, refl, refl), steps_front v cs m k (omega (arith, e)) (All-tail (IsFormedCall IsTerm) c cs all))
+steps_front v (c ∷ cs) m (suc k) e all = (
+  dreaming v 0 k,
+  (c, All-head (IsFormedCall IsTerm) c cs all, refl, refl),
+  steps_front v cs m k (omega (arith, e)) (All-tail (IsFormedCall IsTerm) c cs all),
+)
 
 pub uses_stop : (v uses steps : ℕ) (old new : Rows) → TakesFewer IsFormedUse use_line uses old new → Stops (dreaming v uses steps) old new
 uses_stop v uses steps old new t =
-    stops_behind (dreaming v uses steps) (dreaming v (uses - length t.xs) steps) (map use_line t.xs) old new new (uses_front v t.xs steps (uses - length t.xs) uses (omega (arith, t.fewer)) t.formed) t.lines (held (uses - length t.xs) (omega (arith, t.fewer)))
+    stops_behind (dreaming v uses steps) (dreaming v (uses - length t.xs) steps) (map use_line t.xs) old new new
+    (uses_front v t.xs steps (uses - length t.xs) uses (omega (arith, t.fewer)) t.formed) t.lines
+    (held (uses - length t.xs) (omega (arith, t.fewer)))
   where
     held : (m : ℕ) → 0 < m → Stops (dreaming v m steps) new new
     held zero some = absurd (omega arith)
-    held (suc m) some = stops_at (dream v (suc m) steps) new new refl (λ e. absurd (cc)) (λ l rest to e step. t.none step.0 rest step.1 (shown_so use_line step.0 l rest new step.2 e))
+    held (suc m) some =
+        stops_at (dream v (suc m) steps) new new refl
+        (λ e. absurd (cc)) (λ l rest to e step. t.none step.0 rest step.1 (shown_so use_line step.0 l rest new step.2 e))
 
 pub steps_stop : (v uses steps : ℕ) (us : List DreamUse) (old mid new : Rows)
     → TakesMany IsFormedUse use_line uses us old mid
     → TakesFewer (IsFormedCall IsTerm) step_line steps mid new → Stops (dreaming v uses steps) old new
 steps_stop v uses steps us old mid new many t =
-    stops_behind (dreaming v uses steps) (dreaming v 0 steps) (map use_line us) old mid new (uses_front v us steps 0 uses (omega (arith, many.many)) many.formed) many.lines
-    (stops_behind (dreaming v 0 steps) (dreaming v 0 (steps - length t.xs)) (map step_line t.xs) mid new new (steps_front v t.xs (steps - length t.xs) steps (omega (arith, t.fewer)) t.formed) t.lines (held (steps - length t.xs) (omega (arith, t.fewer))))
+    stops_behind (dreaming v uses steps) (dreaming v 0 steps)
+    (map use_line us) old mid new (uses_front v us steps 0 uses (omega (arith, many.many)) many.formed) many.lines
+    (stops_behind (dreaming v 0 steps) (dreaming v 0 (steps - length t.xs)) (map step_line t.xs) mid new new
+    (steps_front v t.xs (steps - length t.xs) steps (omega (arith, t.fewer)) t.formed) t.lines
+    (held (steps - length t.xs) (omega (arith, t.fewer))))
   where
     held : (m : ℕ) → 0 < m → Stops (dreaming v 0 m) new new
     held zero some = absurd (omega arith)
-    held (suc m) some = stops_at (dream v 0 (suc m)) new new refl (λ e. absurd (cc)) (λ l rest to e step. t.none step.0 rest step.1 (shown_so step_line step.0 l rest new step.2 e))
+    held (suc m) some =
+        stops_at (dream v 0 (suc m)) new new refl
+        (λ e. absurd (cc)) (λ l rest to e step. t.none step.0 rest step.1 (shown_so step_line step.0 l rest new step.2 e))
 
 pub dream_whole : (v uses steps : ℕ) (e : Entry) (old mid new : Rows) → IsDream v uses steps e
     → map fields_of (dream_lines e) ++ new ≡ mid
@@ -105,7 +122,8 @@ pub dream_stop : (v uses steps : ℕ) (old mid new : Rows) → IsNumber uses →
     → fields_of (dream_line uses steps) ∷ mid ≡ old
     → Stops (dreaming v uses steps) mid new → Stops (entries v) old new
 dream_stop v uses steps old mid new few short first_is s =
-    stops_behind (entries v) (dreaming v uses steps) (dream_line uses steps ∷ []) old mid new (dreaming v uses steps, inr (inl (uses, steps, few, short, refl, refl)), refl) first_is s
+    stops_behind (entries v) (dreaming v uses steps)
+    (dream_line uses steps ∷ []) old mid new (dreaming v uses steps, inr (inl (uses, steps, few, short, refl, refl)), refl) first_is s
 
 -- ---- lines among the entries
 
@@ -121,7 +139,8 @@ shown_body v l to (inr (inr (inr (inr (kind, e), next)))) = (Ends (Limit kind), 
 pub body_stop : (v : ℕ) (old new : Rows) → TakesLine (IsBodyLine v) body_line None old new
     → Stops (entries v) old new
 body_stop v old new t =
-    stops_at (entries v) old new t.0 (λ e. absurd (cc)) (λ l rest to e step. let b = shown_body v l to step in t.1 b.0 rest b.1 (shown_so body_line b.0 l rest old b.2 e))
+    stops_at (entries v) old new t.0 (λ e. absurd (cc))
+    (λ l rest to e step. let b = shown_body v l to step in t.1 b.0 rest b.1 (shown_so body_line b.0 l rest old b.2 e))
 
 -- ---- entries
 
@@ -148,7 +167,8 @@ pub front_next : (v : ℕ) (es : List Entry) (e : Entry) (old mid new : Rows)
 front_next v es e old mid new f formed is = record {
   formed = All-push (IsFormedEntry v) es e f.formed formed;
   lines =
-      ap (λ ls. map fields_of ls ++ new) (flat_map-append entry_lines es (e ∷ []) ∙ ap (λ ls. flat_map entry_lines es ++ ls) (append-nil (entry_lines e)))
+      ap (λ ls. map fields_of ls ++ new)
+      (flat_map-append entry_lines es (e ∷ []) ∙ ap (λ ls. flat_map entry_lines es ++ ls) (append-nil (entry_lines e)))
       ∙ shown_then (flat_map entry_lines es) (entry_lines e) new ∙ ap (λ l. map fields_of (flat_map entry_lines es) ++ l) is ∙ f.lines;
 }
 
@@ -156,8 +176,11 @@ pub front_end : (v : ℕ) (es : List Entry) (ending : Ending) (old mid new : Row
     → IsReportFront v es old mid → IsEnding ending
     → fields_of (ending_line ending) ∷ new ≡ mid
     → (All (IsFormedEntry v) es × IsEnding ending) × (map fields_of (flat_map entry_lines es ++ ending_line ending ∷ []) ++ new ≡ old)
-front_end v es ending old mid new f formed is =
-    ((f.formed, formed), shown_then (flat_map entry_lines es) (ending_line ending ∷ []) new ∙ ap (λ l. map fields_of (flat_map entry_lines es) ++ l) is ∙ f.lines)
+front_end v es ending old mid new f formed is = (
+  (f.formed, formed),
+  shown_then (flat_map entry_lines es) (ending_line ending ∷ []) new ∙ ap (λ l. map fields_of (flat_map entry_lines es) ++ l) is
+      ∙ f.lines,
+)
 
 pub front_stop : (v : ℕ) (es : List Entry) (old mid new : Rows) → IsReportFront v es old mid
     → Stops (entries v) mid new
@@ -171,7 +194,11 @@ dos_front : (v : ℕ) (cs : List Call) (m k : ℕ) → k ≡ length cs + m → A
     → IsPath (planning v k) (map do_line cs) (planning v m)
 dos_front v [] m k e all = let same : k ≡ m = omega (arith, e) in ap (planning v) same
 dos_front v (c ∷ cs) m zero e all = absurd (omega (arith, e))
-dos_front v (c ∷ cs) m (suc k) e all = (planning v k, (c, All-head (IsFormedCall IsTerm) c cs all, refl, refl), dos_front v cs m k (omega (arith, e)) (All-tail (IsFormedCall IsTerm) c cs all))
+dos_front v (c ∷ cs) m (suc k) e all = (
+  planning v k,
+  (c, All-head (IsFormedCall IsTerm) c cs all, refl, refl),
+  dos_front v cs m k (omega (arith, e)) (All-tail (IsFormedCall IsTerm) c cs all),
+)
 
 origins_front : (v : ℕ) (os : List Origin) → All (IsFormedOrigin v) os
     → IsPath (origins v) (map (from_line v) os) (origins v)
@@ -182,22 +209,29 @@ origins_front v (o ∷ os) all =
 pub plan_stop : (v steps : ℕ) (old new : Rows)
     → TakesFewer (IsFormedCall IsTerm) do_line steps old new → Stops (planning v steps) old new
 plan_stop v steps old new t =
-    stops_behind (planning v steps) (planning v (steps - length t.xs)) (map do_line t.xs) old new new (dos_front v t.xs (steps - length t.xs) steps (omega (arith, t.fewer)) t.formed) t.lines (held (steps - length t.xs) (omega (arith, t.fewer)))
+    stops_behind (planning v steps) (planning v (steps - length t.xs)) (map do_line t.xs) old new new
+    (dos_front v t.xs (steps - length t.xs) steps (omega (arith, t.fewer)) t.formed) t.lines
+    (held (steps - length t.xs) (omega (arith, t.fewer)))
   where
     held : (m : ℕ) → 0 < m → Stops (planning v m) new new
     held zero some = absurd (omega arith)
-    held (suc m) some = stops_at (plan v (suc m)) new new refl (λ e. absurd (cc)) (λ l rest to e step. t.none step.0 rest step.1 (shown_so do_line step.0 l rest new step.2 e))
+    held (suc m) some =
+        stops_at (plan v (suc m)) new new refl
+        (λ e. absurd (cc)) (λ l rest to e step. t.none step.0 rest step.1 (shown_so do_line step.0 l rest new step.2 e))
 
 plan_then : (v steps : ℕ) (cs : List Call) (old mid new : Rows)
     → TakesMany (IsFormedCall IsTerm) do_line steps cs old mid
     → Stops (cost v) mid new → Stops (planning v steps) old new
-plan_then v steps cs old mid new many s = stops_behind (planning v steps) (cost v) (map do_line cs) old mid new (dos_front v cs 0 steps (omega (arith, many.many)) many.formed) many.lines s
+plan_then v steps cs old mid new many s =
+    stops_behind (planning v steps) (cost v) (map do_line cs) old mid new
+    (dos_front v cs 0 steps (omega (arith, many.many)) many.formed) many.lines s
 
 pub cost_stop : (v steps : ℕ) (cs : List Call) (old mid new : Rows)
     → TakesMany (IsFormedCall IsTerm) do_line steps cs old mid
     → TakesLine (λ c. c < 2 ^ 64) cost_line None mid new → Stops (planning v steps) old new
 cost_stop v steps cs old mid new many t =
-    plan_then v steps cs old mid new many (stops_at (cost v) mid new t.0 (λ e. absurd (cc)) (λ l rest to e step. t.1 step.0 rest step.1 (shown_so cost_line step.0 l rest mid step.2 e)))
+    plan_then v steps cs old mid new many (stops_at (cost v) mid new t.0
+    (λ e. absurd (cc)) (λ l rest to e step. t.1 step.0 rest step.1 (shown_so cost_line step.0 l rest mid step.2 e)))
 
 pub done_stop : (v steps c : ℕ) (cs : List Call) (os : List Origin) (old mid later final new : Rows)
     → TakesMany (IsFormedCall IsTerm) do_line steps cs old mid → TakesLine (λ c. c < 2 ^ 64) cost_line (Some c) mid later
@@ -205,7 +239,8 @@ pub done_stop : (v steps c : ℕ) (cs : List Call) (os : List Origin) (old mid l
 done_stop v steps c cs os old mid later final new many t from same none =
     plan_then v steps cs old mid new many
     (stops_behind (cost v) (origins v) (cost_line c ∷ []) mid later new (origins v, (c, t.0, refl, refl), refl) t.1
-    (stops_behind (origins v) (origins v) (map (from_line v) os) later final new (origins_front v os from.formed) from.lines (stops_at (origins v) final new same (λ e. absurd (cc)) held)))
+    (stops_behind (origins v) (origins v) (map (from_line v) os) later final new
+    (origins_front v os from.formed) from.lines (stops_at (origins v) final new same (λ e. absurd (cc)) held)))
   where
     held : (l : Line) (rest : Rows) (to : Place) → fields_of l ∷ rest ≡ final
         → IsLineStep (origins v) l to → ⊥

@@ -33,7 +33,9 @@ stuck_text : (at : Place) (texts : List (List ℕ)) (new : List (List (List ℕ)
     → map (slice_split is_space) texts ≡ new → IsHeld at new
     → IsStuck at texts
 stuck_text at [] new e held = held.last (sym e)
-stuck_text at (t ∷ texts) new e held = λ next step. held.next step.0 (map (slice_split is_space) texts) next (ap (λ f. f ∷ map (slice_split is_space) texts) (sym (cut_fields at step.0 next t step.2 step.1)) ∙ e) step.2
+stuck_text at (t ∷ texts) new e held =
+    λ next step. held.next step.0 (map (slice_split is_space) texts) next
+    (ap (λ f. f ∷ map (slice_split is_space) texts) (sym (cut_fields at step.0 next t step.2 step.1)) ∙ e) step.2
 
 -- how many lines have been passed
 passed_lines : (bytes : List ℕ) (new : List (List (List ℕ))) (s : Stops first (field_lines bytes) new)
@@ -71,15 +73,19 @@ whole_texts : (bytes : List ℕ) (r : Report) (new : List (List (List ℕ)))
     → map fields_of (lines_of_report r) ++ new ≡ field_lines bytes
     → length new ≡ 0 → map line_body (report_lines r) ≡ whole_lines bytes
 whole_texts bytes r new is none =
-    joined_lines (lines_of_report r) (whole_lines bytes) (sym is ∙ ap (λ l. map fields_of (lines_of_report r) ++ l) (nil_from_length new none) ∙ append-nil (map fields_of (lines_of_report r)))
+    joined_lines (lines_of_report r) (whole_lines bytes)
+    (sym is ∙ ap (λ l. map fields_of (lines_of_report r) ++ l) (nil_from_length new none)
+    ∙ append-nil (map fields_of (lines_of_report r)))
 
 -- something stands behind the last line feed of a whole report
 pub rest_is_fault : (bytes : List ℕ) (r : Report) (new : List (List (List ℕ))) → IsFormed r
     → map fields_of (lines_of_report r) ++ new ≡ field_lines bytes → length new ≡ 0 → ¬ (unfinished bytes ≡ [])
     → IsFirstFault bytes (length (field_lines bytes) - length new + 1)
 rest_is_fault bytes r new formed is none some =
-    let count : length (whole_lines bytes) ≡ length (field_lines bytes) - length new = omega (arith, none, length-map (whole_lines bytes) (slice_split is_space)) in
-    subst (λ n. IsFirstFault bytes (n + 1)) count (leftover_fault bytes (report_lines r, whole_texts bytes r new is none, report_path r formed) (filled (unfinished bytes) some))
+    let count : length (whole_lines bytes) ≡ length (field_lines bytes) - length new =
+    omega (arith, none, length-map (whole_lines bytes) (slice_split is_space)) in
+    subst (λ n. IsFirstFault bytes (n + 1)) count
+    (leftover_fault bytes (report_lines r, whole_texts bytes r new is none, report_path r formed) (filled (unfinished bytes) some))
   where
     filled : (xs : List ℕ) → ¬ (xs ≡ []) → 0 < length xs
     filled [] some = absurd (some refl)

@@ -24,7 +24,8 @@ all_middle P (z ∷ xs) x ys all = all_middle P xs x ys (λ k d lt. all (suc k) 
 pub push_line : {A : Type 0} (line_of : A → Line) (xs : List A) (x : A) (left new all : List (List (List ℕ)))
     → shown_lines line_of xs ++ left ≡ all → fields_of (line_of x) ∷ new ≡ left → shown_lines line_of (xs ++ x ∷ []) ++ new ≡ all
 push_line line_of xs x left new all is next =
-    let shown : shown_lines line_of (xs ++ x ∷ []) ≡ shown_lines line_of xs ++ fields_of (line_of x) ∷ [] = ap (map fields_of) (map-append line_of xs (x ∷ [])) ∙ map-append fields_of (map line_of xs) (line_of x ∷ []) in
+    let shown : shown_lines line_of (xs ++ x ∷ []) ≡ shown_lines line_of xs ++ fields_of (line_of x) ∷ [] =
+    ap (map fields_of) (map-append line_of xs (x ∷ [])) ∙ map-append fields_of (map line_of xs) (line_of x ∷ []) in
     ap (λ l. l ++ new) shown ∙ push_row (shown_lines line_of xs) (fields_of (line_of x)) left new all is (sym next)
 
 -- the fields that are left begin with one that isn't of the form, so not all are

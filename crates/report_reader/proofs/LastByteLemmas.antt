@@ -28,7 +28,9 @@ by_last x [] =
       | false ↦ (λ e. absurd (cc), λ e. absurd (cc))
     ]
 by_last x (y ∷ ys) =
-    elim (is_feed x) as (λ b. (is_feed (last_of y ys) ≡ true) ↔ (open_part (cond b ([] ∷ slice_split is_feed (y ∷ ys)) (onto_first x (slice_split is_feed (y ∷ ys)))) ≡ [])) [
+    elim (is_feed x) as (λ b.
+    (is_feed (last_of y ys) ≡ true)
+    ↔ (open_part (cond b ([] ∷ slice_split is_feed (y ∷ ys)) (onto_first x (slice_split is_feed (y ∷ ys)))) ≡ [])) [
       | true ↦ behind_feed (slice_split is_feed (y ∷ ys)) (never_empty is_feed (y ∷ ys)) (by_last y ys)
       | false ↦ behind_other (slice_split is_feed (y ∷ ys)) (never_empty is_feed (y ∷ ys)) (sole y ys) (by_last y ys)
     ]

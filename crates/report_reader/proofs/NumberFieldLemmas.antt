@@ -44,11 +44,14 @@ pub written : {E : Type 0} (field text : List ℕ) (n : ℕ) (r : Result ℕ E) 
     → has_needless_zero field ≡ false
     → list_all is_ascii_digit field ≡ true → ParsesUnsigned 64 10 text r → r ≡ Ok n → (n < 2 ^ 64) × (decimal n ≡ field)
 written {E} field text n r same no_zero digits parses ok =
-    let here : ParsesUnsigned {E = E} 64 10 field (Ok n) = subst (λ t. ParsesUnsigned {E = E} 64 10 t (Ok n)) same (subst (λ x. ParsesUnsigned {E = E} 64 10 text x) ok parses) in
+    let here : ParsesUnsigned {E = E} 64 10 field (Ok n) =
+    subst (λ t. ParsesUnsigned {E = E} 64 10 t (Ok n)) same (subst (λ x. ParsesUnsigned {E = E} 64 10 text x) ok parses) in
     let is = parse_digits own {E = E} 64 field (Ok n) here digits in
     let small : digits_value 10 field < 2 ^ 64 = is.0.1 in
-    let value : n ≡ digits_value 10 field = is.1 in
-    (omega (arith, small, value), ap decimal value ∙ decimal-digits_value own field digits (filled field no_zero) (alone field no_zero) small)
+    let value : n ≡ digits_value 10 field = is.1 in (
+      omega (arith, small, value),
+      ap decimal value ∙ decimal-digits_value own field digits (filled field no_zero) (alone field no_zero) small,
+    )
 
 pub unparsed : {E : Type 0} (field text : List ℕ) (e : E) (r : Result ℕ E) → text ≡ field
     → ParsesUnsigned 64 10 text r → r ≡ Err e
@@ -62,5 +65,6 @@ pub place_test : (b : Bool) (n : ℕ) (field : List ℕ) → n < 2 ^ 64 → deci
     → (b ≡ true) ↔ IsPlaceNumber field
 place_test b n field lt is test = (
   λ e. (n, (test.0 e).0, (test.0 e).1, is),
-  λ p. let same = decimal_injective p.0 n (omega (arith, p.2)) lt (p.3 ∙ sym is) in test.1 (omega (arith, same, p.1), omega (arith, same, p.2)),
+  λ p. let same = decimal_injective p.0 n (omega (arith, p.2)) lt (p.3 ∙ sym is) in
+      test.1 (omega (arith, same, p.1), omega (arith, same, p.2)),
 )

@@ -30,10 +30,13 @@ no_places field none t =
 pub two_places_to : (field : List ℕ) (n : ℕ) → position is_dot field ≡ Some n → AreTwoPlaces field
     → IsPlaceNumber (take n field) × IsPlaceNumber (drop (n + 1) field)
 two_places_to field n found t =
-    let whole : take n field ∷ slice_split is_dot (drop (n + 1) field) ≡ decimal t.j ∷ slice_split is_dot (decimal t.i) = sym (cut_some is_dot field n found) ∙ parted field t in
+    let whole : take n field ∷ slice_split is_dot (drop (n + 1) field) ≡ decimal t.j ∷ slice_split is_dot (decimal t.i) =
+    sym (cut_some is_dot field n found) ∙ parted field t in
     let first : decimal t.j ≡ take n field = cc in
     let parts : slice_split is_dot (decimal t.i) ≡ slice_split is_dot (drop (n + 1) field) = cc in
-    let second : decimal t.i ≡ drop (n + 1) field = sym (join_with_byte-slice_split 46 (decimal t.i)) ∙ ap (join_with_byte 46) parts ∙ join_with_byte-slice_split 46 (drop (n + 1) field) in
+    let second : decimal t.i ≡ drop (n + 1) field =
+    sym (join_with_byte-slice_split 46 (decimal t.i)) ∙ ap (join_with_byte 46) parts
+    ∙ join_with_byte-slice_split 46 (drop (n + 1) field) in
     ((t.j, t.from.0, t.upto.0, first), (t.i, t.from.1, t.upto.1, second))
 
 pub two_places_from : (field : List ℕ) (n : ℕ) → position is_dot field ≡ Some n
@@ -54,5 +57,6 @@ two_places_from field n found first second = record {
 
     whole : take n field ++ 46 ∷ drop (n + 1) field ≡ field
     whole =
-        ap (λ rest. take n field ++ 46 ∷ rest) (sym (join_with_byte-slice_split 46 (drop (n + 1) field))) ∙ sym (joined (take n field) (slice_split is_dot (drop (n + 1) field)) (never_empty is_dot (drop (n + 1) field)))
+        ap (λ rest. take n field ++ 46 ∷ rest) (sym (join_with_byte-slice_split 46 (drop (n + 1) field)))
+        ∙ sym (joined (take n field) (slice_split is_dot (drop (n + 1) field)) (never_empty is_dot (drop (n + 1) field)))
         ∙ ap (join_with_byte 46) (sym (cut_some is_dot field n found)) ∙ join_with_byte-slice_split 46 field

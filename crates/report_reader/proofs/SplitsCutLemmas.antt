@@ -26,7 +26,9 @@ some_parts p xs = omega (arith, length-slice_split p xs)
 pub lines_some : (bytes : List ℕ) (n : ℕ) → position is_feed bytes ≡ Some n
     → field_lines bytes ≡ slice_split is_space (take n bytes) ∷ field_lines (drop (n + 1) bytes)
 lines_some bytes n e =
-    ap (λ parts. map (slice_split is_space) (ended parts)) (cut_some is_feed bytes n e) ∙ ap (map (slice_split is_space)) (ended_cons (take n bytes) (slice_split is_feed (drop (n + 1) bytes)) (some_parts is_feed (drop (n + 1) bytes)))
+    ap (λ parts. map (slice_split is_space) (ended parts)) (cut_some is_feed bytes n e)
+    ∙ ap (map (slice_split is_space))
+    (ended_cons (take n bytes) (slice_split is_feed (drop (n + 1) bytes)) (some_parts is_feed (drop (n + 1) bytes)))
 
 pub lines_none : (bytes : List ℕ) → position is_feed bytes ≡ None → field_lines bytes ≡ []
 lines_none bytes e =
@@ -34,7 +36,12 @@ lines_none bytes e =
 
 pub lines_count : (bytes : List ℕ) → length (field_lines bytes) ≡ count_by is_feed bytes
 lines_count bytes =
-    omega (arith, length-map (ended (slice_split is_feed bytes)) (slice_split is_space), ended_length (slice_split is_feed bytes) (some_parts is_feed bytes), length-slice_split is_feed bytes)
+    omega (
+      arith,
+      length-map (ended (slice_split is_feed bytes)) (slice_split is_space),
+      ended_length (slice_split is_feed bytes) (some_parts is_feed bytes),
+      length-slice_split is_feed bytes,
+    )
 
 pub lines_behind : (bytes : List ℕ) (n : ℕ) → position is_feed bytes ≡ Some n
     → field_lines (drop (n + 1) bytes) ≡ drop 1 (field_lines bytes)

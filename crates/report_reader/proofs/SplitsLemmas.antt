@@ -16,7 +16,9 @@ pub cut_fields : (p : Place) (l : Line) (n : Place) (text : List ℕ) → IsLine
     → slice_split is_space text ≡ fields_of l
 cut_fields p l n text step is =
     let clear = line_clear p l n step in
-    ap (slice_split is_space) (sym is) ∙ spaces_cut l.first l.more (first_so (is_inked l.first) (list_all is_inked l.more) clear) (second_so (is_inked l.first) (list_all is_inked l.more) clear)
+    ap (slice_split is_space) (sym is)
+    ∙ spaces_cut l.first l.more (first_so (is_inked l.first) (list_all is_inked l.more) clear)
+    (second_so (is_inked l.first) (list_all is_inked l.more) clear)
 
 joined : (f : List ℕ) (more : List (List ℕ)) → join_with_byte 32 (f ∷ more) ≡ f ++ fields_text more
 joined f [] = sym (append-nil f)

@@ -56,7 +56,8 @@ no_values width zero given own none len all e =
     none own [] (omega (arith, len)) all (append-nil own ∙ e)
 no_values width (suc b) given own none len all e =
     let enough = less width b (length own) len in
-    none (take width own) (codes "|" ∷ tuples_of width b (drop width own)) (length-take-le width own enough.0) (All-take IsValue width own all) e
+    none (take width own) (codes "|" ∷ tuples_of width b (drop width own))
+    (length-take-le width own enough.0) (All-take IsValue width own all) e
 
 pub no_bar : (width bars : ℕ) (before mid given left own : List (List ℕ))
     → HasTaken width before mid given left → ¬ (bars ≡ 0)
@@ -66,7 +67,8 @@ no_bar width zero before mid given left own taken some none len all e = some ref
 no_bar width (suc b) before mid given left own taken some none len all e =
     let enough = less width b (length own) len in
     let sizes : length taken.own ≡ length (take width own) = taken.many ∙ sym (length-take-le width own enough.0) in
-    none (tuples_of width b (drop width own)) (same_behind taken.own (take width own) left (codes "|" ∷ tuples_of width b (drop width own)) sizes (taken.fields ∙ sym e))
+    none (tuples_of width b (drop width own))
+    (same_behind taken.own (take width own) left (codes "|" ∷ tuples_of width b (drop width own)) sizes (taken.fields ∙ sym e))
 
 pub one_tuple : (width : ℕ) (before mid given left : List (List ℕ))
     → HasTaken width before mid given left → left ≡ []
@@ -110,10 +112,12 @@ next_tuples width b true before mid after given left fields taken bar later = re
 next_tuples width b false before mid after given left fields taken bar later = λ own len all e.
     let enough = less width b (length own) len in
     let sizes : length taken.own ≡ length (take width own) = taken.many ∙ sym (length-take-le width own enough.0) in
-    let behind : left ≡ codes "|" ∷ tuples_of width b (drop width own) = same_behind taken.own (take width own) left (codes "|" ∷ tuples_of width b (drop width own)) sizes (taken.fields ∙ sym e) in
+    let behind : left ≡ codes "|" ∷ tuples_of width b (drop width own) =
+    same_behind taken.own (take width own) left (codes "|" ∷ tuples_of width b (drop width own)) sizes (taken.fields ∙ sym e) in
     let same : tuples_of width b (drop width own) ≡ fields = cc in
     let both : length (take width own ++ drop width own) ≡ length own = ap length (take-append-drop width own) in
-    let size : length (drop width own) ≡ (b + 1) * width = omega (arith, both, length-append (take width own) (drop width own), length-take-le width own enough.0, enough.1) in
+    let size : length (drop width own) ≡ (b + 1) * width =
+    omega (arith, both, length-append (take width own) (drop width own), length-take-le width own enough.0, enough.1) in
     later (drop width own) size (All-drop IsValue width own all) same
 
 pub more_tuples : (width bars : ℕ) (found : Bool) (before mid after given left fields : List (List ℕ))
@@ -123,7 +127,8 @@ more_tuples width zero found before mid after given left fields taken some bar l
     absurd (some refl)
 more_tuples width (suc b) found before mid after given left fields taken some bar later =
     let one : suc b - 1 ≡ b = omega arith in
-    next_tuples width b found before mid after given left fields taken bar (subst (λ n. TakesTuples width n found mid after fields) one later)
+    next_tuples width b found before mid after given left fields taken bar
+    (subst (λ n. TakesTuples width n found mid after fields) one later)
 
 -- ---- the shape
 
@@ -134,7 +139,8 @@ value_no_bar (b ∷ bs) e =
     let bytes = second_so _ (list_all is_value_byte (b ∷ bs)) e in
     let first = first_so (is_value_byte b) (list_all is_value_byte bs) bytes in
     elim (b == 124) as (λ c. (b == 124) ≡ c → (c && bytes_eq bs []) ≡ false) [
-      | true ↦ λ same. let reserved : is_value_byte 124 ≡ true = subst (λ x. is_value_byte x ≡ true) (eqb-true b 124 same) first in absurd (cc)
+      | true ↦ λ same. let reserved : is_value_byte 124 ≡ true = subst (λ x. is_value_byte x ≡ true) (eqb-true b 124 same) first in
+          absurd (cc)
       | false ↦ λ _. refl
     ] refl
 
@@ -153,12 +159,14 @@ counted width (suc b) values all =
     let later = tuples_of width b behind in
     let rest = counted width b behind (All-drop IsValue width values all) in
     let both : length (front ++ behind) ≡ length values = ap length (take-append-drop width values) in (
-      sums later (sum_by-append (λ y. cond (is_bar y) 1 0) front (codes "|" ∷ later)) (sum_by-append (λ y. cond (is_bar y) 1 0) (codes "|" ∷ []) later) (no_bars front (All-take IsValue width values all)) rest.0,
+      sums later (sum_by-append (λ y. cond (is_bar y) 1 0) front (codes "|" ∷ later))
+          (sum_by-append (λ y. cond (is_bar y) 1 0) (codes "|" ∷ []) later) (no_bars front (All-take IsValue width values all)) rest.0,
       omega (arith, both, length-append front behind, length-append front (codes "|" ∷ later), rest.1),
     )
   where
     sums : (later : List (List ℕ))
-        → count_by is_bar (take width values ++ codes "|" ∷ later) ≡ count_by is_bar (take width values) + count_by is_bar (codes "|" ∷ later)
+        → count_by is_bar (take width values ++ codes "|" ∷ later)
+        ≡ count_by is_bar (take width values) + count_by is_bar (codes "|" ∷ later)
         → count_by is_bar (codes "|" ∷ later) ≡ 1 + count_by is_bar later → count_by is_bar (take width values) ≡ 0
         → count_by is_bar later ≡ b → count_by is_bar (take width values ++ codes "|" ∷ later) ≡ suc b
     sums later whole one front rest = omega (arith, whole, one, front, rest)
@@ -246,13 +254,16 @@ tuples_found version bars width values given s h =
 pub no_parts : (version bars : ℕ) (given : List (List ℕ)) (fields : ℕ) → AreBars version bars given
     → fields ≡ length given
     → ¬ ((fields - bars) % (bars + 1) ≡ 0) → AreNoTuples version given
-no_parts version bars given fields b all rest = unequal version bars (fields - bars) given b (ap (λ n. n - bars) all) (λ width e. rest (ap (λ n. n % (bars + 1)) e ∙ mul-mod_right (bars + 1) width))
+no_parts version bars given fields b all rest =
+    unequal version bars (fields - bars) given b
+    (ap (λ n. n - bars) all) (λ width e. rest (ap (λ n. n % (bars + 1)) e ∙ mul-mod_right (bars + 1) width))
 
 pub no_wide : (version bars : ℕ) (given : List (List ℕ)) (fields : ℕ) → AreBars version bars given
     → fields ≡ length given
     → (fields - bars) % (bars + 1) ≡ 0 → (fields - bars) / (bars + 1) ≡ 0 → 0 < bars → AreNoTuples version given
 no_wide version bars given fields b all whole none some =
-    no_width version bars (fields - bars) given b (ap (λ n. n - bars) all) (div_mod (fields - bars) (bars + 1) (omega arith) whole none) some
+    no_width version bars (fields - bars) given b (ap (λ n. n - bars) all)
+    (div_mod (fields - bars) (bars + 1) (omega arith) whole none) some
   where
     div_mod : (m n : ℕ) → 0 < n → m % n ≡ 0 → m / n ≡ 0 → m ≡ 0
     div_mod m n some no_rest no_part =

@@ -37,18 +37,21 @@ TakesLine IsFormed line_of None old new =
     (new ≡ old) × HasNo IsFormed (λ x. fields_of (line_of x)) old
 
 -- items of the form, a line each, as many as there are
-pub record TakesAll {X : Type 0} (IsFormed : X → Type 0) (line_of : X → Line) (xs : List X) (old new : List (List (List ℕ))) : Type 0 where
+pub record TakesAll {X : Type 0} (IsFormed : X → Type 0) (line_of : X → Line)
+    (xs : List X) (old new : List (List (List ℕ))) : Type 0 where
   pub formed : All IsFormed xs
   pub lines : shown_lines line_of xs ++ new ≡ old
   pub none : HasNo IsFormed (λ x. fields_of (line_of x)) new
 
 -- so many items of the form, a line each; or fewer, and none in the next line
-pub record TakesMany {X : Type 0} (IsFormed : X → Type 0) (line_of : X → Line) (count : ℕ) (xs : List X) (old new : List (List (List ℕ))) : Type 0 where
+pub record TakesMany {X : Type 0} (IsFormed : X → Type 0) (line_of : X → Line) (count : ℕ)
+    (xs : List X) (old new : List (List (List ℕ))) : Type 0 where
   pub formed : All IsFormed xs
   pub lines : shown_lines line_of xs ++ new ≡ old
   pub many : length xs ≡ count
 
-pub record TakesFewer {X : Type 0} (IsFormed : X → Type 0) (line_of : X → Line) (count : ℕ) (old new : List (List (List ℕ))) : Type 0 where
+pub record TakesFewer {X : Type 0} (IsFormed : X → Type 0) (line_of : X → Line)
+    (count : ℕ) (old new : List (List (List ℕ))) : Type 0 where
   pub xs : List X
   pub formed : All IsFormed xs
   pub lines : shown_lines line_of xs ++ new ≡ old

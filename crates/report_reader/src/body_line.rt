@@ -13,10 +13,8 @@ use crate::fields::Fields;
 use crate::objects::Objects;
 use crate::tuples::{Tuples, tuples_in};
 use std::alloc::{AllocError, Global};
+use task_model::LARGEST_NUMBER;
 use transcript_model::{Entry, LimitKind};
-
-/// The largest value of a cost stream.
-const LARGEST_VALUE: u64 = 1_000_000;
 
 /// The line that ends the entries.
 #[derive(Clone, Copy, Debug)]
@@ -129,7 +127,7 @@ fn value_in(fields: &mut Fields<'_>) -> Option<BodyLine>
     ensures { (version : ℕ) → Finds (IsBodyLineOf version Value) body_more result fields.old }
 {
     let number = fields.number()?;
-    let value = fields.number_upto(LARGEST_VALUE)? as u32;
+    let value = fields.number_upto(LARGEST_NUMBER as u64)? as u32;
     if fields.are_over() {
         Some(BodyLine::Single(Entry::Value { number, value }))
     } else {

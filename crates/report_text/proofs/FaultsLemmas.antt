@@ -29,8 +29,10 @@ parts_of : (lines : List (List ℕ)) (rest : List ℕ)
     → slice_split is_feed (lines_with_feeds lines ++ rest) ≡ lines ++ slice_split is_feed rest
 parts_of [] rest all = refl
 parts_of (l ∷ ls) rest all =
-    let whole : lines_with_feeds (l ∷ ls) ++ rest ≡ l ++ 10 ∷ (lines_with_feeds ls ++ rest) = append_assoc (l ++ 10 ∷ []) (lines_with_feeds ls) rest ∙ append_assoc l (10 ∷ []) (lines_with_feeds ls ++ rest) in
-    ap (slice_split is_feed) whole ∙ slice_split_at is_feed l 10 (lines_with_feeds ls ++ rest) (all 0 l (omega arith)) refl ∙ ap (λ ps. l ∷ ps) (parts_of ls rest (λ k d lt. all (suc k) d (omega arith)))
+    let whole : lines_with_feeds (l ∷ ls) ++ rest ≡ l ++ 10 ∷ (lines_with_feeds ls ++ rest) =
+    append_assoc (l ++ 10 ∷ []) (lines_with_feeds ls) rest ∙ append_assoc l (10 ∷ []) (lines_with_feeds ls ++ rest) in
+    ap (slice_split is_feed) whole ∙ slice_split_at is_feed l 10 (lines_with_feeds ls ++ rest) (all 0 l (omega arith)) refl
+    ∙ ap (λ ps. l ∷ ps) (parts_of ls rest (λ k d lt. all (suc k) d (omega arith)))
 
 ended_more : (xs ys : List (List ℕ)) → 0 < length ys → ended (xs ++ ys) ≡ xs ++ ended ys
 ended_more [] ys some = refl
@@ -51,12 +53,16 @@ joined_text (l ∷ ls) = ap (λ t. line_text l ++ t) (joined_text ls)
 -- ---- reports and paths of texts
 
 report_text_path : (bytes : List ℕ) → IsReport bytes → IsTextPath first (whole_lines bytes) behind
-report_text_path bytes (r, formed, is) =
-    (report_lines r, sym (lines_written (report_lines r) (report_clear r formed)) ∙ ap whole_lines (sym (report_text r) ∙ is), report_path r formed)
+report_text_path bytes (r, formed, is) = (
+  report_lines r,
+  sym (lines_written (report_lines r) (report_clear r formed)) ∙ ap whole_lines (sym (report_text r) ∙ is),
+  report_path r formed,
+)
 
 -- the front of a path of texts
 path_front : (from to : Place) (front rest : List (List ℕ)) → IsTextPath from (front ++ rest) to
-    → (m : Place) × IsTextPath from front m × ((text : List ℕ) (later : List (List ℕ)) → rest ≡ text ∷ later → (n : Place) × IsTextStep m text n)
+    → (m : Place) × IsTextPath from front m
+    × ((text : List ℕ) (later : List (List ℕ)) → rest ≡ text ∷ later → (n : Place) × IsTextStep m text n)
 path_front from to [] rest (lines, is, path) =
     (from, ([], refl, refl), λ text later e. next lines is path text later e)
   where
@@ -64,7 +70,9 @@ path_front from to [] rest (lines, is, path) =
         → (text : List ℕ) (later : List (List ℕ))
         → rest ≡ text ∷ later → (n : Place) × IsTextStep from text n
     next [] is path text later e = let none : [] ≡ text ∷ later = is ∙ e in absurd (cc)
-    next (l ∷ ls) is path text later e = let both : line_body l ∷ map line_body ls ≡ text ∷ later = is ∙ e in let same : line_body l ≡ text = cc in (path.0, (l, same, path.1))
+    next (l ∷ ls) is path text later e =
+        let both : line_body l ∷ map line_body ls ≡ text ∷ later = is ∙ e in
+        let same : line_body l ≡ text = cc in (path.0, (l, same, path.1))
 path_front from to (t ∷ front) rest ([], is, path) = absurd (cc)
 path_front from to (t ∷ front) rest (l ∷ ls, is, path) =
     let here : line_body l ≡ t = cc in
@@ -104,7 +112,9 @@ line_clear behind l n a = absurd a
 fields_same : (l m : Line) → is_clear l ≡ true → is_clear m ≡ true → line_body l ≡ line_body m
     → l ≡ m
 fields_same l m a b same =
-    let read : (k : Line) → is_clear k ≡ true → slice_split is_space (line_body k) ≡ k.first ∷ k.more = λ k e. spaces_cut k.first k.more (first_so (is_inked k.first) (list_all is_inked k.more) e) (second_so (is_inked k.first) (list_all is_inked k.more) e) in
+    let read : (k : Line) → is_clear k ≡ true → slice_split is_space (line_body k) ≡ k.first ∷ k.more =
+    λ k e. spaces_cut k.first k.more (first_so (is_inked k.first) (list_all is_inked k.more) e)
+    (second_so (is_inked k.first) (list_all is_inked k.more) e) in
     let fields : l.first ∷ l.more ≡ m.first ∷ m.more = sym (read l a) ∙ ap (slice_split is_space) same ∙ read m b in
     let front : l.first ≡ m.first = cc in
     let later : l.more ≡ m.more = cc in
@@ -133,15 +143,21 @@ no_feed_first : (x : ℕ) (parts : List (List ℕ)) → is_feed x ≡ false
     → All (λ line. All (λ b. is_feed b ≡ false) line) parts
     → All (λ line. All (λ b. is_feed b ≡ false) line) (onto_first x parts)
 no_feed_first x [] e all = all_one (λ line. All (λ b. is_feed b ≡ false) line) (x ∷ []) (all_one (λ b. is_feed b ≡ false) x e)
-no_feed_first x (p ∷ ps) e all = All-cons (λ line. All (λ b. is_feed b ≡ false) line) (x ∷ p) ps (All-cons (λ b. is_feed b ≡ false) x p e (all 0 p (omega arith))) (λ k d lt. all (suc k) d (omega arith))
+no_feed_first x (p ∷ ps) e all =
+    All-cons (λ line. All (λ b. is_feed b ≡ false) line) (x ∷ p) ps
+    (All-cons (λ b. is_feed b ≡ false) x p e (all 0 p (omega arith))) (λ k d lt. all (suc k) d (omega arith))
 
 parts_free : (bytes : List ℕ)
     → All (λ line. All (λ b. is_feed b ≡ false) line) (slice_split is_feed bytes)
 parts_free [] =
     all_one (λ line. All (λ b. is_feed b ≡ false) line) [] (All-nil (λ b. is_feed b ≡ false))
 parts_free (x ∷ xs) =
-    elim (is_feed x) as (λ c. is_feed x ≡ c → All (λ line. All (λ b. is_feed b ≡ false) line) (cond c ([] ∷ slice_split is_feed xs) (onto_first x (slice_split is_feed xs)))) [
-      | true ↦ λ _. All-cons (λ line. All (λ b. is_feed b ≡ false) line) [] (slice_split is_feed xs) (All-nil (λ b. is_feed b ≡ false)) (parts_free xs)
+    elim (is_feed x) as (λ c.
+    is_feed x ≡ c
+    → All (λ line. All (λ b. is_feed b ≡ false) line)
+    (cond c ([] ∷ slice_split is_feed xs) (onto_first x (slice_split is_feed xs)))) [
+      | true ↦ λ _. All-cons (λ line. All (λ b. is_feed b ≡ false) line) [] (slice_split is_feed xs)
+          (All-nil (λ b. is_feed b ≡ false)) (parts_free xs)
       | false ↦ λ e. no_feed_first x (slice_split is_feed xs) e (parts_free xs)
     ] refl
 
@@ -154,15 +170,21 @@ ended_front (p ∷ q ∷ parts) some = ap (λ ps. p ∷ ps) (ended_front (q ∷ 
 lines_free : (bytes : List ℕ) (k : ℕ)
     → All (λ line. All (λ b. is_feed b ≡ false) line) (take k (whole_lines bytes))
 lines_free bytes k =
-    let whole = subst (All (λ line. All (λ b. is_feed b ≡ false) line)) (sym (ended_front (slice_split is_feed bytes) (parts_left bytes))) (parts_free bytes) in
-    let lines : All (λ line. All (λ b. is_feed b ≡ false) line) (whole_lines bytes) = All-append_front (whole_lines bytes) (unfinished bytes ∷ []) whole in
-    All-append_front (take k (whole_lines bytes)) (drop k (whole_lines bytes)) (subst (All (λ line. All (λ b. is_feed b ≡ false) line)) (sym (take-append-drop k (whole_lines bytes))) lines)
+    let whole =
+    subst (All (λ line. All (λ b. is_feed b ≡ false) line))
+    (sym (ended_front (slice_split is_feed bytes) (parts_left bytes))) (parts_free bytes) in
+    let lines : All (λ line. All (λ b. is_feed b ≡ false) line) (whole_lines bytes) =
+    All-append_front (whole_lines bytes) (unfinished bytes ∷ []) whole in
+    All-append_front (take k (whole_lines bytes)) (drop k (whole_lines bytes))
+    (subst (All (λ line. All (λ b. is_feed b ≡ false) line)) (sym (take-append-drop k (whole_lines bytes))) lines)
   where
     All-append_front : (xs ys : List (List ℕ))
         → All (λ line. All (λ b. is_feed b ≡ false) line) (xs ++ ys)
         → All (λ line. All (λ b. is_feed b ≡ false) line) xs
     All-append_front [] ys all = All-nil (λ line. All (λ b. is_feed b ≡ false) line)
-    All-append_front (x ∷ xs) ys all = All-cons (λ line. All (λ b. is_feed b ≡ false) line) x xs (all 0 x (omega arith)) (All-append_front xs ys (λ k d lt. all (suc k) d (omega arith)))
+    All-append_front (x ∷ xs) ys all =
+        All-cons (λ line. All (λ b. is_feed b ≡ false) line) x xs
+        (all 0 x (omega arith)) (All-append_front xs ys (λ k d lt. all (suc k) d (omega arith)))
 
 -- ---- where reading stops
 
@@ -170,8 +192,15 @@ lines_free bytes k =
 begins : (texts : List (List ℕ)) (m : Place) → IsTextPath first texts m → BeginsReport texts
 begins texts m (lines, is, path) =
     let rest = completes m (path_live first lines m tt path) in
-    let r = path_report (lines ++ rest.0) (path_then first lines rest.0 m behind path rest.1) in
-    (lines_text rest.0, (r.0, r.1, report_text r.0 ∙ ap lines_text r.2 ∙ flat_map-append line_text lines rest.0 ∙ ap (λ t. t ++ lines_text rest.0) (sym (joined_text lines) ∙ ap lines_with_feeds is)))
+    let r = path_report (lines ++ rest.0) (path_then first lines rest.0 m behind path rest.1) in (
+      lines_text rest.0,
+      (
+        r.0,
+        r.1,
+        report_text r.0 ∙ ap lines_text r.2 ∙ flat_map-append line_text lines rest.0
+            ∙ ap (λ t. t ++ lines_text rest.0) (sym (joined_text lines) ∙ ap lines_with_feeds is),
+      ),
+    )
 
 -- no report begins with these lines and the one at which reading is stuck
 stuck_there : (front : List (List ℕ)) (text : List ℕ) (m : Place) → IsTextPath first front m
@@ -208,23 +237,40 @@ stops_fault bytes k s = by_rest (drop k (whole_lines bytes)) refl s.stuck
       some = omega arith;
       upto = omega (arith, s.within);
       before = subst (λ m. BeginsReport (take m (whole_lines bytes))) (sym (minus_one k)) (begins (take k (whole_lines bytes)) s.at s.path);
-      here = λ le. absurd (omega (arith, le, ap length (take-append-drop k (whole_lines bytes)), length-append (take k (whole_lines bytes)) (drop k (whole_lines bytes)), ap length e, length-take-le k (whole_lines bytes) s.within));
+      here = λ le. absurd (omega (
+        arith,
+        le,
+        ap length (take-append-drop k (whole_lines bytes)),
+        length-append (take k (whole_lines bytes)) (drop k (whole_lines bytes)),
+        ap length e,
+        length-take-le k (whole_lines bytes) s.within,
+      ));
       none = λ report.
-          let whole : take k (whole_lines bytes) ≡ whole_lines bytes = sym (append-nil (take k (whole_lines bytes))) ∙ ap (λ ts. take k (whole_lines bytes) ++ ts) (sym e) ∙ take-append-drop k (whole_lines bytes) in
-          stuck (text_path_same first s.at behind (whole_lines bytes) (subst (λ ts. IsTextPath first ts s.at) whole s.path) (report_text_path bytes report));
+          let whole : take k (whole_lines bytes) ≡ whole_lines bytes =
+          sym (append-nil (take k (whole_lines bytes))) ∙ ap (λ ts. take k (whole_lines bytes) ++ ts) (sym e)
+          ∙ take-append-drop k (whole_lines bytes) in
+          stuck (text_path_same first s.at behind (whole_lines bytes)
+          (subst (λ ts. IsTextPath first ts s.at) whole s.path) (report_text_path bytes report));
     }
     by_rest (text ∷ later) e stuck =
-        let next : take (k + 1) (whole_lines bytes) ≡ take k (whole_lines bytes) ++ text ∷ [] = ap (λ m. take m (whole_lines bytes)) (one_more k) ∙ cut_lines (whole_lines bytes) k text later e in
+        let next : take (k + 1) (whole_lines bytes) ≡ take k (whole_lines bytes) ++ text ∷ [] =
+        ap (λ m. take m (whole_lines bytes)) (one_more k) ∙ cut_lines (whole_lines bytes) k text later e in
         record {
           some = omega arith;
           upto = omega (arith, s.within);
           before =
               subst (λ m. BeginsReport (take m (whole_lines bytes))) (sym (minus_one k)) (begins (take k (whole_lines bytes)) s.at s.path);
           here = λ le more.
-              let there : whole_lines (lines_with_feeds (take (k + 1) (whole_lines bytes)) ++ more.0) ≡ take k (whole_lines bytes) ++ text ∷ ended (slice_split is_feed more.0) =
-              ap ended (parts_of (take (k + 1) (whole_lines bytes)) more.0 (lines_free bytes (k + 1))) ∙ ended_more (take (k + 1) (whole_lines bytes)) (slice_split is_feed more.0) (parts_left more.0) ∙ ap (λ ts. ts ++ ended (slice_split is_feed more.0)) next ∙ append_assoc (take k (whole_lines bytes)) (text ∷ []) (ended (slice_split is_feed more.0)) in
-              stuck_there (take k (whole_lines bytes)) text s.at s.path stuck (ended (slice_split is_feed more.0)) (lines_with_feeds (take (k + 1) (whole_lines bytes)) ++ more.0) there more.1;
-          none = stuck_there (take k (whole_lines bytes)) text s.at s.path stuck later bytes (sym (take-append-drop k (whole_lines bytes)) ∙ ap (λ ts. take k (whole_lines bytes) ++ ts) e);
+              let there : whole_lines (lines_with_feeds (take (k + 1) (whole_lines bytes)) ++ more.0) ≡ take k
+              (whole_lines bytes) ++ text ∷ ended (slice_split is_feed more.0) =
+              ap ended (parts_of (take (k + 1) (whole_lines bytes)) more.0 (lines_free bytes (k + 1)))
+              ∙ ended_more (take (k + 1) (whole_lines bytes)) (slice_split is_feed more.0) (parts_left more.0)
+              ∙ ap (λ ts. ts ++ ended (slice_split is_feed more.0)) next
+              ∙ append_assoc (take k (whole_lines bytes)) (text ∷ []) (ended (slice_split is_feed more.0)) in
+              stuck_there (take k (whole_lines bytes)) text s.at s.path stuck
+              (ended (slice_split is_feed more.0)) (lines_with_feeds (take (k + 1) (whole_lines bytes)) ++ more.0) there more.1;
+          none = stuck_there (take k (whole_lines bytes)) text s.at s.path stuck later bytes
+              (sym (take-append-drop k (whole_lines bytes)) ∙ ap (λ ts. take k (whole_lines bytes) ++ ts) e);
         }
 
 -- ---- the text is its lines and what is behind them
@@ -245,7 +291,8 @@ whole_other x (p ∷ q ∷ ps) some = refl
 pub text_parts : (bytes : List ℕ) → lines_with_feeds (whole_lines bytes) ++ unfinished bytes ≡ bytes
 text_parts [] = refl
 text_parts (x ∷ xs) =
-    elim (is_feed x) as (λ c. is_feed x ≡ c → whole (cond c ([] ∷ slice_split is_feed xs) (onto_first x (slice_split is_feed xs))) ≡ x ∷ xs) [
+    elim (is_feed x) as
+    (λ c. is_feed x ≡ c → whole (cond c ([] ∷ slice_split is_feed xs) (onto_first x (slice_split is_feed xs))) ≡ x ∷ xs) [
       | true ↦ λ e. whole_feed (slice_split is_feed xs) (parts_left xs) ∙ (λ i. sym (eqb-true x 10 e) i ∷ text_parts xs i)
       | false ↦ λ e. whole_other x (slice_split is_feed xs) (parts_left xs) ∙ ap (λ t. x ∷ t) (text_parts xs)
     ] refl
@@ -255,12 +302,15 @@ pub lines_report : (r : Report) (bytes : List ℕ)
     → whole_lines bytes ≡ map line_body (report_lines r) → unfinished bytes ≡ []
     → text_of_report r ≡ bytes
 lines_report r bytes lines none =
-    report_text r ∙ sym (joined_text (report_lines r)) ∙ ap lines_with_feeds (sym lines) ∙ sym (append-nil (lines_with_feeds (whole_lines bytes))) ∙ ap (λ t. lines_with_feeds (whole_lines bytes) ++ t) (sym none) ∙ text_parts bytes
+    report_text r ∙ sym (joined_text (report_lines r)) ∙ ap lines_with_feeds (sym lines)
+    ∙ sym (append-nil (lines_with_feeds (whole_lines bytes))) ∙ ap (λ t. lines_with_feeds (whole_lines bytes) ++ t) (sym none)
+    ∙ text_parts bytes
 
 -- a report's text ends with a line feed
 report_ends : (bytes : List ℕ) → IsReport bytes → unfinished bytes ≡ []
 report_ends bytes (r, formed, is) =
-    ap unfinished (sym is ∙ report_text r) ∙ ap open_part (feeds_cut (report_lines r) (report_clear r formed)) ∙ last_part (map line_body (report_lines r))
+    ap unfinished (sym is ∙ report_text r) ∙ ap open_part (feeds_cut (report_lines r) (report_clear r formed))
+    ∙ last_part (map line_body (report_lines r))
   where
     last_part : (xs : List (List ℕ)) → open_part (xs ++ [] ∷ []) ≡ []
     last_part [] = refl
@@ -272,7 +322,8 @@ pub leftover_fault : (bytes : List ℕ) → IsTextPath first (whole_lines bytes)
     → 0 < length (unfinished bytes)
     → IsFirstFault bytes (length (whole_lines bytes) + 1)
 leftover_fault bytes path left =
-    let all : take (length (whole_lines bytes) + 1 - 1) (whole_lines bytes) ≡ whole_lines bytes = ap (λ n. take n (whole_lines bytes)) (same (length (whole_lines bytes))) ∙ take-length (whole_lines bytes) in
+    let all : take (length (whole_lines bytes) + 1 - 1) (whole_lines bytes) ≡ whole_lines bytes =
+    ap (λ n. take n (whole_lines bytes)) (same (length (whole_lines bytes))) ∙ take-length (whole_lines bytes) in
     record {
       some = omega arith;
       upto = omega arith;
@@ -303,6 +354,7 @@ pub stops_then : (from middle : Place) (front rest : List (List ℕ)) (k : ℕ)
 stops_then from middle front rest k path s = record {
   within = omega (arith, s.within, length-append front rest);
   at = s.at;
-  path = subst (λ ts. IsTextPath from ts s.at) (sym (take-append-add front rest k)) (text_path_then from middle s.at front (take k rest) path s.path);
+  path = subst (λ ts. IsTextPath from ts s.at)
+      (sym (take-append-add front rest k)) (text_path_then from middle s.at front (take k rest) path s.path);
   stuck = subst (IsStuck s.at) (sym (drop-append-add front rest k)) s.stuck;
 }

@@ -58,14 +58,17 @@ pub name_inked : (name : List ℕ) → IsName name → is_inked name ≡ true
 name_inked [] e = absurd (cc)
 name_inked (b ∷ bs) e =
     let front = first_so (is_letter b && list_all is_name_byte bs) _ e in
-    and_from (is_ink b) (list_all is_ink bs) (letter_ink b (first_so (is_letter b) (list_all is_name_byte bs) front)) (all_weaker is_name_byte is_ink name_ink bs (second_so (is_letter b) (list_all is_name_byte bs) front))
+    and_from (is_ink b) (list_all is_ink bs) (letter_ink b (first_so (is_letter b) (list_all is_name_byte bs) front))
+    (all_weaker is_name_byte is_ink name_ink bs (second_so (is_letter b) (list_all is_name_byte bs) front))
 
 value_ink : (b : ℕ) → is_value_byte b ≡ true → is_ink b ≡ true
 value_ink b e = first_so (nat_le 33 b) (nat_le b 126) (first_so (nat_le 33 b && nat_le b 126) (not (is_reserved b)) e)
 
 pub value_inked : (value : List ℕ) → is_value value ≡ true → is_inked value ≡ true
 unfolding is_value
-value_inked value e = all_weaker is_value_byte is_ink value_ink value (second_so (nat_le 1 (length value) && nat_le (length value) 64) (list_all is_value_byte value) e)
+value_inked value e =
+    all_weaker is_value_byte is_ink value_ink value
+    (second_so (nat_le 1 (length value) && nat_le (length value) 64) (list_all is_value_byte value) e)
 
 pub number_of_32 : (n : ℕ) → IsNumber n → is_inked (decimal n) ≡ true
 number_of_32 n le = number_inked n (omega arith)
@@ -80,13 +83,16 @@ object_inked name (inr made) = rw (made.1, value_inked made.0 made.2) refl
 pub term_inked : (name : List ℕ) → IsTerm name → is_inked name ≡ true
 term_inked name (inl object) = object_inked name object
 term_inked name (inr p) =
-    let numbers : is_inked (decimal p.j ++ 46 ∷ decimal p.i) ≡ true = rw (list_all-append is_ink (decimal p.j) (46 ∷ decimal p.i), number_of_32 p.j p.upto.0, number_of_32 p.i p.upto.1) refl in
+    let numbers : is_inked (decimal p.j ++ 46 ∷ decimal p.i) ≡ true =
+    rw (list_all-append is_ink (decimal p.j) (46 ∷ decimal p.i), number_of_32 p.j p.upto.0, number_of_32 p.i p.upto.1) refl in
     rw (p.is, numbers) refl
 
 call_inked : (IsArgument : List ℕ → Type 0)
     → ((name : List ℕ) → IsArgument name → is_inked name ≡ true) → (call : Call)
     → IsFormedCall IsArgument call → list_all is_inked (call_fields call) ≡ true
-call_inked IsArgument inks call formed = and_from (is_inked call.name) (list_all is_inked call.args) (name_inked call.name formed.name) (each_passes is_inked IsArgument call.args inks formed.args)
+call_inked IsArgument inks call formed =
+    and_from (is_inked call.name) (list_all is_inked call.args)
+    (name_inked call.name formed.name) (each_passes is_inked IsArgument call.args inks formed.args)
 
 -- ---- entries
 
@@ -94,8 +100,15 @@ bars_inked : (width bars : ℕ) (values : List (List ℕ)) → list_all is_inked
     → list_all is_inked (tuples_of width bars values) ≡ true
 bars_inked width zero values e = e
 bars_inked width (suc bars) values e =
-    let parts : (list_all is_inked (take width values) && list_all is_inked (drop width values)) ≡ true = sym (list_all-append is_inked (take width values) (drop width values)) ∙ ap (list_all is_inked) (take-append-drop width values) ∙ e in
-    rw (list_all-append is_inked (take width values) (codes "|" ∷ tuples_of width bars (drop width values)), first_so (list_all is_inked (take width values)) (list_all is_inked (drop width values)) parts, bars_inked width bars (drop width values) (second_so (list_all is_inked (take width values)) (list_all is_inked (drop width values)) parts)) refl
+    let parts : (list_all is_inked (take width values) && list_all is_inked (drop width values)) ≡ true =
+    sym (list_all-append is_inked (take width values) (drop width values)) ∙ ap (list_all is_inked) (take-append-drop width values)
+    ∙ e in
+    rw (
+      list_all-append is_inked (take width values) (codes "|" ∷ tuples_of width bars (drop width values)),
+      first_so (list_all is_inked (take width values)) (list_all is_inked (drop width values)) parts,
+      bars_inked width bars (drop width values)
+          (second_so (list_all is_inked (take width values)) (list_all is_inked (drop width values)) parts),
+    ) refl
 
 pub use_clear : (u : DreamUse) → IsFormedUse u → is_clear (use_line u) ≡ true
 use_clear u formed =
@@ -125,7 +138,13 @@ entry_clear version (entry.Value number value) formed =
     rw (number_of_32 number formed.0, number_inked value (omega (arith, formed.1))) refl
 entry_clear version (entry.End number) formed = rw (number_of_32 number formed) refl
 entry_clear version (entry.Dream uses steps) formed =
-    rw (number_of_32 (length uses) formed.0, number_of_32 (length steps) formed.1, list_all-append is_clear (map use_line uses) (map step_line steps), mapped_clear IsFormedUse use_line uses use_clear formed.2, mapped_clear (IsFormedCall IsTerm) step_line steps step_clear formed.3) refl
+    rw (
+      number_of_32 (length uses) formed.0,
+      number_of_32 (length steps) formed.1,
+      list_all-append is_clear (map use_line uses) (map step_line steps),
+      mapped_clear IsFormedUse use_line uses use_clear formed.2,
+      mapped_clear (IsFormedCall IsTerm) step_line steps step_clear formed.3,
+    ) refl
 entry_clear version entry.Nothing formed = refl
 entry_clear version entry.Reset formed = refl
 entry_clear version (entry.Pick number) formed = rw (number_of_32 number formed) refl
@@ -135,14 +154,19 @@ entries_clear : (version : ℕ) (entries : List Entry) → All (IsFormedEntry ve
     → list_all is_clear (flat_map entry_lines entries) ≡ true
 entries_clear version [] all = refl
 entries_clear version (e ∷ es) all =
-    rw (list_all-append is_clear (entry_lines e) (flat_map entry_lines es), entry_clear version e (all 0 e (omega arith)), entries_clear version es (λ k d lt. all (suc k) d (omega arith))) refl
+    rw (
+      list_all-append is_clear (entry_lines e) (flat_map entry_lines es),
+      entry_clear version e (all 0 e (omega arith)),
+      entries_clear version es (λ k d lt. all (suc k) d (omega arith)),
+    ) refl
 
 -- ---- outcomes and heads
 
 pub origin_clear : (version : ℕ) (o : Origin) → IsFormedOrigin version o
     → is_clear (from_line version o) ≡ true
 origin_clear version o formed =
-    elim (version == 1) as (λ b. (is_inked o.object && (is_inked (decimal o.number) && list_all is_inked (cond b [] (decimal o.tuple ∷ [])))) ≡ true) [
+    elim (version == 1) as
+    (λ b. (is_inked o.object && (is_inked (decimal o.number) && list_all is_inked (cond b [] (decimal o.tuple ∷ [])))) ≡ true) [
       | true ↦ rw (object_inked o.object formed.object, number_of_32 o.number formed.number) refl
       | false ↦ rw (object_inked o.object formed.object, number_of_32 o.number formed.number, number_of_8 o.tuple formed.tuple) refl
     ]
@@ -155,7 +179,13 @@ limit_clear Instances = refl
 outcome_clear : (version : ℕ) (o : Outcome) → IsFormedOutcome version o
     → list_all is_clear (outcome_lines version o) ≡ true
 outcome_clear version (outcome.Plan steps cost from) formed =
-    rw (number_of_32 (length steps) formed.0, list_all-append is_clear (map do_line steps) (line (codes "cost") (decimal cost ∷ []) ∷ map (from_line version) from), mapped_clear (IsFormedCall IsTerm) do_line steps do_clear formed.2, number_inked cost formed.1, mapped_clear (IsFormedOrigin version) (from_line version) from (origin_clear version) formed.3) refl
+    rw (
+      number_of_32 (length steps) formed.0,
+      list_all-append is_clear (map do_line steps) (line (codes "cost") (decimal cost ∷ []) ∷ map (from_line version) from),
+      mapped_clear (IsFormedCall IsTerm) do_line steps do_clear formed.2,
+      number_inked cost formed.1,
+      mapped_clear (IsFormedOrigin version) (from_line version) from (origin_clear version) formed.3,
+    ) refl
 outcome_clear version outcome.NoPlan formed = refl
 outcome_clear version (outcome.Limit kind) formed = rw (limit_clear kind) refl
 
@@ -172,7 +202,14 @@ pool_clear pool formed =
 head_clear : (r : Report) → IsFormed r
     → list_all is_clear (head_lines r.version r.mode r.calls r.states r.depth r.pools) ≡ true
 head_clear r formed =
-    rw (number_inked r.version (small_version r.version formed.version), mode_clear r.mode, number_of_32 r.calls formed.calls, number_of_32 r.states formed.states, number_of_8 r.depth formed.depth, mapped_clear IsFormedPool pool_line r.pools pool_clear formed.pools) refl
+    rw (
+      number_inked r.version (small_version r.version formed.version),
+      mode_clear r.mode,
+      number_of_32 r.calls formed.calls,
+      number_of_32 r.states formed.states,
+      number_of_8 r.depth formed.depth,
+      mapped_clear IsFormedPool pool_line r.pools pool_clear formed.pools,
+    ) refl
 
 -- ---- reports
 
@@ -197,11 +234,22 @@ report_text r =
     let es = flat_map entry_lines r.entries in
     let o = outcome_lines r.version r.outcome in
     let parts : lines_text (report_lines r) ≡ lines_text h ++ (lines_text es ++ (lines_text o ++ lines_text (done_line ∷ []))) =
-    flat_map-append line_text h (es ++ (o ++ done_line ∷ [])) ∙ ap (λ t. lines_text h ++ t) (flat_map-append line_text es (o ++ done_line ∷ []) ∙ ap (λ t. lines_text es ++ t) (flat_map-append line_text o (done_line ∷ []))) in
-    let left : text_of_report r ≡ lines_text h ++ lines_text es ++ lines_text o ++ line_text done_line = ap (λ t. lines_text h ++ t ++ lines_text o ++ line_text done_line) (entries_text r.entries) in
-    left ∙ append_assoc (lines_text h ++ lines_text es) (lines_text o) (line_text done_line) ∙ append_assoc (lines_text h) (lines_text es) (lines_text o ++ line_text done_line)
+    flat_map-append line_text h (es ++ (o ++ done_line ∷ []))
+    ∙ ap (λ t. lines_text h ++ t) (flat_map-append line_text es (o ++ done_line ∷ [])
+    ∙ ap (λ t. lines_text es ++ t) (flat_map-append line_text o (done_line ∷ []))) in
+    let left : text_of_report r ≡ lines_text h ++ lines_text es ++ lines_text o ++ line_text done_line =
+    ap (λ t. lines_text h ++ t ++ lines_text o ++ line_text done_line) (entries_text r.entries) in
+    left ∙ append_assoc (lines_text h ++ lines_text es) (lines_text o) (line_text done_line)
+    ∙ append_assoc (lines_text h) (lines_text es) (lines_text o ++ line_text done_line)
     ∙ ap (λ t. lines_text h ++ (lines_text es ++ (lines_text o ++ t))) (sym (append-nil (line_text done_line))) ∙ sym parts
 
 pub report_clear : (r : Report) → IsFormed r → list_all is_clear (report_lines r) ≡ true
 report_clear r formed =
-    rw (list_all-append is_clear (head_of r) (flat_map entry_lines r.entries ++ (outcome_lines r.version r.outcome ++ done_line ∷ [])), list_all-append is_clear (flat_map entry_lines r.entries) (outcome_lines r.version r.outcome ++ done_line ∷ []), list_all-append is_clear (outcome_lines r.version r.outcome) (done_line ∷ []), head_clear r formed, entries_clear r.version r.entries formed.entries, outcome_clear r.version r.outcome formed.outcome) refl
+    rw (
+      list_all-append is_clear (head_of r) (flat_map entry_lines r.entries ++ (outcome_lines r.version r.outcome ++ done_line ∷ [])),
+      list_all-append is_clear (flat_map entry_lines r.entries) (outcome_lines r.version r.outcome ++ done_line ∷ []),
+      list_all-append is_clear (outcome_lines r.version r.outcome) (done_line ∷ []),
+      head_clear r formed,
+      entries_clear r.version r.entries formed.entries,
+      outcome_clear r.version r.outcome formed.outcome,
+    ) refl

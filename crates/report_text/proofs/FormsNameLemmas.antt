@@ -6,11 +6,11 @@ use Rattle.gen_lines.specs.Reply.{is_value}
 use Rattle.lemmas.proofs.Members.{member_at}
 use Rattle.task_model.specs.Fit.{IsFit, is_name}
 use Rattle.task_model.specs.Initial.{declared_names}
-use Rattle.task_model.specs.Known.{same_numbers, with_name}
+use Rattle.task_model.specs.Known.{same_numbers, with_name, with_names}
 use Rattle.task_model.specs.declared.task.Task.{Task}
 use Rattle.transcript_model.proofs.NamedObjectLemmas.{all_joined, passes_all}
 use Rattle.transcript_model.specs.Legal.{IsLegal}
-use Rattle.transcript_model.specs.Names.{generated, with_names}
+use Rattle.transcript_model.specs.Names.{generated}
 use Rattle.transcript_model.specs.Transcript.{names_of, objects_in}
 use Rattle.transcript_model.specs.declared.entry.Entry.{Entry}
 use Rattle.transcript_model.specs.declared.entry.Entry.TheVariants as entry
@@ -42,4 +42,5 @@ module _ (version : ℕ) (task : Task) (fit : IsFit task) (entries : List Entry)
   names_formed =
       let declared = passes_all is_name IsObject (declared_names task) (λ name e. inl e) fit.problem.objects.names.each in
       let values = all_joined IsObject objects_in entries values_named in
-      with_names-all IsObject (declared_names task) (flat_map objects_in entries) declared (λ k name at. All-contains IsObject (flat_map objects_in entries) name values (member_at (flat_map objects_in entries) k name at))
+      with_names-all IsObject (declared_names task) (flat_map objects_in entries) declared
+      (λ k name at. All-contains IsObject (flat_map objects_in entries) name values (member_at (flat_map objects_in entries) k name at))

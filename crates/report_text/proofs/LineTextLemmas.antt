@@ -48,7 +48,9 @@ spaces_cut first [] e f =
     ap (slice_split is_space) (append-nil first)
     ∙ slice_split_none is_space first (inked_free first e)
 spaces_cut first (next ∷ more) e f =
-    slice_split_at is_space first 32 (next ++ fields_text more) (inked_free first e) refl ∙ ap (λ fields. first ∷ fields) (spaces_cut next more (first_so (is_inked next) (list_all is_inked more) f) (second_so (is_inked next) (list_all is_inked more) f))
+    slice_split_at is_space first 32 (next ++ fields_text more) (inked_free first e) refl
+    ∙ ap (λ fields. first ∷ fields) (spaces_cut next more
+    (first_so (is_inked next) (list_all is_inked more) f) (second_so (is_inked next) (list_all is_inked more) f))
 
 -- ---- lines
 
@@ -68,11 +70,21 @@ flows_on (b ∷ bs) e =
 fields_flow : (more : List (List ℕ)) → list_all is_inked more ≡ true
     → list_all flows (fields_text more) ≡ true
 fields_flow [] e = refl
-fields_flow (field ∷ more) e = rw (list_all-append flows (32 ∷ field) (fields_text more), flows_on field (first_so (is_inked field) (list_all is_inked more) e), fields_flow more (second_so (is_inked field) (list_all is_inked more) e)) refl
+fields_flow (field ∷ more) e =
+    rw (
+      list_all-append flows (32 ∷ field) (fields_text more),
+      flows_on field (first_so (is_inked field) (list_all is_inked more) e),
+      fields_flow more (second_so (is_inked field) (list_all is_inked more) e),
+    ) refl
 
 pub body_flows : (l : Line) → is_clear l ≡ true → All (λ b. is_feed b ≡ false) (body l)
 body_flows l e k d lt =
-    let whole : list_all flows (body l) ≡ true = rw (list_all-append flows l.first (fields_text l.more), flows_on l.first (first_so (is_inked l.first) (list_all is_inked l.more) e), fields_flow l.more (second_so (is_inked l.first) (list_all is_inked l.more) e)) refl in
+    let whole : list_all flows (body l) ≡ true =
+    rw (
+      list_all-append flows l.first (fields_text l.more),
+      flows_on l.first (first_so (is_inked l.first) (list_all is_inked l.more) e),
+      fields_flow l.more (second_so (is_inked l.first) (list_all is_inked l.more) e),
+    ) refl in
     apart _ (AllPass-from_list_all flows (body l) whole k d lt)
   where
     apart : (b : ℕ) → flows b ≡ true → is_feed b ≡ false
@@ -84,7 +96,8 @@ feeds_cut [] e = refl
 feeds_cut (l ∷ lines) e =
     let clear = first_so (is_clear l) (list_all is_clear lines) e in
     let rest = feeds_cut lines (second_so (is_clear l) (list_all is_clear lines) e) in
-    ap (slice_split is_feed) (append_assoc (body l) (10 ∷ []) (lines_text lines)) ∙ slice_split_at is_feed (body l) 10 (lines_text lines) (body_flows l clear) refl ∙ ap (λ ls. body l ∷ ls) rest
+    ap (slice_split is_feed) (append_assoc (body l) (10 ∷ []) (lines_text lines))
+    ∙ slice_split_at is_feed (body l) 10 (lines_text lines) (body_flows l clear) refl ∙ ap (λ ls. body l ∷ ls) rest
 
 -- ---- both
 
@@ -93,7 +106,8 @@ read_body : (lines : List Line) → list_all is_clear lines ≡ true
 read_body [] e = refl
 read_body (l ∷ lines) e =
     let clear = first_so (is_clear l) (list_all is_clear lines) e in
-    let here = spaces_cut l.first l.more (first_so (is_inked l.first) (list_all is_inked l.more) clear) (second_so (is_inked l.first) (list_all is_inked l.more) clear) in
+    let here = spaces_cut l.first l.more (first_so (is_inked l.first) (list_all is_inked l.more) clear)
+    (second_so (is_inked l.first) (list_all is_inked l.more) clear) in
     let rest = read_body lines (second_so (is_clear l) (list_all is_clear lines) e) in
     λ i. here i ∷ rest i
 
@@ -134,4 +148,6 @@ number_inked n lt = weaker (decimal n) (digits_decimal own n lt)
   where
     weaker : (text : List ℕ) → list_all is_ascii_digit text ≡ true → is_inked text ≡ true
     weaker [] e = refl
-    weaker (b ∷ bs) e = and_from (is_ink b) (list_all is_ink bs) (digit_ink b (first_so (is_ascii_digit b) (list_all is_ascii_digit bs) e)) (weaker bs (second_so (is_ascii_digit b) (list_all is_ascii_digit bs) e))
+    weaker (b ∷ bs) e =
+        and_from (is_ink b) (list_all is_ink bs) (digit_ink b (first_so (is_ascii_digit b) (list_all is_ascii_digit bs) e))
+        (weaker bs (second_so (is_ascii_digit b) (list_all is_ascii_digit bs) e))

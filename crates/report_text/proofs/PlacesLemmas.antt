@@ -17,11 +17,14 @@ use Rattle.transcript_model.specs.declared.head.Mode.TheVariants.{Incremental}
 -- ---- kinds of lines
 
 is_entry_word : List ℕ → Bool
-is_entry_word word = list_any (bytes_eq word) (codes "level" ∷ codes "ask" ∷ codes "got" ∷ codes "value" ∷ codes "end" ∷ codes "none" ∷ codes "reset" ∷ codes "pick" ∷ codes "retire" ∷ [])
+is_entry_word word =
+    list_any (bytes_eq word) (codes "level" ∷ codes "ask" ∷ codes "got" ∷ codes "value" ∷ codes "end" ∷ codes "none" ∷ codes "reset"
+    ∷ codes "pick" ∷ codes "retire" ∷ [])
 
 -- 0 for an entry of one line, 1 for a dream, 2 for a plan, 3 for a pool, and 4 for others
 kind : Line → ℕ
-kind l = if is_entry_word l.first then 0 else if bytes_eq l.first (codes "dream") then 1 else if bytes_eq l.first (codes "plan") then 2 else if bytes_eq l.first (codes "pool") then 3 else 4
+kind l = if is_entry_word l.first then 0 else if bytes_eq l.first (codes "dream") then 1 else if bytes_eq l.first (codes "plan") then 2
+    else if bytes_eq l.first (codes "pool") then 3 else 4
 
 single_kind : (version : ℕ) (l : Line) → IsEntryLine version l → kind l ≡ 0
 unfolding kind is_entry_word
@@ -83,8 +86,10 @@ body_same version l m n (inr (inl a)) (inl b) =
     absurd (omega (arith, single_kind version l b.0, opens_kind l a.0 a.1 a.4))
 body_same version l m n (inr (inl a)) (inr (inl b)) =
     let lines : dream_line a.0 a.1 ≡ dream_line b.0 b.1 = sym a.4 ∙ b.4 in
-    let uses : a.0 ≡ b.0 = decimal_injective a.0 b.0 (omega (arith, a.2)) (omega (arith, b.2)) (ap (λ (x : Line). head_field x.more) lines) in
-    let steps : a.1 ≡ b.1 = decimal_injective a.1 b.1 (omega (arith, a.3)) (omega (arith, b.3)) (ap (λ (x : Line). head_field (tail_fields x.more)) lines) in
+    let uses : a.0 ≡ b.0 =
+    decimal_injective a.0 b.0 (omega (arith, a.2)) (omega (arith, b.2)) (ap (λ (x : Line). head_field x.more) lines) in
+    let steps : a.1 ≡ b.1 =
+    decimal_injective a.1 b.1 (omega (arith, a.3)) (omega (arith, b.3)) (ap (λ (x : Line). head_field (tail_fields x.more)) lines) in
     a.5 ∙ (λ i. dreaming version (uses i) (steps i)) ∙ sym b.5
 body_same version l m n (inr (inl a)) (inr (inr (inl b))) =
     absurd (omega (arith, opens_kind l a.0 a.1 a.4, plans_kind l b.0 b.2))
@@ -95,7 +100,8 @@ body_same version l m n (inr (inr (inl a))) (inl b) =
 body_same version l m n (inr (inr (inl a))) (inr (inl b)) =
     absurd (omega (arith, opens_kind l b.0 b.1 b.4, plans_kind l a.0 a.2))
 body_same version l m n (inr (inr (inl a))) (inr (inr (inl b))) =
-    let steps : a.0 ≡ b.0 = decimal_injective a.0 b.0 (omega (arith, a.1)) (omega (arith, b.1)) (ap (λ (x : Line). head_field x.more) (sym a.2 ∙ b.2)) in
+    let steps : a.0 ≡ b.0 =
+    decimal_injective a.0 b.0 (omega (arith, a.1)) (omega (arith, b.1)) (ap (λ (x : Line). head_field x.more) (sym a.2 ∙ b.2)) in
     a.3 ∙ ap (planning version) steps ∙ sym b.3
 body_same version l m n (inr (inr (inl a))) (inr (inr (inr b))) =
     absurd (omega (arith, plans_kind l a.0 a.2, ends_kind l b.0))
@@ -116,7 +122,8 @@ body_no_pool version l n (inr (inr (inr a))) k = absurd (omega (arith, ends_kind
 pub step_same : (p : Place) (l : Line) (m n : Place) → IsLineStep p l m → IsLineStep p l n → m ≡ n
 unfolding head_field tail_fields
 step_same first l m n a b =
-    let version : a.0 ≡ b.0 = decimal_injective a.0 b.0 (small_version a.0 a.2) (small_version b.0 b.2) (ap (λ (x : Line). head_field x.more) (sym a.3 ∙ b.3)) in
+    let version : a.0 ≡ b.0 =
+    decimal_injective a.0 b.0 (small_version a.0 a.2) (small_version b.0 b.2) (ap (λ (x : Line). head_field x.more) (sym a.3 ∙ b.3)) in
     a.4 ∙ ap limits version ∙ sym b.4
 step_same (limits version) l m n a b = a.7 ∙ sym b.7
 step_same (pools version) l m n (inl a) (inl b) = a.3 ∙ sym b.3
@@ -202,7 +209,9 @@ from_cost version = (cost_line 0 ∷ done_line ∷ [], (origins version, (0, ome
 
 from_steps : (version steps : ℕ) → Completes (dreaming version 0 steps)
 from_steps version zero = from_entries version
-from_steps version (suc steps) = let rest = from_steps version steps in (step_line some_call ∷ rest.0, (dreaming version 0 steps, (some_call, some_formed, refl, refl), rest.1))
+from_steps version (suc steps) =
+    let rest = from_steps version steps in
+    (step_line some_call ∷ rest.0, (dreaming version 0 steps, (some_call, some_formed, refl, refl), rest.1))
 
 from_uses : (version uses steps : ℕ) → Completes (dreaming version uses steps)
 from_uses version zero steps = from_steps version steps
@@ -213,13 +222,17 @@ from_uses version (suc uses) steps =
 
 from_plan : (version steps : ℕ) → Completes (planning version steps)
 from_plan version zero = from_cost version
-from_plan version (suc steps) = let rest = from_plan version steps in (do_line some_call ∷ rest.0, (planning version steps, (some_call, some_formed, refl, refl), rest.1))
+from_plan version (suc steps) =
+    let rest = from_plan version steps in
+    (do_line some_call ∷ rest.0, (planning version steps, (some_call, some_formed, refl, refl), rest.1))
 
 from_pools : (version : ℕ) → Completes (pools version)
 from_pools version = (no_plan_line ∷ done_line ∷ [], (last, inr (inr (inr (inr (inl refl, refl)))), (behind, (refl, refl), refl)))
 
 from_limits : (version : ℕ) → Completes (limits version)
-from_limits version = let rest = from_pools version in (limits_line 1 1 1 ∷ rest.0, (pools version, (1, 1, 1, omega arith, omega arith, omega arith, refl, refl), rest.1))
+from_limits version =
+    let rest = from_pools version in
+    (limits_line 1 1 1 ∷ rest.0, (pools version, (1, 1, 1, omega arith, omega arith, omega arith, refl, refl), rest.1))
 
 pub completes : (p : Place) → IsLive p → (ls : List Line) × IsPath p ls behind
 completes first live =

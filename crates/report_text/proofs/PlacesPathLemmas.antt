@@ -31,22 +31,36 @@ path_then from (l ∷ xs) ys middle to here later =
 steps_path : (version : ℕ) (steps : List Call) → All (IsFormedCall IsTerm) steps
     → IsPath (dreaming version 0 (length steps)) (map step_line steps) (entries version)
 steps_path version [] all = refl
-steps_path version (c ∷ cs) all = (dreaming version 0 (length cs), (c, All-head (IsFormedCall IsTerm) c cs all, refl, refl), steps_path version cs (All-tail (IsFormedCall IsTerm) c cs all))
+steps_path version (c ∷ cs) all = (
+  dreaming version 0 (length cs),
+  (c, All-head (IsFormedCall IsTerm) c cs all, refl, refl),
+  steps_path version cs (All-tail (IsFormedCall IsTerm) c cs all),
+)
 
 uses_path : (version : ℕ) (uses : List DreamUse) (steps : ℕ) → All IsFormedUse uses
     → IsPath (dreaming version (length uses) steps) (map use_line uses) (dreaming version 0 steps)
 uses_path version [] steps all = refl
-uses_path version (u ∷ us) steps all = (dreaming version (length us) steps, (u, All-head IsFormedUse u us all, refl, refl), uses_path version us steps (All-tail IsFormedUse u us all))
+uses_path version (u ∷ us) steps all = (
+  dreaming version (length us) steps,
+  (u, All-head IsFormedUse u us all, refl, refl),
+  uses_path version us steps (All-tail IsFormedUse u us all),
+)
 
 pub single_path : (version : ℕ) (e : Entry) (l : Line) → IsFormedEntry version e
     → is_dream e ≡ false → entry_lines e ≡ l ∷ []
     → IsPath (entries version) (entry_lines e) (entries version)
-single_path version e l formed single is = subst (λ ls. IsPath (entries version) ls (entries version)) (sym is) (entries version, inl (record { entry = e; formed = formed; single = single; is = is }, refl), refl)
+single_path version e l formed single is =
+    subst (λ ls. IsPath (entries version) ls (entries version))
+    (sym is) (entries version, inl (record { entry = e; formed = formed; single = single; is = is }, refl), refl)
 
 pub entry_path : (version : ℕ) (e : Entry) → IsFormedEntry version e
     → IsPath (entries version) (entry_lines e) (entries version)
-entry_path version (entry.Dream uses steps) formed =
-    (dreaming version (length uses) (length steps), inr (inl (length uses, length steps, formed.0, formed.1, refl, refl)), path_then (dreaming version (length uses) (length steps)) (map use_line uses) (map step_line steps) (dreaming version 0 (length steps)) (entries version) (uses_path version uses (length steps) formed.2) (steps_path version steps formed.3))
+entry_path version (entry.Dream uses steps) formed = (
+  dreaming version (length uses) (length steps),
+  inr (inl (length uses, length steps, formed.0, formed.1, refl, refl)),
+  path_then (dreaming version (length uses) (length steps)) (map use_line uses) (map step_line steps) (dreaming version 0 (length steps))
+      (entries version) (uses_path version uses (length steps) formed.2) (steps_path version steps formed.3),
+)
 entry_path version entry.Level formed = single_path version entry.Level _ formed refl refl
 entry_path version (entry.Ask n t c) formed =
     single_path version (entry.Ask n t c) _ formed refl refl
@@ -63,17 +77,28 @@ entry_path version (entry.Retire n) formed = single_path version (entry.Retire n
 pub entries_path : (version : ℕ) (es : List Entry) → All (IsFormedEntry version) es
     → IsPath (entries version) (flat_map entry_lines es) (entries version)
 entries_path version [] all = refl
-entries_path version (e ∷ es) all = path_then (entries version) (entry_lines e) (flat_map entry_lines es) (entries version) (entries version) (entry_path version e (All-head (IsFormedEntry version) e es all)) (entries_path version es (All-tail (IsFormedEntry version) e es all))
+entries_path version (e ∷ es) all =
+    path_then (entries version) (entry_lines e) (flat_map entry_lines es) (entries version) (entries version)
+    (entry_path version e (All-head (IsFormedEntry version) e es all))
+    (entries_path version es (All-tail (IsFormedEntry version) e es all))
 
 dos_path : (version : ℕ) (steps : List Call) → All (IsFormedCall IsTerm) steps
     → IsPath (planning version (length steps)) (map do_line steps) (cost version)
 dos_path version [] all = refl
-dos_path version (c ∷ cs) all = (planning version (length cs), (c, All-head (IsFormedCall IsTerm) c cs all, refl, refl), dos_path version cs (All-tail (IsFormedCall IsTerm) c cs all))
+dos_path version (c ∷ cs) all = (
+  planning version (length cs),
+  (c, All-head (IsFormedCall IsTerm) c cs all, refl, refl),
+  dos_path version cs (All-tail (IsFormedCall IsTerm) c cs all),
+)
 
 origins_path : (version : ℕ) (from : List Origin) → All (IsFormedOrigin version) from
     → IsPath (origins version) (map (from_line version) from ++ done_line ∷ []) behind
 origins_path version [] all = (behind, inr (refl, refl), refl)
-origins_path version (o ∷ os) all = (origins version, inl (o, All-head (IsFormedOrigin version) o os all, refl, refl), origins_path version os (All-tail (IsFormedOrigin version) o os all))
+origins_path version (o ∷ os) all = (
+  origins version,
+  inl (o, All-head (IsFormedOrigin version) o os all, refl, refl),
+  origins_path version os (All-tail (IsFormedOrigin version) o os all),
+)
 
 outcome_path : (version : ℕ) (o : Outcome) → IsFormedOutcome version o
     → IsPath (entries version) (outcome_lines version o ++ done_line ∷ []) behind
@@ -81,8 +106,14 @@ outcome_path version (outcome.Plan steps c from) formed =
     let dos = map do_line steps in
     let later = cost_line c ∷ map (from_line version) from in
     let whole : (dos ++ later) ++ done_line ∷ [] ≡ dos ++ (later ++ done_line ∷ []) = append_assoc dos later (done_line ∷ []) in
-    let behind_dos : IsPath (cost version) (later ++ done_line ∷ []) behind = (origins version, (c, formed.1, refl, refl), origins_path version from formed.3) in
-    (planning version (length steps), inr (inr (inl (length steps, formed.0, refl, refl))), subst (λ ls. IsPath (planning version (length steps)) ls behind) (sym whole) (path_then (planning version (length steps)) dos (later ++ done_line ∷ []) (cost version) behind (dos_path version steps formed.2) behind_dos))
+    let behind_dos : IsPath (cost version) (later ++ done_line ∷ []) behind =
+    (origins version, (c, formed.1, refl, refl), origins_path version from formed.3) in (
+      planning version (length steps),
+      inr (inr (inl (length steps, formed.0, refl, refl))),
+      subst (λ ls. IsPath (planning version (length steps)) ls behind) (sym whole)
+          (path_then (planning version (length steps)) dos (later ++ done_line ∷ []) (cost version) behind
+          (dos_path version steps formed.2) behind_dos),
+    )
 outcome_path version outcome.NoPlan formed =
     (last, inr (inr (inr (inl refl, refl))), (behind, (refl, refl), refl))
 outcome_path version (outcome.Limit kind) formed =
@@ -111,8 +142,18 @@ pools_path version (p ∷ ps) ls all path =
 pub report_path : (r : Report) → IsFormed r → IsPath first (report_lines r) behind
 report_path r formed =
     let body = flat_map entry_lines r.entries ++ (outcome_lines r.version r.outcome ++ done_line ∷ []) in
-    let body_path = path_then (entries r.version) (flat_map entry_lines r.entries) (outcome_lines r.version r.outcome ++ done_line ∷ []) (entries r.version) behind (entries_path r.version r.entries formed.entries) (outcome_path r.version r.outcome formed.outcome) in
-    (limits r.version, (r.version, r.mode, formed.version, refl, refl), (pools r.version, (r.calls, r.states, r.depth, formed.calls, formed.states, formed.depth, refl, refl), pools_path r.version r.pools body formed.pools body_path))
+    let body_path =
+    path_then (entries r.version) (flat_map entry_lines r.entries) (outcome_lines r.version r.outcome ++ done_line ∷ [])
+    (entries r.version) behind (entries_path r.version r.entries formed.entries) (outcome_path r.version r.outcome formed.outcome)
+    in (
+      limits r.version,
+      (r.version, r.mode, formed.version, refl, refl),
+      (
+        pools r.version,
+        (r.calls, r.states, r.depth, formed.calls, formed.states, formed.depth, refl, refl),
+        pools_path r.version r.pools body formed.pools body_path,
+      ),
+    )
 
 -- ---- a path is the lines of a report
 
@@ -122,13 +163,18 @@ Sound first ls = (r : Report) × IsFormed r × (report_lines r ≡ ls)
 Sound (limits version) ls =
     (version ≡ 1) ⊎ (version ≡ 2) → (mode : Mode) → (r : Report) × IsFormed r × (report_lines r ≡ first_line version mode ∷ ls)
 Sound (pools version) ls =
-    (ps : List PoolLine) × (es : List Entry) × (o : Outcome) × All IsFormedPool ps × All (IsFormedEntry version) es × IsFormedOutcome version o × (map pool_line ps ++ (flat_map entry_lines es ++ (outcome_lines version o ++ done_line ∷ [])) ≡ ls)
+    (ps : List PoolLine) × (es : List Entry) × (o : Outcome) × All IsFormedPool ps × All (IsFormedEntry version) es
+    × IsFormedOutcome version o × (map pool_line ps ++ (flat_map entry_lines es ++ (outcome_lines version o ++ done_line ∷ [])) ≡ ls)
 Sound (entries version) ls =
-    (es : List Entry) × (o : Outcome) × All (IsFormedEntry version) es × IsFormedOutcome version o × (flat_map entry_lines es ++ (outcome_lines version o ++ done_line ∷ []) ≡ ls)
+    (es : List Entry) × (o : Outcome) × All (IsFormedEntry version) es × IsFormedOutcome version o
+    × (flat_map entry_lines es ++ (outcome_lines version o ++ done_line ∷ []) ≡ ls)
 Sound (dream version uses steps) ls =
-    (us : List DreamUse) × (ss : List Call) × (es : List Entry) × (o : Outcome) × (length us ≡ uses) × (length ss ≡ steps) × All IsFormedUse us × All (IsFormedCall IsTerm) ss × All (IsFormedEntry version) es × IsFormedOutcome version o × ((map use_line us ++ map step_line ss) ++ (flat_map entry_lines es ++ (outcome_lines version o ++ done_line ∷ [])) ≡ ls)
+    (us : List DreamUse) × (ss : List Call) × (es : List Entry) × (o : Outcome) × (length us ≡ uses) × (length ss ≡ steps)
+    × All IsFormedUse us × All (IsFormedCall IsTerm) ss × All (IsFormedEntry version) es × IsFormedOutcome version o
+    × ((map use_line us ++ map step_line ss) ++ (flat_map entry_lines es ++ (outcome_lines version o ++ done_line ∷ [])) ≡ ls)
 Sound (plan version steps) ls =
-    (ss : List Call) × (c : ℕ) × (from : List Origin) × (length ss ≡ steps) × All (IsFormedCall IsTerm) ss × (c < 2 ^ 64) × All (IsFormedOrigin version) from × ((map do_line ss ++ cost_line c ∷ map (from_line version) from) ++ done_line ∷ [] ≡ ls)
+    (ss : List Call) × (c : ℕ) × (from : List Origin) × (length ss ≡ steps) × All (IsFormedCall IsTerm) ss × (c < 2 ^ 64)
+    × All (IsFormedOrigin version) from × ((map do_line ss ++ cost_line c ∷ map (from_line version) from) ++ done_line ∷ [] ≡ ls)
 Sound (cost version) ls =
     (c : ℕ) × (from : List Origin) × (c < 2 ^ 64) × All (IsFormedOrigin version) from
     × (cost_line c ∷ (map (from_line version) from ++ done_line ∷ []) ≡ ls)
@@ -154,14 +200,25 @@ sound_body : (version : ℕ) (l : Line) (ls : List Line) (next : Place) → IsBo
     → Sound (entries version) (l ∷ ls)
 sound_body version l ls next (inl single) s =
     let here : IsEntryLine version l = single.0 in
-    let later : Sound (entries version) ls = subst (λ p. Sound p ls) single.1 s in
-    (here.entry ∷ later.0, later.1, All-cons (IsFormedEntry version) here.entry later.0 here.formed later.2, later.3, append_assoc (entry_lines here.entry) (flat_map entry_lines later.0) (outcome_lines version later.1 ++ done_line ∷ []) ∙ (λ i. here.is i ++ later.4 i))
+    let later : Sound (entries version) ls = subst (λ p. Sound p ls) single.1 s in (
+      here.entry ∷ later.0,
+      later.1,
+      All-cons (IsFormedEntry version) here.entry later.0 here.formed later.2,
+      later.3,
+      append_assoc (entry_lines here.entry) (flat_map entry_lines later.0) (outcome_lines version later.1 ++ done_line ∷ [])
+          ∙ (λ i. here.is i ++ later.4 i),
+    )
 sound_body version l ls next (inr (inl opens)) s =
     let d = sound_dreaming version opens.0 opens.1 ls (subst (λ p. Sound p ls) opens.5 s) in
     let e = entry.Dream d.0 d.1 in
     let formed : IsFormedEntry version e = (subst IsNumber (sym d.4) opens.2, subst IsNumber (sym d.5) opens.3, d.6, d.7) in
-    let head : dream_line (length d.0) (length d.1) ≡ l = (λ i. dream_line (d.4 i) (d.5 i)) ∙ sym opens.4 in
-    (e ∷ d.2, d.3, All-cons (IsFormedEntry version) e d.2 formed d.8, d.9, append_assoc (entry_lines e) (flat_map entry_lines d.2) (outcome_lines version d.3 ++ done_line ∷ []) ∙ (λ i. head i ∷ d.10 i))
+    let head : dream_line (length d.0) (length d.1) ≡ l = (λ i. dream_line (d.4 i) (d.5 i)) ∙ sym opens.4 in (
+      e ∷ d.2,
+      d.3,
+      All-cons (IsFormedEntry version) e d.2 formed d.8,
+      d.9,
+      append_assoc (entry_lines e) (flat_map entry_lines d.2) (outcome_lines version d.3 ++ done_line ∷ []) ∙ (λ i. head i ∷ d.10 i),
+    )
 sound_body version l ls next (inr (inr (inl plans))) s =
     let p = sound_planning version plans.0 ls (subst (λ q. Sound q ls) plans.3 s) in
     let head : plan_line (length p.0) ≡ l = ap plan_line p.3 ∙ sym plans.2 in
@@ -180,8 +237,20 @@ sound_step first l ls next step s =
     (r.0, r.1, r.2 ∙ ap (λ m. m ∷ ls) (sym step.3))
 sound_step (limits version) l ls next step s = λ is mode.
     let rest : Sound (pools version) ls = subst (λ q. Sound q ls) step.7 s in
-    let r : Report = record { version = version; mode = mode; calls = step.0; states = step.1; depth = step.2; pools = rest.0; entries = rest.1; outcome = rest.2 } in
-    (r, record { version = is; calls = step.3; states = step.4; depth = step.5; pools = rest.3; entries = rest.4; outcome = rest.5 }, λ i. first_line version mode ∷ sym step.6 i ∷ rest.6 i)
+    let r : Report = record {
+      version = version;
+      mode = mode;
+      calls = step.0;
+      states = step.1;
+      depth = step.2;
+      pools = rest.0;
+      entries = rest.1;
+      outcome = rest.2;
+    } in (
+      r,
+      record { version = is; calls = step.3; states = step.4; depth = step.5; pools = rest.3; entries = rest.4; outcome = rest.5 },
+      λ i. first_line version mode ∷ sym step.6 i ∷ rest.6 i,
+    )
 sound_step (pools version) l ls next (inl pool) s =
     let rest : Sound (pools version) ls = subst (λ q. Sound q ls) pool.3 s in
     (pool.0 ∷ rest.0, rest.1, rest.2, All-cons IsFormedPool pool.0 rest.0 pool.1 rest.3, rest.4, rest.5, λ i. sym pool.2 i ∷ rest.6 i)
@@ -192,8 +261,23 @@ sound_step (entries version) l ls next body s = sound_body version l ls next bod
 sound_step (dream version zero zero) l ls next step s = absurd step
 sound_step (dream version zero (suc steps)) l ls next step s =
     let d = sound_dreaming version 0 steps ls (subst (λ q. Sound q ls) step.3 s) in
-    let none : d.0 ≡ [] = empty d.0 d.4 in
-    ([], step.0 ∷ d.1, d.2, d.3, refl, ap suc d.5, All-nil IsFormedUse, All-cons (IsFormedCall IsTerm) step.0 d.1 step.1 d.7, d.8, d.9, λ i. sym step.2 i ∷ (ap (λ us. (map use_line us ++ map step_line d.1) ++ (flat_map entry_lines d.2 ++ (outcome_lines version d.3 ++ done_line ∷ []))) (sym none) ∙ d.10) i)
+    let none : d.0 ≡ [] = empty d.0 d.4 in (
+      [],
+      step.0 ∷ d.1,
+      d.2,
+      d.3,
+      refl,
+      ap suc d.5,
+      All-nil IsFormedUse,
+      All-cons (IsFormedCall IsTerm) step.0 d.1 step.1 d.7,
+      d.8,
+      d.9,
+      λ i. sym step.2 i
+          ∷ (ap (λ us. (map use_line us ++ map step_line d.1)
+          ++ (flat_map entry_lines d.2 ++ (outcome_lines version d.3 ++ done_line ∷ [])))
+          (sym none)
+          ∙ d.10) i,
+    )
   where
     empty : (us : List DreamUse) → length us ≡ 0 → us ≡ []
     empty [] e = refl

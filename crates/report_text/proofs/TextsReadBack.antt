@@ -74,7 +74,8 @@ value_no_bar (b ∷ bs) e =
     let bytes = second_so _ (list_all is_value_byte (b ∷ bs)) e in
     let first = first_so (is_value_byte b) (list_all is_value_byte bs) bytes in
     elim (b == 124) as (λ c. (b == 124) ≡ c → not (c && bytes_eq bs []) ≡ true) [
-      | true ↦ λ same. let reserved : is_value_byte 124 ≡ true = subst (λ x. is_value_byte x ≡ true) (eqb-true b 124 same) first in absurd (cc)
+      | true ↦ λ same. let reserved : is_value_byte 124 ≡ true = subst (λ x. is_value_byte x ≡ true) (eqb-true b 124 same) first in
+          absurd (cc)
       | false ↦ λ _. refl
     ] refl
 
@@ -98,16 +99,22 @@ bars_counted : (width bars : ℕ) (values : List (List ℕ)) → list_all is_no_
     → (filter is_no_bar (tuples_of width bars values) ≡ values) × (count_by is_bar (tuples_of width bars values) ≡ bars)
 bars_counted width zero values e = (kept is_no_bar values e, none_counted values e)
 bars_counted width (suc bars) values e =
-    let parts : (list_all is_no_bar (take width values) && list_all is_no_bar (drop width values)) ≡ true = sym (list_all-append is_no_bar (take width values) (drop width values)) ∙ ap (list_all is_no_bar) (take-append-drop width values) ∙ e in
+    let parts : (list_all is_no_bar (take width values) && list_all is_no_bar (drop width values)) ≡ true =
+    sym (list_all-append is_no_bar (take width values) (drop width values)) ∙ ap (list_all is_no_bar) (take-append-drop width values)
+    ∙ e in
     let front = first_so (list_all is_no_bar (take width values)) (list_all is_no_bar (drop width values)) parts in
-    let rest = bars_counted width bars (drop width values) (second_so (list_all is_no_bar (take width values)) (list_all is_no_bar (drop width values)) parts) in
+    let rest = bars_counted width bars (drop width values)
+    (second_so (list_all is_no_bar (take width values)) (list_all is_no_bar (drop width values)) parts) in
     let later = tuples_of width bars (drop width values) in (
-      filter-append is_no_bar (take width values) (codes "|" ∷ later) ∙ (λ i. kept is_no_bar (take width values) front i ++ rest.0 i) ∙ take-append-drop width values,
-      counted later (sum_by-append (λ y. cond (is_bar y) 1 0) (take width values) (codes "|" ∷ later)) (sum_by-append (λ y. cond (is_bar y) 1 0) (codes "|" ∷ []) later) (none_counted (take width values) front) rest.1,
+      filter-append is_no_bar (take width values) (codes "|" ∷ later) ∙ (λ i. kept is_no_bar (take width values) front i ++ rest.0 i)
+          ∙ take-append-drop width values,
+      counted later (sum_by-append (λ y. cond (is_bar y) 1 0) (take width values) (codes "|" ∷ later))
+          (sum_by-append (λ y. cond (is_bar y) 1 0) (codes "|" ∷ []) later) (none_counted (take width values) front) rest.1,
     )
   where
     counted : (later : List (List ℕ))
-        → count_by is_bar (take width values ++ codes "|" ∷ later) ≡ count_by is_bar (take width values) + count_by is_bar (codes "|" ∷ later)
+        → count_by is_bar (take width values ++ codes "|" ∷ later)
+        ≡ count_by is_bar (take width values) + count_by is_bar (codes "|" ∷ later)
         → count_by is_bar (codes "|" ∷ later) ≡ 1 + count_by is_bar later → count_by is_bar (take width values) ≡ 0
         → count_by is_bar later ≡ bars → count_by is_bar (take width values ++ codes "|" ∷ later) ≡ suc bars
     counted later whole one front rest = omega (arith, whole, one, front, rest)
@@ -176,10 +183,14 @@ dream_back uses steps rest all =
     let many_uses : length uses ≡ length us = sym (length-map uses use_line) in
     let many_steps : length steps ≡ length ss = sym (length-map steps step_line) in
     let whole : (us ++ ss) ++ rest ≡ us ++ (ss ++ rest) = append_assoc us ss rest in
-    let first : take (length uses) ((us ++ ss) ++ rest) ≡ us = ap (take (length uses)) whole ∙ front_taken (length uses) us (ss ++ rest) many_uses in
-    let behind : drop (length uses) ((us ++ ss) ++ rest) ≡ ss ++ rest = ap (drop (length uses)) whole ∙ front_dropped (length uses) us (ss ++ rest) many_uses in
-    let second : take (length steps) (drop (length uses) ((us ++ ss) ++ rest)) ≡ ss = ap (take (length steps)) behind ∙ front_taken (length steps) ss rest many_steps in
-    let last : drop (length steps) (drop (length uses) ((us ++ ss) ++ rest)) ≡ rest = ap (drop (length steps)) behind ∙ front_dropped (length steps) ss rest many_steps in
+    let first : take (length uses) ((us ++ ss) ++ rest) ≡ us =
+    ap (take (length uses)) whole ∙ front_taken (length uses) us (ss ++ rest) many_uses in
+    let behind : drop (length uses) ((us ++ ss) ++ rest) ≡ ss ++ rest =
+    ap (drop (length uses)) whole ∙ front_dropped (length uses) us (ss ++ rest) many_uses in
+    let second : take (length steps) (drop (length uses) ((us ++ ss) ++ rest)) ≡ ss =
+    ap (take (length steps)) behind ∙ front_taken (length steps) ss rest many_steps in
+    let last : drop (length steps) (drop (length uses) ((us ++ ss) ++ rest)) ≡ rest =
+    ap (drop (length steps)) behind ∙ front_dropped (length steps) ss rest many_steps in
     let read_uses = ap (map use_in) first ∙ uses_back uses all in
     let read_steps = ap (map call_on) second ∙ steps_back steps in
     λ i. Some (entry.Dream (read_uses i) (read_steps i), last i)
@@ -190,7 +201,9 @@ entry_back version entry.Level rest formed = refl
 entry_back version (entry.Ask number turn call) rest formed =
     rw (back_32 number formed.0, back_32 turn formed.1) refl
 entry_back version (entry.Got number tuples values) rest formed =
-    let counted = bars_counted (length values / tuples) (tuples - 1) values (each_passes is_no_bar (λ value. is_value value ≡ true) values value_no_bar formed.1.each) in
+    let counted =
+    bars_counted (length values / tuples) (tuples - 1) values
+    (each_passes is_no_bar (λ value. is_value value ≡ true) values value_no_bar formed.1.each) in
     let all_tuples : count_by is_bar (tuple_fields tuples values) + 1 ≡ tuples = omega (arith, counted.1, formed.1.some) in
     rw (back_32 number formed.0) (λ i. Some (entry.Got number (all_tuples i) (counted.0 i), rest))
 entry_back version (entry.Value number value) rest formed =
@@ -223,7 +236,8 @@ entries_back version (suc most) [] tail le all none = rw none refl
 entries_back version zero (e ∷ es) tail le all none = absurd (omega arith)
 entries_back version (suc most) (e ∷ es) tail le all none =
     let rest = flat_map entry_lines es ++ tail in
-    let whole : flat_map entry_lines (e ∷ es) ++ tail ≡ entry_lines e ++ rest = append_assoc (entry_lines e) (flat_map entry_lines es) tail in
+    let whole : flat_map entry_lines (e ∷ es) ++ tail ≡ entry_lines e ++ rest =
+    append_assoc (entry_lines e) (flat_map entry_lines es) tail in
     let first = entry_back version e rest (all 0 e (omega arith)) in
     let later = entries_back version most es tail (omega arith) (λ k d lt. all (suc k) d (omega arith)) none in
     rw (whole, first, later) refl
@@ -265,7 +279,9 @@ plan_in steps rest = cost_in (drop steps rest) (map call_on (take steps rest))
 
 outcome_in : List Line → Outcome
 outcome_in [] = outcome.NoPlan
-outcome_in (l ∷ rest) = if is_word (codes "plan") l then plan_in (first_number l.more) rest else if is_word (codes "limit") l then outcome.Limit (limit_in l.more) else outcome.NoPlan
+outcome_in (l ∷ rest) =
+    if is_word (codes "plan") l then plan_in (first_number l.more) rest else if is_word (codes "limit") l
+    then outcome.Limit (limit_in l.more) else outcome.NoPlan
 
 origin_back : (version : ℕ) (o : Origin) → (version ≡ 1) ⊎ (version ≡ 2) → IsFormedOrigin version o
     → origin_in (from_line version o) ≡ o
@@ -287,16 +303,21 @@ origins_back version (o ∷ os) is all =
 plan_back : (version : ℕ) (steps : List Call) (cost : ℕ) (from : List Origin)
     → (version ≡ 1) ⊎ (version ≡ 2) → cost < 2 ^ 64
     → All (IsFormedOrigin version) from
-    → plan_in (length steps) ((map do_line steps ++ line (codes "cost") (decimal cost ∷ []) ∷ map (from_line version) from) ++ done_line ∷ []) ≡ outcome.Plan steps cost from
+    → plan_in (length steps)
+    ((map do_line steps ++ line (codes "cost") (decimal cost ∷ []) ∷ map (from_line version) from) ++ done_line ∷ [])
+    ≡ outcome.Plan steps cost from
 unfolding plan_in cost_in
 plan_back version steps cost from is small all =
     let dos = map do_line steps in
     let behind = line (codes "cost") (decimal cost ∷ []) ∷ map (from_line version) from in
     let many : length steps ≡ length dos = sym (length-map steps do_line) in
     let whole : (dos ++ behind) ++ done_line ∷ [] ≡ dos ++ (behind ++ done_line ∷ []) = append_assoc dos behind (done_line ∷ []) in
-    let first : take (length steps) ((dos ++ behind) ++ done_line ∷ []) ≡ dos = ap (take (length steps)) whole ∙ front_taken (length steps) dos (behind ++ done_line ∷ []) many in
-    let later : drop (length steps) ((dos ++ behind) ++ done_line ∷ []) ≡ behind ++ done_line ∷ [] = ap (drop (length steps)) whole ∙ front_dropped (length steps) dos (behind ++ done_line ∷ []) many in
-    let origins : map origin_in (front_of (map (from_line version) from ++ done_line ∷ [])) ≡ from = ap (map origin_in) (front_back (map (from_line version) from) done_line) ∙ origins_back version from is all in
+    let first : take (length steps) ((dos ++ behind) ++ done_line ∷ []) ≡ dos =
+    ap (take (length steps)) whole ∙ front_taken (length steps) dos (behind ++ done_line ∷ []) many in
+    let later : drop (length steps) ((dos ++ behind) ++ done_line ∷ []) ≡ behind ++ done_line ∷ [] =
+    ap (drop (length steps)) whole ∙ front_dropped (length steps) dos (behind ++ done_line ∷ []) many in
+    let origins : map origin_in (front_of (map (from_line version) from ++ done_line ∷ [])) ≡ from =
+    ap (map origin_in) (front_back (map (from_line version) from) done_line) ∙ origins_back version from is all in
     rw (first, later, dos_back steps, number_back cost small, origins) refl
 
 limit_back : (kind : LimitKind) → limit_in (limit_word kind ∷ []) ≡ kind
@@ -345,7 +366,9 @@ pools_back (p ∷ ps) tail all none =
 
 mode_in : List (List ℕ) → Mode
 mode_in [] = Incremental
-mode_in (word ∷ more) = if bytes_eq word (codes "incremental") then Incremental else if bytes_eq word (codes "focused") then Focused else if bytes_eq word (codes "binding") then Binding else Adaptive
+mode_in (word ∷ more) =
+    if bytes_eq word (codes "incremental") then Incremental else if bytes_eq word (codes "focused") then Focused
+    else if bytes_eq word (codes "binding") then Binding else Adaptive
 
 mode_back : (mode : Mode) → mode_in (mode_word mode ∷ []) ≡ mode
 unfolding mode_in
@@ -388,7 +411,16 @@ behind_head : ℕ → List (List ℕ) → List (List ℕ) → List Line → Repo
 behind_head most first second lines =
     let pools = pools_in lines in
     let entries = entries_in most pools.1 in
-    record { version = first_number first; mode = mode_in (after_first first); calls = first_number second; states = first_number (after_first second); depth = first_number (after_first (after_first second)); pools = pools.0; entries = entries.0; outcome = outcome_in entries.1 }
+    record {
+      version = first_number first;
+      mode = mode_in (after_first first);
+      calls = first_number second;
+      states = first_number (after_first second);
+      depth = first_number (after_first (after_first second));
+      pools = pools.0;
+      entries = entries.0;
+      outcome = outcome_in entries.1;
+    }
 
 pub report_in : ℕ → List Line → Report
 report_in most [] = behind_head most [] [] []
@@ -405,7 +437,16 @@ report_back most r le formed =
     let pools = pools_back r.pools tail formed.pools (behind_no_pool r.version r.entries r.outcome) in
     let entries = entries_back r.version most r.entries behind le formed.entries (outcome_no_entry r.version r.outcome) in
     let outcome = outcome_back r.version r.outcome formed.version formed.outcome in
-    rw (pools, entries, outcome, number_back r.version (small_version r.version formed.version), mode_back r.mode, back_32 r.calls formed.calls, back_32 r.states formed.states, back_8 r.depth formed.depth) refl
+    rw (
+      pools,
+      entries,
+      outcome,
+      number_back r.version (small_version r.version formed.version),
+      mode_back r.mode,
+      back_32 r.calls formed.calls,
+      back_32 r.states formed.states,
+      back_8 r.depth formed.depth,
+    ) refl
 
 -- reports with equal lines are equal
 pub lines_determine : (r s : Report) → IsFormed r → IsFormed s → report_lines r ≡ report_lines s

@@ -21,8 +21,8 @@ IsReport bytes = (r : Report) × IsFormed r × (text_of_report r ≡ bytes)
 abbrev pub BeginsReport : List (List ℕ) → Type 0
 BeginsReport lines = (rest : List ℕ) × IsReport (lines_with_feeds lines ++ rest)
 
--- The first line, from 1, up to which no report begins so. Where a report begins with all lines that end with a line feed but
--- the bytes are none, this is the line behind them: a missing one, or one without a line feed.
+-- The first line, from 1, up to which no report begins so. Where a report begins with all lines that end with a line
+-- feed but the bytes are none, this is the line behind them: a missing one, or one without a line feed.
 pub record IsFirstFault (bytes : List ℕ) (n : ℕ) : Type 0 where
   pub some : 0 < n
   pub upto : n ≤ length (whole_lines bytes) + 1

@@ -3,6 +3,7 @@ use Rattle.std.specs.Prelude.{◌≡◌, ℕ, ◌*◌, ◌^◌, ◌<◌, ◌≤�
 use Rattle.gen_lines.specs.Reply.{is_value}
 use Rattle.task_model.specs.Dreams.{placeholder}
 use Rattle.task_model.specs.Fit.{is_name}
+use Rattle.task_model.specs.declared.limits.TheConstants.{LARGEST_NUMBER}
 use Rattle.transcript_model.specs.Names.{generated}
 use Rattle.transcript_model.specs.declared.entry.Call.{Call}
 use Rattle.transcript_model.specs.declared.entry.DreamUse.{DreamUse}
@@ -73,7 +74,7 @@ IsFormedEntry version (entry.Ask number turn call) =
     IsNumber number × IsNumber turn × IsFormedCall IsObject call
 IsFormedEntry version (entry.Got number tuples values) =
     IsNumber number × AreTuples version tuples values
-IsFormedEntry version (entry.Value number value) = IsNumber number × (value ≤ 1000000)
+IsFormedEntry version (entry.Value number value) = IsNumber number × (value ≤ LARGEST_NUMBER)
 IsFormedEntry version (entry.End number) = IsNumber number
 IsFormedEntry version (entry.Dream uses steps) =
     IsNumber (length uses) × IsNumber (length steps) × All IsFormedUse uses × All (IsFormedCall IsTerm) steps

@@ -12,8 +12,8 @@ use Rattle.transcript_model.specs.declared.head.PoolLine.{PoolLine}
 use Rattle.transcript_model.specs.declared.outcome.LimitKind.{LimitKind}
 use Rattle.transcript_model.specs.declared.outcome.Origin.{Origin}
 
--- A place: before the first or second line, among pools, among entries, in a dream with so many entries and steps left, in a
--- plan with so many steps left, before its cost, among its origins, before the last line, and behind it.
+-- A place: before the first or second line, among pools, among entries, in a dream with so many entries and steps left,
+-- in a plan with so many steps left, before its cost, among its origins, before the last line, and behind it.
 pub data Place : Type 0 where
   first : Place
   limits : (version : ℕ) → Place
@@ -73,8 +73,11 @@ pub record IsEntryLine (version : ℕ) (l : Line) : Type 0 where
 -- a line among the entries: an entry, the beginning of a dream or of a plan, or another outcome
 abbrev pub IsBodyStep : ℕ → Line → Place → Type 0
 IsBodyStep version l next =
-    (IsEntryLine version l × (next ≡ entries version)) ⊎ (((uses : ℕ) × (steps : ℕ) × IsNumber uses × IsNumber steps × (l ≡ dream_line uses steps) × (next ≡ dreaming version uses steps))
-    ⊎ (((steps : ℕ) × IsNumber steps × (l ≡ plan_line steps) × (next ≡ planning version steps)) ⊎ (((l ≡ no_plan_line) ⊎ ((kind : LimitKind) × (l ≡ limit_line kind))) × (next ≡ last))))
+    (IsEntryLine version l × (next ≡ entries version))
+    ⊎ (((uses : ℕ) × (steps : ℕ) × IsNumber uses × IsNumber steps × (l ≡ dream_line uses steps)
+    × (next ≡ dreaming version uses steps))
+    ⊎ (((steps : ℕ) × IsNumber steps × (l ≡ plan_line steps) × (next ≡ planning version steps))
+    ⊎ (((l ≡ no_plan_line) ⊎ ((kind : LimitKind) × (l ≡ limit_line kind))) × (next ≡ last))))
 
 -- the line may stand at the place, and the next place follows
 abbrev pub IsLineStep : Place → Line → Place → Type 0

@@ -124,7 +124,8 @@ pool_line pool = line (codes "pool") (decimal pool.workers ∷ pool.streams)
 
 abbrev pub head_lines : ℕ → Mode → ℕ → ℕ → ℕ → List PoolLine → List Line
 head_lines version mode calls states depth pools =
-    line (codes "pddlstream") (decimal version ∷ mode_word mode ∷ []) ∷ line (codes "limits") (decimal calls ∷ decimal states ∷ decimal depth ∷ []) ∷ map pool_line pools
+    line (codes "pddlstream") (decimal version ∷ mode_word mode ∷ [])
+    ∷ line (codes "limits") (decimal calls ∷ decimal states ∷ decimal depth ∷ []) ∷ map pool_line pools
 
 abbrev pub text_of_head : Task → Head → List ℕ
 text_of_head task head =
@@ -144,4 +145,5 @@ lines_of_report r =
 -- the head, the transcript, the outcome, and `done`
 abbrev pub text_of_report : Report → List ℕ
 text_of_report r =
-    lines_text (head_lines r.version r.mode r.calls r.states r.depth r.pools) ++ flat_map text_of_entry r.entries ++ text_of_outcome r.version r.outcome ++ line_text done_line
+    lines_text (head_lines r.version r.mode r.calls r.states r.depth r.pools) ++ flat_map text_of_entry r.entries
+    ++ text_of_outcome r.version r.outcome ++ line_text done_line

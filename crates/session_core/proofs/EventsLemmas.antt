@@ -77,7 +77,8 @@ module _ (s : Slot) where
       let r = subst (λ a. OutcomeBy a s.sent (heard_slot line s) events) is o in
       let same = eq-eqb s.child s.child refl in
       let own : change_by (says s.child line) s ≡ heard_slot line s = at_own s.child (heard_slot line) s same in
-      let lines : lines_of s.child (says s.child line ∷ events) ≡ line ∷ [] = ap (λ b. cond b (line ∷ lines_of s.child events) (lines_of s.child events)) same ∙ ap (λ ls. line ∷ ls) r.0 in
+      let lines : lines_of s.child (says s.child line ∷ events) ≡ line ∷ [] =
+      ap (λ b. cond b (line ∷ lines_of s.child events) (lines_of s.child events)) same ∙ ap (λ ls. line ∷ ls) r.0 in
       subst (λ a. OutcomeBy a s.sent s (says s.child line ∷ events)) (sym none)
       (subst (λ b. OutcomeBy None b s (says s.child line ∷ events)) (sym sent) (line, lines, ap (λ t. slot_after t events) own ∙ r.1))
 
@@ -92,7 +93,9 @@ module _ (s : Slot) where
       → OutcomeBy s.answer s.sent s events
       → OutcomeBy s.answer s.sent s (says child line ∷ events)
   heard_other child line events apart o =
-      carry s.answer s.sent s events (says child line ∷ events) (ap (λ b. cond b (line ∷ lines_of s.child events) (lines_of s.child events)) apart) (ap (λ t. slot_after t events) (at_other child (heard_slot line) s apart)) o
+      carry s.answer s.sent s events (says child line ∷ events)
+      (ap (λ b. cond b (line ∷ lines_of s.child events) (lines_of s.child events)) apart)
+      (ap (λ t. slot_after t events) (at_other child (heard_slot line) s apart)) o
 
 -- the slot in the changed list
 moved : (slots : List Slot) (e : Event) (s t : Slot) → slot_of slots s.child ≡ Some s
@@ -107,7 +110,9 @@ pub outcome : (slots : List Slot) (events : List Event) → AreDistinct (childre
     → slot_of slots s.child ≡ Some s → OutcomeBy s.answer s.sent s events
 outcome slots [] d all s at = let p = slot_place slots s.child s at in answered_end s.answer s.sent s (answered_at slots p.0 s all p.1)
 outcome slots (sends child ∷ events) d played s at =
-    let next = λ (t : Slot) (own : slot_of (map (change_by (sends child)) slots) t.child ≡ Some t). outcome (map (change_by (sends child)) slots) events (subst AreDistinct (sym (children_kept (change_by (sends child)) (keeps_child (sends child)) slots)) d) played.1 t own in
+    let next = λ (t : Slot) (own : slot_of (map (change_by (sends child)) slots) t.child ≡ Some t).
+    outcome (map (change_by (sends child)) slots) events
+    (subst AreDistinct (sym (children_kept (change_by (sends child)) (keeps_child (sends child)) slots)) d) played.1 t own in
     elim (is_slot_of child s) as (λ b. is_slot_of child s ≡ b → OutcomeBy s.answer s.sent s (sends child ∷ events)) [
       | true ↦ λ own.
           let here : s.child ≡ child = eqb-true s.child child own in
@@ -115,11 +120,16 @@ outcome slots (sends child ∷ events) d played s at =
           let same : u.slot ≡ s = same_some (slot_of slots child) u.slot s u.found (ap (slot_of slots) (sym here) ∙ at) in
           let none : s.answer ≡ None = ap (λ (t : Slot). t.answer) (sym same) ∙ u.open_still in
           let unsent : s.sent ≡ false = ap (λ (t : Slot). t.sent) (sym same) ∙ u.unsent in
-          subst (λ c. OutcomeBy s.answer s.sent s (sends c ∷ events)) here (sent_own s events none unsent (next (sent_slot s) (moved slots (sends child) s (sent_slot s) at (at_own child sent_slot s own) refl)))
+          subst (λ c. OutcomeBy s.answer s.sent s (sends c ∷ events)) here
+          (sent_own s events none unsent
+          (next (sent_slot s) (moved slots (sends child) s (sent_slot s) at (at_own child sent_slot s own) refl)))
       | false ↦ λ apart. sent_other s child events apart (next s (moved slots (sends child) s s at (at_other child sent_slot s apart) refl))
     ] refl
 outcome slots (says child line ∷ events) d played s at =
-    let next = λ (t : Slot) (own : slot_of (map (change_by (says child line)) slots) t.child ≡ Some t). outcome (map (change_by (says child line)) slots) events (subst AreDistinct (sym (children_kept (change_by (says child line)) (keeps_child (says child line)) slots)) d) played.1 t own in
+    let next = λ (t : Slot) (own : slot_of (map (change_by (says child line)) slots) t.child ≡ Some t).
+    outcome (map (change_by (says child line)) slots) events
+    (subst AreDistinct (sym (children_kept (change_by (says child line)) (keeps_child (says child line)) slots)) d) played.1 t own
+    in
     elim (is_slot_of child s) as (λ b. is_slot_of child s ≡ b → OutcomeBy s.answer s.sent s (says child line ∷ events)) [
       | true ↦ λ own.
           let here : s.child ≡ child = eqb-true s.child child own in
@@ -128,8 +138,12 @@ outcome slots (says child line ∷ events) d played s at =
           let none : s.answer ≡ None = ap (λ (t : Slot). t.answer) (sym same) ∙ u.open_still in
           let sent : s.sent ≡ true = ap (λ (t : Slot). t.sent) (sym same) ∙ u.sent in
           let good = has_entry s.number (reply_to line s) (ap (λ t. fault_of (reply_to line t)) (sym same) ∙ played.0.2) in
-          subst (λ c. OutcomeBy s.answer s.sent s (says c line ∷ events)) here (heard_own s line events good.0 none sent good.1 (next (heard_slot line s) (moved slots (says child line) s (heard_slot line s) at (at_own child (heard_slot line) s own) refl)))
-      | false ↦ λ apart. heard_other s child line events apart (next s (moved slots (says child line) s s at (at_other child (heard_slot line) s apart) refl))
+          subst (λ c. OutcomeBy s.answer s.sent s (says c line ∷ events)) here
+          (heard_own s line events good.0 none sent good.1
+          (next (heard_slot line s)
+          (moved slots (says child line) s (heard_slot line s) at (at_own child (heard_slot line) s own) refl)))
+      | false ↦ λ apart. heard_other s child line events apart
+          (next s (moved slots (says child line) s s at (at_other child (heard_slot line) s apart) refl))
     ] refl
 
 -- ---- from the beginning
@@ -151,7 +165,9 @@ plays slots events fresh played k s at =
   where
     all_at : (slots : List Slot) (k : ℕ) (s : Slot) → slice_get slots k ≡ Some s
         → All (λ (t : Slot). (t.sent ≡ false) × (t.answer ≡ None)) slots → (s.sent ≡ false) × (s.answer ≡ None)
-    all_at slots k s at all = subst (λ (t : Slot). (t.sent ≡ false) × (t.answer ≡ None)) (get_or_from_slice_get slots k s s at) (all k s (slice_get_within slots k s at))
+    all_at slots k s at all =
+        subst (λ (t : Slot). (t.sent ≡ false) × (t.answer ≡ None))
+        (get_or_from_slice_get slots k s s at) (all k s (slice_get_within slots k s at))
 
 filter_at : {A B : Type 0} (f g : A → Option B) (xs : List A)
     → ((k : ℕ) (x : A) → slice_get xs k ≡ Some x → f x ≡ g x)

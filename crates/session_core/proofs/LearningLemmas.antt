@@ -1,5 +1,5 @@
 -- What the entries of a transcript add, one after another, and that it stays little.
-use Rattle.std.proofs.Common.{◌≡◌, ℕ, zero, suc, ◌+◌, ◌*◌, ◌-◌, ◌<◌, ◌≤◌, arith, true, cond, List, [], ◌∷◌, ◌++◌, take, drop, length, replicate, refl, sym, ap, ◌∙◌, Option, Some, None, slice_get, get_or, count_by, eq-eqb, eqb-true, mul-add, mul-le-mul}
+use Rattle.std.proofs.Common.{◌≡◌, ℕ, zero, suc, ◌+◌, ◌*◌, ◌-◌, ◌<◌, ◌≤◌, arith, true, cond, List, [], ◌∷◌, take, drop, length, replicate, refl, sym, ap, ◌∙◌, Option, Some, None, slice_get, get_or, count_by, eq-eqb, eqb-true, mul-add, mul-le-mul}
 use Rattle.std.proofs.Math.ListN.{take-append-drop}
 use Rattle.std.proofs.lemmas.Bool.{leb-true}
 use Rattle.std.proofs.lemmas.List.{length-append, length-map, length-replicate}
@@ -25,19 +25,13 @@ use Rattle.transcript_model.specs.Transcript.{Asked, asked, objects_in, names_of
 use Rattle.transcript_model.specs.declared.entry.Entry.{Entry}
 use Rattle.transcript_model.specs.declared.entry.Entry.TheVariants as entry
 use Rattle.session_core.proofs.SessionLemmas.{count_joined, count_one}
-use Rattle.session_core.proofs.LearningTupleLemmas.{length_with_names}
 use Rattle.session_core.specs.Learning.{CanLearn, MayLearn, IsRoomAfter}
 use Rattle.lemmas.proofs.Options.{same_some}
 use Rattle.lemmas.proofs.ListTests.{get_there}
+use Rattle.lemmas.proofs.Members.{next_taken}
+use Rattle.task_model.proofs.KnownLemmas.{length_with_names}
 
 -- ---- lists
-
-pub take_next : {A : Type 0} (xs : List A) (k : ℕ) (x : A) → slice_get xs k ≡ Some x
-    → take (k + 1) xs ≡ take k xs ++ x ∷ []
-take_next [] k x at = absurd (cc)
-take_next (y ∷ ys) zero x at = let same : y ≡ x = cc in ap (λ z. z ∷ []) same
-take_next (y ∷ ys) (suc k) x at =
-    ap (λ m. take m (y ∷ ys)) (let e : suc k + 1 ≡ suc (k + 1) = omega arith in e) ∙ ap (λ zs. y ∷ zs) (take_next ys k x at)
 
 pub front_at : {A : Type 0} (xs : List A) (n k : ℕ) (x : A) → slice_get (take n xs) k ≡ Some x
     → slice_get xs k ≡ Some x
@@ -61,8 +55,10 @@ few_joined most f (e ∷ es) each =
     let first : length (f e) ≤ most * weight e = each 0 e refl in
     let rest = few_joined most f es (λ k d at. each (suc k) d at) in
     let both : length (flat_map f (e ∷ es)) ≡ length (f e) + length (flat_map f es) = length-append (f e) (flat_map f es) in
-    let counts : count_by is_answer (e ∷ es) ≡ weight e + count_by is_answer es = count_joined is_answer (e ∷ []) es ∙ ap (λ n. n + count_by is_answer es) (count_one is_answer e) in
-    let times : most * count_by is_answer (e ∷ es) ≡ most * weight e + most * count_by is_answer es = ap (λ n. most * n) counts ∙ mul-add most (weight e) (count_by is_answer es) in
+    let counts : count_by is_answer (e ∷ es) ≡ weight e + count_by is_answer es =
+    count_joined is_answer (e ∷ []) es ∙ ap (λ n. n + count_by is_answer es) (count_one is_answer e) in
+    let times : most * count_by is_answer (e ∷ es) ≡ most * weight e + most * count_by is_answer es =
+    ap (λ n. most * n) counts ∙ mul-add most (weight e) (count_by is_answer es) in
     omega (arith, first, rest, both, times)
 
 few_values : (t w n : ℕ) → t ≤ 16 → w ≤ 8 → n ≡ t * w → n ≤ 128
@@ -82,12 +78,23 @@ module _ (task : Task) (asked_all : List Instance) (entries : List Entry) (can :
       → (tuples ≤ 16) × (length values ≤ 128)
   small_got place n tuples values at =
       let may : IsRightGot can.version task (take place entries) n tuples values = can.legal place (entry.Got n tuples values) at in
-      let is = asked_is can.version task (take place entries) can.fit (legal_take can.version task entries place can.legal) n may.request may.of in
-      let eight : length may.request.stream.outputs ≤ 8 = (fit_parts task.domain may.request.stream (fit_stream_at task may.request.instance.stream may.request.stream can.fit is.streamed)).outputs in
+      let is = asked_is can.version task (take place entries) can.fit
+      (legal_take can.version task entries place can.legal) n may.request may.of in
+      let eight : length may.request.stream.outputs ≤ 8 =
+      (fit_parts task.domain may.request.stream
+      (fit_stream_at task may.request.instance.stream may.request.stream can.fit is.streamed)).outputs in
       (may.right.few, few_values tuples (length may.request.stream.outputs) (length values) may.right.few eight may.right.count)
 
   few_front : (place : ℕ) → count_by is_answer (take place entries) ≤ 100000
-  few_front place = omega (arith, count_joined is_answer (take place entries) (drop place entries), ap (count_by is_answer) (take-append-drop place entries), can.answered, can.counted, can.few)
+  few_front place =
+      omega (
+        arith,
+        count_joined is_answer (take place entries) (drop place entries),
+        ap (count_by is_answer) (take-append-drop place entries),
+        can.answered,
+        can.counted,
+        can.few,
+      )
 
   few_names : (place : ℕ) → length (names_of task (take place entries)) ≤ 21188608
   few_names place =
@@ -106,7 +113,8 @@ module _ (task : Task) (asked_all : List Instance) (entries : List Entry) (can :
   few_notes : (place : ℕ) → length (notes_of task (take place entries)) ≤ 1600000
   few_notes place =
       let front = take place entries in
-      omega (arith, few_joined 16 (note_of task front) front (λ k e at. notes_few front k e (front_at entries place k e at)), few_front place)
+      omega
+      (arith, few_joined 16 (note_of task front) front (λ k e at. notes_few front k e (front_at entries place k e at)), few_front place)
     where
       tuples_few : (tuples : ℕ) (o : Option Asked) → tuples ≤ 16
           → length (option_map_or (λ (a : Asked). replicate tuples (Yielded a.instance)) o []) ≤ 16
@@ -131,7 +139,13 @@ module _ (task : Task) (asked_all : List Instance) (entries : List Entry) (can :
       → length task.domain.constants ≤ length (names_of task (take place entries))
   constants_named place =
       let front = names_of-front task [] (take place entries) in
-      omega (arith, constants_few task can.fit, length-map task.problem.objects (λ (d : Declared). d.name), ap length front.1, length-append (declared_names task) front.0)
+      omega (
+        arith,
+        constants_few task can.fit,
+        length-map task.problem.objects (λ (d : Declared). d.name),
+        ap length front.1,
+        length-append (declared_names task) front.0,
+      )
 
   -- ---- one entry more
 
@@ -151,7 +165,8 @@ module _ (task : Task) (asked_all : List Instance) (entries : List Entry) (can :
       → IsRoomAfter (known_of task (take place entries)) (notes_of task (take place entries)) a.stream e
   room_after place n (entry.Got m tuples values) a at was answers may =
       let same : m ≡ n = sym (eqb-true n m answers) in
-      let one : may.request ≡ a = same_some (asked task (take place entries) n) may.request a (ap (asked task (take place entries)) (sym same) ∙ may.of) was in
+      let one : may.request ≡ a =
+      same_some (asked task (take place entries) n) may.request a (ap (asked task (take place entries)) (sym same) ∙ may.of) was in
       let small = small_got place m tuples values at in
       record {
         count = may.right.count ∙ ap (λ (b : Asked). tuples * length b.stream.outputs) one;
@@ -179,22 +194,33 @@ module _ (task : Task) (asked_all : List Instance) (entries : List Entry) (can :
       let waits = waiting_of can.version task before n e may answers in
       let there = first_so (list_any (is_ask_of n) before) _ waits in
       let below = number_below can.version task before n legal there in
-      let all : asks_of entries ≡ asks_of before + asks_of (drop place entries) = ap asks_of (sym (take-append-drop place entries)) ∙ asks_more before (drop place entries) in
+      let all : asks_of entries ≡ asks_of before + asks_of (drop place entries) =
+      ap asks_of (sym (take-append-drop place entries)) ∙ asks_more before (drop place entries) in
       let within : n - 1 < length asked_all = omega (arith, below.0, below.1, all, can.counted) in
       let stands = get_there asked_all (n - 1) within in
       let made = can.asks (n - 1) stands.0 stands.1 in
       let back : (n - 1) + 1 ≡ n = omega (arith, below.0) in
-      let made_here : asked task entries n ≡ Some (record { stream = made.stream; instance = stands.0 }) = ap (asked task entries) (sym back) ∙ made.asks in
-      let same : record { stream = made.stream; instance = stands.0 } ≡ request.0 = same_some (asked task entries n) (record { stream = made.stream; instance = stands.0 }) request.0 made_here (asked-later task entries place n request.0 request.1) in
+      let made_here : asked task entries n ≡ Some (record { stream = made.stream; instance = stands.0 }) =
+      ap (asked task entries) (sym back) ∙ made.asks in
+      let same : record { stream = made.stream; instance = stands.0 } ≡ request.0 =
+      same_some (asked task entries n) (record { stream = made.stream; instance = stands.0 }) request.0 made_here
+      (asked-later task entries place n request.0 request.1) in
       let is = asked_is can.version task before can.fit legal n request.0 request.1 in
       let adds = answer_adds can.version task before can.fit.problem.objects.names.distinct legal n request.0 request.1 e answers in
-      let next = take_next entries place e at in
+      let next = next_taken entries place e at in
       record {
         request = request.0;
         some = below.0;
         is = stands.1 ∙ ap (λ (a : Asked). Some a.instance) same;
         streamed = is.streamed;
-        may = record { fit = can.fit; streamed = is.streamed; many = is.many; named = is.named; constants = constants_named place; room = room_after place n e request.0 at request.1 answers may };
+        may = record {
+          fit = can.fit;
+          streamed = is.streamed;
+          many = is.many;
+          named = is.named;
+          constants = constants_named place;
+          room = room_after place n e request.0 at request.1 answers may;
+        };
         known = ap (known_of task) next ∙ adds.known;
         notes = ap (notes_of task) next ∙ adds.notes;
       }
@@ -207,8 +233,9 @@ module _ (task : Task) (asked_all : List Instance) (entries : List Entry) (can :
   mark_at : (place : ℕ) (e : Entry) → slice_get entries place ≡ Some e → is_mark e ≡ true
       → AddsNothing place
   mark_at place e at mark =
-      let adds = mark_adds can.version task (take place entries) can.fit.problem.objects.names.distinct (legal_take can.version task entries place can.legal) e mark in
-      let next = take_next entries place e at in
+      let adds = mark_adds can.version task (take place entries) can.fit.problem.objects.names.distinct
+      (legal_take can.version task entries place can.legal) e mark in
+      let next = next_taken entries place e at in
       record { known = ap (known_of task) next ∙ adds.same.known; notes = ap (notes_of task) next ∙ adds.same.notes }
 
   pub other_at : (place : ℕ) (e : Entry) → slice_get entries place ≡ Some e
@@ -218,8 +245,9 @@ module _ (task : Task) (asked_all : List Instance) (entries : List Entry) (can :
       let legal = legal_take can.version task entries place can.legal in
       let right : IsRightAsk task before number turn call = can.legal place (entry.Ask number turn call) at in
       let fresh = ap (λ n. list_any (is_ask_of n) before) right.next ∙ next_is_fresh can.version task before legal in
-      let adds = request_adds can.version task before can.fit.problem.objects.names.distinct legal number turn call right.due.stream right.instance right fresh right.named right.due.named in
-      let next = take_next entries place (entry.Ask number turn call) at in
+      let adds = request_adds can.version task before can.fit.problem.objects.names.distinct legal number turn call right.due.stream
+      right.instance right fresh right.named right.due.named in
+      let next = next_taken entries place (entry.Ask number turn call) at in
       record { known = ap (known_of task) next ∙ adds.same.known; notes = ap (notes_of task) next ∙ adds.same.notes }
   other_at place (entry.Got n tuples values) at none = absurd (cc)
   other_at place (entry.Value n value) at none = absurd (cc)
@@ -237,5 +265,8 @@ module _ (task : Task) (asked_all : List Instance) (entries : List Entry) (can :
       → s ≡ get_or task.streams i.stream s → record { stream = s; instance = i } ≡ h.request
   request_read place n e h i s i_is s_is =
       let instance : i ≡ h.request.instance = i_is ∙ get_or_from_slice_get asked_all (n - 1) h.request.instance i h.is in
-      let stream : s ≡ h.request.stream = s_is ∙ get_or_from_slice_get task.streams i.stream h.request.stream s (ap (λ (j : Instance). slice_get task.streams j.stream) instance ∙ h.streamed) in
+      let stream : s ≡ h.request.stream =
+      s_is
+      ∙ get_or_from_slice_get task.streams i.stream h.request.stream s
+      (ap (λ (j : Instance). slice_get task.streams j.stream) instance ∙ h.streamed) in
       λ j. record { stream = stream j; instance = instance j }

@@ -92,7 +92,8 @@ pub level_ready : (task : Task) (entries : List Entry) (dues : List Due)
 level_ready task entries dues level = record {
   due = λ i m. (level.due.each i).0 m;
   turns = level.turns;
-  distinct = ascending_distinct (instance_cmp (known_of task entries).names) (instances_total (known_of task entries).names) (instances_of dues) level.due.ascend;
+  distinct = ascending_distinct (instance_cmp (known_of task entries).names)
+      (instances_total (known_of task entries).names) (instances_of dues) level.due.ascend;
 }
 
 -- ---- the next round may begin
@@ -111,8 +112,10 @@ may_begin task s dues count h works learnt ready next =
       due = λ i m.
           subst (λ k. IsDue task k s.notes i) (sym known)
           (subst (λ ns. IsDue task (known_of task s.entries) ns i) (sym notes)
-          (ready.due i (subst (λ is. Contains is i) (sym parts) (Contains-append_left (instances_of front) (instances_of (drop count dues)) i m))));
-      turns = subst (λ ns. All (λ (d : Due). d.turn ≡ yields_of ns d.instance) front) (sym notes) (All-take (λ (d : Due). d.turn ≡ yields_of (notes_of task s.entries) d.instance) count dues ready.turns);
+          (ready.due i
+          (subst (λ is. Contains is i) (sym parts) (Contains-append_left (instances_of front) (instances_of (drop count dues)) i m))));
+      turns = subst (λ ns. All (λ (d : Due). d.turn ≡ yields_of ns d.instance) front)
+          (sym notes) (All-take (λ (d : Due). d.turn ≡ yields_of (notes_of task s.entries) d.instance) count dues ready.turns);
       distinct = distinct_left (instances_of front) (instances_of (drop count dues)) (subst AreDistinct parts ready.distinct);
       fit = workers_fit s.pools (streams_of front) (sym (fits_same s.pools front) ∙ next.fit);
       left = omega (arith, next.left, length-front);
@@ -130,7 +133,9 @@ may_begin task s dues count h works learnt ready next =
 
 facts_kept : (facts more : List Fact) (fact : Fact) → is_fact facts fact ≡ true
     → is_fact (with_facts facts more) fact ≡ true
-facts_kept facts more fact e = (fact_member (with_facts facts more) fact).1 (((with_facts-is facts more).members fact).1 (Contains-append_left facts more fact ((fact_member facts fact).0 e)))
+facts_kept facts more fact e =
+    (fact_member (with_facts facts more) fact).1
+    (((with_facts-is facts more).members fact).1 (Contains-append_left facts more fact ((fact_member facts fact).0 e)))
 
 module _ (known after : Known) (kept : (fact : Fact) → is_fact known.facts fact ≡ true → is_fact after.facts fact ≡ true) where
   types_kept : (objects sorts : List ℕ) → have_types known objects sorts ≡ true
@@ -138,17 +143,23 @@ module _ (known after : Known) (kept : (fact : Fact) → is_fact known.facts fac
   types_kept [] [] e = refl
   types_kept [] (s ∷ ss) e = e
   types_kept (o ∷ os) [] e = e
-  types_kept (o ∷ os) (s ∷ ss) e = and_from _ _ (kept (type_fact s o) (first_so (has_type known o s) (have_types known os ss) e)) (types_kept os ss (second_so (has_type known o s) (have_types known os ss) e))
+  types_kept (o ∷ os) (s ∷ ss) e =
+      and_from _ _ (kept (type_fact s o) (first_so (has_type known o s) (have_types known os ss) e))
+      (types_kept os ss (second_so (has_type known o s) (have_types known os ss) e))
 
   patterns_kept : (slots : List ℕ) (ps : List Pattern)
       → list_all (λ p. is_fact known.facts (fact_of slots p)) ps ≡ true
       → list_all (λ p. is_fact after.facts (fact_of slots p)) ps ≡ true
   patterns_kept slots [] e = refl
-  patterns_kept slots (p ∷ ps) e = and_from _ _ (kept (fact_of slots p) (first_so (is_fact known.facts (fact_of slots p)) _ e)) (patterns_kept slots ps (second_so (is_fact known.facts (fact_of slots p)) _ e))
+  patterns_kept slots (p ∷ ps) e =
+      and_from _ _ (kept (fact_of slots p) (first_so (is_fact known.facts (fact_of slots p)) _ e))
+      (patterns_kept slots ps (second_so (is_fact known.facts (fact_of slots p)) _ e))
 
   reachable_kept : (s : Stream) (i : Instance) → is_reachable s known i ≡ true
       → is_reachable s after i ≡ true
-  reachable_kept s i e = and_from _ _ (types_kept i.inputs s.inputs (first_so (have_types known i.inputs s.inputs) _ e)) (patterns_kept (slots_of i.inputs) s.domain (second_so (have_types known i.inputs s.inputs) _ e))
+  reachable_kept s i e =
+      and_from _ _ (types_kept i.inputs s.inputs (first_so (have_types known i.inputs s.inputs) _ e))
+      (patterns_kept (slots_of i.inputs) s.domain (second_so (have_types known i.inputs s.inputs) _ e))
 
 -- ---- notes on others
 
@@ -188,20 +199,33 @@ answer_of_due task version number (d ∷ ds) (s ∷ ss) h k e at =
   where
     later : IsAnswerOf (number + 1) ds e → IsAnswerOf number (d ∷ ds) e
     later r =
-        record { place = suc r.place; due = r.due; at = r.at; numbered = r.numbered ∙ ap Some (let n : (number + 1) + r.place ≡ number + suc r.place = omega arith in n) }
+        record {
+          place = suc r.place;
+          due = r.due;
+          at = r.at;
+          numbered = r.numbered ∙ ap Some (let n : (number + 1) + r.place ≡ number + suc r.place = omega arith in n);
+        }
 
     first : (a : Entry) → s.answer ≡ Some a → a ≡ e → IsAnswerOf number (d ∷ ds) e
     first a is same =
         let said = h.0.right a is in
         let n : s.number ≡ number + 0 = h.0.numbered ∙ (let z : number ≡ number + 0 = omega arith in z) in
-        record { place = 0; due = d; at = refl; numbered = ap answered_number (sym same) ∙ entry_number s.number (reply_of said.0 s.wanted) a said.1 ∙ ap Some n }
+        record {
+          place = 0;
+          due = d;
+          at = refl;
+          numbered = ap answered_number (sym same) ∙ entry_number s.number (reply_of said.0 s.wanted) a said.1 ∙ ap Some n;
+        }
 
     by : ((j : ℕ) → slice_get (answers_of ss) j ≡ Some e → IsAnswerOf number (d ∷ ds) e)
         → (o : Option Entry) → s.answer ≡ o → (j : ℕ)
         → slice_get (cons_option s.answer (answers_of ss)) j ≡ Some e → IsAnswerOf number (d ∷ ds) e
     by again None is j there =
         again j (ap (λ o. slice_get (cons_option o (answers_of ss)) j) (sym is) ∙ there)
-    by again (Some a) is zero there = first a is (let one : slice_get (a ∷ answers_of ss) 0 ≡ Some e = ap (λ o. slice_get (cons_option o (answers_of ss)) 0) (sym is) ∙ there in head one)
+    by again (Some a) is zero there =
+        first a is (let one : slice_get (a ∷ answers_of ss) 0 ≡ Some e =
+        ap (λ o. slice_get (cons_option o (answers_of ss)) 0) (sym is) ∙ there in
+        head one)
       where
         head : Some a ≡ Some e → a ≡ e
         head same = cc
@@ -245,16 +269,24 @@ module _ (task : Task) (s : State) (open_now : s.is_open ≡ true) (answered : a
       → All (λ m. ¬ (about m ≡ i)) (flat_map (note_of task all) (s.asks ++ answers_of s.slots))
   others i apart =
       let r = h.round open_now in
-      let after = subst (λ es. (k : ℕ) (j : Instance) → slice_get (s.asked ++ s.instances) k ≡ Some j → Asks task es (k + 1) j) entries_are (close_kept task s open_now answered h).asked in
-      let none : flat_map (note_of task all) s.asks ≡ [] = ap (flat_map (note_of task all)) r.asks ∙ no_notes task all _ (length s.asked + 1) r.dues in
-      let only : flat_map (note_of task all) (s.asks ++ answers_of s.slots) ≡ flat_map (note_of task all) (answers_of s.slots) = flat_map-append (note_of task all) s.asks (answers_of s.slots) ∙ ap (λ ns. ns ++ flat_map (note_of task all) (answers_of s.slots)) none in
+      let after =
+      subst (λ es. (k : ℕ) (j : Instance) → slice_get (s.asked ++ s.instances) k ≡ Some j → Asks task es (k + 1) j) entries_are
+      (close_kept task s open_now answered h).asked in
+      let none : flat_map (note_of task all) s.asks ≡ [] =
+      ap (flat_map (note_of task all)) r.asks ∙ no_notes task all _ (length s.asked + 1) r.dues in
+      let only : flat_map (note_of task all) (s.asks ++ answers_of s.slots) ≡ flat_map (note_of task all) (answers_of s.slots) =
+      flat_map-append (note_of task all) s.asks (answers_of s.slots)
+      ∙ ap (λ ns. ns ++ flat_map (note_of task all) (answers_of s.slots)) none in
       subst (All (λ m. ¬ (about m ≡ i))) (sym only)
       (all_joined (λ m. ¬ (about m ≡ i)) (note_of task all) (answers_of s.slots) (λ k e at.
       let o = answer_of_due task s.version (length s.asked + 1) r.dues s.slots r.slots k e at in
-      let stands : slice_get s.instances o.place ≡ Some o.due.instance = ap (λ is. slice_get is o.place) r.instances ∙ slice_get-map (λ (d : Due). d.instance) r.dues o.place ∙ ap (option_map (λ (d : Due). d.instance)) o.at in
+      let stands : slice_get s.instances o.place ≡ Some o.due.instance =
+      ap (λ is. slice_get is o.place) r.instances ∙ slice_get-map (λ (d : Due). d.instance) r.dues o.place
+      ∙ ap (option_map (λ (d : Due). d.instance)) o.at in
       let made = after (length s.asked + o.place) o.due.instance (get_behind s.asked s.instances o.place o.due.instance stands) in
       let n : (length s.asked + 1) + o.place ≡ (length s.asked + o.place) + 1 = omega arith in
-      notes_about task all e ((length s.asked + 1) + o.place) (record { stream = made.stream; instance = o.due.instance }) i o.numbered (ap (asked task all) n ∙ made.asks)
+      notes_about task all e ((length s.asked + 1) + o.place)
+      (record { stream = made.stream; instance = o.due.instance }) i o.numbered (ap (asked task all) n ∙ made.asks)
       (λ same. apart (subst (Contains s.instances) same (member_at s.instances o.place o.due.instance stands)))))
 
   module _ (i : Instance) (apart : ¬ (Contains s.instances i)) where
@@ -273,9 +305,13 @@ module _ (task : Task) (s : State) (open_now : s.is_open ≡ true) (answered : a
         → IsDue task (known_of task all) (notes_of task all) i
     due_kept due =
         let more = longer s.version task s.entries (s.asks ++ answers_of s.slots) h.fit.problem.objects.names.distinct h.legal in
-        let kept : (fact : Fact) → is_fact (known_of task s.entries).facts fact ≡ true → is_fact (known_of task all).facts fact ≡ true = λ fact e. subst (λ fs. is_fact fs fact ≡ true) (sym more.facts) (facts_kept (known_of task s.entries).facts (flat_map (certified task all) (s.asks ++ answers_of s.slots)) fact e) in
-        let ends : list_any (is_end_of i) (notes_of task all) ≡ list_any (is_end_of i) (notes_of task s.entries) = ap (λ (t : Tally). t.ended) tally in
-        let yielded : list_any (is_yield_of i) (notes_of task all) ≡ list_any (is_yield_of i) (notes_of task s.entries) = sym (yielded_some (notes_of task all) i) ∙ ap (λ n. nat_lt 0 n) yields_kept ∙ yielded_some (notes_of task s.entries) i in
+        let kept : (fact : Fact) → is_fact (known_of task s.entries).facts fact ≡ true → is_fact (known_of task all).facts fact ≡ true =
+        λ fact e. subst (λ fs. is_fact fs fact ≡ true) (sym more.facts)
+        (facts_kept (known_of task s.entries).facts (flat_map (certified task all) (s.asks ++ answers_of s.slots)) fact e) in
+        let ends : list_any (is_end_of i) (notes_of task all) ≡ list_any (is_end_of i) (notes_of task s.entries) =
+        ap (λ (t : Tally). t.ended) tally in
+        let yielded : list_any (is_yield_of i) (notes_of task all) ≡ list_any (is_yield_of i) (notes_of task s.entries) =
+        sym (yielded_some (notes_of task all) i) ∙ ap (λ n. nat_lt 0 n) yields_kept ∙ yielded_some (notes_of task s.entries) i in
         record {
           stream = due.stream;
           named = due.named;
@@ -289,11 +325,16 @@ module _ (task : Task) (s : State) (open_now : s.is_open ≡ true) (answered : a
   rest_ready dues count front ready =
       let parts = two_parts count dues in
       let distinct = subst AreDistinct parts ready.distinct in
-      let apart : (i : Instance) → Contains (instances_of (drop count dues)) i → ¬ (Contains s.instances i) = λ i m in_front. distinct_apart (instances_of (take count dues)) (instances_of (drop count dues)) i distinct (subst (λ is. Contains is i) front in_front) m in
+      let apart : (i : Instance) → Contains (instances_of (drop count dues)) i → ¬ (Contains s.instances i) =
+      λ i m in_front. distinct_apart (instances_of (take count dues))
+      (instances_of (drop count dues)) i distinct (subst (λ is. Contains is i) front in_front) m in
       subst (λ es. AreReady task es (drop count dues)) (sym entries_are)
       (record {
-        due = λ i m. due_kept i (apart i m) (ready.due i (subst (λ is. Contains is i) (sym parts) (Contains-append_right (instances_of (take count dues)) (instances_of (drop count dues)) i m)));
-        turns = turns_kept (drop count dues) apart (All-drop (λ (d : Due). d.turn ≡ yields_of (notes_of task s.entries) d.instance) count dues ready.turns);
+        due = λ i m. due_kept i (apart i m) (ready.due i
+            (subst (λ is. Contains is i) (sym parts)
+            (Contains-append_right (instances_of (take count dues)) (instances_of (drop count dues)) i m)));
+        turns = turns_kept (drop count dues) apart
+            (All-drop (λ (d : Due). d.turn ≡ yields_of (notes_of task s.entries) d.instance) count dues ready.turns);
         distinct = distinct_right (instances_of (take count dues)) (instances_of (drop count dues)) distinct;
       })
     where
@@ -305,5 +346,7 @@ module _ (task : Task) (s : State) (open_now : s.is_open ≡ true) (answered : a
           All-nil (λ (d : Due). d.turn ≡ yields_of (notes_of task all) d.instance)
       turns_kept (u ∷ us) apart turns =
           All-cons (λ (d : Due). d.turn ≡ yields_of (notes_of task all) d.instance) u us
-          (All-head (λ (d : Due). d.turn ≡ yields_of (notes_of task s.entries) d.instance) u us turns ∙ sym (yields_kept u.instance (apart u.instance (contains_here u.instance (instances_of us)))))
-          (turns_kept us (λ i m. apart i (contains_later u.instance (instances_of us) i m)) (All-tail (λ (d : Due). d.turn ≡ yields_of (notes_of task s.entries) d.instance) u us turns))
+          (All-head (λ (d : Due). d.turn ≡ yields_of (notes_of task s.entries) d.instance) u us turns
+          ∙ sym (yields_kept u.instance (apart u.instance (contains_here u.instance (instances_of us)))))
+          (turns_kept us (λ i m. apart i (contains_later u.instance (instances_of us) i m))
+          (All-tail (λ (d : Due). d.turn ≡ yields_of (notes_of task s.entries) d.instance) u us turns))

@@ -9,13 +9,13 @@ use Rattle.lemmas.proofs.ListTests.{get_there}
 use Rattle.instance_queue.specs.Level.{instances_of}
 use Rattle.instance_queue.specs.declared.due.Due.{Due}
 use Rattle.transcript_model.specs.Rounds as rounds
-use Rattle.session_core.proofs.LearningLemmas.{take_next}
 use Rattle.session_core.proofs.SessionLemmas.{count_joined, count_one}
 use Rattle.session_core.specs.Pools.{serves, FitWorkers, fits_workers}
 use Rattle.session_core.specs.Ready.{share_of, IsLongestFront, IsNextRound, calls_left}
 use Rattle.session_core.specs.Slots.{streams_of}
 use Rattle.session_core.specs.State.{State}
 use Rattle.session_core.specs.declared.pools.Workers.{Workers}
+use Rattle.lemmas.proofs.Members.{next_taken}
 
 -- ---- few enough
 
@@ -29,14 +29,20 @@ pub one_fits : (pools : List Workers) (stream : ℕ)
     → ((k : ℕ) (p : Workers) → slice_get pools k ≡ Some p → 1 ≤ p.workers)
     → fits_workers pools (stream ∷ []) ≡ true
 one_fits [] stream some = refl
-one_fits (p ∷ ps) stream some = and_from (nat_le (count_by (serves p) (stream ∷ [])) p.workers) _ (le-leb (count_by (serves p) (stream ∷ [])) p.workers (omega (arith, cond_le_one (serves p stream), count_one (serves p) stream, some 0 p refl))) (one_fits ps stream (λ k q at. some (suc k) q at))
+one_fits (p ∷ ps) stream some =
+    and_from (nat_le (count_by (serves p) (stream ∷ [])) p.workers) _
+    (le-leb (count_by (serves p) (stream ∷ [])) p.workers
+    (omega (arith, cond_le_one (serves p stream), count_one (serves p) stream, some 0 p refl)))
+    (one_fits ps stream (λ k q at. some (suc k) q at))
 
 pub workers_fit : (pools : List Workers) (streams : List ℕ) → fits_workers pools streams ≡ true
     → FitWorkers pools streams
 workers_fit [] streams e k p at = absurd (cc)
 workers_fit (q ∷ qs) streams e zero p at =
     let same : q ≡ p = cc in
-    subst (λ (w : Workers). count_by (serves w) streams ≤ w.workers) same (leb-true (count_by (serves q) streams) q.workers (first_so (nat_le (count_by (serves q) streams) q.workers) (fits_workers qs streams) e))
+    subst (λ (w : Workers). count_by (serves w) streams ≤ w.workers) same
+    (leb-true (count_by (serves q) streams) q.workers
+    (first_so (nat_le (count_by (serves q) streams) q.workers) (fits_workers qs streams) e))
 workers_fit (q ∷ qs) streams e (suc k) p at =
     workers_fit qs streams (second_so (nat_le (count_by (serves q) streams) q.workers) (fits_workers qs streams) e) k p at
 
@@ -48,7 +54,8 @@ count_same p [] = refl
 count_same p (d ∷ ds) =
     count_joined (rounds.serves (share_of p)) (d.instance ∷ []) (instances_of ds)
     ∙ (λ i. count_one (rounds.serves (share_of p)) d.instance i + count_same p ds i)
-    ∙ sym (count_joined (serves p) (d.instance.stream ∷ []) (streams_of ds) ∙ ap (λ n. n + count_by (serves p) (streams_of ds)) (count_one (serves p) d.instance.stream))
+    ∙ sym (count_joined (serves p) (d.instance.stream ∷ []) (streams_of ds)
+    ∙ ap (λ n. n + count_by (serves p) (streams_of ds)) (count_one (serves p) d.instance.stream))
 
 pub fits_same : (pools : List Workers) (dues : List Due)
     → rounds.fits (map share_of pools) (instances_of dues) ≡ fits_workers pools (streams_of dues)
@@ -81,7 +88,8 @@ module _ (pools : List Workers) (dues : List Due) (count : ℕ) (longest : IsLon
   full_by [] e = tt
   full_by (d ∷ ds) e =
       let at = behind dues count d ds e in
-      let more : instances_of (take count dues) ++ d.instance ∷ [] ≡ instances_of (take (count + 1) dues) = sym (map-append (λ (u : Due). u.instance) (take count dues) (d ∷ [])) ∙ ap instances_of (sym (take_next dues count d at.0)) in
+      let more : instances_of (take count dues) ++ d.instance ∷ [] ≡ instances_of (take (count + 1) dues) =
+      sym (map-append (λ (u : Due). u.instance) (take count dues) (d ∷ [])) ∙ ap instances_of (sym (next_taken dues count d at.0)) in
       ap (rounds.fits (map share_of pools)) more ∙ fits_same pools (take (count + 1) dues) ∙ longest.full at.1
 
   pub is_full : rounds.IsFull (map share_of pools) (instances_of (take count dues)) (instances_of (drop count dues))
@@ -96,7 +104,7 @@ module _ (pools : List Workers) (dues : List Due) (count : ℕ) (longest : IsLon
       by (suc n) e = omega (arith, e)
       by zero e =
           let first = get_there dues 0 there in
-          let one : take (count + 1) dues ≡ first.0 ∷ [] = ap (λ n. take (n + 1) dues) e ∙ take_next dues 0 first.0 first.1 in
+          let one : take (count + 1) dues ≡ first.0 ∷ [] = ap (λ n. take (n + 1) dues) e ∙ next_taken dues 0 first.0 first.1 in
           let fits = one_fits pools first.0.instance.stream some in
           let never = longest.full (omega (arith, e, there)) in
           absurd (true≢false (sym (ap (λ us. fits_workers pools (streams_of us)) one ∙ fits) ∙ never))
@@ -117,8 +125,10 @@ next_is s dues most count few is longest =
       fit =
           fits_same s.pools (take count dues)
           ∙ ap (λ us. fits_workers s.pools (streams_of us)) (sym front) ∙ longest.fit;
-      full = subst (λ (us : List Due). rounds.IsFull (map share_of s.pools) (instances_of (take count dues)) (instances_of (drop count us))) same
-          (subst (λ (us : List Due). rounds.IsFull (map share_of s.pools) (instances_of us) (instances_of (drop count (take most dues)))) front (is_full s.pools (take most dues) count longest));
+      full = subst (λ (us : List Due). rounds.IsFull (map share_of s.pools) (instances_of (take count dues)) (instances_of (drop count us)))
+          same
+          (subst (λ (us : List Due). rounds.IsFull (map share_of s.pools) (instances_of us) (instances_of (drop count (take most dues))))
+          front (is_full s.pools (take most dues) count longest));
     }
   where
     as_far : {A : Type 0} (xs : List A) (n left : ℕ) → n ≡ min (length xs) left

@@ -7,7 +7,9 @@ use borrow.Author.Tests.{leb-true}
 
 pub value_short : (v : List ℕ) → is_value v ≡ true → length v ≤ 64
 unfolding is_value
-value_short v e = leb-true (length v) 64 (second_so (nat_le 1 (length v)) (nat_le (length v) 64) (first_so (nat_le 1 (length v) && nat_le (length v) 64) (list_all is_value_byte v) e))
+value_short v e =
+    leb-true (length v) 64 (second_so (nat_le 1 (length v))
+    (nat_le (length v) 64) (first_so (nat_le 1 (length v) && nat_le (length v) 64) (list_all is_value_byte v) e))
 
 pub all_short : (vs : List (List ℕ)) (k : ℕ) (v : List ℕ) → list_all is_value vs ≡ true
     → slice_get vs k ≡ Some v → length v ≤ 64

@@ -36,29 +36,46 @@ module _ (task : Task) (names : List (List ℕ)) where
   asks_step n (u ∷ us) zero d at = let same : u ≡ d = cc in λ i. ask_for task names ((let e : n ≡ n + 0 = omega arith in e) i) (same i) ∷ []
   asks_step n (u ∷ us) (suc k) d at =
       ap (λ m. asks_from task names n (take m (u ∷ us))) (let e : suc k + 1 ≡ suc (k + 1) = omega arith in e)
-      ∙ ap (λ es. ask_for task names n u ∷ es) (asks_step (n + 1) us k d at ∙ ap (λ m. asks_from task names (n + 1) (take k us) ++ ask_for task names m d ∷ []) (let e : (n + 1) + k ≡ n + suc k = omega arith in e))
+      ∙ ap (λ es. ask_for task names n u ∷ es)
+      (asks_step (n + 1) us k d at
+      ∙ ap (λ m. asks_from task names (n + 1) (take k us) ++ ask_for task names m d ∷ [])
+      (let e : (n + 1) + k ≡ n + suc k = omega arith in e))
 
   module _ (version : ℕ) (pools : List Workers) where
     pub slots_step : (n : ℕ) (before : List ℕ) (dues : List Due) (k : ℕ) (d : Due)
         → slice_get dues k ≡ Some d
-        → slots_from task names version pools n before (take (k + 1) dues) ≡ slots_from task names version pools n before (take k dues) ++ slot_for task names version pools (n + k) (before ++ streams_of (take k dues)) d ∷ []
+        → slots_from task names version pools n before (take (k + 1) dues)
+        ≡ slots_from task names version pools n before (take k dues)
+        ++ slot_for task names version pools (n + k) (before ++ streams_of (take k dues)) d ∷ []
     slots_step n before [] k d at = absurd (cc)
     slots_step n before (u ∷ us) zero d at =
-        let same : u ≡ d = cc in λ i. slot_for task names version pools ((let e : n ≡ n + 0 = omega arith in e) i) (sym (append-nil before) i) (same i) ∷ []
+        let same : u ≡ d = cc in
+        λ i. slot_for task names version pools ((let e : n ≡ n + 0 = omega arith in e) i) (sym (append-nil before) i) (same i) ∷ []
     slots_step n before (u ∷ us) (suc k) d at =
         ap (λ m. slots_from task names version pools n before (take m (u ∷ us))) (let e : suc k + 1 ≡ suc (k + 1) = omega arith in e)
         ∙ ap (λ es. slot_for task names version pools n before u ∷ es) (slots_step (n + 1) (before ++ u.instance.stream ∷ []) us k d at
-        ∙ (λ i. slots_from task names version pools (n + 1) (before ++ u.instance.stream ∷ []) (take k us) ++ slot_for task names version pools ((let e : (n + 1) + k ≡ n + suc k = omega arith in e) i) (append_assoc before (u.instance.stream ∷ []) (streams_of (take k us)) i) d ∷ []))
+        ∙ (λ i. slots_from task names version pools (n + 1) (before ++ u.instance.stream ∷ []) (take k us)
+        ++ slot_for task names version pools ((let e : (n + 1) + k ≡ n + suc k = omega arith in e) i)
+        (append_assoc before (u.instance.stream ∷ []) (streams_of (take k us)) i) d
+        ∷ []))
 
     -- the child of each slot
     child_at : (n : ℕ) (before : List ℕ) (dues : List Due) (k c : ℕ)
         → slice_get (children_of (slots_from task names version pools n before dues)) k ≡ Some c
         → (d : Due) × (slice_get dues k ≡ Some d) × (c ≡ child_for pools (before ++ streams_of (take k dues)) d.instance.stream)
     child_at n before [] k c at = absurd (cc)
-    child_at n before (u ∷ us) zero c at = (u, refl, (let e : c ≡ child_for pools before u.instance.stream = cc in e) ∙ ap (λ b. child_for pools b u.instance.stream) (sym (append-nil before)))
+    child_at n before (u ∷ us) zero c at = (
+      u,
+      refl,
+      (let e : c ≡ child_for pools before u.instance.stream = cc in e)
+          ∙ ap (λ b. child_for pools b u.instance.stream) (sym (append-nil before)),
+    )
     child_at n before (u ∷ us) (suc k) c at =
-        let r = child_at (n + 1) (before ++ u.instance.stream ∷ []) us k c at in
-        (r.0, r.1, r.2 ∙ ap (λ b. child_for pools b r.0.instance.stream) (append_assoc before (u.instance.stream ∷ []) (streams_of (take k us))))
+        let r = child_at (n + 1) (before ++ u.instance.stream ∷ []) us k c at in (
+          r.0,
+          r.1,
+          r.2 ∙ ap (λ b. child_for pools b r.0.instance.stream) (append_assoc before (u.instance.stream ∷ []) (streams_of (take k us))),
+        )
 
     fresh_slots : (n : ℕ) (before : List ℕ) (dues : List Due)
         → AreSlotsFor task version n dues (slots_from task names version pools n before dues)
@@ -89,7 +106,9 @@ pub server_is : (pools : List Workers) (stream : ℕ) (p : Workers) → server p
     → (k : ℕ) × (slice_get pools k ≡ Some p) × (serves p stream ≡ true)
 server_is [] stream p e = absurd (cc)
 server_is (q ∷ qs) stream p e =
-    elim (serves q stream) as (λ b. serves q stream ≡ b → cond b (Some q) (server qs stream) ≡ Some p → (k : ℕ) × (slice_get (q ∷ qs) k ≡ Some p) × (serves p stream ≡ true)) [
+    elim (serves q stream) as (λ b.
+    serves q stream ≡ b → cond b (Some q) (server qs stream) ≡ Some p
+    → (k : ℕ) × (slice_get (q ∷ qs) k ≡ Some p) × (serves p stream ≡ true)) [
       | true ↦ λ passes f. let same : q ≡ p = cc in (0, ap Some same, ap (λ w. serves w stream) (sym same) ∙ passes)
       | false ↦ λ _ f. let r = server_is qs stream p f in (suc r.0, r.1, r.2)
     ] refl e
@@ -120,7 +139,9 @@ count_passes p (y ∷ ys) (suc j) (suc k) x lt at passes =
 
 count_whole : (p : ℕ → Bool) (xs : List ℕ) (j x : ℕ) → slice_get xs j ≡ Some x → p x ≡ true
     → count_by p (take j xs) + 1 ≤ count_by p xs
-count_whole p xs j x at passes = subst (λ ys. count_by p (take j xs) + 1 ≤ count_by p ys) (take-length xs) (count_passes p xs j (length xs) x (slice_get_within xs j x at) at passes)
+count_whole p xs j x at passes =
+    subst (λ ys. count_by p (take j xs) + 1 ≤ count_by p ys)
+    (take-length xs) (count_passes p xs j (length xs) x (slice_get_within xs j x at) at passes)
 
 take_streams : (dues : List Due) (k : ℕ) → streams_of (take k dues) ≡ take k (streams_of dues)
 take_streams dues zero = refl
@@ -142,7 +163,8 @@ served_at : (task : Task) (pools : List Workers) (dues : List Due) → AreFitPoo
 served_at task pools dues fit fits k d at below =
     let found = fit.served d.instance.stream below in
     let is = server_is pools d.instance.stream found.0 found.1 in
-    let stream_at : slice_get (streams_of dues) k ≡ Some d.instance.stream = slice_get-map (λ (u : Due). u.instance.stream) dues k ∙ ap (option_map (λ (u : Due). u.instance.stream)) at in
+    let stream_at : slice_get (streams_of dues) k ≡ Some d.instance.stream =
+    slice_get-map (λ (u : Due). u.instance.stream) dues k ∙ ap (option_map (λ (u : Due). u.instance.stream)) at in
     let enough = count_whole (serves found.0) (streams_of dues) k d.instance.stream stream_at is.2 in
     record {
       pool = found.0;
@@ -161,7 +183,8 @@ served_at task pools dues fit fits k d at below =
 
 -- ---- the state with the round
 
-module _ (task : Task) (s : State) (dues : List Due) (works : s.failed ≡ false) (may : MayBeginRound task s dues) (h : IsSession task s) where
+module _ (task : Task) (s : State) (dues : List Due) (works : s.failed ≡ false)
+    (may : MayBeginRound task s dues) (h : IsSession task s) where
   all_learnt : take s.learnt s.entries ≡ s.entries
   all_learnt = ap (λ n. take n s.entries) may.ready.all ∙ take-length s.entries
 
@@ -172,7 +195,9 @@ module _ (task : Task) (s : State) (dues : List Due) (works : s.failed ≡ false
   notes_is = h.notes works ∙ ap (notes_of task) all_learnt
 
   due_at : (k : ℕ) (d : Due) → slice_get dues k ≡ Some d → IsDue task s.known s.notes d.instance
-  due_at k d at = may.due d.instance (member_at (instances_of dues) k d.instance (slice_get-map (λ (u : Due). u.instance) dues k ∙ ap (option_map (λ (u : Due). u.instance)) at))
+  due_at k d at =
+      may.due d.instance (member_at (instances_of dues) k d.instance
+      (slice_get-map (λ (u : Due). u.instance) dues k ∙ ap (option_map (λ (u : Due). u.instance)) at))
 
   known_coherent : IsCoherent s.known
   known_coherent = subst IsCoherent (sym known_is) (coherent s.version task s.entries h.fit h.legal)
@@ -187,7 +212,8 @@ module _ (task : Task) (s : State) (dues : List Due) (works : s.failed ≡ false
   named_one d due =
       record {
         stream = slice_get_within task.streams d.instance.stream due.stream due.named;
-        inputs = λ k o lt. below_names s.known.names (get_or d.instance.inputs k o) (due_in task s.known s.notes known_coherent d.instance due k o lt);
+        inputs = λ k o lt. below_names s.known.names
+            (get_or d.instance.inputs k o) (due_in task s.known s.notes known_coherent d.instance due k o lt);
       }
 
   pub named_all : (k : ℕ) (d : Due) → k < length dues
@@ -196,7 +222,9 @@ module _ (task : Task) (s : State) (dues : List Due) (works : s.failed ≡ false
       named_one (get_or dues k d) (due_at k (get_or dues k d) (slice_get-get_or dues k d lt))
 
   served : (k : ℕ) (d : Due) → slice_get dues k ≡ Some d → Served s.pools dues k d
-  served k d at = let due = due_at k d at in served_at task s.pools dues h.pools may.fit k d at (slice_get_within task.streams d.instance.stream due.stream due.named)
+  served k d at =
+      let due = due_at k d at in
+      served_at task s.pools dues h.pools may.fit k d at (slice_get_within task.streams d.instance.stream due.stream due.named)
 
   pub children_fit : (k : ℕ) (d : Due) → slice_get dues k ≡ Some d
       → child_for s.pools (streams_of (take k dues)) d.instance.stream ≤ 16
@@ -227,9 +255,12 @@ module _ (task : Task) (s : State) (dues : List Due) (works : s.failed ≡ false
       let in_q : HasChild q.pool c = record { from = omega (arith, c_q); to = omega (arith, c_q, q.inside) } in
       let place : p.place ≡ q.place = h.pools.apart p.place q.place c p.pool q.pool p.at q.at in_p in_q in
       let same : p.pool ≡ q.pool = same_pool (slice_get s.pools q.place) p.pool q.pool (ap (slice_get s.pools) (sym place) ∙ p.at) q.at in
-      let stream_at : slice_get (streams_of dues) j ≡ Some x.0.instance.stream = slice_get-map (λ (u : Due). u.instance.stream) dues j ∙ ap (option_map (λ (u : Due). u.instance.stream)) x.1 in
+      let stream_at : slice_get (streams_of dues) j ≡ Some x.0.instance.stream =
+      slice_get-map (λ (u : Due). u.instance.stream) dues j ∙ ap (option_map (λ (u : Due). u.instance.stream)) x.1 in
       let rises = count_passes (serves p.pool) (streams_of dues) j k x.0.instance.stream below stream_at p.serving in
-      let moved : q.pool.first + count_by (serves q.pool) (take k (streams_of dues)) ≡ p.pool.first + count_by (serves p.pool) (take k (streams_of dues)) = ap (λ (w : Workers). w.first + count_by (serves w) (take k (streams_of dues))) (sym same) in
+      let moved : q.pool.first + count_by (serves q.pool) (take k (streams_of dues)) ≡ p.pool.first + count_by
+      (serves p.pool) (take k (streams_of dues)) =
+      ap (λ (w : Workers). w.first + count_by (serves w) (take k (streams_of dues))) (sym same) in
       absurd (omega (arith, c_p, c_q, moved, rises))
     where
       same_pool : (o : Option Workers) (a b : Workers) → o ≡ Some a → o ≡ Some b → a ≡ b
@@ -240,7 +271,9 @@ module _ (task : Task) (s : State) (dues : List Due) (works : s.failed ≡ false
   children_distinct names version n j k c at_j at_k =
       elim (cases_lt j k) [
         | inl below ↦ absurd (children_apart names version n j k c below at_j at_k)
-        | inr over ↦ elim (cases_lt k j) [ inl below ↦ absurd (children_apart names version n k j c below at_k at_j) | inr under ↦ omega (arith, over, under) ]
+        | inr over ↦
+            elim (cases_lt k j)
+            [ inl below ↦ absurd (children_apart names version n k j c below at_k at_j) | inr under ↦ omega (arith, over, under) ]
       ]
 
   pub begun_sound : (entries_room asked_room : ℕ)
@@ -267,10 +300,14 @@ module _ (task : Task) (s : State) (dues : List Due) (works : s.failed ≡ false
   unsent : (names : List (List ℕ)) (n : ℕ) (before : List ℕ) (us : List Due)
       → All (λ (t : Slot). (t.sent ≡ false) × (t.answer ≡ None)) (slots_from task names s.version s.pools n before us)
   unsent names n before [] = All-nil (λ (t : Slot). (t.sent ≡ false) × (t.answer ≡ None))
-  unsent names n before (u ∷ us) = All-cons (λ (t : Slot). (t.sent ≡ false) × (t.answer ≡ None)) (slot_for task names s.version s.pools n before u) (slots_from task names s.version s.pools (n + 1) (before ++ u.instance.stream ∷ []) us) (refl, refl) (unsent names (n + 1) (before ++ u.instance.stream ∷ []) us)
+  unsent names n before (u ∷ us) =
+      All-cons (λ (t : Slot). (t.sent ≡ false) × (t.answer ≡ None)) (slot_for task names s.version s.pools n before u)
+      (slots_from task names s.version s.pools (n + 1) (before ++ u.instance.stream ∷ []) us) (refl, refl)
+      (unsent names (n + 1) (before ++ u.instance.stream ∷ []) us)
 
   pub begun_fresh : IsFresh (begun task s dues).slots
-  begun_fresh = record { unsent = unsent s.known.names (length s.asked + 1) [] dues; apart = children_distinct s.known.names s.version (length s.asked + 1) }
+  begun_fresh = record
+      { unsent = unsent s.known.names (length s.asked + 1) [] dues; apart = children_distinct s.known.names s.version (length s.asked + 1) }
 
   pub begin_kept : IsSession task (begun task s dues)
   begin_kept =
@@ -290,7 +327,8 @@ module _ (task : Task) (s : State) (dues : List Due) (works : s.failed ≡ false
         notes = h.notes;
         round = λ _. record {
           dues = dues;
-          due = λ i m. subst (λ ns. IsDue task (known_of task s.entries) ns i) notes_is (subst (λ k. IsDue task k s.notes i) known_is (may.due i m));
+          due = λ i m. subst (λ ns. IsDue task (known_of task s.entries) ns i) notes_is
+              (subst (λ k. IsDue task k s.notes i) known_is (may.due i m));
           turns = subst (λ ns. All (λ (d : Due). d.turn ≡ yields_of ns d.instance) dues) notes_is may.turns;
           distinct = may.distinct;
           instances = refl;
@@ -300,7 +338,8 @@ module _ (task : Task) (s : State) (dues : List Due) (works : s.failed ≡ false
       }
 
 -- the state whose round has these lists
-pub the_state : (s : State) (entries : List Entry) (asked : List Instance) (asks : List Entry) (instances : List Instance) (slots : List Slot) (task : Task) (dues : List Due)
+pub the_state : (s : State) (entries : List Entry) (asked : List Instance) (asks : List Entry)
+    (instances : List Instance) (slots : List Slot) (task : Task) (dues : List Due)
     → entries ≡ s.entries → asked ≡ s.asked → asks ≡ asks_from task s.known.names (length s.asked + 1) dues → instances ≡ instances_of dues
     → slots ≡ slots_from task s.known.names s.version s.pools (length s.asked + 1) [] dues
     → record {

@@ -64,7 +64,9 @@ module _ (version : ℕ) (task : Task) (fit : IsFit task) (entries : List Entry)
       → instance_of task (names_of task entries) (call_of_instance task (names_of task entries) i) ≡ Some i
   shown_again i d =
       call_names_instance task (names_of task entries) i fit distinct_names (slice_get_within task.streams i.stream d.stream d.named)
-      (λ o m. named_below (names_of task entries) o (All-contains (IsIn (names_of task entries)) i.inputs o (due_in task (known_of task entries) (notes_of task entries) (coherent version task entries fit legal) i d) m))
+      (λ o m. named_below (names_of task entries) o
+      (All-contains (IsIn (names_of task entries)) i.inputs o
+      (due_in task (known_of task entries) (notes_of task entries) (coherent version task entries fit legal) i d) m))
 
   record Requested (before after : List Entry) (n : ℕ) (dues : List Due) : Type 0 where
     ok_after : IsLegal version task after
@@ -80,35 +82,43 @@ module _ (version : ℕ) (task : Task) (fit : IsFit task) (entries : List Entry)
   requested : (dues : List Due) (before : List Entry) (n : ℕ) → IsLegal version task before
       → known_of task before ≡ known_of task entries
       → notes_of task before ≡ notes_of task entries → n ≡ asks_of before + 1
-      → ((i : Instance) → Contains (instances_of dues) i → IsDue task (known_of task entries) (notes_of task entries) i) → All (λ (d : Due). d.turn ≡ yields_of (notes_of task entries) d.instance) dues → AreDistinct (instances_of dues)
+      → ((i : Instance) → Contains (instances_of dues) i → IsDue task (known_of task entries) (notes_of task entries) i)
+      → All (λ (d : Due). d.turn ≡ yields_of (notes_of task entries) d.instance) dues → AreDistinct (instances_of dues)
       → ((m : ℕ) (a : Asked) → asked task before m ≡ Some a → is_open before m ≡ true → ¬ (Contains (instances_of dues) a.instance))
       → Requested before (before ++ asks_from task (names_of task entries) n dues) n dues
   requested [] before n ok known notes next due turns distinct apart =
       let same : before ++ [] ≡ before = append-nil before in
       subst (λ after. Requested before after n []) (sym same)
-      (record { ok_after = ok; known = known; notes = notes; count = omega (arith, next); waits = tt; keeps = λ m o. o; only = λ m o. inl o })
+      (record
+      { ok_after = ok; known = known; notes = notes; count = omega (arith, next); waits = tt; keeps = λ m o. o; only = λ m o. inl o })
   requested (d ∷ ds) before n ok known notes next due turns distinct apart =
       let names = names_of task entries in
       let i = d.instance in
       let here = due i (contains_here i (instances_of ds)) in
       let call = call_of_instance task names i in
       let e = entry.Ask n d.turn call in
-      let named : instance_of task (names_of task before) call ≡ Some i = (λ k. instance_of task (known k).names call) ∙ shown_again i here in
+      let named : instance_of task (names_of task before) call ≡ Some i =
+      (λ k. instance_of task (known k).names call) ∙ shown_again i here in
       let right : IsRightAsk task before n d.turn call =
       record {
         next = next;
         instance = i;
         named = named;
-        due = subst (λ ns. IsDue task (known_of task before) ns i) (sym notes) (subst (λ k. IsDue task k (notes_of task entries) i) (sym known) here);
-        closed = λ m a is same. false_from_ne_true (is_open before m) (λ o. apart m a is o (subst (Contains (instances_of (d ∷ ds))) (sym same) (contains_here i (instances_of ds))));
+        due = subst (λ ns. IsDue task (known_of task before) ns i)
+            (sym notes) (subst (λ k. IsDue task k (notes_of task entries) i) (sym known) here);
+        closed = λ m a is same.
+            false_from_ne_true (is_open before m)
+            (λ o. apart m a is o (subst (Contains (instances_of (d ∷ ds))) (sym same) (contains_here i (instances_of ds))));
         turned =
             All-head (λ (u : Due). u.turn ≡ yields_of (notes_of task entries) u.instance) d ds turns
             ∙ ap (λ ns. yields_of ns i) (sym notes);
       } in
       let fresh = ap (λ k. list_any (is_ask_of k) before) next ∙ next_is_fresh version task before ok in
-      let adds = request_adds version task before fit.problem.objects.names.distinct ok n d.turn call here.stream i right fresh named here.named in
+      let adds = request_adds version task before fit.problem.objects.names.distinct ok n d.turn call here.stream i right fresh named
+      here.named in
       let after = before ++ e ∷ [] in
-      let apart_after : (m : ℕ) (a : Asked) → asked task after m ≡ Some a → is_open after m ≡ true → ¬ (Contains (instances_of ds) a.instance) =
+      let apart_after : (m : ℕ) (a : Asked) → asked task after m ≡ Some a → is_open after m ≡ true → ¬
+      (Contains (instances_of ds) a.instance) =
       λ m a is o there.
       elim (or_cases (is_open before m) (m == n) (sym (adds.waiting m) ∙ o)) [
         | inl old ↦ still_apart m a is old there n adds.others next ok
@@ -117,8 +127,13 @@ module _ (version : ℕ) (task : Task) (fit : IsFit task) (entries : List Entry)
             let same : a.instance ≡ i = same_instance_of (asked task after n) a _ (ap (asked task after) (sym at) ∙ is) adds.here in
             head_is_new i (instances_of ds) distinct (subst (Contains (instances_of ds)) same there)
       ] in
-      let rest = requested ds after (n + 1) ((grows version task before).next e ok right) (adds.same.known ∙ known) (adds.same.notes ∙ notes) (let c : n + 1 ≡ asks_of after + 1 = omega (arith, next, adds.asks) in c) (λ j m. due j (contains_later i (instances_of ds) j m)) (All-tail (λ (u : Due). u.turn ≡ yields_of (notes_of task entries) u.instance) d ds turns) (distinct_tail i (instances_of ds) distinct) apart_after in
-      let whole : before ++ asks_from task names n (d ∷ ds) ≡ after ++ asks_from task names (n + 1) ds = sym (append_assoc before (e ∷ []) (asks_from task names (n + 1) ds)) in
+      let rest = requested ds after (n + 1) ((grows version task before).next e ok right) (adds.same.known ∙ known)
+      (adds.same.notes ∙ notes) (let c : n + 1 ≡ asks_of after + 1 = omega (arith, next, adds.asks) in c)
+      (λ j m. due j (contains_later i (instances_of ds) j m))
+      (All-tail (λ (u : Due). u.turn ≡ yields_of (notes_of task entries) u.instance) d ds turns)
+      (distinct_tail i (instances_of ds) distinct) apart_after in
+      let whole : before ++ asks_from task names n (d ∷ ds) ≡ after ++ asks_from task names (n + 1) ds =
+      sym (append_assoc before (e ∷ []) (asks_from task names (n + 1) ds)) in
       subst (λ all. Requested before all n (d ∷ ds)) (sym whole)
       (record {
         ok_after = rest.ok_after;
@@ -127,7 +142,8 @@ module _ (version : ℕ) (task : Task) (fit : IsFit task) (entries : List Entry)
         count = omega (arith, rest.count);
         waits = (
           rest.keeps n (adds.waiting n ∙ or_right (is_open before n) (n == n) (eq-eqb n n refl)),
-          record { stream = here.stream; streamed = here.named; asks = asked-kept task after (asks_from task names (n + 1) ds) n _ adds.here },
+          record
+              { stream = here.stream; streamed = here.named; asks = asked-kept task after (asks_from task names (n + 1) ds) n _ adds.here },
           rest.waits,
         );
         keeps = λ m o. rest.keeps m (adds.waiting m ∙ or_left (is_open before m) (m == n) o);
@@ -149,11 +165,16 @@ module _ (version : ℕ) (task : Task) (fit : IsFit task) (entries : List Entry)
       still_apart : (m : ℕ) (a : Asked)
           → asked task (before ++ entry.Ask n d.turn (call_of_instance task (names_of task entries) d.instance) ∷ []) m ≡ Some a
           → is_open before m ≡ true → Contains (instances_of ds) a.instance → (k : ℕ)
-          → ((j : ℕ) → ¬ (j ≡ k) → asked task (before ++ entry.Ask n d.turn (call_of_instance task (names_of task entries) d.instance) ∷ []) j ≡ asked task before j)
+          → ((j : ℕ) → ¬ (j ≡ k)
+          → asked task (before ++ entry.Ask n d.turn (call_of_instance task (names_of task entries) d.instance) ∷ []) j
+          ≡ asked task before j)
           → k ≡ asks_of before + 1 → IsLegal version task before → ⊥
       still_apart m a is old there k others is_next ok =
-          let older : m ≤ asks_of before = (number_below version task before m ok (and_parts (list_any (is_ask_of m) before) (not (list_any (is_answer_to m) before)) old).0).1 in
-          apart m a (sym (others m (λ f. absurd (omega (arith, f, older, is_next)))) ∙ is) old (contains_later d.instance (instances_of ds) a.instance there)
+          let older : m ≤ asks_of before =
+          (number_below version task before m ok
+          (and_parts (list_any (is_ask_of m) before) (not (list_any (is_answer_to m) before)) old).0).1 in
+          apart m a (sym (others m (λ f. absurd (omega (arith, f, older, is_next)))) ∙ is) old
+          (contains_later d.instance (instances_of ds) a.instance there)
 
 -- ---- answers
 
@@ -209,7 +230,9 @@ either_no_number false false x y why v no_x no_y e = absurd (cc)
 fields_no_number : (width : ℕ) (several : Bool) (fields : List (List ℕ)) (v : ℕ)
     → reply.reply_of_fields (wanted.Outputs width several) fields ≡ reply.number v → ⊥
 fields_no_number width several [] v e = absurd (cc)
-fields_no_number width several (word ∷ given) v e = either_no_number _ _ (reply.end_reply given) (reply.given_reply (wanted.Outputs width several) given) _ v (ends_no_number given v) (yields_no_number _ _ _ _ _ _ v) e
+fields_no_number width several (word ∷ given) v e =
+    either_no_number _ _ (reply.end_reply given) (reply.given_reply (wanted.Outputs width several) given) _ v
+    (ends_no_number given v) (yields_no_number _ _ _ _ _ _ v) e
 
 wanted_is : (task : Task) (version stream : ℕ) (s : Stream) → slice_get task.streams stream ≡ Some s
     → wanted_at task version stream ≡ wanted_of version s
@@ -222,7 +245,10 @@ module _ (version : ℕ) (task : Task) (fit : IsFit task) where
       → asked task before n ≡ Some (record { stream = s; instance = i }) → entry_of n (reply_of line (wanted_of version s)) ≡ Some e
       → MayFollow version task before e × (is_answer_to n e ≡ true) × (is_answer e ≡ true)
   says_right before n s i line e waiting request is =
-      elim (is_none s.worth) as (λ b. is_none s.worth ≡ b → entry_of n (reply_of line (cond b (wanted.Outputs (length s.outputs) (has_several version)) wanted.Number)) ≡ Some e → MayFollow version task before e × (is_answer_to n e ≡ true) × (is_answer e ≡ true)) [
+      elim (is_none s.worth) as (λ b.
+      is_none s.worth ≡ b
+      → entry_of n (reply_of line (cond b (wanted.Outputs (length s.outputs) (has_several version)) wanted.Number)) ≡ Some e
+      → MayFollow version task before e × (is_answer_to n e ≡ true) × (is_answer e ≡ true)) [
         | true ↦ λ none said. by_outputs none (reply_of line (wanted.Outputs (length s.outputs) (has_several version))) refl said
         | false ↦ λ some said. by_number some (reply_of line wanted.Number) refl said
       ] refl is
@@ -235,11 +261,22 @@ module _ (version : ℕ) (task : Task) (fit : IsFit task) where
           → entry_of n r ≡ Some e → MayFollow version task before e × (is_answer_to n e ≡ true) × (is_answer e ≡ true)
       by_outputs none (reply.yields t vs) says said =
           let same : entry.Got n t vs ≡ e = cc in
-          subst (λ x. MayFollow version task before x × (is_answer_to n x ≡ true) × (is_answer x ≡ true)) same
-          (record { waiting = waiting; request = record { stream = s; instance = i }; of = request; no_cost = none; right = yields_are_right line (length s.outputs) (has_several version) t vs says }, itself, refl)
+          subst (λ x. MayFollow version task before x × (is_answer_to n x ≡ true) × (is_answer x ≡ true)) same (
+            record {
+              waiting = waiting;
+              request = record { stream = s; instance = i };
+              of = request;
+              no_cost = none;
+              right = yields_are_right line (length s.outputs) (has_several version) t vs says;
+            },
+            itself,
+            refl,
+          )
       by_outputs none (reply.number v) says said =
           absurd (fields_no_number (length s.outputs) (has_several version) (reply.fields line) v says)
-      by_outputs none reply.ends says said = let same : entry.End n ≡ e = cc in subst (λ x. MayFollow version task before x × (is_answer_to n x ≡ true) × (is_answer x ≡ true)) same (waiting, itself, refl)
+      by_outputs none reply.ends says said =
+          let same : entry.End n ≡ e = cc in
+          subst (λ x. MayFollow version task before x × (is_answer_to n x ≡ true) × (is_answer x ≡ true)) same (waiting, itself, refl)
       by_outputs none (reply.bad why) says said = absurd (cc)
 
       by_number : is_none s.worth ≡ false → (r : Reply) → reply_of line wanted.Number ≡ r
@@ -249,9 +286,20 @@ module _ (version : ℕ) (task : Task) (fit : IsFit task) where
           absurd (fields_no_yield (reply.fields line) t vs says)
       by_number some (reply.number v) says said =
           let same : entry.Value n v ≡ e = cc in
-          subst (λ x. MayFollow version task before x × (is_answer_to n x ≡ true) × (is_answer x ≡ true)) same
-          (record { waiting = waiting; request = record { stream = s; instance = i }; of = request; cost = some; few = numbers_are_small line wanted.Number v says }, itself, refl)
-      by_number some reply.ends says said = let same : entry.End n ≡ e = cc in subst (λ x. MayFollow version task before x × (is_answer_to n x ≡ true) × (is_answer x ≡ true)) same (waiting, itself, refl)
+          subst (λ x. MayFollow version task before x × (is_answer_to n x ≡ true) × (is_answer x ≡ true)) same (
+            record {
+              waiting = waiting;
+              request = record { stream = s; instance = i };
+              of = request;
+              cost = some;
+              few = numbers_are_small line wanted.Number v says;
+            },
+            itself,
+            refl,
+          )
+      by_number some reply.ends says said =
+          let same : entry.End n ≡ e = cc in
+          subst (λ x. MayFollow version task before x × (is_answer_to n x ≡ true) × (is_answer x ≡ true)) same (waiting, itself, refl)
       by_number some (reply.bad why) says said = absurd (cc)
 
   record Answered (before after : List Entry) (count : ℕ) : Type 0 where
@@ -277,37 +325,58 @@ module _ (version : ℕ) (task : Task) (fit : IsFit task) where
       → ((m : ℕ) → is_open before m ≡ true → (n ≤ m) × (m < n + length dues)) → Answered before (before ++ answers_of slots) (length dues)
   answered_all [] [] before n ok waits h all only =
       subst (λ after. Answered before after 0) (sym (append-nil before))
-      (record { legal = ok; none_open = λ m. false_from_ne_true (is_open before m) (λ o. let w = only m o in absurd (omega (arith, w.0, w.1))); asks = refl; requests = λ m. refl })
+      (record {
+        legal = ok;
+        none_open =
+            λ m. false_from_ne_true (is_open before m) (λ o. let w = only m o in absurd (omega (arith, w.0, w.1)));
+        asks = refl;
+        requests = λ m. refl;
+      })
   answered_all [] (s ∷ ss) before n ok waits h all only = absurd h
   answered_all (d ∷ ds) [] before n ok waits h all only = absurd h
   answered_all (d ∷ ds) (s ∷ ss) before n ok waits h all only =
-      by s.answer refl (λ after good still bounds. answered_all ds ss after (n + 1) good still h.1 (and_parts (not (is_none s.answer)) (all_answered ss) all).1 bounds)
+      by s.answer refl (λ after good still bounds.
+      answered_all ds ss after (n + 1) good still h.1 (and_parts (not (is_none s.answer)) (all_answered ss) all).1 bounds)
     where
       by : (o : Option Entry) → s.answer ≡ o
-          → ((after : List Entry) → IsLegal version task after → AllWait task after (n + 1) ds → ((m : ℕ) → is_open after m ≡ true → (n + 1 ≤ m) × (m < (n + 1) + length ds)) → Answered after (after ++ answers_of ss) (length ds))
+          → ((after : List Entry) → IsLegal version task after → AllWait task after (n + 1) ds
+          → ((m : ℕ) → is_open after m ≡ true → (n + 1 ≤ m) × (m < (n + 1) + length ds))
+          → Answered after (after ++ answers_of ss) (length ds))
           → Answered before (before ++ answers_of (s ∷ ss)) (length (d ∷ ds))
-      by None is again = absurd (no_both (is_none s.answer) (ap is_none is) (not-true (is_none s.answer) (and_parts (not (is_none s.answer)) (all_answered ss) all).0))
+      by None is again =
+          absurd (no_both (is_none s.answer) (ap is_none is)
+          (not-true (is_none s.answer) (and_parts (not (is_none s.answer)) (all_answered ss) all).0))
       by (Some e) is again =
           let slot = h.0 in
           let request = waits.1 in
           let said = slot.right e is in
           let line = said.0 in
-          let wants : s.wanted ≡ wanted_of version request.stream = slot.wanted ∙ wanted_is task version d.instance.stream request.stream request.streamed in
-          let replied : entry_of n (reply_of line (wanted_of version request.stream)) ≡ Some e = (λ k. entry_of (sym slot.numbered k) (reply_of line (sym wants k))) ∙ said.1 in
+          let wants : s.wanted ≡ wanted_of version request.stream =
+          slot.wanted ∙ wanted_is task version d.instance.stream request.stream request.streamed in
+          let replied : entry_of n (reply_of line (wanted_of version request.stream)) ≡ Some e =
+          (λ k. entry_of (sym slot.numbered k) (reply_of line (sym wants k))) ∙ said.1 in
           let r = says_right before n request.stream d.instance line e waits.0 request.asks replied in
           let after = before ++ e ∷ [] in
           let adds = answer_adds version task before fit.problem.objects.names.distinct ok n _ request.asks e r.1 in
-          let others : (m : ℕ) → ¬ (m ≡ n) → is_open after m ≡ is_open before m = λ m ne. adds.waiting m ∙ ap (λ b. is_open before m && not b) (ne_eqb m n ne) ∙ and_true (is_open before m) in
+          let others : (m : ℕ) → ¬ (m ≡ n) → is_open after m ≡ is_open before m =
+          λ m ne. adds.waiting m ∙ ap (λ b. is_open before m && not b) (ne_eqb m n ne) ∙ and_true (is_open before m) in
           let later : (m : ℕ) → is_open after m ≡ true → (n + 1 ≤ m) × (m < (n + 1) + length ds) =
           λ m o.
           let parts = and_parts (is_open before m) (not (m == n)) (sym (adds.waiting m) ∙ o) in
           let bounds = only m parts.0 in
           let apart : m ≡ n → ⊥ = λ f. no_both (m == n) (eq-eqb m n f) (not-true (m == n) parts.1) in
           (omega (arith, bounds.0, apart), omega (arith, bounds.1)) in
-          let rest = again after ((grows version task before).next e ok r.0) (wait_still before after n (n + 1) ds (omega arith) others adds.requests waits.2) later in
-          let whole : before ++ answers_of (s ∷ ss) ≡ after ++ answers_of ss = ap (λ o. before ++ cons_option o (answers_of ss)) is ∙ sym (append_assoc before (e ∷ []) (answers_of ss)) in
+          let rest = again after ((grows version task before).next e ok r.0)
+          (wait_still before after n (n + 1) ds (omega arith) others adds.requests waits.2) later in
+          let whole : before ++ answers_of (s ∷ ss) ≡ after ++ answers_of ss =
+          ap (λ o. before ++ cons_option o (answers_of ss)) is ∙ sym (append_assoc before (e ∷ []) (answers_of ss)) in
           subst (λ all. Answered before all (length (d ∷ ds))) (sym whole)
-          (record { legal = rest.legal; none_open = rest.none_open; asks = rest.asks ∙ adds.asks; requests = λ m. rest.requests m ∙ adds.requests m })
+          (record {
+            legal = rest.legal;
+            none_open = rest.none_open;
+            asks = rest.asks ∙ adds.asks;
+            requests = λ m. rest.requests m ∙ adds.requests m;
+          })
         where
           and_true : (b : Bool) → (b && not false) ≡ b
           and_true true = refl
@@ -369,18 +438,24 @@ close_kept task s open_now answered h =
     let first = length s.asked + 1 in
     let none : (m : ℕ) → is_open s.entries m ≡ true → ⊥ = λ m o. no_both (is_open s.entries m) o (h.none_open m) in
     let q = subst (λ xs. Requested s.version task h.fit s.entries h.legal s.entries (s.entries ++ xs) first r.dues) (sym r.asks)
-    (requested s.version task h.fit s.entries h.legal r.dues s.entries first h.legal refl refl (ap (λ k. k + 1) h.counted) r.due r.turns r.distinct (λ m a is o. absurd (none m o))) in
+    (requested s.version task h.fit s.entries h.legal r.dues s.entries first h.legal refl refl
+    (ap (λ k. k + 1) h.counted) r.due r.turns r.distinct (λ m a is o. absurd (none m o))) in
     let mid = s.entries ++ s.asks in
-    let within : (m : ℕ) → is_open mid m ≡ true → (first ≤ m) × (m < first + length r.dues) = λ m o. elim (q.only m o) [ inl old ↦ absurd (none m old) | inr bounds ↦ bounds ] in
+    let within : (m : ℕ) → is_open mid m ≡ true → (first ≤ m) × (m < first + length r.dues) =
+    λ m o. elim (q.only m o) [ inl old ↦ absurd (none m old) | inr bounds ↦ bounds ] in
     let a = answered_all s.version task h.fit r.dues s.slots mid first q.ok_after q.waits r.slots answered within in
     let answers = answers_of s.slots in
     let all = mid ++ answers in
     let many : length s.instances ≡ length r.dues = ap length r.instances ∙ length-map r.dues (λ (d : Due). d.instance) in
     let slots : length s.slots ≡ length r.dues = as_many task s.version first r.dues s.slots r.slots in
-    let count_mid : count_by is_answer mid ≡ count_by is_answer s.entries + 0 = count_joined is_answer s.entries s.asks ∙ ap (λ n. count_by is_answer s.entries + n) (ap (count_by is_answer) r.asks ∙ no_answers task (names_of task s.entries) first r.dues) in
+    let count_mid : count_by is_answer mid ≡ count_by is_answer s.entries + 0 =
+    count_joined is_answer s.entries s.asks
+    ∙ ap (λ n. count_by is_answer s.entries + n)
+    (ap (count_by is_answer) r.asks ∙ no_answers task (names_of task s.entries) first r.dues) in
     let count_all : count_by is_answer all ≡ count_by is_answer mid + count_by is_answer answers = count_joined is_answer mid answers in
     let in_answers : count_by is_answer answers ≤ length answers = count_by-le-length is_answer answers in
-    let front : take s.learnt all ≡ take s.learnt s.entries = ap (take s.learnt) (append_assoc s.entries s.asks answers) ∙ take-append-le s.learnt s.entries (s.asks ++ answers) h.learnt in
+    let front : take s.learnt all ≡ take s.learnt s.entries =
+    ap (take s.learnt) (append_assoc s.entries s.asks answers) ∙ take-append-le s.learnt s.entries (s.asks ++ answers) h.learnt in
     record {
       fit = h.fit;
       version = h.version;
@@ -392,11 +467,21 @@ close_kept task s open_now answered h =
       counted = omega (arith, length-append s.asked s.instances, many, a.asks, q.count);
       asked = λ k i at.
           elim (two_parts s.asked s.instances k i at) [
-            | inl old ↦ let was = h.asked k i old in record { stream = was.stream; streamed = was.streamed; asks = a.requests (k + 1) ∙ asked-kept task s.entries s.asks (k + 1) _ was.asks }
+            | inl old ↦
+                let was = h.asked k i old in
+                record {
+                  stream = was.stream;
+                  streamed = was.streamed;
+                  asks = a.requests (k + 1) ∙ asked-kept task s.entries s.asks (k + 1) _ was.asks;
+                }
             | inr new ↦
                 let here = wait_at task mid first r.dues new.0 i q.waits (ap (λ xs. slice_get xs new.0) (sym r.instances) ∙ new.2) in
                 let place : first + new.0 ≡ k + 1 = omega (arith, new.1) in
-                record { stream = here.stream; streamed = here.streamed; asks = a.requests (k + 1) ∙ ap (asked task mid) (sym place) ∙ here.asks }
+                record {
+                  stream = here.stream;
+                  streamed = here.streamed;
+                  asks = a.requests (k + 1) ∙ ap (asked task mid) (sym place) ∙ here.asks;
+                }
           ];
       answered = omega (arith, count_all, count_mid, in_answers, few_answers s.slots, slots, h.answered, a.asks, q.count, h.counted);
       learnt = omega (arith, h.learnt, length-append mid answers, length-append s.entries s.asks);

@@ -28,12 +28,15 @@ learnt_kept task s known notes learnt failed h within knows told =
       learnt = within;
       known = knows;
       notes = told;
-      round = λ e. let r = h.round e in record { dues = r.dues; due = r.due; turns = r.turns; distinct = r.distinct; instances = r.instances; asks = r.asks; slots = r.slots };
+      round = λ e. let r = h.round e in
+          record
+          { dues = r.dues; due = r.due; turns = r.turns; distinct = r.distinct; instances = r.instances; asks = r.asks; slots = r.slots };
     }
 
 pub all_learnt : (task : Task) (s : State) → IsSession task s → IsSession task (after_learn task s)
 all_learnt task s h =
-    learnt_kept task s (known_of task s.entries) (notes_of task s.entries) (length s.entries) false h (omega arith) (λ _. ap (known_of task) (sym (take-length s.entries))) (λ _. ap (notes_of task) (sym (take-length s.entries)))
+    learnt_kept task s (known_of task s.entries) (notes_of task s.entries) (length s.entries) false h
+    (omega arith) (λ _. ap (known_of task) (sym (take-length s.entries))) (λ _. ap (notes_of task) (sym (take-length s.entries)))
 
 pub not_learnt : (task : Task) (s : State) (known : Known) (notes : List Note) → IsSession task s
     → IsSession task (with_learnt s known notes s.learnt true)

@@ -36,7 +36,8 @@ slots_kept task version f keeps number (d ∷ ds) (s ∷ ss) h =
 at_kept : (task : Task) (version child : ℕ) (f : Slot → Slot) → KeepsSlots task version f
     → KeepsSlots task version (at_child child f)
 at_kept task version child f keeps number due slot h =
-    elim (is_slot_of child slot) as (λ b. IsSlotFor task version number due (cond b (f slot) slot)) [ true ↦ keeps number due slot h | false ↦ h ]
+    elim (is_slot_of child slot) as (λ b. IsSlotFor task version number due (cond b (f slot) slot))
+    [ true ↦ keeps number due slot h | false ↦ h ]
 
 sent_keeps : (task : Task) (version : ℕ) → KeepsSlots task version sent_slot
 sent_keeps task version number due slot h =
@@ -74,24 +75,37 @@ round_with : (task : Task) (s : State) (f : Slot → Slot) (failed : Bool)
     → KeepsSlots task s.version f → IsRoundOf task s
     → IsRoundOf task (with_slots s (map f s.slots) failed)
 round_with task s f failed keeps r =
-    record { dues = r.dues; due = r.due; turns = r.turns; distinct = r.distinct; instances = r.instances; asks = r.asks; slots = slots_kept task s.version f keeps (length s.asked + 1) r.dues s.slots r.slots }
+    record {
+      dues = r.dues;
+      due = r.due;
+      turns = r.turns;
+      distinct = r.distinct;
+      instances = r.instances;
+      asks = r.asks;
+      slots = slots_kept task s.version f keeps (length s.asked + 1) r.dues s.slots r.slots;
+    }
 
 pub sent_kept : (task : Task) (s : State) (child : ℕ) → IsSession task s
     → IsSession task (with_slots s (map (at_child child sent_slot) s.slots) s.failed)
 sent_kept task s child h =
-    session_with task s (map (at_child child sent_slot) s.slots) s.failed h (λ e. round_with task s (at_child child sent_slot) s.failed (at_kept task s.version child sent_slot (sent_keeps task s.version)) (h.round e)) (λ e. e)
+    session_with task s (map (at_child child sent_slot) s.slots) s.failed h
+    (λ e. round_with task s (at_child child sent_slot) s.failed
+    (at_kept task s.version child sent_slot (sent_keeps task s.version)) (h.round e)) (λ e. e)
 
 pub line_kept : (task : Task) (s : State) (child : ℕ) (line : List ℕ) (failed : Bool)
     → s.failed ≡ false → IsSession task s
     → IsSession task (with_slots s (map (at_child child (heard_slot line)) s.slots) failed)
 line_kept task s child line failed works h =
-    session_with task s (map (at_child child (heard_slot line)) s.slots) failed h (λ e. round_with task s (at_child child (heard_slot line)) failed (at_kept task s.version child (heard_slot line) (heard_keeps task s.version line)) (h.round e)) (λ _. works)
+    session_with task s (map (at_child child (heard_slot line)) s.slots) failed h
+    (λ e. round_with task s (at_child child (heard_slot line)) failed
+    (at_kept task s.version child (heard_slot line) (heard_keeps task s.version line)) (h.round e)) (λ _. works)
 
 pub failure_kept : (task : Task) (s : State) → IsSession task s
     → IsSession task (with_slots s s.slots true)
 failure_kept task s h =
     session_with task s s.slots true h
-    (λ e. let r = h.round e in record { dues = r.dues; due = r.due; turns = r.turns; distinct = r.distinct; instances = r.instances; asks = r.asks; slots = r.slots })
+    (λ e. let r = h.round e in
+    record { dues = r.dues; due = r.due; turns = r.turns; distinct = r.distinct; instances = r.instances; asks = r.asks; slots = r.slots })
     (λ e. absurd (cc))
 
 -- ---- marks
@@ -147,7 +161,8 @@ front_kept f s e learnt within (as_before same) more =
     ap f (ap (λ n. take n (s.entries ++ e ∷ [])) same ∙ take-append-le s.learnt s.entries (e ∷ []) within)
 front_kept f s e learnt within (all_again all one) more =
     let whole : learnt ≡ length (s.entries ++ e ∷ []) = one ∙ ap (λ n. n + 1) all ∙ sym (length-append s.entries (e ∷ [])) in
-    ap f (ap (λ n. take n (s.entries ++ e ∷ [])) whole ∙ take-length (s.entries ++ e ∷ [])) ∙ more ∙ sym (ap f (ap (λ n. take n s.entries) all ∙ take-length s.entries))
+    ap f (ap (λ n. take n (s.entries ++ e ∷ [])) whole ∙ take-length (s.entries ++ e ∷ [])) ∙ more
+    ∙ sym (ap f (ap (λ n. take n s.entries) all ∙ take-length s.entries))
 
 learns_within : (s : State) (e : Entry) (learnt : ℕ) → s.learnt ≤ length s.entries → Learns s learnt
     → learnt ≤ length (s.entries ++ e ∷ [])
@@ -171,7 +186,10 @@ mark_kept task s e learnt closed mark learns h =
       none_open = λ n. adds.waiting n ∙ h.none_open n;
       counted = h.counted ∙ sym adds.asks;
       asked = λ k i at. asks_kept task s.entries (s.entries ++ e ∷ []) adds.requests (k + 1) i (h.asked k i at);
-      answered = let same : count_by is_answer (s.entries ++ e ∷ []) ≡ count_by is_answer s.entries + 0 = count_joined is_answer s.entries (e ∷ []) ∙ ap (λ n. count_by is_answer s.entries + n) (count_one is_answer e ∙ ap (λ b. cond b 1 0) (mark_answers e mark)) in omega (arith, same, h.answered, adds.asks);
+      answered = let same : count_by is_answer (s.entries ++ e ∷ []) ≡ count_by is_answer s.entries + 0 =
+          count_joined is_answer s.entries (e ∷ [])
+          ∙ ap (λ n. count_by is_answer s.entries + n) (count_one is_answer e ∙ ap (λ b. cond b 1 0) (mark_answers e mark)) in
+          omega (arith, same, h.answered, adds.asks);
       learnt = learns_within s e learnt h.learnt learns;
       known = λ works. h.known works ∙ sym (front_kept (known_of task) s e learnt h.learnt learns adds.same.known);
       notes = λ works. h.notes works ∙ sym (front_kept (notes_of task) s e learnt h.learnt learns adds.same.notes);

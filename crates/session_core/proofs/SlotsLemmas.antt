@@ -41,7 +41,8 @@ pub slot_of-map : (g : Slot → Slot) → ((s : Slot) → (g s).child ≡ s.chil
 slot_of-map g keeps [] child = refl
 slot_of-map g keeps (s ∷ ss) child =
     ap (λ c. cond (c == child) (Some (g s)) (slot_of (map g ss) child)) (keeps s)
-    ∙ elim (is_slot_of child s) as (λ b. cond b (Some (g s)) (slot_of (map g ss) child) ≡ option_map g (cond b (Some s) (slot_of ss child))) [
+    ∙ elim (is_slot_of child s) as
+    (λ b. cond b (Some (g s)) (slot_of (map g ss) child) ≡ option_map g (cond b (Some s) (slot_of ss child))) [
       | true ↦ refl
       | false ↦ slot_of-map g keeps ss child
     ]
@@ -66,7 +67,8 @@ own_slot (t ∷ ts) zero s d at =
 own_slot (t ∷ ts) (suc k) s d at =
     elim (is_slot_of s.child t) as (λ b. is_slot_of s.child t ≡ b → cond b (Some t) (slot_of ts s.child) ≡ Some s) [
       | true ↦ λ own.
-          let later : slice_get (children_of (t ∷ ts)) (suc k) ≡ Some s.child = slice_get-map (λ (u : Slot). u.child) ts k ∙ ap (option_map (λ (u : Slot). u.child)) at in
+          let later : slice_get (children_of (t ∷ ts)) (suc k) ≡ Some s.child =
+          slice_get-map (λ (u : Slot). u.child) ts k ∙ ap (option_map (λ (u : Slot). u.child)) at in
           let e : 0 ≡ suc k = d 0 (suc k) s.child (ap Some (eqb-true t.child s.child own)) later in absurd (omega arith)
       | false ↦ λ _. own_slot ts k s (distinct_tail t.child (children_of ts) d) at
     ] refl
@@ -78,7 +80,8 @@ answered_at [] k s all at = absurd (cc)
 answered_at (t ∷ ts) zero s all at =
     let same : t ≡ s = cc in
     let here = (and_parts (not (is_none t.answer)) (all_answered ts) all).0 in
-    elim (is_none s.answer) as (λ b. not b ≡ true → b ≡ false) [ true ↦ λ e. absurd (cc) | false ↦ λ e. refl ] (ap (λ (u : Slot). not (is_none u.answer)) (sym same) ∙ here)
+    elim (is_none s.answer) as (λ b. not b ≡ true → b ≡ false) [ true ↦ λ e. absurd (cc) | false ↦ λ e. refl ]
+    (ap (λ (u : Slot). not (is_none u.answer)) (sym same) ∙ here)
 answered_at (t ∷ ts) (suc k) s all at =
     answered_at ts k s (and_parts (not (is_none t.answer)) (all_answered ts) all).1 at
 
@@ -114,13 +117,16 @@ set_at_child (t ∷ ts) child zero s f d at own =
             elim (is_slot_of child u) as (λ b. is_slot_of child u ≡ b → b ≡ false) [
               | true ↦ λ e.
                   let same : t ≡ s = cc in
-                  let later : slice_get (children_of (t ∷ ts)) (suc j) ≡ Some child = slice_get-map (λ (v : Slot). v.child) ts j ∙ ap (option_map (λ (v : Slot). v.child)) at_j ∙ ap Some (eqb-true u.child child e) in
+                  let later : slice_get (children_of (t ∷ ts)) (suc j) ≡ Some child =
+                  slice_get-map (λ (v : Slot). v.child) ts j ∙ ap (option_map (λ (v : Slot). v.child)) at_j
+                  ∙ ap Some (eqb-true u.child child e) in
                   let first : slice_get (children_of (t ∷ ts)) 0 ≡ Some child = ap Some (ap (λ (v : Slot). v.child) same ∙ own) in
                   let no : 0 ≡ suc j = d 0 (suc j) child first later in absurd (omega arith)
               | false ↦ λ _. refl
             ] refl
 set_at_child (t ∷ ts) child (suc k) s f d at own =
-    let later : slice_get (children_of (t ∷ ts)) (suc k) ≡ Some child = slice_get-map (λ (v : Slot). v.child) ts k ∙ ap (option_map (λ (v : Slot). v.child)) at ∙ ap Some own in
+    let later : slice_get (children_of (t ∷ ts)) (suc k) ≡ Some child =
+    slice_get-map (λ (v : Slot). v.child) ts k ∙ ap (option_map (λ (v : Slot). v.child)) at ∙ ap Some own in
     let here : is_slot_of child t ≡ false = first_apart (is_slot_of child t) refl later in
     λ i. sym (at_other child f t here) i ∷ set_at_child ts child k s f (distinct_tail t.child (children_of ts) d) at own i
   where

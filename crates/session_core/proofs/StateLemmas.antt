@@ -10,7 +10,8 @@ use Rattle.session_core.specs.Heard.{heard_at, heard_by, is_bad_at}
 use Rattle.session_core.specs.Slots.{Slot, at_child, slot_of, fault_of, reply_to}
 use Rattle.session_core.specs.State.{State, IsSound, with_slots}
 
-module _ (slots : List Slot) (child place : ℕ) (slot old : Slot) (found : slice_get slots place ≡ slot_of slots child) (waits : slot_of slots child ≡ Some slot) (read : old ≡ get_or slots place old) where
+module _ (slots : List Slot) (child place : ℕ) (slot old : Slot) (found : slice_get slots place ≡ slot_of slots child)
+    (waits : slot_of slots child ≡ Some slot) (read : old ≡ get_or slots place old) where
   pub read_slot : old ≡ slot
   read_slot = read ∙ get_or_from_slice_get slots place slot old (found ∙ waits)
 

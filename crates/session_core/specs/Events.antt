@@ -60,7 +60,8 @@ AnswersAreOwn =
 -- Two orders in which each child says the same leave the same answers.
 abbrev pub OrderDoesNotMatter : Type 0
 OrderDoesNotMatter =
-    (slots : List Slot) (first second : List Event) → IsFresh slots → IsPlayed slots first → IsPlayed slots second → ((child : ℕ) → lines_of child first ≡ lines_of child second) → after slots first ≡ after slots second
+    (slots : List Slot) (first second : List Event) → IsFresh slots → IsPlayed slots first → IsPlayed slots second
+    → ((child : ℕ) → lines_of child first ≡ lines_of child second) → after slots first ≡ after slots second
 
 -- Each child of a round says one line.
 abbrev pub EachSaysOne : Type 0

@@ -4,6 +4,7 @@ use Rattle.std.specs.List.{list_any, list_all}
 use Rattle.task_model.specs.declared.task.Task.{Task}
 use Rattle.transcript_model.specs.declared.head.Pool as pools
 use Rattle.session_core.specs.declared.pools.Workers.{Workers}
+use Rattle.io_world.specs.declared.host.TheConstants.{CHILDREN}
 
 -- what is kept of a pool
 abbrev pub workers_of : pools.Pool → Workers
@@ -31,7 +32,8 @@ pub record HasChild (pool : Workers) (child : ℕ) : Type 0 where
   pub from : pool.first ≤ child
   pub to : child < pool.first + pool.workers
 
--- Each stream of the task is served by one pool, and pools have children of their own, one at least, with numbers up to 16.
+-- Each stream of the task is served by one pool, and pools have children of their own, one at least, with numbers up to
+-- 16.
 pub record AreFitPools (task : Task) (all : List Workers) : Type 0 where
   pub served : (stream : ℕ) → stream < length task.streams
       → (pool : Workers) × (server all stream ≡ Some pool)
@@ -41,7 +43,7 @@ pub record AreFitPools (task : Task) (all : List Workers) : Type 0 where
   pub once : (j k stream : ℕ) (p q : Workers) → slice_get all j ≡ Some p → slice_get all k ≡ Some q
       → serves p stream ≡ true → serves q stream ≡ true → j ≡ k
   pub some : (k : ℕ) (p : Workers) → slice_get all k ≡ Some p → 1 ≤ p.workers
-  pub few : (k : ℕ) (p : Workers) → slice_get all k ≡ Some p → p.first + p.workers ≤ 17
+  pub few : (k : ℕ) (p : Workers) → slice_get all k ≡ Some p → p.first + p.workers ≤ CHILDREN
 
 -- no pool has more asks of these streams than workers
 abbrev pub FitWorkers : List Workers → List ℕ → Type 0

@@ -42,4 +42,5 @@ pub record IsNextRound (s : State) (dues : List Due) (count : ℕ) : Type 0 wher
   pub within : count ≤ length dues
   pub left : length s.asked + count ≤ s.calls
   pub fit : fits (map share_of s.pools) (instances_of (take count dues)) ≡ true
-  pub full : IsFull (map share_of s.pools) (instances_of (take count dues)) (instances_of (drop count (take (calls_left s) dues)))
+  pub full : IsFull (map share_of s.pools)
+      (instances_of (take count dues)) (instances_of (drop count (take (calls_left s) dues)))

@@ -13,6 +13,7 @@ use Rattle.transcript_model.specs.Legal.{IsLegal, HasNoneOpen, asks_of, is_answe
 use Rattle.transcript_model.specs.Transcript.{asked, names_of, known_of, notes_of}
 use Rattle.transcript_model.specs.declared.entry.Entry.{Entry}
 use Rattle.transcript_model.specs.declared.head.Head.{Head}
+use Rattle.transcript_model.specs.declared.limits.TheConstants.{MOST_CALLS}
 use Rattle.session_core.specs.Pools.{workers_of, AreFitPools, FitWorkers}
 use Rattle.session_core.specs.Slots.{Slot, wanted_at, streams_of, asks_from, slots_from, entry_of}
 use Rattle.session_core.specs.State.{State, with_round, with_learnt}
@@ -26,7 +27,7 @@ pub record IsFitHead (task : Task) (head : Head) : Type 0 where
   pub some_version : 1 ≤ head.version
   pub version : head.version ≤ 2
   pub some_calls : 1 ≤ head.calls
-  pub calls : head.calls ≤ 100000
+  pub calls : head.calls ≤ MOST_CALLS
   pub pools : AreFitPools task (map workers_of head.pools)
 
 -- ---- sessions
@@ -62,13 +63,13 @@ pub record Asks (task : Task) (entries : List Entry) (number : ℕ) (i : Instanc
   pub streamed : slice_get task.streams i.stream ≡ Some stream
   pub asks : asked task entries number ≡ Some (record { stream = stream; instance = i })
 
--- The transcript is legal, and nothing is open. What is known and noted is what the learnt front of it certifies and tells, unless
--- the session has failed.
+-- The transcript is legal, and nothing is open. What is known and noted is what the learnt front of it certifies and
+-- tells, unless the session has failed.
 pub record IsSession (task : Task) (s : State) : Type 0 where
   pub fit : IsFit task
   pub version : s.version ≤ 2
   pub some_version : 1 ≤ s.version
-  pub calls : s.calls ≤ 100000
+  pub calls : s.calls ≤ MOST_CALLS
   pub pools : AreFitPools task s.pools
   pub legal : IsLegal s.version task s.entries
   pub none_open : HasNoneOpen s.entries
@@ -112,7 +113,8 @@ pub record MayBeginRound (task : Task) (s : State) (dues : List Due) : Type 0 wh
 -- a round of these asks is open, of which nothing was sent
 abbrev pub begun : Task → State → List Due → State
 begun task s dues =
-    with_round s true (asks_from task s.known.names (length s.asked + 1) dues) (instances_of dues) (slots_from task s.known.names s.version s.pools (length s.asked + 1) [] dues)
+    with_round s true (asks_from task s.known.names (length s.asked + 1) dues)
+    (instances_of dues) (slots_from task s.known.names s.version s.pools (length s.asked + 1) [] dues)
 
 -- ---- learning
 

@@ -17,8 +17,8 @@ use Rattle.transcript_model.specs.declared.entry.Entry.TheVariants as entry
 use Rattle.session_core.specs.Pools.{child_for}
 use Rattle.session_core.specs.declared.pools.Workers.{Workers}
 
--- One due of a round: the number of its ask, its child, the request, what may be answered, whether the request was sent,
--- and the answer if one was heard.
+-- One due of a round: the number of its ask, its child, the request, what may be answered, whether the request was
+-- sent, and the answer if one was heard.
 pub record Slot : Type 0 where
   pub number : ℕ
   pub child : ℕ
@@ -101,11 +101,25 @@ is_slot_of child slot = slot.child == child
 
 -- the request is written whole
 abbrev pub sent_slot : Slot → Slot
-sent_slot slot = record { number = slot.number; child = slot.child; request = slot.request; wanted = slot.wanted; sent = true; answer = slot.answer }
+sent_slot slot = record {
+  number = slot.number;
+  child = slot.child;
+  request = slot.request;
+  wanted = slot.wanted;
+  sent = true;
+  answer = slot.answer;
+}
 
 -- the line is taken from the child
 abbrev pub heard_slot : List ℕ → Slot → Slot
-heard_slot line slot = record { number = slot.number; child = slot.child; request = slot.request; wanted = slot.wanted; sent = slot.sent; answer = entry_of slot.number (reply_to line slot) }
+heard_slot line slot = record {
+  number = slot.number;
+  child = slot.child;
+  request = slot.request;
+  wanted = slot.wanted;
+  sent = slot.sent;
+  answer = entry_of slot.number (reply_to line slot);
+}
 
 -- the slot of the child is changed so, and the others stay
 abbrev pub at_child : ℕ → (Slot → Slot) → Slot → Slot

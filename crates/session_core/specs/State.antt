@@ -5,12 +5,13 @@ use Rattle.lemmas.specs.Lists.{AreDistinct}
 use Rattle.task_model.specs.Streams.{Note}
 use Rattle.task_model.specs.declared.stream.Instance.{Instance}
 use Rattle.transcript_model.specs.declared.entry.Entry.{Entry}
+use Rattle.transcript_model.specs.declared.limits.TheConstants.{MOST_CALLS}
 use Rattle.session_core.specs.Slots.{Slot, sent_slot, heard_slot, at_child, answers_of}
 use Rattle.session_core.specs.declared.pools.Workers.{Workers}
 
--- What it was given: the version of the protocol, the most calls, and the pools. The transcript, and the instances that were
--- asked. What is known and noted, and of how many entries. The open round: its requests as entries, their instances, and its
--- slots, side by side. Whether it has failed.
+-- What it was given: the version of the protocol, the most calls, and the pools. The transcript, and the instances that
+-- were asked. What is known and noted, and of how many entries. The open round: its requests as entries, their
+-- instances, and its slots, side by side. Whether it has failed.
 pub record State : Type 0 where
   pub version : ℕ
   pub calls : ℕ
@@ -139,7 +140,7 @@ pub record IsSound (s : State) (entries_room asked_room : ℕ) : Type 0 where
   pub entries_fit : length s.entries + length s.asks + length s.slots ≤ entries_room
   pub asked_fit : length s.asked + length s.instances ≤ asked_room
   pub few : length s.asked + length s.instances ≤ s.calls
-  pub calls : s.calls ≤ 100000
+  pub calls : s.calls ≤ MOST_CALLS
   pub same_asks : length s.asks ≡ length s.slots
   pub same_instances : length s.instances ≡ length s.slots
   pub apart : AreDistinct (map (λ (t : Slot). t.child) s.slots)

@@ -31,7 +31,14 @@ impl Model for Cell {
 
     ghost use Rattle.session_core.specs.Room.{IsReady};
 
-    ghost view = { λ c. record { number = c.number; child = c.child; request = c.request.items; wanted = c.wanted; sent = c.sent; answer = c.answer } };
+    ghost view = { λ c. record {
+      number = c.number;
+      child = c.child;
+      request = c.request.items;
+      wanted = c.wanted;
+      sent = c.sent;
+      answer = c.answer;
+    } };
 
     ghost invariant = { λ c. IsReady c.answer c.wanted c.room };
 }

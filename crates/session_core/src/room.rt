@@ -51,7 +51,8 @@ impl Model for Room {
 
     ghost view = { λ r. length r.blanks.items };
 
-    ghost invariant = { λ r. (r.names.items ≡ []) × (length r.blanks.items ≤ vec_capacity r.names) };
+    ghost invariant = { λ r. (r.names.items ≡ [])
+        × (length r.blanks.items ≤ vec_capacity r.names) };
 }
 
 /// So many buffers.

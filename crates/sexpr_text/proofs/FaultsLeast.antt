@@ -73,7 +73,8 @@ bad_next : (end low p : ℕ) (s : ReadingStage) (ts : List Token) → Ascends lo
 bad_next end low p s ts a =
     let q = (head_low a).0 in (
       record { front = []; stands = front_token (Token.bad p) ts },
-      λ g h. by_place p (fault_place g) 1 (fault_number g) (fault_low s p end (Token.bad p ∷ ts) g (omega arith) (own_place a) h) (number_least end s (Token.bad p ∷ ts) g h),
+      λ g h. by_place p (fault_place g) 1 (fault_number g)
+          (fault_low s p end (Token.bad p ∷ ts) g (omega arith) (own_place a) h) (number_least end s (Token.bad p ∷ ts) g h),
     )
 
 extra_least : (end low : ℕ) (s : ReadingStage) (t : Token) (ts : List Token) → IsNotBad t
@@ -82,8 +83,12 @@ extra_least : (end low : ℕ) (s : ReadingStage) (t : Token) (ts : List Token) �
 extra_least end low s t ts good a (BadByte p) h = inl (bad_beyond t ts low end p good a h)
 extra_least end low s t ts good a (Unclosed p) h =
     let e = h.at_end in let q = (head_low a).0 in inl (omega arith)
-extra_least end low s t ts good a (Extra p) h = let q = (head_low a).0 in by_place (token_place t) p 3 3 (fault_low s (token_place t) end (t ∷ ts) (Extra p) (omega arith) (own_place a) h) (omega arith)
-extra_least end low s t ts good a (TooDeep p) h = let q = (head_low a).0 in by_place (token_place t) p 3 4 (fault_low s (token_place t) end (t ∷ ts) (TooDeep p) (omega arith) (own_place a) h) (omega arith)
+extra_least end low s t ts good a (Extra p) h =
+    let q = (head_low a).0 in
+    by_place (token_place t) p 3 3 (fault_low s (token_place t) end (t ∷ ts) (Extra p) (omega arith) (own_place a) h) (omega arith)
+extra_least end low s t ts good a (TooDeep p) h =
+    let q = (head_low a).0 in
+    by_place (token_place t) p 3 4 (fault_low s (token_place t) end (t ∷ ts) (TooDeep p) (omega arith) (own_place a) h) (omega arith)
 extra_least end low s t ts good a Memory h = absurd h
 
 -- A token outside of the list comes next.
@@ -97,7 +102,8 @@ extra_beyond : (end low d p : ℕ) (t : Token) (ts : List Token) → Ascends low
     → OutAt (inside (suc d)) (Token.left p ∷ ts) t → p < token_place t
 extra_beyond end low d p t ts a (at_front b st n) = absurd b
 extra_beyond end low d p t ts a (beyond {us} {front} r st) =
-    let w = stands_within (p + 1) end us front t (rest_ascends (inside (suc (suc d))) (p + 1) end ts us (closes_left r) (head_low a).1) st in
+    let w = stands_within (p + 1) end us front t
+    (rest_ascends (inside (suc (suc d))) (p + 1) end ts us (closes_left r) (head_low a).1) st in
     omega arith
 
 deep_least : (end low d p : ℕ) (ts : List Token) → Ascends low end (Token.left p ∷ ts)
@@ -108,13 +114,16 @@ deep_least end low d p ts a (Unclosed q) h =
     let e = h.at_end in let w = (head_low a).0 in inl (omega arith)
 deep_least end low d p ts a (Extra q) h =
     let e = h.at_place in let w = extra_beyond end low d p h.token ts a h.out in inl (omega arith)
-deep_least end low d p ts a (TooDeep q) h = let w = (head_low a).0 in by_place p q 4 4 (fault_low (inside (suc d)) p end (Token.left p ∷ ts) (TooDeep q) (omega arith) (own_place a) h) (omega arith)
+deep_least end low d p ts a (TooDeep q) h =
+    let w = (head_low a).0 in
+    by_place p q 4 4 (fault_low (inside (suc d)) p end (Token.left p ∷ ts) (TooDeep q) (omega arith) (own_place a) h) (omega arith)
 deep_least end low d p ts a Memory h = absurd h
 
 -- A `(` in 64 lists comes next.
 deep_next : (end low d p : ℕ) (ts : List Token) → suc d ≡ 64 → Ascends low end (Token.left p ∷ ts)
     → Decided end (inside (suc d)) (Token.left p ∷ ts) (Some (TooDeep p))
-deep_next end low d p ts e a = (record { front = []; stands = front_token (Token.left p) ts; deep = omega arith }, deep_least end low d p ts a)
+deep_next end low d p ts e a =
+    (record { front = []; stands = front_token (Token.left p) ts; deep = omega arith }, deep_least end low d p ts a)
 
 -- The tokens that lead on.
 word_step : (d p : ℕ) (text : List ℕ) → Step (inside (suc d)) (Token.word text p) (inside (suc d))
@@ -221,25 +230,30 @@ decided_inside : (end low d : ℕ) (ts : List Token) → suc d ≤ 64 → Ascend
 decided_inside end low d [] le a = ended end (inside (suc d)) (λ us r. closes_nothing r)
 decided_inside end low d (Token.bad p ∷ ts) le a = bad_next end low p (inside (suc d)) ts a
 decided_inside end low d (Token.word text p ∷ ts) le a =
-    passed end (inside (suc d)) (inside (suc d)) (Token.word text p) ts (first_fault end (inside (suc d)) ts) (word_step d p text) (decided_inside end low d ts le (ascends_tail a))
+    passed end (inside (suc d)) (inside (suc d)) (Token.word text p) ts (first_fault end (inside (suc d)) ts)
+    (word_step d p text) (decided_inside end low d ts le (ascends_tail a))
 decided_inside end low d (Token.left p ∷ ts) le a =
     chosen end (inside (suc d)) (Token.left p ∷ ts) (nat_lt (suc d) 64) (first_fault end (inside (suc d + 1)) ts) (Some (TooDeep p))
     (λ e. let h : suc d < 64 = ltb-true (suc d) 64 e in
     passed end (inside (suc d)) (inside (suc (suc d))) (Token.left p) ts (first_fault end (inside (suc d + 1)) ts) (left_step d p h)
-    (subst (Decided end (inside (suc (suc d))) ts) (sym (deeper end d ts)) (decided_inside end low (suc d) ts (omega arith) (ascends_tail a))))
+    (subst (Decided end (inside (suc (suc d))) ts)
+    (sym (deeper end d ts)) (decided_inside end low (suc d) ts (omega arith) (ascends_tail a))))
     (λ e. let h = ltb-false (suc d) 64 e in deep_next end low d p ts (omega arith) a)
 decided_inside end low zero (Token.right p ∷ ts) le a =
     passed end (inside 1) after (Token.right p) ts (first_fault end after ts) (last_step p) (decided_after end low ts (ascends_tail a))
 decided_inside end low (suc d) (Token.right p ∷ ts) le a =
     passed end (inside (suc (suc d))) (inside (suc d)) (Token.right p) ts (first_fault end (out_of (suc (suc d))) ts) (right_step d p)
-    (subst (λ s. Decided end (inside (suc d)) ts (first_fault end s ts)) (sym (out_of-suc d)) (decided_inside end low d ts (omega arith) (ascends_tail a)))
+    (subst (λ s. Decided end (inside (suc d)) ts (first_fault end s ts))
+    (sym (out_of-suc d)) (decided_inside end low d ts (omega arith) (ascends_tail a)))
 
 -- What the first fault is, is decided so.
 pub decided : (end low : ℕ) (ts : List Token) → Ascends low end ts
     → Decided end before ts (first_fault end before ts)
 decided end low [] a = ended end before (λ us r. no_list r.one r.tokens)
 decided end low (Token.bad p ∷ ts) a = bad_next end low p before ts a
-decided end low (Token.word text p ∷ ts) a = extra_next end low before (Token.word text p) ts tt a (at_front tt (front_token (Token.word text p) ts) tt)
+decided end low (Token.word text p ∷ ts) a =
+    extra_next end low before (Token.word text p) ts tt a (at_front tt (front_token (Token.word text p) ts) tt)
 decided end low (Token.right p ∷ ts) a = extra_next end low before (Token.right p) ts tt a (at_front tt (front_token (Token.right p) ts) tt)
 decided end low (Token.left p ∷ ts) a =
-    passed end before (inside 1) (Token.left p) ts (first_fault end (inside 1) ts) (first_step p) (decided_inside end low 0 ts (omega arith) (ascends_tail a))
+    passed end before (inside 1) (Token.left p) ts (first_fault end (inside 1) ts)
+    (first_step p) (decided_inside end low 0 ts (omega arith) (ascends_tail a))

@@ -129,7 +129,8 @@ fault_earlier end s s' t ts (BadByte p) step h =
     record { front = t ∷ h.front; stands = stands_more t ts h.front (Token.bad p) h.stands }
 fault_earlier end s s' t ts (Unclosed p) step h =
     record { at_end = h.at_end; no_rest = λ us r. h.no_rest us (step.to ts us r) }
-fault_earlier end s s' t ts (Extra p) step h = record { token = h.token; at_place = h.at_place; out = out_earlier s s' t h.token ts step h.out }
+fault_earlier end s s' t ts (Extra p) step h = record
+    { token = h.token; at_place = h.at_place; out = out_earlier s s' t h.token ts step h.out }
 fault_earlier end s s' t ts (TooDeep p) step h = record {
   front = t ∷ h.front;
   stands = stands_more t ts h.front (Token.left p) h.stands;

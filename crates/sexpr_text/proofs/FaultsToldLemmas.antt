@@ -55,13 +55,15 @@ unless_err (Some g) t f e = cc
 decided_of : (bytes : List ℕ) (o : Option TextFault)
     → first_fault (length bytes) before (tokens_of bytes) ≡ o
     → Decided (length bytes) before (tokens_of bytes) o
-decided_of bytes o e = subst (Decided (length bytes) before (tokens_of bytes)) e (decided (length bytes) 0 (tokens_of bytes) (ascends_of bytes))
+decided_of bytes o e =
+    subst (Decided (length bytes) before (tokens_of bytes)) e (decided (length bytes) 0 (tokens_of bytes) (ascends_of bytes))
 
 -- A fault that is answered is the least one.
 pub blamed : (bytes : List ℕ) (f : TextFault) → reading bytes ≡ Err f → IsLeastFault bytes f
 unfolding reading
 blamed bytes f e =
-    let d = decided_of bytes (Some f) (unless_err (first_fault (length bytes) before (tokens_of bytes)) (levels (tokens_of bytes)).inner f e) in
+    let d = decided_of bytes (Some f)
+    (unless_err (first_fault (length bytes) before (tokens_of bytes)) (levels (tokens_of bytes)).inner f e) in
     record { has = fault_has bytes f d.0; least = λ g h. d.1 g (has_fault bytes g h) }
 
 -- A text that is read has no fault.

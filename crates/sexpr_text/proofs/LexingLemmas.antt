@@ -70,8 +70,11 @@ lexes_in : (in_comment : Bool) (place : ℕ) (bs : List ℕ)
     → LexesIn in_comment place bs (tokens in_comment place bs)
 lexes_in true place [] = to_end tt
 lexes_in false place [] = no_bytes
-lexes_in true place (b ∷ bs) = comment_lexes b place bs (tokens (not (b == 10)) (place + 1) bs) (b == 10) refl (lexes_in (not (b == 10)) (place + 1) bs)
-lexes_in false place (b ∷ bs) = token_lexes (class_of b) b place bs (tokens (opens_comment (class_of b)) (place + 1) bs) refl (lexes_in (opens_comment (class_of b)) (place + 1) bs)
+lexes_in true place (b ∷ bs) =
+    comment_lexes b place bs (tokens (not (b == 10)) (place + 1) bs) (b == 10) refl (lexes_in (not (b == 10)) (place + 1) bs)
+lexes_in false place (b ∷ bs) =
+    token_lexes (class_of b) b place bs (tokens (opens_comment (class_of b)) (place + 1) bs) refl
+    (lexes_in (opens_comment (class_of b)) (place + 1) bs)
 
 -- The tokens that are computed follow the rules.
 pub lexes_tokens : (place : ℕ) (bs : List ℕ) → Lexes place bs (tokens false place bs)
@@ -89,7 +92,8 @@ comment_tokens place [] bs h =
     let e : place + 1 ≡ place + 0 + 1 = omega arith in ap (λ p. tokens false p bs) e
 comment_tokens place (b ∷ body) bs h =
     let e : place + 1 + length body + 1 ≡ place + length (b ∷ body) + 1 = omega arith in
-    ap (λ v. tokens (not v) (place + 1) (body ++ 10 ∷ bs)) (ne_eqb b 10 h.0) ∙ comment_tokens (place + 1) body bs h.1 ∙ ap (λ p. tokens false p bs) e
+    ap (λ v. tokens (not v) (place + 1) (body ++ 10 ∷ bs)) (ne_eqb b 10 h.0) ∙ comment_tokens (place + 1) body bs h.1
+    ∙ ap (λ p. tokens false p bs) e
 
 last_tokens : (place : ℕ) (body : List ℕ) → HasNoLineFeed body → tokens true place body ≡ []
 last_tokens place [] h = refl
@@ -98,7 +102,8 @@ last_tokens place (b ∷ body) h =
 
 word_tokens : (b place : ℕ) (letters bs : List ℕ) → AreLetters (b ∷ letters)
     → begins_word bs ≡ false
-    → tokens false place (b ∷ (letters ++ bs)) ≡ Token.word (map folded (b ∷ letters)) place ∷ tokens false (place + length (b ∷ letters)) bs
+    → tokens false place (b ∷ (letters ++ bs))
+    ≡ Token.word (map folded (b ∷ letters)) place ∷ tokens false (place + length (b ∷ letters)) bs
 word_tokens b place [] bs ls f =
     class_tokens Letter b place bs ls.0
     ∙ ap (λ v. letter_then b place v (tokens false (place + 1) bs)) f
@@ -116,7 +121,8 @@ tokens_unique no_bytes = refl
 tokens_unique (blank {place} {b} {bs} e l) = tokens_unique l ∙ sym (class_tokens Blank b place bs e)
 tokens_unique (comment {place} {b} body bs e h l) =
     let f : place + length body + 2 ≡ place + 1 + length body + 1 = omega arith in
-    tokens_unique l ∙ ap (λ p. tokens false p bs) f ∙ sym (comment_tokens (place + 1) body bs h) ∙ sym (class_tokens Semicolon b place (body ++ 10 ∷ bs) e)
+    tokens_unique l ∙ ap (λ p. tokens false p bs) f ∙ sym (comment_tokens (place + 1) body bs h)
+    ∙ sym (class_tokens Semicolon b place (body ++ 10 ∷ bs) e)
 tokens_unique (last_comment {place} {b} {body} e h) =
     sym (last_tokens (place + 1) body h) ∙ sym (class_tokens Semicolon b place body e)
 tokens_unique (left {place} {b} {bs} e l) =

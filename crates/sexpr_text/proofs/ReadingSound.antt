@@ -113,4 +113,5 @@ unfolding reading
 found bytes t e =
     let both = unless_ok (first_fault (length bytes) before (tokens_of bytes)) (levels (tokens_of bytes)).inner t e in
     let w = found_before (length bytes) (tokens_of bytes) both.0 in
-    subst (Spells bytes) both.1 (record { tokens = tokens_of bytes; lexed = lexes_tokens 0 bytes; one = w.one; spelled = w.tokens; depth = w.depth })
+    subst (Spells bytes) both.1
+    (record { tokens = tokens_of bytes; lexed = lexes_tokens 0 bytes; one = w.one; spelled = w.tokens; depth = w.depth })

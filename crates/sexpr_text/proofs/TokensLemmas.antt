@@ -30,11 +30,13 @@ folded_word-cons : (b : ℕ) (bs : List ℕ) (v : Bool) → is_letter (class_of 
 folded_word-cons b bs v e =
     ap (map folded) (take_while-cons (λ c. is_letter (class_of c)) b bs)
     ∙ ap (λ w. map folded (cond w (b ∷ take_while (λ c. is_letter (class_of c)) bs) [])) e
-    ∙ (elim v as (λ w. map folded (cond w (b ∷ take_while (λ c. is_letter (class_of c)) bs) []) ≡ cond w (folded b ∷ folded_word bs) []) [ true ↦ refl | false ↦ refl ])
+    ∙ (elim v as (λ w. map folded (cond w (b ∷ take_while (λ c. is_letter (class_of c)) bs) []) ≡ cond w (folded b ∷ folded_word bs) [])
+    [ true ↦ refl | false ↦ refl ])
 
 shifted : (b x place : ℕ) (ls bs : List ℕ)
     → tokens false (place + 1 + length ls) (drop (length ls) bs) ≡ tokens false (place + length (x ∷ ls)) (drop (length (x ∷ ls)) (b ∷ bs))
-shifted b x place ls bs = let f : place + 1 + length ls ≡ place + length (x ∷ ls) = omega arith in ap (λ p. tokens false p (drop (length ls) bs)) f
+shifted b x place ls bs =
+    let f : place + 1 + length ls ≡ place + length (x ∷ ls) = omega arith in ap (λ p. tokens false p (drop (length ls) bs)) f
 
 -- a letter in front of a byte of which it is known whether it is a letter
 after_letter : (b place c : ℕ) (cs : List ℕ) (v : Bool) → is_letter (class_of c) ≡ v
@@ -42,7 +44,8 @@ after_letter : (b place c : ℕ) (cs : List ℕ) (v : Bool) → is_letter (class
     → letter_then b place v (tokens false (place + 1) (c ∷ cs)) ≡ word_then (folded b ∷ folded_word (c ∷ cs)) place (b ∷ c ∷ cs)
 after_letter b place c cs true e more =
     ap (joined (folded b) place) (more refl)
-    ∙ ap (λ ts. Token.word (folded b ∷ folded c ∷ folded_word cs) place ∷ ts) (shifted b (folded b) place (folded c ∷ folded_word cs) (c ∷ cs))
+    ∙ ap (λ ts. Token.word (folded b ∷ folded c ∷ folded_word cs) place ∷ ts)
+    (shifted b (folded b) place (folded c ∷ folded_word cs) (c ∷ cs))
     ∙ ap (λ ls. word_then (folded b ∷ ls) place (b ∷ c ∷ cs)) (sym (folded_word-cons c cs true e))
 after_letter b place c cs false e more =
     ap (λ ls. word_then (folded b ∷ ls) place (b ∷ c ∷ cs)) (sym (folded_word-cons c cs false e))

@@ -45,7 +45,8 @@ ascends-tokens : (in_comment : Bool) (place end : ℕ) (bs : List ℕ) → place
     → Ascends place end (tokens in_comment place bs)
 ascends-tokens true place end [] h = no_tokens
 ascends-tokens false place end [] h = no_tokens
-ascends-tokens true place end (b ∷ bs) h = ascends_lower place (omega arith) (ascends-tokens (not (b == 10)) (place + 1) end bs (omega arith))
+ascends-tokens true place end (b ∷ bs) h =
+    ascends_lower place (omega arith) (ascends-tokens (not (b == 10)) (place + 1) end bs (omega arith))
 ascends-tokens false place end (b ∷ bs) h =
     ascends-token_then (class_of b) b place end (begins_word bs) (tokens (opens_comment (class_of b)) (place + 1) bs) (omega arith)
     (ascends-tokens (opens_comment (class_of b)) (place + 1) end bs (omega arith))
@@ -85,5 +86,7 @@ stands_more x ts front t s = record { behind = s.behind; split = ap (λ us. x �
 pub stands_within : (low end : ℕ) (ts front : List Token) (t : Token) → Ascends low end ts
     → Stands ts front t → (low ≤ token_place t) × (token_place t < end)
 stands_within low end [] front t a s = absurd (stands_none front t s)
-stands_within low end (x ∷ ts) [] t (next_token p q more) s = let e : token_place x ≡ token_place t = ap token_place (stands_first x ts t s) in (omega arith, omega arith)
-stands_within low end (x ∷ ts) (y ∷ front) t (next_token p q more) s = let w = stands_within (token_place x + 1) end ts front t more (stands_later x y ts front t s).1 in (omega arith, omega arith)
+stands_within low end (x ∷ ts) [] t (next_token p q more) s =
+    let e : token_place x ≡ token_place t = ap token_place (stands_first x ts t s) in (omega arith, omega arith)
+stands_within low end (x ∷ ts) (y ∷ front) t (next_token p q more) s =
+    let w = stands_within (token_place x + 1) end ts front t more (stands_later x y ts front t s).1 in (omega arith, omega arith)

@@ -65,7 +65,8 @@ token_then Bad b place before_letter ts = bad place ∷ ts
 abbrev pub tokens : Bool → ℕ → List ℕ → List Token
 tokens in_comment place [] = []
 tokens true place (b ∷ bs) = tokens (not (b == 10)) (place + 1) bs
-tokens false place (b ∷ bs) = token_then (class_of b) b place (begins_word bs) (tokens (opens_comment (class_of b)) (place + 1) bs)
+tokens false place (b ∷ bs) =
+    token_then (class_of b) b place (begins_word bs) (tokens (opens_comment (class_of b)) (place + 1) bs)
 
 -- the tokens of a text
 abbrev pub tokens_of : List ℕ → List Token

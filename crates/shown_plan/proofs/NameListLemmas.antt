@@ -3,9 +3,8 @@ use Rattle.std.proofs.Common.{◌≡◌, ℕ, zero, suc, arith, Bool, true, fals
 use Rattle.std.proofs.lemmas.List.Elements.{Contains-push_cases}
 use Rattle.std.specs.Cmp.{first_so, second_so}
 use Rattle.std.specs.List.{list_any, list_all}
-use Rattle.task_model.specs.Known.{IsIn, same_numbers, with_name}
+use Rattle.task_model.specs.Known.{IsIn, same_numbers, with_name, with_names}
 use Rattle.task_model.specs.Streams.{name_at}
-use Rattle.transcript_model.specs.Names.{with_names}
 use Rattle.std.proofs.lemmas.Bool.{false≢true}
 use Rattle.lemmas.proofs.Ascending.{contains_later}
 

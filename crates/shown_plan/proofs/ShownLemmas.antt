@@ -22,13 +22,16 @@ use Rattle.shown_plan.specs.Shown.{AreNamedSteps, ShowsPlan}
 module _ (task : Task) (known : Known) (coherent : IsCoherent known) where
   typed_in : (object sort : ℕ) → has_type known object sort ≡ true → IsIn known.names object
   typed_in object sort e =
-      All-contains (λ (f : Fact). All (IsIn known.names) f.args) known.facts (type_fact sort object) coherent.objects ((fact_member known.facts (type_fact sort object)).0 e) 0 object (omega arith)
+      All-contains (λ (f : Fact). All (IsIn known.names) f.args) known.facts
+      (type_fact sort object) coherent.objects ((fact_member known.facts (type_fact sort object)).0 e) 0 object (omega arith)
 
   args_in : (objects sorts : List ℕ) → have_types known objects sorts ≡ true
       → All (IsIn known.names) objects
   args_in [] sorts e = All-nil (IsIn known.names)
   args_in (o ∷ os) [] e = absurd (cc)
-  args_in (o ∷ os) (s ∷ ss) e = All-cons (IsIn known.names) o os (typed_in o s (first_so (has_type known o s) (have_types known os ss) e)) (args_in os ss (second_so (has_type known o s) (have_types known os ss) e))
+  args_in (o ∷ os) (s ∷ ss) e =
+      All-cons (IsIn known.names) o os (typed_in o s (first_so (has_type known o s) (have_types known os ss) e))
+      (args_in os ss (second_so (has_type known o s) (have_types known os ss) e))
 
   -- the steps of a plan that can be executed
   pub named_steps : (before after : Atoms) (steps : List GroundAction) (total : ℕ)
@@ -39,8 +42,10 @@ module _ (task : Task) (known : Known) (coherent : IsCoherent known) where
       let one : IsStep task known before step e.0 e.1 = e.3 in
       let rest = named_steps e.0 after steps e.2 e.4 in
       record {
-        actions = All-cons (λ (s : GroundAction). s.action < length task.domain.actions) step steps (slice_get_within task.domain.actions step.action one.action one.named) rest.actions;
-        objects = All-cons (λ (s : GroundAction). All (IsIn known.names) s.args) step steps (args_in step.args one.action.params one.typed) rest.objects;
+        actions = All-cons (λ (s : GroundAction). s.action < length task.domain.actions) step steps
+            (slice_get_within task.domain.actions step.action one.action one.named) rest.actions;
+        objects = All-cons (λ (s : GroundAction). All (IsIn known.names) s.args) step steps
+            (args_in step.args one.action.params one.typed) rest.objects;
       }
 
   -- the steps of a valid plan

@@ -50,7 +50,10 @@ module _ (entries : List Entry) (e : Entry) (value : List ℕ) where
       → IsSource (entries ++ e ∷ []) value source
   kept_some source found s f le = record {
     there = value_before source.number s.there;
-    first = λ n h. elim (value_cases n h) [ inl before ↦ s.first n before | inr now ↦ let same : n ≡ found.number = eqb-true n found.number (sym (f.there n) ∙ now) in omega (arith, le, same) ];
+    first = λ n h. elim (value_cases n h) [
+      | inl before ↦ s.first n before
+      | inr now ↦ let same : n ≡ found.number = eqb-true n found.number (sym (f.there n) ∙ now) in omega (arith, le, same)
+    ];
     tuple = (s.tuple.0, Contains-append_left entries (e ∷ []) s.tuple.0 s.tuple.1, s.tuple.2);
   }
 
@@ -60,7 +63,10 @@ module _ (entries : List Entry) (e : Entry) (value : List ℕ) where
       → IsSource (entries ++ e ∷ []) value found
   taken found f before = record {
     there = value_here found.number (f.there found.number ∙ eq-eqb found.number found.number refl);
-    first = λ n h. elim (value_cases n h) [ inl old ↦ before n old | inr now ↦ let same : n ≡ found.number = eqb-true n found.number (sym (f.there n) ∙ now) in omega (arith, same) ];
+    first = λ n h. elim (value_cases n h) [
+      | inl old ↦ before n old
+      | inr now ↦ let same : n ≡ found.number = eqb-true n found.number (sym (f.there n) ∙ now) in omega (arith, same)
+    ];
     tuple = (e, Contains-append_right entries (e ∷ []) e (0, omega arith, refl), f.tuple);
   }
 
@@ -79,16 +85,63 @@ module _ (entries : List Entry) (e : Entry) (value : List ℕ) where
       let no : Some f ≡ None = nn.1 in absurd (cc)
   best_next None (Some f) (Some r) b none some one lb lf nn = elim one [
     | inl h ↦ absurd (cc)
-    | inr h ↦ let same : r ≡ f = cc in record { some = subst (IsSource (entries ++ e ∷ []) value) (sym same) (taken f some (λ n there. absurd (both_ways _ (b.none n) there))); none = tt }
+    | inr h ↦ let same : r ≡ f = cc in
+        record {
+          some = subst (IsSource (entries ++ e ∷ []) value) (sym same) (taken f some (λ n there. absurd (both_ways _ (b.none n) there)));
+          none = tt;
+        }
   ]
   best_next (Some s) None (Some r) b none some one lb lf nn = elim one [
-    | inl h ↦ let same : r ≡ s = cc in record { some = subst (IsSource (entries ++ e ∷ []) value) (sym same) (kept_none s b.some none); none = tt }
+    | inl h ↦ let same : r ≡ s = cc in
+        record { some = subst (IsSource (entries ++ e ∷ []) value) (sym same) (kept_none s b.some none); none = tt }
     | inr h ↦ absurd (cc)
   ]
   best_next (Some s) (Some f) (Some r) b none some one lb lf nn = elim one [
-    | inl h ↦ let same : r ≡ s = cc in record { some = subst (IsSource (entries ++ e ∷ []) value) (sym same) (kept_some s f b.some some (subst (λ (x : Source). x.number ≤ f.number) same lf)); none = tt }
-    | inr h ↦ let same : r ≡ f = cc in record { some = subst (IsSource (entries ++ e ∷ []) value) (sym same) (taken f some (λ n there. let below : f.number ≤ s.number = subst (λ (x : Source). x.number ≤ s.number) same lb in omega (arith, below, b.some.first n there))); none = tt }
+    | inl h ↦ let same : r ≡ s = cc in
+        record {
+          some =
+              subst (IsSource (entries ++ e ∷ []) value)
+              (sym same) (kept_some s f b.some some (subst (λ (x : Source). x.number ≤ f.number) same lf));
+          none = tt;
+        }
+    | inr h ↦ let same : r ≡ f = cc in
+        record {
+          some =
+              subst (IsSource (entries ++ e ∷ []) value) (sym same)
+              (taken f some (λ n there.
+              let below : f.number ≤ s.number = subst (λ (x : Source). x.number ≤ s.number) same lb in
+              omega (arith, below, b.some.first n there)));
+          none = tt;
+        }
   ]
+
+  -- the entry was looked at before
+  pub best_again : (best found result : Option Source) → IsBest (entries ++ e ∷ []) value best
+      → IfSome found (IsSourceIn e value) → (result ≡ best) ⊎ (result ≡ found)
+      → IfSome result (λ (least : Source). IfSome best (λ (source : Source). least.number ≤ source.number))
+      → IfNone result ((best ≡ None) × (found ≡ None)) → IsBest (entries ++ e ∷ []) value result
+  best_again best found result b some one lb nn = elim one [
+    | inl h ↦ subst (IsBest (entries ++ e ∷ []) value) (sym h) b
+    | inr h ↦ other best found b some
+        (subst (λ (o : Option Source). IfSome o (λ (least : Source). IfSome best (λ (source : Source). least.number ≤ source.number))) h lb)
+        (subst (λ (o : Option Source). IfNone o ((best ≡ None) × (found ≡ None))) h nn) h
+  ]
+    where
+      other : (best found : Option Source) → IsBest (entries ++ e ∷ []) value best
+          → IfSome found (IsSourceIn e value)
+          → IfSome found (λ (least : Source). IfSome best (λ (source : Source). least.number ≤ source.number))
+          → IfNone found ((best ≡ None) × (found ≡ None)) → result ≡ found → IsBest (entries ++ e ∷ []) value result
+      other best None b some lb nn h = subst (IsBest (entries ++ e ∷ []) value) (nn.0 ∙ sym h) b
+      other None (Some f) b some lb nn h =
+          absurd (both_ways _ (b.none f.number) (value_here f.number (some.there f.number ∙ eq-eqb f.number f.number refl)))
+      other (Some s) (Some f) b some lb nn h = subst (IsBest (entries ++ e ∷ []) value) (sym h) (record {
+        some = record {
+          there = value_here f.number (some.there f.number ∙ eq-eqb f.number f.number refl);
+          first = λ n there. omega (arith, lb, b.some.first n there);
+          tuple = (e, Contains-append_right entries (e ∷ []) e (0, omega arith, refl), some.tuple);
+        };
+        none = tt;
+      })
 
 pub next_entry : (entries : List Entry) (i : ℕ) (e : Entry) → i < length entries
     → e ≡ get_or entries i e

@@ -1,5 +1,5 @@
 -- Sets of names in order.
-use Rattle.std.proofs.Common.{◌≡◌, ℕ, zero, suc, arith, Bool, true, false, ◌||◌, ◌&&◌, List, [], ◌∷◌, map, refl, subst, ap, ◌∙◌, Some, slice_get}
+use Rattle.std.proofs.Common.{◌≡◌, ℕ, zero, suc, arith, Bool, true, false, ◌||◌, ◌&&◌, List, [], ◌∷◌, map, refl, subst, ap, ◌∙◌, Some, slice_get, sym}
 use Rattle.std.proofs.lemmas.Map.Keys.{sorted_head, sorted_tail}
 use Rattle.std.proofs.lemmas.Map.Lookups.{exact_bytes}
 use Rattle.std.proofs.lemmas.Option.{same_Some}
@@ -10,7 +10,7 @@ use Rattle.std.specs.List.Sorted.{IsStrictlySortedBy}
 use Rattle.std.specs.Ordering.{nat_cmp, match_ordering}
 use Rattle.std.specs.declared.cmp.Ordering.{Ordering}
 use Rattle.std.specs.declared.cmp.Ordering.TheVariants.{Less, Equal, Greater}
-use Rattle.lemmas.proofs.Bools.{or_swap}
+use Rattle.lemmas.proofs.Bools.{or_swap, or_true, or_false}
 use Rattle.task_model.proofs.KnownLemmas.{numbers_decided}
 use Rattle.task_model.specs.Known.{same_numbers}
 use Rattle.lemmas.specs.Lists.{AreAscending}
@@ -24,9 +24,12 @@ module _ {K : Type 0} (shows : K → List ℕ) where
 
   put : (q : List ℕ) (k x : K) (rest more : List K) (o : Ordering) → by_name k x ≡ o
       → is_among (map shows more) q ≡ (same_numbers q (shows k) || is_among (map shows rest) q)
-      → is_among (map shows (match_ordering o (k ∷ x ∷ rest) (x ∷ rest) (x ∷ more))) q ≡ (same_numbers q (shows k) || is_among (map shows (x ∷ rest)) q)
+      → is_among (map shows (match_ordering o (k ∷ x ∷ rest) (x ∷ rest) (x ∷ more))) q
+      ≡ (same_numbers q (shows k) || is_among (map shows (x ∷ rest)) q)
   put q k x rest more Less e h = refl
-  put q k x rest more Equal e h = let same : shows k ≡ shows x = exact_bytes (shows k) (shows x) e in rw same (twice (same_numbers q (shows x)) (is_among (map shows rest) q))
+  put q k x rest more Equal e h =
+      let same : shows k ≡ shows x = exact_bytes (shows k) (shows x) e in
+      rw same (twice (same_numbers q (shows x)) (is_among (map shows rest) q))
     where
       twice : (a b : Bool) → (a || b) ≡ (a || (a || b))
       twice true b = refl
@@ -67,14 +70,11 @@ pub added : (old : Bool) (name other : List ℕ) → is_generated name ≡ true
     → (same_numbers other name || old) ≡ (old || (is_generated other && same_numbers other name))
 added old name other g =
     elim (same_numbers other name) as (λ b. same_numbers other name ≡ b → (b || old) ≡ (old || (is_generated other && b))) [
-      | true ↦ λ same. let too : is_generated other ≡ true = ap is_generated ((numbers_decided other name).0 same) ∙ g in rw too (either old)
+      | true ↦ λ same. let too : is_generated other ≡ true = ap is_generated ((numbers_decided other name).0 same) ∙ g in
+          rw too (sym (or_true old))
       | false ↦ λ _. neither old (is_generated other)
     ] refl
   where
-    either : (o : Bool) → true ≡ (o || true)
-    either true = refl
-    either false = refl
-
     neither : (o g : Bool) → o ≡ (o || (g && false))
     neither true g = refl
     neither false true = refl
@@ -85,14 +85,11 @@ pub not_added : (old : Bool) (name other : List ℕ) → is_generated name ≡ f
     → old ≡ (old || (is_generated other && same_numbers other name))
 not_added old name other g =
     elim (same_numbers other name) as (λ b. same_numbers other name ≡ b → old ≡ (old || (is_generated other && b))) [
-      | true ↦ λ same. let not : is_generated other ≡ false = ap is_generated ((numbers_decided other name).0 same) ∙ g in rw not (none old)
+      | true ↦ λ same. let not : is_generated other ≡ false = ap is_generated ((numbers_decided other name).0 same) ∙ g in
+          rw not (sym (or_false old))
       | false ↦ λ _. neither old (is_generated other)
     ] refl
   where
-    none : (o : Bool) → o ≡ (o || false)
-    none true = refl
-    none false = refl
-
     neither : (o g : Bool) → o ≡ (o || (g && false))
     neither true g = refl
     neither false true = refl

@@ -15,9 +15,11 @@ skipped : {A : Type 0} (p : A → Bool) (w j : ℕ) (xs : List A) → list_any p
 skipped p zero j xs e = let none : j ≡ j + 0 = omega arith in ap (λ k. position_from p k xs) none
 skipped p (suc w) j [] e = refl
 skipped p (suc w) j (x ∷ xs) e =
-    elim (p x) as (λ b. (b || list_any p (take w xs)) ≡ false → cond b (Some j) (position_from p (j + 1) xs) ≡ position_from p (j + suc w) (drop w xs)) [
+    elim (p x) as (λ b. (b || list_any p (take w xs)) ≡ false
+    → cond b (Some j) (position_from p (j + 1) xs) ≡ position_from p (j + suc w) (drop w xs)) [
       | true ↦ λ h. absurd (cc)
-      | false ↦ λ h. let sum : (j + 1) + w ≡ j + suc w = omega arith in skipped p w (j + 1) xs h ∙ ap (λ k. position_from p k (drop w xs)) sum
+      | false ↦ λ h. let sum : (j + 1) + w ≡ j + suc w = omega arith in
+          skipped p w (j + 1) xs h ∙ ap (λ k. position_from p k (drop w xs)) sum
     ] e
 
 -- where something passes in front, the first stands there
@@ -52,9 +54,15 @@ tuples_from : (p : List ℕ → Bool) (w t s : ℕ) (vs : List (List ℕ)) → l
 tuples_from p w zero s [] e = refl
 tuples_from p w zero s (v ∷ vs) e = absurd (omega (arith, e))
 tuples_from p w (suc t) s vs e =
-    elim (list_any p (take w vs)) as (λ b. list_any p (take w vs) ≡ b → cond b (Some s) (position_from (list_any p) (s + 1) (tuples_in w t (drop w vs))) ≡ option_map (λ k. k / w) (position_from p (s * w) vs)) [
-      | true ↦ λ there. let front = in_front p w (s * w) vs there in rw front.found (ap Some (sym (div-mul-add s w front.more front.within)))
-      | false ↦ λ absent. tuples_from p w t (s + 1) (drop w vs) (length-drop w vs ∙ less_one t w (length vs) e) ∙ ap (option_map (λ k. k / w)) (ap (λ j. position_from p j (drop w vs)) (sym (next_row s w)) ∙ sym (skipped p w (s * w) vs absent))
+    elim (list_any p (take w vs)) as (λ b.
+    list_any p (take w vs) ≡ b
+    → cond b (Some s) (position_from (list_any p) (s + 1) (tuples_in w t (drop w vs)))
+    ≡ option_map (λ k. k / w) (position_from p (s * w) vs)) [
+      | true ↦ λ there. let front = in_front p w (s * w) vs there in
+          rw front.found (ap Some (sym (div-mul-add s w front.more front.within)))
+      | false ↦ λ absent. tuples_from p w t (s + 1) (drop w vs) (length-drop w vs ∙ less_one t w (length vs) e)
+          ∙ ap (option_map (λ k. k / w))
+          (ap (λ j. position_from p j (drop w vs)) (sym (next_row s w)) ∙ sym (skipped p w (s * w) vs absent))
     ] refl
 
 -- the place of the first tuple, from the place of the first value
@@ -62,7 +70,8 @@ pub first_tuple_is : (p : List ℕ → Bool) (w t : ℕ) (vs : List (List ℕ)) 
     → position (list_any p) (tuples_in w t vs) ≡ option_map (λ k. k / w) (position p vs)
 first_tuple_is p w t vs e =
     let none : 0 * w ≡ 0 = omega arith in
-    position_from-zero (list_any p) (tuples_in w t vs) ∙ tuples_from p w t 0 vs e ∙ ap (option_map (λ k. k / w)) (ap (λ j. position_from p j vs) none ∙ sym (position_from-zero p vs))
+    position_from-zero (list_any p) (tuples_in w t vs) ∙ tuples_from p w t 0 vs e
+    ∙ ap (option_map (λ k. k / w)) (ap (λ j. position_from p j vs) none ∙ sym (position_from-zero p vs))
 
 -- a value is found where one passes
 found_from : {A : Type 0} (p : A → Bool) (j : ℕ) (xs : List A)

@@ -20,4 +20,6 @@ ValidPlansHaveNames =
 -- An outcome that shows a valid plan is true.
 abbrev pub ShownPlansAreTrue : Type 0
 ShownPlansAreTrue =
-    (limits : Limits) (task : Task) (entries : List Entry) (steps : List GroundAction) (cost : ℕ) (o : Outcome) → ShowsPlan limits.version task entries steps cost o → IsValid task (known_of task entries) steps cost → IsTrueOutcome limits task entries o
+    (limits : Limits) (task : Task) (entries : List Entry) (steps : List GroundAction) (cost : ℕ) (o : Outcome)
+    → ShowsPlan limits.version task entries steps cost o → IsValid task (known_of task entries) steps cost
+    → IsTrueOutcome limits task entries o

@@ -1,6 +1,7 @@
 -- Generated names, and the yields that have their values.
-use Rattle.std.specs.Prelude.{◌≡◌, ℕ, ◌*◌, ◌≤◌, List, [], ◌∷◌, length, Bool, true, false, ◌==◌, Contains, Option, Some, IfSome, IfNone}
+use Rattle.std.specs.Prelude.{◌≡◌, ℕ, ◌*◌, ◌≤◌, List, [], ◌∷◌, length, Bool, true, false, ◌==◌, Contains, Option, Some, IfSome, IfNone, MatchOption}
 use Rattle.std.specs.List.{list_any}
+use Rattle.indexmap.specs.IndexMap.{IndexMap, get_by}
 use Rattle.task_model.specs.Known.{same_numbers}
 use Rattle.transcript_model.specs.Names.{generated}
 use Rattle.transcript_model.specs.Outcomes.{has_value, tuple_with}
@@ -50,3 +51,18 @@ pub record IsSourceIn (e : Entry) (value : List ℕ) (source : Source) : Type 0 
 pub record IsBest (entries : List Entry) (value : List ℕ) (best : Option Source) : Type 0 where
   pub some : IfSome best (IsSource entries value)
   pub none : IfNone best ((n : ℕ) → has_value entries n value ≡ false)
+
+-- what a table of values has for one of them
+abbrev pub found_in : {K S : Type 0} → (K → List ℕ) → IndexMap K (Option Source) S → List ℕ → Option (Option Source)
+found_in shows table value = get_by (λ k. same_numbers value (shows k)) table
+
+-- the table has the value, with its source
+abbrev pub HasBest : List Entry → List ℕ → Option (Option Source) → Type 0
+HasBest entries value found = MatchOption found ⊥ (IsBest entries value)
+
+-- the table has the values of these generated objects, with their sources
+abbrev pub AreSources : {K S : Type 0} → (K → List ℕ) → List (List ℕ) → List Entry → IndexMap K (Option Source) S
+    → Type 0
+AreSources shows names entries table =
+    (value : List ℕ) → is_among names (generated value) ≡ true
+    → HasBest entries value (found_in shows table value)

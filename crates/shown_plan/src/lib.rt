@@ -6,6 +6,7 @@ mod names;
 mod origins;
 mod plan;
 mod source;
+mod sources;
 mod steps;
 
-pub use plan::plan_outcome;
+pub use plan::{plan_origins, plan_outcome};

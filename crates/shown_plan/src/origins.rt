@@ -7,7 +7,8 @@ ghost use Rattle.lemmas.specs.Lists.{AreAscending};
 ghost use Rattle.transcript_model.specs.Outcomes.{IsOrigin};
 ghost use Rattle.transcript_model.specs.declared.outcome.Origin.{Origin};
 
-use crate::source::{Source, source_of};
+use crate::source::Source;
+use crate::sources::{source_of, sources_of};
 use std::alloc::{AllocError, Global};
 use std::collections::BTreeSet;
 use task_model::{Name, Seq};
@@ -22,23 +23,14 @@ fn shown_tuple(version: u8, source: Source) -> u8
 }
 
 /// The generated object with its origin.
-fn origin_of(
-    alloc: Global,
-    version: u8,
-    entries: &[Entry],
-    name: &[u8],
-) -> Result<Origin, AllocError>
-    requires even { All IsEven entries.now }
-    requires given { IsGiven entries.now name.now }
+fn origin_of(alloc: Global, version: u8, name: &[u8], source: Source) -> Result<Origin, AllocError>
     ensures object { IfOk result (λ origin. origin.object ≡ name.now) }
-    ensures origin { IfOk result (IsOrigin version entries.now) }
+    ensures number { IfOk result (λ origin. origin.number ≡ source.number) }
+    ensures one { IfOk result (λ origin. version ≡ 1 → origin.tuple ≡ 1) }
+    ensures tuple { IfOk result (λ origin. ¬ (version ≡ 1) → origin.tuple ≡ source.tuple) }
 {
-    let Some(source) = source_of(entries, &name[1..]) else {
-        unreachable!()
-    };
-    let bytes = Vec::from_slice(alloc, name)?;
     Ok(Origin {
-        object: Name::new(bytes),
+        object: Name::from_slice(alloc, name)?,
         number: source.number,
         tuple: shown_tuple(version, source),
     })
@@ -60,9 +52,13 @@ pub(crate) fn origins_of(
     ensures origins { IfOk result (λ from. (o : Origin) → Contains from o
         → IsOrigin version entries.now o) }
 {
-    let mut from = Vec::new(alloc);
+    let sources = sources_of(alloc, entries, names)?;
+    let mut from = Vec::with_capacity(alloc, names.len())?;
     for name in names {
-        let origin = origin_of(alloc, version, entries, *name)?;
+        let Some(source) = source_of(&sources, *name) else {
+            unreachable!()
+        };
+        let origin = origin_of(alloc, version, *name, source)?;
         from.push(origin)?;
     }
     Ok(Seq::from_vec(from))

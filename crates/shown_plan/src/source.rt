@@ -1,7 +1,7 @@
 //! From which answer a value came.
-ghost use Rattle.std.specs.Prelude.{◌≡◌, ◌≤◌, ℕ, ◌*◌, ◌/◌, ◌+◌, ◌⊎◌, [], ◌∷◌, is_some, None, length, false, All, IfSome, IfNone, option_map};
+ghost use Rattle.std.specs.Prelude.{◌≡◌, ◌≤◌, ℕ, ◌*◌, ◌/◌, ◌+◌, ◌⊎◌, [], ◌∷◌, is_some, None, length, false, IfSome, IfNone, option_map};
 ghost use Rattle.std.specs.List.{list_any, position};
-ghost use Rattle.shown_plan.specs.Sources.{IsBest, IsEven, IsSourceIn, is_among};
+ghost use Rattle.shown_plan.specs.Sources.{IsEven, IsSourceIn, is_among};
 ghost use Rattle.task_model.specs.Known.{same_numbers};
 ghost use Rattle.transcript_model.specs.Outcomes.{has_value};
 ghost use Rattle.transcript_model.specs.Transcript.{tuples_in};
@@ -31,7 +31,7 @@ fn first_tuple(values: &[Name], tuples: u8, value: &[u8]) -> Option<u8>
 }
 
 /// The request that the entry answers, and the first tuple that has the value, if one has.
-fn source_in(entry: &Entry, value: &[u8]) -> Option<Source>
+pub(crate) fn source_in(entry: &Entry, value: &[u8]) -> Option<Source>
     requires { IsEven entry.now }
     ensures none { IfNone result ((n : ℕ) → has_value (entry.now ∷ []) n value.now ≡ false) }
     ensures some { IfSome result (IsSourceIn entry.now value.now) }
@@ -52,7 +52,7 @@ fn source_in(entry: &Entry, value: &[u8]) -> Option<Source>
 }
 
 /// The one of the lesser request, where there are two.
-fn earlier(best: Option<Source>, found: Option<Source>) -> Option<Source>
+pub(crate) fn earlier(best: Option<Source>, found: Option<Source>) -> Option<Source>
     ensures one { (result ≡ best) ⊎ (result ≡ found) }
     ensures least_best { IfSome result
         (λ least. IfSome best (λ source. least.number ≤ source.number)) }
@@ -65,16 +65,4 @@ fn earlier(best: Option<Source>, found: Option<Source>) -> Option<Source>
         (None, _) => found,
         _ => best,
     }
-}
-
-/// The least request whose answer has the value, and the first tuple of that answer that has it, if one has.
-pub(crate) fn source_of(entries: &[Entry], value: &[u8]) -> Option<Source>
-    requires { All IsEven entries.now }
-    ensures { IsBest entries.now value.now result }
-{
-    let mut best: Option<Source> = None;
-    for entry in entries {
-        best = earlier(best, source_in(entry, value));
-    }
-    best
 }

@@ -4,7 +4,7 @@ use Rattle.std.proofs.lemmas.List.{get_or_append_left, length-map, map_push}
 use Rattle.std.proofs.lemmas.List.Elements.{All-head, All-tail, All-weaker, All-push}
 use Rattle.std.proofs.lemmas.Map.Keys.{IsDistinct-head, IsDistinct-tail}
 use Rattle.std.proofs.lemmas.Map.Views.{Contains-from_any, list_any-from_Contains}
-use Rattle.std.proofs.lemmas.Option.{slice_get-map, slice_get-get_or, slice_get_within, get_or_from_slice_get}
+use Rattle.std.proofs.lemmas.Option.{slice_get-map, slice_get-get_or, slice_get_within, get_or_from_slice_get, same_Some}
 use Rattle.std.specs.Cmp.Lexicographic.{pointwise, lists_equiv}
 use Rattle.std.specs.Cmp.{nat_eq_equiv, eq_by_cmp_equiv}
 use Rattle.std.specs.FinMap as finite
@@ -31,12 +31,14 @@ module _ (atoms more : List Atom) where
       → atoms_of (atoms ++ more) row ≡ atoms_of atoms row
   atoms_of-grown [] known = refl
   atoms_of-grown (n ∷ row) known =
-      let here : get_or (atoms ++ more) n no_atom ≡ get_or atoms n no_atom = get_or_append_left atoms more no_atom n (All-head (λ n. n < length atoms) n row known) in
+      let here : get_or (atoms ++ more) n no_atom ≡ get_or atoms n no_atom =
+      get_or_append_left atoms more no_atom n (All-head (λ n. n < length atoms) n row known) in
       λ i. here i ∷ atoms_of-grown row (All-tail (λ n. n < length atoms) n row known) i
 
   pub known_grown : (row : List ℕ) → All (λ n. n < length atoms) row
       → All (λ n. n < length (atoms ++ more)) row
-  known_grown row known = All-weaker (λ n. n < length atoms) (λ n. n < length (atoms ++ more)) (λ n h. omega (arith, length-append atoms more)) row known
+  known_grown row known =
+      All-weaker (λ n. n < length atoms) (λ n. n < length (atoms ++ more)) (λ n h. omega (arith, length-append atoms more)) row known
 
   row_grown : (row : List ℕ) → IsRow atoms row → IsRow (atoms ++ more) row
   row_grown row is = record {
@@ -86,10 +88,7 @@ grows_on a b c first second = (first.0 ++ second.0, second.1 ∙ ap (λ xs. xs +
 all_at : {A : Type 0} (P : A → Type 0) (xs : List A) (i : ℕ) (x : A) → AllByRecursion P xs
     → slice_get xs i ≡ Some x → P x
 all_at P [] i x all e = absurd (cc)
-all_at P (y ∷ ys) zero x all e = subst P (same y x e) all.0
-  where
-    same : {A : Type 0} (a b : A) → Some a ≡ Some b → a ≡ b
-    same a b e = cc
+all_at P (y ∷ ys) zero x all e = subst P (same_Some y x e) all.0
 all_at P (y ∷ ys) (suc i) x all e = all_at P ys i x all.1 e
 
 apart : (k x : Atom) → same_atom k x ≡ false → Some k ≡ Some x → ⊥
@@ -103,8 +102,10 @@ apart k x other e =
 pub distinct_of : (ks : List Atom) → IsDistinct same_atom ks → AreDistinct ks
 distinct_of [] is i j x e f = absurd (cc)
 distinct_of (k ∷ ks) is zero zero x e f = refl
-distinct_of (k ∷ ks) is zero (suc j) x e f = absurd (apart k x (all_at (λ y. same_atom k y ≡ false) ks j x (IsDistinct-head same_atom k ks is) f) e)
-distinct_of (k ∷ ks) is (suc i) zero x e f = absurd (apart k x (all_at (λ y. same_atom k y ≡ false) ks i x (IsDistinct-head same_atom k ks is) e) f)
+distinct_of (k ∷ ks) is zero (suc j) x e f =
+    absurd (apart k x (all_at (λ y. same_atom k y ≡ false) ks j x (IsDistinct-head same_atom k ks is) f) e)
+distinct_of (k ∷ ks) is (suc i) zero x e f =
+    absurd (apart k x (all_at (λ y. same_atom k y ≡ false) ks i x (IsDistinct-head same_atom k ks is) e) f)
 distinct_of (k ∷ ks) is (suc i) (suc j) x e f =
     ap suc (distinct_of ks (IsDistinct-tail same_atom k ks is) i j x e f)
 
@@ -120,12 +121,15 @@ same_numbers atoms distinct (x ∷ xs) (y ∷ ys) kx ky e =
     let at_x = slice_get-get_or atoms x no_atom (All-head (λ n. n < length atoms) x xs kx) in
     let at_y = slice_get-get_or atoms y no_atom (All-head (λ n. n < length atoms) y ys ky) in
     let here : x ≡ y = distinct x y (get_or atoms x no_atom) at_x (at_y ∙ ap Some (sym (ap (λ zs. get_or zs 0 no_atom) e))) in
-    let rest : xs ≡ ys = same_numbers atoms distinct xs ys (All-tail (λ n. n < length atoms) x xs kx) (All-tail (λ n. n < length atoms) y ys ky) (ap (drop 1) e) in
+    let rest : xs ≡ ys =
+    same_numbers atoms distinct xs ys (All-tail (λ n. n < length atoms) x xs kx)
+    (All-tail (λ n. n < length atoms) y ys ky) (ap (drop 1) e) in
     λ i. here i ∷ rest i
 
 same_row : (atoms : List Atom) → AreDistinct atoms → (r s : List ℕ) → IsRow atoms r → IsRow atoms s
     → state_of atoms r ≡ state_of atoms s → r ≡ s
-same_row atoms distinct r s is_r is_s e = same_numbers atoms distinct r s is_r.known is_s.known (is_r.in_order ∙ ap items e ∙ sym is_s.in_order)
+same_row atoms distinct r s is_r is_s e =
+    same_numbers atoms distinct r s is_r.known is_s.known (is_r.in_order ∙ ap items e ∙ sym is_s.in_order)
 
 equal_rows : (xs ys : List ℕ) → pointwise nat_eq xs ys ≡ true → xs ≡ ys
 equal_rows xs ys e = (numbers_decided xs ys).0 e
@@ -142,7 +146,8 @@ module _ (atoms : List Atom) (rows : List (List ℕ)) (are : AreRows atoms rows)
       → Contains (states_of atoms rows) (state_of atoms row)
   row_there found =
       let at = place_of rows row (Contains-from_any equal_rows row rows found) in
-      member_at (states_of atoms rows) at.0 (state_of atoms row) (slice_get-map (state_of atoms) rows at.0 ∙ ap (option_map (state_of atoms)) at.1)
+      member_at (states_of atoms rows) at.0 (state_of atoms row)
+      (slice_get-map (state_of atoms) rows at.0 ∙ ap (option_map (state_of atoms)) at.1)
 
   pub row_absent : list_any (pointwise nat_eq row) rows ≡ false
       → ¬ (Contains (states_of atoms rows) (state_of atoms row))
@@ -155,7 +160,8 @@ module _ (atoms : List Atom) (rows : List (List ℕ)) (are : AreRows atoms rows)
       by k None e f = absurd (cc)
       by k (Some r) e f =
           let same : r ≡ row = same_row atoms are.numbered r row (are.each k r e) is (cc) in
-          let there : list_any (pointwise nat_eq row) rows ≡ true = list_any-from_Contains (lists_equiv nat_eq_equiv) row rows (member_at rows k row (e ∙ ap Some same)) in
+          let there : list_any (pointwise nat_eq row) rows ≡ true =
+          list_any-from_Contains (lists_equiv nat_eq_equiv) row rows (member_at rows k row (e ∙ ap Some same)) in
           absurd (cc)
 
   -- ---- the row put in: the rows are the same where it was found
@@ -173,7 +179,8 @@ module _ (atoms : List Atom) (rows : List (List ℕ)) (are : AreRows atoms rows)
   }
 
   pub states_with : (found : Bool)
-      → states_of atoms (cond found rows (rows ++ row ∷ [])) ≡ cond (not found) (states_of atoms rows ++ state_of atoms row ∷ []) (states_of atoms rows)
+      → states_of atoms (cond found rows (rows ++ row ∷ []))
+      ≡ cond (not found) (states_of atoms rows ++ state_of atoms row ∷ []) (states_of atoms rows)
   states_with true = refl
   states_with false = map_push (state_of atoms) rows row
 
@@ -204,7 +211,8 @@ pub state_at : {V : Type 0} (row_in : V → List ℕ) (atoms : List Atom) (keys 
     → (k : V) × (slice_get keys place ≡ Some k) × (pointwise nat_eq (row_in key) (row_in k) ≡ true)
     → slice_get (states_of atoms (map row_in keys)) place ≡ Some (state_of atoms (row_in key))
 state_at row_in atoms keys key place stored =
-    slice_get-map (state_of atoms) (map row_in keys) place ∙ ap (option_map (state_of atoms)) (slice_get-map row_in keys place ∙ ap (option_map row_in) stored.1)
+    slice_get-map (state_of atoms) (map row_in keys) place
+    ∙ ap (option_map (state_of atoms)) (slice_get-map row_in keys place ∙ ap (option_map row_in) stored.1)
     ∙ ap (λ r. Some (state_of atoms r)) (sym (equal_rows (row_in key) (row_in stored.0) stored.2))
 
 -- ---- the row of a list of atoms, one atom after another
@@ -220,7 +228,9 @@ pub known_more : (old new : List Atom) (row : List ℕ) (n : ℕ) (atom : Atom) 
     → All (λ n. n < length old) row → slice_get new n ≡ Some atom
     → All (λ n. n < length new) (row ++ n ∷ [])
 known_more old new row n atom grows known at =
-    All-push (λ n. n < length new) row n (subst (λ atoms. All (λ n. n < length atoms) row) (sym grows.1) (known_grown old grows.0 row known)) (slice_get_within new n atom at)
+    All-push (λ n. n < length new) row n
+    (subst (λ atoms. All (λ n. n < length atoms) row) (sym grows.1) (known_grown old grows.0 row known))
+    (slice_get_within new n atom at)
 
 -- what holds whatever happened holds where it failed
 -- the row at a place

@@ -5,7 +5,7 @@ use Rattle.std.proofs.lemmas.Option.{same_Some}
 use Rattle.std.specs.List.{list_any}
 use Rattle.stream_map.specs.Children.{PlainPool, numbered}
 use Rattle.stream_map.specs.Faults.{has_wrong_number, is_grid, own_workers, places_of}
-use Rattle.stream_map.specs.Laws.{HasChild}
+use Rattle.stream_map.specs.Laws.{PoolHasChild}
 use Rattle.stream_map.specs.Spelled.{Spelled}
 use Rattle.lemmas.proofs.Bools.{left_false, right_false}
 
@@ -54,7 +54,8 @@ module _ (names : List (List ℕ)) where
       → (b : Bool) → is_grid pool ≡ b → IsPlaced next (pool ∷ pools) (made b next pool)
   head_placed next pool pools right true is =
       let well = is_right pool (left_false (has_wrong_number pool) _ right.numbers) in
-      let counted : count_by is_grid (pool ∷ pools) ≡ 1 + count_by is_grid pools = count-cons pool pools ∙ ap (λ b. cond b 1 0 + count_by is_grid pools) is in
+      let counted : count_by is_grid (pool ∷ pools) ≡ 1 + count_by is_grid pools =
+      count-cons pool pools ∙ ap (λ b. cond b 1 0 + count_by is_grid pools) is in
       inl (refl, well.one is, omega (arith, counted))
   head_placed next pool pools right false is =
       let well = is_right pool (left_false (has_wrong_number pool) _ right.numbers) in
@@ -77,10 +78,12 @@ module _ (names : List (List ℕ)) where
   -- the first pool and a later one have no child in common
   later_apart : (next : ℕ) (pool : Spelled) (pools : List Spelled) → AreRight next (pool ∷ pools)
       → (b : Bool) → is_grid pool ≡ b → (k child : ℕ) (q : PlainPool)
-      → slice_get (numbered names (next + own_workers pool) pools) k ≡ Some q → HasChild (made b next pool) child → HasChild q child → ⊥
+      → slice_get (numbered names (next + own_workers pool) pools) k ≡ Some q → PoolHasChild (made b next pool) child → PoolHasChild q child
+      → ⊥
   later_apart next pool pools right true is k child q at in_p in_q =
       let well = is_right pool (left_false (has_wrong_number pool) _ right.numbers) in
-      let counted : count_by is_grid (pool ∷ pools) ≡ 1 + count_by is_grid pools = count-cons pool pools ∙ ap (λ b. cond b 1 0 + count_by is_grid pools) is in
+      let counted : count_by is_grid (pool ∷ pools) ≡ 1 + count_by is_grid pools =
+      count-cons pool pools ∙ ap (λ b. cond b 1 0 + count_by is_grid pools) is in
       elim (placed (next + own_workers pool) pools (rest_right next pool pools right) k q at) [
         | inl h ↦ omega (arith, h.2, counted, right.grids)
         | inr h ↦ omega (arith, h.1, in_p.from, in_q.to)
@@ -95,25 +98,27 @@ module _ (names : List (List ℕ)) where
   pub children_apart : (next : ℕ) (pools : List Spelled) → AreRight next pools
       → (j k child : ℕ) (p q : PlainPool) → slice_get (numbered names next pools) j ≡ Some p
       → slice_get (numbered names next pools) k ≡ Some q
-      → HasChild p child → HasChild q child → j ≡ k
+      → PoolHasChild p child → PoolHasChild q child → j ≡ k
   children_apart next [] right j k child p q at_j at_k in_p in_q = absurd (cc)
   children_apart next (pool ∷ pools) right zero zero child p q at_j at_k in_p in_q = refl
   children_apart next (pool ∷ pools) right zero (suc k) child p q at_j at_k in_p in_q =
       let is = same_Some (made (is_grid pool) next pool) p at_j in
-      let P : PlainPool → Type 0 = λ x. HasChild x child in
+      let P : PlainPool → Type 0 = λ x. PoolHasChild x child in
       absurd (later_apart next pool pools right (is_grid pool) refl k child q at_k (subst P (sym is) in_p) in_q)
   children_apart next (pool ∷ pools) right (suc j) zero child p q at_j at_k in_p in_q =
       let is = same_Some (made (is_grid pool) next pool) q at_k in
-      let P : PlainPool → Type 0 = λ x. HasChild x child in
+      let P : PlainPool → Type 0 = λ x. PoolHasChild x child in
       absurd (later_apart next pool pools right (is_grid pool) refl j child p at_j (subst P (sym is) in_q) in_p)
   children_apart next (pool ∷ pools) right (suc j) (suc k) child p q at_j at_k in_p in_q =
       ap suc (children_apart (next + own_workers pool) pools (rest_right next pool pools right) j k child p q at_j at_k in_p in_q)
 
 -- ---- one pool more
 
-pub placed_more : (names : List (List ℕ)) (done all : List PlainPool) (next after : ℕ) (text : Spelled) (rest : List Spelled) (p : PlainPool)
+pub placed_more : (names : List (List ℕ)) (done all : List PlainPool) (next after : ℕ) (text : Spelled)
+    (rest : List Spelled) (p : PlainPool)
     → done ++ numbered names next (text ∷ rest) ≡ all
-    → p ≡ record { first = cond (is_grid text) 16 next; workers = text.workers; streams = places_of names text; words = text.run } → after ≡ next + own_workers text → done ++ p ∷ [] ++ numbered names after rest ≡ all
+    → p ≡ record { first = cond (is_grid text) 16 next; workers = text.workers; streams = places_of names text; words = text.run }
+    → after ≡ next + own_workers text → done ++ p ∷ [] ++ numbered names after rest ≡ all
 placed_more names done all next after text rest p so_far is then =
     append_assoc done (p ∷ []) (numbered names after rest) ∙ (λ i. done ++ (is i ∷ numbered names (then i) rest)) ∙ so_far
 

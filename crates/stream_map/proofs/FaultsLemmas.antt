@@ -5,26 +5,25 @@ use Rattle.std.proofs.lemmas.List.Elements.{All-append}
 use Rattle.std.proofs.lemmas.List.Sums.{sum_by-cons}
 use Rattle.std.proofs.lemmas.Option.{get_or_from_slice_get, same_Some, slice_get_within}
 use Rattle.std.proofs.lemmas.Slice.Eq.{bytes_eq-Decides}
-use Rattle.std.specs.Cmp.{first_so}
-use Rattle.std.specs.List.{cons_option, filter_map, flat_map, list_all, list_any}
+use Rattle.std.specs.List.{cons_option, filter_map, flat_map, list_any}
 use Rattle.std.specs.Option.{is_none, option_and_then, option_map}
 use Rattle.std.specs.Str.{bytes_eq}
-use Rattle.task_model.specs.Fit.{IsFit, is_fit_stream, is_short}
+use Rattle.task_model.specs.Fit.{IsFit}
 use Rattle.task_model.specs.declared.stream.Stream.{Stream}
 use Rattle.task_model.specs.declared.task.Task.{Task}
 use Rattle.transcript_model.proofs.NamesLemmas.{position_at}
 use Rattle.transcript_model.specs.declared.head.Pool.{Pool}
 use Rattle.stream_map.specs.Children.{PlainPool, plain, numbered}
-use Rattle.stream_map.specs.Faults.{Refused, fault_of, have_wrong_workers, names_unknown, own_workers, place_of, places_in, places_of, served_fault}
+use Rattle.stream_map.specs.Faults.{Refused, map_fault, have_wrong_workers, names_unknown, own_workers, place_of, all_places, places_of, served_fault}
 use Rattle.stream_map.specs.declared.fault.MapFault.{MapFault}
 use Rattle.stream_map.specs.declared.fault.MapFault.TheVariants.{Json, Shape, Workers, Unknown, Doubled, Unserved, Memory}
 use Rattle.stream_map.specs.Form.{each_of, stream_names}
 use Rattle.stream_map.specs.Served.{streams_in}
 use Rattle.stream_map.specs.Spelled.{Spelled, shown}
 use Rattle.stream_map.specs.declared.pool_text.PoolText.{PoolText}
-use borrow.Author.Tests.{leb-true}
 use Rattle.lemmas.proofs.ListTests.{all_cons}
 use Rattle.lemmas.proofs.MappedTests.{any_mapped}
+use Rattle.task_model.proofs.FitLemmas.{few_streams}
 
 -- ---- what is given of each
 
@@ -38,7 +37,8 @@ module _ {A B : Type 0} (f : A → Option B) where
 
   given_more : (first : Option B) (rest : Option (List B)) (xs : List A) (ys : List B)
       → ((zs : List B) → rest ≡ Some zs → AreGiven xs zs)
-      → first_with first rest ≡ Some ys → (cons_option first (filter_map f xs) ≡ ys) × ((is_none first || list_any (λ x. is_none (f x)) xs) ≡ false)
+      → first_with first rest ≡ Some ys
+      → (cons_option first (filter_map f xs) ≡ ys) × ((is_none first || list_any (λ x. is_none (f x)) xs) ≡ false)
   given_more None rest xs ys later e = absurd (cc)
   given_more (Some y) None xs ys later e = absurd (cc)
   given_more (Some y) (Some zs) xs ys later e =
@@ -91,15 +91,14 @@ taken names i name here =
 -- a key that isn't there is put behind the others
 pub key_pushed : {A : Type 0} (f : A → List ℕ) (old new : List A) (key : A) (names : List (List ℕ)) (i : ℕ)
     → map f old ≡ take i names → slice_get names i ≡ Some (f key)
-    → ((j : ℕ) → j < i → slice_get names j ≡ Some (f key) → ⊥) → new ≡ cond (list_any (λ k. bytes_eq (f key) (f k)) old) old (old ++ key ∷ []) → map f new ≡ take (i + 1) names
+    → ((j : ℕ) → j < i → slice_get names j ≡ Some (f key) → ⊥)
+    → new ≡ cond (list_any (λ k. bytes_eq (f key) (f k)) old) old (old ++ key ∷ []) → map f new ≡ take (i + 1) names
 key_pushed f old new key names i same here apart grown =
     let gone = any_mapped f (bytes_eq (f key)) old ∙ ap (list_any (bytes_eq (f key))) same ∙ absent names i (f key) apart in
-    ap (map f) (grown ∙ ap (λ b. cond b old (old ++ key ∷ [])) gone) ∙ mapped_push f old key ∙ ap (λ ns. ns ++ f key ∷ []) same ∙ sym (taken names i (f key) here)
+    ap (map f) (grown ∙ ap (λ b. cond b old (old ++ key ∷ [])) gone) ∙ mapped_push f old key ∙ ap (λ ns. ns ++ f key ∷ []) same
+    ∙ sym (taken names i (f key) here)
 
 -- ---- the streams of a fit task
-
-pub few_streams : (task : Task) → IsFit task → length task.streams ≤ 8388608
-few_streams task fit = leb-true (length task.streams) 8388608 (first_so (is_short task.streams) (list_all (is_fit_stream task.domain) task.streams) fit.streams.each)
 
 pub few_names : (task : Task) → IsFit task → length (stream_names task) ≤ 8388608
 few_names task fit = let few = few_streams task fit in omega (arith, few, length-map task.streams (λ (s : Stream). s.name))
@@ -127,9 +126,9 @@ module _ (names : List (List ℕ)) where
   places_below (n ∷ ns) =
       with_place n (filter_map (place_of names) ns) (places_below ns) (place_of names n) refl
 
-  pub all_below : (pools : List Spelled) → All Below (places_in names pools)
+  pub all_below : (pools : List Spelled) → All Below (all_places names pools)
   all_below [] = all_nil Below
-  all_below (p ∷ ps) = All-append Below (places_of names p) (places_in names ps) (places_below p.streams) (all_below ps)
+  all_below (p ∷ ps) = All-append Below (places_of names p) (all_places names ps) (places_below p.streams) (all_below ps)
 
   -- ---- streams of pools
 
@@ -139,13 +138,13 @@ module _ (names : List (List ℕ)) where
   flat_plain (p ∷ ps) = ap (λ ks. p.streams ++ ks) (flat_plain ps)
 
   pub flat_numbered : (next : ℕ) (pools : List Spelled)
-      → flat_map (λ (p : PlainPool). p.streams) (numbered names next pools) ≡ places_in names pools
+      → flat_map (λ (p : PlainPool). p.streams) (numbered names next pools) ≡ all_places names pools
   flat_numbered next [] = refl
   flat_numbered next (p ∷ ps) =
       ap (λ ks. places_of names p ++ ks) (flat_numbered (next + own_workers p) ps)
 
   pub streams_numbered : (pools : List Pool) (next : ℕ) (texts : List Spelled)
-      → map plain pools ≡ numbered names next texts → streams_in pools ≡ places_in names texts
+      → map plain pools ≡ numbered names next texts → streams_in pools ≡ all_places names texts
   streams_numbered pools next texts are =
       flat_plain pools ∙ ap (flat_map (λ (p : PlainPool). p.streams)) are ∙ flat_numbered next texts
 
@@ -158,7 +157,8 @@ pub own_left : (pools : List PoolText) (i : ℕ) (x : PoolText) → i < length p
     → x ≡ get_or pools i x
     → sum_by own_workers (map shown (drop i pools)) ≡ own_workers (shown x) + sum_by own_workers (map shown (drop (i + 1) pools))
 own_left pools i x within is =
-    at_drop_more own_sum pools i x within ∙ ap (λ v. own_sum (v ∷ drop (i + 1) pools)) (sym is) ∙ sum_by-cons own_workers (shown x) (map shown (drop (i + 1) pools))
+    at_drop_more own_sum pools i x within ∙ ap (λ v. own_sum (v ∷ drop (i + 1) pools)) (sym is)
+    ∙ sum_by-cons own_workers (shown x) (map shown (drop (i + 1) pools))
 
 -- the name of the stream at a place
 pub name_at : (names : List (List ℕ)) (streams : List Stream) (i : ℕ) (stream : Stream)
@@ -177,12 +177,12 @@ name_at names streams i stream are within is =
 
 pub fault_is : (names : List (List ℕ)) (texts : List Spelled) (o : Option MapFault)
     → have_wrong_workers texts ≡ false → list_any (names_unknown names) texts ≡ false
-    → o ≡ served_fault (length names) (places_in names texts) → fault_of names texts ≡ o
+    → o ≡ served_fault (length names) (all_places names texts) → map_fault names texts ≡ o
 fault_is names texts o right known is =
-    (λ i. cond (right i) (Some Workers) (cond (known i) (Some Unknown) (served_fault (length names) (places_in names texts)))) ∙ sym is
+    (λ i. cond (right i) (Some Workers) (cond (known i) (Some Unknown) (served_fault (length names) (all_places names texts)))) ∙ sym is
 
 pub refused_from : (names : List (List ℕ)) (texts : List Spelled) (why : MapFault)
-    → fault_of names texts ≡ Some why → Refused names (Some texts) why
+    → map_fault names texts ≡ Some why → Refused names (Some texts) why
 refused_from names texts Json e = e
 refused_from names texts Shape e = e
 refused_from names texts Workers e = e

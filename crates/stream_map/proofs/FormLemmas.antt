@@ -92,7 +92,8 @@ pub map_of-list : (d e : Data) (vs : List Value) → has_only is_map_key d ≡ t
     → get (codes "pools") d ≡ Some e → as_array e ≡ Some (items_view vs)
     → map_of d ≡ each_of (λ v. pool_of (view v)) vs
 map_of-list d e vs only got list =
-    ap (λ b. cond b (option_and_then (listed pool_of) (get (codes "pools") d)) None) only ∙ ap (option_and_then (listed pool_of)) got ∙ listed-array pool_of e vs list
+    ap (λ b. cond b (option_and_then (listed pool_of) (get (codes "pools") d)) None) only ∙ ap (option_and_then (listed pool_of)) got
+    ∙ listed-array pool_of e vs list
 
 pub if_some-filled : {A : Type 0} (xs : List A) → 1 ≤ length xs → if_some xs ≡ Some xs
 if_some-filled [] some = absurd (omega (arith, some))

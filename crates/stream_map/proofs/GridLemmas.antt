@@ -28,9 +28,12 @@ module _ (pools : List Pool) (i : ℕ) (pool : Pool) (within : i < length pools)
   passed_more other passed text =
       passed text
       ∙ ap (λ ps. map plain (take i pools) ++ with_text text (map plain ps)) rest_is
-      ∙ ap (λ b. map plain (take i pools) ++ cond b ((record (plain pool) { words = with_second text (plain pool).words }) ∷ map plain (drop (i + 1) pools)) (plain pool ∷ with_text text (map plain (drop (i + 1) pools)))) other
+      ∙ ap (λ b. map plain (take i pools)
+      ++ cond b ((record (plain pool) { words = with_second text (plain pool).words }) ∷ map plain (drop (i + 1) pools))
+      (plain pool ∷ with_text text (map plain (drop (i + 1) pools)))) other
       ∙ sym (append_assoc (map plain (take i pools)) (plain pool ∷ []) (with_text text (map plain (drop (i + 1) pools))))
-      ∙ ap (λ ps. ps ++ with_text text (map plain (drop (i + 1) pools))) (sym (map-append plain (take i pools) (pool ∷ [])) ∙ ap (map plain) (sym taken_is))
+      ∙ ap (λ ps. ps ++ with_text text (map plain (drop (i + 1) pools)))
+      (sym (map-append plain (take i pools) (pool ∷ [])) ∙ ap (map plain) (sym taken_is))
 
   pub grid_found : begins pool ≡ true → ArePassed pools i → IsGridPlace pools i
   grid_found begun passed = record {
@@ -38,8 +41,12 @@ module _ (pools : List Pool) (i : ℕ) (pool : Pool) (within : i < length pools)
     replaced = λ text other d with_it.
         passed text
         ∙ ap (λ ps. map plain (take i pools) ++ with_text text (map plain ps)) rest_is
-        ∙ ap (λ b. map plain (take i pools) ++ cond b ((record (plain pool) { words = with_second text (plain pool).words }) ∷ map plain (drop (i + 1) pools)) (plain pool ∷ with_text text (map plain (drop (i + 1) pools)))) begun
-        ∙ ap (λ p. map plain (take i pools) ++ p ∷ map plain (drop (i + 1) pools)) (ap (λ p. record (plain p) { words = with_second text (plain p).words }) (is ∙ get_or_default pools i pool d within) ∙ sym with_it)
+        ∙ ap (λ b. map plain (take i pools)
+        ++ cond b ((record (plain pool) { words = with_second text (plain pool).words }) ∷ map plain (drop (i + 1) pools))
+        (plain pool ∷ with_text text (map plain (drop (i + 1) pools)))) begun
+        ∙ ap (λ p. map plain (take i pools) ++ p ∷ map plain (drop (i + 1) pools))
+        (ap (λ p. record (plain p) { words = with_second text (plain p).words }) (is ∙ get_or_default pools i pool d within)
+        ∙ sym with_it)
         ∙ sym (map-append plain (take i pools) (other ∷ drop (i + 1) pools))
         ∙ ap (λ n. map plain (take i pools ++ other ∷ drop n pools)) (add-one i);
   }
@@ -47,4 +54,5 @@ module _ (pools : List Pool) (i : ℕ) (pool : Pool) (within : i < length pools)
 pub all_passed : (pools : List Pool) (i : ℕ) → length pools ≤ i → ArePassed pools i
     → (text : List ℕ) → with_text text (map plain pools) ≡ map plain pools
 all_passed pools i past passed text =
-    passed text ∙ at_drop_all (λ ps. map plain (take i pools) ++ with_text text (map plain ps)) pools i past ∙ append-nil (map plain (take i pools)) ∙ ap (map plain) (take_all i pools past)
+    passed text ∙ at_drop_all (λ ps. map plain (take i pools) ++ with_text text (map plain ps)) pools i past
+    ∙ append-nil (map plain (take i pools)) ∙ ap (map plain) (take_all i pools past)

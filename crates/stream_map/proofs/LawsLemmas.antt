@@ -12,10 +12,10 @@ use Rattle.task_model.specs.declared.task.Task.{Task}
 use Rattle.transcript_model.specs.declared.head.Pool.{Pool}
 use Rattle.stream_map.specs.Accepted.{Accepted}
 use Rattle.stream_map.specs.Children.{PlainPool, numbered, plain, with_second, with_text}
-use Rattle.stream_map.specs.Faults.{fault_of, have_wrong_workers, has_wrong_number, is_grid, names_unknown, own_workers, places_in, places_of}
+use Rattle.stream_map.specs.Faults.{map_fault, have_wrong_workers, has_wrong_number, is_grid, names_unknown, own_workers, all_places, places_of}
 use Rattle.stream_map.specs.Form.{datas, each_of, has_only, if_program, is_map_key, is_pool_key, listed, map_of, names_of, pool_of, pool_with, program_of, stream_names, words_form, workers_of}
-use Rattle.stream_map.specs.Laws.{AreWhole, HasChild, AcceptedMapsAreWhole, AcceptedWordsAreWhole, TextsKeepPoolsWhole}
-use Rattle.stream_map.specs.Served.{has_repeat, has_missing, is_among}
+use Rattle.stream_map.specs.Laws.{AreWhole, PoolHasChild, AcceptedMapsAreWhole, AcceptedWordsAreWhole, TextsKeepPoolsWhole}
+use Rattle.stream_map.specs.Served.{has_repeat, has_missing, is_stream_among}
 use Rattle.stream_map.specs.Spelled.{Spelled, begins_grid, is_program}
 use Rattle.stream_map.specs.declared.fault.MapFault.{MapFault}
 use Rattle.stream_map.specs.declared.fault.MapFault.TheVariants.{Workers, Unknown, Doubled, Unserved}
@@ -23,7 +23,7 @@ use Rattle.stream_map.proofs.ChildrenLemmas.{AreRight, placed, children_apart}
 use Rattle.stream_map.proofs.FaultsLemmas.{flat_numbered, places_below}
 use Rattle.stream_map.proofs.ServedLemmas.{each_among, once_in_pools, pool_of_stream}
 use borrow.Author.Tests.{leb-true}
-use Rattle.lemmas.proofs.Options.{and_then_some}
+use Rattle.lemmas.proofs.Options.{and_then_some, where_true}
 use Rattle.lemmas.proofs.ListTests.{all_by_place}
 
 -- ---- no fault
@@ -46,8 +46,8 @@ all_served false false e = (refl, refl)
 
 pub record NoFault (names : List (List ℕ)) (pools : List Spelled) : Type 0 where
   pub workers : AreRight 0 pools
-  pub once : has_repeat [] (places_in names pools) ≡ false
-  pub each : has_missing (length names) (places_in names pools) ≡ false
+  pub once : has_repeat [] (all_places names pools) ≡ false
+  pub each : has_missing (length names) (all_places names pools) ≡ false
 
 or_parts : (a b c : Bool) → (a || b || c) ≡ false → (a ≡ false) × (b ≡ false) × (c ≡ false)
 or_parts true b c e = absurd (true≢false e)
@@ -63,23 +63,23 @@ right_workers pools e =
     let few = not_more 16 (sum_by own_workers pools) parts.2 in
     record { numbers = parts.0; grids = not_more 1 (count_by is_grid pools) parts.1; workers = omega (arith, few) }
 
-pub no_fault : (names : List (List ℕ)) (pools : List Spelled) → fault_of names pools ≡ None
+pub no_fault : (names : List (List ℕ)) (pools : List Spelled) → map_fault names pools ≡ None
     → NoFault names pools
 no_fault names pools e =
     let first = no_wrong_workers (have_wrong_workers pools) _ e in
     let second = no_unknown (list_any (names_unknown names) pools) _ first.1 in
-    let third = all_served (has_repeat [] (places_in names pools)) (has_missing (length names) (places_in names pools)) second.1 in
+    let third = all_served (has_repeat [] (all_places names pools)) (has_missing (length names) (all_places names pools)) second.1 in
     record { workers = right_workers pools first.0; once = third.0; each = third.1 }
 
 -- ---- pools as lists
 
-contains : (stream : ℕ) (streams : List ℕ) → is_among stream streams ≡ true
+contains : (stream : ℕ) (streams : List ℕ) → is_stream_among stream streams ≡ true
     → Contains streams stream
 contains stream [] e = absurd (true≢false (sym e))
 contains stream (s ∷ ss) e = here (s == stream) refl (λ h. contains stream ss h) e
   where
-    here : (b : Bool) → (s == stream) ≡ b → (is_among stream ss ≡ true → Contains ss stream)
-        → (b || is_among stream ss) ≡ true → Contains (s ∷ ss) stream
+    here : (b : Bool) → (s == stream) ≡ b → (is_stream_among stream ss ≡ true → Contains ss stream)
+        → (b || is_stream_among stream ss) ≡ true → Contains (s ∷ ss) stream
     here true is later e = (0, omega arith, eqb-true s stream is)
     here false is later e = let found = later e in (suc found.0, omega (arith, found.1), found.2)
 
@@ -91,7 +91,8 @@ spelled_at : (names : List (List ℕ)) (next : ℕ) (pools : List Spelled) (k : 
     → slice_get (numbered names next pools) k ≡ Some p
     → (s : Spelled) × (slice_get pools k ≡ Some s) × (p.words ≡ s.run) × (p.streams ≡ places_of names s)
 spelled_at names next [] k p at = absurd (cc)
-spelled_at names next (s ∷ ss) zero p at = let is = sym (same_Some _ p at) in (s, refl, ap (λ (q : PlainPool). q.words) is, ap (λ (q : PlainPool). q.streams) is)
+spelled_at names next (s ∷ ss) zero p at =
+    let is = sym (same_Some _ p at) in (s, refl, ap (λ (q : PlainPool). q.words) is, ap (λ (q : PlainPool). q.streams) is)
 spelled_at names next (s ∷ ss) (suc k) p at = spelled_at names (next + own_workers s) ss k p at
 
 module _ (task : Task) (pools : List Spelled) (none : NoFault (stream_names task) pools) (started : AreStarted pools) where
@@ -104,7 +105,7 @@ module _ (task : Task) (pools : List Spelled) (none : NoFault (stream_names task
   abbrev streams : PlainPool → List ℕ
   streams p = p.streams
 
-  flat : flat_map streams plains ≡ places_in names pools
+  flat : flat_map streams plains ≡ all_places names pools
   flat = flat_numbered names 0 pools
 
   count : length names ≡ length task.streams
@@ -114,17 +115,20 @@ module _ (task : Task) (pools : List Spelled) (none : NoFault (stream_names task
   pub whole : AreWhole task plains
   whole = record {
     served = λ stream below.
-        let there = each_among 0 (length names) (places_in names pools) none.each stream (omega arith) (omega (arith, below, count)) in
-        let found = pool_of_stream streams plains stream (ap (is_among stream) flat ∙ there) in
+        let there = each_among 0 (length names) (all_places names pools) none.each stream (omega arith) (omega (arith, below, count)) in
+        let found = pool_of_stream streams plains stream (ap (is_stream_among stream) flat ∙ there) in
         (found.0, found.1, found.2, contains stream (streams found.1) found.3);
-    once = λ j k a b stream p q at_j at_k at_a at_b. once_in_pools streams [] plains (ap (has_repeat []) flat ∙ none.once) j k a b stream p q at_j at_k at_a at_b;
+    once = λ j k a b stream p q at_j at_k at_a at_b.
+        once_in_pools streams [] plains (ap (has_repeat []) flat ∙ none.once) j k a b stream p q at_j at_k at_a at_b;
     known = all_by_place (λ (p : PlainPool). All (λ stream. stream < length task.streams) p.streams) plains (λ k p at.
         let is = spelled_at names 0 pools k p at in
         let P : List ℕ → Type 0 = All (λ stream. stream < length task.streams) in
         subst P (sym is.3) (λ i d lt. let low = places_below names is.0.streams i d lt in omega (arith, low, count)));
     apart = children_apart names 0 pools none.workers;
-    some = all_by_place (λ (p : PlainPool). 1 ≤ p.workers) plains (λ k p at. elim (placed names 0 pools none.workers k p at) [ inl h ↦ omega (arith, h.1) | inr h ↦ h.2 ]);
-    low = all_by_place (λ (p : PlainPool). p.first + p.workers ≤ 17) plains (λ k p at. elim (placed names 0 pools none.workers k p at) [ inl h ↦ omega (arith, h.0, h.1) | inr h ↦ omega (arith, h.1) ]);
+    some = all_by_place (λ (p : PlainPool). 1 ≤ p.workers) plains
+        (λ k p at. elim (placed names 0 pools none.workers k p at) [ inl h ↦ omega (arith, h.1) | inr h ↦ h.2 ]);
+    low = all_by_place (λ (p : PlainPool). p.first + p.workers ≤ 17) plains
+        (λ k p at. elim (placed names 0 pools none.workers k p at) [ inl h ↦ omega (arith, h.0, h.1) | inr h ↦ omega (arith, h.1) ]);
     started = all_by_place (λ (p : PlainPool). 1 ≤ length p.words) plains (λ k p at.
         let is = spelled_at names 0 pools k p at in
         let run = started k is.0 is.1 in
@@ -133,15 +137,11 @@ module _ (task : Task) (pools : List Spelled) (none : NoFault (stream_names task
 
 -- ---- programs have words
 
-where_true : {A : Type 0} (b : Bool) (o : Option A) (y : A) → cond b o None ≡ Some y
-    → (b ≡ true) × (o ≡ Some y)
-where_true true o y e = (refl, e)
-where_true false o y e = absurd (cc)
-
 program_starts : (words run : List (List ℕ)) → if_program words ≡ Some run → 1 ≤ length run
 program_starts words run e =
     let parts = where_true (is_program words) (Some words) run e in
-    let some = leb-true 1 (length words) (first_so (nat_le 1 (length words)) (nat_le (length words) 64) (first_so (nat_le 1 (length words) && nat_le (length words) 64) _ parts.0)) in
+    let some = leb-true 1 (length words) (first_so (nat_le 1 (length words))
+    (nat_le (length words) 64) (first_so (nat_le 1 (length words) && nat_le (length words) 64) _ parts.0)) in
     omega (arith, some, ap length (same_Some words run parts.1))
 
 run_of : (run : Option (List (List ℕ))) (workers : Option ℕ) (streams : Option (List (List ℕ))) (s : Spelled)
@@ -154,7 +154,8 @@ run_of (Some r) (Some w) (Some names) s e = ap (λ (p : Spelled). Some p.run) (s
 pool_starts : (d : Data) (s : Spelled) → pool_of d ≡ Some s → 1 ≤ length s.run
 pool_starts d s e =
     let parts = where_true (has_only is_pool_key d) _ s e in
-    let run = run_of (option_and_then program_of (get (codes "run") d)) (workers_of (get (codes "workers") d)) (option_and_then names_of (get (codes "streams") d)) s parts.1 in
+    let run = run_of (option_and_then program_of (get (codes "run") d))
+    (workers_of (get (codes "workers") d)) (option_and_then names_of (get (codes "streams") d)) s parts.1 in
     let value = and_then_some program_of (get (codes "run") d) s.run run in
     let words = and_then_some if_program (listed as_str value.0) s.run value.2 in
     program_starts words.0 s.run words.2
@@ -225,13 +226,15 @@ accepted_whole : (task : Task) (form : Option (List Spelled)) (pools : List Pool
     → Accepted task form pools → AreWhole task (map plain pools)
 accepted_whole task form pools starts accepted =
     let P : List PlainPool → Type 0 = AreWhole task in
-    subst P (sym accepted.pools_are) (whole task accepted.spelled (no_fault (stream_names task) accepted.spelled accepted.right) (starts accepted.spelled accepted.form_is))
+    subst P (sym accepted.pools_are) (whole task accepted.spelled
+    (no_fault (stream_names task) accepted.spelled accepted.right) (starts accepted.spelled accepted.form_is))
 
 pub accepted_maps : AcceptedMapsAreWhole
 accepted_maps task d pools accepted = accepted_whole task (map_of d) pools (map_starts d) accepted
 
 pub accepted_words : AcceptedWordsAreWhole
-accepted_words task words workers pools accepted = accepted_whole task (words_form task words workers) pools (words_start task words workers) accepted
+accepted_words task words workers pools accepted =
+    accepted_whole task (words_form task words workers) pools (words_start task words workers) accepted
 
 -- ---- the grid's text
 
@@ -298,8 +301,9 @@ at_of : {A : Type 0} (P : A → Type 0) (xs : List A) → All P xs → (k : ℕ)
 at_of P xs all k x at =
     subst P (get_or_from_slice_get xs k x x at) (all k x (slice_get_within xs k x at))
 
-had_child : (p q : PlainPool) (child : ℕ) → IsAlike p q → HasChild q child → HasChild p child
-had_child p q child alike has = record { from = omega (arith, has.from, alike.first); to = omega (arith, has.to, alike.first, alike.workers) }
+had_child : (p q : PlainPool) (child : ℕ) → IsAlike p q → PoolHasChild q child → PoolHasChild p child
+had_child p q child alike has = record
+    { from = omega (arith, has.from, alike.first); to = omega (arith, has.to, alike.first, alike.workers) }
 
 pub texts_keep : TextsKeepPoolsWhole
 texts_keep task text pools all = record {
@@ -310,10 +314,12 @@ texts_keep task text pools all = record {
   once = λ j k a b stream p q at_j at_k at_a at_b.
       let one = was_at text pools j p at_j in
       let other = was_at text pools k q at_k in
-      all.once j k a b stream one.0 other.0 one.1 other.1 (ap (λ (streams : List ℕ). slice_get streams a) one.2.streams ∙ at_a) (ap (λ (streams : List ℕ). slice_get streams b) other.2.streams ∙ at_b);
+      all.once j k a b stream one.0 other.0 one.1 other.1 (ap (λ (streams : List ℕ). slice_get streams a) one.2.streams ∙ at_a)
+      (ap (λ (streams : List ℕ). slice_get streams b) other.2.streams ∙ at_b);
   known = all_by_place (λ (p : PlainPool). All (λ stream. stream < length task.streams) p.streams) _ (λ k q at.
       let one = was_at text pools k q at in
-      subst (λ (streams : List ℕ). All (λ stream. stream < length task.streams) streams) one.2.streams (at_of (λ (p : PlainPool). All (λ stream. stream < length task.streams) p.streams) pools all.known k one.0 one.1));
+      subst (λ (streams : List ℕ). All (λ stream. stream < length task.streams) streams) one.2.streams
+      (at_of (λ (p : PlainPool). All (λ stream. stream < length task.streams) p.streams) pools all.known k one.0 one.1));
   apart = λ j k child p q at_j at_k in_p in_q.
       let one = was_at text pools j p at_j in
       let other = was_at text pools k q at_k in

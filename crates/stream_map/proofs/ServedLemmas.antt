@@ -8,11 +8,11 @@ use Rattle.std.proofs.lemmas.List.Folds.{list_any-append}
 use Rattle.std.proofs.lemmas.Option.{same_Some}
 use Rattle.std.specs.List.{flat_map, list_any, list_all}
 use Rattle.lemmas.specs.Lists.{numbers_from}
-use Rattle.stream_map.specs.Served.{AreMarks, is_among, has_repeat, has_missing, streams_in}
+use Rattle.stream_map.specs.Served.{AreMarks, is_stream_among, has_repeat, has_missing, streams_in}
 use Rattle.stream_map.specs.Faults.{served_fault}
 use Rattle.stream_map.specs.declared.fault.MapFault.TheVariants.{Doubled, Unserved}
 use Rattle.transcript_model.specs.declared.head.Pool.{Pool}
-use Rattle.lemmas.proofs.Bools.{right_true, left_false, right_false}
+use Rattle.lemmas.proofs.Bools.{right_true, left_false, right_false, or_true, or_false}
 
 -- ---- bools
 
@@ -26,37 +26,39 @@ pub has_repeat-append : (before xs ys : List ℕ)
     → has_repeat before (xs ++ ys) ≡ (has_repeat before xs || has_repeat (before ++ xs) ys)
 has_repeat-append before [] ys = ap (λ b. has_repeat b ys) (sym (append-nil before))
 has_repeat-append before (x ∷ xs) ys =
-    ap (λ b. is_among x before || b) (has_repeat-append (before ++ x ∷ []) xs ys ∙ ap (λ b. has_repeat (before ++ x ∷ []) xs || has_repeat b ys) (append_assoc before (x ∷ []) xs))
-    ∙ sym (or_assoc (is_among x before) (has_repeat (before ++ x ∷ []) xs) (has_repeat (before ++ x ∷ xs) ys))
+    ap (λ b. is_stream_among x before || b) (has_repeat-append (before ++ x ∷ []) xs ys
+    ∙ ap (λ b. has_repeat (before ++ x ∷ []) xs || has_repeat b ys) (append_assoc before (x ∷ []) xs))
+    ∙ sym (or_assoc (is_stream_among x before) (has_repeat (before ++ x ∷ []) xs) (has_repeat (before ++ x ∷ xs) ys))
 
-among_itself : (s : ℕ) (ks : List ℕ) → is_among s (s ∷ ks) ≡ true
-among_itself s ks = ap (λ b. b || is_among s ks) (eq-eqb s s refl)
+among_itself : (s : ℕ) (ks : List ℕ) → is_stream_among s (s ∷ ks) ≡ true
+among_itself s ks = ap (λ b. b || is_stream_among s ks) (eq-eqb s s refl)
 
-among_at : (ks : List ℕ) (a s : ℕ) → slice_get ks a ≡ Some s → is_among s ks ≡ true
+among_at : (ks : List ℕ) (a s : ℕ) → slice_get ks a ≡ Some s → is_stream_among s ks ≡ true
 among_at [] a s at = absurd (cc)
 among_at (k ∷ ks) zero s at =
-    ap (λ x. is_among x (k ∷ ks)) (sym (same_Some k s at)) ∙ among_itself k ks
+    ap (λ x. is_stream_among x (k ∷ ks)) (sym (same_Some k s at)) ∙ among_itself k ks
 among_at (k ∷ ks) (suc a) s at = right_true (k == s) _ (among_at ks a s at)
 
-not_among_parts : (s : ℕ) (xs ys : List ℕ) → is_among s (xs ++ ys) ≡ false
-    → (is_among s xs ≡ false) × (is_among s ys ≡ false)
+not_among_parts : (s : ℕ) (xs ys : List ℕ) → is_stream_among s (xs ++ ys) ≡ false
+    → (is_stream_among s xs ≡ false) × (is_stream_among s ys ≡ false)
 not_among_parts s xs ys absent =
     let e = sym (list_any-append (λ k. k == s) xs ys) ∙ absent in
-    (left_false (is_among s xs) (is_among s ys) e, right_false (is_among s xs) (is_among s ys) e)
+    (left_false (is_stream_among s xs) (is_stream_among s ys) e, right_false (is_stream_among s xs) (is_stream_among s ys) e)
 
 -- what stands in a list without repeats doesn't stand before it
 pub not_before : (before ks : List ℕ) → has_repeat before ks ≡ false → (a s : ℕ)
-    → slice_get ks a ≡ Some s → is_among s before ≡ false
+    → slice_get ks a ≡ Some s → is_stream_among s before ≡ false
 not_before before [] once a s at = absurd (cc)
 not_before before (k ∷ ks) once zero s at =
-    ap (λ x. is_among x before) (sym (same_Some k s at)) ∙ left_false (is_among k before) _ once
+    ap (λ x. is_stream_among x before) (sym (same_Some k s at)) ∙ left_false (is_stream_among k before) _ once
 not_before before (k ∷ ks) once (suc a) s at =
-    (not_among_parts s before (k ∷ []) (not_before (before ++ k ∷ []) ks (right_false (is_among k before) _ once) a s at)).0
+    (not_among_parts s before (k ∷ []) (not_before (before ++ k ∷ []) ks (right_false (is_stream_among k before) _ once) a s at)).0
 
 first_alone : (before : List ℕ) (k : ℕ) (ks : List ℕ) → has_repeat before (k ∷ ks) ≡ false → (b : ℕ)
     → slice_get ks b ≡ Some k → ⊥
 first_alone before k ks once b at =
-    let no = (not_among_parts k before (k ∷ []) (not_before (before ++ k ∷ []) ks (right_false (is_among k before) _ once) b k at)).1 in
+    let no = (not_among_parts k before (k ∷ []) (not_before (before ++ k ∷ []) ks (right_false (is_stream_among k before) _ once) b k at)).1
+    in
     true≢false (sym (among_itself k []) ∙ no)
 
 -- no stream stands at two places
@@ -68,7 +70,8 @@ one_place before (k ∷ ks) once zero (suc b) s at_a at_b =
     absurd (first_alone before k ks once b (at_b ∙ sym at_a))
 one_place before (k ∷ ks) once (suc a) zero s at_a at_b =
     absurd (first_alone before k ks once a (at_a ∙ sym at_b))
-one_place before (k ∷ ks) once (suc a) (suc b) s at_a at_b = ap suc (one_place (before ++ k ∷ []) ks (right_false (is_among k before) _ once) a b s at_a at_b)
+one_place before (k ∷ ks) once (suc a) (suc b) s at_a at_b =
+    ap suc (one_place (before ++ k ∷ []) ks (right_false (is_stream_among k before) _ once) a b s at_a at_b)
 
 -- ---- streams of pools
 
@@ -83,7 +86,7 @@ module _ {P : Type 0} (streams : P → List ℕ) where
   not_before_pools : (before : List ℕ) (ps : List P)
       → has_repeat before (flat_map streams ps) ≡ false → (k b s : ℕ) (q : P)
       → slice_get ps k ≡ Some q → slice_get (streams q) b ≡ Some s
-      → is_among s before ≡ false
+      → is_stream_among s before ≡ false
   not_before_pools before [] once k b s q at_k at_b = absurd (cc)
   not_before_pools before (p ∷ ps) once zero b s q at_k at_b =
       not_before before (streams p) (parts before p ps once).0 b s (ap (λ (r : P). slice_get (streams r) b) (same_Some p q at_k) ∙ at_b)
@@ -95,7 +98,8 @@ module _ {P : Type 0} (streams : P → List ℕ) where
       → Some p ≡ Some r → slice_get ps k ≡ Some q
       → slice_get (streams r) a ≡ Some s → slice_get (streams q) b ≡ Some s → ⊥
   other_pool before p ps once k a b s q r is at_k at_a at_b =
-      let no = (not_among_parts s before (streams p) (not_before_pools (before ++ streams p) ps (parts before p ps once).1 k b s q at_k at_b)).1 in
+      let no = (not_among_parts s before (streams p)
+      (not_before_pools (before ++ streams p) ps (parts before p ps once).1 k b s q at_k at_b)).1 in
       true≢false (sym (among_at (streams p) a s (ap (λ (x : P). slice_get (streams x) a) (same_Some p r is) ∙ at_a)) ∙ no)
 
   pub once_in_pools : (before : List ℕ) (ps : List P)
@@ -106,7 +110,8 @@ module _ {P : Type 0} (streams : P → List ℕ) where
   once_in_pools before (x ∷ ps) once zero zero a b s p q at_j at_k at_a at_b = (
     refl,
     one_place before (streams x) (parts before x ps once).0 a b s
-        (ap (λ (r : P). slice_get (streams r) a) (same_Some x p at_j) ∙ at_a) (ap (λ (r : P). slice_get (streams r) b) (same_Some x q at_k) ∙ at_b),
+        (ap (λ (r : P). slice_get (streams r) a) (same_Some x p at_j) ∙ at_a)
+        (ap (λ (r : P). slice_get (streams r) b) (same_Some x q at_k) ∙ at_b),
   )
   once_in_pools before (x ∷ ps) once zero (suc k) a b s p q at_j at_k at_a at_b =
       absurd (other_pool before x ps once k a b s q p at_j at_k at_a at_b)
@@ -117,21 +122,21 @@ module _ {P : Type 0} (streams : P → List ℕ) where
       (ap suc rest.0, rest.1)
 
   abbrev pub IsOf : List P → ℕ → Type 0
-  IsOf ps s = (k : ℕ) × (p : P) × (slice_get ps k ≡ Some p) × (is_among s (streams p) ≡ true)
+  IsOf ps s = (k : ℕ) × (p : P) × (slice_get ps k ≡ Some p) × (is_stream_among s (streams p) ≡ true)
 
   -- a stream among those of all pools is one of a pool
-  pub pool_of_stream : (ps : List P) (s : ℕ) → is_among s (flat_map streams ps) ≡ true → IsOf ps s
+  pub pool_of_stream : (ps : List P) (s : ℕ) → is_stream_among s (flat_map streams ps) ≡ true → IsOf ps s
   pool_of_stream [] s among = absurd (true≢false (sym among))
-  pool_of_stream (p ∷ ps) s among = here (is_among s (streams p)) refl (λ e. pool_of_stream ps s e)
+  pool_of_stream (p ∷ ps) s among = here (is_stream_among s (streams p)) refl (λ e. pool_of_stream ps s e)
     where
-      whole : (is_among s (streams p) || is_among s (flat_map streams ps)) ≡ true
+      whole : (is_stream_among s (streams p) || is_stream_among s (flat_map streams ps)) ≡ true
       whole = sym (list_any-append (λ k. k == s) (streams p) (flat_map streams ps)) ∙ among
 
-      here : (b : Bool) → is_among s (streams p) ≡ b
-          → (is_among s (flat_map streams ps) ≡ true → IsOf ps s) → IsOf (p ∷ ps) s
+      here : (b : Bool) → is_stream_among s (streams p) ≡ b
+          → (is_stream_among s (flat_map streams ps) ≡ true → IsOf ps s) → IsOf (p ∷ ps) s
       here true is later = (0, p, refl, is)
       here false is later =
-          let found = later (either_true (is_among s (streams p)) _ whole is) in
+          let found = later (either_true (is_stream_among s (streams p)) _ whole is) in
           (suc found.0, found.1, found.2, found.3)
 
 -- ---- streams that stand nowhere
@@ -144,30 +149,33 @@ next_one : (first s : ℕ) → first ≤ s → (first == s) ≡ false → first 
 next_one first s from e = let other = eqb-false first s e in omega (arith, from, other)
 
 pub each_among : (first n : ℕ) (ks : List ℕ)
-    → list_any (λ s. not (is_among s ks)) (numbers_from first n) ≡ false → (s : ℕ) → first ≤ s
-    → s < first + n → is_among s ks ≡ true
+    → list_any (λ s. not (is_stream_among s ks)) (numbers_from first n) ≡ false → (s : ℕ) → first ≤ s
+    → s < first + n → is_stream_among s ks ≡ true
 each_among first zero ks none s from to = absurd (omega (arith, from, to))
 each_among first (suc n) ks none s from to =
-    split (first == s) refl (λ above. each_among (first + 1) n ks (right_false (not (is_among first ks)) _ none) s above (omega (arith, to)))
+    split (first == s) refl
+    (λ above. each_among (first + 1) n ks (right_false (not (is_stream_among first ks)) _ none) s above (omega (arith, to)))
   where
-    split : (b : Bool) → (first == s) ≡ b → (first + 1 ≤ s → is_among s ks ≡ true)
-        → is_among s ks ≡ true
+    split : (b : Bool) → (first == s) ≡ b → (first + 1 ≤ s → is_stream_among s ks ≡ true)
+        → is_stream_among s ks ≡ true
     split true e later =
-        ap (λ k. is_among k ks) (sym (eqb-true first s e))
-        ∙ is_there (is_among first ks) (left_false _ _ none)
+        ap (λ k. is_stream_among k ks) (sym (eqb-true first s e))
+        ∙ is_there (is_stream_among first ks) (left_false _ _ none)
     split false e later = later (next_one first s from e)
 
 -- ---- marks
 
 -- marks from a number on tell which of the streams is missing
 missing_from : (first : ℕ) (ks : List ℕ) (marks : List Bool)
-    → ((k : ℕ) (d : Bool) → k < length marks → get_or marks k d ≡ is_among (first + k) ks)
-    → list_all (λ b. b) marks ≡ not (list_any (λ s. not (is_among s ks)) (numbers_from first (length marks)))
+    → ((k : ℕ) (d : Bool) → k < length marks → get_or marks k d ≡ is_stream_among (first + k) ks)
+    → list_all (λ b. b) marks ≡ not (list_any (λ s. not (is_stream_among s ks)) (numbers_from first (length marks)))
 missing_from first ks [] are = refl
 missing_from first ks (m ∷ ms) are =
-    let here : m ≡ is_among first ks = are 0 m (omega arith) ∙ ap (λ k. is_among k ks) (add-zero first) in
-    let later = missing_from (first + 1) ks ms (λ k d lt. are (suc k) d (omega (arith, lt)) ∙ ap (λ n. is_among n ks) (shifted first k)) in
-    (λ i. here i && later i) ∙ de_morgan (is_among first ks) (list_any (λ s. not (is_among s ks)) (numbers_from (first + 1) (length ms)))
+    let here : m ≡ is_stream_among first ks = are 0 m (omega arith) ∙ ap (λ k. is_stream_among k ks) (add-zero first) in
+    let later =
+    missing_from (first + 1) ks ms (λ k d lt. are (suc k) d (omega (arith, lt)) ∙ ap (λ n. is_stream_among n ks) (shifted first k)) in
+    (λ i. here i && later i)
+    ∙ de_morgan (is_stream_among first ks) (list_any (λ s. not (is_stream_among s ks)) (numbers_from (first + 1) (length ms)))
   where
     shifted : (a b : ℕ) → a + suc b ≡ a + 1 + b
     shifted a b = omega arith
@@ -179,7 +187,7 @@ missing_from first ks (m ∷ ms) are =
 pub no_missing : (ks : List ℕ) (marks : List Bool) → AreMarks ks marks
     → list_all (λ b. b) marks ≡ not (has_missing (length marks) ks)
 no_missing ks marks are =
-    missing_from 0 ks marks (λ k d lt. are k d lt ∙ ap (λ n. is_among n ks) (sym (zero-add k)))
+    missing_from 0 ks marks (λ k d lt. are k d lt ∙ ap (λ n. is_stream_among n ks) (sym (zero-add k)))
 
 -- one more is marked
 pub mark_more : (ks : List ℕ) (marks : List Bool) (k : ℕ) → k < length marks → AreMarks ks marks
@@ -187,42 +195,39 @@ pub mark_more : (ks : List ℕ) (marks : List Bool) (k : ℕ) → k < length mar
 mark_more ks marks k within are stream d lt = split (k == stream) refl
   where
     with_it : (b : Bool) → (k == stream) ≡ b
-        → is_among stream (ks ++ k ∷ []) ≡ (is_among stream ks || (b || false))
+        → is_stream_among stream (ks ++ k ∷ []) ≡ (is_stream_among stream ks || (b || false))
     with_it b e =
         list_any-append (λ s. s == stream) ks (k ∷ [])
-        ∙ ap (λ c. is_among stream ks || (c || false)) e
-
-    or_true : (a : Bool) → true ≡ (a || true)
-    or_true true = refl
-    or_true false = refl
-
-    or_false : (a : Bool) → a ≡ (a || false)
-    or_false true = refl
-    or_false false = refl
+        ∙ ap (λ c. is_stream_among stream ks || (c || false)) e
 
     split : (b : Bool) → (k == stream) ≡ b
-        → get_or (set marks k true) stream d ≡ is_among stream (ks ++ k ∷ [])
+        → get_or (set marks k true) stream d ≡ is_stream_among stream (ks ++ k ∷ [])
     split true e =
-        ap (λ n. get_or (set marks k true) n d) (sym (eqb-true k stream e)) ∙ get_or-set_same marks k true d within ∙ or_true (is_among stream ks) ∙ sym (with_it true e)
+        ap (λ n. get_or (set marks k true) n d) (sym (eqb-true k stream e)) ∙ get_or-set_same marks k true d within
+        ∙ sym (or_true (is_stream_among stream ks)) ∙ sym (with_it true e)
     split false e =
-        get_or-set_other marks k stream true d (λ same. eqb-false k stream e (sym same)) ∙ are stream d (omega (arith, lt, length-set marks k true)) ∙ or_false (is_among stream ks) ∙ sym (with_it false e)
+        get_or-set_other marks k stream true d (λ same. eqb-false k stream e (sym same))
+        ∙ are stream d (omega (arith, lt, length-set marks k true)) ∙ sym (or_false (is_stream_among stream ks)) ∙ sym (with_it false e)
 
 -- ---- a step along the streams
 
 pub repeat_more : (before ks : List ℕ) (i k : ℕ) → i < length ks → k ≡ get_or ks i 0
-    → is_among k (before ++ take i ks) ≡ false
+    → is_stream_among k (before ++ take i ks) ≡ false
     → has_repeat (before ++ take i ks) (drop i ks) ≡ has_repeat (before ++ take (i + 1) ks) (drop (i + 1) ks)
 repeat_more before ks i k within is fresh =
     at_drop_more (has_repeat (before ++ take i ks)) ks i 0 within
-    ∙ ap (λ b. b || has_repeat (before ++ take i ks ++ get_or ks i 0 ∷ []) (drop (i + 1) ks)) (ap (λ n. is_among n (before ++ take i ks)) (sym is) ∙ fresh)
-    ∙ ap (λ ns. has_repeat ns (drop (i + 1) ks)) (append_assoc before (take i ks) (get_or ks i 0 ∷ []) ∙ ap (λ ns. before ++ ns) (sym (take_more ks i 0 within)))
+    ∙ ap (λ b. b || has_repeat (before ++ take i ks ++ get_or ks i 0 ∷ []) (drop (i + 1) ks))
+    (ap (λ n. is_stream_among n (before ++ take i ks)) (sym is) ∙ fresh)
+    ∙ ap (λ ns. has_repeat ns (drop (i + 1) ks))
+    (append_assoc before (take i ks) (get_or ks i 0 ∷ []) ∙ ap (λ ns. before ++ ns) (sym (take_more ks i 0 within)))
 
 pub repeat_here : (before ks : List ℕ) (i k : ℕ) → i < length ks → k ≡ get_or ks i 0
-    → is_among k (before ++ take i ks) ≡ true
+    → is_stream_among k (before ++ take i ks) ≡ true
     → has_repeat (before ++ take i ks) (drop i ks) ≡ true
 repeat_here before ks i k within is old =
     at_drop_more (has_repeat (before ++ take i ks)) ks i 0 within
-    ∙ ap (λ b. b || has_repeat (before ++ take i ks ++ get_or ks i 0 ∷ []) (drop (i + 1) ks)) (ap (λ n. is_among n (before ++ take i ks)) (sym is) ∙ old)
+    ∙ ap (λ b. b || has_repeat (before ++ take i ks ++ get_or ks i 0 ∷ []) (drop (i + 1) ks))
+    (ap (λ n. is_stream_among n (before ++ take i ks)) (sym is) ∙ old)
 
 -- ---- pools one after another
 
@@ -246,12 +251,15 @@ module _ (pools : List Pool) (i : ℕ) (pool : Pool) (within : i < length pools)
   pub streams_more : streams_in (take (i + 1) pools) ≡ streams_in (take i pools) ++ pool.streams
   streams_more =
       ap streams_in (take_more pools i pool within ∙ ap (λ p. take i pools ++ p ∷ []) (sym is))
-      ∙ flat_map-append (λ (p : Pool). p.streams) (take i pools) (pool ∷ []) ∙ ap (λ ks. streams_in (take i pools) ++ ks) (append-nil pool.streams)
+      ∙ flat_map-append (λ (p : Pool). p.streams) (take i pools) (pool ∷ [])
+      ∙ ap (λ ks. streams_in (take i pools) ++ ks) (append-nil pool.streams)
 
   here_and_later : has_repeat (streams_in (take i pools)) (streams_in (drop i pools))
-      ≡ (has_repeat (streams_in (take i pools)) pool.streams || has_repeat (streams_in (take (i + 1) pools)) (streams_in (drop (i + 1) pools)))
+      ≡ (has_repeat (streams_in (take i pools)) pool.streams
+      || has_repeat (streams_in (take (i + 1) pools)) (streams_in (drop (i + 1) pools)))
   here_and_later =
-      ap (λ ps. has_repeat (streams_in (take i pools)) (streams_in ps)) (drop_more pools i pool within ∙ ap (λ p. p ∷ drop (i + 1) pools) (sym is))
+      ap (λ ps. has_repeat (streams_in (take i pools)) (streams_in ps))
+      (drop_more pools i pool within ∙ ap (λ p. p ∷ drop (i + 1) pools) (sym is))
       ∙ has_repeat-append (streams_in (take i pools)) pool.streams (streams_in (drop (i + 1) pools))
       ∙ ap (λ ks. has_repeat (streams_in (take i pools)) pool.streams || has_repeat ks (streams_in (drop (i + 1) pools))) (sym streams_more)
 
@@ -260,7 +268,8 @@ module _ (pools : List Pool) (i : ℕ) (pool : Pool) (within : i < length pools)
       → has_repeat (streams_in (take i pools)) pool.streams ≡ true
       → (count : ℕ) → Some Doubled ≡ served_fault count (streams_in pools)
   doubled_here so_far old count =
-      let found = so_far ∙ here_and_later ∙ ap (λ b. b || has_repeat (streams_in (take (i + 1) pools)) (streams_in (drop (i + 1) pools))) old in
+      let found =
+      so_far ∙ here_and_later ∙ ap (λ b. b || has_repeat (streams_in (take (i + 1) pools)) (streams_in (drop (i + 1) pools))) old in
       ap (λ b. cond b (Some Doubled) (cond (has_missing count (streams_in pools)) (Some Unserved) None)) (sym found)
 
   pub repeats_more : has_repeat [] (streams_in pools) ≡ has_repeat (streams_in (take i pools)) (streams_in (drop i pools))
@@ -276,12 +285,16 @@ not_not a false e = ap not (sym e)
 -- behind the last pool the marks tell the rest
 pub served_end : (count : ℕ) (pools : List Pool) (i : ℕ) (marks : List Bool) → length pools ≤ i
     → length marks ≡ count → AreMarks (streams_in (take i pools)) marks
-    → has_repeat [] (streams_in pools) ≡ has_repeat (streams_in (take i pools)) (streams_in (drop i pools)) → (all : Bool) → all ≡ list_all (λ b. b) marks
+    → has_repeat [] (streams_in pools) ≡ has_repeat (streams_in (take i pools)) (streams_in (drop i pools)) → (all : Bool)
+    → all ≡ list_all (λ b. b) marks
     → cond all None (Some Unserved) ≡ served_fault count (streams_in pools)
 served_end count pools i marks past counted are so_far all is =
-    let fresh : has_repeat [] (streams_in pools) ≡ false = so_far ∙ at_drop_all (λ ps. has_repeat (streams_in (take i pools)) (streams_in ps)) pools i past in
+    let fresh : has_repeat [] (streams_in pools) ≡ false =
+    so_far ∙ at_drop_all (λ ps. has_repeat (streams_in (take i pools)) (streams_in ps)) pools i past in
     let told : has_missing count (streams_in pools) ≡ not all =
-    not_not all (has_missing count (streams_in pools)) (is ∙ no_missing (streams_in (take i pools)) marks are ∙ (λ j. not (has_missing (counted j) (streams_in (take_all i pools past j))))) in
+    not_not all (has_missing count (streams_in pools))
+    (is ∙ no_missing (streams_in (take i pools)) marks are
+    ∙ (λ j. not (has_missing (counted j) (streams_in (take_all i pools past j))))) in
     ends all (has_repeat [] (streams_in pools)) (has_missing count (streams_in pools)) fresh told
   where
     ends : (a b c : Bool) → b ≡ false → c ≡ not a

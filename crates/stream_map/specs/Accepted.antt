@@ -6,7 +6,7 @@ use Rattle.task_model.specs.declared.task.Task.{Task}
 use Rattle.transcript_model.specs.declared.head.Pool.{Pool}
 use Rattle.stream_map.specs.Spelled.{Spelled}
 use Rattle.stream_map.specs.Form.{map_of, stream_names}
-use Rattle.stream_map.specs.Faults.{fault_of, Refused}
+use Rattle.stream_map.specs.Faults.{map_fault, Refused}
 use Rattle.stream_map.specs.Children.{plain, numbered}
 use Rattle.stream_map.specs.declared.fault.MapFault.{MapFault}
 use Rattle.stream_map.specs.declared.fault.MapFault.TheVariants.{Json, Memory}
@@ -15,7 +15,7 @@ use Rattle.stream_map.specs.declared.fault.MapFault.TheVariants.{Json, Memory}
 pub record Accepted (task : Task) (form : Option (List Spelled)) (pools : List Pool) : Type 0 where
   pub spelled : List Spelled
   pub form_is : form ≡ Some spelled
-  pub right : fault_of (stream_names task) spelled ≡ None
+  pub right : map_fault (stream_names task) spelled ≡ None
   pub pools_are : map plain pools ≡ numbered (stream_names task) 0 spelled
 
 -- the bytes are this JSON value
@@ -35,7 +35,7 @@ pub record RefusedMap (task : Task) (bytes : List ℕ) (why : MapFault) : Type 0
   pub refused : Refused (stream_names task) (map_of data_of) why
 
 -- Why a map is refused: no JSON, or a value that isn't accepted. Want of memory is free.
-abbrev pub Refuses : Task → List ℕ → MapFault → Type 0
-Refuses task bytes Json = IsUtf8 bytes → read bytes ≡ None
-Refuses task bytes Memory = ⊤
-Refuses task bytes why = RefusedMap task bytes why
+abbrev pub RefusesMap : Task → List ℕ → MapFault → Type 0
+RefusesMap task bytes Json = IsUtf8 bytes → read bytes ≡ None
+RefusesMap task bytes Memory = ⊤
+RefusesMap task bytes why = RefusedMap task bytes why

@@ -12,13 +12,20 @@ pub record PlainPool : Type 0 where
   pub words : List (List ℕ)
 
 abbrev pub plain : Pool → PlainPool
-plain pool = record { first = pool.first; workers = pool.workers; streams = pool.streams; words = map string_bytes pool.argv }
+plain pool = record
+    { first = pool.first; workers = pool.workers; streams = pool.streams; words = map string_bytes pool.argv }
 
 -- The generator in the process is child 16; the others take the numbers from this one on, in their order.
 abbrev pub numbered : List (List ℕ) → ℕ → List Spelled → List PlainPool
 numbered names next [] = []
 numbered names next (pool ∷ pools) =
-    record { first = if is_grid pool then 16 else next; workers = pool.workers; streams = places_of names pool; words = pool.run }
+    record {
+      first =
+          if is_grid pool then 16 else next;
+      workers = pool.workers;
+      streams = places_of names pool;
+      words = pool.run;
+    }
     ∷ numbered names (next + own_workers pool) pools
 
 -- ---- the grid's file
@@ -44,11 +51,14 @@ with_second text (word ∷ file ∷ words) = word ∷ text ∷ words
 abbrev pub with_text : List ℕ → List PlainPool → List PlainPool
 with_text text [] = []
 with_text text (pool ∷ pools) =
-    if begins_grid pool.words then (record pool { words = with_second text pool.words }) ∷ pools else pool ∷ with_text text pools
+    if begins_grid pool.words then (record pool { words = with_second text pool.words }) ∷ pools
+    else pool ∷ with_text text pools
 
 -- The first pool that begins with `@grid` stands at this place.
 pub record IsGridPlace (pools : List Pool) (place : ℕ) : Type 0 where
   pub within : place < length pools
   pub replaced : (text : List ℕ) (pool : Pool) (d : Pool)
-      → plain pool ≡ (record (plain (slice_index_or pools place d)) { words = with_second text (plain (slice_index_or pools place d)).words })
+      → plain pool
+      ≡ (record (plain (slice_index_or pools place d))
+      { words = with_second text (plain (slice_index_or pools place d)).words })
       → with_text text (map plain pools) ≡ map plain (take place pools ++ pool ∷ drop (suc place) pools)

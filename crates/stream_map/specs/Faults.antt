@@ -6,6 +6,7 @@ use Rattle.stream_map.specs.Spelled.{Spelled, begins_grid}
 use Rattle.stream_map.specs.Served.{has_repeat, has_missing}
 use Rattle.stream_map.specs.declared.fault.MapFault.{MapFault}
 use Rattle.stream_map.specs.declared.fault.MapFault.TheVariants.{Shape, Workers, Unknown, Doubled, Unserved, Memory}
+use Rattle.transcript_model.specs.declared.limits.TheConstants.{WORKERS}
 
 -- ---- workers
 
@@ -15,7 +16,7 @@ is_grid pool = begins_grid pool.run
 -- another number than 1 to 16, or for the grid another than 1
 abbrev pub has_wrong_number : Spelled → Bool
 has_wrong_number pool =
-    not (nat_le 1 pool.workers && nat_le pool.workers 16)
+    not (nat_le 1 pool.workers && nat_le pool.workers WORKERS)
     || (is_grid pool && not (pool.workers == 1))
 
 -- how many numbers of children below 16 it takes
@@ -25,7 +26,7 @@ own_workers pool = if is_grid pool then 0 else pool.workers
 abbrev pub have_wrong_workers : List Spelled → Bool
 have_wrong_workers pools =
     list_any has_wrong_number pools || nat_lt 1 (count_by is_grid pools)
-    || nat_lt 16 (sum_by own_workers pools)
+    || nat_lt WORKERS (sum_by own_workers pools)
 
 -- ---- streams
 
@@ -41,21 +42,22 @@ names_unknown names pool = list_any (λ name. is_none (place_of names name)) poo
 abbrev pub places_of : List (List ℕ) → Spelled → List ℕ
 places_of names pool = filter_map (place_of names) pool.streams
 
-abbrev pub places_in : List (List ℕ) → List Spelled → List ℕ
-places_in names pools = flat_map (places_of names) pools
+abbrev pub all_places : List (List ℕ) → List Spelled → List ℕ
+all_places names pools = flat_map (places_of names) pools
 
 -- ---- the fault
 
 -- a stream stands twice, or one of so many nowhere
 abbrev pub served_fault : ℕ → List ℕ → Option MapFault
-served_fault count streams = if has_repeat [] streams then Some Doubled else if has_missing count streams then Some Unserved else None
+served_fault count streams =
+    if has_repeat [] streams then Some Doubled else if has_missing count streams then Some Unserved else None
 
 -- The fault of pools for streams of these names. Each test is over all pools; the first that they don't pass is told.
-abbrev pub fault_of : List (List ℕ) → List Spelled → Option MapFault
-fault_of names pools =
+abbrev pub map_fault : List (List ℕ) → List Spelled → Option MapFault
+map_fault names pools =
     if have_wrong_workers pools then Some Workers else
     if list_any (names_unknown names) pools then Some Unknown else
-    served_fault (length names) (places_in names pools)
+    served_fault (length names) (all_places names pools)
 
 -- want of memory, or this fault where that holds
 abbrev pub Only : MapFault → Type 0 → MapFault → Type 0
@@ -67,4 +69,4 @@ Refused names None Shape = ⊤
 Refused names None Memory = ⊤
 Refused names None why = ⊥
 Refused names (Some pools) Memory = ⊤
-Refused names (Some pools) why = fault_of names pools ≡ Some why
+Refused names (Some pools) why = map_fault names pools ≡ Some why

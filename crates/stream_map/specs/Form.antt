@@ -80,12 +80,14 @@ workers_of (Some d) = count_of d
 
 abbrev pub pool_with : Option (List (List ℕ)) → Option ℕ → Option (List (List ℕ)) → Option Spelled
 pool_with run workers streams =
-    option_and_then (λ r. option_and_then (λ w. option_map (λ s. record { run = r; workers = w; streams = s }) streams) workers) run
+    option_and_then
+    (λ r. option_and_then (λ w. option_map (λ s. record { run = r; workers = w; streams = s }) streams) workers) run
 
 abbrev pub pool_of : Data → Option Spelled
 pool_of d =
     if has_only is_pool_key d
-    then pool_with (option_and_then program_of (get (codes "run") d)) (workers_of (get (codes "workers") d)) (option_and_then names_of (get (codes "streams") d))
+    then pool_with (option_and_then program_of (get (codes "run") d))
+    (workers_of (get (codes "workers") d)) (option_and_then names_of (get (codes "streams") d))
     else None
 
 -- The pools of a map, or nothing where the data are no map.
@@ -103,4 +105,5 @@ abbrev pub words_form : Task → List (List ℕ) → ℕ → Option (List Spelle
 words_form task words workers =
     if length task.streams == 0 then Some [] else
     if length words == 0 then Some [] else
-    if is_program words then Some (record { run = words; workers = workers; streams = stream_names task } ∷ []) else None
+    if is_program words then Some (record { run = words; workers = workers; streams = stream_names task } ∷ [])
+    else None

@@ -6,14 +6,15 @@ use Rattle.transcript_model.specs.declared.head.Pool.{Pool}
 use Rattle.stream_map.specs.Form.{map_of, words_form}
 use Rattle.stream_map.specs.Children.{PlainPool, plain, with_text}
 use Rattle.stream_map.specs.Accepted.{Accepted}
+use Rattle.io_world.specs.declared.host.TheConstants.{CHILDREN}
 
 -- the pool has this child
-pub record HasChild (pool : PlainPool) (child : ℕ) : Type 0 where
+pub record PoolHasChild (pool : PlainPool) (child : ℕ) : Type 0 where
   pub from : pool.first ≤ child
   pub to : child < pool.first + pool.workers
 
--- Each stream of the task stands at one place of one pool. Pools have children of their own, one at least, with numbers up to 16,
--- and words that start them.
+-- Each stream of the task stands at one place of one pool. Pools have children of their own, one at least, with numbers
+-- up to 16, and words that start them.
 pub record AreWhole (task : Task) (pools : List PlainPool) : Type 0 where
   pub served : (stream : ℕ) → stream < length task.streams
       → (k : ℕ) × (p : PlainPool) × (slice_get pools k ≡ Some p) × Contains p.streams stream
@@ -22,9 +23,9 @@ pub record AreWhole (task : Task) (pools : List PlainPool) : Type 0 where
       → slice_get p.streams a ≡ Some stream → slice_get q.streams b ≡ Some stream → (j ≡ k) × (a ≡ b)
   pub known : All (λ (p : PlainPool). All (λ stream. stream < length task.streams) p.streams) pools
   pub apart : (j k child : ℕ) (p q : PlainPool) → slice_get pools j ≡ Some p
-      → slice_get pools k ≡ Some q → HasChild p child → HasChild q child → j ≡ k
+      → slice_get pools k ≡ Some q → PoolHasChild p child → PoolHasChild q child → j ≡ k
   pub some : All (λ (p : PlainPool). 1 ≤ p.workers) pools
-  pub low : All (λ (p : PlainPool). p.first + p.workers ≤ 17) pools
+  pub low : All (λ (p : PlainPool). p.first + p.workers ≤ CHILDREN) pools
   pub started : All (λ (p : PlainPool). 1 ≤ length p.words) pools
 
 abbrev pub AcceptedMapsAreWhole : Type 0

@@ -4,25 +4,25 @@ use Rattle.std.specs.List.{list_any}
 use Rattle.lemmas.specs.Lists.{numbers_from}
 use Rattle.transcript_model.specs.declared.head.Pool.{Pool}
 
-abbrev pub is_among : ℕ → List ℕ → Bool
-is_among stream streams = list_any (λ s. s == stream) streams
+abbrev pub is_stream_among : ℕ → List ℕ → Bool
+is_stream_among stream streams = list_any (λ s. s == stream) streams
 
 -- one of the second list stands before itself, in either list
 abbrev pub has_repeat : List ℕ → List ℕ → Bool
 has_repeat before [] = false
 has_repeat before (stream ∷ streams) =
-    is_among stream before || has_repeat (before ++ stream ∷ []) streams
+    is_stream_among stream before || has_repeat (before ++ stream ∷ []) streams
 
 -- one of so many streams isn't among these
 abbrev pub has_missing : ℕ → List ℕ → Bool
 has_missing count streams =
-    list_any (λ stream. not (is_among stream streams)) (numbers_from 0 count)
+    list_any (λ stream. not (is_stream_among stream streams)) (numbers_from 0 count)
 
 -- a mark for each stream, which tells whether it is among these
 abbrev pub AreMarks : List ℕ → List Bool → Type 0
 AreMarks streams marks =
     (stream : ℕ) (d : Bool) → stream < length marks
-    → slice_index_or marks stream d ≡ is_among stream streams
+    → slice_index_or marks stream d ≡ is_stream_among stream streams
 
 -- the streams of these pools
 abbrev pub streams_in : List Pool → List ℕ

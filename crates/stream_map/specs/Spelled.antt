@@ -3,7 +3,8 @@ use Rattle.std.specs.Prelude.{ℕ, List, [], ◌∷◌, length, map, string_byte
 use Rattle.std.specs.Str.{bytes_eq}
 use Rattle.stream_map.specs.declared.pool_text.PoolText.{PoolText}
 
--- The words that start each worker; how many workers, where a negative number counts as 0; the names of the streams in lower case.
+-- The words that start each worker; how many workers, where a negative number counts as 0; the names of the streams in
+-- lower case.
 pub record Spelled : Type 0 where
   pub run : List (List ℕ)
   pub workers : ℕ

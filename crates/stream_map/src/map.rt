@@ -1,6 +1,6 @@
 //! The calls that give the pools of a run.
 ghost use Rattle.std.specs.Prelude.{◌≡◌, map, string_bytes, IfOk, IfErr};
-ghost use Rattle.stream_map.specs.Accepted.{Accepted, AcceptedMap, Refuses};
+ghost use Rattle.stream_map.specs.Accepted.{Accepted, AcceptedMap, RefusesMap};
 ghost use Rattle.stream_map.specs.Faults.{Refused};
 ghost use Rattle.stream_map.specs.Form.{stream_names, words_form};
 ghost use Rattle.stream_map.specs.Spelled.{shown};
@@ -21,7 +21,7 @@ use transcript_model::Pool;
 pub fn read_map(alloc: Global, bytes: &[u8], task: &Task) -> Result<Seq<Pool>, MapFault>
     requires fit { IsFit task.now }
     ensures pools { IfOk result (λ pools. AcceptedMap task.now bytes.now pools) }
-    ensures refused { IfErr result (Refuses task.now bytes.now) }
+    ensures refused { IfErr result (RefusesMap task.now bytes.now) }
 {
     let value = match Value::from_slice(alloc, bytes) {
         Ok(value) => value,
@@ -73,8 +73,8 @@ pub fn one_pool(
     requires fit { IsFit task.now }
     ensures pools { IfOk result
         (Accepted task.now (words_form task.now (map string_bytes argv.now) workers)) }
-    ensures refused { IfErr result
-        (Refused (stream_names task.now) (words_form task.now (map string_bytes argv.now) workers)) }
+    ensures refused { IfErr result (Refused (stream_names task.now)
+        (words_form task.now (map string_bytes argv.now) workers)) }
 {
     let mut texts = Vec::new(alloc);
     if !task.streams.is_empty() && !argv.is_empty() {

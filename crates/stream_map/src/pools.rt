@@ -2,7 +2,7 @@
 ghost use Rattle.std.specs.Prelude.{◌≡◌, ◌≤◌, ◌+◌, Some, None, map, length, IfOk, IfErr, OnOk, false, true};
 ghost use Rattle.std.specs.List.{list_any};
 ghost use Rattle.stream_map.specs.Children.{plain, numbered};
-ghost use Rattle.stream_map.specs.Faults.{Only, Refused, fault_of, have_wrong_workers, is_grid, names_unknown, place_of};
+ghost use Rattle.stream_map.specs.Faults.{Only, Refused, map_fault, have_wrong_workers, is_grid, names_unknown, place_of};
 ghost use Rattle.stream_map.specs.Form.{each_of, stream_names};
 ghost use Rattle.stream_map.specs.Spelled.{shown};
 ghost use Rattle.stream_map.specs.declared.fault.MapFault.TheVariants.{Unknown};
@@ -83,7 +83,7 @@ pub(crate) fn pools_of(
     texts: Vec<PoolText>,
 ) -> Result<Seq<Pool>, MapFault>
     requires fit { IsFit task.now }
-    ensures right { OnOk result (fault_of (stream_names task.now) (map shown texts.items) ≡ None) }
+    ensures right { OnOk result (map_fault (stream_names task.now) (map shown texts.items) ≡ None) }
     ensures pools { IfOk result
         (λ pools. map plain pools ≡ numbered (stream_names task.now) 0 (map shown texts.items)) }
     ensures refused { IfErr result (Refused (stream_names task.now)

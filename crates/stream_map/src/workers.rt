@@ -3,11 +3,10 @@ ghost use Rattle.std.specs.Prelude.{◌≡◌, count_by, map, nat_lt, sum_by};
 ghost use Rattle.std.specs.List.{list_any};
 ghost use Rattle.stream_map.specs.Faults.{has_wrong_number, have_wrong_workers, is_grid, own_workers};
 ghost use Rattle.stream_map.specs.Spelled.{shown};
+ghost use Rattle.transcript_model.specs.declared.limits.TheConstants.{WORKERS};
 
 use crate::pool_text::{PoolText, begins_grid};
-
-/// The most workers of a pool, and of all pools without the grid together.
-const MOST_WORKERS: u64 = 16;
+use transcript_model::WORKERS;
 
 /// Whether the pool is the generator in the process.
 pub(crate) fn is_grid(pool: &PoolText) -> bool
@@ -20,14 +19,14 @@ pub(crate) fn is_grid(pool: &PoolText) -> bool
 fn has_wrong_number(pool: &PoolText) -> bool
     ensures { result ≡ has_wrong_number (shown pool.now) }
 {
-    !(1 <= pool.workers && pool.workers <= MOST_WORKERS) || (is_grid(pool) && pool.workers != 1)
+    !(1 <= pool.workers && pool.workers <= WORKERS as u64) || (is_grid(pool) && pool.workers != 1)
 }
 
 /// Whether the pools without the grid have more than 16 workers together.
 fn has_many_workers(pools: &[PoolText]) -> bool
-    ensures { result ≡ nat_lt 16 (sum_by own_workers (map shown pools.now)) }
+    ensures { result ≡ nat_lt WORKERS (sum_by own_workers (map shown pools.now)) }
 {
-    let mut left = MOST_WORKERS;
+    let mut left = WORKERS as u64;
     for pool in pools {
         if is_grid(pool) {
             continue;

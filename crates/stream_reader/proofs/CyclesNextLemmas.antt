@@ -11,5 +11,7 @@ pub next_more : (d : Domain) (s : Stream) (all : List Stream) (k : ℕ) (t : Str
     → next_of d s 0 all ≡ ms ++ next_of d s (k + 1) (drop (k + 1) all)
 next_more d s all k t ns ms lt is e i =
     let next : k + 1 ≡ suc k = omega arith in
-    let front : drop k all ≡ t ∷ drop (k + 1) all = drop-cons all k t lt ∙ ap (λ x. x ∷ drop (suc k) all) (sym is) ∙ ap (λ n. t ∷ drop n all) (sym next) in
-    i ∙ ap (λ ts. ns ++ next_of d s k ts) front ∙ sym (append_assoc ns (next_one d s t k) (next_of d s (k + 1) (drop (k + 1) all))) ∙ ap (λ l. l ++ next_of d s (k + 1) (drop (k + 1) all)) (sym e)
+    let front : drop k all ≡ t ∷ drop (k + 1) all =
+    drop-cons all k t lt ∙ ap (λ x. x ∷ drop (suc k) all) (sym is) ∙ ap (λ n. t ∷ drop n all) (sym next) in
+    i ∙ ap (λ ts. ns ++ next_of d s k ts) front ∙ sym (append_assoc ns (next_one d s t k) (next_of d s (k + 1) (drop (k + 1) all)))
+    ∙ ap (λ l. l ++ next_of d s (k + 1) (drop (k + 1) all)) (sym e)

@@ -38,7 +38,9 @@ shifted : (edges : List (List ℕ)) (n m : ℕ) → n ≡ m → ¬ (HasWay edges
 shifted edges n m e none = subst (λ k. ¬ (HasWay edges k k)) e none
 
 free_step :
-    (edges : List (List ℕ)) (v : Vocabulary) (o : Option Keyed) (n at : ℕ) (items : Trees) (ss : List stream.Stream) (cs more : List Candidate) →
+    (edges : List (List ℕ)) (v : Vocabulary) (o : Option Keyed) (n at : ℕ) (items : Trees)
+    (ss : List stream.Stream) (cs more : List Candidate)
+    →
     AllFree edges (cond (is_there o) (record { node = n; place = at } ∷ cs) more) →
     (AllFree edges cs → (k : ℕ) → k < length ss → ¬ (HasWay edges (n + 1 + k) (n + 1 + k))) →
     (AllFree edges more → (k : ℕ) → k < length ss → ¬ (HasWay edges (n + k) (n + k))) →
@@ -46,7 +48,8 @@ free_step :
 free_step edges v None n at items ss cs more f later same k h = same f k h
 free_step edges v (Some keyed) n at items ss cs more f later same zero h =
     let e : n ≡ n + 0 = omega arith in shifted edges n (n + 0) e f.0
-free_step edges v (Some keyed) n at items ss cs more f later same (suc k) h = let e : n + 1 + k ≡ n + suc k = omega arith in shifted edges (n + 1 + k) (n + suc k) e (later f.1 k (omega arith))
+free_step edges v (Some keyed) n at items ss cs more f later same (suc k) h =
+    let e : n + 1 + k ≡ n + suc k = omega arith in shifted edges (n + 1 + k) (n + suc k) e (later f.1 k (omega arith))
 
 free_at : (edges : List (List ℕ)) (v : Vocabulary) (n : ℕ) (body : Trees)
     → AllFree edges (candidates_of n body) → (k : ℕ) → k < length (streams_of v body)
@@ -54,7 +57,8 @@ free_at : (edges : List (List ℕ)) (v : Vocabulary) (n : ℕ) (body : Trees)
 free_at edges v n nothing f k h = absurd (omega arith)
 free_at edges v n (word w at rest) f k h = free_at edges v n rest f k h
 free_at edges v n (list items at rest) f k h =
-    free_step edges v (kind_of items) n at (tail_of items) (streams_of v rest) (candidates_of (n + 1) rest) (candidates_of n rest) f (free_at edges v (n + 1) rest) (free_at edges v n rest) k h
+    free_step edges v (kind_of items) n at (tail_of items) (streams_of v rest) (candidates_of (n + 1) rest)
+    (candidates_of n rest) f (free_at edges v (n + 1) rest) (free_at edges v n rest) k h
 
 -- ---- the edges are what leads where
 
@@ -75,7 +79,8 @@ next_there d s u number (t ∷ ts) zero e h =
     (subst (λ n. has_number (next_one d s t number) n ≡ true) zeros (number_there d s t number (ap (stream_leads d s) same ∙ h)))
 next_there d s u number (t ∷ ts) (suc k) e h =
     let up : number + 1 + k ≡ number + suc k = omega arith in
-    any_append_right (λ m. number + suc k == m) (next_one d s t number) (next_of d s (number + 1) ts) (subst (λ n. has_number (next_of d s (number + 1) ts) n ≡ true) up (next_there d s u (number + 1) ts k e h))
+    any_append_right (λ m. number + suc k == m) (next_one d s t number) (next_of d s (number + 1) ts)
+    (subst (λ n. has_number (next_of d s (number + 1) ts) n ≡ true) up (next_there d s u (number + 1) ts k e h))
 
 edge_at : (d : Domain) (all ss : List stream.Stream) (k : ℕ) (s : stream.Stream)
     → slice_get ss k ≡ Some s → slice_get (edges_from d all ss) k ≡ Some (next_of d s 0 all)
@@ -109,8 +114,11 @@ module _ (task : Task) where
       let first = get_there task.streams from within.0 in
       let second = get_there task.streams to within.1 in
       let zeros : 0 + to ≡ to = omega arith in
-      let row : graphs.next_of edges from ≡ next_of task.domain first.0 0 task.streams = ap (λ o. unwrap_or o []) (edge_at task.domain task.streams task.streams from first.0 first.1) in
-      ap (λ ns. has_number ns to) row ∙ subst (λ n. has_number (next_of task.domain first.0 0 task.streams) n ≡ true) zeros (next_there task.domain first.0 second.0 0 task.streams to second.1 (leads_there from to h first.0 second.0 first.1 second.1))
+      let row : graphs.next_of edges from ≡ next_of task.domain first.0 0 task.streams =
+      ap (λ o. unwrap_or o []) (edge_at task.domain task.streams task.streams from first.0 first.1) in
+      ap (λ ns. has_number ns to) row
+      ∙ subst (λ n. has_number (next_of task.domain first.0 0 task.streams) n ≡ true) zeros
+      (next_there task.domain first.0 second.0 0 task.streams to second.1 (leads_there from to h first.0 second.0 first.1 second.1))
 
   way_there : (from : ℕ) (between : List ℕ) (to : ℕ) → LeadsAlong (leads task) from between to
       → LeadsAlong (graphs.leads edges) from between to
@@ -129,4 +137,5 @@ module _ (task : Task) where
   acyclic v body is clean s between way =
       let low : s < length (streams_of v body) = omega (arith, first_within s between s way, ap length is) in
       let zeros : 0 + s ≡ s = omega arith in
-      shifted edges (0 + s) s zeros (free_at edges v 0 body (all_free clean refl) s low) (record { between = between; steps = way_there s between s way })
+      shifted edges (0 + s) s zeros (free_at edges v 0 body (all_free clean refl) s low)
+      (record { between = between; steps = way_there s between s way })

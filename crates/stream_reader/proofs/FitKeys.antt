@@ -64,14 +64,17 @@ module _ (v : Vocabulary) (roles : List Role) (scopes : Scopes) (keyed : Keyed) 
   less : (w : List ℕ) (k : Key) (few most : ℕ) (keys : Trees) → few ≤ most → IsThere w k few keys
       → IsThere w k most keys
   less w k few most keys h (inl gone) = inl gone
-  less w k few most keys h (inr is) = inr (record { real = is.real; place = is.place; formed = is.formed; named = is.named; small = omega (arith, is.small) })
+  less w k few most keys h (inr is) =
+      inr (record { real = is.real; place = is.place; formed = is.formed; named = is.named; small = omega (arith, is.small) })
 
   abbrev pair : List ℕ → ℕ → Trees → ℕ → Trees → Trees
   pair text at items at' rest = word text at (list items at' rest)
 
   step :
       (b : Bool) (w : List ℕ) (k : Key) (text : List ℕ) (at : ℕ) (items : Trees) (at' : ℕ) (rest : Trees) (most : ℕ) →
-      bytes_eq text w ≡ b → key_of keyed w ≡ k → IsKey (key_of keyed text) → value_faults (key_of keyed text) at' items ≡ [] → value_names v roles scopes (key_of keyed text) at' items ≡ [] → size items ≤ most → IsThere w k most rest → IsThere w k most (pair text at items at' rest)
+      bytes_eq text w ≡ b → key_of keyed w ≡ k → IsKey (key_of keyed text) → value_faults (key_of keyed text) at' items ≡ []
+      → value_names v roles scopes (key_of keyed text) at' items ≡ [] → size items ≤ most → IsThere w k most rest
+      → IsThere w k most (pair text at items at' rest)
   step true w k text at items at' rest most is key real formed named small more =
       let same : text ≡ w = (bytes_eq-Decides text w).0 is in
       let chosen : key_of keyed text ≡ k = ap (key_of keyed) same ∙ key in
@@ -88,7 +91,14 @@ module _ (v : Vocabulary) (roles : List Role) (scopes : Scopes) (keyed : Keyed) 
       let value : value_at w (pair text at items at' rest) ≡ value_at w rest = ap (λ b. cond b items (value_at w rest)) is in
       elim more [
         | inl gone ↦ inl (record { none = ap (λ b. b || has_word w rest) is ∙ gone.none; nothing = value ∙ gone.nothing })
-        | inr there ↦ inr (record { real = there.real; place = there.place; formed = ap (value_faults k there.place) value ∙ there.formed; named = ap (value_names v roles scopes k there.place) value ∙ there.named; small = omega (arith, ap size value, there.small) })
+        | inr there ↦
+            inr (record {
+              real = there.real;
+              place = there.place;
+              formed = ap (value_faults k there.place) value ∙ there.formed;
+              named = ap (value_names v roles scopes k there.place) value ∙ there.named;
+              small = omega (arith, ap size value, there.small);
+            })
       ]
 
   -- the value of a word's key, if the word is there
@@ -97,14 +107,19 @@ module _ (v : Vocabulary) (roles : List Role) (scopes : Scopes) (keyed : Keyed) 
       → IsThere w k (size keys) keys
   find w k before place nothing key e f = inl (record { none = refl; nothing = refl })
   find w k before place (list items at rest) key e f = absurd (some_fault (shape at) [] e)
-  find w k before place (word text at nothing) key e f = absurd (some_fault (shape place) [] (key_clean (key_of keyed text) at (λ k. valued_faults keyed place k nothing) e).1)
-  find w k before place (word text at (word text' at' rest)) key e f = absurd (some_fault (shape at') [] (key_clean (key_of keyed text) at (λ k. valued_faults keyed place k (word text' at' rest)) e).1)
+  find w k before place (word text at nothing) key e f =
+      absurd (some_fault (shape place) [] (key_clean (key_of keyed text) at (λ k. valued_faults keyed place k nothing) e).1)
+  find w k before place (word text at (word text' at' rest)) key e f =
+      absurd (some_fault (shape at') [] (key_clean (key_of keyed text) at (λ k. valued_faults keyed place k (word text' at' rest)) e).1)
   find w k before place (word text at (list items at' rest)) key e f =
       let clean = key_clean (key_of keyed text) at (λ k. valued_faults keyed place k (list items at' rest)) e in
       let forms = none_both (value_faults (key_of keyed text) at' items) (keys_faults keyed place rest) clean.1 in
-      let names = none_both (value_names v roles scopes (key_of keyed text) at' items) (keys_names v roles scopes keyed (key_of keyed text) rest) f in
+      let names =
+      none_both (value_names v roles scopes (key_of keyed text) at' items)
+      (keys_names v roles scopes keyed (key_of keyed text) rest) f in
       let most : ℕ = size (pair text at items at' rest) in
-      step (bytes_eq text w) w k text at items at' rest most refl key clean.0 forms.0 names.0 (omega arith) (less w k (size rest) most rest (omega arith) (find w k (key_of keyed text) place rest key forms.1 names.1))
+      step (bytes_eq text w) w k text at items at' rest most refl key clean.0 forms.0 names.0
+      (omega arith) (less w k (size rest) most rest (omega arith) (find w k (key_of keyed text) place rest key forms.1 names.1))
 
 -- ---- which words are which keys
 

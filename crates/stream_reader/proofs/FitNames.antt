@@ -26,11 +26,14 @@ record AreNew (seen names : List (List ℕ)) : Type 0 where
 
 has_kept : (seen : List (List ℕ)) (n x : List ℕ) → has_name x seen ≡ true
     → has_name x (with_name seen n) ≡ true
-has_kept seen n x e = cond_both (has_name n seen) seen (seen ++ n ∷ []) (λ ms. has_name x ms ≡ true) (λ there. e) (λ absent. any_append_left (bytes_eq x) seen (n ∷ []) e)
+has_kept seen n x e =
+    cond_both (has_name n seen) seen (seen ++ n ∷ []) (λ ms. has_name x ms ≡ true)
+    (λ there. e) (λ absent. any_append_left (bytes_eq x) seen (n ∷ []) e)
 
 unseen_before : (seen : List (List ℕ)) (n x : List ℕ) → has_name x (with_name seen n) ≡ false
     → has_name x seen ≡ false
-unseen_before seen n x e = false_from_ne_true (has_name x seen) (λ there. let kept : has_name x (with_name seen n) ≡ true = has_kept seen n x there in cc)
+unseen_before seen n x e =
+    false_from_ne_true (has_name x seen) (λ there. let kept : has_name x (with_name seen n) ≡ true = has_kept seen n x there in cc)
 
 other : (seen : List (List ℕ)) (n x : List ℕ) → has_name x (with_name seen n) ≡ false → n ≡ x → ⊥
 other seen n x e same =
@@ -78,7 +81,8 @@ all_new v seen (word w at rest) e = all_new v seen rest e
 all_new v seen (list items at rest) e =
     let n : List ℕ = head_of (tail_of items) in
     let parts = none_both (unless (not (has_name n seen)) Duplicate at) (second_streams (with_name seen n) rest) e in
-    new_step v (kind_of items) seen (tail_of items) (streams_of v rest) (not-true (has_name n seen) (met (not (has_name n seen)) Duplicate at parts.0)) (all_new v (with_name seen n) rest parts.1)
+    new_step v (kind_of items) seen (tail_of items) (streams_of v rest)
+    (not-true (has_name n seen) (met (not (has_name n seen)) Duplicate at parts.0)) (all_new v (with_name seen n) rest parts.1)
 
 pub names_distinct : (v : Vocabulary) (body : Trees) → second_streams [] body ≡ []
     → AreDistinct (stream_names (streams_of v body))

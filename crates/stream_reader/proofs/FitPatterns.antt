@@ -40,13 +40,21 @@ mutual
       → length (row_patterns v scope ts) ≤ size ts
   rows_length v scope nothing = omega arith
   rows_length v scope (word w at rest) = omega (arith, rows_length v scope rest)
-  rows_length v scope (list items at rest) = omega (arith, length-append (patterns_of v scope items) (row_patterns v scope rest), patterns_length v scope items, rows_length v scope rest)
+  rows_length v scope (list items at rest) =
+      omega (
+        arith,
+        length-append (patterns_of v scope items) (row_patterns v scope rest),
+        patterns_length v scope items,
+        rows_length v scope rest,
+      )
 
   pub patterns_length : (v : Vocabulary) (scope : List (List ℕ)) (ts : Trees)
       → length (patterns_of v scope ts) ≤ size ts + 1
   patterns_length v scope nothing = omega arith
   patterns_length v scope (list items at rest) = omega arith
-  patterns_length v scope (word w at rest) = length_by (bytes_eq w (codes "and")) (row_patterns v scope rest) (pattern_of v scope (word w at rest)) (length w) (size rest) (rows_length v scope rest)
+  patterns_length v scope (word w at rest) =
+      length_by (bytes_eq w (codes "and")) (row_patterns v scope rest) (pattern_of v scope (word w at rest)) (length w)
+      (size rest) (rows_length v scope rest)
 
 -- ---- each is fit
 
@@ -55,7 +63,8 @@ static_by Static e = refl
 static_by Fluent e = absurd (cc)
 static_by Derived e = absurd (cc)
 
-module _ (d : Domain) (v : Vocabulary) (over : IsFitDomain d) (known : AreKnown d v) (scope : List (List ℕ)) (filled : List ℕ) (slots : AreFilled filled (length scope)) where
+module _ (d : Domain) (v : Vocabulary) (over : IsFitDomain d) (known : AreKnown d v) (scope : List (List ℕ))
+    (filled : List ℕ) (slots : AreFilled filled (length scope)) where
   abbrev is_fit : Pattern → Bool
   is_fit = is_fit_pattern d (length d.constants) filled
 
@@ -78,21 +87,30 @@ module _ (d : Domain) (v : Vocabulary) (over : IsFitDomain d) (known : AreKnown 
       → is_static_role (role_of d (declared_place v.predicates w)) ≡ true
   atom_static w count place used e =
       let at = role_at d (declared_place v.predicates w) over.roles (used_inside d.predicates v.predicates w count known.predicates used) in
-      let is : role_found d.roles (place_of w v.predicates.names) ≡ Some (role_of d (declared_place v.predicates w)) = ap (role_found d.roles) (place_some w v.predicates.names used.there) ∙ at in
-      static_by (role_of d (declared_place v.predicates w)) (ap (λ o. not (is_changing o)) (sym is) ∙ met (not (is_changing (role_found d.roles (place_of w v.predicates.names)))) EffectOnStatic place e)
+      let is : role_found d.roles (place_of w v.predicates.names) ≡ Some (role_of d (declared_place v.predicates w)) =
+      ap (role_found d.roles) (place_some w v.predicates.names used.there) ∙ at in
+      static_by (role_of d (declared_place v.predicates w))
+      (ap (λ o. not (is_changing o)) (sym is)
+      ∙ met (not (is_changing (role_found d.roles (place_of w v.predicates.names)))) EffectOnStatic place e)
 
   atom_good : (place : ℕ) (w : List ℕ) (at : ℕ) (rest : Trees)
       → application_faults Predicate Term place (word w at rest) ≡ []
       → atom_names v d.roles scope place (word w at rest) ≡ []
       → AreGood (pattern_of v scope (word w at rest) ∷ [])
   atom_good place w at rest e f =
-      let parts = none_both (application_names v.predicates v.objects scope place (word w at rest)) (unless (not (is_changing (role_found d.roles (place_of w v.predicates.names)))) EffectOnStatic place) f in
+      let parts =
+      none_both (application_names v.predicates v.objects scope place (word w at rest))
+      (unless (not (is_changing (role_found d.roles (place_of w v.predicates.names)))) EffectOnStatic place) f in
       let uses = none_both (use_names (arity_of v.predicates w) (width rest) at place) (terms_names v.objects scope rest) parts.0 in
       let applied = application_fits v.predicates v.objects scope filled slots Predicate Term place (word w at rest) e parts.0 in
-      let sound : is_fit (pattern_of v scope (word w at rest)) ≡ true = (λ i. is_fit_application (listed d.predicates v.predicates known.predicates i) (known.objects i) filled (declared_place v.predicates w) (terms_of v.objects scope rest)) ∙ applied in
+      let sound : is_fit (pattern_of v scope (word w at rest)) ≡ true =
+      (λ i. is_fit_application (listed d.predicates v.predicates known.predicates i)
+      (known.objects i) filled (declared_place v.predicates w) (terms_of v.objects scope rest))
+      ∙ applied in
       record {
         fit = and_from (is_fit (pattern_of v scope (word w at rest))) true sound refl;
-        static = and_from (is_static (pattern_of v scope (word w at rest))) true (atom_static w (width rest) place (usable v.predicates w (width rest) at place uses.0) parts.1) refl;
+        static = and_from (is_static (pattern_of v scope (word w at rest))) true
+            (atom_static w (width rest) place (usable v.predicates w (width rest) at place uses.0) parts.1) refl;
       }
 
   good_by : (b : Bool) (place : ℕ) (w : List ℕ) (at : ℕ) (rest : Trees)
@@ -111,7 +129,8 @@ module _ (d : Domain) (v : Vocabulary) (over : IsFitDomain d) (known : AreKnown 
     rows_good (list items at rest) e f =
         let forms = none_both (atoms_faults at items) (atom_rows_faults rest) e in
         let names = none_both (atoms_names v d.roles scope at items) (atom_rows_names v d.roles scope rest) f in
-        more_good (patterns_of v scope items) (row_patterns v scope rest) (atoms_good at items forms.0 names.0) (rows_good rest forms.1 names.1)
+        more_good (patterns_of v scope items) (row_patterns v scope rest)
+        (atoms_good at items forms.0 names.0) (rows_good rest forms.1 names.1)
 
     pub atoms_good : (place : ℕ) (ts : Trees) → atoms_faults place ts ≡ []
         → atoms_names v d.roles scope place ts ≡ [] → AreGood (patterns_of v scope ts)

@@ -52,7 +52,9 @@ few_words : (before : ℕ) (spot : Spot) (ts : Trees) → before ≤ 8 → ninth
     → before + length (named_words spot ts) ≤ 8
 few_words before spot nothing h e = omega arith
 few_words before spot (list items at rest) h e = omega arith
-few_words before spot (word w at rest) h e = ninth_by (is_named spot w) before at w (named_words (after_word spot w) rest) (after_word spot w) rest h e (λ n k f. few_words n (after_word spot w) rest k f)
+few_words before spot (word w at rest) h e =
+    ninth_by (is_named spot w) before at w (named_words (after_word spot w) rest)
+    (after_word spot w) rest h e (λ n k f. few_words n (after_word spot w) rest k f)
 
 -- at most eight variables, each of a type that is there
 record AreFew (v : Vocabulary) (ts : Trees) : Type 0 where
@@ -93,18 +95,24 @@ module _ (d : Domain) (v : Vocabulary) (over : IsFitDomain d) (known : AreKnown 
     all_slots = numbers_from 0 (length input_sorts + length output_sorts)
 
     input_filled : AreFilled input_slots (length scopes.inputs)
-    input_filled = subst (λ n. AreFilled (numbers_from 0 n) (length scopes.inputs)) (sym (sorts_as_long v.sorts inputs)) (filled_first (length scopes.inputs))
+    input_filled =
+        subst (λ n. AreFilled (numbers_from 0 n) (length scopes.inputs))
+        (sym (sorts_as_long v.sorts inputs)) (filled_first (length scopes.inputs))
 
     all_filled : AreFilled all_slots (length scopes.all)
     all_filled =
-        let long : length input_sorts + length output_sorts ≡ length scopes.all = (λ i. sorts_as_long v.sorts inputs i + sorts_as_long v.sorts outputs i) ∙ sym (length-append (named_words Start inputs) (named_words Start outputs)) in
+        let long : length input_sorts + length output_sorts ≡ length scopes.all =
+        (λ i. sorts_as_long v.sorts inputs i + sorts_as_long v.sorts outputs i)
+        ∙ sym (length-append (named_words Start inputs) (named_words Start outputs)) in
         subst (λ n. AreFilled (numbers_from 0 n) (length scopes.all)) (sym long) (filled_first (length scopes.all))
 
     sorts_fit : (ts : Trees) → AreFew v ts
-        → (nat_le (length (named_sorts v.sorts Start 0 ts)) 8 ≡ true) × (are_places (length d.sorts) (named_sorts v.sorts Start 0 ts) ≡ true)
+        → (nat_le (length (named_sorts v.sorts Start 0 ts)) 8 ≡ true)
+        × (are_places (length d.sorts) (named_sorts v.sorts Start 0 ts) ≡ true)
     sorts_fit ts are = (
       le-leb (length (named_sorts v.sorts Start 0 ts)) 8 (omega (arith, are.few, sorts_as_long v.sorts ts)),
-      subst (λ n. are_places n (named_sorts v.sorts Start 0 ts) ≡ true) known.sorts (few_places v.sorts known.some ts (omega (arith, are.few)) are.known),
+      subst (λ n. are_places n (named_sorts v.sorts Start 0 ts) ≡ true) known.sorts
+          (few_places v.sorts known.some ts (omega (arith, are.few)) are.known),
     )
 
     -- atoms over these variables, without faults
@@ -117,7 +125,8 @@ module _ (d : Domain) (v : Vocabulary) (over : IsFitDomain d) (known : AreKnown 
         → atoms_names v d.roles scope place ts ≡ [] → AreAtoms scope filled slots ts
     atoms_from scope filled slots place ts h e f =
         let formed : atoms_faults place ts ≡ [] = append_nil_second _ (atoms_faults place ts) e in
-        record { good = atoms_good d v over known scope filled slots place ts formed f; short = omega (arith, patterns_length v scope ts, h) }
+        record
+        { good = atoms_good d v over known scope filled slots place ts formed f; short = omega (arith, patterns_length v scope ts, h) }
 
     no_atoms : (scope : List (List ℕ)) (filled : List ℕ) (slots : AreFilled filled (length scope))
         → AreAtoms scope filled slots nothing
@@ -137,9 +146,15 @@ module _ (d : Domain) (v : Vocabulary) (over : IsFitDomain d) (known : AreKnown 
     parts_fit kind name parts worth =
         let ins = sorts_fit inputs parts.inputs in
         let outs = sorts_fit outputs parts.outputs in
-        let asked = patterns_fit d v over known scopes.inputs input_slots input_filled (patterns_of v scopes.inputs (value_at (codes ":domain") keys)) parts.domain.short parts.domain.good in
-        let given = patterns_fit d v over known scopes.all all_slots all_filled (patterns_of v scopes.all (value_at (codes ":certified") keys)) parts.certified.short parts.certified.good in
-        and_from _ _ (and_from _ _ (and_from _ _ (and_from _ _ (and_from _ _ (and_from _ _ (and_from _ _ (and_from _ _ ins.0 outs.0) ins.1) outs.1) asked.0) asked.1) given.0) given.1) worth
+        let asked =
+        patterns_fit d v over known scopes.inputs input_slots input_filled
+        (patterns_of v scopes.inputs (value_at (codes ":domain") keys)) parts.domain.short parts.domain.good in
+        let given =
+        patterns_fit d v over known scopes.all all_slots all_filled
+        (patterns_of v scopes.all (value_at (codes ":certified") keys)) parts.certified.short parts.certified.good in
+        and_from _ _ (and_from _ _ (and_from _ _
+        (and_from _ _ (and_from _ _ (and_from _ _ (and_from _ _ (and_from _ _ ins.0 outs.0) ins.1) outs.1) asked.0) asked.1) given.0)
+        given.1) worth
 
     -- ---- what the keys give
 
@@ -156,14 +171,18 @@ module _ (d : Domain) (v : Vocabulary) (over : IsFitDomain d) (known : AreKnown 
     domain_at : (kind : Keyed) (w : List ℕ)
         → IsThere v d.roles scopes kind w key.Domain (size keys) keys
         → AreAtoms scopes.inputs input_slots input_filled (value_at w keys)
-    domain_at kind w (inl gone) = subst (AreAtoms scopes.inputs input_slots input_filled) (sym gone.nothing) (no_atoms scopes.inputs input_slots input_filled)
-    domain_at kind w (inr is) = atoms_from scopes.inputs input_slots input_filled is.place (value_at w keys) (omega (arith, is.small, few)) is.formed is.named
+    domain_at kind w (inl gone) =
+        subst (AreAtoms scopes.inputs input_slots input_filled) (sym gone.nothing) (no_atoms scopes.inputs input_slots input_filled)
+    domain_at kind w (inr is) =
+        atoms_from scopes.inputs input_slots input_filled is.place (value_at w keys) (omega (arith, is.small, few)) is.formed is.named
 
     certified_at : (kind : Keyed) (w : List ℕ)
         → IsThere v d.roles scopes kind w key.Certified (size keys) keys
         → AreAtoms scopes.all all_slots all_filled (value_at w keys)
-    certified_at kind w (inl gone) = subst (AreAtoms scopes.all all_slots all_filled) (sym gone.nothing) (no_atoms scopes.all all_slots all_filled)
-    certified_at kind w (inr is) = atoms_from scopes.all all_slots all_filled is.place (value_at w keys) (omega (arith, is.small, few)) is.formed is.named
+    certified_at kind w (inl gone) =
+        subst (AreAtoms scopes.all all_slots all_filled) (sym gone.nothing) (no_atoms scopes.all all_slots all_filled)
+    certified_at kind w (inr is) =
+        atoms_from scopes.all all_slots all_filled is.place (value_at w keys) (omega (arith, is.small, few)) is.formed is.named
 
     absent_at : (kind : Keyed) (w : List ℕ) (most : ℕ)
         → IsThere v d.roles scopes kind w key.Unknown most keys → value_at w keys ≡ nothing
@@ -177,10 +196,15 @@ module _ (d : Domain) (v : Vocabulary) (over : IsFitDomain d) (known : AreKnown 
         → is_fit_stream d (stream_of v keyed.Stream name keys) ≡ true
     stream_fit name place e f =
         parts_fit keyed.Stream name (record {
-          inputs = few_at keyed.Stream (codes ":inputs") (size keys) (find v d.roles scopes keyed.Stream (codes ":inputs") key.Inputs key.NoKey place keys stream_inputs e f);
-          outputs = few_out keyed.Stream (codes ":outputs") (size keys) (find v d.roles scopes keyed.Stream (codes ":outputs") key.Outputs key.NoKey place keys stream_outputs e f);
-          domain = domain_at keyed.Stream (codes ":domain") (find v d.roles scopes keyed.Stream (codes ":domain") key.Domain key.NoKey place keys stream_domain e f);
-          certified = certified_at keyed.Stream (codes ":certified") (find v d.roles scopes keyed.Stream (codes ":certified") key.Certified key.NoKey place keys stream_certified e f);
+          inputs = few_at keyed.Stream (codes ":inputs")
+              (size keys) (find v d.roles scopes keyed.Stream (codes ":inputs") key.Inputs key.NoKey place keys stream_inputs e f);
+          outputs = few_out keyed.Stream (codes ":outputs")
+              (size keys) (find v d.roles scopes keyed.Stream (codes ":outputs") key.Outputs key.NoKey place keys stream_outputs e f);
+          domain = domain_at keyed.Stream (codes ":domain")
+              (find v d.roles scopes keyed.Stream (codes ":domain") key.Domain key.NoKey place keys stream_domain e f);
+          certified =
+              certified_at keyed.Stream (codes ":certified")
+              (find v d.roles scopes keyed.Stream (codes ":certified") key.Certified key.NoKey place keys stream_certified e f);
         }) refl
 
     value_there : (w : List ℕ) (most : ℕ) → has_word w keys ≡ true
@@ -201,15 +225,25 @@ module _ (d : Domain) (v : Vocabulary) (over : IsFitDomain d) (known : AreKnown 
         → keys_names v d.roles scopes keyed.CostStream key.NoKey keys ≡ []
         → is_fit_stream d (stream_of v keyed.CostStream name keys) ≡ true
     cost_fit name place has e f =
-        let value = value_there (codes ":value") (size keys) has (find v d.roles scopes keyed.CostStream (codes ":value") key.Value key.NoKey place keys cost_value e f) in
-        let no_outputs : outputs ≡ nothing = absent_at keyed.CostStream (codes ":outputs") (size keys) (find v d.roles scopes keyed.CostStream (codes ":outputs") key.Unknown key.NoKey place keys cost_outputs e f) in
-        let nothing_certified : value_at (codes ":certified") keys ≡ nothing = absent_at keyed.CostStream (codes ":certified") (size keys) (find v d.roles scopes keyed.CostStream (codes ":certified") key.Unknown key.NoKey place keys cost_certified e f) in
+        let value =
+        value_there (codes ":value") (size keys) has
+        (find v d.roles scopes keyed.CostStream (codes ":value") key.Value key.NoKey place keys cost_value e f) in
+        let no_outputs : outputs ≡ nothing =
+        absent_at keyed.CostStream (codes ":outputs")
+        (size keys) (find v d.roles scopes keyed.CostStream (codes ":outputs") key.Unknown key.NoKey place keys cost_outputs e f) in
+        let nothing_certified : value_at (codes ":certified") keys ≡ nothing =
+        absent_at keyed.CostStream (codes ":certified") (size keys)
+        (find v d.roles scopes keyed.CostStream (codes ":certified") key.Unknown key.NoKey place keys cost_certified e f) in
         let term : Trees = value_at (codes ":value") keys in
         parts_fit keyed.CostStream name (record {
-          inputs = few_at keyed.CostStream (codes ":inputs") (size keys) (find v d.roles scopes keyed.CostStream (codes ":inputs") key.Inputs key.NoKey place keys cost_inputs e f);
+          inputs = few_at keyed.CostStream (codes ":inputs")
+              (size keys) (find v d.roles scopes keyed.CostStream (codes ":inputs") key.Inputs key.NoKey place keys cost_inputs e f);
           outputs = subst (AreFew v) (sym no_outputs) (few_none v);
-          domain = domain_at keyed.CostStream (codes ":domain") (find v d.roles scopes keyed.CostStream (codes ":domain") key.Domain key.NoKey place keys cost_domain e f);
+          domain = domain_at keyed.CostStream (codes ":domain")
+              (find v d.roles scopes keyed.CostStream (codes ":domain") key.Domain key.NoKey place keys cost_domain e f);
           certified = subst (AreAtoms scopes.all all_slots all_filled) (sym nothing_certified) (no_atoms scopes.all all_slots all_filled);
         })
-        (worth_is (stream_of v keyed.CostStream name keys) (record { func = declared_place v.functions (head_of term); args = terms_of v.objects scopes.inputs (tail_of term) }) refl (ap (named_sorts v.sorts Start 0) no_outputs) (ap (patterns_of v scopes.all) nothing_certified)
+        (worth_is (stream_of v keyed.CostStream name keys)
+        (record { func = declared_place v.functions (head_of term); args = terms_of v.objects scopes.inputs (tail_of term) }) refl
+        (ap (named_sorts v.sorts Start 0) no_outputs) (ap (patterns_of v scopes.all) nothing_certified)
         (worth_fit d v known scopes.inputs input_slots input_filled value.place term value.formed value.named))

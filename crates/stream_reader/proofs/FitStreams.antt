@@ -35,7 +35,7 @@ use Rattle.stream_reader.specs.Fitness.{AreFitOver}
 use Rattle.stream_reader.specs.Names.{item_names, items_names, keys_names, second_streams, second_variables, stream_names}
 use Rattle.stream_reader.specs.Reading.{AreRead, StreamsRead, spelled}
 use Rattle.stream_reader.specs.Streams.{item_streams, stream_of, streams_of}
-use Rattle.stream_reader.specs.Tables.{kind_of, scopes_of, stream_kind, vocabulary_of}
+use Rattle.stream_reader.specs.Tables.{kind_of, scopes_of, stream_kind, stream_vocabulary}
 use Rattle.name_tables.specs.Texts.{body_of, repeated_names}
 use Rattle.stream_reader.proofs.FitStream.{cost_fit, stream_fit}
 use Rattle.stream_reader.proofs.FitCycles.{acyclic}
@@ -53,7 +53,8 @@ short_by v (Some kind) items ss n m h = omega arith
 streams_length : (v : Vocabulary) (body : Trees) → length (streams_of v body) ≤ size body
 streams_length v nothing = omega arith
 streams_length v (word w at rest) = omega (arith, streams_length v rest)
-streams_length v (list items at rest) = short_by v (kind_of items) (tail_of items) (streams_of v rest) (size rest) (size items) (streams_length v rest)
+streams_length v (list items at rest) =
+    short_by v (kind_of items) (tail_of items) (streams_of v rest) (size rest) (size items) (streams_length v rest)
 
 -- ---- each
 
@@ -76,7 +77,11 @@ module _ (d : Domain) (v : Vocabulary) (over : IsFitDomain d) (known : AreKnown 
   names_append (s ∷ ss) rest = ap (λ ns. s.name ∷ ns) (names_append ss rest)
 
   more_good : (ss rest : List stream.Stream) → AreGood ss → AreGood rest → AreGood (ss ++ rest)
-  more_good ss rest p q = record { names = ap (list_all is_name) (names_append ss rest) ∙ all_append is_name (names_of_streams ss) (names_of_streams rest) p.names q.names; fit = all_append (is_fit_stream d) ss rest p.fit q.fit }
+  more_good ss rest p q = record {
+    names =
+        ap (list_all is_name) (names_append ss rest) ∙ all_append is_name (names_of_streams ss) (names_of_streams rest) p.names q.names;
+    fit = all_append (is_fit_stream d) ss rest p.fit q.fit;
+  }
 
   -- the name and the keys of a stream
   record IsKeyed (kind : Keyed) (rest : Trees) : Type 0 where
@@ -88,11 +93,14 @@ module _ (d : Domain) (v : Vocabulary) (over : IsFitDomain d) (known : AreKnown 
       → IsKeyed kind rest
   keyed_from kind place nothing e = absurd (some_fault (shape place) [] e)
   keyed_from kind place (list items at rest) e = absurd (some_fault (shape at) [] e)
-  keyed_from kind place (word w at rest) e = let c = chosen (is_of Name w) (keys_faults kind place rest) (shape at) [] e in record { place = place; name = c.0; formed = c.1 }
+  keyed_from kind place (word w at rest) e =
+      let c = chosen (is_of Name w) (keys_faults kind place rest) (shape at) [] e in record { place = place; name = c.0; formed = c.1 }
 
   keys_clean : (kind : Keyed) (keys : Trees) → stream_names v d.roles kind keys ≡ []
       → keys_names v d.roles (scopes_of keys) kind key.NoKey keys ≡ []
-  keys_clean kind keys e = (none_both (repeated_names [] keys ++ second_variables kind [] key.NoKey keys) (keys_names v d.roles (scopes_of keys) kind key.NoKey keys) e).1
+  keys_clean kind keys e =
+      (none_both (repeated_names [] keys ++ second_variables kind [] key.NoKey keys)
+      (keys_names v d.roles (scopes_of keys) kind key.NoKey keys) e).1
 
   -- the word `:value` is no name, so it is a key
   value_key : (rest : Trees) → is_name (head_of rest) ≡ true → has_word (codes ":value") rest ≡ true
@@ -119,12 +127,16 @@ module _ (d : Domain) (v : Vocabulary) (over : IsFitDomain d) (known : AreKnown 
       → AreGood (item_streams v (stream_kind it) rest)
   item_good item.Stream place at rest h e f =
       let is = keyed_from keyed.Stream place rest e in
-      one_good (stream_of v keyed.Stream (head_of rest) (tail_of rest)) is.name (stream_fit d v over known (tail_of rest) (omega (arith, tail_small rest, h)) (head_of rest) is.place is.formed (keys_clean keyed.Stream (tail_of rest) f))
+      one_good (stream_of v keyed.Stream (head_of rest) (tail_of rest)) is.name
+      (stream_fit d v over known (tail_of rest) (omega (arith, tail_small rest, h))
+      (head_of rest) is.place is.formed (keys_clean keyed.Stream (tail_of rest) f))
   item_good item.CostStream place at rest h e f =
       let parts = none_both (missing_value_faults place rest) (keyed_faults keyed.CostStream place rest) e in
       let is = keyed_from keyed.CostStream place rest parts.1 in
       one_good (stream_of v keyed.CostStream (head_of rest) (tail_of rest)) is.name
-      (cost_fit d v over known (tail_of rest) (omega (arith, tail_small rest, h)) (head_of rest) is.place (value_key rest is.name (has_value (has_word (codes ":value") rest) place parts.0)) is.formed (keys_clean keyed.CostStream (tail_of rest) f))
+      (cost_fit d v over known (tail_of rest) (omega (arith, tail_small rest, h)) (head_of rest) is.place
+      (value_key rest is.name (has_value (has_word (codes ":value") rest) place parts.0)) is.formed
+      (keys_clean keyed.CostStream (tail_of rest) f))
   item_good it place at rest h e f = none_good
 
   list_good : (place : ℕ) (items : Trees) → size items ≤ 8388607
@@ -143,7 +155,8 @@ module _ (d : Domain) (v : Vocabulary) (over : IsFitDomain d) (known : AreKnown 
   all_good (list items at rest) h e f =
       let forms = none_both (item_faults text.Streams at items) (items_faults text.Streams rest) e in
       let names = none_both (item_names v d.roles (kind_of items) (tail_of (tail_of items))) (items_names v d.roles rest) f in
-      more_good (item_streams v (kind_of items) (tail_of items)) (streams_of v rest) (list_good at items (omega arith) forms.0 names.0) (all_good rest (omega arith) forms.1 names.1)
+      more_good (item_streams v (kind_of items) (tail_of items)) (streams_of v rest)
+      (list_good at items (omega arith) forms.0 names.0) (all_good rest (omega arith) forms.1 names.1)
 
 -- ---- all
 
@@ -157,13 +170,14 @@ spelled_fit : (d : Domain) (t : Trees) (problem : Problem) → IsFitDomain d →
     → AreRead d t (spelled d t)
     → AreFitStreams (record { domain = d; problem = problem; streams = spelled d t })
 spelled_fit d t problem over bounded read =
-    let v : Vocabulary = vocabulary_of d in
+    let v : Vocabulary = stream_vocabulary d in
     let parts = none_both (items_names v d.roles (body_of t)) (second_streams [] (body_of t)) read.named.named in
     let few : size (body_of t) ≤ 8388607 = omega (arith, body_less t, bounded.small) in
     let good = all_good d v over (names_are d over) (body_of t) few (formed_items t read.formed) parts.0 in
     record {
       names = record { each = good.names; distinct = names_distinct v (body_of t) parts.1 };
-      each = and_from (is_short (spelled d t)) (list_all (is_fit_stream d) (spelled d t)) (le-leb (length (spelled d t)) 8388608 (omega (arith, streams_length v (body_of t), few))) good.fit;
+      each = and_from (is_short (spelled d t)) (list_all (is_fit_stream d) (spelled d t))
+          (le-leb (length (spelled d t)) 8388608 (omega (arith, streams_length v (body_of t), few))) good.fit;
       acyclic = acyclic (record { domain = d; problem = problem; streams = spelled d t }) v (body_of t) refl read.named.acyclic;
     }
 
@@ -172,7 +186,9 @@ pub read_streams_fit : (d : Domain) (t : Trees) (streams : List stream.Stream) �
     → IsBounded t → AreRead d t streams → AreFitOver d streams
 read_streams_fit d t streams over bounded read problem =
     let same : streams ≡ spelled d t = read.named.streams in
-    subst (λ ss. AreFitStreams (record { domain = d; problem = problem; streams = ss })) (sym same) (spelled_fit d t problem over bounded (record { formed = read.formed; named = record { named = read.named.named; acyclic = read.named.acyclic; streams = refl } }))
+    subst (λ ss. AreFitStreams (record { domain = d; problem = problem; streams = ss })) (sym same)
+    (spelled_fit d t problem over bounded
+    (record { formed = read.formed; named = record { named = read.named.named; acyclic = read.named.acyclic; streams = refl } }))
 
 -- where they were read
 pub fit_if_read : (d : Domain) (t : Trees) (result : Result (List stream.Stream) InputFault)

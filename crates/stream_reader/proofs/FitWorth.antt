@@ -22,12 +22,13 @@ use Rattle.name_tables.specs.Variables.{unless}
 use Rattle.name_tables.specs.Vocabulary.{arity_at, arity_of}
 use Rattle.name_tables.specs.declared.vocabulary.Vocabulary.{Vocabulary}
 use Rattle.name_tables.proofs.FitTerms.{AreFilled, application_fits}
+use Rattle.name_tables.proofs.FitVocabulary.{signature_arities, signature_names}
 use Rattle.name_tables.proofs.NoFaultLemmas.{some_fault}
 use Rattle.name_tables.proofs.Parted.{none_both}
 use Rattle.name_tables.proofs.NamesUseLemmas.{IsUsable, place_holds, place_push, place_some, usable}
 use Rattle.name_tables.proofs.VocabularyLemmas.{AreSigned}
 use Rattle.name_tables.proofs.VocabularyLemmas as vocabularies
-use Rattle.stream_reader.proofs.TablesDomainLemmas.{AreKnown, listed, signature_arities, signature_names}
+use Rattle.stream_reader.proofs.TablesDomainLemmas.{AreKnown, listed}
 
 -- ---- the total cost alone is refused
 
@@ -65,9 +66,11 @@ module _ (gs : List Signature) where
   front : (w : List ℕ) (count : ℕ) → has_name w (signature_names gs) ≡ true
       → IsUsable pushed w count → IsFront w count
   front w count there used =
-      let same : declared_place pushed w ≡ declared_place first_ones w = ap (λ o. unwrap_or o 0) (place_push w (codes "total-cost") (signature_names gs) there) in
+      let same : declared_place pushed w ≡ declared_place first_ones w =
+      ap (λ o. unwrap_or o 0) (place_push w (codes "total-cost") (signature_names gs) there) in
       let inside = slice_get_within (signature_names gs) (declared_place first_ones w) w (place_holds w (signature_names gs) there) in
-      let at : slice_get (signature_arities gs ++ 0 ∷ []) (declared_place first_ones w) ≡ Some count = ap (slice_get (signature_arities gs ++ 0 ∷ [])) (sym same) ∙ used.arity in
+      let at : slice_get (signature_arities gs ++ 0 ∷ []) (declared_place first_ones w) ≡ Some count =
+      ap (slice_get (signature_arities gs ++ 0 ∷ [])) (sym same) ∙ used.arity in
       record {
         place = same;
         arity =
@@ -82,8 +85,11 @@ module _ (gs : List Signature) where
   behind : (w : List ℕ) (count : ℕ) → has_name w (signature_names gs) ≡ false
       → IsUsable pushed w count → (w ≡ codes "total-cost") × (count ≡ 0)
   behind w count absent used =
-      elim (push_cases (signature_names gs) (codes "total-cost") (declared_place pushed w) w (place_holds w (signature_names gs ++ codes "total-cost" ∷ []) used.there)) [
-        | inl h ↦ absurd (let there : has_name w (signature_names gs) ≡ true = any_passes_from_place (bytes_eq w) (signature_names gs) (declared_place pushed w) w h ((bytes_eq-Decides w w).1 refl) in cc)
+      elim (push_cases (signature_names gs) (codes "total-cost")
+      (declared_place pushed w) w (place_holds w (signature_names gs ++ codes "total-cost" ∷ []) used.there)) [
+        | inl h ↦ absurd (let there : has_name w (signature_names gs) ≡ true =
+            any_passes_from_place (bytes_eq w) (signature_names gs) (declared_place pushed w) w h ((bytes_eq-Decides w w).1 refl) in
+            cc)
         | inr h ↦ (h.1, last h.0)
       ]
     where
@@ -109,7 +115,8 @@ module _ (gs : List Signature) where
 arity_fits : (count place : ℕ) → unless (count == count) Arity place ≡ []
 arity_fits count place = ap (λ b. unless b Arity place) (eq-eqb count count refl)
 
-module _ (d : Domain) (v : Vocabulary) (known : AreKnown d v) (scope : List (List ℕ)) (filled : List ℕ) (slots : AreFilled filled (length scope)) where
+module _ (d : Domain) (v : Vocabulary) (known : AreKnown d v) (scope : List (List ℕ))
+    (filled : List ℕ) (slots : AreFilled filled (length scope)) where
   abbrev own : Signed
   own = listed d.functions
 
@@ -119,9 +126,11 @@ module _ (d : Domain) (v : Vocabulary) (known : AreKnown d v) (scope : List (Lis
   -- a term of the domain's own functions
   own_fit : (place : ℕ) (ts : Trees) → application_faults Name Term place ts ≡ []
       → application_names own v.objects scope place ts ≡ []
-      → is_fit_application d.functions (length d.constants) filled (declared_place own (head_of ts)) (terms_of v.objects scope (tail_of ts)) ≡ true
+      → is_fit_application d.functions (length d.constants) filled (declared_place own (head_of ts)) (terms_of v.objects scope (tail_of ts))
+      ≡ true
   own_fit place ts e f =
-      (λ i. is_fit_application (vocabularies.listed d.functions own itself i) (known.objects i) filled (declared_place own (head_of ts)) (terms_of v.objects scope (tail_of ts)))
+      (λ i. is_fit_application (vocabularies.listed d.functions own itself i) (known.objects i) filled
+      (declared_place own (head_of ts)) (terms_of v.objects scope (tail_of ts)))
       ∙ application_fits own v.objects scope filled slots Name Term place ts e f
 
   abbrev IsFit : Signed → Trees → Type 0
@@ -138,8 +147,11 @@ module _ (d : Domain) (v : Vocabulary) (known : AreKnown d v) (scope : List (Lis
   pushed_fit place (word w at rest) other e f =
       let parts = none_both (use_names (arity_of (pushed d.functions) w) (width rest) at place) (terms_names v.objects scope rest) f in
       let is = used_front d.functions w at rest other (usable (pushed d.functions) w (width rest) at place parts.0) in
-      let clean : application_names own v.objects scope place (word w at rest) ≡ [] = (λ i. use_names (is.arity i) (width rest) at place ++ terms_names v.objects scope rest) ∙ (λ i. arity_fits (width rest) place i ++ parts.1 i) in
-      ap (λ n. is_fit_application d.functions (length d.constants) filled n (terms_of v.objects scope rest)) is.place ∙ own_fit place (word w at rest) e clean
+      let clean : application_names own v.objects scope place (word w at rest) ≡ [] =
+      (λ i. use_names (is.arity i) (width rest) at place ++ terms_names v.objects scope rest)
+      ∙ (λ i. arity_fits (width rest) place i ++ parts.1 i) in
+      ap (λ n. is_fit_application d.functions (length d.constants) filled n (terms_of v.objects scope rest)) is.place
+      ∙ own_fit place (word w at rest) e clean
 
   fit_by : (b : Bool) (place : ℕ) (ts : Trees) → is_total_cost_alone ts ≡ false
       → application_faults Name Term place ts ≡ []
@@ -154,4 +166,5 @@ module _ (d : Domain) (v : Vocabulary) (known : AreKnown d v) (scope : List (Lis
   worth_fit place ts e f =
       let form = not_alone (is_total_cost_alone ts) place ts e in
       subst (λ s. IsFit s ts) (sym known.functions)
-      (fit_by (has_name (codes "total-cost") (signature_names d.functions)) place ts form.0 form.1 (ap (λ s. application_names s v.objects scope place ts) (sym known.functions) ∙ f))
+      (fit_by (has_name (codes "total-cost") (signature_names d.functions)) place ts form.0 form.1
+      (ap (λ s. application_names s v.objects scope place ts) (sym known.functions) ∙ f))

@@ -13,17 +13,17 @@ use Rattle.name_tables.specs.Cycles.{CycleFaults}
 use Rattle.stream_reader.specs.Names.{plain_names}
 use Rattle.stream_reader.specs.Reading.{AnswersAcyclic, AreCycleFaults, AreNamed, IsNameFault, stream_file_names, of_names, of_cycles, spelled}
 use Rattle.stream_reader.specs.Streams.{streams_of}
-use Rattle.stream_reader.specs.Tables.{vocabulary_of}
+use Rattle.stream_reader.specs.Tables.{stream_vocabulary}
 use Rattle.name_tables.specs.Texts.{body_of}
 
 -- over the names of the domain and the items of the text
-module _ (d : Domain) (t b : Trees) (v : Vocabulary) (eb : b ≡ body_of t) (ev : v ≡ vocabulary_of d) where
+module _ (d : Domain) (t b : Trees) (v : Vocabulary) (eb : b ≡ body_of t) (ev : v ≡ stream_vocabulary d) where
   same_names : plain_names v d.roles b ≡ stream_file_names d t
   same_names =
-      ap (λ w. plain_names w d.roles b) ev ∙ ap (λ c. plain_names (vocabulary_of d) d.roles c) eb
+      ap (λ w. plain_names w d.roles b) ev ∙ ap (λ c. plain_names (stream_vocabulary d) d.roles c) eb
 
   same_streams : streams_of v b ≡ spelled d t
-  same_streams = ap (λ w. streams_of w b) ev ∙ ap (λ c. streams_of (vocabulary_of d) c) eb
+  same_streams = ap (λ w. streams_of w b) ev ∙ ap (λ c. streams_of (stream_vocabulary d) c) eb
 
   pub plain_fault : (f : Fault) → Some f ≡ least_fault (plain_names v d.roles b) → IsNameFault d t f
   plain_fault f e = of_names (sym (e ∙ ap least_fault same_names))
@@ -34,7 +34,9 @@ module _ (d : Domain) (t b : Trees) (v : Vocabulary) (eb : b ≡ body_of t) (ev 
   module _ (ss : List stream.Stream) (es : ss ≡ streams_of v b) where
     over_text : (fs : List Fault) → CycleFaults StreamCycle (edges_of d ss) (candidates_of 0 b) fs
         → AreCycleFaults d t fs
-    over_text fs w = subst (λ c. CycleFaults StreamCycle (edges_of d (spelled d t)) (candidates_of 0 c) fs) eb (subst (λ xs. CycleFaults StreamCycle (edges_of d xs) (candidates_of 0 b) fs) (es ∙ same_streams) w)
+    over_text fs w =
+        subst (λ c. CycleFaults StreamCycle (edges_of d (spelled d t)) (candidates_of 0 c) fs) eb
+        (subst (λ xs. CycleFaults StreamCycle (edges_of d xs) (candidates_of 0 b) fs) (es ∙ same_streams) w)
 
     pub cycle_fault : (f : Fault) → None ≡ least_fault (plain_names v d.roles b)
         → AnswersAcyclic d ss b (Some f) → IsNameFault d t f

@@ -28,7 +28,9 @@ module _ (v : Vocabulary) (roles : List Role) (scope : List (List ℕ)) where
   -- an atom, as the list at this place
   abbrev pub atom_names : ℕ → Trees → List Fault
   atom_names place items =
-      application_names v.predicates v.objects scope place items ++ unless (not (is_changing (role_at roles (place_of (head_of items) v.predicates.names)))) EffectOnStatic place
+      application_names v.predicates v.objects scope place items
+      ++ unless (not (is_changing (role_at roles (place_of (head_of items) v.predicates.names)))) EffectOnStatic
+      place
 
   abbrev mutual
     -- atoms in a row
@@ -40,7 +42,8 @@ module _ (v : Vocabulary) (roles : List Role) (scope : List (List ℕ)) where
     -- the atoms that the list at a place is
     pub atoms_names : ℕ → Trees → List Fault
     atoms_names place nothing = []
-    atoms_names place (word text at rest) = if bytes_eq text (codes "and") then atom_rows_names rest else atom_names place (word text at rest)
+    atoms_names place (word text at rest) =
+        if bytes_eq text (codes "and") then atom_rows_names rest else atom_names place (word text at rest)
     atoms_names place (list items at rest) = []
 
 module _ (v : Vocabulary) (scope : List (List ℕ)) where
@@ -53,5 +56,6 @@ module _ (v : Vocabulary) (scope : List (List ℕ)) where
 
     pub patterns_of : Trees → List Pattern
     patterns_of nothing = []
-    patterns_of (word text at rest) = if bytes_eq text (codes "and") then row_patterns rest else pattern_of v scope (word text at rest) ∷ []
+    patterns_of (word text at rest) =
+        if bytes_eq text (codes "and") then row_patterns rest else pattern_of v scope (word text at rest) ∷ []
     patterns_of (list items at rest) = []

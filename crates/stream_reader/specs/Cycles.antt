@@ -39,4 +39,5 @@ abbrev pub candidates_of : ℕ → Trees → List Candidate
 candidates_of number nothing = []
 candidates_of number (word text at rest) = candidates_of number rest
 candidates_of number (list items at rest) =
-    if is_there (kind_of items) then record { node = number; place = at } ∷ candidates_of (number + 1) rest else candidates_of number rest
+    if is_there (kind_of items) then record { node = number; place = at } ∷ candidates_of (number + 1) rest
+    else candidates_of number rest

@@ -26,7 +26,8 @@ use Rattle.stream_reader.specs.Tables.{keys_of, kind_of, scopes_of}
 abbrev pub ninth_names : ℕ → Spot → Trees → List Fault
 ninth_names before spot nothing = []
 ninth_names before spot (word text at rest) =
-    (if is_named spot text then unless (not (before == 8)) TooMany at else []) ++ ninth_names (if is_named spot text then before + 1 else before) (after_word spot text) rest
+    (if is_named spot text then unless (not (before == 8)) TooMany at else [])
+    ++ ninth_names (if is_named spot text then before + 1 else before) (after_word spot text) rest
 ninth_names before spot (list items at rest) = []
 
 -- a list of inputs or outputs: of types that are there, and at most 8
@@ -67,7 +68,8 @@ second_variables keyed seen k nothing = []
 second_variables keyed seen k (word text at rest) =
     second_variables keyed seen (key_of keyed text) rest
 second_variables keyed seen k (list items at rest) =
-    (if has_variables k then doubles_names seen Start items else []) ++ second_variables keyed (if has_variables k then seen_after seen Start items else seen) k rest
+    (if has_variables k then doubles_names seen Start items else [])
+    ++ second_variables keyed (if has_variables k then seen_after seen Start items else seen) k rest
 
 -- ---- streams
 

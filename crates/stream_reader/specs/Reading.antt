@@ -14,18 +14,18 @@ use Rattle.stream_reader.specs.Cycles.{candidates_of, edges_of}
 use Rattle.name_tables.specs.Cycles.{CycleFaults, AnswersCycles}
 use Rattle.stream_reader.specs.Names.{plain_names}
 use Rattle.stream_reader.specs.Streams.{streams_of}
-use Rattle.stream_reader.specs.Tables.{vocabulary_of}
+use Rattle.stream_reader.specs.Tables.{stream_vocabulary}
 use Rattle.name_tables.specs.Texts.{body_of}
 
 -- over a domain, of a text that is this row of one tree
 
 -- the name faults but for those of cycles
 abbrev pub stream_file_names : Domain → Trees → List Fault
-stream_file_names d t = plain_names (vocabulary_of d) d.roles (body_of t)
+stream_file_names d t = plain_names (stream_vocabulary d) d.roles (body_of t)
 
 -- the streams that the text spells
 abbrev pub spelled : Domain → Trees → List stream.Stream
-spelled d t = streams_of (vocabulary_of d) (body_of t)
+spelled d t = streams_of (stream_vocabulary d) (body_of t)
 
 -- these are all faults of streams that lead to themselves
 abbrev pub AreCycleFaults : Domain → Trees → List Fault → Type 0

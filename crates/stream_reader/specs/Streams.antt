@@ -16,7 +16,9 @@ use Rattle.name_tables.specs.Texts.{value_at}
 
 -- the function term that a cost stream with these inputs gives values
 abbrev pub worth_of : Vocabulary → List (List ℕ) → Keyed → Trees → Option Worth
-worth_of v inputs keyed.CostStream items = Some (record { func = declared_place v.functions (head_of items); args = terms_of v.objects inputs (tail_of items) })
+worth_of v inputs keyed.CostStream items =
+    Some
+    (record { func = declared_place v.functions (head_of items); args = terms_of v.objects inputs (tail_of items) })
 worth_of v inputs keyed.Stream items = None
 worth_of v inputs keyed.Action items = None
 

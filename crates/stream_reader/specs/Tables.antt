@@ -1,10 +1,7 @@
--- The names that a domain has, and the parts of a stream file.
-use Rattle.std.specs.Prelude.{ℕ, List, [], ◌∷◌, ◌++◌, codes, Option, Some, None}
+-- The names that streams use, and the parts of a stream file.
+use Rattle.std.specs.Prelude.{◌++◌, codes, Option, Some, None}
 use Rattle.sexpr_text.specs.Trees.{Trees}
-use Rattle.task_model.specs.declared.domain.Declared as declared
 use Rattle.task_model.specs.declared.domain.Domain.{Domain}
-use Rattle.task_model.specs.declared.domain.Signature.{Signature}
-use Rattle.task_model.specs.declared.domain.Sort as sort
 use Rattle.form_reader.specs.declared.groups.Spot.TheVariants.{Start}
 use Rattle.form_reader.specs.declared.items.Item.{Item}
 use Rattle.form_reader.specs.declared.items.Item.TheVariants as item
@@ -13,38 +10,15 @@ use Rattle.form_reader.specs.declared.keys.Keyed.{Keyed}
 use Rattle.form_reader.specs.declared.keys.Keyed.TheVariants as keyed
 use Rattle.form_reader.specs.Items.{item_of}
 use Rattle.form_reader.specs.Rows.{head_of, tail_of}
-use Rattle.name_tables.specs.Names.{Signed, with_name, with_signature}
 use Rattle.name_tables.specs.Texts.{value_at}
 use Rattle.name_tables.specs.Variables.{named_words}
+use Rattle.name_tables.specs.Vocabulary.{vocabulary_of, with_total_cost}
 use Rattle.name_tables.specs.declared.vocabulary.Vocabulary.{Vocabulary}
 use Rattle.stream_reader.specs.declared.tables.Scopes.{Scopes}
 
--- ---- the names of a domain, each once
-
-abbrev pub sorts_from : List (List ℕ) → List sort.Sort → List (List ℕ)
-sorts_from names [] = names
-sorts_from names (s ∷ ss) = sorts_from (with_name names s.name) ss
-
-abbrev pub constants_from : List (List ℕ) → List declared.Declared → List (List ℕ)
-constants_from names [] = names
-constants_from names (d ∷ ds) = constants_from (with_name names d.name) ds
-
-abbrev pub signatures_from : Signed → List Signature → Signed
-signatures_from s [] = s
-signatures_from s (g ∷ gs) = signatures_from (with_signature s g.name g.arity) gs
-
-abbrev pub no_signatures : Signed
-no_signatures = record { names = []; arities = [] }
-
--- The total cost is a function without arguments, declared or not.
-abbrev pub vocabulary_of : Domain → Vocabulary
-vocabulary_of d =
-    record {
-      sorts = sorts_from [] d.sorts;
-      predicates = signatures_from no_signatures d.predicates;
-      functions = with_signature (signatures_from no_signatures d.functions) (codes "total-cost") 0;
-      objects = constants_from [] d.constants;
-    }
+-- The names that streams use. The total cost is a function without arguments, declared or not.
+abbrev pub stream_vocabulary : Domain → Vocabulary
+stream_vocabulary d = with_total_cost (vocabulary_of d)
 
 -- ---- the parts of a stream file
 

@@ -9,7 +9,7 @@ ghost use Rattle.stream_reader.specs.Reading as specs;
 use crate::cycles::check_acyclic;
 use crate::names::check_plain;
 use crate::streams::streams_of;
-use crate::tables::vocabulary_of;
+use crate::tables::stream_vocabulary;
 use form_reader::{Fault, InputFault, TextKind, check_form};
 use name_tables::body_of;
 use sexpr_text::Tree;
@@ -25,7 +25,7 @@ fn read_named(
     ensures { IfOk result (λ r. specs.ReadsNamed domain.now (tree text.now) r) }
 {
     let body = body_of(text);
-    let names = vocabulary_of(alloc, domain)?;
+    let names = stream_vocabulary(alloc, domain)?;
     if let Some(fault) = check_plain(alloc, &names, domain.roles.as_slice(), body)? {
         return Ok(Err(fault));
     }

@@ -1,13 +1,13 @@
-//! The names that a domain has, and the parts of a stream file.
-ghost use Rattle.std.specs.Prelude.{◌≡◌, IfOk, OnOk};
+//! The names that streams use, and the parts of a stream file.
+ghost use Rattle.std.specs.Prelude.{◌≡◌, IfOk};
 ghost use Rattle.sexpr_text.specs.Trees.{trees};
 ghost use Rattle.stream_reader.specs.Tables as specs;
 
 use form_reader::{Item, Keyed, TextKind, head_of, tail_of};
-use name_tables::{NameTable, Scope, Signatures, Vocabulary, enter, value_at};
+use name_tables::{Scope, Vocabulary, enter, value_at};
 use sexpr_text::Tree;
 use std::alloc::{AllocError, Global};
-use task_model::{Declared, Domain, Signature, Sort};
+use task_model::Domain;
 
 /// The variables of a stream.
 #[derive(Drop)]
@@ -18,55 +18,14 @@ pub(crate) struct Scopes {
     pub(crate) all: Scope,
 }
 
-/// Adds the names of types.
-fn add_sorts(names: &mut NameTable, sorts: &[Sort]) -> Result<(), AllocError>
-    ensures { OnOk result (names.new ≡ specs.sorts_from names.old sorts.now) }
+/// The names that streams use: those of the domain, and the total cost, declared or not. Fails only where memory is
+/// wanting.
+pub(crate) fn stream_vocabulary(alloc: Global, domain: &Domain) -> Result<Vocabulary, AllocError>
+    ensures { IfOk result (λ names. names ≡ specs.stream_vocabulary domain.now) }
 {
-    for sort in sorts {
-        let _new = names.add(sort.name.bytes())?;
-    }
-    Ok(())
-}
-
-/// Adds the names of constants.
-fn add_constants(names: &mut NameTable, constants: &[Declared]) -> Result<(), AllocError>
-    ensures { OnOk result (names.new ≡ specs.constants_from names.old constants.now) }
-{
-    for constant in constants {
-        let _new = names.add(constant.name.bytes())?;
-    }
-    Ok(())
-}
-
-/// Declares predicates or functions.
-fn add_signatures(declared: &mut Signatures, signatures: &[Signature]) -> Result<(), AllocError>
-    ensures { OnOk result (declared.new ≡ specs.signatures_from declared.old signatures.now) }
-{
-    for signature in signatures {
-        declared.declare(signature.name.bytes(), signature.arity as usize)?;
-    }
-    Ok(())
-}
-
-/// The names of a domain. Fails only where memory is wanting.
-pub(crate) fn vocabulary_of(alloc: Global, domain: &Domain) -> Result<Vocabulary, AllocError>
-    ensures { IfOk result (λ names. names ≡ specs.vocabulary_of domain.now) }
-{
-    let mut sorts = NameTable::new(alloc);
-    add_sorts(&mut sorts, domain.sorts.as_slice())?;
-    let mut predicates = Signatures::new(alloc);
-    add_signatures(&mut predicates, domain.predicates.as_slice())?;
-    let mut functions = Signatures::new(alloc);
-    add_signatures(&mut functions, domain.functions.as_slice())?;
-    functions.declare(b"total-cost", 0)?;
-    let mut objects = NameTable::new(alloc);
-    add_constants(&mut objects, domain.constants.as_slice())?;
-    Ok(Vocabulary {
-        sorts,
-        predicates,
-        functions,
-        objects,
-    })
+    let mut names = Vocabulary::of(alloc, domain)?;
+    names.functions.declare(b"total-cost", 0)?;
+    Ok(names)
 }
 
 /// The kind of a stream with this item, if it is one.

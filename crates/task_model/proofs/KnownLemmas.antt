@@ -1,5 +1,5 @@
 -- Lists of facts: what is in them, and that facts stand once.
-use Rattle.std.proofs.Common.{◌≡◌, ℕ, true, false, cond, ◌&&◌, ◌||◌, ◌==◌, arith, inl, inr, ◌↔◌, List, [], ◌∷◌, ◌++◌, refl, sym, subst, Contains, eqb-true, eq-eqb, append_assoc, zero, suc, ◌<◌, length, ap, Some, None}
+use Rattle.std.proofs.Common.{◌≡◌, ℕ, true, false, cond, ◌&&◌, ◌||◌, ◌==◌, arith, inl, inr, ◌↔◌, List, [], ◌∷◌, ◌++◌, refl, sym, subst, Contains, eqb-true, eq-eqb, append_assoc, zero, suc, ◌<◌, length, ap, Some, None, ◌+◌, ◌≤◌, length-append}
 use Rattle.std.proofs.lemmas.List.Elements.{Contains-append_left, Contains-append_right, Contains-append_cases}
 use Rattle.std.proofs.lemmas.Map.Views.{Contains-from_any, list_any-from_Contains}
 use Rattle.std.specs.Bool.{Decides}
@@ -8,12 +8,14 @@ use Rattle.std.specs.Cmp.Lexicographic.{pointwise_decides}
 use Rattle.std.proofs.lemmas.Bool.{and_from}
 use Rattle.lemmas.proofs.Members.{distinct_push}
 use Rattle.lemmas.proofs.Bools.{not_both, from_or_false}
-use Rattle.task_model.specs.Known.{same_kind, same_fact, same_numbers, is_fact, with_fact, with_facts, same_value, IsIn, object_with, type_fact}
+use Rattle.task_model.specs.Known.{same_kind, same_fact, same_numbers, is_fact, with_fact, with_facts, same_value, IsIn, object_with, type_fact, with_name, with_names}
 use Rattle.task_model.specs.Laws.{AddsFacts}
 use Rattle.task_model.specs.declared.fact.Fact.{Fact}
 use Rattle.task_model.specs.declared.fact.Kind.{Kind}
 use Rattle.task_model.specs.declared.fact.Kind.TheVariants.{Predicate, Sort}
 use Rattle.task_model.specs.declared.task.Valued.{Valued}
+use Rattle.lemmas.specs.Lists.{AreDistinct}
+use Rattle.std.specs.List.{list_any}
 
 kinds_same : (a b : Kind) → same_kind a b ≡ true → a ≡ b
 kinds_same Predicate Predicate e = refl
@@ -34,7 +36,8 @@ facts_same a b e =
     let args = second_so (same_kind a.kind b.kind && (a.name == b.name)) (same_numbers a.args b.args) e in
     let kind = first_so (same_kind a.kind b.kind) (a.name == b.name) front in
     let name = second_so (same_kind a.kind b.kind) (a.name == b.name) front in
-    λ i. record { kind = kinds_same a.kind b.kind kind i; name = eqb-true a.name b.name name i; args = (numbers_decided a.args b.args).0 args i }
+    λ i. record
+    { kind = kinds_same a.kind b.kind kind i; name = eqb-true a.name b.name name i; args = (numbers_decided a.args b.args).0 args i }
 
 fact_itself : (a : Fact) → same_fact a a ≡ true
 fact_itself a = and_from _ _ (and_from _ _ (kind_itself a.kind) (eq-eqb a.name a.name refl)) ((numbers_decided a.args a.args).1 refl)
@@ -57,7 +60,10 @@ pub with_fact-is : (facts : List Fact) (fact : Fact)
 with_fact-is facts fact =
     elim (is_fact facts fact) as (λ b. is_fact facts fact ≡ b → AddsFacts facts (fact ∷ []) (cond b facts (facts ++ fact ∷ []))) [
       | true ↦ λ there. record {
-        members = λ q. (Contains-append_left facts (fact ∷ []) q, λ m. elim (Contains-append_cases facts (fact ∷ []) q m) [ inl h ↦ h | inr h ↦ only facts fact q there h ]);
+        members = λ q. (
+          Contains-append_left facts (fact ∷ []) q,
+          λ m. elim (Contains-append_cases facts (fact ∷ []) q m) [ inl h ↦ h | inr h ↦ only facts fact q there h ],
+        );
         distinct = λ d. d;
       }
       | false ↦ λ absent. record {
@@ -83,7 +89,10 @@ from_left xs ys more q goes m =
 
 pub with_facts-is : (facts more : List Fact) → AddsFacts facts more (with_facts facts more)
 with_facts-is facts [] = record {
-  members = λ q. (Contains-append_left facts [] q, λ m. elim (Contains-append_cases facts [] q m) [ inl h ↦ h | inr h ↦ absurd (omega (arith, h.1)) ]);
+  members = λ q. (
+    Contains-append_left facts [] q,
+    λ m. elim (Contains-append_cases facts [] q m) [ inl h ↦ h | inr h ↦ absurd (omega (arith, h.1)) ],
+  );
   distinct = λ d. d;
 }
 with_facts-is facts (fact ∷ more) =
@@ -92,8 +101,10 @@ with_facts-is facts (fact ∷ more) =
     let joined : (facts ++ fact ∷ []) ++ more ≡ facts ++ fact ∷ more = append_assoc facts (fact ∷ []) more in
     record {
       members = λ q. (
-        λ m. subst (λ xs. Contains xs q) joined (from_left (with_fact facts fact) (facts ++ fact ∷ []) more q ((one.members q).0) ((rest.members q).0 m)),
-        λ m. (rest.members q).1 (from_left (facts ++ fact ∷ []) (with_fact facts fact) more q ((one.members q).1) (subst (λ xs. Contains xs q) (sym joined) m)),
+        λ m. subst (λ xs. Contains xs q) joined
+            (from_left (with_fact facts fact) (facts ++ fact ∷ []) more q ((one.members q).0) ((rest.members q).0 m)),
+        λ m. (rest.members q).1
+            (from_left (facts ++ fact ∷ []) (with_fact facts fact) more q ((one.members q).1) (subst (λ xs. Contains xs q) (sym joined) m)),
       );
       distinct = λ d. rest.distinct (one.distinct d);
     }
@@ -111,7 +122,8 @@ values_same a b e =
     let value = second_so ((a.func == b.func) && same_numbers a.args b.args) (a.value == b.value) e in
     let func = first_so (a.func == b.func) (same_numbers a.args b.args) front in
     let args = second_so (a.func == b.func) (same_numbers a.args b.args) front in
-    λ i. record { func = eqb-true a.func b.func func i; args = (numbers_decided a.args b.args).0 args i; value = eqb-true a.value b.value value i }
+    λ i. record
+    { func = eqb-true a.func b.func func i; args = (numbers_decided a.args b.args).0 args i; value = eqb-true a.value b.value value i }
 
 pub value_itself : (a : Valued) → same_value a a ≡ true
 value_itself a =
@@ -133,3 +145,37 @@ in_names [] object lt = absurd (omega arith)
 in_names (n ∷ ns) zero lt = refl
 in_names (n ∷ ns) (suc object) lt =
     let below : object < length ns = omega arith in in_names ns object below
+
+-- ---- names behind others, each once
+
+names_equivalence : IsEquivalence same_numbers
+names_equivalence = decided same_numbers numbers_decided
+
+pub with_name-distinct : (names : List (List ℕ)) (name : List ℕ) → AreDistinct names
+    → AreDistinct (with_name names name)
+with_name-distinct names name distinct =
+    elim (list_any (same_numbers name) names) as
+    (λ b. list_any (same_numbers name) names ≡ b → AreDistinct (cond b names (names ++ name ∷ []))) [
+      | true ↦ λ _. distinct
+      | false ↦ λ absent. distinct_push names name distinct (λ m. not_both _ (list_any-from_Contains names_equivalence name names m) absent)
+    ] refl
+
+pub with_names-distinct : (names more : List (List ℕ)) → AreDistinct names
+    → AreDistinct (with_names names more)
+with_names-distinct names [] distinct = distinct
+with_names-distinct names (name ∷ more) distinct =
+    with_names-distinct (with_name names name) more (with_name-distinct names name distinct)
+
+pub length_with_name : (names : List (List ℕ)) (name : List ℕ)
+    → length (with_name names name) ≤ length names + 1
+length_with_name names name =
+    elim (list_any (same_numbers name) names) as (λ b. length (cond b names (names ++ name ∷ [])) ≤ length names + 1) [
+      | true ↦ omega arith
+      | false ↦ omega (arith, length-append names (name ∷ []))
+    ]
+
+pub length_with_names : (names more : List (List ℕ))
+    → length (with_names names more) ≤ length names + length more
+length_with_names names [] = omega arith
+length_with_names names (name ∷ more) =
+    omega (arith, length_with_name names name, length_with_names (with_name names name) more)

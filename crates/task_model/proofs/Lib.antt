@@ -5,3 +5,4 @@ pub mod TruthSlotLemmas
 pub mod StreamsLemmas
 pub mod TruthLemmas
 pub mod StateOrderLemmas
+pub mod FitLemmas

@@ -21,7 +21,10 @@ atoms_total = then_total (on_total (λ (a : Atom). a.pred) nat_cmp_total) (on_to
 pub atoms_tied : IsAntisymmetric atom_cmp
 atoms_tied a b e =
     let parts = then_equal _ _ e in
-    λ i. record { pred = nat_cmp-IsAntisymmetric a.pred b.pred parts.0 i; args = slice_cmp-IsAntisymmetric nat_cmp-IsAntisymmetric a.args b.args parts.1 i }
+    λ i. record {
+      pred = nat_cmp-IsAntisymmetric a.pred b.pred parts.0 i;
+      args = slice_cmp-IsAntisymmetric nat_cmp-IsAntisymmetric a.args b.args parts.1 i;
+    }
 
 -- ---- members
 
@@ -112,13 +115,15 @@ pub contains-with_atoms : (s : Atoms) (ks : List Atom) (q : Atom)
 contains-with_atoms s [] q = refl
 contains-with_atoms s (k ∷ ks) q =
     contains-with_atoms (insert s k) ks q ∙ ap (λ b. list_any (eq_by_cmp atom_cmp q) ks || b) (contains-insert s k q)
-    ∙ or_swap (list_any (eq_by_cmp atom_cmp q) ks) (eq_by_cmp atom_cmp q k) (contains s q) ∙ or_assoc (eq_by_cmp atom_cmp q k) (list_any (eq_by_cmp atom_cmp q) ks) (contains s q)
+    ∙ or_swap (list_any (eq_by_cmp atom_cmp q) ks) (eq_by_cmp atom_cmp q k) (contains s q)
+    ∙ or_assoc (eq_by_cmp atom_cmp q k) (list_any (eq_by_cmp atom_cmp q) ks) (contains s q)
 
 -- the set of a list, put together from its front
 pub with_atoms-empty : (ks : List Atom) → with_atoms empty ks ≡ from_list ks
 with_atoms-empty ks =
     same_atoms (with_atoms empty ks) (from_list ks) (λ q.
-    contains-with_atoms empty ks q ∙ ap (λ b. list_any (eq_by_cmp atom_cmp q) ks || b) (contains-empty q) ∙ or_false _ ∙ sym (contains-from_list ks q))
+    contains-with_atoms empty ks q ∙ ap (λ b. list_any (eq_by_cmp atom_cmp q) ks || b) (contains-empty q) ∙ or_false _
+    ∙ sym (contains-from_list ks q))
 
 not_or : (a b c : Bool) → (not b && (not a && c)) ≡ (not (a || b) && c)
 not_or true true c = refl
@@ -134,6 +139,7 @@ contains-without_atoms s (k ∷ ks) q =
 
 -- an atom is there afterwards where it is put in, or was there and isn't taken out
 pub contains-changed : (s : Atoms) (outs ins : List Atom) (q : Atom)
-    → contains (with_atoms (without_atoms s outs) ins) q ≡ (list_any (eq_by_cmp atom_cmp q) ins || (not (list_any (eq_by_cmp atom_cmp q) outs) && contains s q))
+    → contains (with_atoms (without_atoms s outs) ins) q
+    ≡ (list_any (eq_by_cmp atom_cmp q) ins || (not (list_any (eq_by_cmp atom_cmp q) outs) && contains s q))
 contains-changed s outs ins q =
     contains-with_atoms (without_atoms s outs) ins q ∙ ap (λ b. list_any (eq_by_cmp atom_cmp q) ins || b) (contains-without_atoms s outs q)

@@ -30,7 +30,8 @@ pub searchable : (ks : List Atom) (k : Atom) → IsStrictlySortedBy atom_cmp ks
     → IsNonDecreasingBy (λ y. ordering_index (atom_cmp y k)) ks
 searchable ks k sorted =
     searchable_from_sorted atoms_total (λ a. a) ks k (λ j d low high.
-    ap is_lt (atoms_total.antisymm (get_or ks (j + 1) d) (get_or ks j d) ∙ ap ordering_reverse (Less-from_sorted atom_cmp ks j (j + 1) d sorted (omega arith) high)))
+    ap is_lt (atoms_total.antisymm (get_or ks (j + 1) d) (get_or ks j d)
+    ∙ ap ordering_reverse (Less-from_sorted atom_cmp ks j (j + 1) d sorted (omega arith) high)))
 
 pub any_found : (ks : List Atom) (k : Atom) (i : ℕ) → i < length ks
     → HoldsAt (λ y. atom_cmp y k ≡ Equal) ks i
@@ -54,7 +55,8 @@ any_absent (x ∷ xs) k zero parts =
     (any_absent xs k zero ((λ j d low high. absurd (omega arith)), (λ j d low high. parts.1 (suc j) d (omega arith) (omega arith))))
 any_absent (x ∷ xs) k (suc i) parts =
     neither _ _ (apart_below x k (parts.0 0 x (omega arith) (omega arith)))
-    (any_absent xs k i ((λ j d low high. parts.0 (suc j) d (omega arith) (omega arith)), (λ j d low high. parts.1 (suc j) d (omega arith) (omega arith))))
+    (any_absent xs k i
+    ((λ j d low high. parts.0 (suc j) d (omega arith) (omega arith)), (λ j d low high. parts.1 (suc j) d (omega arith) (omega arith))))
 
 -- ---- an atom put in
 
@@ -82,7 +84,8 @@ sorted_with (x ∷ xs) k zero sorted within parts =
     ((less, all_above k x xs less sorted.0), sorted)
 sorted_with (x ∷ xs) k (suc i) sorted within parts = (
   all_with (λ y. atom_cmp x y ≡ Less) xs i k sorted.0 (parts.0 0 x (omega arith) (omega arith)),
-  sorted_with xs k i sorted.1 (omega arith) ((λ j d low high. parts.0 (suc j) d (omega arith) (omega arith)), (λ j d low high. parts.1 (suc j) d (omega arith) (omega arith))),
+  sorted_with xs k i sorted.1 (omega arith)
+      ((λ j d low high. parts.0 (suc j) d (omega arith) (omega arith)), (λ j d low high. parts.1 (suc j) d (omega arith) (omega arith))),
 )
 
 any_with : (test : Atom → Bool) (ks : List Atom) (k : Atom) (i : ℕ)
@@ -154,7 +157,9 @@ gone [] k i sorted within at = absurd (omega arith)
 gone (x ∷ xs) k zero sorted within at =
     none_above k xs (subst (λ a. AllByRecursion (λ y. atom_cmp a y ≡ Less) xs) (atoms_tied x k (at x)) sorted.0)
 gone (x ∷ xs) k (suc i) sorted within at =
-    let less : atom_cmp x k ≡ Less = subst (λ a. atom_cmp x a ≡ Less) (atoms_tied (get_or xs i x) k (at x)) (all_got (λ y. atom_cmp x y ≡ Less) xs i x sorted.0 (omega arith)) in
+    let less : atom_cmp x k ≡ Less =
+    subst (λ a. atom_cmp x a ≡ Less) (atoms_tied (get_or xs i x) k (at x))
+    (all_got (λ y. atom_cmp x y ≡ Less) xs i x sorted.0 (omega arith)) in
     neither _ _ (apart_below x k less) (gone xs k i sorted.1 (omega arith) (λ d. at d))
 
 others : (ks : List Atom) (k q : Atom) (i : ℕ) → i < length ks
@@ -207,7 +212,8 @@ found_is ks k sorted (Err i) within parts = sym (any_absent ks k i (parts (searc
 
 pub ties : (x y : Atom)
     → ((x.pred == y.pred) && pointwise nat_eq x.args y.args) ≡ eq_by_cmp atom_cmp x y
-ties = (then_tied (on_tied (λ (a : Atom). a.pred) (tie nat_cmp unsigned_ties)) (on_tied (λ (a : Atom). a.args) (tie (slice_cmp nat_cmp) (lists_ties nat_cmp unsigned_ties)))).ties
+ties = (then_tied (on_tied (λ (a : Atom). a.pred) (tie nat_cmp unsigned_ties))
+    (on_tied (λ (a : Atom). a.args) (tie (slice_cmp nat_cmp) (lists_ties nat_cmp unsigned_ties)))).ties
 
 abbrev pub same_atom : Atom → Atom → Bool
 same_atom x y = (x.pred == y.pred) && pointwise nat_eq x.args y.args
@@ -223,8 +229,10 @@ any_deduped : (xs : List Atom) (q : Atom)
     → list_any (eq_by_cmp atom_cmp q) (dedup same_atom xs) ≡ list_any (eq_by_cmp atom_cmp q) xs
 any_deduped xs q =
     both_ways _ _
-    (λ e. list_any-from_Contains (eq_by_cmp_equiv atoms_total) q xs (Contains-from_dedup same_atom xs q (Contains-from_any tied q (dedup same_atom xs) e)))
-    (λ e. list_any-from_Contains (eq_by_cmp_equiv atoms_total) q (dedup same_atom xs) (Contains-dedup same_equiv same_is xs q (Contains-from_any tied q xs e)))
+    (λ e. list_any-from_Contains (eq_by_cmp_equiv atoms_total) q xs
+    (Contains-from_dedup same_atom xs q (Contains-from_any tied q (dedup same_atom xs) e)))
+    (λ e. list_any-from_Contains (eq_by_cmp_equiv atoms_total) q
+    (dedup same_atom xs) (Contains-dedup same_equiv same_is xs q (Contains-from_any tied q xs e)))
   where
     same_equiv : IsEquivalence same_atom
     same_equiv = subst IsEquivalence (λ i x y. sym (ties x y) i) (eq_by_cmp_equiv atoms_total)
@@ -234,4 +242,5 @@ pub from_list-dedup : (xs sorted : List Atom) → IsPermutation xs sorted
     → from_list (dedup same_atom sorted) ≡ from_list xs
 from_list-dedup xs sorted moved =
     same_atoms (from_list (dedup same_atom sorted)) (from_list xs) (λ q.
-    contains-from_list (dedup same_atom sorted) q ∙ any_deduped sorted q ∙ sym (list_any-IsPermutation (eq_by_cmp atom_cmp q) xs sorted moved) ∙ sym (contains-from_list xs q))
+    contains-from_list (dedup same_atom sorted) q ∙ any_deduped sorted q
+    ∙ sym (list_any-IsPermutation (eq_by_cmp atom_cmp q) xs sorted moved) ∙ sym (contains-from_list xs q))

@@ -22,7 +22,8 @@ module _ (task : Task) (known : Known) where
   pub whole_of_parts : (before after : Atoms) (first second : List GroundAction) (total : ℕ)
       → ExecutesInParts task known before first second after total → Executes task known before (first ++ second) after total
   whole_of_parts before after [] second total parts =
-      let here : Executes task known before second after parts.2 = subst (λ s. Executes task known s second after parts.2) (sym parts.3.0) parts.4 in
+      let here : Executes task known before second after parts.2 =
+      subst (λ s. Executes task known s second after parts.2) (sym parts.3.0) parts.4 in
       let sum : parts.2 ≡ total = omega (arith, parts.5, parts.3.1) in
       subst (λ n. Executes task known before second after n) sum here
   whole_of_parts before after (step ∷ first) second total parts =

@@ -36,19 +36,24 @@ instance_itself a =
     and_from _ _ (eq-eqb a.stream a.stream refl) ((numbers_decided a.inputs a.inputs).1 refl)
 
 pub instances_apart : (i other : Instance) → ¬ (i ≡ other) → same_instance i other ≡ false
-instances_apart i other apart = elim (same_instance i other) as (λ b. same_instance i other ≡ b → b ≡ false) [ true ↦ λ e. absurd (apart (instances_same i other e)) | false ↦ λ _. refl ] refl
+instances_apart i other apart =
+    elim (same_instance i other) as (λ b. same_instance i other ≡ b → b ≡ false)
+    [ true ↦ λ e. absurd (apart (instances_same i other e)) | false ↦ λ _. refl ] refl
 
 -- ---- their order
 
 pub instances_total : (names : List (List ℕ)) → IsTotalOrder (instance_cmp names)
-instances_total names = then_total (on_total (λ (i : Instance). i.stream) nat_cmp_total) (on_total (λ (i : Instance). map (name_at names) i.inputs) (lists_total nat_list_cmp_total))
+instances_total names =
+    then_total (on_total (λ (i : Instance). i.stream) nat_cmp_total)
+    (on_total (λ (i : Instance). map (name_at names) i.inputs) (lists_total nat_list_cmp_total))
 
 -- all that is due is one list
 pub due_once : (task : Task) (known : Known) (notes : List Note) (xs ys : List Instance)
     → AreDue task known notes xs
     → AreDue task known notes ys → xs ≡ ys
 due_once task known notes xs ys first second =
-    same_list (instance_cmp known.names) (instances_total known.names) xs ys first.ascend second.ascend (λ i m. (second.each i).1 ((first.each i).0 m)) (λ i m. (first.each i).1 ((second.each i).0 m))
+    same_list (instance_cmp known.names) (instances_total known.names) xs ys first.ascend second.ascend
+    (λ i m. (second.each i).1 ((first.each i).0 m)) (λ i m. (first.each i).1 ((second.each i).0 m))
 
 -- ---- what is due
 
@@ -75,7 +80,8 @@ module _ (task : Task) (known : Known) (notes : List Note) (i : Instance) where
   due_passes d =
       let named : slice_get task.streams i.stream ≡ Some d.stream = d.named in
       let rest = not_false (is_finished d.stream notes i) d.unfinished in
-      let at : is_due_at known notes d.stream i ≡ true = and_from (is_reachable d.stream known i) (not (is_finished d.stream notes i)) d.reachable rest in
+      let at : is_due_at known notes d.stream i ≡ true =
+      and_from (is_reachable d.stream known i) (not (is_finished d.stream notes i)) d.reachable rest in
       rw named at
 
 module _ (task : Task) (known : Known) (notes : List Note) where

@@ -52,7 +52,9 @@ same_object s t (Object o) a = refl
 same_objects : (s t : List ℕ) (terms : List Term) → Agree (λ n. list_any (is_slot n) terms) s t
     → objects_at s terms ≡ objects_at t terms
 same_objects s t [] a = refl
-same_objects s t (term ∷ terms) a = λ i. same_object s t term (agree_left (λ n. is_slot n term) (λ n. list_any (is_slot n) terms) s t a) i ∷ same_objects s t terms (agree_right (λ n. is_slot n term) (λ n. list_any (is_slot n) terms) s t a) i
+same_objects s t (term ∷ terms) a =
+    λ i. same_object s t term (agree_left (λ n. is_slot n term) (λ n. list_any (is_slot n) terms) s t a) i
+    ∷ same_objects s t terms (agree_right (λ n. is_slot n term) (λ n. list_any (is_slot n) terms) s t a) i
 
 any_same : {A : Type 0} (p q : A → Bool) → ((x : A) → p x ≡ q x) → (xs : List A)
     → list_any p xs ≡ list_any q xs
@@ -66,13 +68,17 @@ module _ (atom : ℕ → List ℕ → Bool) (objects : ℕ → List ℕ) where
       → some_tuple objects body first sorts s ≡ some_tuple objects body first sorts t
   same_tuples test body same [] first s t a = same s t a
   same_tuples test body same (sort ∷ sorts) first s t a =
-      any_same _ _ (λ o. same_tuples test body same sorts (first + 1) (slice_set s first o) (slice_set t first o) (agree_set test s t first o a)) (objects sort)
+      any_same _ _
+      (λ o. same_tuples test body same sorts (first + 1) (slice_set s first o) (slice_set t first o) (agree_set test s t first o a))
+      (objects sort)
 
   mutual
     pub same_truth : (c : Condition) (s t : List ℕ) → Agree (touches c) s t
         → truth atom objects c s ≡ truth atom objects c t
     same_truth (Atom pred args) s t a = ap (atom pred) (same_objects s t args a)
-    same_truth (Equal x y) s t a = λ i. same_object s t x (agree_left (λ n. is_slot n x) (λ n. is_slot n y) s t a) i == same_object s t y (agree_right (λ n. is_slot n x) (λ n. is_slot n y) s t a) i
+    same_truth (Equal x y) s t a =
+        λ i. same_object s t x (agree_left (λ n. is_slot n x) (λ n. is_slot n y) s t a) i
+        == same_object s t y (agree_right (λ n. is_slot n x) (λ n. is_slot n y) s t a) i
     same_truth (every parts) s t a = same_all parts s t a
     same_truth (Any parts) s t a = same_any parts s t a
     same_truth (Not part) s t a = ap not (same_truth part s t a)
@@ -82,9 +88,13 @@ module _ (atom : ℕ → List ℕ → Bool) (objects : ℕ → List ℕ) where
     same_all : (cs : Conditions) (s t : List ℕ) → Agree (any_touches cs) s t
         → all_true atom objects cs s ≡ all_true atom objects cs t
     same_all none s t a = refl
-    same_all (more part parts) s t a = λ i. same_truth part s t (agree_left (touches part) (any_touches parts) s t a) i && same_all parts s t (agree_right (touches part) (any_touches parts) s t a) i
+    same_all (more part parts) s t a =
+        λ i. same_truth part s t (agree_left (touches part) (any_touches parts) s t a) i
+        && same_all parts s t (agree_right (touches part) (any_touches parts) s t a) i
 
     same_any : (cs : Conditions) (s t : List ℕ) → Agree (any_touches cs) s t
         → any_true atom objects cs s ≡ any_true atom objects cs t
     same_any none s t a = refl
-    same_any (more part parts) s t a = λ i. same_truth part s t (agree_left (touches part) (any_touches parts) s t a) i || same_any parts s t (agree_right (touches part) (any_touches parts) s t a) i
+    same_any (more part parts) s t a =
+        λ i. same_truth part s t (agree_left (touches part) (any_touches parts) s t a) i
+        || same_any parts s t (agree_right (touches part) (any_touches parts) s t a) i

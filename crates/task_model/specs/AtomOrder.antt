@@ -11,4 +11,6 @@ atom_cmp a b = ordering_then (nat_cmp a.pred b.pred) (slice_cmp nat_cmp a.args b
 
 -- an atom is stored as the pair of its fields
 abbrev pub atom_code : Coded Atom
-atom_code = code_by (ℕ × List ℕ) (coded× coded_ℕ (coded_list coded_ℕ)) (λ a. (a.pred, a.args)) (λ p. record { pred = p.0; args = p.1 }) (λ _. refl)
+atom_code =
+    code_by (ℕ × List ℕ) (coded× coded_ℕ (coded_list coded_ℕ))
+    (λ a. (a.pred, a.args)) (λ p. record { pred = p.0; args = p.1 }) (λ _. refl)

@@ -23,7 +23,9 @@ pub record Entry : Type 0 where
 
 -- an entry certifies what a yield of its outputs would
 abbrev pub entry_facts : Task → Entry → List Fact
-entry_facts task entry = at_stream task entry.instance.stream [] (λ stream. certified_by task.domain stream entry.instance.inputs entry.outputs)
+entry_facts task entry =
+    at_stream task entry.instance.stream []
+    (λ stream. certified_by task.domain stream entry.instance.inputs entry.outputs)
 
 -- an entry of a cost stream gives its term the value 0
 abbrev pub entry_values : Task → Entry → List Valued
@@ -56,7 +58,11 @@ HasFreshOutputs task known before entry =
 -- What is known where some entries of the list are supposed besides. The whole list's placeholders have names.
 abbrev pub supposing : Task → Known → List Entry → List Entry → Known
 supposing task known list entries =
-    record { names = known.names ++ entry_names 1 list; facts = with_facts known.facts (flat_map (entry_facts task) entries); values = with_values known.values (flat_map (entry_values task) entries) }
+    record {
+      names = known.names ++ entry_names 1 list;
+      facts = with_facts known.facts (flat_map (entry_facts task) entries);
+      values = with_values known.values (flat_map (entry_values task) entries);
+    }
 
 -- ---- the list of entries
 
@@ -65,11 +71,14 @@ instances_of entries = map (λ (e : Entry). e.instance) entries
 
 -- One pass: behind the list as it stood come, in the order of asks, the instances that are due by it,
 -- have no entry in it and weren't tried.
-pub record IsPass (task : Task) (known : Known) (notes : List Note) (tried : List Instance) (old new : List Entry) : Type 0 where
+pub record IsPass (task : Task) (known : Known) (notes : List Note) (tried : List Instance)
+    (old new : List Entry) : Type 0 where
   pub more : List Entry
   pub added : new ≡ old ++ more
   pub each : (i : Instance)
-      → Contains (instances_of more) i ↔ (IsDue task (supposing task known old old) notes i × (list_any (same_instance i) tried ≡ false) × (list_any (same_instance i) (instances_of old) ≡ false))
+      → Contains (instances_of more) i
+      ↔ (IsDue task (supposing task known old old) notes i × (list_any (same_instance i) tried ≡ false)
+      × (list_any (same_instance i) (instances_of old) ≡ false))
   pub ascend : AreAscending (instance_cmp (supposing task known old old).names) (instances_of more)
   pub fresh : (k : ℕ) (e : Entry) → slice_get more k ≡ Some e
       → HasFreshOutputs task known (old ++ take k more) e
@@ -85,7 +94,9 @@ AreSupposed task known notes tried (suc passes) entries =
 module _ (task : Task) (known : Known) (list : List Entry) where
   -- its inputs' types and its domain facts are known, or certified by the entries before it
   abbrev pub is_supported : List Entry → Entry → Bool
-  is_supported before entry = at_stream task entry.instance.stream false (λ stream. is_reachable stream (supposing task known list before) entry.instance)
+  is_supported before entry =
+      at_stream task entry.instance.stream false
+      (λ stream. is_reachable stream (supposing task known list before) entry.instance)
 
   -- each entry has support among those before it
   abbrev pub HaveSupport : List Entry → Type 0
@@ -116,7 +127,9 @@ module _ (task : Task) (known : Known) (list : List Entry) where
     pub needed : (place other : ℕ) → place < length entries
         → ¬ (IsValid task (supposing task known list (without_entry entries place)) steps other)
 
-  -- No plan rests on the list: none exists over all of it, or it is too long, or more than so many states are reached over it.
+  -- No plan rests on the list: none exists over all of it, or it is too long, or more than so many states are reached
+  -- over it.
   abbrev pub HasNoDream : ℕ → Type 0
   HasNoDream most =
-      (¬ (IsSolvable task (supposing task known list list))) ⊎ ((20000 < length list) ⊎ MoreThan most (IsReached task (supposing task known list list)))
+      (¬ (IsSolvable task (supposing task known list list)))
+      ⊎ ((20000 < length list) ⊎ MoreThan most (IsReached task (supposing task known list list)))

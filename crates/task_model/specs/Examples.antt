@@ -28,7 +28,14 @@ lamp = record { pred = 0; args = [] }
 
 -- it deletes (on) and adds (on), and costs 3 and the value of (f)
 abbrev pub flick : Action
-flick = record { name = codes "flick"; params = []; condition = every none; adds = lamp ∷ []; deletes = lamp ∷ []; costs = Number 3 ∷ Value 0 [] ∷ [] }
+flick = record {
+  name = codes "flick";
+  params = [];
+  condition = every none;
+  adds = lamp ∷ [];
+  deletes = lamp ∷ [];
+  costs = Number 3 ∷ Value 0 [] ∷ [];
+}
 
 -- (found) where (seen ?x) for some ?x
 abbrev pub finding : Derived
@@ -38,7 +45,8 @@ abbrev pub world : Domain
 world = record {
   name = codes "world";
   sorts = record { name = codes "object"; above = [] } ∷ record { name = codes "block"; above = 0 ∷ [] } ∷ [];
-  predicates = record { name = codes "on"; arity = 0 } ∷ record { name = codes "seen"; arity = 1 } ∷ record { name = codes "found"; arity = 0 } ∷ [];
+  predicates = record { name = codes "on"; arity = 0 } ∷ record { name = codes "seen"; arity = 1 }
+      ∷ record { name = codes "found"; arity = 0 } ∷ [];
   functions = record { name = codes "f"; arity = 0 } ∷ [];
   constants = [];
   derived = finding ∷ [];
@@ -68,7 +76,11 @@ at_first = record { names = codes "cup" ∷ []; facts = initial_facts task; valu
 
 -- a stream gave the object `#v` and certified (seen #v)
 abbrev pub later : Known
-later = record { names = codes "cup" ∷ codes "#v" ∷ []; facts = with_facts (initial_facts task) (type_fact 0 1 ∷ atom_fact 1 (1 ∷ []) ∷ []); values = [] }
+later = record {
+  names = codes "cup" ∷ codes "#v" ∷ [];
+  facts = with_facts (initial_facts task) (type_fact 0 1 ∷ atom_fact 1 (1 ∷ []) ∷ []);
+  values = [];
+}
 
 abbrev pub worth : ℕ → Valued
 worth n = record { func = 0; args = []; value = n }
@@ -76,13 +88,34 @@ worth n = record { func = 0; args = []; value = n }
 -- ---- streams: one that looks for objects, one that only says yes, and one for a value
 
 abbrev pub looking : Stream
-looking = record { name = codes "look"; inputs = 1 ∷ []; outputs = 1 ∷ []; domain = []; certified = record { pred = 1; args = Slot 1 ∷ [] } ∷ []; worth = None }
+looking = record {
+  name = codes "look";
+  inputs = 1 ∷ [];
+  outputs = 1 ∷ [];
+  domain = [];
+  certified = record { pred = 1; args = Slot 1 ∷ [] } ∷ [];
+  worth = None;
+}
 
 abbrev pub testing : Stream
-testing = record { name = codes "test"; inputs = 1 ∷ []; outputs = []; domain = []; certified = record { pred = 1; args = Slot 0 ∷ [] } ∷ []; worth = None }
+testing = record {
+  name = codes "test";
+  inputs = 1 ∷ [];
+  outputs = [];
+  domain = [];
+  certified = record { pred = 1; args = Slot 0 ∷ [] } ∷ [];
+  worth = None;
+}
 
 abbrev pub pricing : Stream
-pricing = record { name = codes "price"; inputs = []; outputs = []; domain = []; certified = []; worth = Some (record { func = 0; args = [] }) }
+pricing = record {
+  name = codes "price";
+  inputs = [];
+  outputs = [];
+  domain = [];
+  certified = [];
+  worth = Some (record { func = 0; args = [] });
+}
 
 abbrev pub call : ℕ → Instance
 call input = record { stream = 0; inputs = input ∷ [] }
@@ -98,13 +131,16 @@ pub record WorkedExamples : Type 0 where
   pub generated : is_true world later empty (Atom 2 []) (slots_of []) ≡ true
   pub not_before : is_true world at_first empty (Atom 2 []) (slots_of []) ≡ false
   -- over a type without objects nothing exists
-  pub empty_type : is_true world (record { names = []; facts = []; values = [] }) empty (Exists 0 (1 ∷ []) (every none)) (slots_of []) ≡ false
+  pub empty_type : is_true world (record { names = []; facts = []; values = [] }) empty
+      (Exists 0 (1 ∷ []) (every none)) (slots_of [])
+      ≡ false
   -- a negated atom is true while it is certified nowhere
   pub negated : is_true world at_first empty (Not (Atom 1 (Object 0 ∷ []))) (slots_of []) ≡ true
   -- a declared object has its type and all supertypes, each once
   pub types : initial_facts task ≡ type_fact 1 0 ∷ type_fact 0 0 ∷ []
   -- a yield certifies the output's types and the stream's atoms
-  pub certified : certified_by world looking (0 ∷ []) (1 ∷ []) ≡ type_fact 1 1 ∷ type_fact 0 1 ∷ type_fact 0 1 ∷ atom_fact 1 (1 ∷ []) ∷ []
+  pub certified : certified_by world looking (0 ∷ []) (1 ∷ [])
+      ≡ type_fact 1 1 ∷ type_fact 0 1 ∷ type_fact 0 1 ∷ atom_fact 1 (1 ∷ []) ∷ []
   -- a test that has yielded is finished, a stream with outputs isn't, and one that has ended is
   pub tested : is_finished testing (Yielded (call 0) ∷ []) (call 0) ≡ true
   pub unfinished : is_finished looking (Yielded (call 0) ∷ []) (call 0) ≡ false

@@ -23,6 +23,7 @@ use Rattle.task_model.specs.declared.domain.Sort as sorts
 use Rattle.task_model.specs.declared.fact.Fact.{Fact}
 use Rattle.task_model.specs.declared.fact.Kind.{Kind}
 use Rattle.task_model.specs.declared.fact.Kind.TheVariants.{Predicate, Sort}
+use Rattle.task_model.specs.declared.limits.TheConstants.{LARGEST_NUMBER}
 use Rattle.task_model.specs.declared.stream.Stream.{Stream}
 use Rattle.task_model.specs.declared.stream.Worth.{Worth}
 use Rattle.task_model.specs.declared.task.Task.{Task}
@@ -186,10 +187,11 @@ are_fit_params domain params = nat_le (length params) 16 && are_places (length d
 
 abbrev pub is_fit_item : Domain → rule.Derived → Bool
 is_fit_item domain d =
-    are_fit_params domain d.params && has_arity domain.predicates d.pred (length d.params) && is_fit_condition domain (length domain.constants) (numbers_from 0 (length d.params)) d.body
+    are_fit_params domain d.params && has_arity domain.predicates d.pred (length d.params)
+    && is_fit_condition domain (length domain.constants) (numbers_from 0 (length d.params)) d.body
 
 abbrev pub is_fit_cost : Domain → List ℕ → CostTerm → Bool
-is_fit_cost domain filled (Number n) = nat_le n 1000000
+is_fit_cost domain filled (Number n) = nat_le n LARGEST_NUMBER
 is_fit_cost domain filled (Value func args) =
     is_fit_application domain.functions (length domain.constants) filled func args
 
@@ -205,7 +207,8 @@ param_slots a = numbers_from 0 (length a.params)
 
 abbrev pub is_fit_action : Domain → Action → Bool
 is_fit_action domain a =
-    are_fit_params domain a.params && is_fit_condition domain (length domain.constants) (param_slots a) a.condition && are_fit_effects domain (param_slots a) a.adds && are_fit_effects domain (param_slots a) a.deletes
+    are_fit_params domain a.params && is_fit_condition domain (length domain.constants) (param_slots a) a.condition
+    && are_fit_effects domain (param_slots a) a.adds && are_fit_effects domain (param_slots a) a.deletes
     && nat_le (length a.costs) 262144 && list_all (is_fit_cost domain (param_slots a)) a.costs
 
 pub record IsFitDomain (domain : Domain) : Type 0 where
@@ -229,19 +232,25 @@ is_predicate Sort = false
 
 abbrev pub is_fit_fact : Domain → ℕ → Fact → Bool
 is_fit_fact domain objects fact =
-    is_predicate fact.kind && has_arity domain.predicates fact.name (length fact.args) && list_all (λ o. nat_lt o objects) fact.args && not (is_derived_role (role_of domain fact.name))
+    is_predicate fact.kind && has_arity domain.predicates fact.name (length fact.args)
+    && list_all (λ o. nat_lt o objects) fact.args && not (is_derived_role (role_of domain fact.name))
 
 abbrev pub is_fit_value : Domain → ℕ → Valued → Bool
 is_fit_value domain objects v =
     has_arity domain.functions v.func (length v.args) && list_all (λ o. nat_lt o objects) v.args
-    && nat_le v.value 1000000
+    && nat_le v.value LARGEST_NUMBER
 
 pub record IsFitProblem (task : Task) : Type 0 where
   pub name : is_name task.problem.name ≡ true
   pub objects : AreFitObjects task.domain task.problem.objects
-  pub constants_first : map (λ (d : Declared). d.name) task.domain.constants ≡ take (length task.domain.constants) (declared_names task)
-  pub init : (is_short task.problem.init && list_all (is_fit_fact task.domain (length task.problem.objects)) task.problem.init) ≡ true
-  pub values : (is_short task.problem.values && list_all (is_fit_value task.domain (length task.problem.objects)) task.problem.values) ≡ true
+  pub constants_first : map (λ (d : Declared). d.name) task.domain.constants
+      ≡ take (length task.domain.constants) (declared_names task)
+  pub init : (is_short task.problem.init
+      && list_all (is_fit_fact task.domain (length task.problem.objects)) task.problem.init)
+      ≡ true
+  pub values : (is_short task.problem.values
+      && list_all (is_fit_value task.domain (length task.problem.objects)) task.problem.values)
+      ≡ true
   pub one_value : (i j : ℕ) (v w : Valued) → slice_get task.problem.values i ≡ Some v
       → slice_get task.problem.values j ≡ Some w → v.func ≡ w.func → v.args ≡ w.args → v.value ≡ w.value
   pub goal : is_fit_condition task.domain (length task.problem.objects) [] task.problem.goal ≡ true
@@ -260,13 +269,18 @@ is_fit_worth domain s = of s.worth
     of None = true
     of (Some worth) =
         is_empty s.outputs && is_empty s.certified
-        && is_fit_application domain.functions (length domain.constants) (numbers_from 0 (length s.inputs)) worth.func worth.args
+        && is_fit_application domain.functions (length domain.constants)
+        (numbers_from 0 (length s.inputs)) worth.func worth.args
 
 abbrev pub is_fit_stream : Domain → Stream → Bool
 is_fit_stream domain s =
-    nat_le (length s.inputs) 8 && nat_le (length s.outputs) 8 && are_places (length domain.sorts) s.inputs && are_places (length domain.sorts) s.outputs
-    && are_fit_patterns domain (length domain.constants) (numbers_from 0 (length s.inputs)) s.domain && are_static_patterns domain s.domain
-    && are_fit_patterns domain (length domain.constants) (numbers_from 0 (length s.inputs + length s.outputs)) s.certified && are_static_patterns domain s.certified && is_fit_worth domain s
+    nat_le (length s.inputs) 8 && nat_le (length s.outputs) 8 && are_places (length domain.sorts) s.inputs
+    && are_places (length domain.sorts) s.outputs
+    && are_fit_patterns domain (length domain.constants) (numbers_from 0 (length s.inputs)) s.domain
+    && are_static_patterns domain s.domain
+    && are_fit_patterns domain (length domain.constants)
+    (numbers_from 0 (length s.inputs + length s.outputs)) s.certified
+    && are_static_patterns domain s.certified && is_fit_worth domain s
 
 -- the slot stands in one of the atoms
 abbrev pub is_used : ℕ → List Pattern → Bool
@@ -276,12 +290,14 @@ is_used slot patterns = list_any (λ (p : Pattern). list_any (is_slot slot) p.ar
 abbrev pub is_fed : Domain → Stream → ℕ → List ℕ → ℕ → Bool
 is_fed domain second slot [] output = false
 is_fed domain second slot (input ∷ inputs) output =
-    (list_any (λ s. s == input) (sorts_with domain output) && (not (input == 0) || not (is_used slot second.domain))) || is_fed domain second (slot + 1) inputs output
+    (list_any (λ s. s == input) (sorts_with domain output) && (not (input == 0) || not (is_used slot second.domain)))
+    || is_fed domain second (slot + 1) inputs output
 
 -- what the first certifies may be what the second asks for
 abbrev pub stream_leads : Domain → Stream → Stream → Bool
 stream_leads domain first second =
-    list_any (λ (p : Pattern). list_any (λ (q : Pattern). q.pred == p.pred) second.domain) first.certified || list_any (is_fed domain second 0 second.inputs) first.outputs
+    list_any (λ (p : Pattern). list_any (λ (q : Pattern). q.pred == p.pred) second.domain) first.certified
+    || list_any (is_fed domain second 0 second.inputs) first.outputs
 
 abbrev pub leads : Task → ℕ → ℕ → Bool
 leads task from to = of (slice_get task.streams from) (slice_get task.streams to)

@@ -58,7 +58,9 @@ fluent_atom domain fact = fluent_by fact fact.kind (role_of domain fact.name)
 
 -- the types of the declared objects, and the static atoms of `:init`, each once
 abbrev pub initial_facts : Task → List Fact
-initial_facts task = with_facts [] (declared_types task.domain 0 task.problem.objects ++ filter (is_static task.domain) task.problem.init)
+initial_facts task =
+    with_facts []
+    (declared_types task.domain 0 task.problem.objects ++ filter (is_static task.domain) task.problem.init)
 
 abbrev pub declared_names : Task → List (List ℕ)
 declared_names task = map (λ (d : Declared). d.name) task.problem.objects

@@ -6,6 +6,7 @@ use Rattle.lemmas.specs.Lists.{AreDistinct}
 use Rattle.task_model.specs.declared.fact.Fact.{Fact}
 use Rattle.task_model.specs.declared.fact.Kind.{Kind}
 use Rattle.task_model.specs.declared.fact.Kind.TheVariants.{Predicate, Sort}
+use Rattle.task_model.specs.declared.limits.TheConstants.{LARGEST_NUMBER}
 use Rattle.task_model.specs.declared.task.Valued.{Valued}
 
 -- The names of the objects, an object being its place; the facts; and the values of function terms.
@@ -20,6 +21,11 @@ same_numbers = pointwise nat_eq
 -- the names with this one behind them, unless it is there
 abbrev pub with_name : List (List ℕ) → List ℕ → List (List ℕ)
 with_name names name = if list_any (same_numbers name) names then names else names ++ name ∷ []
+
+-- the names with each of these behind them in turn
+abbrev pub with_names : List (List ℕ) → List (List ℕ) → List (List ℕ)
+with_names names [] = names
+with_names names (name ∷ more) = with_names (with_name names name) more
 
 -- ---- facts
 
@@ -121,4 +127,4 @@ pub record IsCoherent (known : Known) : Type 0 where
   pub facts : AreDistinct known.facts
   pub values : AreDistinct known.values
   pub objects : All (λ (f : Fact). All (IsIn known.names) f.args) known.facts
-  pub costs : All (λ (v : Valued). v.value ≤ 1000000) known.values
+  pub costs : All (λ (v : Valued). v.value ≤ LARGEST_NUMBER) known.values

@@ -36,30 +36,41 @@ abbrev mutual
 -- Truth depends only on the slots that stand in the condition's terms.
 abbrev pub TruthIgnoresOtherSlots : Type 0
 TruthIgnoresOtherSlots =
-    (atom : ℕ → List ℕ → Bool) (objects : ℕ → List ℕ) (condition : Condition) (slots others : List ℕ) → length slots ≡ length others → ((n : ℕ) → touches condition n ≡ true → slice_index slots n ≡ slice_index others n) → truth atom objects condition slots ≡ truth atom objects condition others
+    (atom : ℕ → List ℕ → Bool) (objects : ℕ → List ℕ) (condition : Condition) (slots others : List ℕ)
+    → length slots ≡ length others
+    → ((n : ℕ) → touches condition n ≡ true → slice_index slots n ≡ slice_index others n)
+    → truth atom objects condition slots ≡ truth atom objects condition others
 
 -- ---- steps and plans
 
 -- An atom is there after an action exactly where it is added, or was there and isn't deleted.
 abbrev pub EffectsAreExact : Type 0
 EffectsAreExact =
-    (action : Action) (args : List ℕ) (state : Atoms) (q : atoms.Atom) → contains (effect_of action args state) q ≡ (list_any (eq_by_cmp atom_cmp q) (map (atom_of (slots_of args)) action.adds) || (not (list_any (eq_by_cmp atom_cmp q) (map (atom_of (slots_of args)) action.deletes)) && contains state q))
+    (action : Action) (args : List ℕ) (state : Atoms) (q : atoms.Atom)
+    → contains (effect_of action args state) q
+    ≡ (list_any (eq_by_cmp atom_cmp q) (map (atom_of (slots_of args)) action.adds)
+    || (not (list_any (eq_by_cmp atom_cmp q) (map (atom_of (slots_of args)) action.deletes))
+    && contains state q))
 
 -- the steps, executed in two parts
 abbrev pub ExecutesInParts : Task → Known → Atoms → List GroundAction → List GroundAction → Atoms
     → ℕ → Type 0
 ExecutesInParts task known before first second after total =
-    (middle : Atoms) × (cost : ℕ) × (rest : ℕ) × Executes task known before first middle cost × Executes task known middle second after rest × (total ≡ cost + rest)
+    (middle : Atoms) × (cost : ℕ) × (rest : ℕ) × Executes task known before first middle cost
+    × Executes task known middle second after rest × (total ≡ cost + rest)
 
 -- To execute a list of steps is to execute its front and then the rest.
 abbrev pub PartsMakeTheWhole : Type 0
 PartsMakeTheWhole =
-    (task : Task) (known : Known) (before after : Atoms) (first second : List GroundAction) (total : ℕ) → Executes task known before (first ++ second) after total ↔ ExecutesInParts task known before first second after total
+    (task : Task) (known : Known) (before after : Atoms) (first second : List GroundAction) (total : ℕ)
+    → Executes task known before (first ++ second) after total
+    ↔ ExecutesInParts task known before first second after total
 
 -- The state to which a list of steps leads, and its cost, are determined.
 abbrev pub ExecutionIsDetermined : Type 0
 ExecutionIsDetermined =
-    (task : Task) (known : Known) (before : Atoms) (steps : List GroundAction) (a b : Atoms) (m n : ℕ) → Executes task known before steps a m → Executes task known before steps b n → (a ≡ b) × (m ≡ n)
+    (task : Task) (known : Known) (before : Atoms) (steps : List GroundAction) (a b : Atoms) (m n : ℕ)
+    → Executes task known before steps a m → Executes task known before steps b n → (a ≡ b) × (m ≡ n)
 
 -- No steps reach the initial state.
 abbrev pub InitialStateIsReached : Type 0

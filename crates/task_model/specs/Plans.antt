@@ -13,7 +13,8 @@ use Rattle.task_model.specs.declared.task.Task.{Task}
 abbrev pub Executes : Task → Known → Atoms → List GroundAction → Atoms → ℕ → Type 0
 Executes task known before [] after total = (before ≡ after) × (total ≡ 0)
 Executes task known before (step ∷ steps) after total =
-    (middle : Atoms) × (cost : ℕ) × (rest : ℕ) × IsStep task known before step middle cost × Executes task known middle steps after rest × (total ≡ cost + rest)
+    (middle : Atoms) × (cost : ℕ) × (rest : ℕ) × IsStep task known before step middle cost
+    × Executes task known middle steps after rest × (total ≡ cost + rest)
 
 -- the goal is true in the state
 abbrev pub IsGoal : Task → Known → Atoms → Type 0

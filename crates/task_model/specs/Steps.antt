@@ -19,7 +19,9 @@ atom_of slots pattern = record { pred = pattern.pred; args = objects_at slots pa
 
 -- The state without the deletes and then with the adds: what is both deleted and added is there.
 abbrev pub effect_of : Action → List ℕ → Atoms → Atoms
-effect_of action args state = with_atoms (without_atoms state (map (atom_of (slots_of args)) action.deletes)) (map (atom_of (slots_of args)) action.adds)
+effect_of action args state =
+    with_atoms (without_atoms state (map (atom_of (slots_of args)) action.deletes))
+    (map (atom_of (slots_of args)) action.adds)
 
 -- ---- what it costs
 
@@ -48,7 +50,8 @@ cost_of task known action args =
 
 -- The action is applicable in `before`, where its arguments fit, its condition is true and its cost has
 -- a value; it costs `cost` and leads to `after`.
-pub record IsStep (task : Task) (known : Known) (before : Atoms) (step : GroundAction) (after : Atoms) (cost : ℕ) : Type 0 where
+pub record IsStep (task : Task) (known : Known) (before : Atoms) (step : GroundAction) (after : Atoms)
+    (cost : ℕ) : Type 0 where
   pub action : Action
   pub named : slice_get task.domain.actions step.action ≡ Some action
   pub typed : have_types known step.args action.params ≡ true

@@ -98,7 +98,8 @@ mutual
   inj_condition (Any xs) (Any ys) e = ap Any (inj_conditions xs ys (ap tail e))
   inj_condition (Not x) (Not y) e = ap Not (inj_condition x y (ap tail e))
   inj_condition (Exists f ss x) (Exists g ts y) e =
-      λ i. Exists (ap (λ h. num_of (head (head (tail h)))) e i) (inj_numbers ss ts (ap (λ h. tail (head (tail h))) e) i) (inj_condition x y (ap (λ h. tail (tail h)) e) i)
+      λ i. Exists (ap (λ h. num_of (head (head (tail h)))) e i)
+      (inj_numbers ss ts (ap (λ h. tail (head (tail h))) e) i) (inj_condition x y (ap (λ h. tail (tail h)) e) i)
   inj_condition x y e = absurd (cc)
 
   inj_conditions : (xs ys : Conditions) → code_conditions xs ≡ code_conditions ys → xs ≡ ys

@@ -117,7 +117,9 @@ name_at names object = unwrap_or (slice_get names object) []
 
 -- by the stream's place, and then by the inputs, name by name and byte by byte
 abbrev pub instance_cmp : List (List ℕ) → Instance → Instance → Ordering
-instance_cmp names a b = ordering_then (nat_cmp a.stream b.stream) (slice_cmp (slice_cmp nat_cmp) (map (name_at names) a.inputs) (map (name_at names) b.inputs))
+instance_cmp names a b =
+    ordering_then (nat_cmp a.stream b.stream)
+    (slice_cmp (slice_cmp nat_cmp) (map (name_at names) a.inputs) (map (name_at names) b.inputs))
 
 -- all that are due, in this order
 pub record AreDue (task : Task) (known : Known) (notes : List Note) (instances : List Instance) : Type 0 where

@@ -81,7 +81,10 @@ module _ (domain : Domain) (known : Known) (state : Atoms) where
   atom_as depth role.Fluent pred args = contains state (record { pred = pred; args = args })
   atom_as zero role.Derived pred args = false
   atom_as (suc depth) role.Derived pred args =
-      list_any (λ (d : Derived). (d.pred == pred) && have_types known args d.params && truth (λ p objects. atom_as depth (role_of domain p) p objects) (objects_of known.facts) d.body (slots_of args)) domain.derived
+      list_any (λ (d : Derived).
+      (d.pred == pred) && have_types known args d.params
+      && truth (λ p objects. atom_as depth (role_of domain p) p objects)
+      (objects_of known.facts) d.body (slots_of args)) domain.derived
 
   abbrev pub atom_at : ℕ → ℕ → List ℕ → Bool
   atom_at depth pred args = atom_as depth (role_of domain pred) pred args

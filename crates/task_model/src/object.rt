@@ -131,7 +131,8 @@ impl<const N: usize> Eq for Objects<N> {
 impl<const N: usize> PartialOrd for Objects<N> {
     ghost partial_cmp = { as_partial_cmp (slice_cmp nat_cmp) };
 
-    ghost laws = { partial_order_from_own_ties (partial_order_from_total nat_list_cmp_total) (lists_ties nat_cmp unsigned_ties) };
+    ghost laws = { partial_order_from_own_ties (partial_order_from_total nat_list_cmp_total)
+        (lists_ties nat_cmp unsigned_ties) };
 
     fn partial_cmp(&self, other: &Objects<N>) -> Option<Ordering> {
         Some(self.cmp(other))

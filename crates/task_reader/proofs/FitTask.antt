@@ -28,7 +28,10 @@ record IsTree (t : Trees) : Type 0 where
 tree_of : (bytes : List ℕ) (t : Trees) → IsShort bytes → reading bytes ≡ Ok t → IsTree t
 tree_of bytes t short read =
     let is : spelling.Spells bytes t = found bytes t read in
-    record { bounded = record { small = omega (arith, small bytes t is, short); shallow = is.depth }; there = λ none. subst spelling.IsOneList none is.one }
+    record {
+      bounded = record { small = omega (arith, small bytes t is, short); shallow = is.depth };
+      there = λ none. subst spelling.IsOneList none is.one;
+    }
 
 -- ---- each text
 
@@ -39,7 +42,12 @@ domain_fit bytes d short is =
     fit_domain is.tree d tree.there is.holds tree.bounded
 
 fit_read : (d : Domain) → HasShortText d → IsFitRead d
-fit_read d is = record { text = is.spelled.tree; bounded = (tree_of is.bytes is.spelled.tree is.short is.spelled.spelled).bounded; read = is.spelled.holds; fit = domain_fit is.bytes d is.short is.spelled }
+fit_read d is = record {
+  text = is.spelled.tree;
+  bounded = (tree_of is.bytes is.spelled.tree is.short is.spelled.spelled).bounded;
+  read = is.spelled.holds;
+  fit = domain_fit is.bytes d is.short is.spelled;
+}
 
 pub problem_fit : (d : Domain) (bytes : List ℕ) (p : Problem) → HasShortText d → IsShort bytes
     → SpellsProblem d bytes p → IsFitOver d p
@@ -51,7 +59,8 @@ pub streams_fit : (d : Domain) (bytes : List ℕ) (ss : List Stream) → HasShor
     → SpellsStreams d bytes ss
     → AreFitOver d ss
 streams_fit d bytes ss over short is =
-    read_streams_fit d is.tree ss (domain_fit over.bytes d over.short over.spelled) (tree_of bytes is.tree short is.spelled).bounded is.holds
+    read_streams_fit d is.tree ss (domain_fit over.bytes d over.short over.spelled)
+    (tree_of bytes is.tree short is.spelled).bounded is.holds
 
 -- ---- the task
 

@@ -60,7 +60,9 @@ not_refused bytes Holds IsAnswered Extra place f s r =
     ok_no_err (reading bytes) s.tree _ s.spelled r
 not_refused bytes Holds IsAnswered TooDeep place f s r =
     ok_no_err (reading bytes) s.tree _ s.spelled r
-not_refused bytes Holds IsAnswered (Input kind) place f s r = of_one_tree bytes Holds (λ t. IsAnswered t (record { place = place; kind = kind })) ⊥ (λ t h a. f t (record { place = place; kind = kind }) h a) s r
+not_refused bytes Holds IsAnswered (Input kind) place f s r =
+    of_one_tree bytes Holds (λ t. IsAnswered t (record { place = place; kind = kind })) ⊥
+    (λ t h a. f t (record { place = place; kind = kind }) h a) s r
 
 -- ---- faults
 
@@ -83,7 +85,10 @@ one_cycles kind edges (c ∷ cs) fs gs (free none a) (free other b) =
 one_names : (v : Vocabulary) (body : Trees) (fs gs : List Fault) → AreNameFaults v body fs
     → AreNameFaults v body gs → fs ≡ gs
 one_names v body fs gs a b =
-    a.all ∙ (λ i. plain_names v body ++ one_cycles _ _ _ a.types b.types a.types_right b.types_right i ++ one_cycles _ _ _ a.derived b.derived a.derived_right b.derived_right i) ∙ sym b.all
+    a.all
+    ∙ (λ i. plain_names v body ++ one_cycles _ _ _ a.types b.types a.types_right b.types_right i
+    ++ one_cycles _ _ _ a.derived b.derived a.derived_right b.derived_right i)
+    ∙ sym b.all
 
 -- ---- a tree that is read isn't refused
 
@@ -119,7 +124,10 @@ one_reached edges a xs ys x y b h = let way = x.only b h in y.all b way.between 
 one_above : (edges : List (List ℕ)) (k : ℕ) (xs ys : List ℕ) → IsAbove edges k xs
     → IsAbove edges k ys → xs ≡ ys
 one_above edges k xs ys x y =
-    x.sorted ∙ one_ascending x.reached y.reached (one_reached edges k x.reached y.reached x.right y.right) (one_reached edges k y.reached x.reached y.right x.right) ∙ sym y.sorted
+    x.sorted
+    ∙ one_ascending x.reached y.reached (one_reached edges k x.reached y.reached x.right y.right)
+    (one_reached edges k y.reached x.reached y.right x.right)
+    ∙ sym y.sorted
 
 one_sorts : (edges : List (List ℕ)) (k : ℕ) (names : List (List ℕ)) (ss ts : List sort.Sort)
     → AreSorts edges k names ss
@@ -147,12 +155,23 @@ one_domain t d e r s =
     let rules : d.derived ≡ e.derived = p.derived ∙ sym q.derived in
     let actions : d.actions ≡ e.actions = p.actions ∙ sym q.actions in
     let predicates : d.predicates ≡ e.predicates = p.predicates ∙ sym q.predicates in
-    let roles : d.roles ≡ e.roles = r.domain.roles ∙ (λ i. map (λ pred. same_role d e pred rules actions i) (numbers_from 0 (length (predicates i)))) ∙ sym s.domain.roles in
+    let roles : d.roles ≡ e.roles =
+    r.domain.roles ∙ (λ i. map (λ pred. same_role d e pred rules actions i) (numbers_from 0 (length (predicates i))))
+    ∙ sym s.domain.roles in
     let name : d.name ≡ e.name = p.name ∙ sym q.name in
     let functions : d.functions ≡ e.functions = p.functions ∙ sym q.functions in
     let constants : d.constants ≡ e.constants = p.constants ∙ sym q.constants in
     let sorts : d.sorts ≡ e.sorts = one_sorts _ 0 _ d.sorts e.sorts p.sorts q.sorts in
-    λ i. record { name = name i; sorts = sorts i; predicates = predicates i; functions = functions i; constants = constants i; derived = rules i; actions = actions i; roles = roles i }
+    λ i. record {
+      name = name i;
+      sorts = sorts i;
+      predicates = predicates i;
+      functions = functions i;
+      constants = constants i;
+      derived = rules i;
+      actions = actions i;
+      roles = roles i;
+    }
 
 -- ---- texts
 
@@ -163,11 +182,15 @@ text_one_domain bytes d e a b =
 
 pub text_one_problem : (d : Domain) (bytes : List ℕ) (p q : Problem) → SpellsProblem d bytes p
     → SpellsProblem d bytes q → p ≡ q
-text_one_problem d bytes p q a b = of_one_tree bytes (λ t. problems.IsProblemRead d t p) (λ t. problems.IsProblemRead d t q) (p ≡ q) (λ t r s. r.problem ∙ sym s.problem) a b
+text_one_problem d bytes p q a b =
+    of_one_tree bytes (λ t. problems.IsProblemRead d t p) (λ t. problems.IsProblemRead d t q) (p ≡ q)
+    (λ t r s. r.problem ∙ sym s.problem) a b
 
 pub text_one_streams : (d : Domain) (bytes : List ℕ) (ss ts : List Stream)
     → SpellsStreams d bytes ss → SpellsStreams d bytes ts → ss ≡ ts
-text_one_streams d bytes ss ts a b = of_one_tree bytes (λ t. streams.AreRead d t ss) (λ t. streams.AreRead d t ts) (ss ≡ ts) (λ t r s. r.named.streams ∙ sym s.named.streams) a b
+text_one_streams d bytes ss ts a b =
+    of_one_tree bytes (λ t. streams.AreRead d t ss) (λ t. streams.AreRead d t ts) (ss ≡ ts)
+    (λ t r s. r.named.streams ∙ sym s.named.streams) a b
 
 pub domain_not_refused : (bytes : List ℕ) (d : Domain) (kind : FaultKind) (place : ℕ)
     → SpellsDomain bytes d
@@ -192,13 +215,19 @@ streams_not_refused d bytes ss kind place s r =
 pub one_task : (a b c : List ℕ) (t u : Task) → Spells a b c t → Spells a b c u → t ≡ u
 one_task a b c t u s r =
     let domain : t.domain ≡ u.domain = text_one_domain a t.domain u.domain s.domain r.domain in
-    let problem : t.problem ≡ u.problem = text_one_problem t.domain b t.problem u.problem s.problem (subst (λ d. SpellsProblem d b u.problem) (sym domain) r.problem) in
-    let streams : t.streams ≡ u.streams = text_one_streams t.domain c t.streams u.streams s.streams (subst (λ d. SpellsStreams d c u.streams) (sym domain) r.streams) in
+    let problem : t.problem ≡ u.problem =
+    text_one_problem t.domain b t.problem u.problem s.problem (subst (λ d. SpellsProblem d b u.problem) (sym domain) r.problem) in
+    let streams : t.streams ≡ u.streams =
+    text_one_streams t.domain c t.streams u.streams s.streams (subst (λ d. SpellsStreams d c u.streams) (sym domain) r.streams) in
     λ i. record { domain = domain i; problem = problem i; streams = streams i }
 
 pub task_not_refused : (a b c : List ℕ) (task : Task) → Spells a b c task → AreNotRefused a b c
 task_not_refused a b c task s = record {
   first = λ kind place r. domain_not_refused a task.domain kind place s.domain r;
-  second = λ kind place r. problem_not_refused task.domain b task.problem kind place s.problem (subst (λ d. RefusesProblem d b kind place) (text_one_domain a r.domain task.domain r.first s.domain) r.refused);
-  third = λ kind place r. streams_not_refused task.domain c task.streams kind place s.streams (subst (λ d. RefusesStreams d c kind place) (text_one_domain a r.domain task.domain r.first s.domain) r.refused);
+  second = λ kind place r.
+      problem_not_refused task.domain b task.problem kind place s.problem
+      (subst (λ d. RefusesProblem d b kind place) (text_one_domain a r.domain task.domain r.first s.domain) r.refused);
+  third = λ kind place r.
+      streams_not_refused task.domain c task.streams kind place s.streams
+      (subst (λ d. RefusesStreams d c kind place) (text_one_domain a r.domain task.domain r.first s.domain) r.refused);
 }

@@ -18,7 +18,8 @@ pub record SpellsTree (bytes : List ℕ) (Holds : Trees → Type 0) : Type 0 whe
   pub spelled : reading bytes ≡ Ok tree
   pub holds : Holds tree
 
--- The text is refused for a fault of this kind at this place: the first fault of bytes that spell no tree, or else the fault of the tree that is answered.
+-- The text is refused for a fault of this kind at this place: the first fault of bytes that spell no tree, or else the
+-- fault of the tree that is answered.
 abbrev pub IsRefused : (Trees → Fault → Type 0) → List ℕ → FaultKind → ℕ → Type 0
 IsRefused IsAnswered bytes BadByte place = reading bytes ≡ Err (text.BadByte place)
 IsRefused IsAnswered bytes Unclosed place = reading bytes ≡ Err (text.Unclosed place)

@@ -87,7 +87,13 @@ some_count p (x ∷ xs) e =
 
 -- a number that is there is left out
 fewer : (n : ℕ) (ms : List ℕ) → has_number ms n ≡ true → length (without n ms) + 1 ≤ length ms
-fewer n ms there = omega (arith, length-filter_both (λ m. not (n == m)) (λ m. n == m) twice ms, length-filter (λ m. n == m) ms, some_count (λ m. n == m) ms there)
+fewer n ms there =
+    omega (
+      arith,
+      length-filter_both (λ m. not (n == m)) (λ m. n == m) twice ms,
+      length-filter (λ m. n == m) ms,
+      some_count (λ m. n == m) ms there,
+    )
   where
     twice : (m : ℕ) → (n == m) ≡ not (not (n == m))
     twice m = by (n == m)
@@ -107,9 +113,11 @@ ask_kept version turn task before call l new i h right named facts queue asked_i
     let number = length l.asked.items + 1 in
     let e = entry.Ask number turn call in
     let same : right.instance ≡ i = same_some (instance_of task (names_of task before) call) right.instance i right.named named in
-    let streamed : slice_get task.streams i.stream ≡ Some right.due.stream = ap (λ (j : Instance). slice_get task.streams j.stream) (sym same) ∙ right.due.named in
+    let streamed : slice_get task.streams i.stream ≡ Some right.due.stream =
+    ap (λ (j : Instance). slice_get task.streams j.stream) (sym same) ∙ right.due.named in
     let distinct = h.fit.problem.objects.names.distinct in
-    let fresh : list_any (is_ask_of number) before ≡ false = ap (λ n. list_any (is_ask_of n) before) right.next ∙ next_is_fresh version task before h.legal in
+    let fresh : list_any (is_ask_of number) before ≡ false =
+    ap (λ n. list_any (is_ask_of n) before) right.next ∙ next_is_fresh version task before h.legal in
     let adds = request_adds version task before distinct h.legal number turn call right.due.stream i right fresh named streamed in
     record {
       fit = h.fit;
@@ -118,20 +126,47 @@ ask_kept version turn task before call l new i h right named facts queue asked_i
       notes = queue ∙ h.notes ∙ sym adds.same.notes;
       counted =
           ap length asked_is
-          ∙ (let e : length (l.asked.items ++ i ∷ []) ≡ asks_of (before ++ entry.Ask number turn call ∷ []) = omega (arith, length-append l.asked.items (i ∷ []), h.counted, adds.asks) in e);
-      asks = λ k j at. asks_by k j (at_push l.asked.items i j k (ap (λ is. slice_get is k) (sym asked_is) ∙ at)) right.due.stream streamed adds.here;
-      unanswered = λ n. ap (λ ms. has_number ms n) unanswered_is ∙ any_push (λ m. n == m) l.unanswered.items number ∙ (λ t. h.unanswered n t || (n == number)) ∙ sym (adds.waiting n);
-      answered = omega (arith, ap length unanswered_is, length-append l.unanswered.items (number ∷ []), h.answered, adds.asks, count_joined is_answer before (e ∷ []), count_one is_answer e);
+          ∙ (let e : length (l.asked.items ++ i ∷ []) ≡ asks_of (before ++ entry.Ask number turn call ∷ []) =
+          omega (arith, length-append l.asked.items (i ∷ []), h.counted, adds.asks) in
+          e);
+      asks = λ k j at. asks_by k j (at_push l.asked.items i j k (ap (λ is. slice_get is k) (sym asked_is) ∙ at)) right.due.stream streamed
+          adds.here;
+      unanswered =
+          λ n. ap (λ ms. has_number ms n) unanswered_is ∙ any_push (λ m. n == m) l.unanswered.items number
+          ∙ (λ t. h.unanswered n t || (n == number)) ∙ sym (adds.waiting n);
+      answered = omega (
+        arith,
+        ap length unanswered_is,
+        length-append l.unanswered.items (number ∷ []),
+        h.answered,
+        adds.asks,
+        count_joined is_answer before (e ∷ []),
+        count_one is_answer e,
+      );
     }
   where
     asks_by : (k : ℕ) (j : Instance)
         → (slice_get l.asked.items k ≡ Some j) ⊎ ((k ≡ length l.asked.items) × (i ≡ j))
         → (stream : Stream)
         → slice_get task.streams i.stream ≡ Some stream
-        → asked task (before ++ entry.Ask (length l.asked.items + 1) turn call ∷ []) (length l.asked.items + 1) ≡ Some (record { stream = stream; instance = i })
+        → asked task (before ++ entry.Ask (length l.asked.items + 1) turn call ∷ []) (length l.asked.items + 1)
+        ≡ Some (record { stream = stream; instance = i })
         → Asks task (before ++ entry.Ask (length l.asked.items + 1) turn call ∷ []) (k + 1) j
-    asks_by k j (inl at) stream streamed here = let a = h.asks k j at in record { stream = a.stream; streamed = a.streamed; asks = asked-kept task before (entry.Ask (length l.asked.items + 1) turn call ∷ []) (k + 1) (record { stream = a.stream; instance = j }) a.asks }
-    asks_by k j (inr (last, is)) stream streamed here = subst (λ x. Asks task (before ++ entry.Ask (length l.asked.items + 1) turn call ∷ []) (k + 1) x) is (record { stream = stream; streamed = streamed; asks = ap (λ n. asked task (before ++ entry.Ask (length l.asked.items + 1) turn call ∷ []) (n + 1)) last ∙ here })
+    asks_by k j (inl at) stream streamed here =
+        let a = h.asks k j at in
+        record {
+          stream = a.stream;
+          streamed = a.streamed;
+          asks = asked-kept task before (entry.Ask (length l.asked.items + 1) turn call ∷ [])
+              (k + 1) (record { stream = a.stream; instance = j }) a.asks;
+        }
+    asks_by k j (inr (last, is)) stream streamed here =
+        subst (λ x. Asks task (before ++ entry.Ask (length l.asked.items + 1) turn call ∷ []) (k + 1) x) is
+        (record {
+          stream = stream;
+          streamed = streamed;
+          asks = ap (λ n. asked task (before ++ entry.Ask (length l.asked.items + 1) turn call ∷ []) (n + 1)) last ∙ here;
+        })
 
 -- ---- an answer
 
@@ -176,7 +211,8 @@ no_ask entry.Reset n e = refl
 no_ask (entry.Pick m) n e = refl
 no_ask (entry.Retire m) n e = refl
 
-module _ (version : ℕ) (task : Task) (before : List Entry) (l : Ledger) (e : Entry) (n : ℕ) (h : IsLedger version task before l) (few : length l.asked.items ≤ 100000) (answers : answered_number e ≡ Some n) (may : MayFollow version task before e) where
+module _ (version : ℕ) (task : Task) (before : List Entry) (l : Ledger) (e : Entry) (n : ℕ) (h : IsLedger version task before l)
+    (few : length l.asked.items ≤ 100000) (answers : answered_number e ≡ Some n) (may : MayFollow version task before e) where
   open_here : is_open before n ≡ true
   open_here = waits_for version task before e n answers may
 
@@ -197,7 +233,12 @@ module _ (version : ℕ) (task : Task) (before : List Entry) (l : Ledger) (e : E
     fit = h.fit;
     legal = (grows version task before).next e h.legal may;
     counted = h.counted ∙ sym same_asks;
-    asks = λ k i at. let a = h.asks k i at in record { stream = a.stream; streamed = a.streamed; asks = asked-kept task before (e ∷ []) (k + 1) (record { stream = a.stream; instance = i }) a.asks };
+    asks = λ k i at. let a = h.asks k i at in
+        record {
+          stream = a.stream;
+          streamed = a.streamed;
+          asks = asked-kept task before (e ∷ []) (k + 1) (record { stream = a.stream; instance = i }) a.asks;
+        };
     answered = omega (arith, h.answered, one_more, same_asks, left);
     few = few;
   }
@@ -222,7 +263,9 @@ module _ (version : ℕ) (task : Task) (before : List Entry) (l : Ledger) (e : E
         notes = notes;
         counted = ap length asked_is ∙ can.counted;
         asks = λ k i at. can.asks k i (ap (λ is. slice_get is k) (sym asked_is) ∙ at);
-        unanswered = λ k. ap (λ ms. has_number ms k) unanswered_is ∙ among_without n k l.unanswered.items ∙ (λ t. h.unanswered k t && not (k == n)) ∙ sym (adds.waiting k);
+        unanswered =
+            λ k. ap (λ ms. has_number ms k) unanswered_is ∙ among_without n k l.unanswered.items ∙ (λ t. h.unanswered k t && not (k == n))
+            ∙ sym (adds.waiting k);
         answered = omega (arith, ap length unanswered_is, left, h.answered, one_more, same_asks);
       }
 

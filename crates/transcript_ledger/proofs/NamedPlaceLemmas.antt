@@ -25,9 +25,12 @@ pub no_places : (names more : List (List ℕ)) (k : ℕ) (name : List ℕ) → s
 no_places names [] k name at absent = absurd (cc)
 no_places names (first ∷ more) zero name at absent =
     let same : first ≡ name = cc in
-    ap (option_and_then (λ object. option_map (λ objects. object ∷ objects) (places_of names more))) (ap (place_of names) same ∙ no_place names name absent)
+    ap (option_and_then (λ object. option_map (λ objects. object ∷ objects) (places_of names more)))
+    (ap (place_of names) same ∙ no_place names name absent)
 no_places names (first ∷ more) (suc k) name at absent =
-    ap (λ os. option_and_then (λ object. option_map (λ objects. object ∷ objects) os) (place_of names first)) (no_places names more k name at absent) ∙ nothing (place_of names first)
+    ap (λ os. option_and_then (λ object. option_map (λ objects. object ∷ objects) os) (place_of names first))
+    (no_places names more k name at absent)
+    ∙ nothing (place_of names first)
 
 -- one object more
 pub places_push : (names more : List (List ℕ)) (objects : List ℕ) (k o : ℕ) (name : List ℕ)

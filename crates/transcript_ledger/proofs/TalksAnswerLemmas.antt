@@ -59,7 +59,12 @@ module _ (version : ℕ) (task : Task) (before : List Entry) (l : Ledger) (h : I
       let there = get_there l.asked.items (n - 1) (omega (arith, within.0, within.1, h.counted)) in
       let its = h.asks (n - 1) there.0 there.1 in
       let back : n ≡ n - 1 + 1 = omega (arith, within.0) in
-      record { request = record { stream = its.stream; instance = there.0 }; at = there.1; streamed = its.streamed; of = ap (asked task before) back ∙ its.asks }
+      record {
+        request = record { stream = its.stream; instance = there.0 };
+        at = there.1;
+        streamed = its.streamed;
+        of = ap (asked task before) back ∙ its.asks;
+      }
 
   -- the test is that of the stream that was asked
   test_is : (n : ℕ) (e : Entry) → is_open before n ≡ true → (f : Found n)
@@ -83,7 +88,15 @@ module _ (version : ℕ) (task : Task) (before : List Entry) (l : Ledger) (h : I
   gives n (entry.Got m tuples values) formed is waits f given =
       let same : m ≡ n = cc in
       subst (λ k. MayFollow version task before (entry.Got k tuples values)) (sym same)
-      (record { waiting = waits; request = f.request; of = f.of; no_cost = first_so (is_none f.request.stream.worth) (length values == tuples * length f.request.stream.outputs) given; right = right version tuples (length f.request.stream.outputs) values formed.1 (eqb-true (length values) (tuples * length f.request.stream.outputs) (second_so (is_none f.request.stream.worth) (length values == tuples * length f.request.stream.outputs) given)) })
+      (record {
+        waiting = waits;
+        request = f.request;
+        of = f.of;
+        no_cost = first_so (is_none f.request.stream.worth) (length values == tuples * length f.request.stream.outputs) given;
+        right = right version tuples (length f.request.stream.outputs) values formed.1
+            (eqb-true (length values) (tuples * length f.request.stream.outputs)
+            (second_so (is_none f.request.stream.worth) (length values == tuples * length f.request.stream.outputs) given));
+      })
   gives n (entry.Value m value) formed is waits f given =
       let same : m ≡ n = cc in
       subst (λ k. MayFollow version task before (entry.Value k value)) (sym same)
@@ -111,11 +124,16 @@ module _ (version : ℕ) (task : Task) (before : List Entry) (l : Ledger) (h : I
       → may_give f.request.stream e ≡ true
   given_by n (entry.Got m tuples values) is may f =
       let same : m ≡ n = cc in
-      let request : may.request ≡ f.request = same_some (asked task before n) may.request f.request (ap (asked task before) (sym same) ∙ may.of) f.of in
-      and_from (is_none f.request.stream.worth) (length values == tuples * length f.request.stream.outputs) (ap (λ (a : Asked). is_none a.stream.worth) (sym request) ∙ may.no_cost) (eq-eqb (length values) (tuples * length f.request.stream.outputs) (may.right.count ∙ ap (λ (a : Asked). tuples * length a.stream.outputs) request))
+      let request : may.request ≡ f.request =
+      same_some (asked task before n) may.request f.request (ap (asked task before) (sym same) ∙ may.of) f.of in
+      and_from (is_none f.request.stream.worth) (length values == tuples * length f.request.stream.outputs)
+      (ap (λ (a : Asked). is_none a.stream.worth) (sym request) ∙ may.no_cost)
+      (eq-eqb (length values) (tuples * length f.request.stream.outputs)
+      (may.right.count ∙ ap (λ (a : Asked). tuples * length a.stream.outputs) request))
   given_by n (entry.Value m value) is may f =
       let same : m ≡ n = cc in
-      let request : may.request ≡ f.request = same_some (asked task before n) may.request f.request (ap (asked task before) (sym same) ∙ may.of) f.of in
+      let request : may.request ≡ f.request =
+      same_some (asked task before n) may.request f.request (ap (asked task before) (sym same) ∙ may.of) f.of in
       ap not (ap (λ (a : Asked). is_none a.stream.worth) (sym request) ∙ may.cost)
   given_by n (entry.End m) is may f = refl
   given_by n (entry.Ask m turn call) is may f = absurd (cc)

@@ -3,7 +3,6 @@ use Rattle.std.proofs.Common.{◌≡◌, ℕ, suc, ◌+◌, ◌-◌, ◌≤◌, 
 use Rattle.std.proofs.Math.ListN.{take-append-drop}
 use Rattle.std.specs.Cmp.{first_so, second_so}
 use Rattle.std.specs.List.{list_any}
-use Rattle.session_core.proofs.LearningLemmas.{take_next}
 use Rattle.session_core.proofs.SessionLemmas.{count_joined}
 use Rattle.task_model.proofs.StreamsLemmas.{due_holds, due_passes, instances_same}
 use Rattle.task_model.specs.Known.{same_numbers}
@@ -25,6 +24,7 @@ use Rattle.std.proofs.lemmas.Bool.{and_from, not-true, not_from_false, false≢t
 use Rattle.std.proofs.lemmas.Map.Keys.{any_passes_from_place}
 use Rattle.lemmas.proofs.Options.{same_some}
 use Rattle.lemmas.proofs.ListTests.{get_there}
+use Rattle.lemmas.proofs.Members.{next_taken}
 
 -- ---- open requests
 
@@ -36,8 +36,11 @@ opened version task before n legal waits =
     let made = first_request before n (first_so (list_any (is_ask_of n) before) (not (list_any (is_answer_to n) before)) waits) in
     let e = entry.Ask n made.1 made.2 in
     let right : IsRightAsk task (take made.0 before) n made.1 made.2 = legal made.0 e made.3 in
-    let parts : asks_of before ≡ asks_of (take (made.0 + 1) before) + asks_of (drop (made.0 + 1) before) = ap asks_of (sym (take-append-drop (made.0 + 1) before)) ∙ count_joined is_ask (take (made.0 + 1) before) (drop (made.0 + 1) before) in
-    let front : asks_of (take (made.0 + 1) before) ≡ asks_of (take made.0 before) + 1 = ap asks_of (take_next before made.0 e made.3) ∙ count_joined is_ask (take made.0 before) (e ∷ []) in
+    let parts : asks_of before ≡ asks_of (take (made.0 + 1) before) + asks_of (drop (made.0 + 1) before) =
+    ap asks_of (sym (take-append-drop (made.0 + 1) before))
+    ∙ count_joined is_ask (take (made.0 + 1) before) (drop (made.0 + 1) before) in
+    let front : asks_of (take (made.0 + 1) before) ≡ asks_of (take made.0 before) + 1 =
+    ap asks_of (next_taken before made.0 e made.3) ∙ count_joined is_ask (take made.0 before) (e ∷ []) in
     let number = right.next in
     (omega (arith, number), omega (arith, number, parts, front))
 
@@ -79,7 +82,8 @@ asked_is asked_all i n (Some j) at e =
 
 -- ---- the tests
 
-module _ (version : ℕ) (task : Task) (before : List Entry) (l : Ledger) (h : IsLedger version task before l) (number turn : ℕ) (call : Call) (i : Instance) (named : instance_of task (names_of task before) call ≡ Some i) where
+module _ (version : ℕ) (task : Task) (before : List Entry) (l : Ledger) (h : IsLedger version task before l) (number turn : ℕ)
+    (call : Call) (i : Instance) (named : instance_of task (names_of task before) call ≡ Some i) where
   -- the tests, one by one
   abbrev next_test : Bool
   next_test = number == length l.asked.items + 1
@@ -103,13 +107,19 @@ module _ (version : ℕ) (task : Task) (before : List Entry) (l : Ledger) (h : I
           let there = get_there l.asked.items (n - 1) (omega (arith, within.0, within.1, h.counted)) in
           let its = h.asks (n - 1) there.0 there.1 in
           let back : n ≡ n - 1 + 1 = omega (arith, within.0) in
-          let known : asked task before n ≡ Some (record { stream = its.stream; instance = there.0 }) = ap (asked task before) back ∙ its.asks in
-          let is : there.0 ≡ i = ap (λ (x : Asked). x.instance) (same_some (asked task before n) (record { stream = its.stream; instance = there.0 }) a known was) ∙ same in
+          let known : asked task before n ≡ Some (record { stream = its.stream; instance = there.0 }) =
+          ap (asked task before) back ∙ its.asks in
+          let is : there.0 ≡ i =
+          ap (λ (x : Asked). x.instance)
+          (same_some (asked task before n) (record { stream = its.stream; instance = there.0 }) a known was)
+          ∙ same in
           let among : has_number l.unanswered.items n ≡ true = h.unanswered n ∙ e in
           let it = such (λ m. n == m) l.unanswered.items among in
           let number_is : it.member ≡ n = sym (eqb-true n it.member it.passes_it) in
-          let passes_it : asked_it l.asked.items i it.member ≡ true = ap (asked_it l.asked.items i) number_is ∙ asked_yes l.asked.items i there.0 n there.1 is in
-          absurd (false≢true (sym none ∙ any_passes_from_place (asked_it l.asked.items i) l.unanswered.items it.place it.member it.at passes_it))
+          let passes_it : asked_it l.asked.items i it.member ≡ true =
+          ap (asked_it l.asked.items i) number_is ∙ asked_yes l.asked.items i there.0 n there.1 is in
+          absurd (false≢true
+          (sym none ∙ any_passes_from_place (asked_it l.asked.items i) l.unanswered.items it.place it.member it.at passes_it))
 
   waits_not : HasNoRequestOpen task before i → is_waiting l.asked.items l.unanswered.items i ≡ false
   waits_not closed = by (is_waiting l.asked.items l.unanswered.items i) refl
@@ -120,11 +130,13 @@ module _ (version : ℕ) (task : Task) (before : List Entry) (l : Ledger) (h : I
           let it = such (asked_it l.asked.items i) l.unanswered.items e in
           let n = it.member in
           let was = asked_is l.asked.items i n (slice_get l.asked.items (n - 1)) refl it.passes_it in
-          let here : is_open before n ≡ true = sym (h.unanswered n) ∙ any_passes_from_place (λ m. n == m) l.unanswered.items it.place n it.at (eq-eqb n n refl) in
+          let here : is_open before n ≡ true =
+          sym (h.unanswered n) ∙ any_passes_from_place (λ m. n == m) l.unanswered.items it.place n it.at (eq-eqb n n refl) in
           let within = opened version task before n h.legal here in
           let its = h.asks (n - 1) was.0 was.1 in
           let back : n ≡ n - 1 + 1 = omega (arith, within.0) in
-          absurd (false≢true (sym (closed n (record { stream = its.stream; instance = was.0 }) (ap (asked task before) back ∙ its.asks) was.2) ∙ here))
+          absurd (false≢true
+          (sym (closed n (record { stream = its.stream; instance = was.0 }) (ap (asked task before) back ∙ its.asks) was.2) ∙ here))
 
   pub passes : may_ask task l number turn i ≡ true → IsRightAsk task before number turn call
   passes e =
@@ -146,8 +158,15 @@ module _ (version : ℕ) (task : Task) (before : List Entry) (l : Ledger) (h : I
   pub must_pass : IsRightAsk task before number turn call → may_ask task l number turn i ≡ true
   must_pass right =
       let same : right.instance ≡ i = same_some (instance_of task (names_of task before) call) right.instance i right.named named in
-      let due : IsDue task l.facts.known l.queue i = subst (λ k. IsDue task k l.queue i) (sym h.known) (subst (λ ns. IsDue task (known_of task before) ns i) (sym h.notes) (subst (λ j. IsDue task (known_of task before) (notes_of task before) j) same right.due)) in
+      let due : IsDue task l.facts.known l.queue i =
+      subst (λ k. IsDue task k l.queue i) (sym h.known)
+      (subst (λ ns. IsDue task (known_of task before) ns i)
+      (sym h.notes) (subst (λ j. IsDue task (known_of task before) (notes_of task before) j) same right.due)) in
       let closed : HasNoRequestOpen task before i = subst (HasNoRequestOpen task before) same right.closed in
-      and_from next_test (turn_test && (due_test && idle_test)) (eq-eqb number (length l.asked.items + 1) (right.next ∙ ap (λ m. m + 1) (sym h.counted)))
-      (and_from turn_test (due_test && idle_test) (eq-eqb turn (yields_of l.queue i) (right.turned ∙ ap (yields_of (notes_of task before)) same ∙ ap (λ ns. yields_of ns i) (sym h.notes)))
-      (and_from due_test idle_test (due_passes task l.facts.known l.queue i due) (not_from_false (is_waiting l.asked.items l.unanswered.items i) (waits_not closed))))
+      and_from next_test (turn_test && (due_test && idle_test))
+      (eq-eqb number (length l.asked.items + 1) (right.next ∙ ap (λ m. m + 1) (sym h.counted)))
+      (and_from turn_test (due_test && idle_test)
+      (eq-eqb turn (yields_of l.queue i)
+      (right.turned ∙ ap (yields_of (notes_of task before)) same ∙ ap (λ ns. yields_of ns i) (sym h.notes)))
+      (and_from due_test idle_test (due_passes task l.facts.known l.queue i due)
+      (not_from_false (is_waiting l.asked.items l.unanswered.items i) (waits_not closed))))

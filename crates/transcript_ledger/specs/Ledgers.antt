@@ -24,8 +24,8 @@ asked_it asked i n = of (slice_get asked (n - 1))
 abbrev pub is_waiting : List Instance → List ℕ → Instance → Bool
 is_waiting asked numbers i = list_any (asked_it asked i) numbers
 
--- The transcript is legal. What it certifies and tells is known and noted, the instances that it asked stand in order, and the
--- numbers of its requests that have no answer are kept.
+-- The transcript is legal. What it certifies and tells is known and noted, the instances that it asked stand in order,
+-- and the numbers of its requests that have no answer are kept.
 pub record IsLedger (version : ℕ) (task : Task) (entries : List Entry) (l : Ledger) : Type 0 where
   pub fit : IsFit task
   pub legal : IsLegal version task entries

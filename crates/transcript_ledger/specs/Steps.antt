@@ -15,4 +15,6 @@ action_named task name = position (λ (a : Action). same_numbers name a.name) ta
 
 -- the step that a call stands for, where its action and its objects are known
 abbrev pub step_named : Task → List (List ℕ) → Call → Option GroundAction
-step_named task names call = option_and_then (λ action. option_map (λ args. record { action = action; args = args }) (places_of names call.args)) (action_named task call.name)
+step_named task names call =
+    option_and_then (λ action. option_map (λ args. record { action = action; args = args }) (places_of names call.args))
+    (action_named task call.name)

@@ -17,10 +17,13 @@ use Rattle.transcript_ledger.specs.Ledgers.{is_waiting}
 use Rattle.lemmas.specs.Lists.{has_number}
 use Rattle.transcript_ledger.specs.declared.ledger.Ledger.{Ledger}
 
--- the request has the next number, the instance is due, none of its requests is open, and the turn is how many tuples it gave
+-- the request has the next number, the instance is due, none of its requests is open, and the turn is how many tuples
+-- it gave
 abbrev pub may_ask : Task → Ledger → ℕ → ℕ → Instance → Bool
 may_ask task l number turn i =
-    (number == length l.asked.items + 1) && ((turn == yields_of l.queue i) && (is_due task l.facts.known l.queue i && not (is_waiting l.asked.items l.unanswered.items i)))
+    (number == length l.asked.items + 1)
+    && ((turn == yields_of l.queue i)
+    && (is_due task l.facts.known l.queue i && not (is_waiting l.asked.items l.unanswered.items i)))
 
 -- the stream may give this answer, whose tuples are of equal width
 abbrev pub may_give : Stream → Entry → Bool
@@ -52,4 +55,5 @@ IsAskedBy calls task before number turn call None =
 -- the request of these fields is the one of this number, of this instance
 abbrev pub is_same_request : Task → List (List ℕ) → List Note → ℕ → Instance → ℕ → ℕ → Call → Bool
 is_same_request task names notes number i shown turn call =
-    (shown == number) && (turn == yields_of notes i) && same_numbers call.name (stream_name task i.stream) && pointwise same_numbers call.args (map (name_at names) i.inputs)
+    (shown == number) && (turn == yields_of notes i) && same_numbers call.name (stream_name task i.stream)
+    && pointwise same_numbers call.args (map (name_at names) i.inputs)

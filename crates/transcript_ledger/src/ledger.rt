@@ -2,6 +2,7 @@
 ghost use Rattle.std.specs.Prelude.{◌≡◌, IfOk};
 ghost use Rattle.task_model.specs.declared.task.Task.{Task as AnyTask};
 ghost use Rattle.transcript_ledger.specs.Numbers.{without};
+ghost use Rattle.transcript_model.specs.declared.limits.TheConstants.{MOST_CALLS};
 
 use fact_store::Facts;
 use instance_queue::Queue;
@@ -88,7 +89,7 @@ impl Ledger {
 
     /// Takes a request of the instance, which may be made.
     pub fn ask(&mut self, instance: Instance) -> Result<(), AllocError>
-        requires { length self.old.asked.items < 100000 }
+        requires { length self.old.asked.items < MOST_CALLS }
         ensures kept { OnOk result ((version turn : ℕ) (task : AnyTask) (before : List AnyEntry)
             (call : AnyCall) → IsLedger version task before self.old
             → IsRightAsk task before (length self.old.asked.items + 1) turn call
@@ -113,7 +114,7 @@ impl Ledger {
         place: usize,
     ) -> Result<(), AllocError>
         requires ledger { IsLedger version task.now (take place entries.now) self.old }
-        requires few { length self.old.asked.items ≤ 100000 }
+        requires few { length self.old.asked.items ≤ MOST_CALLS }
         requires there { (e : AnyEntry) × (slice_get entries.now place ≡ Some e)
             × (answered_number e ≡ Some number)
             × MayFollow version task.now (take place entries.now) e }

@@ -3,6 +3,7 @@ ghost use Rattle.std.specs.Prelude.{IfOk, IfSome, IfNone};
 ghost use Rattle.instance_queue.specs.Level.{AreDueInTurn};
 ghost use Rattle.task_model.specs.Fit.{IsFit};
 ghost use Rattle.task_model.specs.Streams.{MoreAreDue};
+ghost use Rattle.task_model.specs.declared.limits.TheConstants.{MOST_DUE};
 
 use crate::ledger::Ledger;
 use instance_queue::{Due, QueueFault};
@@ -15,7 +16,7 @@ pub fn dues_of(task: &Task, ledger: &Ledger) -> Result<Option<Vec<Due>>, AllocEr
     ensures some { IfOk result (λ found. IfSome found
         (λ dues. AreDueInTurn task.now ledger.now.facts.known ledger.now.queue dues.items)) }
     ensures none { IfOk result (λ found. IfNone found
-        (MoreAreDue 1000000 task.now ledger.now.facts.known ledger.now.queue)) }
+        (MoreAreDue MOST_DUE task.now ledger.now.facts.known ledger.now.queue)) }
 {
     match ledger.queue.next_level(task, &ledger.facts) {
         Ok(dues) => Ok(Some(dues)),

@@ -50,7 +50,8 @@ shown : (names : List (List ℕ)) (objects : List ℕ)
 shown names [] within = refl
 shown names (o ∷ os) within =
     let below = within o (Contains-append_left (o ∷ []) os o (0, omega arith, refl)) in
-    let first : slice_get names o ≡ Some (name_at names o) = slice_get-get_or names o [] below ∙ ap Some (sym (unwrap_or-slice_get names o [])) in
+    let first : slice_get names o ≡ Some (name_at names o) =
+    slice_get-get_or names o [] below ∙ ap Some (sym (unwrap_or-slice_get names o [])) in
     let rest = shown names os (λ p m. within p (Contains-append_right (o ∷ []) os p m)) in
     λ i. first i ∷ rest i
 
@@ -74,11 +75,17 @@ stream_found task k distinct below = found (slice_get task.streams k) refl
         no_stream d = let there = slice_get-get_or task.streams k d below in absurd (cc)
     found (Some s) at =
         let named : stream_name task k ≡ s.name = rw at refl in
-        position_only (λ (t : Stream). same_numbers (stream_name task k) t.name) task.streams k s at ((numbers_decided (stream_name task k) s.name).1 named) (λ m t there same. distinct m k s.name (name_there m t there ∙ ap Some (sym ((numbers_decided (stream_name task k) t.name).0 same) ∙ named)) (name_there k s at))
+        position_only (λ (t : Stream). same_numbers (stream_name task k) t.name) task.streams k s at
+        ((numbers_decided (stream_name task k) s.name).1 named)
+        (λ m t there same. distinct m k s.name
+        (name_there m t there ∙ ap Some (sym ((numbers_decided (stream_name task k) t.name).0 same) ∙ named)) (name_there k s at))
 
 pub call_names_instance : (task : Task) (names : List (List ℕ)) (i : Instance) → IsFit task
     → AreDistinct names
     → i.stream < length task.streams → ((o : ℕ) → Contains i.inputs o → o < length names)
     → instance_of task names (call_of_instance task names i) ≡ Some i
 call_names_instance task names i fit distinct below within =
-    rw (stream_found task i.stream fit.streams.names.distinct below, places_back names (map (name_at names) i.inputs) i.inputs distinct (shown names i.inputs within)) refl
+    rw (
+      stream_found task i.stream fit.streams.names.distinct below,
+      places_back names (map (name_at names) i.inputs) i.inputs distinct (shown names i.inputs within),
+    ) refl

@@ -47,16 +47,19 @@ with_values-distinct values (v ∷ more) distinct =
   where
     one : AreDistinct (with_value values v)
     one =
-        elim (list_any (same_value v) values) as (λ b. list_any (same_value v) values ≡ b → AreDistinct (cond b values (values ++ v ∷ []))) [
+        elim (list_any (same_value v) values) as
+        (λ b. list_any (same_value v) values ≡ b → AreDistinct (cond b values (values ++ v ∷ []))) [
           | true ↦ λ _. distinct
-          | false ↦ λ absent. distinct_push values v distinct (λ m. not_both _ (list_any-from_Contains values_equivalence v values m) absent)
+          | false ↦ λ absent. distinct_push values v distinct
+              (λ m. not_both _ (list_any-from_Contains values_equivalence v values m) absent)
         ] refl
 
 with_values-all : (P : Valued → Type 0) (values more : List Valued) → All P values → All P more
     → All P (with_values values more)
 with_values-all P values [] all more = all
 with_values-all P values (v ∷ vs) all more =
-    with_values-all P (with_value values v) vs (one (All-contains P (v ∷ vs) v more (0, omega arith, refl))) (λ k d lt. more (suc k) d (omega arith))
+    with_values-all P (with_value values v) vs
+    (one (All-contains P (v ∷ vs) v more (0, omega arith, refl))) (λ k d lt. more (suc k) d (omega arith))
   where
     one : P v → All P (with_value values v)
     one p =
@@ -89,7 +92,9 @@ instance_in : (task : Task) (names : List (List ℕ)) (call : Call) (i : Instanc
     → instance_of task names call ≡ Some i
     → All (IsIn names) i.inputs
 instance_in task names call i e =
-    let stream = and_then_some (λ stream. option_map (λ inputs. record { stream = stream; inputs = inputs }) (places_of names call.args)) (stream_named task call.name) i e in
+    let stream =
+    and_then_some (λ stream. option_map (λ inputs. record { stream = stream; inputs = inputs }) (places_of names call.args))
+    (stream_named task call.name) i e in
     let inputs = map_some (λ inputs. record { stream = stream.0; inputs = inputs }) (places_of names call.args) i stream.2 in
     subst (λ (x : Instance). All (IsIn names) x.inputs) inputs.2 (places_in names call.args inputs.0 inputs.1)
 
@@ -99,8 +104,11 @@ call_at : (xs : List Entry) (n : ℕ) (call : Call) → call_of xs n ≡ Some ca
     → (j : ℕ) × (turn : ℕ) × (slice_get xs j ≡ Some (entry.Ask n turn call))
 call_at [] n call e = absurd (cc)
 call_at (entry.Ask number turn c ∷ xs) n call e =
-    elim (n == number) as (λ b. (n == number) ≡ b → option_or (cond b (Some c) None) (call_of xs n) ≡ Some call → (j : ℕ) × (t : ℕ) × (slice_get (entry.Ask number turn c ∷ xs) j ≡ Some (entry.Ask n t call))) [
-      | true ↦ λ same h. let same_call : c ≡ call = cc in (0, turn, λ i. Some (entry.Ask (sym (eqb-true n number same) i) turn (same_call i)))
+    elim (n == number) as (λ b.
+    (n == number) ≡ b → option_or (cond b (Some c) None) (call_of xs n) ≡ Some call
+    → (j : ℕ) × (t : ℕ) × (slice_get (entry.Ask number turn c ∷ xs) j ≡ Some (entry.Ask n t call))) [
+      | true ↦ λ same h. let same_call : c ≡ call = cc in
+          (0, turn, λ i. Some (entry.Ask (sym (eqb-true n number same) i) turn (same_call i)))
       | false ↦ λ other h. let r = call_at xs n call h in (suc r.0, r.1, r.2)
     ] refl e
 call_at (x ∷ xs) n call e = let r = call_at xs n call e in (suc r.0, r.1, r.2)
@@ -108,8 +116,10 @@ call_at (x ∷ xs) n call e = let r = call_at xs n call e in (suc r.0, r.1, r.2)
 asked_streamed : (task : Task) (i : Instance) (a : Asked) → asked_of task i ≡ Some a
     → (slice_get task.streams a.instance.stream ≡ Some a.stream) × (i ≡ a.instance)
 asked_streamed task i a e =
-    let stream = map_some (λ stream. record { stream = stream; instance = i }) (slice_get task.streams i.stream) a e in
-    (subst (λ (x : Asked). slice_get task.streams x.instance.stream ≡ Some x.stream) stream.2 stream.1, ap (λ (x : Asked). x.instance) stream.2)
+    let stream = map_some (λ stream. record { stream = stream; instance = i }) (slice_get task.streams i.stream) a e in (
+      subst (λ (x : Asked). slice_get task.streams x.instance.stream ≡ Some x.stream) stream.2 stream.1,
+      ap (λ (x : Asked). x.instance) stream.2,
+    )
 
 module _ (version : ℕ) (task : Task) (entries : List Entry) (fit : IsFit task) (legal : IsLegal version task entries) where
   pub asked_is : (n : ℕ) (a : Asked) → asked task entries n ≡ Some a
@@ -120,33 +130,48 @@ module _ (version : ℕ) (task : Task) (entries : List Entry) (fit : IsFit task)
       let at = call_at entries n call.0 call.1 in
       let right : IsRightAsk task (take at.0 entries) n at.1 call.0 = legal at.0 _ at.2 in
       let front = names_of-front task (take at.0 entries) (drop at.0 entries) in
-      let names : names_of task entries ≡ names_of task (take at.0 entries) ++ front.0 = ap (names_of task) (sym (take-append-drop at.0 entries)) ∙ front.1 in
-      let later : instance_of task (names_of task entries) call.0 ≡ Some right.instance = subst (λ ns. instance_of task ns call.0 ≡ Some right.instance) (sym names) (instance_kept task (names_of task (take at.0 entries)) front.0 call.0 right.instance right.named) in
+      let names : names_of task entries ≡ names_of task (take at.0 entries) ++ front.0 =
+      ap (names_of task) (sym (take-append-drop at.0 entries)) ∙ front.1 in
+      let later : instance_of task (names_of task entries) call.0 ≡ Some right.instance =
+      subst (λ ns. instance_of task ns call.0 ≡ Some right.instance)
+      (sym names) (instance_kept task (names_of task (take at.0 entries)) front.0 call.0 right.instance right.named) in
       let streamed = asked_streamed task whole.0 a whole.2 in
       let same : right.instance ≡ a.instance = same_some _ _ _ later call.2 ∙ streamed.1 in
-      let same_stream : right.due.stream ≡ a.stream = same_some _ _ _ (subst (λ (x : Instance). slice_get task.streams x.stream ≡ Some right.due.stream) same right.due.named) streamed.0 in
-      let typed : have_types (known_of task (take at.0 entries)) right.instance.inputs right.due.stream.inputs ≡ true = first_so (have_types (known_of task (take at.0 entries)) right.instance.inputs right.due.stream.inputs) _ right.due.reachable in
+      let same_stream : right.due.stream ≡ a.stream =
+      same_some _ _ _ (subst (λ (x : Instance). slice_get task.streams x.stream ≡ Some right.due.stream) same right.due.named)
+      streamed.0 in
+      let typed : have_types (known_of task (take at.0 entries)) right.instance.inputs right.due.stream.inputs ≡ true =
+      first_so (have_types (known_of task (take at.0 entries)) right.instance.inputs right.due.stream.inputs) _ right.due.reachable in
       record {
         streamed = streamed.0;
         many =
             (λ i. length (sym same i).inputs)
             ∙ have_types-length (known_of task (take at.0 entries)) right.instance.inputs right.due.stream.inputs typed
             ∙ ap (λ (s : Stream). length s.inputs) same_stream;
-        named = subst (λ (x : Instance). All (IsIn (names_of task entries)) x.inputs) streamed.1 (instance_in task (names_of task entries) call.0 whole.0 call.2);
+        named = subst (λ (x : Instance). All (IsIn (names_of task entries)) x.inputs) streamed.1
+            (instance_in task (names_of task entries) call.0 whole.0 call.2);
       }
 
   enough : length task.problem.objects ≤ length (names_of task entries)
   enough =
       let front = with_names-front (declared_names task) (flat_map objects_in entries) in
-      omega (arith, ap length front.1, length-append (declared_names task) front.0, length-map task.problem.objects (λ (d : Declared). d.name))
+      omega (
+        arith,
+        ap length front.1,
+        length-append (declared_names task) front.0,
+        length-map task.problem.objects (λ (d : Declared). d.name),
+      )
 
   tuple_named : (a : Asked) (tuple : List (List ℕ)) → IsAsked task (names_of task entries) a
       → length tuple ≡ length a.stream.outputs
       → AreNamed (names_of task entries) tuple → All (IsNamed (names_of task entries)) (tuple_facts task (names_of task entries) a tuple)
   tuple_named a tuple is many named =
       let places = named_places (names_of task entries) tuple named in
-      let as_many : length places.0 ≡ length a.stream.outputs = places_many (names_of task entries) (map generated tuple) places.0 places.1 ∙ length-map tuple generated ∙ many in
-      rw places.1 (certified_named (names_of task entries) task a.stream a.instance.inputs places.0 fit (fit_stream_at task a.instance.stream a.stream fit is.streamed) enough is.many as_many is.named (places_in (names_of task entries) (map generated tuple) places.0 places.1))
+      let as_many : length places.0 ≡ length a.stream.outputs =
+      places_many (names_of task entries) (map generated tuple) places.0 places.1 ∙ length-map tuple generated ∙ many in
+      rw places.1 (certified_named (names_of task entries) task a.stream a.instance.inputs places.0 fit
+      (fit_stream_at task a.instance.stream a.stream fit is.streamed) enough is.many as_many is.named
+      (places_in (names_of task entries) (map generated tuple) places.0 places.1))
 
   yield_named : (a : Asked) (width tuples : ℕ) (values : List (List ℕ))
       → IsAsked task (names_of task entries) a
@@ -158,9 +183,12 @@ module _ (version : ℕ) (task : Task) (entries : List Entry) (fit : IsFit task)
       let whole : length values ≡ tuples * width + width = many ∙ suc-mul tuples width in
       let first : length (take width values) ≡ width = length-take-le width values (omega (arith, whole)) in
       let later : length (drop width values) ≡ tuples * width = omega (arith, length-drop width values, whole) in
-      All-append (IsNamed (names_of task entries)) (tuple_facts task (names_of task entries) a (take width values)) (flat_map (tuple_facts task (names_of task entries) a) (tuples_in width tuples (drop width values)))
-      (tuple_named a (take width values) is (first ∙ same) (λ v m. named v (subst (λ vs. Contains vs v) parts (Contains-append_left (take width values) (drop width values) v m))))
-      (yield_named a width tuples (drop width values) is same later (λ v m. named v (subst (λ vs. Contains vs v) parts (Contains-append_right (take width values) (drop width values) v m))))
+      All-append (IsNamed (names_of task entries)) (tuple_facts task (names_of task entries) a (take width values))
+      (flat_map (tuple_facts task (names_of task entries) a) (tuples_in width tuples (drop width values)))
+      (tuple_named a (take width values) is (first ∙ same)
+      (λ v m. named v (subst (λ vs. Contains vs v) parts (Contains-append_left (take width values) (drop width values) v m))))
+      (yield_named a width tuples (drop width values) is same later
+      (λ v m. named v (subst (λ vs. Contains vs v) parts (Contains-append_right (take width values) (drop width values) v m))))
 
   certified_each : (k : ℕ) (e : Entry) → slice_get entries k ≡ Some e
       → All (IsNamed (names_of task entries)) (certified task entries e)
@@ -170,7 +198,8 @@ module _ (version : ℕ) (task : Task) (entries : List Entry) (fit : IsFit task)
           → All (IsNamed (names_of task entries)) (certified task entries (entry.Got n tuples values))
       got right =
           let was = asked-later task entries k n right.request right.of in
-          rw was (yield_named right.request (length right.request.stream.outputs) tuples values (asked_is n right.request was) refl right.right.count (values_named task entries k n tuples values fit.problem.objects.names.distinct at))
+          rw was (yield_named right.request (length right.request.stream.outputs) tuples values (asked_is n right.request was) refl
+          right.right.count (values_named task entries k n tuples values fit.problem.objects.names.distinct at))
   certified_each k e at = All-nil (IsNamed (names_of task entries))
 
   told_each : (k : ℕ) (e : Entry) → slice_get entries k ≡ Some e
@@ -185,11 +214,16 @@ module _ (version : ℕ) (task : Task) (entries : List Entry) (fit : IsFit task)
 
       told : IsRightValue task (take k entries) n value
           → All (λ (v : Valued). v.value ≤ 1000000) (told_value task entries (entry.Value n value))
-      told right = rw (asked-later task entries k n right.request right.of) (worth_small right.request.stream right.request.instance.inputs right.request.stream.worth refl right.few)
+      told right =
+          rw (asked-later task entries k n right.request right.of)
+          (worth_small right.request.stream right.request.instance.inputs right.request.stream.worth refl right.few)
   told_each k e at = All-nil (λ (v : Valued). v.value ≤ 1000000)
 
   values_at_first : All (λ (v : Valued). v.value ≤ 1000000) task.problem.values
-  values_at_first = passes_all (is_fit_value task.domain (length task.problem.objects)) (λ (v : Valued). v.value ≤ 1000000) task.problem.values small (second_so (is_short task.problem.values) (list_all (is_fit_value task.domain (length task.problem.objects)) task.problem.values) fit.problem.values)
+  values_at_first =
+      passes_all (is_fit_value task.domain (length task.problem.objects)) (λ (v : Valued). v.value ≤ 1000000) task.problem.values small
+      (second_so (is_short task.problem.values)
+      (list_all (is_fit_value task.domain (length task.problem.objects)) task.problem.values) fit.problem.values)
     where
       small : (v : Valued) → is_fit_value task.domain (length task.problem.objects) v ≡ true
           → v.value ≤ 1000000
@@ -201,9 +235,16 @@ module _ (version : ℕ) (task : Task) (entries : List Entry) (fit : IsFit task)
   pub coherent : IsCoherent (known_of task entries)
   coherent = record {
     names = names_of-distinct task entries fit.problem.objects.names.distinct;
-    facts = (with_facts-is (initial_known task).facts (flat_map (certified task entries) entries)).distinct ((with_facts-is [] (declared_types task.domain 0 task.problem.objects ++ filter (is_static task.domain) task.problem.init)).distinct distinct_nil);
-    values = with_values-distinct (initial_known task).values (flat_map (told_value task entries) entries) (with_values-distinct [] task.problem.values distinct_nil);
-    objects = with_facts-all (IsNamed (names_of task entries)) (initial_known task).facts (flat_map (certified task entries) entries) (initial_named (names_of task entries) task fit enough) (all_joined (IsNamed (names_of task entries)) (certified task entries) entries certified_each);
-    costs = with_values-all (λ (v : Valued). v.value ≤ 1000000) (initial_known task).values (flat_map (told_value task entries) entries) (with_values-all (λ (v : Valued). v.value ≤ 1000000) [] task.problem.values (All-nil (λ (v : Valued). v.value ≤ 1000000)) values_at_first)
+    facts = (with_facts-is (initial_known task).facts (flat_map (certified task entries) entries)).distinct
+        ((with_facts-is [] (declared_types task.domain 0 task.problem.objects ++ filter (is_static task.domain) task.problem.init)).distinct
+        distinct_nil);
+    values = with_values-distinct (initial_known task).values
+        (flat_map (told_value task entries) entries) (with_values-distinct [] task.problem.values distinct_nil);
+    objects = with_facts-all (IsNamed (names_of task entries)) (initial_known task).facts (flat_map (certified task entries) entries)
+        (initial_named (names_of task entries) task fit enough)
+        (all_joined (IsNamed (names_of task entries)) (certified task entries) entries certified_each);
+    costs = with_values-all (λ (v : Valued). v.value ≤ 1000000) (initial_known task).values (flat_map (told_value task entries) entries)
+        (with_values-all (λ (v : Valued). v.value ≤ 1000000) [] task.problem.values
+        (All-nil (λ (v : Valued). v.value ≤ 1000000)) values_at_first)
         (all_joined (λ (v : Valued). v.value ≤ 1000000) (told_value task entries) entries told_each);
   }

@@ -19,7 +19,8 @@ pub grows : (version : ℕ) (task : Task) (entries : List Entry) → GrowsLegall
 grows version task entries = record {
   front = λ more legal. legal_front version task entries more legal;
   next = λ e legal may k x at. next e legal may k x at (push_cases entries e k x at);
-  last = λ e legal. subst (λ before. MayFollow version task before e) (take-append_seam entries (e ∷ [])) (legal (length entries) e (get_at_length entries e));
+  last = λ e legal. subst (λ before. MayFollow version task before e)
+      (take-append_seam entries (e ∷ [])) (legal (length entries) e (get_at_length entries e));
 }
   where
     next : (e : Entry) → IsLegal version task entries → MayFollow version task entries e
@@ -30,7 +31,8 @@ grows version task entries = record {
         let below = slice_get_within entries k x there in
         subst (λ before. MayFollow version task before x) (sym (take-append-le k entries (e ∷ []) (omega arith))) (legal k x there)
     next e legal may k x at (inr here) =
-        let whole : take k (entries ++ e ∷ []) ≡ entries = ap (λ m. take m (entries ++ e ∷ [])) here.0 ∙ take-append_seam entries (e ∷ []) in
+        let whole : take k (entries ++ e ∷ []) ≡ entries =
+        ap (λ m. take m (entries ++ e ∷ [])) here.0 ∙ take-append_seam entries (e ∷ []) in
         subst (λ before. MayFollow version task before x) (sym whole) (subst (MayFollow version task entries) (sym here.1) may)
 
 -- ---- every number up to the count was asked
@@ -58,4 +60,5 @@ request_asks version task entries n legal some most = from n some most
         let is = request_number version task entries r.0 r.1 r.2 r.3 legal r.4 in
         let same : r.1 ≡ suc m = omega (arith, is, r.5) in
         let found : is_ask_of (suc m) (entry.Ask r.1 r.2 r.3) ≡ true = eq-eqb (suc m) r.1 (sym same) in
-        request_known version task entries (suc m) legal (any_passes_from_place (is_ask_of (suc m)) entries r.0 (entry.Ask r.1 r.2 r.3) r.4 found)
+        request_known version task entries (suc m) legal
+        (any_passes_from_place (is_ask_of (suc m)) entries r.0 (entry.Ask r.1 r.2 r.3) r.4 found)

@@ -17,6 +17,12 @@ use Rattle.transcript_model.proofs.LegalPrefixLemmas.{first_request}
 pub asks_more : (xs ys : List Entry) → asks_of (xs ++ ys) ≡ asks_of xs + asks_of ys
 asks_more xs ys = sum_by-append (λ e. cond (is_ask e) 1 0) xs ys
 
+-- an entry that is no request
+pub asks_marked : (before : List Entry) (e : Entry) → is_ask e ≡ false
+    → asks_of (before ++ e ∷ []) ≡ asks_of before
+asks_marked before e other =
+    let one : asks_of (e ∷ []) ≡ 0 = rw other refl in omega (arith, asks_more before (e ∷ []), one)
+
 -- there are more requests after a request
 pub asks_rise : (xs : List Entry) (j k n turn : ℕ) (call : Call)
     → slice_get xs j ≡ Some (entry.Ask n turn call) → j < k
@@ -45,10 +51,22 @@ module _ (version : ℕ) (task : Task) where
       → slice_get entries j ≡ Some (entry.Ask n turn call) → slice_get entries k ≡ Some (entry.Ask n other again) → j ≡ k
   numbers_own entries j k n turn other call again legal first second =
       elim (nat_lt j k) as (λ b. nat_lt j k ≡ b → j ≡ k) [
-        | true ↦ λ lt. let below : j < k = ltb-true j k lt in absurd (omega (arith, request_number entries j n turn call legal first, request_number entries k n other again legal second, asks_rise entries j k n turn call first below))
+        | true ↦ λ lt. let below : j < k = ltb-true j k lt in
+            absurd (omega (
+              arith,
+              request_number entries j n turn call legal first,
+              request_number entries k n other again legal second,
+              asks_rise entries j k n turn call first below,
+            ))
         | false ↦ λ ge.
             elim (nat_lt k j) as (λ b. nat_lt k j ≡ b → j ≡ k) [
-              | true ↦ λ lt. let below : k < j = ltb-true k j lt in absurd (omega (arith, request_number entries j n turn call legal first, request_number entries k n other again legal second, asks_rise entries k j n other again second below))
+              | true ↦ λ lt. let below : k < j = ltb-true k j lt in
+                  absurd (omega (
+                    arith,
+                    request_number entries j n turn call legal first,
+                    request_number entries k n other again legal second,
+                    asks_rise entries k j n other again second below,
+                  ))
               | false ↦ λ le. omega (arith, ltb-false j k ge, ltb-false k j le)
             ] refl
       ] refl
@@ -66,7 +84,8 @@ module _ (version : ℕ) (task : Task) where
   pub next_is_fresh : (entries : List Entry) → IsLegal version task entries
       → list_any (is_ask_of (asks_of entries + 1)) entries ≡ false
   next_is_fresh entries legal =
-      elim (list_any (is_ask_of (asks_of entries + 1)) entries) as (λ b. list_any (is_ask_of (asks_of entries + 1)) entries ≡ b → b ≡ false) [
+      elim (list_any (is_ask_of (asks_of entries + 1)) entries) as
+      (λ b. list_any (is_ask_of (asks_of entries + 1)) entries ≡ b → b ≡ false) [
         | true ↦ λ there. absurd (omega (arith, (number_below entries (asks_of entries + 1) legal there).1))
         | false ↦ λ _. refl
       ] refl
@@ -90,4 +109,5 @@ module _ (version : ℕ) (task : Task) where
       let at = any_found (is_answer_to n) entries there in
       let waiting = waiting_of (take at.0 entries) n at.1 (legal at.0 at.1 at.2) at.3 in
       let asked = first_so (list_any (is_ask_of n) (take at.0 entries)) (not (list_any (is_answer_to n) (take at.0 entries))) waiting in
-      subst (λ all. list_any (is_ask_of n) all ≡ true) (take-append-drop at.0 entries) (any_append_left (is_ask_of n) (take at.0 entries) (drop at.0 entries) asked)
+      subst (λ all. list_any (is_ask_of n) all ≡ true)
+      (take-append-drop at.0 entries) (any_append_left (is_ask_of n) (take at.0 entries) (drop at.0 entries) asked)

@@ -1,28 +1,29 @@
 -- What stays of a legal transcript where entries come behind it.
-use Rattle.std.proofs.Common.{◌≡◌, ℕ, zero, suc, arith, true, false, cond, ◌||◌, ◌==◌, List, [], ◌∷◌, ◌++◌, map, take, drop, length, refl, sym, subst, ap, ◌∙◌, None, Some, slice_get, Contains, option_map, eqb-true, eq-eqb}
+use Rattle.std.proofs.Common.{◌≡◌, ℕ, zero, suc, arith, true, false, cond, ◌||◌, ◌==◌, List, [], ◌∷◌, ◌++◌, map, take, drop, length, refl, sym, subst, ap, ◌∙◌, None, Some, slice_get, Contains, eqb-true, eq-eqb}
 use Rattle.std.proofs.lemmas.Grind.{flat_map-append}
 use Rattle.std.proofs.lemmas.List.{take-append-drop, take-append-le}
 use Rattle.std.proofs.lemmas.List.Elements.{Contains-append_left, Contains-append_right}
-use Rattle.std.proofs.lemmas.Option.{slice_get_within, slice_get-map}
+use Rattle.std.proofs.lemmas.Option.{slice_get_within}
 use Rattle.std.specs.Cmp.{first_so}
 use Rattle.std.specs.List.{list_any, flat_map}
 use Rattle.std.specs.Option.{option_and_then, option_or}
-use Rattle.lemmas.proofs.Members.{member_at, place_of as place_in, get_append}
-use Rattle.task_model.proofs.KnownLemmas.{facts_then}
+use Rattle.lemmas.proofs.Members.{get_append}
+use Rattle.task_model.proofs.KnownLemmas.{facts_then, with_names-distinct}
 use Rattle.task_model.specs.Initial.{declared_names, initial_known}
-use Rattle.task_model.specs.Known.{with_facts, with_value, with_values}
+use Rattle.task_model.specs.Known.{with_facts, with_value, with_values, with_names}
 use Rattle.lemmas.specs.Lists.{AreDistinct}
 use Rattle.task_model.specs.declared.task.Task.{Task}
 use Rattle.task_model.specs.declared.task.Valued.{Valued}
 use Rattle.transcript_model.specs.Laws.{Continues}
 use Rattle.transcript_model.specs.Legal.{IsLegal, MayFollow, IsRightAsk, is_ask_of, is_answer_to}
-use Rattle.transcript_model.specs.Names.{with_names, generated, place_of, places_of, instance_of}
+use Rattle.transcript_model.specs.Names.{generated, place_of, places_of, instance_of}
 use Rattle.transcript_model.specs.Transcript.{Asked, asked, asked_of, call_in, call_of, objects_in, names_of, certified, told_value, note_of, tuples_in, tuple_facts, yield_facts}
 use Rattle.transcript_model.specs.declared.entry.Call.{Call}
 use Rattle.transcript_model.specs.declared.entry.Entry.{Entry}
 use Rattle.transcript_model.specs.declared.entry.Entry.TheVariants as entry
-use Rattle.transcript_model.proofs.NamesLemmas.{with_names-front, with_names-then, with_names-distinct, with_names-has, place_found, places_kept, instance_kept}
+use Rattle.transcript_model.proofs.NamesLemmas.{with_names-front, with_names-then, with_names-has, place_found, places_kept, instance_kept}
 use Rattle.lemmas.proofs.Options.{and_then_some}
+use Rattle.lemmas.proofs.Distinct.{in_mapped}
 
 -- ---- lists
 
@@ -32,10 +33,6 @@ pub flat_map-at : {A B : Type 0} (f g : A → List B) (xs : List A)
 flat_map-at f g [] same = refl
 flat_map-at f g (x ∷ xs) same =
     rw (same 0 x refl, flat_map-at f g xs (λ k y at. same (suc k) y at)) refl
-
-member_mapped : {A B : Type 0} (f : A → B) (xs : List A) (x : A) → Contains xs x
-    → Contains (map f xs) (f x)
-member_mapped f xs x m = let at = place_in xs x m in member_at (map f xs) at.0 (f x) (slice_get-map f xs at.0 ∙ ap (option_map f) at.1)
 
 member_joined : {A B : Type 0} (f : A → List B) (xs : List A) (k : ℕ) (x : A) (y : B)
     → slice_get xs k ≡ Some x → Contains (f x) y
@@ -81,7 +78,9 @@ asked-kept task xs ys n a e =
     let whole = and_then_some (asked_of task) (option_and_then (instance_of task (names_of task xs)) (call_of xs n)) a e in
     let call = and_then_some (instance_of task (names_of task xs)) (call_of xs n) whole.0 whole.1 in
     let front = names_of-front task xs ys in
-    let later : instance_of task (names_of task (xs ++ ys)) call.0 ≡ Some whole.0 = subst (λ names. instance_of task names call.0 ≡ Some whole.0) (sym front.1) (instance_kept task (names_of task xs) front.0 call.0 whole.0 call.2) in
+    let later : instance_of task (names_of task (xs ++ ys)) call.0 ≡ Some whole.0 =
+    subst (λ names. instance_of task names call.0 ≡ Some whole.0)
+    (sym front.1) (instance_kept task (names_of task xs) front.0 call.0 whole.0 call.2) in
     rw (call_of-kept xs ys n call.0 call.1, later) whole.2
 
 pub asked-later : (task : Task) (entries : List Entry) (k n : ℕ) (a : Asked)
@@ -95,7 +94,10 @@ pub first_request : (xs : List Entry) (n : ℕ) → list_any (is_ask_of n) xs �
     → (j : ℕ) × (turn : ℕ) × (call : Call) × (slice_get xs j ≡ Some (entry.Ask n turn call)) × (call_of xs n ≡ Some call)
 first_request [] n e = absurd (cc)
 first_request (entry.Ask number turn call ∷ xs) n e =
-    elim (n == number) as (λ b. (n == number) ≡ b → (b || list_any (is_ask_of n) xs) ≡ true → (j : ℕ) × (t : ℕ) × (c : Call) × (slice_get (entry.Ask number turn call ∷ xs) j ≡ Some (entry.Ask n t c)) × (option_or (cond b (Some call) None) (call_of xs n) ≡ Some c)) [
+    elim (n == number) as (λ b.
+    (n == number) ≡ b → (b || list_any (is_ask_of n) xs) ≡ true
+    → (j : ℕ) × (t : ℕ) × (c : Call) × (slice_get (entry.Ask number turn call ∷ xs) j ≡ Some (entry.Ask n t c))
+    × (option_or (cond b (Some call) None) (call_of xs n) ≡ Some c)) [
       | true ↦ λ same h. (0, turn, call, ap (λ m. Some (entry.Ask m turn call)) (sym (eqb-true n number same)), refl)
       | false ↦ λ same h. let r = first_request xs n h in (suc r.0, r.1, r.2, r.3, r.4)
     ] refl e
@@ -122,8 +124,11 @@ module _ (version : ℕ) (task : Task) where
       let first = first_request entries n there in
       let right : IsRightAsk task (take first.0 entries) n first.1 first.2 = legal first.0 _ first.3 in
       let front = names_of-front task (take first.0 entries) (drop first.0 entries) in
-      let names : names_of task entries ≡ names_of task (take first.0 entries) ++ front.0 = ap (names_of task) (sym (take-append-drop first.0 entries)) ∙ front.1 in
-      let later : instance_of task (names_of task entries) first.2 ≡ Some right.instance = subst (λ ns. instance_of task ns first.2 ≡ Some right.instance) (sym names) (instance_kept task (names_of task (take first.0 entries)) front.0 first.2 right.instance right.named) in
+      let names : names_of task entries ≡ names_of task (take first.0 entries) ++ front.0 =
+      ap (names_of task) (sym (take-append-drop first.0 entries)) ∙ front.1 in
+      let later : instance_of task (names_of task entries) first.2 ≡ Some right.instance =
+      subst (λ ns. instance_of task ns first.2 ≡ Some right.instance)
+      (sym names) (instance_kept task (names_of task (take first.0 entries)) front.0 first.2 right.instance right.named) in
       (record { stream = right.due.stream; instance = right.instance }, rw (first.4, later, right.due.named) refl)
 
   -- the request that an entry answers is known before it
@@ -134,13 +139,17 @@ module _ (version : ℕ) (task : Task) where
       (may.request, ap (asked task entries) (eqb-true n number same) ∙ may.of)
   answered_before entries n (entry.Value number value) legal may same =
       (may.request, ap (asked task entries) (eqb-true n number same) ∙ may.of)
-  answered_before entries n (entry.End number) legal may same = request_known entries n legal (ap (λ m. list_any (is_ask_of m) entries) (eqb-true n number same) ∙ first_so (list_any (is_ask_of number) entries) _ may)
+  answered_before entries n (entry.End number) legal may same =
+      request_known entries n legal
+      (ap (λ m. list_any (is_ask_of m) entries) (eqb-true n number same) ∙ first_so (list_any (is_ask_of number) entries) _ may)
   answered_before entries n e legal may same = absurd (cc)
 
   pub answered : (entries : List Entry) (k n : ℕ) (e : Entry) → IsLegal version task entries
       → slice_get entries k ≡ Some e
       → is_answer_to n e ≡ true → (a : Asked) × (asked task entries n ≡ Some a)
-  answered entries k n e legal at same = let r = answered_before (take k entries) n e (legal_take entries k legal) (legal k e at) same in (r.0, asked-later task entries k n r.0 r.1)
+  answered entries k n e legal at same =
+      let r = answered_before (take k entries) n e (legal_take entries k legal) (legal k e at) same in
+      (r.0, asked-later task entries k n r.0 r.1)
 
 -- ---- facts and values
 
@@ -172,12 +181,16 @@ tuple_kept task names added a tuple named =
 
 yield_kept : (task : Task) (names added : List (List ℕ)) (a : Asked) (width tuples : ℕ) (values : List (List ℕ))
     → AreNamed names values
-    → flat_map (tuple_facts task names a) (tuples_in width tuples values) ≡ flat_map (tuple_facts task (names ++ added) a) (tuples_in width tuples values)
+    → flat_map (tuple_facts task names a) (tuples_in width tuples values)
+    ≡ flat_map (tuple_facts task (names ++ added) a) (tuples_in width tuples values)
 yield_kept task names added a width zero values named = refl
 yield_kept task names added a width (suc tuples) values named =
     let parts : take width values ++ drop width values ≡ values = take-append-drop width values in
-    let front = tuple_kept task names added a (take width values) (λ v m. named v (subst (λ vs. Contains vs v) parts (Contains-append_left (take width values) (drop width values) v m))) in
-    let rest = yield_kept task names added a width tuples (drop width values) (λ v m. named v (subst (λ vs. Contains vs v) parts (Contains-append_right (take width values) (drop width values) v m))) in
+    let front =
+    tuple_kept task names added a (take width values)
+    (λ v m. named v (subst (λ vs. Contains vs v) parts (Contains-append_left (take width values) (drop width values) v m))) in
+    let rest = yield_kept task names added a width tuples (drop width values)
+    (λ v m. named v (subst (λ vs. Contains vs v) parts (Contains-append_right (take width values) (drop width values) v m))) in
     rw (front, rest) refl
 
 -- the values of a transcript's yields have their objects in its table of names
@@ -185,15 +198,19 @@ pub values_named : (task : Task) (entries : List Entry) (k number tuples : ℕ) 
     → AreDistinct (declared_names task)
     → slice_get entries k ≡ Some (entry.Got number tuples values) → AreNamed (names_of task entries) values
 values_named task entries k number tuples values distinct at value m =
-    place_found (names_of task entries) (generated value) (names_of-distinct task entries distinct) (with_names-has (declared_names task) (flat_map objects_in entries) (generated value) (member_joined objects_in entries k (entry.Got number tuples values) (generated value) at (member_mapped generated values value m)))
+    place_found (names_of task entries) (generated value) (names_of-distinct task entries distinct)
+    (with_names-has (declared_names task) (flat_map objects_in entries) (generated value)
+    (member_joined objects_in entries k (entry.Got number tuples values) (generated value) at (in_mapped generated values value m)))
 
-module _ (version : ℕ) (task : Task) (entries more : List Entry) (distinct : AreDistinct (declared_names task)) (legal : IsLegal version task entries) where
+module _ (version : ℕ) (task : Task) (entries more : List Entry)
+    (distinct : AreDistinct (declared_names task)) (legal : IsLegal version task entries) where
   certified_same : (k : ℕ) (e : Entry) → slice_get entries k ≡ Some e
       → certified task (entries ++ more) e ≡ certified task entries e
   certified_same k (entry.Got n tuples values) at =
       let a = answered version task entries k n (entry.Got n tuples values) legal at (eq-eqb n n refl) in
       let front = names_of-front task entries more in
-      let kept = yield_kept task (names_of task entries) front.0 a.0 (length a.0.stream.outputs) tuples values (values_named task entries k n tuples values distinct at) in
+      let kept = yield_kept task (names_of task entries) front.0 a.0
+      (length a.0.stream.outputs) tuples values (values_named task entries k n tuples values distinct at) in
       rw (asked-kept task entries more n a.0 a.1, a.1) (ap (λ names. yield_facts task names a.0 tuples values) front.1 ∙ sym kept)
   certified_same k e at = refl
 
@@ -227,13 +244,17 @@ module _ (version : ℕ) (task : Task) (entries more : List Entry) (distinct : A
   pub longer : Continues task entries more
   longer = record {
     names = names_of-more task entries more;
-    places = λ k name at. let front = names_of-front task entries more in subst (λ names. slice_get names k ≡ Some name) (sym front.1) (get_append (names_of task entries) front.0 k name at);
+    places = λ k name at.
+        let front = names_of-front task entries more in
+        subst (λ names. slice_get names k ≡ Some name) (sym front.1) (get_append (names_of task entries) front.0 k name at);
     requests = asked-kept task entries more;
     facts =
         ap (with_facts (initial_known task).facts) (in_front (certified task (entries ++ more)) (certified task entries) certified_same)
-        ∙ facts_then (initial_known task).facts (flat_map (certified task entries) entries) (flat_map (certified task (entries ++ more)) more);
+        ∙ facts_then (initial_known task).facts
+        (flat_map (certified task entries) entries) (flat_map (certified task (entries ++ more)) more);
     values =
         ap (with_values (initial_known task).values) (in_front (told_value task (entries ++ more)) (told_value task entries) told_same)
-        ∙ values_then (initial_known task).values (flat_map (told_value task entries) entries) (flat_map (told_value task (entries ++ more)) more);
+        ∙ values_then (initial_known task).values
+        (flat_map (told_value task entries) entries) (flat_map (told_value task (entries ++ more)) more);
     notes = in_front (note_of task (entries ++ more)) (note_of task entries) note_same;
   }

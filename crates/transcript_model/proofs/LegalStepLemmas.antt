@@ -1,25 +1,25 @@
 -- What one entry more changes of a legal transcript.
-use Rattle.std.proofs.Common.{◌≡◌, ℕ, arith, Bool, true, false, cond, ◌&&◌, ◌||◌, ◌==◌, not, List, [], ◌∷◌, ◌++◌, map, replicate, refl, sym, subst, ap, ◌∙◌, None, Some, slice_get, eqb-true, eq-eqb}
+use Rattle.std.proofs.Common.{◌≡◌, ℕ, Bool, true, false, cond, ◌&&◌, ◌||◌, ◌==◌, not, List, [], ◌∷◌, ◌++◌, map, replicate, refl, sym, subst, ap, ◌∙◌, None, Some, slice_get, eqb-true, eq-eqb}
 use Rattle.std.proofs.lemmas.List.{append-nil}
 use Rattle.std.proofs.lemmas.List.Folds.{list_any-append}
 use Rattle.std.specs.List.{list_any, flat_map}
 use Rattle.std.specs.Option.{option_or}
 use Rattle.lemmas.proofs.Bools.{or_false}
 use Rattle.task_model.specs.Initial.{declared_names}
-use Rattle.task_model.specs.Known.{Known, with_facts, with_values}
+use Rattle.task_model.specs.Known.{Known, with_facts, with_values, with_names}
 use Rattle.lemmas.specs.Lists.{AreDistinct}
 use Rattle.task_model.specs.Streams.{Yielded, Ended, worth_by}
 use Rattle.task_model.specs.declared.stream.Instance.{Instance}
 use Rattle.task_model.specs.declared.stream.Stream.{Stream}
 use Rattle.task_model.specs.declared.task.Task.{Task}
 use Rattle.transcript_model.specs.Laws.{ChangesNothing, AddsRequest, AddsAnswer, AddsMark}
-use Rattle.transcript_model.specs.Legal.{IsLegal, IsRightAsk, is_ask, asks_of, is_ask_of, is_answer_to, is_open, is_mark}
-use Rattle.transcript_model.specs.Names.{with_names, generated, instance_of}
+use Rattle.transcript_model.specs.Legal.{IsLegal, IsRightAsk, is_ask, is_ask_of, is_answer_to, is_open, is_mark}
+use Rattle.transcript_model.specs.Names.{generated, instance_of}
 use Rattle.transcript_model.specs.Transcript.{Asked, asked, call_in, call_of, objects_in, names_of, known_of, notes_of, certified, told_value, note_of, yield_facts}
 use Rattle.transcript_model.specs.declared.entry.Call.{Call}
 use Rattle.transcript_model.specs.declared.entry.Entry.{Entry}
 use Rattle.transcript_model.specs.declared.entry.Entry.TheVariants as entry
-use Rattle.transcript_model.proofs.LegalNumberLemmas.{asks_more, answer_asked}
+use Rattle.transcript_model.proofs.LegalNumberLemmas.{asks_marked, asks_more, answer_asked}
 use Rattle.transcript_model.proofs.LegalPrefixLemmas.{longer, asked-kept, request_known}
 
 -- ---- parts
@@ -46,7 +46,8 @@ no_call (x ∷ xs) n e = no_call xs n e
 no_true_false : {A : Type 0} (b : Bool) → b ≡ true → b ≡ false → A
 no_true_false b t f = absurd (cc)
 
-module _ (version : ℕ) (task : Task) (before : List Entry) (distinct : AreDistinct (declared_names task)) (legal : IsLegal version task before) where
+module _ (version : ℕ) (task : Task) (before : List Entry)
+    (distinct : AreDistinct (declared_names task)) (legal : IsLegal version task before) where
   -- ---- marks
 
   same_known : (e : Entry) → objects_in e ≡ [] → certified task (before ++ e ∷ []) e ≡ []
@@ -54,9 +55,12 @@ module _ (version : ℕ) (task : Task) (before : List Entry) (distinct : AreDist
       → note_of task (before ++ e ∷ []) e ≡ [] → ChangesNothing task before (before ++ e ∷ [])
   same_known e names facts values notes =
       let c = longer version task before (e ∷ []) distinct legal in
-      let same_names : names_of task (before ++ e ∷ []) ≡ names_of task before = c.names ∙ ap (λ ns. with_names (names_of task before) (ns ++ [])) names in
-      let same_facts : (known_of task (before ++ e ∷ [])).facts ≡ (known_of task before).facts = c.facts ∙ ap (λ fs. with_facts (known_of task before).facts (fs ++ [])) facts in
-      let same_values : (known_of task (before ++ e ∷ [])).values ≡ (known_of task before).values = c.values ∙ ap (λ vs. with_values (known_of task before).values (vs ++ [])) values in
+      let same_names : names_of task (before ++ e ∷ []) ≡ names_of task before =
+      c.names ∙ ap (λ ns. with_names (names_of task before) (ns ++ [])) names in
+      let same_facts : (known_of task (before ++ e ∷ [])).facts ≡ (known_of task before).facts =
+      c.facts ∙ ap (λ fs. with_facts (known_of task before).facts (fs ++ [])) facts in
+      let same_values : (known_of task (before ++ e ∷ [])).values ≡ (known_of task before).values =
+      c.values ∙ ap (λ vs. with_values (known_of task before).values (vs ++ [])) values in
       record {
         known = λ i. record { names = same_names i; facts = same_facts i; values = same_values i };
         notes =
@@ -68,24 +72,30 @@ module _ (version : ℕ) (task : Task) (before : List Entry) (distinct : AreDist
   same_asked : (e : Entry) (n : ℕ) → call_in n e ≡ None
       → asked task (before ++ e ∷ []) n ≡ asked task before n
   same_asked e n none =
-      elim (list_any (is_ask_of n) before) as (λ b. list_any (is_ask_of n) before ≡ b → asked task (before ++ e ∷ []) n ≡ asked task before n) [
+      elim (list_any (is_ask_of n) before) as
+      (λ b. list_any (is_ask_of n) before ≡ b → asked task (before ++ e ∷ []) n ≡ asked task before n) [
         | true ↦ λ there. let a = request_known version task before n legal there in asked-kept task before (e ∷ []) n a.0 a.1 ∙ sym a.1
-        | false ↦ λ absent. let old = no_call before n absent in let new : call_of (before ++ e ∷ []) n ≡ None = rw (call_of-then before (e ∷ []) n, old, none) refl in rw (new, old) refl
+        | false ↦ λ absent. let old = no_call before n absent in
+            let new : call_of (before ++ e ∷ []) n ≡ None = rw (call_of-then before (e ∷ []) n, old, none) refl in rw (new, old) refl
       ] refl
 
   mark_open : (e : Entry) (n : ℕ) → is_ask_of n e ≡ false → is_answer_to n e ≡ false
       → is_open (before ++ e ∷ []) n ≡ is_open before n
   mark_open e n ask answer =
-      rw (list_any-append (is_ask_of n) before (e ∷ []), list_any-append (is_answer_to n) before (e ∷ []), ask, answer, or_false (list_any (is_ask_of n) before), or_false (list_any (is_answer_to n) before)) refl
-
-  same_asks : (e : Entry) → is_ask e ≡ false → asks_of (before ++ e ∷ []) ≡ asks_of before
-  same_asks e absent = let one : asks_of (e ∷ []) ≡ 0 = rw absent refl in omega (arith, asks_more before (e ∷ []), one)
+      rw (
+        list_any-append (is_ask_of n) before (e ∷ []),
+        list_any-append (is_answer_to n) before (e ∷ []),
+        ask,
+        answer,
+        or_false (list_any (is_ask_of n) before),
+        or_false (list_any (is_answer_to n) before),
+      ) refl
 
   pub mark_adds : (e : Entry) → is_mark e ≡ true → AddsMark task before (before ++ e ∷ [])
   mark_adds e mark =
       record {
         same = same_known e (mark_objects e mark) (mark_facts e mark) (mark_values e mark) (mark_notes e mark);
-        asks = same_asks e (mark_no_ask e mark);
+        asks = asks_marked before e (mark_no_ask e mark);
         requests = λ n. same_asked e n (mark_call e n mark);
         waiting = λ n. mark_open e n (mark_ask_of e n mark) (mark_answer e n mark);
       }
@@ -138,7 +148,8 @@ module _ (version : ℕ) (task : Task) (before : List Entry) (distinct : AreDist
       let same = same_known e refl refl refl refl in
       let names : names_of task (before ++ e ∷ []) ≡ names_of task before = ap (λ (k : Known). k.names) same.known in
       let itself : (number == number) ≡ true = eq-eqb number number refl in
-      let new_call : call_of (before ++ e ∷ []) number ≡ Some call = rw (call_of-then before (e ∷ []) number, no_call before number fresh, itself) refl in
+      let new_call : call_of (before ++ e ∷ []) number ≡ Some call =
+      rw (call_of-then before (e ∷ []) number, no_call before number fresh, itself) refl in
       record {
         same = same;
         asks = asks_more before (e ∷ []);
@@ -158,12 +169,19 @@ module _ (version : ℕ) (task : Task) (before : List Entry) (distinct : AreDist
       asked_open : (n : ℕ)
           → is_open (before ++ entry.Ask number turn call ∷ []) n ≡ (is_open before n || (n == number))
       asked_open n =
-          rw (list_any-append (is_ask_of n) before (entry.Ask number turn call ∷ []), list_any-append (is_answer_to n) before (entry.Ask number turn call ∷ []), or_false (n == number), or_false (list_any (is_answer_to n) before)) (open_or (list_any (is_ask_of n) before) (list_any (is_answer_to n) before) (n == number) unanswered)
+          rw (
+            list_any-append (is_ask_of n) before (entry.Ask number turn call ∷ []),
+            list_any-append (is_answer_to n) before (entry.Ask number turn call ∷ []),
+            or_false (n == number),
+            or_false (list_any (is_answer_to n) before),
+          )
+          (open_or (list_any (is_ask_of n) before) (list_any (is_answer_to n) before) (n == number) unanswered)
         where
           unanswered : (n == number) ≡ true → list_any (is_answer_to n) before ≡ false
           unanswered same =
               elim (list_any (is_answer_to n) before) as (λ b. list_any (is_answer_to n) before ≡ b → b ≡ false) [
-                | true ↦ λ there. no_true_false _ (answer_asked version task before n legal there) (ap (λ m. list_any (is_ask_of m) before) (eqb-true n number same) ∙ fresh)
+                | true ↦ λ there. no_true_false _ (answer_asked version task before n legal there)
+                    (ap (λ m. list_any (is_ask_of m) before) (eqb-true n number same) ∙ fresh)
                 | false ↦ λ _. refl
               ] refl
 
@@ -184,7 +202,15 @@ module _ (version : ℕ) (task : Task) (before : List Entry) (distinct : AreDist
       → is_answer_to n e ≡ (n == number)
       → is_open (before ++ e ∷ []) n ≡ (is_open before n && not (n == number))
   answer_open e n number ask answer =
-      rw (list_any-append (is_ask_of n) before (e ∷ []), list_any-append (is_answer_to n) before (e ∷ []), ask, answer, or_false (list_any (is_ask_of n) before), or_false (n == number)) (open_not (list_any (is_ask_of n) before) (list_any (is_answer_to n) before) (n == number))
+      rw (
+        list_any-append (is_ask_of n) before (e ∷ []),
+        list_any-append (is_answer_to n) before (e ∷ []),
+        ask,
+        answer,
+        or_false (list_any (is_ask_of n) before),
+        or_false (n == number),
+      )
+      (open_not (list_any (is_ask_of n) before) (list_any (is_answer_to n) before) (n == number))
     where
       open_not : (ask answer this : Bool)
           → (ask && not (answer || this)) ≡ ((ask && not answer) && not this)
@@ -198,17 +224,22 @@ module _ (version : ℕ) (task : Task) (before : List Entry) (distinct : AreDist
     got_adds tuples values =
         let e = entry.Got number tuples values in
         let c = longer version task before (e ∷ []) distinct legal in
-        let names : names_of task (before ++ e ∷ []) ≡ with_names (names_of task before) (map generated values) = c.names ∙ ap (with_names (names_of task before)) (append-nil (map generated values)) in
+        let names : names_of task (before ++ e ∷ []) ≡ with_names (names_of task before) (map generated values) =
+        c.names ∙ ap (with_names (names_of task before)) (append-nil (map generated values)) in
         let new = asked-kept task before (e ∷ []) number a was in
-        let certifies : flat_map (certified task (before ++ e ∷ [])) (e ∷ []) ≡ yield_facts task (with_names (names_of task before) (map generated values)) a tuples values = append-nil (certified task (before ++ e ∷ []) e) ∙ rw new (ap (λ ns. yield_facts task ns a tuples values) names) in
-        let facts : (known_of task (before ++ e ∷ [])).facts ≡ with_facts (known_of task before).facts (yield_facts task (with_names (names_of task before) (map generated values)) a tuples values) = c.facts ∙ ap (with_facts (known_of task before).facts) certifies in
+        let certifies : flat_map (certified task (before ++ e ∷ []))
+        (e ∷ []) ≡ yield_facts task (with_names (names_of task before) (map generated values)) a tuples values =
+        append-nil (certified task (before ++ e ∷ []) e) ∙ rw new (ap (λ ns. yield_facts task ns a tuples values) names) in
+        let facts : (known_of task (before ++ e ∷ [])).facts ≡ with_facts
+        (known_of task before).facts (yield_facts task (with_names (names_of task before) (map generated values)) a tuples values) =
+        c.facts ∙ ap (with_facts (known_of task before).facts) certifies in
         let noted : note_of task (before ++ e ∷ []) e ≡ replicate tuples (Yielded a.instance) = rw new refl in
         record {
           known = λ i. record { names = names i; facts = facts i; values = c.values i };
           notes =
               c.notes
               ∙ ap (λ ns. notes_of task before ++ ns) (append-nil (note_of task (before ++ e ∷ []) e) ∙ noted);
-          asks = same_asks e refl;
+          asks = asks_marked before e refl;
           requests = λ n. same_asked e n refl;
           waiting = λ n. answer_open e n number refl refl;
         }
@@ -219,14 +250,16 @@ module _ (version : ℕ) (task : Task) (before : List Entry) (distinct : AreDist
         let c = longer version task before (e ∷ []) distinct legal in
         let new = asked-kept task before (e ∷ []) number a was in
         let told : told_value task (before ++ e ∷ []) e ≡ worth_by a.stream a.instance.inputs value = rw new refl in
-        let values : (known_of task (before ++ e ∷ [])).values ≡ with_values (known_of task before).values (worth_by a.stream a.instance.inputs value) = c.values ∙ ap (with_values (known_of task before).values) (append-nil (told_value task (before ++ e ∷ []) e) ∙ told) in
+        let values : (known_of task (before ++ e ∷ [])).values ≡ with_values
+        (known_of task before).values (worth_by a.stream a.instance.inputs value) =
+        c.values ∙ ap (with_values (known_of task before).values) (append-nil (told_value task (before ++ e ∷ []) e) ∙ told) in
         let noted : note_of task (before ++ e ∷ []) e ≡ Ended a.instance ∷ [] = rw new refl in
         record {
           known = λ i. record { names = c.names i; facts = c.facts i; values = values i };
           notes =
               c.notes
               ∙ ap (λ ns. notes_of task before ++ ns) (append-nil (note_of task (before ++ e ∷ []) e) ∙ noted);
-          asks = same_asks e refl;
+          asks = asks_marked before e refl;
           requests = λ n. same_asked e n refl;
           waiting = λ n. answer_open e n number refl refl;
         }
@@ -242,7 +275,7 @@ module _ (version : ℕ) (task : Task) (before : List Entry) (distinct : AreDist
           notes =
               c.notes
               ∙ ap (λ ns. notes_of task before ++ ns) (append-nil (note_of task (before ++ e ∷ []) e) ∙ noted);
-          asks = same_asks e refl;
+          asks = asks_marked before e refl;
           requests = λ n. same_asked e n refl;
           waiting = λ n. answer_open e n number refl refl;
         }

@@ -8,3 +8,4 @@ pub mod LegalNumberLemmas
 pub mod NamesLemmas
 pub mod LegalOnceLemmas
 pub mod RoundsLemmas
+pub mod RoundsFrontLemmas

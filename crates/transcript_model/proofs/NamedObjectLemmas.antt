@@ -49,7 +49,9 @@ type_named names sort object there = all_one (IsIn names) object there
 
 types_named : (names : List (List ℕ)) (domain : Domain) (sort object : ℕ) → IsIn names object
     → All (IsNamed names) (type_facts domain sort object)
-types_named names domain sort object there = All-map (IsNamed names) (λ s. type_fact s object) (sorts_with domain sort) (λ k d lt. type_named names (get_or (sorts_with domain sort) k d) object there)
+types_named names domain sort object there =
+    All-map (IsNamed names) (λ s. type_fact s object)
+    (sorts_with domain sort) (λ k d lt. type_named names (get_or (sorts_with domain sort) k d) object there)
 
 -- ---- what is known at first
 
@@ -60,7 +62,10 @@ declared_named names domain object [] le = All-nil (IsNamed names)
 declared_named names domain object (d ∷ ds) le =
     let here : object < length names = omega arith in
     let rest : (object + 1) + length ds ≤ length names = omega arith in
-    All-append (IsNamed names) (flat_map (λ sort. type_facts domain sort object) (d.sorts ++ 0 ∷ [])) (declared_types domain (object + 1) ds) (all_joined (IsNamed names) (λ sort. type_facts domain sort object) (d.sorts ++ 0 ∷ []) (λ k sort at. types_named names domain sort object (in_names names object here)))
+    All-append (IsNamed names) (flat_map (λ sort. type_facts domain sort object) (d.sorts ++ 0 ∷ []))
+    (declared_types domain (object + 1) ds)
+    (all_joined (IsNamed names) (λ sort. type_facts domain sort object)
+    (d.sorts ++ 0 ∷ []) (λ k sort at. types_named names domain sort object (in_names names object here)))
     (declared_named names domain (object + 1) ds rest)
 
 objects_named : (names : List (List ℕ)) (most : ℕ) (objects : List ℕ) → most ≤ length names
@@ -83,7 +88,8 @@ pub with_facts-all : (P : Fact → Type 0) (facts more : List Fact) → All P fa
     → All P (with_facts facts more)
 with_facts-all P facts [] all more = all
 with_facts-all P facts (f ∷ fs) all more =
-    with_facts-all P (with_fact facts f) fs (one (All-contains P (f ∷ fs) f more (0, omega arith, refl))) (λ k d lt. more (suc k) d (omega arith))
+    with_facts-all P (with_fact facts f) fs (one (All-contains P (f ∷ fs) f more (0, omega arith, refl)))
+    (λ k d lt. more (suc k) d (omega arith))
   where
     one : P f → All P (with_fact facts f)
     one p =
@@ -97,10 +103,16 @@ pub initial_named : (names : List (List ℕ)) (task : Task) → IsFit task
     → All (IsNamed names) (initial_facts task)
 initial_named names task fit le =
     let listed : length task.problem.objects ≤ length names = le in
-    let facts = second_so (is_short task.problem.init) (list_all (is_fit_fact task.domain (length task.problem.objects)) task.problem.init) fit.problem.init in
-    with_facts-all (IsNamed names) [] (declared_types task.domain 0 task.problem.objects ++ filter (is_static task.domain) task.problem.init) (All-nil (IsNamed names))
-    (All-append (IsNamed names) (declared_types task.domain 0 task.problem.objects) (filter (is_static task.domain) task.problem.init) (declared_named names task.domain 0 task.problem.objects (omega arith))
-    (All-filter (is_static task.domain) (IsNamed names) task.problem.init (passes_all (is_fit_fact task.domain (length task.problem.objects)) (IsNamed names) task.problem.init (λ f e. fact_named names task.domain (length task.problem.objects) f le e) facts)))
+    let facts =
+    second_so (is_short task.problem.init)
+    (list_all (is_fit_fact task.domain (length task.problem.objects)) task.problem.init) fit.problem.init in
+    with_facts-all (IsNamed names) []
+    (declared_types task.domain 0 task.problem.objects ++ filter (is_static task.domain) task.problem.init) (All-nil (IsNamed names))
+    (All-append (IsNamed names) (declared_types task.domain 0 task.problem.objects)
+    (filter (is_static task.domain) task.problem.init) (declared_named names task.domain 0 task.problem.objects (omega arith))
+    (All-filter (is_static task.domain) (IsNamed names) task.problem.init
+    (passes_all (is_fit_fact task.domain (length task.problem.objects))
+    (IsNamed names) task.problem.init (λ f e. fact_named names task.domain (length task.problem.objects) f le e) facts)))
 
 -- ---- what a yield certifies
 
@@ -109,7 +121,8 @@ pub term_named : (names : List (List ℕ)) (constants : ℕ) (objects : List ℕ
     → is_fit_term constants (numbers_from 0 (length objects)) t ≡ true → IsIn names (object_of (slots_of objects) t)
 term_named names constants objects (Slot n) le all e =
     let below : n < length objects = omega (arith, below_in_numbers 0 (length objects) n e) in
-    let is : slice_index (slots_of objects) n ≡ get_or objects n 0 = get_or_append_left objects (replicate (16 - length objects) 0) 0 n below in
+    let is : slice_index (slots_of objects) n ≡ get_or objects n 0 =
+    get_or_append_left objects (replicate (16 - length objects) 0) 0 n below in
     subst (IsIn names) (sym is) (all n 0 below)
 term_named names constants objects (Object o) le all e =
     in_names names o (omega (arith, ltb-true o constants e))
@@ -118,7 +131,10 @@ pub terms_named : (names : List (List ℕ)) (constants : ℕ) (objects : List �
     → constants ≤ length names
     → All (IsIn names) objects → list_all (is_fit_term constants (numbers_from 0 (length objects))) terms ≡ true
     → All (IsIn names) (objects_at (slots_of objects) terms)
-terms_named names constants objects terms le all e = All-map (IsIn names) (object_of (slots_of objects)) terms (passes_all (is_fit_term constants (numbers_from 0 (length objects))) (λ t. IsIn names (object_of (slots_of objects) t)) terms (λ t fits. term_named names constants objects t le all fits) e)
+terms_named names constants objects terms le all e =
+    All-map (IsIn names) (object_of (slots_of objects)) terms
+    (passes_all (is_fit_term constants (numbers_from 0 (length objects)))
+    (λ t. IsIn names (object_of (slots_of objects) t)) terms (λ t fits. term_named names constants objects t le all fits) e)
 
 output_types_named : (names : List (List ℕ)) (domain : Domain) (sorts objects : List ℕ)
     → All (IsIn names) objects
@@ -126,18 +142,25 @@ output_types_named : (names : List (List ℕ)) (domain : Domain) (sorts objects 
 output_types_named names domain [] objects all = All-nil (IsNamed names)
 output_types_named names domain (sort ∷ sorts) [] all = All-nil (IsNamed names)
 output_types_named names domain (sort ∷ sorts) (o ∷ os) all =
-    All-append (IsNamed names) (type_facts domain sort o) (output_types domain sorts os) (types_named names domain sort o (All-contains (IsIn names) (o ∷ os) o all (0, omega arith, refl))) (output_types_named names domain sorts os (λ k d lt. all (suc k) d (omega arith)))
+    All-append (IsNamed names) (type_facts domain sort o) (output_types domain sorts os)
+    (types_named names domain sort o (All-contains (IsIn names) (o ∷ os) o all (0, omega arith, refl)))
+    (output_types_named names domain sorts os (λ k d lt. all (suc k) d (omega arith)))
 
 patterns_named : (names : List (List ℕ)) (domain : Domain) (constants : ℕ) (objects : List ℕ) (patterns : List Pattern)
     → constants ≤ length names → All (IsIn names) objects
     → list_all (is_fit_pattern domain constants (numbers_from 0 (length objects))) patterns ≡ true
     → All (IsNamed names) (map (fact_of (slots_of objects)) patterns)
 patterns_named names domain constants objects patterns le all e =
-    All-map (IsNamed names) (fact_of (slots_of objects)) patterns (passes_all (is_fit_pattern domain constants (numbers_from 0 (length objects))) (λ p. IsNamed names (fact_of (slots_of objects) p)) patterns (λ p fits. terms_named names constants objects p.args le all (second_so (has_arity domain.predicates p.pred (length p.args)) (list_all (is_fit_term constants (numbers_from 0 (length objects))) p.args) fits)) e)
+    All-map (IsNamed names) (fact_of (slots_of objects)) patterns
+    (passes_all (is_fit_pattern domain constants (numbers_from 0 (length objects))) (λ p. IsNamed names (fact_of (slots_of objects) p))
+    patterns (λ p fits. terms_named names constants objects p.args le all
+    (second_so (has_arity domain.predicates p.pred (length p.args))
+    (list_all (is_fit_term constants (numbers_from 0 (length objects))) p.args) fits)) e)
 
 -- the parts of what makes a stream fit
 record StreamParts (domain : Domain) (s : Stream) : Type 0 where
-  certified : list_all (is_fit_pattern domain (length domain.constants) (numbers_from 0 (length s.inputs + length s.outputs))) s.certified ≡ true
+  certified : list_all (is_fit_pattern domain (length domain.constants) (numbers_from 0 (length s.inputs + length s.outputs))) s.certified
+      ≡ true
   worth : is_fit_worth domain s ≡ true
 
 stream_parts : (domain : Domain) (s : Stream) → is_fit_stream domain s ≡ true → StreamParts domain s
@@ -151,17 +174,30 @@ stream_parts domain s e =
     let h = are_fit_patterns domain (length domain.constants) (numbers_from 0 (length s.inputs + length s.outputs)) s.certified in
     let i = are_static_patterns domain s.certified in
     let w = is_fit_worth domain s in
-    let patterns : h ≡ true = second_so (a && b && c && d && f && g) h (first_so (a && b && c && d && f && g && h) i (first_so (a && b && c && d && f && g && h && i) w e)) in
+    let patterns : h ≡ true =
+    second_so (a && b && c && d && f && g) h
+    (first_so (a && b && c && d && f && g && h) i (first_so (a && b && c && d && f && g && h && i) w e)) in
     record {
-      certified = second_so (is_short s.certified) (list_all (is_fit_pattern domain (length domain.constants) (numbers_from 0 (length s.inputs + length s.outputs))) s.certified) patterns;
+      certified =
+          second_so (is_short s.certified)
+          (list_all (is_fit_pattern domain (length domain.constants) (numbers_from 0 (length s.inputs + length s.outputs))) s.certified)
+          patterns;
       worth = second_so (a && b && c && d && f && g && h && i) w e;
     }
 
 pub constants_few : (task : Task) → IsFit task
     → length task.domain.constants ≤ length task.problem.objects
 constants_few task fit =
-    let same : length (map (λ (d : Declared). d.name) task.domain.constants) ≡ length (take (length task.domain.constants) (declared_names task)) = ap length fit.problem.constants_first in
-    omega (arith, same, length-map task.domain.constants (λ (d : Declared). d.name), length-take (length task.domain.constants) (declared_names task), length-map task.problem.objects (λ (d : Declared). d.name))
+    let same : length (map (λ (d : Declared). d.name) task.domain.constants) ≡ length
+    (take (length task.domain.constants) (declared_names task)) =
+    ap length fit.problem.constants_first in
+    omega (
+      arith,
+      same,
+      length-map task.domain.constants (λ (d : Declared). d.name),
+      length-take (length task.domain.constants) (declared_names task),
+      length-map task.problem.objects (λ (d : Declared). d.name),
+    )
 
 pub fit_stream_at : (task : Task) (k : ℕ) (s : Stream) → IsFit task
     → slice_get task.streams k ≡ Some s → is_fit_stream task.domain s ≡ true
@@ -172,7 +208,10 @@ fit_stream_at task k s fit at =
         → slice_get streams k ≡ Some s
         → is_fit_stream task.domain s ≡ true
     found [] k all at = absurd (cc)
-    found (t ∷ ts) zero all at = let same : t ≡ s = cc in subst (λ x. is_fit_stream task.domain x ≡ true) same (first_so (is_fit_stream task.domain t) (list_all (is_fit_stream task.domain) ts) all)
+    found (t ∷ ts) zero all at =
+        let same : t ≡ s = cc in
+        subst (λ x. is_fit_stream task.domain x ≡ true) same
+        (first_so (is_fit_stream task.domain t) (list_all (is_fit_stream task.domain) ts) all)
     found (t ∷ ts) (suc k) all at = found ts k (second_so (is_fit_stream task.domain t) (list_all (is_fit_stream task.domain) ts) all) at
 
 -- What a yield of a stream of the task certifies is of objects with names, where its inputs and outputs have names.
@@ -184,9 +223,13 @@ pub certified_named : (names : List (List ℕ)) (task : Task) (s : Stream) (inpu
 certified_named names task s inputs outputs fit fits le ins outs all_in all_out =
     let parts = stream_parts task.domain s fits in
     let sum : length s.inputs + length s.outputs ≡ length (inputs ++ outputs) = omega (arith, ins, outs, length-append inputs outputs) in
-    let slots = subst (λ n. list_all (is_fit_pattern task.domain (length task.domain.constants) (numbers_from 0 n)) s.certified ≡ true) sum parts.certified in
-    All-append (IsNamed names) (output_types task.domain s.outputs outputs) (map (fact_of (slots_of (inputs ++ outputs))) s.certified) (output_types_named names task.domain s.outputs outputs all_out)
-    (patterns_named names task.domain (length task.domain.constants) (inputs ++ outputs) s.certified (omega (arith, constants_few task fit)) (All-append (IsIn names) inputs outputs all_in all_out) slots)
+    let slots =
+    subst (λ n. list_all (is_fit_pattern task.domain (length task.domain.constants) (numbers_from 0 n)) s.certified ≡ true) sum
+    parts.certified in
+    All-append (IsNamed names) (output_types task.domain s.outputs outputs)
+    (map (fact_of (slots_of (inputs ++ outputs))) s.certified) (output_types_named names task.domain s.outputs outputs all_out)
+    (patterns_named names task.domain (length task.domain.constants) (inputs ++ outputs) s.certified
+    (omega (arith, constants_few task fit)) (All-append (IsIn names) inputs outputs all_in all_out) slots)
 
 worth_shape : (names : List (List ℕ)) (task : Task) (s : Stream) (inputs : List ℕ) (value : ℕ)
     → length task.domain.constants ≤ length names
@@ -198,7 +241,10 @@ worth_shape names task s inputs value le ins all (Some w) e fits =
     let filled = numbers_from 0 (length s.inputs) in
     let application = is_fit_application task.domain.functions (length task.domain.constants) filled w.func w.args in
     let shape : (is_empty s.outputs && is_empty s.certified && application) ≡ true = rw e at fits in
-    let terms = second_so (has_arity task.domain.functions w.func (length w.args)) (list_all (is_fit_term (length task.domain.constants) filled) w.args) (second_so (is_empty s.outputs && is_empty s.certified) application shape) in
+    let terms =
+    second_so (has_arity task.domain.functions w.func (length w.args))
+    (list_all (is_fit_term (length task.domain.constants) filled) w.args)
+    (second_so (is_empty s.outputs && is_empty s.certified) application shape) in
     let slots = subst (λ n. list_all (is_fit_term (length task.domain.constants) (numbers_from 0 n)) w.args ≡ true) (sym ins) terms in
     rw e (all_one (λ (v : Valued). All (IsIn names) v.args) _ (terms_named names (length task.domain.constants) inputs w.args le all slots))
 
@@ -207,4 +253,6 @@ pub worth_named : (names : List (List ℕ)) (task : Task) (s : Stream) (inputs :
     → IsFit task
     → is_fit_stream task.domain s ≡ true → length task.problem.objects ≤ length names → length inputs ≡ length s.inputs
     → All (IsIn names) inputs → All (λ (v : Valued). All (IsIn names) v.args) (worth_by s inputs value)
-worth_named names task s inputs value fit fits le ins all = worth_shape names task s inputs value (omega (arith, constants_few task fit)) ins all s.worth refl (stream_parts task.domain s fits).worth
+worth_named names task s inputs value fit fits le ins all =
+    worth_shape names task s inputs value (omega (arith, constants_few task fit)) ins all s.worth refl
+    (stream_parts task.domain s fits).worth

@@ -3,18 +3,16 @@ use Rattle.std.proofs.Common.{◌≡◌, ℕ, zero, suc, ◌+◌, arith, Bool, t
 use Rattle.std.proofs.lemmas.Iterator.Adapters.{position_from-zero}
 use Rattle.std.proofs.lemmas.List.{append-nil}
 use Rattle.std.proofs.lemmas.List.Elements.{Contains-append_left, Contains-append_right, Contains-append_cases}
-use Rattle.std.proofs.lemmas.Map.Views.{Contains-from_any, list_any-from_Contains}
-use Rattle.std.specs.Cmp.{IsEquivalence, decided}
+use Rattle.std.proofs.lemmas.Map.Views.{Contains-from_any}
 use Rattle.std.specs.List.{list_any, position, position_from}
 use Rattle.task_model.proofs.KnownLemmas.{numbers_decided}
-use Rattle.lemmas.proofs.Members.{distinct_push, place_of as place_in}
-use Rattle.task_model.specs.Known.{same_numbers, with_name}
+use Rattle.lemmas.proofs.Members.{place_of as place_in}
+use Rattle.task_model.specs.Known.{same_numbers, with_name, with_names}
 use Rattle.lemmas.specs.Lists.{AreDistinct}
 use Rattle.task_model.specs.declared.stream.Instance.{Instance}
 use Rattle.task_model.specs.declared.task.Task.{Task}
-use Rattle.transcript_model.specs.Names.{with_names, place_of, places_of, stream_named, instance_of}
+use Rattle.transcript_model.specs.Names.{place_of, places_of, stream_named, instance_of}
 use Rattle.transcript_model.specs.declared.entry.Call.{Call}
-use Rattle.lemmas.proofs.Bools.{not_both}
 use Rattle.lemmas.proofs.Numbers.{suc_same}
 use Rattle.lemmas.proofs.Options.{and_then_some}
 
@@ -34,7 +32,8 @@ from_kept : {A : Type 0} (p : A → Bool) (i : ℕ) (xs ys : List A) (k : ℕ)
     → position_from p i (xs ++ ys) ≡ Some k
 from_kept p i [] ys k e = absurd (cc)
 from_kept p i (x ∷ xs) ys k e =
-    elim (p x) as (λ b. cond b (Some i) (position_from p (i + 1) xs) ≡ Some k → cond b (Some i) (position_from p (i + 1) (xs ++ ys)) ≡ Some k) [
+    elim (p x) as
+    (λ b. cond b (Some i) (position_from p (i + 1) xs) ≡ Some k → cond b (Some i) (position_from p (i + 1) (xs ++ ys)) ≡ Some k) [
       | true ↦ λ h. h
       | false ↦ λ h. from_kept p (i + 1) xs ys k h
     ] e
@@ -43,7 +42,8 @@ from_at : {A : Type 0} (p : A → Bool) (i : ℕ) (xs : List A) (k : ℕ) → po
     → (j : ℕ) × (x : A) × (k ≡ i + j) × (slice_get xs j ≡ Some x) × (p x ≡ true)
 from_at p i [] k e = absurd (cc)
 from_at p i (x ∷ xs) k e =
-    elim (p x) as (λ b. p x ≡ b → cond b (Some i) (position_from p (i + 1) xs) ≡ Some k → (j : ℕ) × (y : _) × (k ≡ i + j) × (slice_get (x ∷ xs) j ≡ Some y) × (p y ≡ true)) [
+    elim (p x) as (λ b. p x ≡ b → cond b (Some i) (position_from p (i + 1) xs) ≡ Some k
+    → (j : ℕ) × (y : _) × (k ≡ i + j) × (slice_get (x ∷ xs) j ≡ Some y) × (p y ≡ true)) [
       | true ↦ λ t h. let same : i ≡ k = cc in (0, x, omega arith, refl, t)
       | false ↦ λ t h. let r = from_at p (i + 1) xs k h in (suc r.0, r.1, omega (arith, r.2), r.3, r.4)
     ] refl e
@@ -59,7 +59,8 @@ from_only p i (z ∷ zs) zero x e t only =
 from_only p i (z ∷ zs) (suc j) x e t only =
     elim (p z) as (λ b. p z ≡ b → cond b (Some i) (position_from p (i + 1) zs) ≡ Some (i + suc j)) [
       | true ↦ λ here. let no : 0 ≡ suc j = only 0 z refl here in absurd (omega (arith, no))
-      | false ↦ λ here. let sum : (i + 1) + j ≡ i + suc j = omega arith in from_only p (i + 1) zs j x e t (λ m y at passes. suc_same m j (only (suc m) y at passes)) ∙ ap Some sum
+      | false ↦ λ here. let sum : (i + 1) + j ≡ i + suc j = omega arith in
+          from_only p (i + 1) zs j x e t (λ m y at passes. suc_same m j (only (suc m) y at passes)) ∙ ap Some sum
     ] refl
 
 pub position_kept : {A : Type 0} (p : A → Bool) (xs ys : List A) (k : ℕ) → position p xs ≡ Some k
@@ -89,7 +90,9 @@ place_at names name k e = let r = position_at (same_numbers name) names k e in r
 pub place_only : (names : List (List ℕ)) (name : List ℕ) (k : ℕ) → AreDistinct names
     → slice_get names k ≡ Some name
     → place_of names name ≡ Some k
-place_only names name k distinct at = position_only (same_numbers name) names k name at ((numbers_decided name name).1 refl) (λ m y there same. distinct m k name (there ∙ ap Some (sym ((numbers_decided name y).0 same))) at)
+place_only names name k distinct at =
+    position_only (same_numbers name) names k name at ((numbers_decided name name).1 refl)
+    (λ m y there same. distinct m k name (there ∙ ap Some (sym ((numbers_decided name y).0 same))) at)
 
 -- names behind the others leave them in front
 pub with_name-front : (names : List (List ℕ)) (name : List ℕ)
@@ -113,26 +116,9 @@ pub with_names-then : (names first second : List (List ℕ))
 with_names-then names [] second = refl
 with_names-then names (name ∷ first) second = with_names-then (with_name names name) first second
 
-names_equivalence : IsEquivalence same_numbers
-names_equivalence = decided same_numbers numbers_decided
-
 pub name_member : (names : List (List ℕ)) (name : List ℕ)
     → list_any (same_numbers name) names ≡ true → Contains names name
 name_member names name e = Contains-from_any (λ x y. (numbers_decided x y).0) name names e
-
-with_name-distinct : (names : List (List ℕ)) (name : List ℕ) → AreDistinct names
-    → AreDistinct (with_name names name)
-with_name-distinct names name distinct =
-    elim (list_any (same_numbers name) names) as (λ b. list_any (same_numbers name) names ≡ b → AreDistinct (cond b names (names ++ name ∷ []))) [
-      | true ↦ λ _. distinct
-      | false ↦ λ absent. distinct_push names name distinct (λ m. not_both _ (list_any-from_Contains names_equivalence name names m) absent)
-    ] refl
-
-pub with_names-distinct : (names more : List (List ℕ)) → AreDistinct names
-    → AreDistinct (with_names names more)
-with_names-distinct names [] distinct = distinct
-with_names-distinct names (name ∷ more) distinct =
-    with_names-distinct (with_name names name) more (with_name-distinct names name distinct)
 
 -- each of the names is in the table behind which they were put
 pub with_names-has : (names more : List (List ℕ)) (name : List ℕ) → Contains more name
@@ -140,7 +126,9 @@ pub with_names-has : (names more : List (List ℕ)) (name : List ℕ) → Contai
 with_names-has names [] name m = absurd (omega (arith, m.1))
 with_names-has names (first ∷ more) name m =
     elim (Contains-append_cases (first ∷ []) more name m) [
-      | inl here ↦ subst (λ ns. Contains ns name) (sym (with_names-front (with_name names first) more).1) (Contains-append_left (with_name names first) _ name (has first (only first name here)))
+      | inl here ↦
+          subst (λ ns. Contains ns name) (sym (with_names-front (with_name names first) more).1)
+          (Contains-append_left (with_name names first) _ name (has first (only first name here)))
       | inr later ↦ with_names-has (with_name names first) more name later
     ]
   where
@@ -150,7 +138,8 @@ with_names-has names (first ∷ more) name m =
 
     in_one : (names : List (List ℕ)) (name : List ℕ) → Contains (with_name names name) name
     in_one names name =
-        elim (list_any (same_numbers name) names) as (λ b. list_any (same_numbers name) names ≡ b → Contains (cond b names (names ++ name ∷ [])) name) [
+        elim (list_any (same_numbers name) names) as
+        (λ b. list_any (same_numbers name) names ≡ b → Contains (cond b names (names ++ name ∷ [])) name) [
           | true ↦ λ t. name_member names name t
           | false ↦ λ _. Contains-append_right names (name ∷ []) name (0, omega arith, refl)
         ] refl
@@ -179,6 +168,8 @@ pub instance_kept : (task : Task) (names added : List (List ℕ)) (call : Call) 
     → instance_of task names call ≡ Some i
     → instance_of task (names ++ added) call ≡ Some i
 instance_kept task names added call i e =
-    let stream = and_then_some (λ stream. option_map (λ inputs. record { stream = stream; inputs = inputs }) (places_of names call.args)) (stream_named task call.name) i e in
+    let stream =
+    and_then_some (λ stream. option_map (λ inputs. record { stream = stream; inputs = inputs }) (places_of names call.args))
+    (stream_named task call.name) i e in
     let inputs = map_some (λ inputs. record { stream = stream.0; inputs = inputs }) (places_of names call.args) i stream.2 in
     rw (stream.1, places_kept names added call.args inputs.0 inputs.1) (ap Some inputs.2)

@@ -15,7 +15,12 @@ pub requests_asks : (task : Task) (before : List Entry) (number : ℕ) (round : 
     → asks_of (requests_from task before number round) ≡ length round
 requests_asks task before number [] = refl
 requests_asks task before number (i ∷ is) =
-    omega (arith, asks_more (entry.Ask number (yields_of (notes_of task before) i) (call_of_instance task (names_of task before) i) ∷ []) (requests_from task before (number + 1) is), requests_asks task before (number + 1) is)
+    omega (
+      arith,
+      asks_more (entry.Ask number (yields_of (notes_of task before) i) (call_of_instance task (names_of task before) i) ∷ [])
+          (requests_from task before (number + 1) is),
+      requests_asks task before (number + 1) is,
+    )
 
 pub answer_asks : (number : ℕ) (e : Entry) → is_answer_to number e ≡ true → asks_of (e ∷ []) ≡ 0
 answer_asks number (entry.Ask n turn call) is = absurd (cc)

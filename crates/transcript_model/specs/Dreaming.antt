@@ -21,8 +21,10 @@ use Rattle.transcript_model.specs.declared.entry.Entry.TheVariants as entry
 
 -- ---- dreams after a transcript
 
--- More than so many entries are supposed: by a list that comes before the last pass, and the instances that the next pass adds.
-pub record MoreAreSupposed (most : ℕ) (task : Task) (known : Known) (notes : List Note) (tried : List Instance) (depth : ℕ) : Type 0 where
+-- More than so many entries are supposed: by a list that comes before the last pass, and the instances that the next
+-- pass adds.
+pub record MoreAreSupposed (most : ℕ) (task : Task) (known : Known) (notes : List Note)
+    (tried : List Instance) (depth : ℕ) : Type 0 where
   pub passes : ℕ
   pub early : passes < depth
   pub list : List dreams.Entry
@@ -43,17 +45,20 @@ module _ (limits : Limits) (task : Task) (before : List Entry) (tried : List Ins
   -- no plan rests on what is supposed after the transcript
   abbrev pub HasNoDreamAfter : Type 0
   HasNoDreamAfter =
-      MoreAreSupposed 20000 task (known_of task before) (notes_of task before) tried limits.depth ⊎ ((list : List dreams.Entry) × AreSupposedAfter list × HasNoDream task (known_of task before) list limits.states)
+      MoreAreSupposed 20000 task (known_of task before) (notes_of task before) tried limits.depth
+      ⊎ ((list : List dreams.Entry) × AreSupposedAfter list
+      × HasNoDream task (known_of task before) list limits.states)
 
-  -- A dream after the transcript, as it is shown: the places of its entries in the list, from 1, and its steps, where the
-  -- outputs of the list's entries have their placeholders' names.
+  -- A dream after the transcript, as it is shown: the places of its entries in the list, from 1, and its steps, where
+  -- the outputs of the list's entries have their placeholders' names.
   pub record IsDreamAfter (uses : List DreamUse) (steps : List Call) (entries : List dreams.Entry) : Type 0 where
     pub list : List dreams.Entry
     pub supposed : AreSupposedAfter list
     pub plan : List GroundAction
     pub dream : IsDream task (known_of task before) list entries plan
     pub numbers : map (λ (u : DreamUse). u.number) uses ≡ map (λ place. place + 1) dream.places
-    pub calls : map (λ (u : DreamUse). u.call) uses ≡ map (call_of_instance task (supposing task (known_of task before) list list).names) (instances_of entries)
+    pub calls : map (λ (u : DreamUse). u.call) uses
+        ≡ map (call_of_instance task (supposing task (known_of task before) list list).names) (instances_of entries)
     pub shown : steps ≡ map (call_of_step task (supposing task (known_of task before) list list).names) plan
 
 -- ---- entries that become real
@@ -86,7 +91,9 @@ module _ (task : Task) (entries : List Entry) (real : ℕ) where
   -- the object that stands for an object of the dream, before which so many objects were real
   abbrev pub replaced : List Sent → ℕ → Option ℕ
   replaced [] object = if nat_lt object real then Some object else None
-  replaced (s ∷ sent) object = option_or (option_and_then (λ objects. paired s.outputs objects object) (first_tuple task entries s)) (replaced sent object)
+  replaced (s ∷ sent) object =
+      option_or (option_and_then (λ objects. paired s.outputs objects object) (first_tuple task entries s))
+      (replaced sent object)
 
   abbrev pub all_replaced : List Sent → List ℕ → Option (List ℕ)
   all_replaced sent [] = Some []
@@ -95,18 +102,24 @@ module _ (task : Task) (entries : List Entry) (real : ℕ) where
 
   -- the instance that an entry has become, where all its inputs are real
   abbrev pub become : List Sent → dreams.Entry → Option Instance
-  become sent e = option_map (λ inputs. record { stream = e.instance.stream; inputs = inputs }) (all_replaced sent e.instance.inputs)
+  become sent e =
+      option_map (λ inputs. record { stream = e.instance.stream; inputs = inputs })
+      (all_replaced sent e.instance.inputs)
 
   -- the instance that an entry has become, if that is due and none of these
   abbrev pub ready : List Sent → List Instance → dreams.Entry → Option Instance
-  ready sent taken e = option_and_then (λ i. if is_due task (known_of task entries) (notes_of task entries) i && not (list_any (same_instance i) taken) then Some i else None) (become sent e)
+  ready sent taken e =
+      option_and_then (λ i.
+      if is_due task (known_of task entries) (notes_of task entries) i && not (list_any (same_instance i) taken)
+      then Some i else None) (become sent e)
 
-  -- The entries that are asked next, with numbers from this one on: in order those that have become instances that are due and
-  -- weren't asked in this dream. Of several that have become one instance it is the first.
+  -- The entries that are asked next, with numbers from this one on: in order those that have become instances that are
+  -- due and weren't asked in this dream. Of several that have become one instance it is the first.
   abbrev pub next_sent : List Sent → ℕ → List Instance → List dreams.Entry → List Sent
   next_sent sent number taken [] = []
   next_sent sent number taken (e ∷ es) =
-      option_map_or (λ i. record { number = number; instance = i; outputs = e.outputs } ∷ next_sent sent (number + 1) (i ∷ taken) es) (ready sent taken e) (next_sent sent number taken es)
+      option_map_or (λ i. record { number = number; instance = i; outputs = e.outputs }
+      ∷ next_sent sent (number + 1) (i ∷ taken) es) (ready sent taken e) (next_sent sent number taken es)
 
 abbrev pub sent_instances : List Sent → List Instance
 sent_instances sent = map (λ (s : Sent). s.instance) sent

@@ -3,6 +3,7 @@ use Rattle.std.specs.Prelude.{◌≡◌, ℕ, ◌+◌, ◌≤◌, ◌==◌, List
 use Rattle.std.specs.List.{list_any}
 use Rattle.gen_lines.specs.Reply.{IsRight}
 use Rattle.task_model.specs.Streams.{IsDue, NothingIsDue, yields_of}
+use Rattle.task_model.specs.declared.limits.TheConstants.{LARGEST_NUMBER}
 use Rattle.task_model.specs.declared.stream.Instance.{Instance}
 use Rattle.task_model.specs.declared.task.Task.{Task}
 use Rattle.transcript_model.specs.Names.{instance_of}
@@ -88,7 +89,8 @@ has_several version = not (version == 1)
 
 -- A yield answers an open request to a stream that isn't a cost stream. It has as many tuples as the
 -- version allows, and each has a value for each output.
-pub record IsRightGot (version : ℕ) (task : Task) (before : List Entry) (number tuples : ℕ) (values : List (List ℕ)) : Type 0 where
+pub record IsRightGot (version : ℕ) (task : Task) (before : List Entry) (number tuples : ℕ)
+    (values : List (List ℕ)) : Type 0 where
   pub waiting : is_open before number ≡ true
   pub request : Asked
   pub of : asked task before number ≡ Some request
@@ -101,7 +103,7 @@ pub record IsRightValue (task : Task) (before : List Entry) (number value : ℕ)
   pub request : Asked
   pub of : asked task before number ≡ Some request
   pub cost : is_none request.stream.worth ≡ false
-  pub few : value ≤ 1000000
+  pub few : value ≤ LARGEST_NUMBER
 
 -- the entry may follow these
 abbrev pub MayFollow : ℕ → Task → List Entry → Entry → Type 0

@@ -3,17 +3,12 @@ use Rattle.std.specs.Prelude.{ℕ, List, [], ◌∷◌, map, Option, Some}
 use Rattle.std.specs.List.{position}
 use Rattle.std.specs.Option.{option_map, option_and_then}
 use Rattle.gen_lines.specs.Request.{stream_name}
-use Rattle.task_model.specs.Known.{same_numbers, with_name}
+use Rattle.task_model.specs.Known.{same_numbers}
 use Rattle.task_model.specs.Streams.{name_at}
 use Rattle.task_model.specs.declared.stream.Instance.{Instance}
 use Rattle.task_model.specs.declared.stream.Stream.{Stream}
 use Rattle.task_model.specs.declared.task.Task.{Task}
 use Rattle.transcript_model.specs.declared.entry.Call.{Call}
-
--- the names with each of these behind them in turn
-abbrev pub with_names : List (List ℕ) → List (List ℕ) → List (List ℕ)
-with_names names [] = names
-with_names names (name ∷ more) = with_names (with_name names name) more
 
 -- the name of the object that a generator's value stands for: `#` and the value
 abbrev pub generated : List ℕ → List ℕ
@@ -35,7 +30,10 @@ stream_named task name = position (λ (s : Stream). same_numbers name s.name) ta
 
 -- the instance that a call stands for, where its stream and its objects are known
 abbrev pub instance_of : Task → List (List ℕ) → Call → Option Instance
-instance_of task names call = option_and_then (λ stream. option_map (λ inputs. record { stream = stream; inputs = inputs }) (places_of names call.args)) (stream_named task call.name)
+instance_of task names call =
+    option_and_then
+    (λ stream. option_map (λ inputs. record { stream = stream; inputs = inputs }) (places_of names call.args))
+    (stream_named task call.name)
 
 -- how an instance is shown
 abbrev pub call_of_instance : Task → List (List ℕ) → Instance → Call

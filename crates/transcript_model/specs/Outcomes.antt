@@ -8,6 +8,7 @@ use Rattle.task_model.specs.Known.{same_numbers}
 use Rattle.lemmas.specs.Lists.{AreAscending}
 use Rattle.task_model.specs.Plans.{IsValid, IsSolvable, IsReached, MoreThan}
 use Rattle.task_model.specs.Streams.{IsDue, MoreAreDue}
+use Rattle.task_model.specs.declared.limits.TheConstants.{MOST_DUE}
 use Rattle.task_model.specs.declared.stream.Instance.{Instance}
 use Rattle.task_model.specs.declared.task.GroundAction.{GroundAction}
 use Rattle.task_model.specs.declared.task.Task.{Task}
@@ -28,10 +29,14 @@ use Rattle.transcript_model.specs.declared.outcome.Outcome.TheVariants as outcom
 
 -- ---- where generated objects came from
 
--- the number, from 1, of the first of so many tuples that has the value, if the entry is a yield that answers this request
+-- the number, from 1, of the first of so many tuples that has the value, if the entry is a yield that answers this
+-- request
 abbrev pub tuple_with : List ℕ → ℕ → Entry → Option ℕ
 tuple_with value n (entry.Got number tuples values) =
-    if n == number then option_map (λ place. place + 1) (position (list_any (same_numbers value)) (tuples_in (length values / tuples) tuples values)) else None
+    if n == number
+    then option_map (λ place. place + 1)
+    (position (list_any (same_numbers value)) (tuples_in (length values / tuples) tuples values))
+    else None
 tuple_with value n e = None
 
 -- a yield that answers this request has the value
@@ -43,7 +48,8 @@ has_value entries n value = list_any (is_with n) entries
         (n == number) && list_any (same_numbers value) values
     is_with n e = false
 
--- An object and the first request whose answer has its value. In version 1 the tuple is 1, and else the first that has it.
+-- An object and the first request whose answer has its value. In version 1 the tuple is 1, and else the first that has
+-- it.
 pub record IsOrigin (version : ℕ) (entries : List Entry) (origin : Origin) : Type 0 where
   pub value : List ℕ
   pub named : origin.object ≡ generated value
@@ -68,7 +74,8 @@ pub record AreOrigins (version : ℕ) (entries : List Entry) (calls : List Call)
 -- ---- claims
 
 -- The plan is valid over what is known, and its cost and its origins are as shown.
-pub record IsTruePlan (version : ℕ) (task : Task) (entries : List Entry) (calls : List Call) (cost : ℕ) (from : List Origin) : Type 0 where
+pub record IsTruePlan (version : ℕ) (task : Task) (entries : List Entry) (calls : List Call)
+    (cost : ℕ) (from : List Origin) : Type 0 where
   pub steps : List GroundAction
   pub shown : calls ≡ map (call_of_step task (names_of task entries)) steps
   pub valid : IsValid task (known_of task entries) steps cost
@@ -99,7 +106,7 @@ IsTrueOutcome limits task entries outcome.NoPlan = HasNoPlan limits.version task
 IsTrueOutcome limits task entries (outcome.Limit Calls) = IsPastCalls limits task entries
 IsTrueOutcome limits task entries (outcome.Limit States) = IsPastStates limits task entries
 IsTrueOutcome limits task entries (outcome.Limit Instances) =
-    MoreAreDue 1000000 task (known_of task entries) (notes_of task entries)
+    MoreAreDue MOST_DUE task (known_of task entries) (notes_of task entries)
 
 -- An outcome stands between turns, and the limit of calls also after a batch that was cut.
 abbrev pub MayStand : Stage → Outcome → Type 0

@@ -2,6 +2,7 @@
 use Rattle.std.specs.Prelude.{◌≡◌, ℕ, ◌+◌, ◌-◌, ◌<◌, ◌≤◌, List, [], ◌∷◌, ◌++◌, filter, length, take, Option, None, Some, count_by}
 use Rattle.task_model.specs.Plans.{IsSolvable}
 use Rattle.task_model.specs.Streams.{AreDue, MoreAreDue, NothingIsDue}
+use Rattle.task_model.specs.declared.limits.TheConstants.{MOST_DUE}
 use Rattle.task_model.specs.declared.stream.Instance.{Instance}
 use Rattle.task_model.specs.declared.task.Task.{Task}
 use Rattle.transcript_model.specs.Legal.{asks_of, is_answer, is_ask, is_level}
@@ -35,16 +36,19 @@ pub record GoesOn (task : Task) (before : List Entry) (list : List Instance) : T
   pub unsolvable : ¬ (IsSolvable task (known_of task before))
   pub due : AreDue task (known_of task before) (notes_of task before) list
   pub some : 0 < length list
-  pub few : length list ≤ 1000000
+  pub few : length list ≤ MOST_DUE
 
--- The entries of a plain run behind these, and what it ends with. The entries of a level are its requests and then its answers.
+-- The entries of a plain run behind these, and what it ends with. The entries of a level are its requests and then its
+-- answers.
 pub data IsPlainRun (task : Task) (answers : Answers) (calls : ℕ) : List Entry → List Entry → PlainEnd → Type 0 where
   solved : {before : List Entry} → IsSolvable task (known_of task before)
       → IsPlainRun task answers calls before [] plan
   too_many : {before : List Entry} → ¬ (IsSolvable task (known_of task before))
-      → MoreAreDue 1000000 task (known_of task before) (notes_of task before) → IsPlainRun task answers calls before [] limit_instances
+      → MoreAreDue MOST_DUE task (known_of task before) (notes_of task before)
+      → IsPlainRun task answers calls before [] limit_instances
   closed : {before : List Entry} → ¬ (IsSolvable task (known_of task before))
-      → NothingIsDue task (known_of task before) (notes_of task before) → IsPlainRun task answers calls before [] no_plan
+      → NothingIsDue task (known_of task before) (notes_of task before)
+      → IsPlainRun task answers calls before [] no_plan
   spent : {before : List Entry} (list : List Instance) → GoesOn task before list
       → calls ≤ asks_of before → IsPlainRun task answers calls before [] limit_calls
   cut : {before : List Entry} (list : List Instance) → GoesOn task before list
@@ -52,7 +56,8 @@ pub data IsPlainRun (task : Task) (answers : Answers) (calls : ℕ) : List Entry
       → IsPlainRun task answers calls before (level_of task answers calls before list) limit_calls
   level : {before rest : List Entry} {end : PlainEnd} (list : List Instance)
       → GoesOn task before list
-      → asks_of before + length list ≤ calls → IsPlainRun task answers calls (before ++ level_of task answers calls before list) rest end
+      → asks_of before + length list ≤ calls
+      → IsPlainRun task answers calls (before ++ level_of task answers calls before list) rest end
       → IsPlainRun task answers calls before (level_of task answers calls before list ++ rest) end
 
 -- ---- runs that are as plain ones
@@ -63,7 +68,8 @@ pub record SaysSame (entries others : List Entry) : Type 0 where
   pub answers : filter is_answer entries ≡ filter is_answer others
   pub levels : count_by is_level entries ≡ count_by is_level others
 
--- what a plain run ends with where an incremental one ends so; nothing of the limit of states, which plain runs don't have
+-- what a plain run ends with where an incremental one ends so; nothing of the limit of states, which plain runs don't
+-- have
 abbrev pub end_of : Outcome → Option PlainEnd
 end_of (outcome.Plan steps cost from) = Some plan
 end_of outcome.NoPlan = Some no_plan

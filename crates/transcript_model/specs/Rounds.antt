@@ -20,7 +20,8 @@ pub record Share : Type 0 where
   pub workers : ℕ
   pub streams : List ℕ
 
--- The version of the protocol, the mode, the most calls, the most states of a search, how deep entries are supposed, and the pools.
+-- The version of the protocol, the mode, the most calls, the most states of a search, how deep entries are supposed,
+-- and the pools.
 pub record Limits : Type 0 where
   pub version : ℕ
   pub mode : Mode
@@ -33,7 +34,14 @@ abbrev pub share_of : pools.Pool → Share
 share_of pool = record { workers = pool.workers; streams = pool.streams }
 
 abbrev pub limits_of : Head → Limits
-limits_of head = record { version = head.version; mode = head.mode; calls = head.calls; states = head.states; depth = head.depth; pools = map share_of head.pools }
+limits_of head = record {
+  version = head.version;
+  mode = head.mode;
+  calls = head.calls;
+  states = head.states;
+  depth = head.depth;
+  pools = map share_of head.pools;
+}
 
 -- ---- rounds
 
@@ -53,14 +61,17 @@ IsFull pools round (next ∷ later) = fits pools (round ++ next ∷ []) ≡ fals
 abbrev pub AreRounds : List Share → List Instance → List (List Instance) → Type 0
 AreRounds pools list [] = list ≡ []
 AreRounds pools list (round ∷ rounds) =
-    (rest : List Instance) × (list ≡ round ++ rest) × (0 < length round) × (fits pools round ≡ true) × IsFull pools round rest × AreRounds pools rest rounds
+    (rest : List Instance) × (list ≡ round ++ rest) × (0 < length round) × (fits pools round ≡ true)
+    × IsFull pools round rest × AreRounds pools rest rounds
 
 -- ---- the entries of a round
 
 -- the requests for these instances after a transcript, the first of which has this number
 abbrev pub requests_from : Task → List Entry → ℕ → List Instance → List Entry
 requests_from task before number [] = []
-requests_from task before number (i ∷ is) = entry.Ask number (yields_of (notes_of task before) i) (call_of_instance task (names_of task before) i) ∷ requests_from task before (number + 1) is
+requests_from task before number (i ∷ is) =
+    entry.Ask number (yields_of (notes_of task before) i) (call_of_instance task (names_of task before) i)
+    ∷ requests_from task before (number + 1) is
 
 -- the requests for these instances after a transcript
 abbrev pub requests : Task → List Entry → List Instance → List Entry
@@ -83,7 +94,8 @@ IsRound task before round entries =
 abbrev pub AreRoundsRun : Task → List Entry → List (List Instance) → List Entry → Type 0
 AreRoundsRun task before [] entries = entries ≡ []
 AreRoundsRun task before (round ∷ rounds) entries =
-    (now : List Entry) × (rest : List Entry) × (entries ≡ now ++ rest) × IsRound task before round now × AreRoundsRun task (before ++ now) rounds rest
+    (now : List Entry) × (rest : List Entry) × (entries ≡ now ++ rest) × IsRound task before round now
+    × AreRoundsRun task (before ++ now) rounds rest
 
 -- ---- batches
 
@@ -92,7 +104,8 @@ abbrev pub calls_left : Limits → List Entry → ℕ
 calls_left limits before = limits.calls - asks_of before
 
 -- The requests of the list, as far as calls are left, are made in rounds.
-pub record IsBatch (limits : Limits) (task : Task) (before : List Entry) (list : List Instance) (entries : List Entry) : Type 0 where
+pub record IsBatch (limits : Limits) (task : Task) (before : List Entry) (list : List Instance)
+    (entries : List Entry) : Type 0 where
   pub rounds : List (List Instance)
   pub cut : AreRounds limits.pools (take (calls_left limits before) list) rounds
   pub run : AreRoundsRun task before rounds entries

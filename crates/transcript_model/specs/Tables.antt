@@ -4,6 +4,7 @@ use Rattle.std.specs.Cmp.Lexicographic.{pointwise}
 use Rattle.gen_lines.specs.Reply.{Reply, IsRight, yields, number, ends, bad}
 use Rattle.task_model.specs.Known.{same_numbers}
 use Rattle.task_model.specs.Plans.{IsReached, MoreThan}
+use Rattle.task_model.specs.declared.limits.TheConstants.{LARGEST_NUMBER}
 use Rattle.task_model.specs.declared.stream.Stream.{Stream}
 use Rattle.task_model.specs.declared.task.Task.{Task}
 use Rattle.transcript_model.specs.Legal.{IsLegal, asks_of, has_several, is_answer_to}
@@ -34,12 +35,12 @@ reply_in [] call turn = ends
 reply_in (row ∷ rows) call turn =
     if same_call row.call call && (row.turn == turn) then row.reply else reply_in rows call turn
 
--- A request to the stream may be answered so: tuples of the right width, a value of at most 1,000,000 from a cost stream, or
--- that nothing more comes.
+-- A request to the stream may be answered so: tuples of the right width, a value of at most 1,000,000 from a cost
+-- stream, or that nothing more comes.
 abbrev pub MayAnswer : ℕ → Stream → Reply → Type 0
 MayAnswer version stream (yields tuples values) =
     (is_none stream.worth ≡ true) × IsRight (length stream.outputs) (has_several version) tuples values
-MayAnswer version stream (number value) = (is_none stream.worth ≡ false) × (value ≤ 1000000)
+MayAnswer version stream (number value) = (is_none stream.worth ≡ false) × (value ≤ LARGEST_NUMBER)
 MayAnswer version stream ends = Unit {0}
 MayAnswer version stream (bad why) = ⊥
 

@@ -3,14 +3,14 @@ use Rattle.std.specs.Prelude.{ℕ, zero, suc, ◌==◌, List, [], ◌∷◌, ◌
 use Rattle.std.specs.List.{flat_map}
 use Rattle.std.specs.Option.{option_map, option_and_then, option_or, option_map_or}
 use Rattle.task_model.specs.Initial.{declared_names, initial_known}
-use Rattle.task_model.specs.Known.{Known, with_facts, with_values}
+use Rattle.task_model.specs.Known.{Known, with_facts, with_values, with_names}
 use Rattle.task_model.specs.Streams.{Note, Yielded, Ended, certified_by, worth_by}
 use Rattle.task_model.specs.declared.fact.Fact.{Fact}
 use Rattle.task_model.specs.declared.stream.Instance.{Instance}
 use Rattle.task_model.specs.declared.stream.Stream.{Stream}
 use Rattle.task_model.specs.declared.task.Task.{Task}
 use Rattle.task_model.specs.declared.task.Valued.{Valued}
-use Rattle.transcript_model.specs.Names.{with_names, generated, places_of, instance_of}
+use Rattle.transcript_model.specs.Names.{generated, places_of, instance_of}
 use Rattle.transcript_model.specs.declared.entry.Call.{Call}
 use Rattle.transcript_model.specs.declared.entry.Entry.{Entry}
 use Rattle.transcript_model.specs.declared.entry.Entry.TheVariants as entry
@@ -111,8 +111,16 @@ known_of task entries =
 abbrev pub known_with : Task → Known → Asked → Entry → Known
 known_with task known a (entry.Got n tuples values) =
     let names = with_names known.names (map generated values) in
-    record { names = names; facts = with_facts known.facts (yield_facts task names a tuples values); values = known.values }
-known_with task known a (entry.Value n value) = record { names = known.names; facts = known.facts; values = with_values known.values (worth_by a.stream a.instance.inputs value) }
+    record {
+      names = names;
+      facts = with_facts known.facts (yield_facts task names a tuples values);
+      values = known.values;
+    }
+known_with task known a (entry.Value n value) = record {
+  names = known.names;
+  facts = known.facts;
+  values = with_values known.values (worth_by a.stream a.instance.inputs value);
+}
 known_with task known a e = known
 
 -- what is noted after an answer to this request

@@ -3,6 +3,7 @@ use Rattle.std.specs.Prelude.{◌≡◌, ℕ, ◌+◌, ◌<◌, ◌≤◌, ◌�
 use Rattle.std.specs.List.{list_all}
 use Rattle.task_model.specs.Dreams as dreams
 use Rattle.task_model.specs.Streams.{AreDue}
+use Rattle.task_model.specs.declared.limits.TheConstants.{MOST_DUE}
 use Rattle.task_model.specs.declared.stream.Instance.{Instance}
 use Rattle.task_model.specs.declared.task.Task.{Task}
 use Rattle.transcript_model.specs.Dreaming.{Sent, next_sent, sent_instances, HasNoDreamAfter, IsDreamAfter}
@@ -23,7 +24,7 @@ pub record MayBegin (limits : Limits) (task : Task) (before : List Entry) : Type
   pub list : List Instance
   pub due : AreDue task (known_of task before) (notes_of task before) list
   pub some : 0 < length list
-  pub few : length list ≤ 1000000
+  pub few : length list ≤ MOST_DUE
   pub left : asks_of before < limits.calls
 
 -- calls are wanting for all of the list
@@ -42,14 +43,17 @@ pub record IsLevel (limits : Limits) (task : Task) (before now : List Entry) (cu
   pub cut_is : cut ≡ is_cut limits before list
 
 -- Where no plan rests on what is supposed: with tried instances these are forgotten, and else a whole level follows.
-pub data IsFallback (limits : Limits) (task : Task) (before : List Entry) : List Instance → List Entry → Bool → Type 0 where
+pub data IsFallback (limits : Limits) (task : Task) (before : List Entry) : List Instance → List Entry → Bool
+    → Type 0 where
   reset : (first : Instance) (more : List Instance)
       → IsFallback limits task before (first ∷ more) (entry.Reset ∷ []) false
   level : {now : List Entry} {cut : Bool} → IsLevel limits task before now cut
       → IsFallback limits task before [] now cut
 
--- Batches of a dream's entries, each of those that are ready, until none is. `sent` were asked before, and `after` in the end.
-pub data AreBatches (limits : Limits) (task : Task) (real : ℕ) (entries : List dreams.Entry) : List Sent → List Entry → List Entry → List Sent → Bool → Type 0 where
+-- Batches of a dream's entries, each of those that are ready, until none is. `sent` were asked before, and `after` in
+-- the end.
+pub data AreBatches (limits : Limits) (task : Task) (real : ℕ) (entries : List dreams.Entry) : List Sent → List Entry
+    → List Entry → List Sent → Bool → Type 0 where
   finished : {sent : List Sent} {before : List Entry}
       → next_sent task before real sent (asks_of before + 1) (sent_instances sent) entries ≡ []
       → AreBatches limits task real entries sent before [] sent false
@@ -65,8 +69,11 @@ pub data AreBatches (limits : Limits) (task : Task) (real : ℕ) (entries : List
 
 -- ---- turns with a dream, or without
 
--- A dream, whose entries are asked as `asks` says: in one batch, or in several. The instances that were asked join the tried ones.
-pub record IsDreamTurn (limits : Limits) (task : Task) (asks : ℕ → List dreams.Entry → List Entry → List Entry → List Sent → Bool → Type 0) (tried : List Instance) (before now : List Entry) (next : List Instance) (cut : Bool) : Type 0 where
+-- A dream, whose entries are asked as `asks` says: in one batch, or in several. The instances that were asked join the
+-- tried ones.
+pub record IsDreamTurn (limits : Limits) (task : Task)
+    (asks : ℕ → List dreams.Entry → List Entry → List Entry → List Sent → Bool → Type 0) (tried : List Instance)
+    (before now : List Entry) (next : List Instance) (cut : Bool) : Type 0 where
   pub uses : List DreamUse
   pub steps : List Call
   pub entries : List dreams.Entry
@@ -78,7 +85,8 @@ pub record IsDreamTurn (limits : Limits) (task : Task) (asks : ℕ → List drea
   pub joined : next ≡ tried ++ sent_instances sent
 
 -- No dream: afterwards nothing is tried.
-pub record IsEmptyTurn (limits : Limits) (task : Task) (tried : List Instance) (before now : List Entry) (next : List Instance) (cut : Bool) : Type 0 where
+pub record IsEmptyTurn (limits : Limits) (task : Task) (tried : List Instance)
+    (before now : List Entry) (next : List Instance) (cut : Bool) : Type 0 where
   pub none : HasNoDreamAfter limits task before tried
   pub rest : List Entry
   pub is : now ≡ entry.Nothing ∷ rest
@@ -86,7 +94,8 @@ pub record IsEmptyTurn (limits : Limits) (task : Task) (tried : List Instance) (
   pub forgotten : next ≡ []
 
 -- one batch of the entries that are ready
-pub record IsFirstBatch (limits : Limits) (task : Task) (real : ℕ) (entries : List dreams.Entry) (before now : List Entry) (after : List Sent) (cut : Bool) : Type 0 where
+pub record IsFirstBatch (limits : Limits) (task : Task) (real : ℕ)
+    (entries : List dreams.Entry) (before now : List Entry) (after : List Sent) (cut : Bool) : Type 0 where
   pub list : List Sent
   pub ready : list ≡ next_sent task before real [] (asks_of before + 1) [] entries
   pub batch : IsBatch limits task before (sent_instances list) now
@@ -129,38 +138,52 @@ retiring number (s ∷ sent) = []
 
 -- the skeletons after that one was picked and these were asked
 abbrev pub with_pick : List Skeleton → ℕ → Skeleton → List Sent → List Skeleton
-with_pick skeletons place s sent = slice_set skeletons place (record { entries = s.entries; real = s.real; picks = s.picks + 1; retired = is_given_up sent })
+with_pick skeletons place s sent =
+    slice_set skeletons place
+    (record { entries = s.entries; real = s.real; picks = s.picks + 1; retired = is_given_up sent })
 
 -- A skeleton is picked, and its batches are run from the beginning.
-pub record IsPickTurn (limits : Limits) (task : Task) (kept : Kept) (before now : List Entry) (next : Kept) (cut : Bool) : Type 0 where
+pub record IsPickTurn (limits : Limits) (task : Task) (kept : Kept) (before now : List Entry) (next : Kept)
+    (cut : Bool) : Type 0 where
   pub place : ℕ
   pub skeleton : Skeleton
   pub picked : IsPicked kept.skeletons place skeleton
   pub batches : List Entry
   pub sent : List Sent
-  pub run : AreBatches limits task skeleton.real skeleton.entries [] (before ++ entry.Pick (place + 1) ∷ []) batches sent cut
+  pub run : AreBatches limits task skeleton.real skeleton.entries []
+      (before ++ entry.Pick (place + 1) ∷ []) batches sent cut
   pub is : now ≡ entry.Pick (place + 1) ∷ batches ++ retiring (place + 1) sent
-  pub next_is : next ≡ record { tried = kept.tried ++ sent_instances sent; skeletons = with_pick kept.skeletons place skeleton sent }
+  pub next_is : next
+      ≡ record { tried = kept.tried ++ sent_instances sent; skeletons = with_pick kept.skeletons place skeleton sent }
 
 -- A dream becomes the last skeleton, and one is picked.
-pub record IsNewSkeleton (limits : Limits) (task : Task) (kept : Kept) (before now : List Entry) (next : Kept) (cut : Bool) : Type 0 where
+pub record IsNewSkeleton (limits : Limits) (task : Task) (kept : Kept) (before now : List Entry)
+    (next : Kept) (cut : Bool) : Type 0 where
   pub uses : List DreamUse
   pub steps : List Call
   pub entries : List dreams.Entry
   pub dream : IsDreamAfter limits task before kept.tried uses steps entries
   pub rest : List Entry
   pub is : now ≡ entry.Dream uses steps ∷ rest
-  pub pick : IsPickTurn limits task (record { tried = kept.tried; skeletons = kept.skeletons ++ record { entries = entries; real = length (names_of task before); picks = 0; retired = false } ∷ [] }) (before ++ entry.Dream uses steps ∷ []) rest next cut
+  pub pick : IsPickTurn limits task (record {
+    tried = kept.tried;
+    skeletons =
+        kept.skeletons
+        ++ record { entries = entries; real = length (names_of task before); picks = 0; retired = false }
+        ∷ [];
+  }) (before ++ entry.Dream uses steps ∷ []) rest next cut
 
 -- No dream, and a skeleton is picked.
-pub record IsOldSkeleton (limits : Limits) (task : Task) (kept : Kept) (before now : List Entry) (next : Kept) (cut : Bool) : Type 0 where
+pub record IsOldSkeleton (limits : Limits) (task : Task) (kept : Kept) (before now : List Entry)
+    (next : Kept) (cut : Bool) : Type 0 where
   pub none : HasNoDreamAfter limits task before kept.tried
   pub rest : List Entry
   pub is : now ≡ entry.Nothing ∷ rest
   pub pick : IsPickTurn limits task kept (before ++ entry.Nothing ∷ []) rest next cut
 
 -- No dream, and all skeletons are given up.
-pub record HasNoSkeleton (limits : Limits) (task : Task) (kept : Kept) (before now : List Entry) (next : Kept) (cut : Bool) : Type 0 where
+pub record HasNoSkeleton (limits : Limits) (task : Task) (kept : Kept) (before now : List Entry)
+    (next : Kept) (cut : Bool) : Type 0 where
   pub all_retired : list_all (λ (s : Skeleton). s.retired) kept.skeletons ≡ true
   pub tried : List Instance
   pub turn : IsEmptyTurn limits task kept.tried before now tried cut
@@ -174,15 +197,18 @@ module _ (limits : Limits) (task : Task) where
 
   abbrev pub FocusedTurn : List Instance → List Entry → List Entry → List Instance → Bool → Type 0
   FocusedTurn tried before now next cut =
-      IsDreamTurn limits task (IsFirstBatch limits task) tried before now next cut ⊎ IsEmptyTurn limits task tried before now next cut
+      IsDreamTurn limits task (IsFirstBatch limits task) tried before now next cut
+      ⊎ IsEmptyTurn limits task tried before now next cut
 
   abbrev pub BindingTurn : List Instance → List Entry → List Entry → List Instance → Bool → Type 0
   BindingTurn tried before now next cut =
-      IsDreamTurn limits task (λ real entries. AreBatches limits task real entries []) tried before now next cut ⊎ IsEmptyTurn limits task tried before now next cut
+      IsDreamTurn limits task (λ real entries. AreBatches limits task real entries []) tried before now next cut
+      ⊎ IsEmptyTurn limits task tried before now next cut
 
   abbrev pub AdaptiveTurn : Kept → List Entry → List Entry → Kept → Bool → Type 0
   AdaptiveTurn kept before now next cut =
-      IsNewSkeleton limits task kept before now next cut ⊎ (IsOldSkeleton limits task kept before now next cut ⊎ HasNoSkeleton limits task kept before now next cut)
+      IsNewSkeleton limits task kept before now next cut
+      ⊎ (IsOldSkeleton limits task kept before now next cut ⊎ HasNoSkeleton limits task kept before now next cut)
 
 -- ---- runs
 
@@ -192,9 +218,10 @@ pub data Stage : Type 0 where
   after_cut : Stage
   inside : Stage
 
--- Turns, each of which a mode allows by what it carries from turn to turn: `turn carried before now next cut`. A turn whose last
--- batch is cut is the last, and the last may stop at any entry.
-module _ {Carried : Type 0} (limits : Limits) (task : Task) (turn : Carried → List Entry → List Entry → Carried → Bool → Type 0) where
+-- Turns, each of which a mode allows by what it carries from turn to turn: `turn carried before now next cut`. A turn
+-- whose last batch is cut is the last, and the last may stop at any entry.
+module _ {Carried : Type 0} (limits : Limits)
+    (task : Task) (turn : Carried → List Entry → List Entry → Carried → Bool → Type 0) where
   pub data AreTurns : Carried → List Entry → List Entry → Stage → Type 0 where
     none_left : {carried : Carried} {before : List Entry} → AreTurns carried before [] between
     whole : {carried : Carried} (next : Carried) {before now rest : List Entry} {stage : Stage}

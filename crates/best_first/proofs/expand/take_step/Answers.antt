@@ -21,25 +21,34 @@ named_is actions listed place found action same is named =
 readable_step : (task : Task) (known : Known) (before after : Atoms) (step : GroundAction) (cost : ℕ)
     → (fit : IsFitDomain task.domain) → (is : IsStep task known before step after cost)
     → IsReadableAction task.domain fit is.action
-readable_step task known before after step cost fit is = readable_action task.domain fit is.action (fit_action task.domain fit step.action is.action is.named)
+readable_step task known before after step cost fit is =
+    readable_action task.domain fit is.action (fit_action task.domain fit step.action is.action is.named)
 
 few_args : (task : Task) (known : Known) (before after : Atoms) (step : GroundAction) (cost : ℕ)
     → IsFitDomain task.domain → IsStep task known before step after cost → length step.args ≤ 16
 few_args task known before after step cost fit is =
-    omega (arith, have_types-length known step.args is.action.params is.typed, (readable_step task known before after step cost fit is).params)
+    omega (
+      arith,
+      have_types-length known step.args is.action.params is.typed,
+      (readable_step task known before after step cost fit is).params,
+    )
 
 pub cost-requires-clause-action : goal.cost-requires-clause-action
 cost-requires-clause-action g c =
     let domain = c.args.scene.now.task.now.domain in
     let step = c.args.step.now in
     let is = c.requires.can.2 in
-    let found = named_is domain.actions c.as_slice.result.now step.action c.index-as_slice-step.result is.action c.as_slice.ensures c.index-as_slice-step.is is.named in
+    let found =
+    named_is domain.actions c.as_slice.result.now step.action c.index-as_slice-step.result is.action c.as_slice.ensures
+    c.index-as_slice-step.is is.named in
     subst (λ a. is_fit_action domain a ≡ true) (sym found) (fit_action domain c.requires.fit.domain step.action is.action is.named)
 
 pub cost-requires-clause-few : goal.cost-requires-clause-few
 cost-requires-clause-few g c =
     let known = g.L.Look.known c.args.scene.now.look.now in
-    subst (λ xs. length xs ≤ 16) (sym c.as_slice-args.ensures) (few_args c.args.scene.now.task.now known c.args.state.now c.requires.can.0 c.args.step.now c.requires.can.1 c.requires.fit.domain c.requires.can.2)
+    subst (λ xs. length xs ≤ 16) (sym c.as_slice-args.ensures)
+    (few_args c.args.scene.now.task.now known c.args.state.now c.requires.can.0 c.args.step.now c.requires.can.1 c.requires.fit.domain
+    c.requires.can.2)
 
 pub unreachable-requires : goal.unreachable-requires
 unreachable-requires g c =
@@ -47,30 +56,38 @@ unreachable-requires g c =
     let known = g.L.Look.known c.args.scene.now.look.now in
     let step = c.args.step.now in
     let is = c.requires.can.2 in
-    let found = named_is task.domain.actions c.as_slice.result.now step.action c.index-as_slice-step.result is.action c.as_slice.ensures c.index-as_slice-step.is is.named in
-    c.in_default.not-Some c.requires.can.1 (c.cost.ensures.value ∙ (λ i. cost_of task known (found i) (c.as_slice-args.ensures i)) ∙ is.costs)
+    let found =
+    named_is task.domain.actions c.as_slice.result.now step.action c.index-as_slice-step.result is.action c.as_slice.ensures
+    c.index-as_slice-step.is is.named in
+    c.in_default.not-Some c.requires.can.1
+    (c.cost.ensures.value ∙ (λ i. cost_of task known (found i) (c.as_slice-args.ensures i)) ∙ is.costs)
 
 pub after-requires-clause-few : goal.after-requires-clause-few
 after-requires-clause-few g c =
     let known = g.L.Look.known c.args.scene.now.look.now in
-    subst (λ xs. length xs ≤ 16) (sym c.as_slice-args.ensures) (few_args c.args.scene.now.task.now known c.args.state.now c.requires.can.0 c.args.step.now c.requires.can.1 c.requires.fit.domain c.requires.can.2)
+    subst (λ xs. length xs ≤ 16) (sym c.as_slice-args.ensures)
+    (few_args c.args.scene.now.task.now known c.args.state.now c.requires.can.0 c.args.step.now c.requires.can.1 c.requires.fit.domain
+    c.requires.can.2)
 
 readable : (task : Task) (known : Known) (before after : Atoms) (step : GroundAction) (cost : ℕ) (listed : List Action) (found : Action)
     → (fit : IsFitDomain task.domain) → IsStep task known before step after cost
     → listed ≡ task.domain.actions → found ≡ get_or listed step.action found
     → IsReadableAction task.domain fit found
 readable task known before after step cost listed found fit is same at =
-    subst (IsReadableAction task.domain fit) (sym (named_is task.domain.actions listed step.action found is.action same at is.named)) (readable_step task known before after step cost fit is)
+    subst (IsReadableAction task.domain fit) (sym (named_is task.domain.actions listed step.action found is.action same at is.named))
+    (readable_step task known before after step cost fit is)
 
 pub after-requires-clause-adds : goal.after-requires-clause-adds
 after-requires-clause-adds g c =
     let known = g.L.Look.known c.args.scene.now.look.now in
-    (readable c.args.scene.now.task.now known c.args.state.now c.requires.can.0 c.args.step.now c.requires.can.1 c.as_slice.result.now c.index-as_slice-step.result c.requires.fit.domain c.requires.can.2 c.as_slice.ensures c.index-as_slice-step.is).adds
+    (readable c.args.scene.now.task.now known c.args.state.now c.requires.can.0 c.args.step.now c.requires.can.1 c.as_slice.result.now
+    c.index-as_slice-step.result c.requires.fit.domain c.requires.can.2 c.as_slice.ensures c.index-as_slice-step.is).adds
 
 pub after-requires-clause-deletes : goal.after-requires-clause-deletes
 after-requires-clause-deletes g c =
     let known = g.L.Look.known c.args.scene.now.look.now in
-    (readable c.args.scene.now.task.now known c.args.state.now c.requires.can.0 c.args.step.now c.requires.can.1 c.as_slice.result.now c.index-as_slice-step.result c.requires.fit.domain c.requires.can.2 c.as_slice.ensures c.index-as_slice-step.is).deletes
+    (readable c.args.scene.now.task.now known c.args.state.now c.requires.can.0 c.args.step.now c.requires.can.1 c.as_slice.result.now
+    c.index-as_slice-step.result c.requires.fit.domain c.requires.can.2 c.as_slice.ensures c.index-as_slice-step.is).deletes
 
 pub returns-clause-step : goal.returns-clause-step
 returns-clause-step g c =
@@ -78,7 +95,9 @@ returns-clause-step g c =
     let known = g.L.Look.known c.args.scene.now.look.now in
     let step = c.args.step.now in
     let is = c.requires.can.2 in
-    let found = named_is task.domain.actions c.as_slice.result.now step.action c.index-as_slice-step.result is.action c.as_slice.ensures c.index-as_slice-step.is is.named in
+    let found =
+    named_is task.domain.actions c.as_slice.result.now step.action c.index-as_slice-step.result is.action c.as_slice.ensures
+    c.index-as_slice-step.is is.named in
     record {
       action = is.action;
       named = is.named;

@@ -12,8 +12,10 @@ loop-at-preserved c =
     let inside : n < length links = omega (arith, c.loop-at.invariant.1) in
     let at = get_some links n link inside c.index-links-at.is in
     let from : c.loop-at.at ≡ n + 1 = omega arith in
-    let before = subst (λ k. FollowsLink links k (reverse c.loop-at.steps.items) (length links) c.loop-at.cost) from c.loop-at.invariant.0 in
-    let way = follows_back links n link c.in_ok-copy.field-0 c.loop-at.steps.items c.push.new.self.items (length links) c.loop-at.cost at c.in_ok-copy.ensures c.in_ok-push.ensures.items before in
+    let before =
+    subst (λ k. FollowsLink links k (reverse c.loop-at.steps.items) (length links) c.loop-at.cost) from c.loop-at.invariant.0 in
+    let way = follows_back links n link c.in_ok-copy.field-0 c.loop-at.steps.items c.push.new.self.items
+    (length links) c.loop-at.cost at c.in_ok-copy.ensures c.in_ok-push.ensures.items before in
     let earlier = c.requires.links.earlier n link at in
     let small = c.requires.links.small n link at in
     (way, omega arith, omega (arith, c.loop-at.invariant.2))

@@ -12,7 +12,8 @@ returns-in_ok-plan-in-Goal-clause-plan g c =
     let tree = c.in-Goal.tree in
     let plan = c.in_ok-plan-in-Goal.plan.steps in
     let cost = c.in_ok-plan-in-Goal.cost in
-    let met : IsMet task known true c.args.limit tree.store tree.links.items = subst (ComesTo task known true c.args.limit) c.in-Goal.is c.in_ok-tree.ensures in
+    let met : IsMet task known true c.args.limit tree.store tree.links.items =
+    subst (ComesTo task known true c.args.limit) c.in-Goal.is c.in_ok-tree.ensures in
     let way = subst (λ ls. FollowsLink ls 0 plan (length ls) cost) c.as_slice.ensures.value c.in_ok-plan-in-Goal.ensures in
     found_plan task known true c.args.limit tree.store tree.links.items plan cost met way
 
@@ -23,7 +24,8 @@ returns-in_ok-plan-in-Goal-clause-nothing g c =
     let tree = c.in-Goal.tree in
     let plan = c.in_ok-plan-in-Goal.plan.steps in
     let cost = c.in_ok-plan-in-Goal.cost in
-    let met : IsMet task known true c.args.limit tree.store tree.links.items = subst (ComesTo task known true c.args.limit) c.in-Goal.is c.in_ok-tree.ensures in
+    let met : IsMet task known true c.args.limit tree.store tree.links.items =
+    subst (ComesTo task known true c.args.limit) c.in-Goal.is c.in_ok-tree.ensures in
     let way = subst (λ ls. FollowsLink ls 0 plan (length ls) cost) c.as_slice.ensures.value c.in_ok-plan-in-Goal.ensures in
     let found = found_plan task known true c.args.limit tree.store tree.links.items plan cost met way in
     (λ h. absurd h, λ h. absurd (h.0 (plan, cost, found.valid)))

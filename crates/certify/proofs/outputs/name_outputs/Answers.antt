@@ -1,10 +1,11 @@
 use Rattle.std.proofs.Common.{◌≡◌, ◌≤◌, ◌+◌, ◌∷◌, [], ◌++◌, ap, sym, subst, ◌∙◌, take, drop, map, length, arith, Some, slice_get}
 use Rattle.std.proofs.lemmas.List.{take_more}
-use Rattle.certify.proofs.OutputsLemmas.{named_kept, named_push, names_more, length_with_name}
+use Rattle.certify.proofs.OutputsLemmas.{named_kept, named_push, names_more}
 use Rattle.certify.proofs.outputs.name_outputs.Goals as goal
 use Rattle.certify.specs.Outputs.{AreNamed}
-use Rattle.transcript_model.specs.Names.{generated, with_names}
-use Rattle.task_model.specs.Known.{with_name}
+use Rattle.transcript_model.specs.Names.{generated}
+use Rattle.task_model.specs.Known.{with_name, with_names}
+use Rattle.task_model.proofs.KnownLemmas.{length_with_name}
 
 pub loop-value-preserved : goal.loop-value-preserved
 loop-value-preserved c =
@@ -12,17 +13,28 @@ loop-value-preserved c =
     let new = c.add_name.new.self.known.names in
     let value = c.value-item.result in
     let grown : new ≡ with_name old (generated value) = c.in_ok-object.ensures.names ∙ ap (with_name old) c.in_ok-name.ensures in
-    let here : slice_get new c.in_ok-object.object ≡ Some (generated value) = c.in_ok-object.ensures.object ∙ ap Some c.in_ok-name.ensures in
-    let kept : AreNamed new c.loop-value.objects (take c.loop-value.value-index c.args.values.now) = subst (λ ns. AreNamed ns c.loop-value.objects (take c.loop-value.value-index c.args.values.now)) (sym grown) (named_kept old (generated value) c.loop-value.objects (take c.loop-value.value-index c.args.values.now) c.loop-value.invariant.objects) in
-    let pushed : AreNamed new (c.loop-value.objects ++ c.in_ok-object.object ∷ []) (take c.loop-value.value-index c.args.values.now ++ value ∷ []) = named_push new c.loop-value.objects (take c.loop-value.value-index c.args.values.now) c.in_ok-object.object value kept here in
-    let more : take (c.loop-value.value-index + 1) c.args.values.now ≡ take c.loop-value.value-index c.args.values.now ++ value ∷ [] = take_more c.args.values.now c.loop-value.value-index value c.loop-value-test.true ∙ ap (λ v. take c.loop-value.value-index c.args.values.now ++ v ∷ []) (sym c.value-item.is) in
+    let here : slice_get new c.in_ok-object.object ≡ Some (generated value) =
+    c.in_ok-object.ensures.object ∙ ap Some c.in_ok-name.ensures in
+    let kept : AreNamed new c.loop-value.objects (take c.loop-value.value-index c.args.values.now) =
+    subst (λ ns. AreNamed ns c.loop-value.objects (take c.loop-value.value-index c.args.values.now)) (sym grown)
+    (named_kept old (generated value) c.loop-value.objects
+    (take c.loop-value.value-index c.args.values.now) c.loop-value.invariant.objects) in
+    let pushed : AreNamed new (c.loop-value.objects ++ c.in_ok-object.object ∷ [])
+    (take c.loop-value.value-index c.args.values.now ++ value ∷ []) =
+    named_push new c.loop-value.objects (take c.loop-value.value-index c.args.values.now) c.in_ok-object.object value kept here in
+    let more : take (c.loop-value.value-index + 1) c.args.values.now ≡ take c.loop-value.value-index c.args.values.now ++ value ∷ [] =
+    take_more c.args.values.now c.loop-value.value-index value c.loop-value-test.true
+    ∙ ap (λ v. take c.loop-value.value-index c.args.values.now ++ v ∷ []) (sym c.value-item.is) in
     record {
       names =
           ap (λ ns. with_names ns (map generated (drop (c.loop-value.value-index + 1) c.args.values.now))) grown
           ∙ names_more old c.args.values.now c.loop-value.value-index value c.loop-value-test.true c.value-item.is
           ∙ c.loop-value.invariant.names;
-      objects = subst (λ os. AreNamed new os (take (c.loop-value.value-index + 1) c.args.values.now)) (sym c.in_ok-push.ensures.ok) (subst (λ vs. AreNamed new (c.loop-value.objects ++ c.in_ok-object.object ∷ []) vs) (sym more) pushed);
-      room = let one : length new ≤ length old + 1 = subst (λ ns. length ns ≤ length old + 1) (sym grown) (length_with_name old (generated value)) in omega (arith, c.loop-value.invariant.room);
+      objects = subst (λ os. AreNamed new os (take (c.loop-value.value-index + 1) c.args.values.now)) (sym c.in_ok-push.ensures.ok)
+          (subst (λ vs. AreNamed new (c.loop-value.objects ++ c.in_ok-object.object ∷ []) vs) (sym more) pushed);
+      room = let one : length new ≤ length old + 1 =
+          subst (λ ns. length ns ≤ length old + 1) (sym grown) (length_with_name old (generated value)) in
+          omega (arith, c.loop-value.invariant.room);
       facts = c.add_name.ensures.facts ∙ c.loop-value.invariant.facts;
       values = c.add_name.ensures.values ∙ c.loop-value.invariant.values;
     }

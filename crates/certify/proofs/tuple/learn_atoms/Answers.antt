@@ -6,18 +6,24 @@ use Rattle.task_model.specs.Truth.{slots_of, objects_at}
 
 pub add-requires : goal.add-requires
 add-requires c =
-    let row : c.objects_at-row.result ≡ objects_at (slots_of c.args.args.now) c.pattern-item.result.args = c.objects_at-row.ensures ∙ (λ i. objects_at (c.new-env.ensures i) (c.as_slice.ensures i)) in
+    let row : c.objects_at-row.result ≡ objects_at (slots_of c.args.args.now) c.pattern-item.result.args =
+    c.objects_at-row.ensures ∙ (λ i. objects_at (c.new-env.ensures i) (c.as_slice.ensures i)) in
     let named = c.requires.named c.loop-pattern.pattern-index c.pattern-item.result c.loop-pattern-test.true in
-    let here : All (IsIn c.args.facts.now.known.names) (objects_at (slots_of c.args.args.now) c.pattern-item.result.args) = subst (λ p. All (IsIn c.args.facts.now.known.names) (objects_at (slots_of c.args.args.now) p.args)) (sym c.pattern-item.is) named in
-    let there : All (IsIn c.args.facts.now.known.names) c.objects_at-row.result = subst (All (IsIn c.args.facts.now.known.names)) (sym row) here in
+    let here : All (IsIn c.args.facts.now.known.names) (objects_at (slots_of c.args.args.now) c.pattern-item.result.args) =
+    subst (λ p. All (IsIn c.args.facts.now.known.names) (objects_at (slots_of c.args.args.now) p.args)) (sym c.pattern-item.is) named in
+    let there : All (IsIn c.args.facts.now.known.names) c.objects_at-row.result =
+    subst (All (IsIn c.args.facts.now.known.names)) (sym row) here in
     subst (λ ns. All (IsIn ns) c.objects_at-row.result) (sym c.loop-pattern.invariant.names) there
 
 pub loop-pattern-preserved : goal.loop-pattern-preserved
 loop-pattern-preserved c =
-    let row : c.objects_at-row.result ≡ objects_at (slots_of c.args.args.now) c.pattern-item.result.args = c.objects_at-row.ensures ∙ (λ i. objects_at (c.new-env.ensures i) (c.as_slice.ensures i)) in
+    let row : c.objects_at-row.result ≡ objects_at (slots_of c.args.args.now) c.pattern-item.result.args =
+    c.objects_at-row.ensures ∙ (λ i. objects_at (c.new-env.ensures i) (c.as_slice.ensures i)) in
     record {
-      facts = atoms_more _ c.args.patterns.now c.loop-pattern.pattern-index c.pattern-item.result c.loop-pattern.facts.known.facts c.add.new.self.known.facts c.loop-pattern-test.true c.pattern-item.is
-          (c.in_ok-add.ensures.facts ∙ ap (λ r. with_fact c.loop-pattern.facts.known.facts (atom_fact c.pattern-item.result.pred r)) row) ∙ c.loop-pattern.invariant.facts;
+      facts = atoms_more _ c.args.patterns.now c.loop-pattern.pattern-index c.pattern-item.result c.loop-pattern.facts.known.facts
+          c.add.new.self.known.facts c.loop-pattern-test.true c.pattern-item.is
+          (c.in_ok-add.ensures.facts ∙ ap (λ r. with_fact c.loop-pattern.facts.known.facts (atom_fact c.pattern-item.result.pred r)) row)
+          ∙ c.loop-pattern.invariant.facts;
       names = c.in_ok-add.ensures.names ∙ c.loop-pattern.invariant.names;
       values = c.in_ok-add.ensures.values ∙ c.loop-pattern.invariant.values;
     }

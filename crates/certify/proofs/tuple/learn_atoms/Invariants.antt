@@ -7,7 +7,8 @@ use Rattle.task_model.specs.Truth.{slots_of}
 -- with what is left, all are there
 abbrev pub invariant-loop-pattern : goal.invariant-loop-pattern
 invariant-loop-pattern l = record {
-  facts : with_facts l.facts.known.facts (map (fact_of (slots_of l.args)) (drop l.pattern-index l.patterns)) ≡ with_facts l.initial.facts.known.facts (map (fact_of (slots_of l.args)) l.patterns);
+  facts : with_facts l.facts.known.facts (map (fact_of (slots_of l.args)) (drop l.pattern-index l.patterns))
+      ≡ with_facts l.initial.facts.known.facts (map (fact_of (slots_of l.args)) l.patterns);
   names : l.facts.known.names ≡ l.initial.facts.known.names;
   values : l.facts.known.values ≡ l.initial.facts.known.values;
 }

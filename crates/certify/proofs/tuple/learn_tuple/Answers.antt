@@ -2,14 +2,16 @@ use Rattle.std.proofs.Common.{◌≡◌, ◌++◌, sym, subst, ◌∙◌, All, m
 use Rattle.certify.proofs.FitStreamLemmas.{ArePlain, fit_parts, few_args, plain_certified}
 use Rattle.certify.proofs.OutputsLemmas.{named_in, named_long, all_in_names_kept, names_grow}
 use Rattle.certify.proofs.tuple.learn_tuple.Goals as goal
-use Rattle.transcript_model.specs.Names.{generated, with_names}
+use Rattle.transcript_model.specs.Names.{generated}
 use Rattle.task_model.proofs.KnownLemmas.{facts_then}
-use Rattle.task_model.specs.Known.{IsIn, with_facts}
+use Rattle.task_model.specs.Known.{IsIn, with_facts, with_names}
 use Rattle.task_model.specs.Streams.{output_types, fact_of}
 use Rattle.task_model.specs.Truth.{slots_of}
 
 pub learn_types-requires-clause-named : goal.learn_types-requires-clause-named
-learn_types-requires-clause-named c = subst (All (IsIn c.name_outputs.new.facts.known.names)) (sym c.as_slice-2.ensures) (named_in c.name_outputs.new.facts.known.names c.in_ok-outputs.outputs c.args.values.now c.in_ok-outputs.ensures.objects)
+learn_types-requires-clause-named c =
+    subst (All (IsIn c.name_outputs.new.facts.known.names)) (sym c.as_slice-2.ensures)
+    (named_in c.name_outputs.new.facts.known.names c.in_ok-outputs.outputs c.args.values.now c.in_ok-outputs.ensures.objects)
 
 -- the arguments of the certified atoms
 module _ (c : goal.After-as_slice-5) where
@@ -26,24 +28,34 @@ module _ (c : goal.After-as_slice-5) where
   names_are = c.in_ok-learn_types.ensures.names ∙ c.in_ok-outputs.ensures.names
 
   inputs_named : All (IsIn c.learn_types.new.facts.known.names) c.args.inputs.now
-  inputs_named = subst (λ ns. All (IsIn ns) c.args.inputs.now) (sym names_are) (all_in_names_kept c.args.facts.now.known.names (map generated c.args.values.now) c.args.inputs.now c.requires.named)
+  inputs_named =
+      subst (λ ns. All (IsIn ns) c.args.inputs.now) (sym names_are)
+      (all_in_names_kept c.args.facts.now.known.names (map generated c.args.values.now) c.args.inputs.now c.requires.named)
 
   outputs_named : All (IsIn c.learn_types.new.facts.known.names) c.in_ok-outputs.outputs
-  outputs_named = subst (λ ns. All (IsIn ns) c.in_ok-outputs.outputs) (sym c.in_ok-learn_types.ensures.names) (named_in c.name_outputs.new.facts.known.names c.in_ok-outputs.outputs c.args.values.now c.in_ok-outputs.ensures.objects)
+  outputs_named =
+      subst (λ ns. All (IsIn ns) c.in_ok-outputs.outputs) (sym c.in_ok-learn_types.ensures.names)
+      (named_in c.name_outputs.new.facts.known.names c.in_ok-outputs.outputs c.args.values.now c.in_ok-outputs.ensures.objects)
 
   constants_there : length c.args.domain.now.constants ≤ length c.learn_types.new.facts.known.names
-  constants_there = subst (λ ns. length c.args.domain.now.constants ≤ length ns) (sym names_are) (omega (arith, c.requires.constants, names_grow c.args.facts.now.known.names (map generated c.args.values.now)))
+  constants_there =
+      subst (λ ns. length c.args.domain.now.constants ≤ length ns)
+      (sym names_are) (omega (arith, c.requires.constants, names_grow c.args.facts.now.known.names (map generated c.args.values.now)))
 
   plain : ArePlain c.learn_types.new.facts.known.names c.as_slice-5.result.now c.as_slice-4.result.now
   plain =
       subst (λ ps. ArePlain c.learn_types.new.facts.known.names c.as_slice-5.result.now ps) (sym c.as_slice-4.ensures)
       (subst (λ os. ArePlain c.learn_types.new.facts.known.names os c.args.stream.now.certified) (sym args_are)
-      (plain_certified c.args.domain.now c.requires.domain c.learn_types.new.facts.known.names constants_there c.args.stream.now (fit_parts c.args.domain.now c.args.stream.now c.requires.stream) c.args.inputs.now c.in_ok-outputs.outputs c.requires.inputs many inputs_named outputs_named))
+      (plain_certified c.args.domain.now c.requires.domain c.learn_types.new.facts.known.names constants_there c.args.stream.now
+      (fit_parts c.args.domain.now c.args.stream.now c.requires.stream) c.args.inputs.now c.in_ok-outputs.outputs c.requires.inputs many
+      inputs_named outputs_named))
 
 pub learn_atoms-requires-clause-few : goal.learn_atoms-requires-clause-few
 learn_atoms-requires-clause-few c =
     subst (λ os. length os ≤ 16) (sym (args_are c))
-    (few_args c.args.domain.now c.requires.domain c.learn_types.new.facts.known.names (constants_there c) c.args.stream.now (fit_parts c.args.domain.now c.args.stream.now c.requires.stream) c.args.inputs.now c.in_ok-outputs.outputs c.requires.inputs (many c))
+    (few_args c.args.domain.now c.requires.domain c.learn_types.new.facts.known.names (constants_there c) c.args.stream.now
+    (fit_parts c.args.domain.now c.args.stream.now c.requires.stream) c.args.inputs.now c.in_ok-outputs.outputs c.requires.inputs
+    (many c))
 
 pub learn_atoms-requires-clause-short : goal.learn_atoms-requires-clause-short
 learn_atoms-requires-clause-short c = (plain c).short
@@ -56,7 +68,14 @@ learn_atoms-requires-clause-named c = (plain c).named
 
 pub returns-clause-facts : goal.returns-clause-facts
 returns-clause-facts c =
-    let args : c.as_slice-5.result.now ≡ c.args.inputs.now ++ c.in_ok-outputs.outputs = c.as_slice-5.ensures.value ∙ c.in_ok-extend_from_slice.ensures.items ∙ (λ i. c.in_ok-args.ensures.items i ++ c.as_slice-3.ensures i) in
-    let before : c.learn_types.new.facts.known.facts ≡ with_facts c.args.facts.now.known.facts (output_types c.args.domain.now c.args.stream.now.outputs c.in_ok-outputs.outputs) = c.in_ok-learn_types.ensures.facts ∙ (λ i. with_facts (c.in_ok-outputs.ensures.facts i) (output_types c.args.domain.now (c.as_slice.ensures i) (c.as_slice-2.ensures i))) in
+    let args : c.as_slice-5.result.now ≡ c.args.inputs.now ++ c.in_ok-outputs.outputs =
+    c.as_slice-5.ensures.value ∙ c.in_ok-extend_from_slice.ensures.items
+    ∙ (λ i. c.in_ok-args.ensures.items i ++ c.as_slice-3.ensures i) in
+    let before : c.learn_types.new.facts.known.facts ≡ with_facts c.args.facts.now.known.facts
+    (output_types c.args.domain.now c.args.stream.now.outputs c.in_ok-outputs.outputs) =
+    c.in_ok-learn_types.ensures.facts
+    ∙ (λ i. with_facts (c.in_ok-outputs.ensures.facts i)
+    (output_types c.args.domain.now (c.as_slice.ensures i) (c.as_slice-2.ensures i))) in
     c.in_ok-learn_atoms.ensures.facts ∙ (λ i. with_facts (before i) (map (fact_of (slots_of (args i))) (c.as_slice-4.ensures i)))
-    ∙ sym (facts_then c.args.facts.now.known.facts (output_types c.args.domain.now c.args.stream.now.outputs c.in_ok-outputs.outputs) (map (fact_of (slots_of (c.args.inputs.now ++ c.in_ok-outputs.outputs))) c.args.stream.now.certified))
+    ∙ sym (facts_then c.args.facts.now.known.facts (output_types c.args.domain.now c.args.stream.now.outputs c.in_ok-outputs.outputs)
+    (map (fact_of (slots_of (c.args.inputs.now ++ c.in_ok-outputs.outputs))) c.args.stream.now.certified))

@@ -6,7 +6,8 @@ use Rattle.task_model.specs.Streams.{output_types}
 -- with what is left, all are there
 abbrev pub invariant-loop-place : goal.invariant-loop-place
 invariant-loop-place l = record {
-  facts : with_facts l.facts.known.facts (output_types l.domain (drop l.place l.sorts) (drop l.place l.objects)) ≡ with_facts l.initial.facts.known.facts (output_types l.domain l.sorts l.objects);
+  facts : with_facts l.facts.known.facts (output_types l.domain (drop l.place l.sorts) (drop l.place l.objects))
+      ≡ with_facts l.initial.facts.known.facts (output_types l.domain l.sorts l.objects);
   names : l.facts.known.names ≡ l.initial.facts.known.names;
   values : l.facts.known.values ≡ l.initial.facts.known.values;
 }

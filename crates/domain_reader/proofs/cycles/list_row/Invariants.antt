@@ -8,7 +8,8 @@ use Rattle.domain_reader.proofs.cycles.list_row.Given as goal
 
 abbrev pub invariant-words : goal.invariant-words
 invariant-words l = record {
-  listed : l.fn.listed.items ++ listed_row l.sorts l.fn.seen Start (trees l.items) ≡ l.listed.items ++ listed_row l.sorts l.seen l.spot (trees l.left);
+  listed : l.fn.listed.items ++ listed_row l.sorts l.fn.seen Start (trees l.items)
+      ≡ l.listed.items ++ listed_row l.sorts l.seen l.spot (trees l.left);
   seen : seen_after l.fn.seen Start (trees l.items) ≡ seen_after l.seen l.spot (trees l.left);
 }
 

@@ -6,7 +6,8 @@ use Rattle.domain_reader.proofs.domain.roles_of.Goals as goal
 pub loop-place-preserved : goal.loop-place-preserved
 loop-place-preserved c =
     let lt : c.loop-place.place < length c.args.domain.now.predicates = omega (arith, c.loop-place-test.true, c.len-place-end.ensures) in
-    roles_more c.args.domain.now c.loop-place.list.items c.push.new.self.items c.loop-place.place c.role_of.result c.loop-place.invariant lt (c.role_of.ensures ∙ ap (role_of c.args.domain.now) c.in_ok-number.ensures) c.in_ok-push.ensures.items
+    roles_more c.args.domain.now c.loop-place.list.items c.push.new.self.items c.loop-place.place c.role_of.result c.loop-place.invariant lt
+    (c.role_of.ensures ∙ ap (role_of c.args.domain.now) c.in_ok-number.ensures) c.in_ok-push.ensures.items
 
 pub returns : goal.returns
 returns c =

@@ -13,7 +13,8 @@ decreases-check_effects l = count (trees l.items.now)
 
 abbrev pub invariant-check_effects-parts : goal.invariant-check_effects-parts
 invariant-check_effects-parts l = record {
-  faults : first l.fn.so_far (effects_names l.names l.heads l.scope (trees l.items)) ≡ first l.found (effects_names l.names l.heads l.scope (trees l.left));
+  faults : first l.fn.so_far (effects_names l.names l.heads l.scope (trees l.items))
+      ≡ first l.found (effects_names l.names l.heads l.scope (trees l.left));
   smaller : count (trees l.left) ≤ count (trees l.items);
 }
 

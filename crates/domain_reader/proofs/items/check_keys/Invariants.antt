@@ -8,7 +8,8 @@ use Rattle.domain_reader.proofs.items.check_keys.Given as goal
 
 abbrev pub invariant-keys : goal.invariant-keys
 invariant-keys l = record {
-  faults : first l.fn.so_far (keys_names l.names l.heads l.fn.scope NoKey (trees l.items)) ≡ first l.found (keys_names l.names l.heads l.fn.scope l.key (trees l.left));
+  faults : first l.fn.so_far (keys_names l.names l.heads l.fn.scope NoKey (trees l.items))
+      ≡ first l.found (keys_names l.names l.heads l.fn.scope l.key (trees l.left));
   scope : l.scope ≡ l.fn.scope;
 }
 

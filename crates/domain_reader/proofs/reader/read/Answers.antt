@@ -10,7 +10,8 @@ use Rattle.domain_reader.proofs.reader.read.Goals as goal
 pub returns-in-Ok : goal.returns-in-Ok
 returns-in-Ok c =
     let none : least_fault (form_faults Domain (tree c.args.text.now)) ≡ None = sym c.check_form.ensures ∙ c.in_default.is in
-    let both : ReadsNamed (tree c.args.text.now) (Ok c.in-Ok.domain) = subst (ReadsNamed (tree c.args.text.now)) c.in-Ok.is c.in_ok-domain.ensures in
+    let both : ReadsNamed (tree c.args.text.now) (Ok c.in-Ok.domain) =
+    subst (ReadsNamed (tree c.args.text.now)) c.in-Ok.is c.in_ok-domain.ensures in
     read_whole (tree c.args.text.now) c.in-Ok.domain none both.0 both.1
 
 pub returns-in-Err : goal.returns-in-Err

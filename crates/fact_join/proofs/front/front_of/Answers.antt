@@ -48,8 +48,10 @@ loop-place-preserved g c =
     let atom = c.index-atoms-place.result in
     let at = slice_get-get_or atoms c.loop-place.place atom c.loop-place-test.true ∙ ap Some (sym c.index-atoms-place.is) in
     let ground = subst (IsGrounding c.args.partial.now atom.terms.now) c.in-Row.is c.in_ok-slot.ensures in
-    known_next known c.args.partial.now atoms c.loop-place.place atom at c.in-Row.args ground (sym c.if-not-has_atom.ensures) c.loop-place.invariant
+    known_next known c.args.partial.now atoms c.loop-place.place atom at c.in-Row.args ground (sym c.if-not-has_atom.ensures)
+    c.loop-place.invariant
 
 pub returns : goal.returns
 returns g c =
-    subst (AreKnown (g.L.Look.known c.args.query.now.look.now) c.args.partial.now) (take_all c.loop-place.place c.args.atoms.now (omega (arith, c.loop-place-test.false))) c.loop-place.invariant
+    subst (AreKnown (g.L.Look.known c.args.query.now.look.now) c.args.partial.now)
+    (take_all c.loop-place.place c.args.atoms.now (omega (arith, c.loop-place-test.false))) c.loop-place.invariant

@@ -36,11 +36,16 @@ branch-returns-in_err-join-clause-fault g t c =
     let rows = c.loop-place.rows.items in
     let most = c.args.query.now.most in
     let fault = c.in_err-join.field-0.0 in
-    let here = comes_same most (IsAnswer known sorts wants c.with.result atoms) (at object) rows fault (λ x. (at_object known sorts wants partial c.with.result atoms slot object c.with.ensures.agrees x).0) c.in_err-join.ensures.fault in
-    let among = comes_next at objects (λ y z x m n (e, p) (f, q). sym e ∙ f) (objects_distinct known.facts sort (g.met.L.Look.coherent c.args.query.now.look.now).facts) c.loop-place.place object c.object-object.ensures most c.args.rows.now.items rows fault c.loop-place.invariant.0 here in
+    let here = comes_same most (IsAnswer known sorts wants c.with.result atoms) (at object) rows fault
+    (λ x. (at_object known sorts wants partial c.with.result atoms slot object c.with.ensures.agrees x).0)
+    c.in_err-join.ensures.fault in
+    let among = comes_next at objects (λ y z x m n (e, p) (f, q). sym e ∙ f)
+    (objects_distinct known.facts sort (g.met.L.Look.coherent c.args.query.now.look.now).facts) c.loop-place.place object
+    c.object-object.ensures most c.args.rows.now.items rows fault c.loop-place.invariant.0 here in
     let p = err_from_is_err_and c.from_residual.result c.from_residual.ensures.1 in
     rw (p.1, p.2)
-    (comes_same most (Among at objects) (IsAnswer known sorts wants partial atoms) c.args.rows.now.items fault (λ x. (by_objects known sorts wants partial atoms slot sort (slice_get-get_or sorts slot 0 c.requires.width) x).1) among)
+    (comes_same most (Among at objects) (IsAnswer known sorts wants partial atoms) c.args.rows.now.items fault
+    (λ x. (by_objects known sorts wants partial atoms slot sort (slice_get-get_or sorts slot 0 c.requires.width) x).1) among)
 
 pub branch-loop-place-preserved : goal.branch-loop-place-preserved
 branch-loop-place-preserved g t c =
@@ -55,8 +60,11 @@ branch-loop-place-preserved g t c =
     let object = c.object-object.result in
     let rows = c.loop-place.rows.items in
     let new = c.join.new.rows.items in
-    let here = adds_same (IsAnswer known sorts wants c.with.result atoms) (at object) rows new (at_object known sorts wants partial c.with.result atoms slot object c.with.ensures.agrees) c.in_ok-join.ensures.found in (
-      adds_next at (objects_of known.facts sort) (λ y z x m n (e, p) (f, q). sym e ∙ f) (objects_distinct known.facts sort (g.met.L.Look.coherent c.args.query.now.look.now).facts) c.loop-place.place object c.object-object.ensures c.args.rows.now.items rows new c.loop-place.invariant.0 here,
+    let here = adds_same (IsAnswer known sorts wants c.with.result atoms) (at object) rows new
+    (at_object known sorts wants partial c.with.result atoms slot object c.with.ensures.agrees) c.in_ok-join.ensures.found in (
+      adds_next at (objects_of known.facts sort) (λ y z x m n (e, p) (f, q). sym e ∙ f)
+          (objects_distinct known.facts sort (g.met.L.Look.coherent c.args.query.now.look.now).facts) c.loop-place.place object
+          c.object-object.ensures c.args.rows.now.items rows new c.loop-place.invariant.0 here,
       c.in_ok-join.ensures.few,
     )
 
@@ -69,14 +77,17 @@ branch-returns-clause-found g t c =
     let atoms = c.args.atoms.now in
     let slot = c.args.slot in
     let sort = slice_index sorts slot in
-    adds_whole (IsAnswer known sorts wants partial atoms) (IsAnswerAt known sorts wants partial atoms slot) (objects_of known.facts sort) c.loop-place.place c.args.rows.now.items c.loop-place.rows.items (omega (arith, c.count-count.ensures, c.loop-place-test.false)) (by_objects known sorts wants partial atoms slot sort (slice_get-get_or sorts slot 0 c.requires.width)) c.loop-place.invariant.0
+    adds_whole (IsAnswer known sorts wants partial atoms) (IsAnswerAt known sorts wants partial atoms slot) (objects_of known.facts sort)
+    c.loop-place.place c.args.rows.now.items c.loop-place.rows.items (omega (arith, c.count-count.ensures, c.loop-place-test.false))
+    (by_objects known sorts wants partial atoms slot sort (slice_get-get_or sorts slot 0 c.requires.width)) c.loop-place.invariant.0
 
 pub follow-loop-number-init : goal.follow-loop-number-init
 follow-loop-number-init g t c =
     let known = g.L.Look.known c.args.query.now.look.now in
     let atom = c.args.atom.now in
     let lead = c.args.lead.now in
-    let at = IsAnswerBy known c.args.query.now.sorts.now (g.W.Wanted.wants c.args.query.now.wanted.now) c.args.partial.now atom.terms.now c.args.rest.now in
+    let at = IsAnswerBy known c.args.query.now.sorts.now (g.W.Wanted.wants c.args.query.now.wanted.now) c.args.partial.now atom.terms.now
+    c.args.rest.now in
     (adds_start at (matches_of known.facts atom.pred lead.place lead.object) c.args.rows.now.items, c.requires.few)
 
 pub follow-returns-in_err-join_fact-clause-fault :
@@ -93,10 +104,14 @@ follow-returns-in_err-join_fact-clause-fault g t c =
     let facts = matches_of known.facts atom.pred lead.place lead.object in
     let most = c.args.query.now.most in
     let fault = c.in_err-join_fact.field-0.0 in
-    let among = comes_next at facts (facts_apart known sorts wants partial atom atoms lead.place lead.object) (distinct_filter (is_match atom.pred lead.place lead.object) known.facts (g.met.L.Look.coherent c.args.query.now.look.now).facts) c.loop-number.number c.matched-fact.result.now c.matched-fact.ensures most c.args.rows.now.items c.loop-number.rows.items fault c.loop-number.invariant.0 c.in_err-join_fact.ensures.fault in
+    let among = comes_next at facts (facts_apart known sorts wants partial atom atoms lead.place lead.object)
+    (distinct_filter (is_match atom.pred lead.place lead.object) known.facts (g.met.L.Look.coherent c.args.query.now.look.now).facts)
+    c.loop-number.number c.matched-fact.result.now c.matched-fact.ensures most c.args.rows.now.items c.loop-number.rows.items fault
+    c.loop-number.invariant.0 c.in_err-join_fact.ensures.fault in
     let p = err_from_is_err_and c.from_residual.result c.from_residual.ensures.1 in
     rw (p.1, p.2)
-    (comes_same most (Among at facts) (IsAnswer known sorts wants partial (atom ∷ atoms)) c.args.rows.now.items fault (λ x. (by_facts known sorts wants partial atom atoms lead c.requires.lead x).1) among)
+    (comes_same most (Among at facts) (IsAnswer known sorts wants partial (atom ∷ atoms)) c.args.rows.now.items fault
+    (λ x. (by_facts known sorts wants partial atom atoms lead c.requires.lead x).1) among)
 
 pub follow-loop-number-preserved : goal.follow-loop-number-preserved
 follow-loop-number-preserved g t c =
@@ -109,7 +124,10 @@ follow-loop-number-preserved g t c =
     let lead = c.args.lead.now in
     let at = IsAnswerBy known sorts wants partial atom.terms.now atoms in
     let facts = matches_of known.facts atom.pred lead.place lead.object in (
-      adds_next at facts (facts_apart known sorts wants partial atom atoms lead.place lead.object) (distinct_filter (is_match atom.pred lead.place lead.object) known.facts (g.met.L.Look.coherent c.args.query.now.look.now).facts) c.loop-number.number c.matched-fact.result.now c.matched-fact.ensures c.args.rows.now.items c.loop-number.rows.items c.join_fact.new.rows.items c.loop-number.invariant.0 c.in_ok-join_fact.ensures.found,
+      adds_next at facts (facts_apart known sorts wants partial atom atoms lead.place lead.object)
+          (distinct_filter (is_match atom.pred lead.place lead.object) known.facts (g.met.L.Look.coherent c.args.query.now.look.now).facts)
+          c.loop-number.number c.matched-fact.result.now c.matched-fact.ensures c.args.rows.now.items c.loop-number.rows.items
+          c.join_fact.new.rows.items c.loop-number.invariant.0 c.in_ok-join_fact.ensures.found,
       c.in_ok-join_fact.ensures.few,
     )
 
@@ -122,7 +140,10 @@ follow-returns-clause-found g t c =
     let atom = c.args.atom.now in
     let atoms = c.args.rest.now in
     let lead = c.args.lead.now in
-    adds_whole (IsAnswer known sorts wants partial (atom ∷ atoms)) (IsAnswerBy known sorts wants partial atom.terms.now atoms) (matches_of known.facts atom.pred lead.place lead.object) c.loop-number.number c.args.rows.now.items c.loop-number.rows.items (omega (arith, c.requires.lead.count, c.loop-number-test.false)) (by_facts known sorts wants partial atom atoms lead c.requires.lead) c.loop-number.invariant.0
+    adds_whole (IsAnswer known sorts wants partial (atom ∷ atoms)) (IsAnswerBy known sorts wants partial atom.terms.now atoms)
+    (matches_of known.facts atom.pred lead.place lead.object) c.loop-number.number c.args.rows.now.items c.loop-number.rows.items
+    (omega (arith, c.requires.lead.count, c.loop-number-test.false))
+    (by_facts known sorts wants partial atom atoms lead c.requires.lead) c.loop-number.invariant.0
 
 pub join-join_left-requires : goal.join-join_left-requires
 join-join_left-requires g t c κs within =
@@ -162,7 +183,8 @@ join-returns-in-Some-clause-found g t c =
     let P = IsAnswer known sorts wants partial [] in
     let R = IsAnswer known sorts wants partial atoms in
     let Found : Type 0 = Adds R old new in
-    on_ok_weaker {Q = Found} c.branch-query.result (adds_same P R old new (answer_settled known sorts wants partial atoms are)) c.branch-query.ensures.found
+    on_ok_weaker {Q = Found} c.branch-query.result (adds_same P R old new (answer_settled known sorts wants partial atoms are))
+    c.branch-query.ensures.found
 
 pub join-returns-in-Some-clause-fault : goal.join-returns-in-Some-clause-fault
 join-returns-in-Some-clause-fault g t c =
@@ -176,7 +198,8 @@ join-returns-in-Some-clause-fault g t c =
     let old = c.args.rows.now.items in
     let P = IsAnswer known sorts wants partial [] in
     let R = IsAnswer known sorts wants partial atoms in
-    IfErr-weaker c.branch-query.result (ComesOf most P old) (ComesOf most R old) (λ f. comes_same most P R old f (λ x. (answer_settled known sorts wants partial atoms are x).0)) c.branch-query.ensures.fault
+    IfErr-weaker c.branch-query.result (ComesOf most P old) (ComesOf most R old)
+    (λ f. comes_same most P R old f (λ x. (answer_settled known sorts wants partial atoms are x).0)) c.branch-query.ensures.fault
 
 pub join-returns-in-None-clause-found : goal.join-returns-in-None-clause-found
 join-returns-in-None-clause-found g t c =
@@ -191,7 +214,8 @@ join-returns-in-None-clause-found g t c =
     let P = IsAnswer known sorts wants partial [] in
     let R = IsAnswer known sorts wants partial atoms in
     let Found : Type 0 = Adds R old new in
-    on_ok_weaker {Q = Found} c.add_answer.result (adds_same P R old new (answer_settled known sorts wants partial atoms are)) c.add_answer.ensures.found
+    on_ok_weaker {Q = Found} c.add_answer.result (adds_same P R old new (answer_settled known sorts wants partial atoms are))
+    c.add_answer.ensures.found
 
 pub join-returns-in-None-clause-fault : goal.join-returns-in-None-clause-fault
 join-returns-in-None-clause-fault g t c =
@@ -205,7 +229,8 @@ join-returns-in-None-clause-fault g t c =
     let old = c.args.rows.now.items in
     let P = IsAnswer known sorts wants partial [] in
     let R = IsAnswer known sorts wants partial atoms in
-    IfErr-weaker c.add_answer.result (ComesOf most P old) (ComesOf most R old) (λ f. comes_same most P R old f (λ x. (answer_settled known sorts wants partial atoms are x).0)) c.add_answer.ensures.fault
+    IfErr-weaker c.add_answer.result (ComesOf most P old) (ComesOf most R old)
+    (λ f. comes_same most P R old f (λ x. (answer_settled known sorts wants partial atoms are x).0)) c.add_answer.ensures.fault
 
 pub join-returns-in-Free-clause-found : goal.join-returns-in-Free-clause-found
 join-returns-in-Free-clause-found g t c =
@@ -220,7 +245,8 @@ join-returns-in-Free-clause-found g t c =
     let P = IsAnswer known sorts wants partial c.in-Free.left.now in
     let R = IsAnswer known sorts wants partial atoms in
     let Found : Type 0 = Adds R old new in
-    on_ok_weaker {Q = Found} c.join_left.result (adds_same P R old new (answer_left known sorts wants partial atoms c.in-Free.slot c.in-Free.left.now are)) c.join_left.ensures.found
+    on_ok_weaker {Q = Found} c.join_left.result (adds_same P R old new
+    (answer_left known sorts wants partial atoms c.in-Free.slot c.in-Free.left.now are)) c.join_left.ensures.found
 
 pub join-returns-in-Free-clause-fault : goal.join-returns-in-Free-clause-fault
 join-returns-in-Free-clause-fault g t c =
@@ -234,7 +260,9 @@ join-returns-in-Free-clause-fault g t c =
     let old = c.args.rows.now.items in
     let P = IsAnswer known sorts wants partial c.in-Free.left.now in
     let R = IsAnswer known sorts wants partial atoms in
-    IfErr-weaker c.join_left.result (ComesOf most P old) (ComesOf most R old) (λ f. comes_same most P R old f (λ x. (answer_left known sorts wants partial atoms c.in-Free.slot c.in-Free.left.now are x).0)) c.join_left.ensures.fault
+    IfErr-weaker c.join_left.result (ComesOf most P old) (ComesOf most R old)
+    (λ f. comes_same most P R old f (λ x. (answer_left known sorts wants partial atoms c.in-Free.slot c.in-Free.left.now are x).0))
+    c.join_left.ensures.fault
 
 pub join_left-lead_of-requires : goal.join_left-lead_of-requires
 join_left-lead_of-requires g t c =
@@ -245,7 +273,8 @@ join_left-lead_of-requires g t c =
 pub join_fact-fit-requires : goal.join_fact-fit-requires
 join_fact-fit-requires g t c =
     let width = length c.args.query.now.sorts.now in
-    readable_terms width c.args.atom.now.terms.now c.requires.query.narrow (atom_terms width c.args.atom.now c.args.rest.now c.requires.query.slots)
+    readable_terms width c.args.atom.now.terms.now c.requires.query.narrow
+    (atom_terms width c.args.atom.now c.args.rest.now c.requires.query.slots)
 
 pub join_fact-returns-in-Some-clause-found : goal.join_fact-returns-in-Some-clause-found
 join_fact-returns-in-Some-clause-found g t c =
@@ -257,11 +286,14 @@ join_fact-returns-in-Some-clause-found g t c =
     let terms = c.args.atom.now.terms.now in
     let atoms = c.args.rest.now in
     let fact = c.args.fact.now in
-    let narrows = subst (λ xs. (slots : List ℕ) → Agrees left slots ↔ (Agrees partial slots × (objects_at slots terms ≡ xs))) c.as_slice.ensures c.in-Some.ensures.0 in
+    let narrows = subst (λ xs. (slots : List ℕ) → Agrees left slots ↔ (Agrees partial slots × (objects_at slots terms ≡ xs)))
+    c.as_slice.ensures c.in-Some.ensures.0 in
     let old = c.args.rows.now.items in
     let new = c.join.new.rows.items in
     let Found : Type 0 = Adds (IsAnswerBy known sorts wants partial terms atoms fact) old new in
-    on_ok_weaker {Q = Found} c.join.result (adds_same (IsAnswer known sorts wants left atoms) (IsAnswerBy known sorts wants partial terms atoms fact) old new (at_fact known sorts wants partial left terms atoms fact narrows)) c.join.ensures.found
+    on_ok_weaker {Q = Found} c.join.result (adds_same (IsAnswer known sorts wants left atoms)
+    (IsAnswerBy known sorts wants partial terms atoms fact) old new (at_fact known sorts wants partial left terms atoms fact narrows))
+    c.join.ensures.found
 
 pub join_fact-returns-in-Some-clause-fault : goal.join_fact-returns-in-Some-clause-fault
 join_fact-returns-in-Some-clause-fault g t c =
@@ -273,12 +305,14 @@ join_fact-returns-in-Some-clause-fault g t c =
     let terms = c.args.atom.now.terms.now in
     let atoms = c.args.rest.now in
     let fact = c.args.fact.now in
-    let narrows = subst (λ xs. (slots : List ℕ) → Agrees left slots ↔ (Agrees partial slots × (objects_at slots terms ≡ xs))) c.as_slice.ensures c.in-Some.ensures.0 in
+    let narrows = subst (λ xs. (slots : List ℕ) → Agrees left slots ↔ (Agrees partial slots × (objects_at slots terms ≡ xs)))
+    c.as_slice.ensures c.in-Some.ensures.0 in
     let most = c.args.query.now.most in
     let old = c.args.rows.now.items in
     let P = IsAnswer known sorts wants left atoms in
     let R = IsAnswerBy known sorts wants partial terms atoms fact in
-    IfErr-weaker c.join.result (ComesOf most P old) (ComesOf most R old) (λ f. comes_same most P R old f (λ x. (at_fact known sorts wants partial left terms atoms fact narrows x).0)) c.join.ensures.fault
+    IfErr-weaker c.join.result (ComesOf most P old) (ComesOf most R old)
+    (λ f. comes_same most P R old f (λ x. (at_fact known sorts wants partial left terms atoms fact narrows x).0)) c.join.ensures.fault
 
 pub join_fact-returns-in-None-clause-found : goal.join_fact-returns-in-None-clause-found
 join_fact-returns-in-None-clause-found g t c =
@@ -288,4 +322,5 @@ join_fact-returns-in-None-clause-found g t c =
     let partial = c.args.partial.now in
     let terms = c.args.atom.now.terms.now in
     let fact = c.args.fact.now in
-    adds_none (IsAnswerBy known sorts wants partial terms c.args.rest.now fact) c.args.rows.now.items (λ tuple (is, a). c.in-None.ensures (slots_of tuple) a.agrees (is ∙ sym c.as_slice.ensures))
+    adds_none (IsAnswerBy known sorts wants partial terms c.args.rest.now fact) c.args.rows.now.items
+    (λ tuple (is, a). c.in-None.ensures (slots_of tuple) a.agrees (is ∙ sym c.as_slice.ensures))

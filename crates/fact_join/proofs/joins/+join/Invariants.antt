@@ -25,11 +25,14 @@ decreases-join_fact g l = 4 * (length l.rest.now + free_slots l.partial.now) + 3
 -- the answers with the objects that were passed are added
 abbrev pub invariant-branch-loop-place : goal.invariant-branch-loop-place
 invariant-branch-loop-place g l =
-    Adds (Among (IsAnswerAt (g.L.Look.known l.query.look.now) l.query.sorts.now (g.W.Wanted.wants l.query.wanted.now) l.partial l.atoms l.slot) (take l.place (objects_of (g.L.Look.known l.query.look.now).facts l.sort))) l.initial.rows.items l.rows.items
+    Adds (Among (IsAnswerAt (g.L.Look.known l.query.look.now) l.query.sorts.now (g.W.Wanted.wants l.query.wanted.now) l.partial l.atoms
+    l.slot) (take l.place (objects_of (g.L.Look.known l.query.look.now).facts l.sort))) l.initial.rows.items l.rows.items
     × (length l.rows.items ≤ l.query.most)
 
 -- the answers by the facts that were passed are added
 abbrev pub invariant-follow-loop-number : goal.invariant-follow-loop-number
 invariant-follow-loop-number g l =
-    Adds (Among (IsAnswerBy (g.L.Look.known l.query.look.now) l.query.sorts.now (g.W.Wanted.wants l.query.wanted.now) l.partial l.atom.terms.now l.rest) (take l.number (matches_of (g.L.Look.known l.query.look.now).facts l.atom.pred l.lead.place l.lead.object))) l.initial.rows.items l.rows.items
+    Adds (Among (IsAnswerBy (g.L.Look.known l.query.look.now) l.query.sorts.now (g.W.Wanted.wants l.query.wanted.now) l.partial
+    l.atom.terms.now l.rest) (take l.number (matches_of (g.L.Look.known l.query.look.now).facts l.atom.pred l.lead.place
+    l.lead.object))) l.initial.rows.items l.rows.items
     × (length l.rows.items ≤ l.query.most)

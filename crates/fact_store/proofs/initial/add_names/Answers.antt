@@ -8,7 +8,8 @@ loop-declared-preserved c = record {
   names =
       c.in_ok-add_name.ensures.names
       ∙ (λ i. with_name (c.loop-declared.invariant.names i) (c.in_ok-name.ensures i))
-      ∙ name_next (λ d. d.name) c.args.objects.now c.loop-declared.declared-index c.declared-item.result c.requires.distinct c.loop-declared-test.true c.declared-item.is;
+      ∙ name_next (λ d. d.name) c.args.objects.now c.loop-declared.declared-index c.declared-item.result c.requires.distinct
+      c.loop-declared-test.true c.declared-item.is;
   facts = c.in_ok-add_name.ensures.facts ∙ c.loop-declared.invariant.facts;
   values = c.in_ok-add_name.ensures.values ∙ c.loop-declared.invariant.values;
 }

@@ -6,7 +6,8 @@ use Rattle.task_model.specs.Known.{with_facts}
 -- with what is left, all are there
 abbrev pub invariant-loop-place : goal.invariant-loop-place
 invariant-loop-place l = record {
-  facts : with_facts l.facts.known.facts (declared_types l.domain l.place (drop l.place l.objects)) ≡ with_facts l.initial.facts.known.facts (declared_types l.domain 0 l.objects);
+  facts : with_facts l.facts.known.facts (declared_types l.domain l.place (drop l.place l.objects))
+      ≡ with_facts l.initial.facts.known.facts (declared_types l.domain 0 l.objects);
   names : l.facts.known.names ≡ l.initial.facts.known.names;
   values : l.facts.known.values ≡ l.initial.facts.known.values;
 }

@@ -8,9 +8,13 @@ use Rattle.task_model.specs.Known.{IsIn}
 pub is_static_fact-requires-clause-place : goal.is_static_fact-requires-clause-place
 is_static_fact-requires-clause-place c =
     fact_place c.args.domain.now (length c.args.facts.now.known.names) c.fact-item.result
-    (all_at_or (is_fit_fact c.args.domain.now (length c.args.facts.now.known.names)) c.args.init.now c.loop-fact.fact-index c.fact-item.result c.requires.fit c.loop-fact-test.true c.fact-item.is)
+    (all_at_or (is_fit_fact c.args.domain.now (length c.args.facts.now.known.names)) c.args.init.now c.loop-fact.fact-index
+    c.fact-item.result c.requires.fit c.loop-fact-test.true c.fact-item.is)
 
 pub add-requires : goal.add-requires
 add-requires c =
-    let fit = all_at_or (is_fit_fact c.args.domain.now (length c.args.facts.now.known.names)) c.args.init.now c.loop-fact.fact-index c.fact-item.result c.requires.fit c.loop-fact-test.true c.fact-item.is in
-    subst (λ f. All (IsIn c.loop-fact.facts.known.names) f.args) (sym c.in_ok-copy.ensures) (subst (λ ns. All (IsIn ns) c.fact-item.result.args) (sym c.loop-fact.invariant.names) (fact_objects c.args.domain.now c.args.facts.now.known.names c.fact-item.result fit))
+    let fit = all_at_or (is_fit_fact c.args.domain.now (length c.args.facts.now.known.names)) c.args.init.now c.loop-fact.fact-index
+    c.fact-item.result c.requires.fit c.loop-fact-test.true c.fact-item.is in
+    subst (λ f. All (IsIn c.loop-fact.facts.known.names) f.args) (sym c.in_ok-copy.ensures)
+    (subst (λ ns. All (IsIn ns) c.fact-item.result.args)
+    (sym c.loop-fact.invariant.names) (fact_objects c.args.domain.now c.args.facts.now.known.names c.fact-item.result fit))

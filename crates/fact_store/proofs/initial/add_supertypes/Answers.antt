@@ -18,12 +18,21 @@ facts_are old mid object sort above given new more one same =
 pub returns-then-has_object-clause-facts : goal.returns-then-has_object-clause-facts
 returns-then-has_object-clause-facts c =
     let above = unwrap_or (option_map (λ s. s.above) (slice_get c.args.domain.now.sorts c.args.sort)) [] in
-    let any : list_any (λ s. s == 0) (c.args.sort ∷ above) ≡ true = ap (λ xs. list_any (λ s. s == 0) (c.args.sort ∷ xs)) (sym c.supertypes-above.ensures) ∙ sym c.has_object.ensures ∙ c.if-has_object.true in
-    facts_are c.args.facts.now.known.facts c.add_type.new.facts.known.facts c.args.object c.args.sort above c.supertypes-above.result.now c.add_types.new.facts.known.facts c.in_ok-add_types.ensures.facts c.in_ok-add_type.ensures.facts c.supertypes-above.ensures
-    ∙ sym (object_known c.args.facts.now.known.facts c.args.object c.args.sort above any) ∙ supertypes_then c.args.facts.now.known.facts c.args.object c.args.sort above
+    let any : list_any (λ s. s == 0) (c.args.sort ∷ above) ≡ true =
+    ap (λ xs. list_any (λ s. s == 0) (c.args.sort ∷ xs)) (sym c.supertypes-above.ensures) ∙ sym c.has_object.ensures
+    ∙ c.if-has_object.true in
+    facts_are c.args.facts.now.known.facts c.add_type.new.facts.known.facts c.args.object c.args.sort above c.supertypes-above.result.now
+    c.add_types.new.facts.known.facts c.in_ok-add_types.ensures.facts c.in_ok-add_type.ensures.facts c.supertypes-above.ensures
+    ∙ sym (object_known c.args.facts.now.known.facts c.args.object c.args.sort above any)
+    ∙ supertypes_then c.args.facts.now.known.facts c.args.object c.args.sort above
 
 pub returns-clause-facts : goal.returns-clause-facts
 returns-clause-facts c =
     let above = unwrap_or (option_map (λ s. s.above) (slice_get c.args.domain.now.sorts c.args.sort)) [] in
-    let so_far = facts_are c.args.facts.now.known.facts c.add_type.new.facts.known.facts c.args.object c.args.sort above c.supertypes-above.result.now c.add_types.new.facts.known.facts c.in_ok-add_types.ensures.facts c.in_ok-add_type.ensures.facts c.supertypes-above.ensures in
-    on_ok_weaker c.add_type-2.result (λ e. e ∙ ap (λ fs. with_fact fs (type_fact 0 c.args.object)) so_far ∙ supertypes_then c.args.facts.now.known.facts c.args.object c.args.sort above) c.add_type-2.ensures.facts
+    let so_far =
+    facts_are c.args.facts.now.known.facts c.add_type.new.facts.known.facts c.args.object c.args.sort above
+    c.supertypes-above.result.now c.add_types.new.facts.known.facts c.in_ok-add_types.ensures.facts c.in_ok-add_type.ensures.facts
+    c.supertypes-above.ensures in
+    on_ok_weaker c.add_type-2.result (λ e.
+    e ∙ ap (λ fs. with_fact fs (type_fact 0 c.args.object)) so_far
+    ∙ supertypes_then c.args.facts.now.known.facts c.args.object c.args.sort above) c.add_type-2.ensures.facts

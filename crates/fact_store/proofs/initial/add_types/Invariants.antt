@@ -5,7 +5,8 @@ use Rattle.task_model.specs.Known.{type_fact, with_facts}
 -- with what is left, all are there
 abbrev pub invariant-loop-sort : goal.invariant-loop-sort
 invariant-loop-sort l = record {
-  facts : with_facts l.facts.known.facts (map (λ s. type_fact s l.object) (drop l.sort-index l.sorts)) ≡ with_facts l.initial.facts.known.facts (map (λ s. type_fact s l.object) l.sorts);
+  facts : with_facts l.facts.known.facts (map (λ s. type_fact s l.object) (drop l.sort-index l.sorts))
+      ≡ with_facts l.initial.facts.known.facts (map (λ s. type_fact s l.object) l.sorts);
   names : l.facts.known.names ≡ l.initial.facts.known.names;
   values : l.facts.known.values ≡ l.initial.facts.known.values;
 }

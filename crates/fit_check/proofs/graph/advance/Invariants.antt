@@ -9,5 +9,8 @@ invariant-loop-from g l = record {
   moved : l.moved ≡ true
       → work_left (g.G.Graph.size l.graph) l.next < work_left (g.G.Graph.size l.graph) l.initial.next;
   still : l.moved ≡ false
-      → (l.next ≡ l.initial.next) × ((i : ℕ) → i < l.from → slice_index l.next i < g.G.Graph.size l.graph → (g.G.Graph.edge l.graph i (slice_index l.next i) ≡ true) × (slice_index l.next (slice_index l.next i) < g.G.Graph.size l.graph));
+      → (l.next ≡ l.initial.next)
+      × ((i : ℕ) → i < l.from → slice_index l.next i < g.G.Graph.size l.graph
+      → (g.G.Graph.edge l.graph i (slice_index l.next i) ≡ true)
+      × (slice_index l.next (slice_index l.next i) < g.G.Graph.size l.graph));
 }

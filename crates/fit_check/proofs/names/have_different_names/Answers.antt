@@ -9,11 +9,13 @@ returns-then-is_repeated g c =
     let there = get_there c.args.items.now c.loop-place.place c.loop-place-test.true in
     let seen = different_from g.T.Named.named c.args.items.now c.loop-place.place there.0 there.1 in
     let is = sym (c.is_repeated.ensures there.0 there.1) ∙ c.if-is_repeated.true in
-    sym (sym c.loop-place.invariant ∙ seen ∙ ap (λ b. not b && are_different (map g.T.Named.named (drop (c.loop-place.place + 1) c.args.items.now))) is)
+    sym (sym c.loop-place.invariant ∙ seen
+    ∙ ap (λ b. not b && are_different (map g.T.Named.named (drop (c.loop-place.place + 1) c.args.items.now))) is)
 
 pub loop-place-preserved : goal.loop-place-preserved
 loop-place-preserved g c =
     let there = get_there c.args.items.now c.loop-place.place c.loop-place-test.true in
     let seen = different_from g.T.Named.named c.args.items.now c.loop-place.place there.0 there.1 in
     let is = sym (c.is_repeated.ensures there.0 there.1) ∙ c.if-is_repeated.false in
-    sym (seen ∙ ap (λ b. not b && are_different (map g.T.Named.named (drop (c.loop-place.place + 1) c.args.items.now))) is) ∙ c.loop-place.invariant
+    sym (seen ∙ ap (λ b. not b && are_different (map g.T.Named.named (drop (c.loop-place.place + 1) c.args.items.now))) is)
+    ∙ c.loop-place.invariant

@@ -7,4 +7,5 @@ use Rattle.fit_check.proofs.names.is_repeated.Given as goal
 abbrev pub invariant-loop-other : goal.invariant-loop-other
 invariant-loop-other g l =
     (x : _) → slice_get l.items l.place ≡ Some x
-    → list_any (λ y. same_numbers (g.T.Named.named x) (g.T.Named.named y)) (drop l.other l.items) ≡ list_any (λ y. same_numbers (g.T.Named.named x) (g.T.Named.named y)) (drop (l.place + 1) l.items)
+    → list_any (λ y. same_numbers (g.T.Named.named x) (g.T.Named.named y)) (drop l.other l.items)
+    ≡ list_any (λ y. same_numbers (g.T.Named.named x) (g.T.Named.named y)) (drop (l.place + 1) l.items)

@@ -6,7 +6,11 @@ pub returns-then-is_derived : goal.returns-then-is_derived
 returns-then-is_derived c = sym (role_derived c.args.domain.now c.args.pred (sym c.is_derived.ensures ∙ c.if-is_derived.true))
 
 pub returns-then-is_changed : goal.returns-then-is_changed
-returns-then-is_changed c = sym (role_fluent c.args.domain.now c.args.pred (sym c.is_derived.ensures ∙ c.if-is_derived.false) (sym c.is_changed.ensures ∙ c.if-is_changed.true))
+returns-then-is_changed c =
+    sym (role_fluent c.args.domain.now c.args.pred
+    (sym c.is_derived.ensures ∙ c.if-is_derived.false) (sym c.is_changed.ensures ∙ c.if-is_changed.true))
 
 pub returns-else-is_changed : goal.returns-else-is_changed
-returns-else-is_changed c = sym (role_static c.args.domain.now c.args.pred (sym c.is_derived.ensures ∙ c.if-is_derived.false) (sym c.is_changed.ensures ∙ c.if-is_changed.false))
+returns-else-is_changed c =
+    sym (role_static c.args.domain.now c.args.pred
+    (sym c.is_derived.ensures ∙ c.if-is_derived.false) (sym c.is_changed.ensures ∙ c.if-is_changed.false))

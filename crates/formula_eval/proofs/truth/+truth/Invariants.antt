@@ -28,18 +28,31 @@ decreases-truth g l =
 -- what is left to see decides
 abbrev pub invariant-all_true-loop-part : goal.invariant-all_true-loop-part
 invariant-all_true-loop-part g l =
-    (all_at l.scene.task.now.domain (g.L.Look.known l.scene.look.now) l.scene.state.now l.depth (parts_of (drop l.part-index l.parts)) l.initial.env ≡ all_at l.scene.task.now.domain (g.L.Look.known l.scene.look.now) l.scene.state.now l.depth (parts_of l.parts) l.initial.env) × (l.env ≡ l.initial.env)
+    (all_at l.scene.task.now.domain (g.L.Look.known l.scene.look.now) l.scene.state.now l.depth
+    (parts_of (drop l.part-index l.parts)) l.initial.env
+    ≡ all_at l.scene.task.now.domain (g.L.Look.known l.scene.look.now) l.scene.state.now l.depth (parts_of l.parts) l.initial.env)
+    × (l.env ≡ l.initial.env)
 
 abbrev pub invariant-any_true-loop-part : goal.invariant-any_true-loop-part
 invariant-any_true-loop-part g l =
-    (any_at l.scene.task.now.domain (g.L.Look.known l.scene.look.now) l.scene.state.now l.depth (parts_of (drop l.part-index l.parts)) l.initial.env ≡ any_at l.scene.task.now.domain (g.L.Look.known l.scene.look.now) l.scene.state.now l.depth (parts_of l.parts) l.initial.env) × (l.env ≡ l.initial.env)
+    (any_at l.scene.task.now.domain (g.L.Look.known l.scene.look.now) l.scene.state.now l.depth
+    (parts_of (drop l.part-index l.parts)) l.initial.env
+    ≡ any_at l.scene.task.now.domain (g.L.Look.known l.scene.look.now) l.scene.state.now l.depth (parts_of l.parts) l.initial.env)
+    × (l.env ≡ l.initial.env)
 
 abbrev pub invariant-derived-loop-item : goal.invariant-derived-loop-item
 invariant-derived-loop-item g l =
-    list_any (is_item_true l.scene.task.now.domain (g.L.Look.known l.scene.look.now) l.scene.state.now l.depth l.pred l.args) (drop l.item-index l.scene.task.now.domain.derived) ≡ list_any (is_item_true l.scene.task.now.domain (g.L.Look.known l.scene.look.now) l.scene.state.now l.depth l.pred l.args) l.scene.task.now.domain.derived
+    list_any (is_item_true l.scene.task.now.domain (g.L.Look.known l.scene.look.now) l.scene.state.now l.depth l.pred l.args)
+    (drop l.item-index l.scene.task.now.domain.derived)
+    ≡ list_any (is_item_true l.scene.task.now.domain (g.L.Look.known l.scene.look.now) l.scene.state.now l.depth l.pred l.args)
+    l.scene.task.now.domain.derived
 
 -- what is left to see decides, and only the slot changes
 abbrev pub invariant-some_tuple-loop-place : goal.invariant-some_tuple-loop-place
 invariant-some_tuple-loop-place g l =
-    (list_any (λ o. some_at l.scene.task.now.domain (g.L.Look.known l.scene.look.now) l.scene.state.now l.depth (l.first + 1) l.rest l.body (slice_set l.initial.env l.first o)) (drop l.place (objects_of (g.L.Look.known l.scene.look.now).facts l.sort)) ≡ list_any (λ o. some_at l.scene.task.now.domain (g.L.Look.known l.scene.look.now) l.scene.state.now l.depth (l.first + 1) l.rest l.body (slice_set l.initial.env l.first o)) (objects_of (g.L.Look.known l.scene.look.now).facts l.sort))
+    (list_any (λ o. some_at l.scene.task.now.domain (g.L.Look.known l.scene.look.now) l.scene.state.now l.depth
+    (l.first + 1) l.rest l.body (slice_set l.initial.env l.first o))
+    (drop l.place (objects_of (g.L.Look.known l.scene.look.now).facts l.sort))
+    ≡ list_any (λ o. some_at l.scene.task.now.domain (g.L.Look.known l.scene.look.now) l.scene.state.now l.depth
+    (l.first + 1) l.rest l.body (slice_set l.initial.env l.first o)) (objects_of (g.L.Look.known l.scene.look.now).facts l.sort))
     × ((o : ℕ) → slice_set l.env l.first o ≡ slice_set l.initial.env l.first o)

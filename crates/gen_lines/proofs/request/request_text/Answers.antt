@@ -27,10 +27,19 @@ returns g c =
     let all : take i objects ≡ inputs = take_all i objects (omega arith) ∙ c.as_slice-object-items.ensures in
     let first : c.in_ok-text.text.items ≡ codes "next" = c.in_ok-text.ensures.items in
     let number : c.as_bytes.result.now ≡ decimal c.args.number = search rules in
-    let stream : c.bytes.result.now ≡ stream_name c.args.task.now c.args.instance.now.stream = c.bytes.ensures ∙ stream_named c.args.task.now c.as_slice.result.now c.args.instance.now.stream c.index-as_slice-instance.result c.as_slice.ensures c.requires.stream c.index-as_slice-instance.is in
+    let stream : c.bytes.result.now ≡ stream_name c.args.task.now c.args.instance.now.stream =
+    c.bytes.ensures
+    ∙ stream_named c.args.task.now c.as_slice.result.now c.args.instance.now.stream c.index-as_slice-instance.result
+    c.as_slice.ensures c.requires.stream c.index-as_slice-instance.is in
     let second : c.push_word.new.text.items ≡ codes "next" ++ 32 ∷ decimal c.args.number =
     c.in_ok-push_word.ensures ∙ ap (λ t. t ++ 32 ∷ c.as_bytes.result.now) first ∙ ap (λ t. codes "next" ++ 32 ∷ t) number in
-    let third : c.push_word-2.new.text.items ≡ (codes "next" ++ 32 ∷ decimal c.args.number) ++ 32 ∷ stream_name c.args.task.now c.args.instance.now.stream =
-    c.in_ok-push_word-2.ensures ∙ ap (λ t. t ++ 32 ∷ c.bytes.result.now) second ∙ ap (λ t. (codes "next" ++ 32 ∷ decimal c.args.number) ++ 32 ∷ t) stream in
+    let third : c.push_word-2.new.text.items ≡ (codes "next" ++ 32 ∷ decimal c.args.number) ++ 32 ∷ stream_name c.args.task.now
+    c.args.instance.now.stream =
+    c.in_ok-push_word-2.ensures ∙ ap (λ t. t ++ 32 ∷ c.bytes.result.now) second
+    ∙ ap (λ t. (codes "next" ++ 32 ∷ decimal c.args.number) ++ 32 ∷ t) stream in
     c.in_ok-push.ensures.items
-    ∙ ap (λ t. t ++ 10 ∷ []) (c.loop-object.invariant ∙ ap (λ t. t ++ spaced (map (name_at names) (take i objects))) third ∙ ap (λ os. ((codes "next" ++ 32 ∷ decimal c.args.number) ++ 32 ∷ stream_name c.args.task.now c.args.instance.now.stream) ++ spaced (map (name_at names) os)) all ∙ request_written (codes "next") (decimal c.args.number) (stream_name c.args.task.now c.args.instance.now.stream) (map (name_at names) inputs))
+    ∙ ap (λ t. t ++ 10 ∷ []) (c.loop-object.invariant ∙ ap (λ t. t ++ spaced (map (name_at names) (take i objects))) third
+    ∙ ap (λ os. ((codes "next" ++ 32 ∷ decimal c.args.number) ++ 32 ∷ stream_name c.args.task.now c.args.instance.now.stream)
+    ++ spaced (map (name_at names) os)) all
+    ∙ request_written (codes "next") (decimal c.args.number)
+    (stream_name c.args.task.now c.args.instance.now.stream) (map (name_at names) inputs))

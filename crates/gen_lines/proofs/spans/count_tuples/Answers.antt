@@ -17,7 +17,8 @@ returns-then-values-width c =
     let here = fields (drop c.fields.at line) in
     let text = slice_range line c.in-Some.field.start c.in-Some.field.end in
     let next = fields (drop c.in-Some.field.end line) in
-    let step : Step c.args.bars here text next true = record { first = c.in-Some.ensures.first; part = sym c.parts_here.ensures ∙ c.if-parts_here.true } in
+    let step : Step c.args.bars here text next true = record
+    { first = c.in-Some.ensures.first; part = sym c.parts_here.ensures ∙ c.if-parts_here.true } in
     sym (c.fields.invariant.count ∙ elim c.then-values-width.either [
       | inl short ↦ step_short c.args.width c.fields.tuples c.fields.values c.args.bars here text next step short
       | inr full ↦ step_full c.args.width c.fields.tuples c.fields.values c.args.bars here text next step full.1
@@ -29,7 +30,8 @@ fields-preserved-then-parts_here c =
     let here = fields (drop c.fields.at line) in
     let text = slice_range line c.in-Some.field.start c.in-Some.field.end in
     let next = fields (drop c.in-Some.field.end line) in
-    let step : Step c.args.bars here text next true = record { first = c.in-Some.ensures.first; part = sym c.parts_here.ensures ∙ c.if-parts_here.true } in
+    let step : Step c.args.bars here text next true = record
+    { first = c.in-Some.ensures.first; part = sym c.parts_here.ensures ∙ c.if-parts_here.true } in
     record {
       within = c.in-Some.ensures.within;
       begun = omega arith;
@@ -45,7 +47,8 @@ fields-preserved c =
     let here = fields (drop c.fields.at line) in
     let text = slice_range line c.in-Some.field.start c.in-Some.field.end in
     let next = fields (drop c.in-Some.field.end line) in
-    let step : Step c.args.bars here text next false = record { first = c.in-Some.ensures.first; part = sym c.parts_here.ensures ∙ c.if-parts_here.false } in
+    let step : Step c.args.bars here text next false = record
+    { first = c.in-Some.ensures.first; part = sym c.parts_here.ensures ∙ c.if-parts_here.false } in
     record {
       within = c.in-Some.ensures.within;
       begun = omega arith;
@@ -58,4 +61,5 @@ fields-preserved c =
 pub returns-then-values-width-3 : goal.returns-then-values-width-3
 returns-then-values-width-3 c =
     let at_end = ap (λ given. count_on c.args.width c.fields.tuples c.fields.values (parted c.args.bars given)) c.in_default.ensures in
-    sym (c.fields.invariant.count ∙ at_end ∙ count_end c.args.width c.fields.tuples c.fields.values c.args.bars c.if-values-width-3.true c.fields.invariant.few.1)
+    sym (c.fields.invariant.count ∙ at_end
+    ∙ count_end c.args.width c.fields.tuples c.fields.values c.args.bars c.if-values-width-3.true c.fields.invariant.few.1)

@@ -9,7 +9,8 @@ invariant-fields l = record {
   within : l.at ≤ length l.line;
   begun : l.values ≤ l.width;
   few : (1 ≤ l.tuples) × (l.tuples ≤ 16);
-  count : count_of l.width (parted l.bars (fields (drop l.fn.from l.line))) ≡ count_on l.width l.tuples l.values (parted l.bars (fields (drop l.at l.line)));
+  count : count_of l.width (parted l.bars (fields (drop l.fn.from l.line)))
+      ≡ count_on l.width l.tuples l.values (parted l.bars (fields (drop l.at l.line)));
 }
 
 abbrev pub decreases-fields : goal.decreases-fields

@@ -10,7 +10,8 @@ invariant-fields l = record {
   long : length l.places ≡ 128;
   room : l.count + length (joined (parted l.bars (fields (drop l.at l.line)))) ≡ l.fn.tuples * l.fn.width;
   valid : list_all is_value (map (text_at l.line) (take l.count l.places)) ≡ true;
-  same : joined (parted l.bars (fields (drop l.fn.from l.line))) ≡ map (text_at l.line) (take l.count l.places) ++ joined (parted l.bars (fields (drop l.at l.line)));
+  same : joined (parted l.bars (fields (drop l.fn.from l.line)))
+      ≡ map (text_at l.line) (take l.count l.places) ++ joined (parted l.bars (fields (drop l.at l.line)));
   lie : All (Lies l.line) (take l.count l.places);
 }
 

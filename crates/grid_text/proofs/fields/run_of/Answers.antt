@@ -5,4 +5,5 @@ use Rattle.grid_text.proofs.fields.run_of.Goals as goal
 
 pub returns-clause-run : goal.returns-clause-run
 returns-clause-run c =
-    c.unwrap_or.ensures ∙ ap (λ n. unwrap_or n (length c.args.bytes.now)) c.first_space.ensures.place ∙ position_or is_space c.args.bytes.now
+    c.unwrap_or.ensures ∙ ap (λ n. unwrap_or n (length c.args.bytes.now)) c.first_space.ensures.place
+    ∙ position_or is_space c.args.bytes.now

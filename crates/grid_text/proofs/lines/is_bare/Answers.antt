@@ -5,7 +5,8 @@ use Rattle.grid_text.proofs.lines.is_bare.Goals as goal
 
 pub lines-preserved : goal.lines-preserved
 lines-preserved c =
-    let line : lines_in c.lines.rest.now ≡ c.first_line.result.0.now ∷ lines_in c.in-Some.after.now = rw c.in-Some.is at c.first_line.ensures.line in
+    let line : lines_in c.lines.rest.now ≡ c.first_line.result.0.now ∷ lines_in c.in-Some.after.now =
+    rw c.in-Some.is at c.first_line.ensures.line in
     let passed : is_passed c.first_line.result.0.now ≡ true = search rules in
     c.lines.invariant ∙ bare_more c.lines.rest.now c.first_line.result.0.now c.in-Some.after.now line passed
 
@@ -18,4 +19,5 @@ returns-in-None c =
 pub returns-then-not-is_passed : goal.returns-then-not-is_passed
 returns-then-not-is_passed c =
     let passed : is_passed c.first_line.result.0.now ≡ false = search rules in
-    sym (c.lines.invariant ∙ bare_some c.first_line.result.1 (λ r. r.now) c.lines.rest.now c.first_line.result.0.now c.first_line.ensures.line passed)
+    sym (c.lines.invariant
+    ∙ bare_some c.first_line.result.1 (λ r. r.now) c.lines.rest.now c.first_line.result.0.now c.first_line.ensures.line passed)

@@ -15,5 +15,6 @@ pub returns-in_default-parse : goal.returns-in_default-parse
 returns-in_default-parse c =
     let digits : list_all is_ascii_digit c.args.field.now ≡ true = search rules in
     let none : is_decimal c.args.field.now ≡ false =
-    not_decimal c.args.field.now c.in-Ok.text.now c.parse.result c.in_default-parse.field-0 c.in-Ok.ensures.cases.0 digits c.parse.ensures.value.0 c.in_default-parse.is in
+    not_decimal c.args.field.now c.in-Ok.text.now c.parse.result c.in_default-parse.field-0 c.in-Ok.ensures.cases.0 digits
+    c.parse.ensures.value.0 c.in_default-parse.is in
     rw none refl

@@ -39,7 +39,8 @@ returns-in_default-clause-grid c =
     let some : is_bare c.args.bytes.now ≡ false = search rules in
     let cut : lines_in c.lines.rest.now ≡ line ∷ [] = rw c.in_default.is at c.first_line.ensures.line in
     let t : TakesLine lines k line [] = takes_line lines k line [] (sym i.lines ∙ cut) in
-    reads c.args.bytes.now line k c.lines.grid c.take_line.new.self some i.right t i.says c.in_ok-take_line.ensures.right c.in_ok-take_line.ensures.grid
+    reads c.args.bytes.now line k c.lines.grid c.take_line.new.self some i.right t i.says c.in_ok-take_line.ensures.right
+    c.in_ok-take_line.ensures.grid
 
 pub returns-in_err-take_line-clause-fault : goal.returns-in_err-take_line-clause-fault
 returns-in_err-take_line-clause-fault c =
@@ -51,4 +52,5 @@ returns-in_err-take_line-clause-fault c =
     let cut = some_lines c.first_line.result.1 (λ r. r.now) c.lines.rest.now line c.first_line.ensures.line in
     let t : TakesLine (lines_in bytes) k line cut.0 = takes_line (lines_in bytes) k line cut.0 (sym i.lines ∙ cut.1) in
     let p = err_from_is_err_and c.from_residual.result c.from_residual.ensures.1 in
-    rw (p.1, p.2) (blames bytes line k cut.0 c.lines.grid some i.right t i.says c.in_err-take_line.field-0.0 c.in_err-take_line.ensures.fault)
+    rw (p.1, p.2)
+    (blames bytes line k cut.0 c.lines.grid some i.right t i.says c.in_err-take_line.field-0.0 c.in_err-take_line.ensures.fault)

@@ -9,6 +9,8 @@ returns c =
     let name = c.name-item.result in
     let same : bytes_eq (string_bytes name) (codes "@grid") ≡ true = sym c.is_grid_word.ensures ∙ c.if-not-is_grid_word.false in
     record {
-      words_are = two_words string_bytes c.args.argv.now name c.text-item.result (codes "@grid") c.as_bytes.result.now (omega arith) (omega arith) c.name-item.is c.text-item.is (sym ((bytes_eq-Decides (string_bytes name) (codes "@grid")).0 same)) c.as_bytes.ensures.value;
+      words_are =
+          two_words string_bytes c.args.argv.now name c.text-item.result (codes "@grid") c.as_bytes.result.now (omega arith) (omega arith)
+          c.name-item.is c.text-item.is (sym ((bytes_eq-Decides (string_bytes name) (codes "@grid")).0 same)) c.as_bytes.ensures.value;
       short = omega (arith, c.len.ensures, c.if-len-ge-TEXT_BYTES.false);
     }

@@ -9,7 +9,8 @@ returns-in-Here c =
     let block = c.args.block.now in
     let region = c.args.region.now in
     let row = c.loop-row.row in
-    sym (c.loop-row.invariant ∙ ap (nth c.loop-row.left) (rows_more grid block region row c.loop-row-test.true) ∙ c.in-Here.ensures (rows_from grid block region (row + 1)))
+    sym (c.loop-row.invariant ∙ ap (nth c.loop-row.left) (rows_more grid block region row c.loop-row-test.true)
+    ∙ c.in-Here.ensures (rows_from grid block region (row + 1)))
 
 pub loop-row-preserved : goal.loop-row-preserved
 loop-row-preserved c =
@@ -17,4 +18,5 @@ loop-row-preserved c =
     let block = c.args.block.now in
     let region = c.args.region.now in
     let row = c.loop-row.row in
-    c.loop-row.invariant ∙ ap (nth c.loop-row.left) (rows_more grid block region row c.loop-row-test.true) ∙ c.in-Left.ensures (rows_from grid block region (row + 1))
+    c.loop-row.invariant ∙ ap (nth c.loop-row.left) (rows_more grid block region row c.loop-row-test.true)
+    ∙ c.in-Left.ensures (rows_from grid block region (row + 1))

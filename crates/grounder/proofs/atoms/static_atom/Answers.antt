@@ -21,7 +21,8 @@ bounds c =
     let is : c.args.condition.now ≡ Atom pred args = sym c.condition.view_is ∙ ap view_of c.in-Atom.is in
     let readable : is_readable domain (Atom pred args) ≡ true = ap (is_readable domain) (sym is) ∙ c.requires.readable in
     let front = first_so (nat_lt pred (length domain.predicates) && nat_le (length args) 8) (list_all is_readable_term args) readable in
-    let below = ltb-true pred (length domain.predicates) (first_so (nat_lt pred (length domain.predicates)) (nat_le (length args) 8) front) in
+    let below =
+    ltb-true pred (length domain.predicates) (first_so (nat_lt pred (length domain.predicates)) (nat_le (length args) 8) front) in
     omega (arith, below, roles_length domain c.requires.fit, ap length c.as_slice.ensures)
 
 pub returns-in-Static : goal.returns-in-Static
@@ -32,7 +33,10 @@ returns-in-Static c =
     let is : c.args.condition.now ≡ Atom pred args = sym c.condition.view_is ∙ ap view_of c.in-Atom.is in
     let readable : is_readable domain (Atom pred args) ≡ true = ap (is_readable domain) (sym is) ∙ c.requires.readable in
     let front = first_so (nat_lt pred (length domain.predicates) && nat_le (length args) 8) (list_all is_readable_term args) readable in
-    let below = ltb-true pred (length domain.predicates) (first_so (nat_lt pred (length domain.predicates)) (nat_le (length args) 8) front) in
-    let static : role_of domain pred ≡ role.Static = sym (role_kept domain c.requires.fit pred role.Static below) ∙ sym (ap (λ rs. get_or rs pred role.Static) c.as_slice.ensures) ∙ c.in-Static.is in
+    let below =
+    ltb-true pred (length domain.predicates) (first_so (nat_lt pred (length domain.predicates)) (nat_le (length args) 8) front) in
+    let static : role_of domain pred ≡ role.Static = sym (role_kept domain c.requires.fit pred role.Static below)
+    ∙ sym (ap (λ rs. get_or rs pred role.Static) c.as_slice.ensures) ∙ c.in-Static.is in
     let atom : QueryAtom = record { pred = pred; terms = c.as_slice-in-Static.result } in
-    subst (λ x. IsNeeded domain x atom) (ap (Atom pred) c.as_slice-in-Static.ensures ∙ sym is) (needed_atom domain c.requires.fit atom static)
+    subst (λ x. IsNeeded domain x atom) (ap (Atom pred) c.as_slice-in-Static.ensures ∙ sym is)
+    (needed_atom domain c.requires.fit atom static)

@@ -10,7 +10,8 @@ use Rattle.grounder.proofs.atoms.static_parts.Goals as goal
 
 pub static_atom-requires-clause-readable : goal.static_atom-requires-clause-readable
 static_atom-requires-clause-readable c =
-    readable_part c.args.domain.now c.args.parts.now c.loop-part.part-index c.part-item.result c.requires.readable c.loop-part-test.true c.part-item.is
+    readable_part c.args.domain.now c.args.parts.now c.loop-part.part-index c.part-item.result c.requires.readable c.loop-part-test.true
+    c.part-item.is
 
 pub loop-part-preserved : goal.loop-part-preserved
 loop-part-preserved c =
@@ -18,6 +19,9 @@ loop-part-preserved c =
     let parts = c.args.parts.now in
     let Needs : List QueryAtom → Type 0 = AreNeeded domain (every (parts_of parts)) in
     elim c.match-static_atom.branch [
-      | in-Some+in_ok-push w ↦ subst Needs (sym (ap vec_items w.atoms-is ∙ w.in_ok-push.ensures.items)) (needed_push domain (every (parts_of parts)) c.loop-part.atoms.items w.in-Some.atom c.loop-part.invariant (needed_part domain parts c.loop-part.part-index c.part-item.result w.in-Some.atom c.loop-part-test.true c.part-item.is w.in-Some.ensures))
+      | in-Some+in_ok-push w ↦ subst Needs (sym (ap vec_items w.atoms-is ∙ w.in_ok-push.ensures.items))
+          (needed_push domain (every (parts_of parts)) c.loop-part.atoms.items w.in-Some.atom c.loop-part.invariant
+          (needed_part domain parts c.loop-part.part-index c.part-item.result w.in-Some.atom c.loop-part-test.true c.part-item.is
+          w.in-Some.ensures))
       | in_default w ↦ subst Needs (ap vec_items (sym w.atoms-is)) c.loop-part.invariant
     ]

@@ -20,7 +20,9 @@ returns g c =
     let atoms = c.in_ok-atoms.atoms.items in
     let found = c.join.new.rows.items in
     let answers = on_ok_then c.join.result c.if-is_err.ensures.negation c.join.ensures.found in
-    let empty = subst (λ old. Adds (IsAnswer known c.as_slice.result.now takes partial c.as_slice-2.result.now) old found) c.new-rows.ensures.items answers in
+    let empty = subst (λ old. Adds (IsAnswer known c.as_slice.result.now takes partial c.as_slice-2.result.now) old found)
+    c.new-rows.ensures.items answers in
     let these = subst (λ xs. Adds (IsAnswer known c.as_slice.result.now takes partial xs) [] found) c.as_slice-2.ensures.value empty in
     let all = subst (λ sorts. Adds (IsAnswer known sorts takes partial atoms) [] found) c.as_slice.ensures these in
-    sorted_arguments scene.task.now known scene.state.now action partial atoms found c.sort_unstable.new.self.items c.new.ensures c.in_ok-atoms.ensures all c.sort_unstable.ensures.permutation c.sort_unstable.ensures.sorted
+    sorted_arguments scene.task.now known scene.state.now action partial atoms found c.sort_unstable.new.self.items c.new.ensures
+    c.in_ok-atoms.ensures all c.sort_unstable.ensures.permutation c.sort_unstable.ensures.sorted

@@ -9,7 +9,8 @@ use Rattle.instance_queue.proofs.reach.is_reachable.Goals as goal
 pub new-requires : goal.new-requires
 new-requires c =
     let known = c.args.facts.now.known in
-    let long : length c.as_slice-inputs.result.now ≡ length c.as_slice.result.now = have_types-length known c.as_slice-inputs.result.now c.as_slice.result.now (sym c.if-have_types.ensures) in
+    let long : length c.as_slice-inputs.result.now ≡ length c.as_slice.result.now =
+    have_types-length known c.as_slice-inputs.result.now c.as_slice.result.now (sym c.if-have_types.ensures) in
     let narrow : length c.as_slice.result.now ≤ 8 = subst (λ xs. length xs ≤ 8) (sym c.as_slice.ensures) c.requires.narrow in
     omega (arith, long, narrow)
 
@@ -17,7 +18,8 @@ pub returns-then-have_types : goal.returns-then-have_types
 returns-then-have_types c =
     let known = c.args.facts.now.known in
     let inputs = c.args.instance.now.inputs in
-    let types : have_types known inputs c.args.stream.now.inputs ≡ true = sym (λ k. have_types known (c.as_slice-inputs.ensures k) (c.as_slice.ensures k)) ∙ sym c.if-have_types.ensures in
+    let types : have_types known inputs c.args.stream.now.inputs ≡ true =
+    sym (λ k. have_types known (c.as_slice-inputs.ensures k) (c.as_slice.ensures k)) ∙ sym c.if-have_types.ensures in
     let slots = c.new.ensures ∙ ap slots_of c.as_slice-inputs.ensures in
     c.are_known.ensures ∙ (λ k. list_all (λ p. is_fact known.facts (fact_of (slots k) p)) (c.as_slice-then-have_types.ensures k))
     ∙ sym (ap (λ b. b && list_all (λ p. is_fact known.facts (fact_of (slots_of inputs) p)) c.args.stream.now.domain) types)

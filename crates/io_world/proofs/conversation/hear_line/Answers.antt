@@ -6,14 +6,16 @@ use Rattle.io_world.proofs.conversation.hear_line.Goals as goal
 pub loop-filled-preserved : goal.loop-filled-preserved
 loop-filled-preserved g c =
     let before = c.loop-filled.invariant in
-    let more = heard_behind c.args.held c.loop-filled.filled c.in-Ok.count c.loop-filled.room c.read.new.room before.above before.within c.in-Ok.ensures.count.1 in
+    let more = heard_behind c.args.held c.loop-filled.filled c.in-Ok.count c.loop-filled.room c.read.new.room before.above before.within
+    c.in-Ok.ensures.count.1 in
     record {
       above = omega arith;
       within = room_within _ _ _ _ before.within c.in-Ok.ensures.count.1;
       kept = take-put_mid_below _ _ _ _ _ before.above before.within ∙ before.kept;
       running = λ k. c.in-Ok.ensures.running k ∙ before.running k;
       spoken = hears_more _ _ _ _ _ _ _ more before.spoken c.in-Ok.ensures.spoken;
-      log = given_more _ _ _ _ _ _ _ _ _ more (quiet _ _ _ _ before.above before.kept (sym c.has_line.ensures ∙ c.if-not-has_line.true)) before.log c.in-Ok.ensures.log;
+      log = given_more _ _ _ _ _ _ _ _ _ more (quiet _ _ _ _ before.above before.kept (sym c.has_line.ensures ∙ c.if-not-has_line.true))
+          before.log c.in-Ok.ensures.log;
       later = omega (arith, c.in-Ok.ensures.cause.later);
     }
 

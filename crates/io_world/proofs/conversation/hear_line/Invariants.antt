@@ -9,7 +9,8 @@ invariant-loop-filled g l = record {
   kept : take l.held l.room ≡ take l.held l.initial.room;
   running : Same (g.H.Host.running l.initial.host) (g.H.Host.running l.host);
   spoken : Hears l.child (drop l.held (take l.filled l.room)) (g.H.Host.spoken l.initial.host) (g.H.Host.spoken l.host);
-  log : LogsGiven l.child (take l.held l.initial.room) (drop l.held (take l.filled l.room)) (g.H.Host.log l.initial.host) (g.H.Host.log l.host);
+  log : LogsGiven l.child (take l.held l.initial.room) (drop l.held (take l.filled l.room))
+      (g.H.Host.log l.initial.host) (g.H.Host.log l.host);
   later : g.H.Host.faults l.initial.host ≤ g.H.Host.faults l.host;
 }
 

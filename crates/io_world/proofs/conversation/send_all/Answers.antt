@@ -8,6 +8,7 @@ loop-done-preserved g c = record {
   within = piece_within _ _ _ c.loop-done.invariant.within c.in_ok-done.ensures.count.1;
   running = λ k. c.in_ok-done.ensures.running k ∙ c.loop-done.invariant.running k;
   spoken = writes_more _ _ _ _ _ _ _ (piece_more _ _ _) c.loop-done.invariant.spoken c.in_ok-done.ensures.spoken;
-  log = taken_more _ _ _ _ _ _ _ _ (piece_more _ _ _) c.in_ok-done.ensures.count.0 c.in_ok-done.ensures.count.1 c.loop-done.invariant.log c.in_ok-done.ensures.log;
+  log = taken_more _ _ _ _ _ _ _ _ (piece_more _ _ _) c.in_ok-done.ensures.count.0 c.in_ok-done.ensures.count.1 c.loop-done.invariant.log
+      c.in_ok-done.ensures.log;
   later = omega (arith, c.in_ok-done.ensures.cause.later);
 }

@@ -1,6 +1,6 @@
 use Rattle.std.proofs.Common.{sym, ◌∙◌}
 use Rattle.level_course.proofs.AgendasLemmas.{longest}
-use Rattle.level_course.proofs.PoolsLemmas.{none_fit}
+use Rattle.transcript_model.proofs.RoundsFrontLemmas.{none_fit}
 use Rattle.level_course.specs.Pools.{shares_of}
 use Rattle.level_course.proofs.shares.longest_front.Goals as goal
 
@@ -8,4 +8,6 @@ pub loop-count-init : goal.loop-count-init
 loop-count-init c = none_fit (shares_of c.args.shares.now)
 
 pub returns-then-not-fits : goal.returns-then-not-fits
-returns-then-not-fits c = longest (shares_of c.args.shares.now) c.args.dues.now c.loop-count.count c.loop-count-test.true c.loop-count.invariant (sym c.fits.ensures ∙ c.if-not-fits.true)
+returns-then-not-fits c =
+    longest (shares_of c.args.shares.now) c.args.dues.now c.loop-count.count c.loop-count-test.true c.loop-count.invariant
+    (sym c.fits.ensures ∙ c.if-not-fits.true)

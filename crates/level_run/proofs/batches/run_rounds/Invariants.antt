@@ -1,33 +1,26 @@
-use Rattle.std.proofs.Common.{◌≡◌, ◌+◌, ◌<◌, ◌≤◌, false, length}
+use Rattle.std.proofs.Common.{◌≡◌, ◌+◌, ◌<◌, ◌≤◌, length}
 use Rattle.instance_queue.specs.Level.{instances_of}
-use Rattle.io_world.specs.Talks.{Same}
 use Rattle.session_core.specs.Ready.{AreReady}
-use Rattle.session_core.specs.Session.{IsLearnt, IsOf, IsSession}
 use Rattle.level_run.proofs.BatchLemmas.{SoFar}
 use Rattle.level_run.proofs.batches.run_rounds.Given as goal
 use Rattle.level_run.specs.Calls.{Calls}
 use Rattle.level_run.specs.Dialogue.{workers_in}
 use Rattle.level_run.specs.Rolling.{Goes}
-use Rattle.level_run.specs.Talking.{IsTold, held_of}
+use Rattle.level_run.specs.Resting.{Stays, Works}
 use Rattle.level_run.specs.Turns.{AllRun}
 
 -- the asks that are left are still due, and the rounds that were run are the first of the batch
 abbrev pub invariant-rounds : goal.invariant-rounds
 invariant-rounds g l = record {
-  session : IsSession l.task l.session;
-  head : IsOf l.head l.session;
-  working : l.session.failed ≡ false;
-  learnt : IsLearnt l.session;
+  works : Works l.task l.head l.session l.lines (g.H.Host.running l.host) (g.H.Host.spoken l.host);
   ready : AreReady l.task l.session.entries l.rest;
-  told : IsTold l.task l.head.version (workers_in l.head) l.session.entries (g.H.Host.running l.host) (held_of l.lines) (g.H.Host.spoken l.host);
   all_run : 0 < length l.rest → AllRun l.session.pools (g.H.Host.running l.host);
   so_far : SoFar l.head l.task l.initial.session.entries (instances_of l.initial.rest) l.session.entries (instances_of l.rest);
   counts : length l.session.asked + length l.rest ≡ length l.initial.session.asked + length l.initial.rest;
   grows : length l.initial.session.asked ≤ length l.session.asked;
   goes : Goes l.initial.session.entries l.session.entries (g.O.Sink.taken l.initial.out) (g.O.Sink.taken l.out);
   order : Calls l.task (workers_in l.head) l.initial.session.entries l.session.entries (g.H.Host.log l.initial.host) (g.H.Host.log l.host);
-  started : l.lines.started ≡ l.initial.lines.started;
-  running : Same (g.H.Host.running l.initial.host) (g.H.Host.running l.host);
+  same : Stays l.initial.lines l.lines (g.H.Host.running l.initial.host) (g.H.Host.running l.host);
   host : g.H.Host.faults l.initial.host ≤ g.H.Host.faults l.host;
   sink : g.O.Sink.faults l.initial.out ≤ g.O.Sink.faults l.out;
 }

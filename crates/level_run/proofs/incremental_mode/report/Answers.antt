@@ -9,61 +9,92 @@ use Rattle.level_run.proofs.incremental_mode.report.Goals as goal
 pub returns-in_err-print_head-clause-broken : goal.returns-in_err-print_head-clause-broken
 returns-in_err-print_head-clause-broken g c =
     handed c.from_residual.result c.in_err-print_head.field-0.0 _ c.from_residual.ensures.1
-    (broken_head c.args.task.now c.args.head.now (g.H.Host.spoken c.args.host.now) c.requires.mode c.in_err-print_head.field-0.0 (g.H.Host.log c.args.host.now) (g.O.Sink.taken c.args.out.now) (g.O.Sink.taken c.print_head.new.out) c.in_err-print_head.ensures.part)
+    (broken_head c.args.task.now c.args.head.now (g.H.Host.spoken c.args.host.now) c.requires.mode c.in_err-print_head.field-0.0
+    (g.H.Host.log c.args.host.now) (g.O.Sink.taken c.args.out.now) (g.O.Sink.taken c.print_head.new.out)
+    c.in_err-print_head.ensures.part)
 
 pub returns-in_err-session-clause-broken : goal.returns-in_err-session-clause-broken
 returns-in_err-session-clause-broken g c =
     handed c.from_residual-in_err-session.result Memory _ c.from_residual-in_err-session.ensures.1
-    (broken_behind c.args.task.now c.args.head.now (g.H.Host.spoken c.args.host.now) c.requires.mode Memory (g.H.Host.log c.args.host.now) (g.O.Sink.taken c.args.out.now) (g.O.Sink.taken c.print_head.new.out) c.in_ok-print_head.ensures.all refl)
+    (broken_behind c.args.task.now c.args.head.now (g.H.Host.spoken c.args.host.now) c.requires.mode Memory (g.H.Host.log c.args.host.now)
+    (g.O.Sink.taken c.args.out.now) (g.O.Sink.taken c.print_head.new.out) c.in_ok-print_head.ensures.all refl)
 
 pub returns-in_err-outcome-clause-broken : goal.returns-in_err-outcome-clause-broken
 returns-in_err-outcome-clause-broken g c =
     handed c.from_residual-in_err-outcome.result c.in_err-outcome.field-0.0 _ c.from_residual-in_err-outcome.ensures.1
-    (broken_levels c.args.task.now c.args.head.now (g.H.Host.spoken c.run_levels.new.host) c.in_err-outcome.field-0.0 (g.H.Host.log c.args.host.now) (g.H.Host.log c.run_levels.new.host) (g.O.Sink.taken c.args.out.now) (g.O.Sink.taken c.print_head.new.out) (g.O.Sink.taken c.run_levels.new.out) c.in_ok-print_head.ensures.all c.in_err-outcome.ensures.stopped)
+    (broken_levels c.args.task.now c.args.head.now (g.H.Host.spoken c.run_levels.new.host) c.in_err-outcome.field-0.0
+    (g.H.Host.log c.args.host.now) (g.H.Host.log c.run_levels.new.host) (g.O.Sink.taken c.args.out.now)
+    (g.O.Sink.taken c.print_head.new.out) (g.O.Sink.taken c.run_levels.new.out) c.in_ok-print_head.ensures.all
+    c.in_err-outcome.ensures.stopped)
 
 pub returns-in_err-print_end-clause-broken : goal.returns-in_err-print_end-clause-broken
 returns-in_err-print_end-clause-broken g c =
     let entries = c.run_levels.new.session.entries in
     handed c.from_residual-in_err-print_end.result c.in_err-print_end.field-0.0 _ c.from_residual-in_err-print_end.ensures.1
-    (broken_end c.args.task.now c.args.head.now (g.H.Host.spoken c.run_levels.new.host) c.requires.mode entries c.in_ok-outcome.outcome c.in_err-print_end.field-0.0 (g.H.Host.log c.args.host.now) (g.H.Host.log c.run_levels.new.host) (g.O.Sink.taken c.args.out.now) (g.O.Sink.taken c.run_levels.new.out) (g.O.Sink.taken c.print_end.new.out) c.in_ok-outcome.ensures.run c.in_ok-outcome.ensures.talks c.in_ok-outcome.ensures.order c.in_ok-outcome.ensures.needed c.in_ok-outcome.ensures.closed
-    (told_so_far c.args.task.now c.args.head.now (g.H.Host.spoken c.run_levels.new.host) entries (g.O.Sink.taken c.args.out.now) (g.O.Sink.taken c.print_head.new.out) (g.O.Sink.taken c.run_levels.new.out) c.in_ok-print_head.ensures.all c.in_ok-outcome.ensures.goes)
+    (broken_end c.args.task.now c.args.head.now (g.H.Host.spoken c.run_levels.new.host) c.requires.mode entries c.in_ok-outcome.outcome
+    c.in_err-print_end.field-0.0 (g.H.Host.log c.args.host.now) (g.H.Host.log c.run_levels.new.host) (g.O.Sink.taken c.args.out.now)
+    (g.O.Sink.taken c.run_levels.new.out) (g.O.Sink.taken c.print_end.new.out) c.in_ok-outcome.ensures.ran.run
+    c.in_ok-outcome.ensures.ran.talks
+    c.in_ok-outcome.ensures.adds.order c.in_ok-outcome.ensures.ran.needed c.in_ok-outcome.ensures.ran.closed
+    (told_so_far c.args.task.now c.args.head.now (g.H.Host.spoken c.run_levels.new.host) entries (g.O.Sink.taken c.args.out.now)
+    (g.O.Sink.taken c.print_head.new.out) (g.O.Sink.taken c.run_levels.new.out) c.in_ok-print_head.ensures.all
+    c.in_ok-outcome.ensures.adds.goes)
     c.in_err-print_end.ensures.part)
 
 pub returns-clause-reported : goal.returns-clause-reported
 returns-clause-reported g c =
     let entries = c.run_levels.new.session.entries in
-    reported c.args.task.now c.args.head.now (g.H.Host.spoken c.run_levels.new.host) entries c.in_ok-outcome.outcome c.in_ok-outcome.levels c.asks.result (g.H.Host.log c.args.host.now) (g.H.Host.log c.run_levels.new.host) (g.O.Sink.taken c.args.out.now) (g.O.Sink.taken c.run_levels.new.out) (g.O.Sink.taken c.print_end.new.out) c.in_ok-outcome.ensures.run c.in_ok-outcome.ensures.talks (ran_of c.args.task.now c.args.head.now entries (g.H.Host.log c.args.host.now) (g.H.Host.log c.run_levels.new.host) c.in_ok-outcome.ensures.order) c.in_ok-outcome.ensures.levels (c.asks.ensures ∙ c.in_ok-outcome.ensures.asks)
-    (told_so_far c.args.task.now c.args.head.now (g.H.Host.spoken c.run_levels.new.host) entries (g.O.Sink.taken c.args.out.now) (g.O.Sink.taken c.print_head.new.out) (g.O.Sink.taken c.run_levels.new.out) c.in_ok-print_head.ensures.all c.in_ok-outcome.ensures.goes)
+    reported c.args.task.now c.args.head.now (g.H.Host.spoken c.run_levels.new.host) entries c.in_ok-outcome.outcome c.in_ok-outcome.levels
+    c.asks.result (g.H.Host.log c.args.host.now) (g.H.Host.log c.run_levels.new.host) (g.O.Sink.taken c.args.out.now)
+    (g.O.Sink.taken c.run_levels.new.out) (g.O.Sink.taken c.print_end.new.out) c.in_ok-outcome.ensures.ran.run
+    c.in_ok-outcome.ensures.ran.talks
+    (ran_of c.args.task.now c.args.head.now entries (g.H.Host.log c.args.host.now)
+    (g.H.Host.log c.run_levels.new.host) c.in_ok-outcome.ensures.adds.order) c.in_ok-outcome.ensures.ran.counted
+    (c.asks.ensures ∙ c.in_ok-outcome.ensures.ran.asks)
+    (told_so_far c.args.task.now c.args.head.now (g.H.Host.spoken c.run_levels.new.host) entries (g.O.Sink.taken c.args.out.now)
+    (g.O.Sink.taken c.print_head.new.out) (g.O.Sink.taken c.run_levels.new.out) c.in_ok-print_head.ensures.all
+    c.in_ok-outcome.ensures.adds.goes)
     c.in_ok-print_end.ensures.all
 
 pub returns-clause-sink : goal.returns-clause-sink
-returns-clause-sink g c = written_cause _ _ _ _ _ _ c.in_ok-print_head.ensures.cause.later c.in_ok-outcome.ensures.sink.later c.in_ok-print_end.ensures.cause.later
+returns-clause-sink g c =
+    written_cause _ _ _ _ _ _ c.in_ok-print_head.ensures.cause.later c.in_ok-outcome.ensures.causes.sink.later
+    c.in_ok-print_end.ensures.cause.later
 
 pub returns-clause-untouched : goal.returns-clause-untouched
-returns-clause-untouched g c = λ none. c.in_ok-outcome.ensures.untouched (sym c.asks.ensures ∙ none)
+returns-clause-untouched g c = λ none.
+    let asked = sym c.asks.ensures ∙ none in (c.in_ok-outcome.ensures.ran.untouched asked, c.in_ok-outcome.ensures.idle asked)
 
 pub returns-in_err-print_end-clause-host : goal.returns-in_err-print_end-clause-host
 returns-in_err-print_end-clause-host g c =
     let fault = c.in_err-print_end.field-0.0 in
     let r = c.from_residual-in_err-print_end.result in
-    no_cause Generator g.H.Host.last (g.H.Host.faults c.args.host.now) (g.H.Host.faults c.run_levels.new.host) c.run_levels.result fault r c.run_levels.ensures.host (written_no_generator fault c.in_err-print_end.ensures.only) (handed_err r fault c.from_residual-in_err-print_end.ensures.1)
+    no_cause Generator g.H.Host.last (g.H.Host.faults c.args.host.now) (g.H.Host.faults c.run_levels.new.host) c.run_levels.result fault r
+    c.run_levels.ensures.causes.host (written_no_generator fault c.in_err-print_end.ensures.only)
+    (handed_err r fault c.from_residual-in_err-print_end.ensures.1)
 
 pub returns-in_err-print_end-clause-sink : goal.returns-in_err-print_end-clause-sink
 returns-in_err-print_end-clause-sink g c =
     let fault = c.in_err-print_end.field-0.0 in
     let r = c.from_residual-in_err-print_end.result in
-    cause_handed Write last_count (g.O.Sink.faults c.args.out.now) (g.O.Sink.faults c.print_head.new.out) (g.O.Sink.faults c.run_levels.new.out) (g.O.Sink.faults c.print_end.new.out) fault r c.in_ok-print_head.ensures.cause.later c.in_ok-outcome.ensures.sink.later c.in_err-print_end.ensures.cause (handed_err r fault c.from_residual-in_err-print_end.ensures.1)
+    cause_handed Write last_count (g.O.Sink.faults c.args.out.now) (g.O.Sink.faults c.print_head.new.out)
+    (g.O.Sink.faults c.run_levels.new.out) (g.O.Sink.faults c.print_end.new.out) fault r c.in_ok-print_head.ensures.cause.later
+    c.in_ok-outcome.ensures.causes.sink.later c.in_err-print_end.ensures.cause
+    (handed_err r fault c.from_residual-in_err-print_end.ensures.1)
 
 pub returns-in_err-outcome-clause-host : goal.returns-in_err-outcome-clause-host
 returns-in_err-outcome-clause-host g c =
     let fault = c.in_err-outcome.field-0.0 in
     let r = c.from_residual-in_err-outcome.result in
     let before = g.H.Host.faults c.args.host.now in
-    cause_handed Generator g.H.Host.last before before before (g.H.Host.faults c.run_levels.new.host) fault r (omega arith) (omega arith) c.in_err-outcome.ensures.host (handed_err r fault c.from_residual-in_err-outcome.ensures.1)
+    cause_handed Generator g.H.Host.last before before before (g.H.Host.faults c.run_levels.new.host) fault r (omega arith)
+    (omega arith) c.in_err-outcome.ensures.causes.host (handed_err r fault c.from_residual-in_err-outcome.ensures.1)
 
 pub returns-in_err-outcome-clause-sink : goal.returns-in_err-outcome-clause-sink
 returns-in_err-outcome-clause-sink g c =
     let fault = c.in_err-outcome.field-0.0 in
     let r = c.from_residual-in_err-outcome.result in
     let begun = g.O.Sink.faults c.print_head.new.out in
-    cause_handed Write last_count (g.O.Sink.faults c.args.out.now) begun begun (g.O.Sink.faults c.run_levels.new.out) fault r c.in_ok-print_head.ensures.cause.later (omega arith) c.in_err-outcome.ensures.sink (handed_err r fault c.from_residual-in_err-outcome.ensures.1)
+    cause_handed Write last_count (g.O.Sink.faults c.args.out.now) begun begun (g.O.Sink.faults c.run_levels.new.out) fault r
+    c.in_ok-print_head.ensures.cause.later (omega arith) c.in_err-outcome.ensures.causes.sink
+    (handed_err r fault c.from_residual-in_err-outcome.ensures.1)

@@ -1,25 +1,24 @@
-use Rattle.std.proofs.Common.{◌≡◌, ◌++◌, ◌≤◌, ℕ, List, length, take}
+use Rattle.std.proofs.Common.{◌++◌, ◌≤◌, ℕ, List, take}
 use Rattle.io_world.specs.Talks.{Same}
 use Rattle.session_core.specs.Session.{IsSession}
 use Rattle.task_model.specs.declared.task.Task.{Task}
 use Rattle.level_run.proofs.round.send_all.Given as goal
 use Rattle.level_run.specs.Calls.{Calls}
-use Rattle.level_run.specs.Rolling.{Goes, IsRolling, IsSameRound}
+use Rattle.level_run.specs.Resting.{Rolled}
+use Rattle.level_run.specs.Rolling.{Goes}
 use Rattle.level_run.specs.Talking.{IsTalking}
 
 -- so many requests are sent and written
 abbrev pub invariant-loop-place : goal.invariant-loop-place
 invariant-loop-place g l = record {
-  same : IsSameRound l.initial.session l.session;
-  rolling : IsRolling l.session (g.H.Host.running l.host) l.place 0;
-  many : length l.session.slots ≡ length l.initial.session.slots;
-  goes : Goes l.initial.session.entries (l.initial.session.entries ++ take l.place l.initial.session.asks) (g.O.Sink.taken l.initial.out) (g.O.Sink.taken l.out);
-  talking : (task : Task) (kept : ℕ → List ℕ)
+  rolled : Rolled l.initial.session l.session (g.H.Host.running l.host) l.place 0;
+  goes : Goes l.initial.session.entries (l.initial.session.entries ++ take l.place l.initial.session.asks)
+      (g.O.Sink.taken l.initial.out) (g.O.Sink.taken l.out);
+  said : (task : Task) (kept : ℕ → List ℕ) → IsSession task l.initial.session
       → IsTalking task l.initial.session 0 0 kept (g.H.Host.spoken l.initial.host)
-      → IsTalking task l.session l.place 0 kept (g.H.Host.spoken l.host);
-  order : (task : Task) (kept : ℕ → List ℕ) → IsSession task l.initial.session
-      → IsTalking task l.initial.session 0 0 kept (g.H.Host.spoken l.initial.host)
-      → Calls task l.initial.session.pools l.initial.session.entries (l.initial.session.entries ++ take l.place l.initial.session.asks) (g.H.Host.log l.initial.host) (g.H.Host.log l.host);
+      → IsTalking task l.session l.place 0 kept (g.H.Host.spoken l.host)
+      × Calls task l.initial.session.pools l.initial.session.entries
+      (l.initial.session.entries ++ take l.place l.initial.session.asks) (g.H.Host.log l.initial.host) (g.H.Host.log l.host);
   kept : (task : Task) → IsSession task l.initial.session → IsSession task l.session;
   running : Same (g.H.Host.running l.initial.host) (g.H.Host.running l.host);
   host : g.H.Host.faults l.initial.host ≤ g.H.Host.faults l.host;

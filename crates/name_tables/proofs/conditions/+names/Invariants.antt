@@ -16,7 +16,8 @@ decreases-check_exists l = count (trees l.items.now)
 
 abbrev pub invariant-check_conditions-parts : goal.invariant-check_conditions-parts
 invariant-check_conditions-parts l = record {
-  faults : first l.fn.so_far (conditions_names l.names l.fn.scope (trees l.items)) ≡ first l.found (conditions_names l.names l.fn.scope (trees l.left));
+  faults : first l.fn.so_far (conditions_names l.names l.fn.scope (trees l.items))
+      ≡ first l.found (conditions_names l.names l.fn.scope (trees l.left));
   scope : l.scope ≡ l.fn.scope;
   smaller : count (trees l.left) ≤ count (trees l.items);
 }

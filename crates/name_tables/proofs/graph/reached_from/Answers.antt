@@ -16,5 +16,6 @@ returns-in_default c =
 pub loop-done-preserved : goal.loop-done-preserved
 loop-done-preserved c =
     let at : slice_get c.loop-done.seen.keys c.loop-done.done ≡ Some c.in-Some.number = search rules in
-    explored_more c.args.edges.now c.args.start c.loop-done.seen.keys c.add_numbers-in-loop-done.new.seen.keys c.loop-done.done c.in-Some.number c.loop-done.invariant at
+    explored_more c.args.edges.now c.args.start c.loop-done.seen.keys c.add_numbers-in-loop-done.new.seen.keys c.loop-done.done
+    c.in-Some.number c.loop-done.invariant at
     (c.in_ok-add_numbers-2.ensures ∙ (λ i. with_numbers c.loop-done.seen.keys (c.next_of-in-loop-done.ensures i)))

@@ -15,7 +15,8 @@ returns-then-is_write-clause-ends g c =
 
 pub returns-else-is_write-clause-ends : goal.returns-else-is_write-clause-ends
 returns-else-is_write-clause-ends g c =
-    ends_closed _ _ _ _ _ c.in-Err.stop c.close.result c.in-Err.ensures.stopped (sym c.is_write.ensures ∙ c.if-is_write.false) c.close.ensures.closed
+    ends_closed _ _ _ _ _ c.in-Err.stop c.close.result c.in-Err.ensures.stopped
+    (sym c.is_write.ensures ∙ c.if-is_write.false) c.close.ensures.closed
 
 pub returns-in-Ok-clause-plan : goal.returns-in-Ok-clause-plan
 returns-in-Ok-clause-plan g c =
@@ -41,7 +42,8 @@ returns-then-is_write-clause-no_plan g c = λ e. absurd (cc)
 
 pub returns-else-is_write-clause-asked : goal.returns-else-is_write-clause-asked
 returns-else-is_write-clause-asked g c =
-    asked_closed _ _ _ _ _ c.in-Err.stop c.close.result c.in-Err.ensures.stopped (sym c.is_write.ensures ∙ c.if-is_write.false) c.close.ensures.closed c.in-Err.ensures.asked_before
+    asked_closed _ _ _ _ _ c.in-Err.stop c.close.result c.in-Err.ensures.stopped
+    (sym c.is_write.ensures ∙ c.if-is_write.false) c.close.ensures.closed c.in-Err.ensures.asked_before
 
 pub returns-in-Ok-clause-asked : goal.returns-in-Ok-clause-asked
 returns-in-Ok-clause-asked g c =
@@ -57,11 +59,15 @@ returns-in-Ok-clause-complete g c =
 
 pub returns-then-is_write-clause-complete : goal.returns-then-is_write-clause-complete
 returns-then-is_write-clause-complete g c = λ well.
-    absurd (well.written (c.attempt.ensures.sink.cause (c.in-Err.is ∙ ap Err (write_stop c.in-Err.stop (sym c.is_write.ensures ∙ c.if-is_write.true)))))
+    absurd (well.written
+    (c.attempt.ensures.sink.cause (c.in-Err.is ∙ ap Err (write_stop c.in-Err.stop (sym c.is_write.ensures ∙ c.if-is_write.true)))))
 
 pub returns-else-is_write-clause-complete : goal.returns-else-is_write-clause-complete
 returns-else-is_write-clause-complete g c = λ well.
     let whole = sym c.is_write.ensures ∙ c.if-is_write.false in
-    let memory = stops_for_memory well _ c.in-Err.stop (before_last _ _ _ c.in-Err.stop c.in-Err.ensures.stopped whole) (λ e. c.attempt.ensures.host.cause (c.in-Err.is ∙ ap Err e)) in
+    let memory =
+    stops_for_memory well _ c.in-Err.stop (before_last _ _ _ c.in-Err.stop c.in-Err.ensures.stopped whole)
+    (λ e. c.attempt.ensures.host.cause (c.in-Err.is ∙ ap Err e)) in
     answered_close c.in-Err.stop _ c.close.result memory
-    (λ e. well.written (sink_whole _ (g.O.Sink.faults c.args.out.now) (g.O.Sink.faults c.attempt.new.out) (g.O.Sink.faults c.close.new.out) c.in-Err.stop c.attempt.ensures.sink.later (other_stop c.in-Err.stop whole) (c.close.ensures.cause e))) c.close.ensures.closed
+    (λ e. well.written (sink_whole _ (g.O.Sink.faults c.args.out.now) (g.O.Sink.faults c.attempt.new.out) (g.O.Sink.faults c.close.new.out)
+    c.in-Err.stop c.attempt.ensures.sink.later (other_stop c.in-Err.stop whole) (c.close.ensures.cause e))) c.close.ensures.closed

@@ -16,18 +16,30 @@ pub returns-in-Err-clause-err : goal.returns-in-Err-clause-err
 returns-in-Err-clause-err g c =
     let task = c.args.task.now in
     let known = g.L.Look.known c.args.look.now in
-    run_fails task known c.args.plan.now.steps c.in-Err.fault (subst (λ xs. StepsRun task known xs c.in-Err.fault) c.as_slice.ensures c.in-Err.ensures.err)
+    run_fails task known c.args.plan.now.steps c.in-Err.fault
+    (subst (λ xs. StepsRun task known xs c.in-Err.fault) c.as_slice.ensures c.in-Err.ensures.err)
 
 pub returns-then-holds-clause-ok : goal.returns-then-holds-clause-ok
 returns-then-holds-clause-ok g c =
     let task = c.args.task.now in
     let known = g.L.Look.known c.args.look.now in
-    let runs = subst (λ xs. Executes task known (initial_state task) xs c.in-Ok.end.state c.in-Ok.end.cost) c.as_slice.ensures c.in-Ok.ensures.ok in
-    (c.in-Ok.end.state, runs, ap (is_true task.domain known c.in-Ok.end.state task.problem.goal) (sym c.new-env.ensures) ∙ sym c.holds.ensures.value ∙ c.if-holds.true)
+    let runs = subst (λ xs. Executes task known (initial_state task) xs c.in-Ok.end.state c.in-Ok.end.cost) c.as_slice.ensures
+    c.in-Ok.ensures.ok in (
+      c.in-Ok.end.state,
+      runs,
+      ap (is_true task.domain known c.in-Ok.end.state task.problem.goal) (sym c.new-env.ensures) ∙ sym c.holds.ensures.value
+          ∙ c.if-holds.true,
+    )
 
 pub returns-clause-err : goal.returns-clause-err
 returns-clause-err g c =
     let task = c.args.task.now in
     let known = g.L.Look.known c.args.look.now in
-    let runs = subst (λ xs. Executes task known (initial_state task) xs c.in-Ok.end.state c.in-Ok.end.cost) c.as_slice.ensures c.in-Ok.ensures.ok in
-    (c.in-Ok.end.state, c.in-Ok.end.cost, runs, ap (is_true task.domain known c.in-Ok.end.state task.problem.goal) (sym c.new-env.ensures) ∙ sym c.holds.ensures.value ∙ c.if-holds.false)
+    let runs = subst (λ xs. Executes task known (initial_state task) xs c.in-Ok.end.state c.in-Ok.end.cost) c.as_slice.ensures
+    c.in-Ok.ensures.ok in (
+      c.in-Ok.end.state,
+      c.in-Ok.end.cost,
+      runs,
+      ap (is_true task.domain known c.in-Ok.end.state task.problem.goal) (sym c.new-env.ensures) ∙ sym c.holds.ensures.value
+          ∙ c.if-holds.false,
+    )

@@ -6,4 +6,5 @@ use Rattle.plan_check.proofs.step.cost.Goals as goal
 
 pub terms_cost-requires-clause-readable : goal.terms_cost-requires-clause-readable
 terms_cost-requires-clause-readable g c =
-    subst (λ ts. list_all is_readable_cost ts ≡ true) (sym c.as_slice.ensures) (readable_action c.args.task.now.domain c.requires.fit.domain c.args.action.now c.requires.action).costs
+    subst (λ ts. list_all is_readable_cost ts ≡ true)
+    (sym c.as_slice.ensures) (readable_action c.args.task.now.domain c.requires.fit.domain c.args.action.now c.requires.action).costs

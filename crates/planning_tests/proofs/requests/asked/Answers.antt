@@ -11,4 +11,5 @@ request-requires-clause-stream c =
 
 pub request-requires-clause-object : goal.request-requires-clause-object
 request-requires-clause-object c =
-    subst (λ (f : Facts). c.in-Some.object < length f.known.names) (c.deref.ensures ∙ sym c.deref-in-Some.ensures) (slice_get_within c.deref.result.now.known.names c.in-Some.object c.args.text.now c.in-Some.ensures.found)
+    subst (λ (f : Facts). c.in-Some.object < length f.known.names) (c.deref.ensures ∙ sym c.deref-in-Some.ensures)
+    (slice_get_within c.deref.result.now.known.names c.in-Some.object c.args.text.now c.in-Some.ensures.found)

@@ -36,5 +36,7 @@ returns c = λ limit entries h.
     let empty : length l.unanswered.items ≡ 0 = grind (arith, common_steps) in
     let dues = c.in-Some.dues.items in
     let turn = rw c.in-Some.is at c.in_ok-dues.ensures.some in
-    let says = ap (λ n. claim_of (not (n == 0))) (sym (ap length c.as_slice-2.ensures.value)) ∙ sym (c.decided.ensures ∙ ap (λ b. claim_of (not b)) c.is_empty-2.ensures) in
-    subst (IsJudged (limits_by b) limit b.task.now entries (outcome.Limit Calls)) says (past_some b limit b.task.now entries l h all empty dues turn)
+    let says = ap (λ n. claim_of (not (n == 0))) (sym (ap length c.as_slice-2.ensures.value))
+    ∙ sym (c.decided.ensures ∙ ap (λ b. claim_of (not b)) c.is_empty-2.ensures) in
+    subst (IsJudged (limits_by b) limit b.task.now entries (outcome.Limit Calls)) says
+    (past_some b limit b.task.now entries l h all empty dues turn)

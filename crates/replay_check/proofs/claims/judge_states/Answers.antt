@@ -13,18 +13,22 @@ returns-then-limit-bounds c = λ entries h.
     let b = c.args.bounds.now in
     let task = b.task.now in
     let e = subst (λ (k : Known). IsTrue c.in_ok-more.more ↔ MoreThan b.states (IsReached task k)) h.known c.in_ok-more.ensures in
-    subst (IsJudged (limits_by b) c.args.limit task entries (outcome.Limit States)) (sym c.decided.ensures) (states_decided b c.args.limit task entries c.in_ok-more.more c.if-limit-bounds.true e)
+    subst (IsJudged (limits_by b) c.args.limit task entries (outcome.Limit States))
+    (sym c.decided.ensures) (states_decided b c.args.limit task entries c.in_ok-more.more c.if-limit-bounds.true e)
 
 pub returns-then-branch : goal.returns-then-branch
 returns-then-branch c = λ entries h.
-    let task = c.args.bounds.now.task.now in
-    (c.if-limit-bounds.false, subst (λ (k : Known). MoreThan c.args.limit (IsReached task k)) h.known (c.in_ok-exceeds.ensures.0 c.if-branch.true))
+    let task = c.args.bounds.now.task.now in (
+      c.if-limit-bounds.false,
+      subst (λ (k : Known). MoreThan c.args.limit (IsReached task k)) h.known (c.in_ok-exceeds.ensures.0 c.if-branch.true),
+    )
 
 pub returns : goal.returns
 returns c = λ entries h.
     let b = c.args.bounds.now in
     let task = b.task.now in
     states_few b c.args.limit task entries c.if-limit-bounds.false (λ more.
-    let over : c.in_ok-exceeds.field-0 ≡ true = c.in_ok-exceeds.ensures.1 (subst (λ (k : Known). MoreThan c.args.limit (IsReached task k)) (sym h.known) more) in
+    let over : c.in_ok-exceeds.field-0 ≡ true =
+    c.in_ok-exceeds.ensures.1 (subst (λ (k : Known). MoreThan c.args.limit (IsReached task k)) (sym h.known) more) in
     let few : c.in_ok-exceeds.field-0 ≡ false = c.if-branch.false in
     absurd (cc))

@@ -15,4 +15,6 @@ returns-in-Err c =
     let wrong = rw c.in-Err.is at c.in_ok-shares.ensures.wrong in
     let there = rw c.in-Err.is at c.in_ok-shares.ensures.there in
     let pools = c.as_slice-pools.ensures in
-    first_wrong task r place mode limits (subst (λ (ps : List PoolLine). AreFitPoolLines task (take place ps)) pools wrong.0) (subst (λ (ps : List PoolLine). place < length ps) pools there) (subst (λ (ps : List PoolLine). IfSome (slice_get ps place) (λ pool. is_fit_pool task (take place ps) pool ≡ false)) pools wrong.1)
+    first_wrong task r place mode limits (subst (λ (ps : List PoolLine). AreFitPoolLines task (take place ps)) pools wrong.0)
+    (subst (λ (ps : List PoolLine). place < length ps) pools there)
+    (subst (λ (ps : List PoolLine). IfSome (slice_get ps place) (λ pool. is_fit_pool task (take place ps) pool ≡ false)) pools wrong.1)

@@ -12,7 +12,8 @@ use Rattle.replay_check.proofs.head.streams_of.Goals.{After-any}
 module _ (c : After-any) where
   was_before : c.any.result ≡ list_any (λ s. s == c.in-Some.stream) c.loop-name.served.items
   was_before =
-      any_from_yields_List (λ s. s == c.in-Some.stream) _ _ c.any.result c.any.ensures.ran (YieldsList-from_slice c.deref.result.now c.iter.ensures.rest) (λ x b q k. search (rules, tests))
+      any_from_yields_List (λ s. s == c.in-Some.stream) _ _ c.any.result c.any.ensures.ran
+      (YieldsList-from_slice c.deref.result.now c.iter.ensures.rest) (λ x b q k. search (rules, tests))
       ∙ ap (list_any (λ s. s == c.in-Some.stream)) c.deref.ensures.value
 
   named : stream_named c.args.task.now c.name-item.result ≡ Some c.in-Some.stream
@@ -31,12 +32,17 @@ loop-name-init c =
 pub returns-in_default-clause-none : goal.returns-in_default-clause-none
 returns-in_default-clause-none c =
     let none : c.stream_named.result ≡ None = c.in_default.is in
-    c.loop-name.invariant.rest ∙ no_stream c.args.task.now c.loop-name.served.items c.args.names.now c.loop-name.name-index c.name-item.result c.loop-name-test.true c.name-item.is (ap (stream_named c.args.task.now) (sym c.bytes.ensures) ∙ sym c.stream_named.ensures ∙ none)
+    c.loop-name.invariant.rest
+    ∙ no_stream c.args.task.now c.loop-name.served.items c.args.names.now c.loop-name.name-index c.name-item.result
+    c.loop-name-test.true c.name-item.is
+    (ap (stream_named c.args.task.now) (sym c.bytes.ensures) ∙ sym c.stream_named.ensures ∙ none)
 
 pub returns-then-any-clause-none : goal.returns-then-any-clause-none
 returns-then-any-clause-none c =
     let a = (goal.at.returns-then-any-clause-none c).After-any in
-    c.loop-name.invariant.rest ∙ stream_again c.args.task.now c.loop-name.served.items c.args.names.now c.loop-name.name-index c.in-Some.stream c.name-item.result c.loop-name-test.true c.name-item.is (named a) (sym (was_before a) ∙ c.if-any.true)
+    c.loop-name.invariant.rest
+    ∙ stream_again c.args.task.now c.loop-name.served.items c.args.names.now c.loop-name.name-index c.in-Some.stream c.name-item.result
+    c.loop-name-test.true c.name-item.is (named a) (sym (was_before a) ∙ c.if-any.true)
 
 pub loop-name-preserved : goal.loop-name-preserved
 loop-name-preserved c =
@@ -65,5 +71,8 @@ pub returns-clause-some : goal.returns-clause-some
 returns-clause-some c =
     let n = c.loop-name.name-index in
     let names = c.args.names.now in
-    let past : length names ≤ n = omega (arith, c.loop-name-test.false) in
-    (c.loop-name.invariant.rest ∙ ap (are_new c.args.task.now c.loop-name.served.items) (drop_all n names past), c.loop-name.invariant.streams ∙ ap (filter_map (stream_named c.args.task.now)) (take_all n names past), c.loop-name.invariant.served)
+    let past : length names ≤ n = omega (arith, c.loop-name-test.false) in (
+      c.loop-name.invariant.rest ∙ ap (are_new c.args.task.now c.loop-name.served.items) (drop_all n names past),
+      c.loop-name.invariant.streams ∙ ap (filter_map (stream_named c.args.task.now)) (take_all n names past),
+      c.loop-name.invariant.served,
+    )

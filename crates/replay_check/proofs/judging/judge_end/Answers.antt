@@ -14,35 +14,49 @@ pub returns-in-Holds : goal.returns-in-Holds
 returns-in-Holds c =
     let b = c.args.bounds.now in
     let r = c.args.report.now in
-    let found = subst (IsFound (limits_by b) c.args.limit b.task.now c.as_slice-entries.result.now r.outcome) c.in-Holds.is c.in_ok-judge_outcome.ensures in
-    right_end b r c.args.limit c.requires.bounds c.requires.head c.requires.limits c.args.standing.now c.requires.standing (subst (λ (es : List Entry). IsFound (limits_by b) c.args.limit b.task.now es r.outcome finding.Holds) c.as_slice-entries.ensures found)
+    let found =
+    subst (IsFound (limits_by b) c.args.limit b.task.now c.as_slice-entries.result.now r.outcome) c.in-Holds.is
+    c.in_ok-judge_outcome.ensures in
+    right_end b r c.args.limit c.requires.bounds c.requires.head c.requires.limits c.args.standing.now c.requires.standing
+    (subst (λ (es : List Entry). IsFound (limits_by b) c.args.limit b.task.now es r.outcome finding.Holds) c.as_slice-entries.ensures
+    found)
 
 pub returns-in-Open : goal.returns-in-Open
 returns-in-Open c =
     let b = c.args.bounds.now in
     let r = c.args.report.now in
-    let found = subst (IsFound (limits_by b) c.args.limit b.task.now c.as_slice-entries.result.now r.outcome) c.in-Open.is c.in_ok-judge_outcome.ensures in
-    open_end b r c.args.limit c.requires.bounds c.requires.head c.requires.limits c.args.standing.now c.requires.standing (subst (λ (es : List Entry). IsFound (limits_by b) c.args.limit b.task.now es r.outcome finding.Open) c.as_slice-entries.ensures found)
+    let found =
+    subst (IsFound (limits_by b) c.args.limit b.task.now c.as_slice-entries.result.now r.outcome) c.in-Open.is
+    c.in_ok-judge_outcome.ensures in
+    open_end b r c.args.limit c.requires.bounds c.requires.head c.requires.limits c.args.standing.now c.requires.standing
+    (subst (λ (es : List Entry). IsFound (limits_by b) c.args.limit b.task.now es r.outcome finding.Open) c.as_slice-entries.ensures
+    found)
 
 module _ (c : In-Breaks) where
-  found : IsFound (limits_by c.args.bounds.now) c.args.limit c.args.bounds.now.task.now c.args.report.now.entries c.args.report.now.outcome (finding.Breaks c.in-Breaks.line c.in-Breaks.kind)
+  found : IsFound (limits_by c.args.bounds.now) c.args.limit c.args.bounds.now.task.now c.args.report.now.entries c.args.report.now.outcome
+      (finding.Breaks c.in-Breaks.line c.in-Breaks.kind)
   found =
       let b = c.args.bounds.now in
       let r = c.args.report.now in
-      let here = subst (IsFound (limits_by b) c.args.limit b.task.now c.as_slice-entries.result.now r.outcome) c.in-Breaks.is c.in_ok-judge_outcome.ensures in
-      subst (λ (es : List Entry). IsFound (limits_by b) c.args.limit b.task.now es r.outcome (finding.Breaks c.in-Breaks.line c.in-Breaks.kind)) c.as_slice-entries.ensures here
+      let here = subst (IsFound (limits_by b) c.args.limit b.task.now c.as_slice-entries.result.now r.outcome) c.in-Breaks.is
+      c.in_ok-judge_outcome.ensures in
+      subst (λ (es : List Entry).
+      IsFound (limits_by b) c.args.limit b.task.now es r.outcome (finding.Breaks c.in-Breaks.line c.in-Breaks.kind))
+      c.as_slice-entries.ensures here
 
   long : length c.as_slice-entries.result.now ≡ length c.args.report.now.entries
   long = ap length c.as_slice-entries.ensures
 
   few : c.len.result + 3 + length c.as_slice-entries.result.now + c.in-Breaks.line < 2 ^ 31
   few =
-      let most = end_line_few c.args.bounds.now c.args.report.now c.args.limit c.requires.bounds c.requires.head c.requires.limits c.args.standing.now c.requires.standing c.in-Breaks.line c.in-Breaks.kind found c.requires.lines in
+      let most = end_line_few c.args.bounds.now c.args.report.now c.args.limit c.requires.bounds c.requires.head c.requires.limits
+      c.args.standing.now c.requires.standing c.in-Breaks.line c.in-Breaks.kind found c.requires.lines in
       omega (arith, most, c.len.ensures, long)
 
   line_is : c.len.result + 3 + length c.as_slice-entries.result.now + c.in-Breaks.line ≡ outcome_line c.args.report.now + c.in-Breaks.line
   line_is =
-      let at = outcome_at c.args.bounds.now c.args.report.now c.args.limit c.requires.bounds c.requires.head c.requires.limits c.args.standing.now c.requires.standing in
+      let at = outcome_at c.args.bounds.now c.args.report.now c.args.limit c.requires.bounds c.requires.head c.requires.limits
+      c.args.standing.now c.requires.standing in
       omega (arith, at, c.len.ensures, long)
 
 pub invalid-requires : goal.invalid-requires
@@ -56,5 +70,7 @@ returns-in-Breaks c =
     let b = c.args.bounds.now in
     let r = c.args.report.now in
     let at = (goal.at.returns-in-Breaks c).In-Breaks in
-    let wrong = wrong_end b r c.args.limit c.requires.bounds c.requires.head c.requires.limits c.args.standing.now c.requires.standing c.in-Breaks.line c.in-Breaks.kind (found at) in
+    let wrong =
+    wrong_end b r c.args.limit c.requires.bounds c.requires.head c.requires.limits c.args.standing.now c.requires.standing
+    c.in-Breaks.line c.in-Breaks.kind (found at) in
     subst (IsReportVerdict c.args.limit b.task.now r) (sym (c.invalid.ensures ∙ ap (λ n. Invalid n c.in-Breaks.kind) (line_is at))) wrong

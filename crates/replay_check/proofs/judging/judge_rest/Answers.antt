@@ -17,7 +17,8 @@ module _ (c : In-Breaks) where
 pub invalid-requires : goal.invalid-requires
 invalid-requires c =
     let at = (goal.at.invalid-requires c).In-Breaks in
-    let few = entry_line_few c.args.bounds.now c.args.report.now c.args.limit c.requires.bounds c.requires.head c.requires.limits c.in-Breaks.place c.in-Breaks.kind (wrong at) in
+    let few = entry_line_few c.args.bounds.now c.args.report.now c.args.limit c.requires.bounds c.requires.head c.requires.limits
+    c.in-Breaks.place c.in-Breaks.kind (wrong at) in
     let count = report_count c.args.report.now in
     omega (arith, few, count, c.requires.lines, c.len.ensures)
 
@@ -26,5 +27,7 @@ returns-in-Breaks c =
     let b = c.args.bounds.now in
     let r = c.args.report.now in
     let at = (goal.at.returns-in-Breaks c).In-Breaks in
-    let found = entry_found b r c.args.limit c.requires.bounds c.requires.head c.requires.limits c.in-Breaks.place c.in-Breaks.kind (wrong at) in
-    subst (IsReportVerdict c.args.limit b.task.now r) (sym (c.invalid.ensures ∙ ap (λ n. Invalid (n + 3 + c.in-Breaks.place) c.in-Breaks.kind) c.len.ensures)) found
+    let found =
+    entry_found b r c.args.limit c.requires.bounds c.requires.head c.requires.limits c.in-Breaks.place c.in-Breaks.kind (wrong at) in
+    subst (IsReportVerdict c.args.limit b.task.now r)
+    (sym (c.invalid.ensures ∙ ap (λ n. Invalid (n + 3 + c.in-Breaks.place) c.in-Breaks.kind) c.len.ensures)) found

@@ -17,7 +17,10 @@ returns-then-shown-due-clause-none c =
     let shown = c.args.shown.now in
     let due = c.args.due.now in
     let long = c.if-shown-due.true in
-    same_lists shown due long (λ k d lt. sym (unwrap_or-slice_get shown k d) ∙ ap (λ o. unwrap_or o d) (c.loop-place.invariant k (omega (arith, lt, long, c.min-common.ensures, c.loop-place-test.false))) ∙ unwrap_or-slice_get due k d)
+    same_lists shown due long (λ k d lt.
+    sym (unwrap_or-slice_get shown k d)
+    ∙ ap (λ o. unwrap_or o d) (c.loop-place.invariant k (omega (arith, lt, long, c.min-common.ensures, c.loop-place-test.false)))
+    ∙ unwrap_or-slice_get due k d)
 
 pub returns-else-shown-due-clause-some : goal.returns-else-shown-due-clause-some
 returns-else-shown-due-clause-some c =

@@ -22,10 +22,12 @@ returns-then-not-holds-clause-said c =
     let p = c.args.plan.now in
     let known = c.args.ledger.now.facts.known in
     let coherent = subst IsCoherent c.requires.ledger.known c.args.ledger.now.facts.coherent in
-    let run : IsRunOf task p.entries.now p.calls.now c.in-Ends.run' = rw c.in-Ends.is at (c.in_ok-place.ensures p.entries.now c.requires.ledger.known) in
+    let run : IsRunOf task p.entries.now p.calls.now c.in-Ends.run' =
+    rw c.in-Ends.is at (c.in_ok-place.ensures p.entries.now c.requires.ledger.known) in
     let over : c.holds.result ≡ false = search (rules, tests) in
     let value = ap (is_true task.domain known c.in-Ends.run'.state task.problem.goal) (sym c.new-env.ensures) ∙ sym c.holds.ensures.value in
-    goal_missed c.args.bounds.now.version task c.requires.bounds.fit p.entries.now coherent p.calls.now p.from.now c.in-Ends.run' run p.cost (λ reached.
+    goal_missed c.args.bounds.now.version task c.requires.bounds.fit p.entries.now coherent p.calls.now p.from.now c.in-Ends.run' run p.cost
+    (λ reached.
     let is = subst (λ (k : Known). IsGoal task k c.in-Ends.run'.state) (sym c.requires.ledger.known) reached in
     let both : true ≡ false = sym is ∙ value ∙ over in
     absurd (cc))
@@ -36,11 +38,16 @@ returns-then-not-costs-clause-said c =
     let p = c.args.plan.now in
     let known = c.args.ledger.now.facts.known in
     let coherent = subst IsCoherent c.requires.ledger.known c.args.ledger.now.facts.coherent in
-    let run : IsRunOf task p.entries.now p.calls.now c.in-Ends.run' = rw c.in-Ends.is at (c.in_ok-place.ensures p.entries.now c.requires.ledger.known) in
+    let run : IsRunOf task p.entries.now p.calls.now c.in-Ends.run' =
+    rw c.in-Ends.is at (c.in_ok-place.ensures p.entries.now c.requires.ledger.known) in
     let over : c.holds.result ≡ true = search (rules, tests) in
-    let reached = subst (λ (k : Known). IsGoal task k c.in-Ends.run'.state) c.requires.ledger.known (ap (is_true task.domain known c.in-Ends.run'.state task.problem.goal) (sym c.new-env.ensures) ∙ sym c.holds.ensures.value ∙ over) in
+    let reached =
+    subst (λ (k : Known). IsGoal task k c.in-Ends.run'.state) c.requires.ledger.known
+    (ap (is_true task.domain known c.in-Ends.run'.state task.problem.goal) (sym c.new-env.ensures) ∙ sym c.holds.ensures.value
+    ∙ over) in
     let few : p.cost < 2 ^ 64 = search (rules, tests) in
-    costs_other c.args.bounds.now.version task c.requires.bounds.fit p.entries.now coherent p.calls.now p.from.now c.in-Ends.run' run p.cost few reached (λ same.
+    costs_other c.args.bounds.now.version task c.requires.bounds.fit p.entries.now coherent p.calls.now p.from.now c.in-Ends.run' run p.cost
+    few reached (λ same.
     let right : c.costs.result ≡ true = c.costs.ensures.1 same in
     let wrong : c.costs.result ≡ false = search (rules, tests) in
     absurd (cc))
@@ -51,8 +58,14 @@ judge_origins-requires-clause-plan c =
     let p = c.args.plan.now in
     let known = c.args.ledger.now.facts.known in
     let coherent = subst IsCoherent c.requires.ledger.known c.args.ledger.now.facts.coherent in
-    let run : IsRunOf task p.entries.now p.calls.now c.in-Ends.run' = rw c.in-Ends.is at (c.in_ok-place.ensures p.entries.now c.requires.ledger.known) in
+    let run : IsRunOf task p.entries.now p.calls.now c.in-Ends.run' =
+    rw c.in-Ends.is at (c.in_ok-place.ensures p.entries.now c.requires.ledger.known) in
     let over : c.holds.result ≡ true = search (rules, tests) in
-    let reached = subst (λ (k : Known). IsGoal task k c.in-Ends.run'.state) c.requires.ledger.known (ap (is_true task.domain known c.in-Ends.run'.state task.problem.goal) (sym c.new-env.ensures) ∙ sym c.holds.ensures.value ∙ over) in
+    let reached =
+    subst (λ (k : Known). IsGoal task k c.in-Ends.run'.state) c.requires.ledger.known
+    (ap (is_true task.domain known c.in-Ends.run'.state task.problem.goal) (sym c.new-env.ensures) ∙ sym c.holds.ensures.value
+    ∙ over) in
     let same : c.in-Ends.run'.cost ≡ Some p.cost = c.costs.ensures.0 (search (rules, tests)) in
-    subst (IsPlanOf task p.entries.now p.calls.now p.cost) (sym c.as_slice.ensures.value) (plan_run c.args.bounds.now.version task c.requires.bounds.fit p.entries.now coherent p.calls.now p.from.now c.in-Ends.run' run p.cost reached same)
+    subst (IsPlanOf task p.entries.now p.calls.now p.cost) (sym c.as_slice.ensures.value)
+    (plan_run c.args.bounds.now.version task c.requires.bounds.fit p.entries.now coherent p.calls.now p.from.now c.in-Ends.run' run
+    p.cost reached same)

@@ -15,4 +15,6 @@ pub returns : goal.returns
 returns c =
     let was : c.args.fields.now ≡ c.in-Some.field.now ∷ c.next.new.self = c.in-Some.ensures in
     let spells : spelled c.in-Some-word_of.word ≡ c.in-Some.field.now = c.in-Some-word_of.ensures in
-    IfOk-weaker c.line_of_word.result _ _ (λ found finds. of_word c.args.version c.in-Some-word_of.word c.in-Some.field.now c.next.new.self c.args.fields.now found was spells finds) c.line_of_word.ensures
+    IfOk-weaker c.line_of_word.result _ _ (λ found finds.
+    of_word c.args.version c.in-Some-word_of.word c.in-Some.field.now c.next.new.self c.args.fields.now found was spells finds)
+    c.line_of_word.ensures

@@ -8,5 +8,7 @@ use Rattle.report_reader.proofs.body_reader.body_in.Goals as goal
 pub returns : goal.returns
 returns c =
     let v = c.args.version in
-    let stops : Stops (entries v) c.loop-entries.lines c.part_in.new.lines = subst (λ f. PartReads (entries v) (IsReportPart v) part_lines f c.loop-entries.lines c.part_in.new.lines) c.in_default.is c.in_ok-part.ensures in
+    let stops : Stops (entries v) c.loop-entries.lines c.part_in.new.lines =
+    subst (λ f. PartReads (entries v) (IsReportPart v) part_lines f c.loop-entries.lines c.part_in.new.lines) c.in_default.is
+    c.in_ok-part.ensures in
     front_stop v c.loop-entries.entries.items c.args.lines.now c.loop-entries.lines c.part_in.new.lines c.loop-entries.invariant stops

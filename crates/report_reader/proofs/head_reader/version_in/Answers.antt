@@ -14,7 +14,8 @@ small v (inr e) = omega (arith, e)
 
 pub returns-then-version-eq0 : goal.returns-then-version-eq0
 returns-then-version-eq0 c = λ v rest is e.
-    let taken : (c.in_ok-version.version ≤ 2) × (decimal c.in_ok-version.version ∷ c.number_upto.new.self ≡ c.args.fields.now) = c.in_ok-version.ensures in
+    let taken : (c.in_ok-version.version ≤ 2) × (decimal c.in_ok-version.version ∷ c.number_upto.new.self ≡ c.args.fields.now) =
+    c.in_ok-version.ensures in
     let there : decimal v ≡ decimal c.in_ok-version.version = cc (taken.1) in
     let low = small v is in
     let same = decimal_injective v c.in_ok-version.version (omega arith) (omega (arith, taken.0)) there in

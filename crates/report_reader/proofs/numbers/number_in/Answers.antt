@@ -24,10 +24,13 @@ returns-in_default c = λ n lt is.
     absurd (c.in_default.ensures.cases.0 (digits_are_text c.args.field.now digits))
 
 pub returns-in_default-parse : goal.returns-in_default-parse
-returns-in_default-parse c = unparsed c.args.field.now c.in-Ok.text.now c.in_default-parse.field-0 c.parse.result c.in-Ok.ensures.cases.0 c.parse.ensures.value.0 c.in_default-parse.is
+returns-in_default-parse c =
+    unparsed c.args.field.now c.in-Ok.text.now c.in_default-parse.field-0 c.parse.result c.in-Ok.ensures.cases.0 c.parse.ensures.value.0
+    c.in_default-parse.is
 
 pub returns : goal.returns
 returns c =
     let digits : list_all is_ascii_digit c.args.field.now ≡ true = search rules in
     let no_zero : has_needless_zero c.args.field.now ≡ false = search rules in
-    written c.args.field.now c.in-Ok.text.now c.in-Ok-parse.number c.parse.result c.in-Ok.ensures.cases.0 no_zero digits c.parse.ensures.value.0 c.in-Ok-parse.is
+    written c.args.field.now c.in-Ok.text.now c.in-Ok-parse.number c.parse.result c.in-Ok.ensures.cases.0 no_zero digits
+    c.parse.ensures.value.0 c.in-Ok-parse.is

@@ -10,6 +10,9 @@ pub loop-origins-preserved : goal.loop-origins-preserved
 loop-origins-preserved c =
     let F = IsFormedOrigin c.args.version in
     let L = from_line c.args.version in
-    let took : TakesLine F L (Some c.in-Some.origin) c.loop-origins.lines c.next_origin.new.lines = subst (λ f. TakesLine F L f c.loop-origins.lines c.next_origin.new.lines) c.in-Some.is c.in_ok-origin.ensures in
+    let took : TakesLine F L (Some c.in-Some.origin) c.loop-origins.lines c.next_origin.new.lines =
+    subst (λ f. TakesLine F L f c.loop-origins.lines c.next_origin.new.lines) c.in-Some.is c.in_ok-origin.ensures in
     let items : c.push.new.self.items ≡ c.loop-origins.origins.items ++ c.in-Some.origin ∷ [] = search rules in
-    subst (λ xs. TakesMany F L (length xs) xs c.args.lines.now c.next_origin.new.lines) (sym items) (many_push F L c.loop-origins.origins.items c.in-Some.origin c.args.lines.now c.loop-origins.lines c.next_origin.new.lines c.loop-origins.invariant took)
+    subst (λ xs. TakesMany F L (length xs) xs c.args.lines.now c.next_origin.new.lines) (sym items)
+    (many_push F L c.loop-origins.origins.items c.in-Some.origin c.args.lines.now c.loop-origins.lines c.next_origin.new.lines
+    c.loop-origins.invariant took)

@@ -8,8 +8,10 @@ returns-then-bars-ge-MOST_TUPLES c =
 
 pub returns-then-many-bars-ne0 : goal.returns-then-many-bars-ne0
 returns-then-many-bars-ne0 c =
-    no_parts c.args.version c.bars_of-bars.result c.args.fields.now c.len.result c.bars_of-bars.ensures.bars c.len.ensures c.if-many-bars-ne0.true
+    no_parts c.args.version c.bars_of-bars.result c.args.fields.now c.len.result c.bars_of-bars.ensures.bars c.len.ensures
+    c.if-many-bars-ne0.true
 
 pub returns-then-bars-gt0 : goal.returns-then-bars-gt0
 returns-then-bars-gt0 c =
-    no_wide c.args.version c.bars_of-bars.result c.args.fields.now c.len.result c.bars_of-bars.ensures.bars c.len.ensures c.if-many-bars-ne0.false c.if-width-eq0.true c.if-bars-gt0.true
+    no_wide c.args.version c.bars_of-bars.result c.args.fields.now c.len.result c.bars_of-bars.ensures.bars c.len.ensures
+    c.if-many-bars-ne0.false c.if-width-eq0.true c.if-bars-gt0.true

@@ -21,10 +21,20 @@ returns-in_default-2 c =
     let f = c.in-Some.field-0 in
     let l = c.in-Some-next_limits.field-0 in
     let first_taken : TakesLine IsFirst first_of (Some f) c.args.lines.now c.next_first.new.lines = c.in-Some.ensures in
-    let limits_taken : TakesLine IsLimits limits_line_of (Some l) c.next_first.new.lines c.next_limits.new.lines = c.in-Some-next_limits.ensures in
-    let pools_taken : TakesAll IsFormedPool pool_line c.in_ok-pools.pools c.next_limits.new.lines c.pools_in.new.lines = c.in_ok-pools.ensures in
-    let head : HasHead f l c.in_ok-pools.pools c.args.lines.now c.pools_in.new.lines = record { second = c.next_first.new.lines; third = c.next_limits.new.lines; first_line = first_taken; limits_line = limits_taken; pool_lines = pools_taken } in
-    let stops : Stops (entries f.version) c.pools_in.new.lines c.body_in.new.lines = subst (λ b. PartReads (entries f.version) (IsBody f.version) body_lines b c.pools_in.new.lines c.body_in.new.lines) c.in_default-2.is c.in_ok-entries.ensures in
+    let limits_taken : TakesLine IsLimits limits_line_of (Some l) c.next_first.new.lines c.next_limits.new.lines =
+    c.in-Some-next_limits.ensures in
+    let pools_taken : TakesAll IsFormedPool pool_line c.in_ok-pools.pools c.next_limits.new.lines c.pools_in.new.lines =
+    c.in_ok-pools.ensures in
+    let head : HasHead f l c.in_ok-pools.pools c.args.lines.now c.pools_in.new.lines = record {
+      second = c.next_first.new.lines;
+      third = c.next_limits.new.lines;
+      first_line = first_taken;
+      limits_line = limits_taken;
+      pool_lines = pools_taken;
+    } in
+    let stops : Stops (entries f.version) c.pools_in.new.lines c.body_in.new.lines =
+    subst (λ b. PartReads (entries f.version) (IsBody f.version) body_lines b c.pools_in.new.lines c.body_in.new.lines)
+    c.in_default-2.is c.in_ok-entries.ensures in
     head_then f l c.in_ok-pools.pools c.args.lines.now c.pools_in.new.lines c.body_in.new.lines head stops
 
 pub returns-in_default-3 : goal.returns-in_default-3
@@ -33,12 +43,25 @@ returns-in_default-3 c =
     let l = c.in-Some-next_limits.field-0 in
     let b = c.in-Some-2.field-0 in
     let first_taken : TakesLine IsFirst first_of (Some f) c.args.lines.now c.next_first.new.lines = c.in-Some.ensures in
-    let limits_taken : TakesLine IsLimits limits_line_of (Some l) c.next_first.new.lines c.next_limits.new.lines = c.in-Some-next_limits.ensures in
-    let pools_taken : TakesAll IsFormedPool pool_line c.in_ok-pools.pools c.next_limits.new.lines c.pools_in.new.lines = c.in_ok-pools.ensures in
-    let head : HasHead f l c.in_ok-pools.pools c.args.lines.now c.pools_in.new.lines = record { second = c.next_first.new.lines; third = c.next_limits.new.lines; first_line = first_taken; limits_line = limits_taken; pool_lines = pools_taken } in
-    let body : PartReads (entries f.version) (IsBody f.version) body_lines (Some b) c.pools_in.new.lines c.body_in.new.lines = subst (λ x. PartReads (entries f.version) (IsBody f.version) body_lines x c.pools_in.new.lines c.body_in.new.lines) c.in-Some-2.is c.in_ok-entries.ensures in
-    let stops : Stops (ending_place f.version b.ending) c.body_in.new.lines c.outcome_in.new.lines = subst (λ o. PartReads (ending_place f.version b.ending) (IsOutcomeOf f.version b.ending) (outcome_rest f.version) o c.body_in.new.lines c.outcome_in.new.lines) c.in_default-3.is c.in_ok-outcome.ensures in
-    head_then f l c.in_ok-pools.pools c.args.lines.now c.pools_in.new.lines c.outcome_in.new.lines head (body_then f.version b c.pools_in.new.lines c.body_in.new.lines c.outcome_in.new.lines body.0 body.1 stops)
+    let limits_taken : TakesLine IsLimits limits_line_of (Some l) c.next_first.new.lines c.next_limits.new.lines =
+    c.in-Some-next_limits.ensures in
+    let pools_taken : TakesAll IsFormedPool pool_line c.in_ok-pools.pools c.next_limits.new.lines c.pools_in.new.lines =
+    c.in_ok-pools.ensures in
+    let head : HasHead f l c.in_ok-pools.pools c.args.lines.now c.pools_in.new.lines = record {
+      second = c.next_first.new.lines;
+      third = c.next_limits.new.lines;
+      first_line = first_taken;
+      limits_line = limits_taken;
+      pool_lines = pools_taken;
+    } in
+    let body : PartReads (entries f.version) (IsBody f.version) body_lines (Some b) c.pools_in.new.lines c.body_in.new.lines =
+    subst (λ x. PartReads (entries f.version) (IsBody f.version) body_lines x c.pools_in.new.lines c.body_in.new.lines) c.in-Some-2.is
+    c.in_ok-entries.ensures in
+    let stops : Stops (ending_place f.version b.ending) c.body_in.new.lines c.outcome_in.new.lines =
+    subst (λ o. PartReads (ending_place f.version b.ending) (IsOutcomeOf f.version b.ending)
+    (outcome_rest f.version) o c.body_in.new.lines c.outcome_in.new.lines) c.in_default-3.is c.in_ok-outcome.ensures in
+    head_then f l c.in_ok-pools.pools c.args.lines.now c.pools_in.new.lines c.outcome_in.new.lines head
+    (body_then f.version b c.pools_in.new.lines c.body_in.new.lines c.outcome_in.new.lines body.0 body.1 stops)
 
 pub returns : goal.returns
 returns c =
@@ -46,9 +69,23 @@ returns c =
     let l = c.in-Some-next_limits.field-0 in
     let b = c.in-Some-2.field-0 in
     let first_taken : TakesLine IsFirst first_of (Some f) c.args.lines.now c.next_first.new.lines = c.in-Some.ensures in
-    let limits_taken : TakesLine IsLimits limits_line_of (Some l) c.next_first.new.lines c.next_limits.new.lines = c.in-Some-next_limits.ensures in
-    let pools_taken : TakesAll IsFormedPool pool_line c.in_ok-pools.pools c.next_limits.new.lines c.pools_in.new.lines = c.in_ok-pools.ensures in
-    let head : HasHead f l c.in_ok-pools.pools c.args.lines.now c.pools_in.new.lines = record { second = c.next_first.new.lines; third = c.next_limits.new.lines; first_line = first_taken; limits_line = limits_taken; pool_lines = pools_taken } in
-    let body : PartReads (entries f.version) (IsBody f.version) body_lines (Some b) c.pools_in.new.lines c.body_in.new.lines = subst (λ x. PartReads (entries f.version) (IsBody f.version) body_lines x c.pools_in.new.lines c.body_in.new.lines) c.in-Some-2.is c.in_ok-entries.ensures in
-    let outcome : PartReads (ending_place f.version b.ending) (IsOutcomeOf f.version b.ending) (outcome_rest f.version) (Some c.in-Some-3.outcome) c.body_in.new.lines c.outcome_in.new.lines = subst (λ o. PartReads (ending_place f.version b.ending) (IsOutcomeOf f.version b.ending) (outcome_rest f.version) o c.body_in.new.lines c.outcome_in.new.lines) c.in-Some-3.is c.in_ok-outcome.ensures in
-    report_whole f l c.in_ok-pools.pools b c.in-Some-3.outcome _ c.args.lines.now c.pools_in.new.lines c.body_in.new.lines c.outcome_in.new.lines head body outcome refl
+    let limits_taken : TakesLine IsLimits limits_line_of (Some l) c.next_first.new.lines c.next_limits.new.lines =
+    c.in-Some-next_limits.ensures in
+    let pools_taken : TakesAll IsFormedPool pool_line c.in_ok-pools.pools c.next_limits.new.lines c.pools_in.new.lines =
+    c.in_ok-pools.ensures in
+    let head : HasHead f l c.in_ok-pools.pools c.args.lines.now c.pools_in.new.lines = record {
+      second = c.next_first.new.lines;
+      third = c.next_limits.new.lines;
+      first_line = first_taken;
+      limits_line = limits_taken;
+      pool_lines = pools_taken;
+    } in
+    let body : PartReads (entries f.version) (IsBody f.version) body_lines (Some b) c.pools_in.new.lines c.body_in.new.lines =
+    subst (λ x. PartReads (entries f.version) (IsBody f.version) body_lines x c.pools_in.new.lines c.body_in.new.lines) c.in-Some-2.is
+    c.in_ok-entries.ensures in
+    let outcome : PartReads (ending_place f.version b.ending) (IsOutcomeOf f.version b.ending)
+    (outcome_rest f.version) (Some c.in-Some-3.outcome) c.body_in.new.lines c.outcome_in.new.lines =
+    subst (λ o. PartReads (ending_place f.version b.ending) (IsOutcomeOf f.version b.ending)
+    (outcome_rest f.version) o c.body_in.new.lines c.outcome_in.new.lines) c.in-Some-3.is c.in_ok-outcome.ensures in
+    report_whole f l c.in_ok-pools.pools b c.in-Some-3.outcome _ c.args.lines.now c.pools_in.new.lines c.body_in.new.lines
+    c.outcome_in.new.lines head body outcome refl

@@ -9,7 +9,8 @@ returns c =
     let word : c.extend_from_slice.new.self.items ≡ text ++ codes "pddlstream" = search rules in
     let widened : c.from.result ≡ c.args.version = search rules in
     let number : c.push_number.new.text.items ≡ (text ++ codes "pddlstream") ++ 32 ∷ decimal c.args.version =
-    c.in_ok-push_number.ensures ∙ ap (λ n. c.extend_from_slice.new.self.items ++ 32 ∷ decimal n) widened ∙ ap (λ t. t ++ 32 ∷ decimal c.args.version) word in
+    c.in_ok-push_number.ensures ∙ ap (λ n. c.extend_from_slice.new.self.items ++ 32 ∷ decimal n) widened
+    ∙ ap (λ t. t ++ 32 ∷ decimal c.args.version) word in
     let mode : c.push_field.new.text.items ≡ ((text ++ codes "pddlstream") ++ 32 ∷ decimal c.args.version) ++ 32 ∷ c.args.mode.now =
     c.in_ok-push_field.ensures ∙ ap (λ t. t ++ 32 ∷ c.args.mode.now) number in
     let last : c.push.new.self.items ≡ c.push_field.new.text.items ++ 10 ∷ [] = search rules in

@@ -11,10 +11,13 @@ use Rattle.session_core.proofs.learn.learn_from.Goals.{in-Some+in_ok-learn_answe
 use Rattle.lemmas.proofs.ListTests.{get_some}
 
 here : (c : goal.In-Some)
-    → IsAnswerAt c.args.task.now c.args.asked.now c.args.entries.now c.requires.can c.loop-place.place c.in-Some.number c.index-entries-place.result
+    → IsAnswerAt c.args.task.now c.args.asked.now c.args.entries.now c.requires.can c.loop-place.place c.in-Some.number
+    c.index-entries-place.result
 here c =
-    answer_at c.args.task.now c.args.asked.now c.args.entries.now c.requires.can c.loop-place.place c.in-Some.number c.index-entries-place.result
-    (get_some c.args.entries.now c.loop-place.place c.index-entries-place.result c.loop-place-test.true c.index-entries-place.is) (sym c.answered.ensures ∙ c.in-Some.is)
+    answer_at c.args.task.now c.args.asked.now c.args.entries.now c.requires.can c.loop-place.place c.in-Some.number
+    c.index-entries-place.result
+    (get_some c.args.entries.now c.loop-place.place c.index-entries-place.result c.loop-place-test.true c.index-entries-place.is)
+    (sym c.answered.ensures ∙ c.in-Some.is)
 
 pub overflow_sub-instance : goal.overflow_sub-instance
 overflow_sub-instance c = (here c).some
@@ -25,23 +28,33 @@ bounds-asked-number c =
 
 pub bounds-as_slice-instance : goal.bounds-as_slice-instance
 bounds-as_slice-instance c =
-    let h = answer_at c.args.task.now c.args.asked.now c.args.entries.now c.requires.can c.loop-place.place c.in-Some.number c.index-entries-place.result (get_some c.args.entries.now c.loop-place.place c.index-entries-place.result c.loop-place-test.true c.index-entries-place.is) (sym c.answered.ensures ∙ c.in-Some.is) in
+    let h = answer_at c.args.task.now c.args.asked.now c.args.entries.now c.requires.can c.loop-place.place c.in-Some.number
+    c.index-entries-place.result
+    (get_some c.args.entries.now c.loop-place.place c.index-entries-place.result c.loop-place-test.true c.index-entries-place.is)
+    (sym c.answered.ensures ∙ c.in-Some.is) in
     let i = c.index-asked-number.result in
-    let instance : i ≡ h.request.instance = c.index-asked-number.is ∙ get_or_from_slice_get c.args.asked.now (c.in-Some.number - 1) h.request.instance i h.is in
-    let there : slice_get c.as_slice.result.now i.stream ≡ Some h.request.stream = (λ j. slice_get (c.as_slice.ensures j) (instance j).stream) ∙ h.streamed in
+    let instance : i ≡ h.request.instance =
+    c.index-asked-number.is ∙ get_or_from_slice_get c.args.asked.now (c.in-Some.number - 1) h.request.instance i h.is in
+    let there : slice_get c.as_slice.result.now i.stream ≡ Some h.request.stream =
+    (λ j. slice_get (c.as_slice.ensures j) (instance j).stream) ∙ h.streamed in
     slice_get_within c.as_slice.result.now i.stream h.request.stream there
 
 pub learn_answer-requires : goal.learn_answer-requires
 learn_answer-requires c =
     let task = c.args.task.now in
     let e = c.index-entries-place.result in
-    let h = answer_at task c.args.asked.now c.args.entries.now c.requires.can c.loop-place.place c.in-Some.number e (get_some c.args.entries.now c.loop-place.place e c.loop-place-test.true c.index-entries-place.is) (sym c.answered.ensures ∙ c.in-Some.is) in
+    let h = answer_at task c.args.asked.now c.args.entries.now c.requires.can c.loop-place.place c.in-Some.number e
+    (get_some c.args.entries.now c.loop-place.place e c.loop-place-test.true c.index-entries-place.is)
+    (sym c.answered.ensures ∙ c.in-Some.is) in
     let i = c.index-asked-number.result in
     let s = c.index-as_slice-instance.result in
-    let asked : record { stream = s; instance = i } ≡ h.request = request_read task c.args.asked.now c.args.entries.now c.requires.can c.loop-place.place c.in-Some.number e h i s c.index-asked-number.is (c.index-as_slice-instance.is ∙ ap (λ ss. get_or ss i.stream s) c.as_slice.ensures) in
+    let asked : record { stream = s; instance = i } ≡ h.request =
+    request_read task c.args.asked.now c.args.entries.now c.requires.can c.loop-place.place c.in-Some.number e h i s
+    c.index-asked-number.is (c.index-as_slice-instance.is ∙ ap (λ ss. get_or ss i.stream s) c.as_slice.ensures) in
     subst (λ (a : Asked). MayLearn task c.loop-place.facts.known c.loop-place.queue a e) (sym asked)
     (subst (λ (k : Known). MayLearn task k c.loop-place.queue h.request e) (sym c.loop-place.invariant.known)
-    (subst (λ (ns : List Note). MayLearn task (known_of task (take c.loop-place.place c.args.entries.now)) ns h.request e) (sym c.loop-place.invariant.notes) h.may))
+    (subst (λ (ns : List Note). MayLearn task (known_of task (take c.loop-place.place c.args.entries.now)) ns h.request e)
+    (sym c.loop-place.invariant.notes) h.may))
 
 pub loop-place-preserved : goal.loop-place-preserved
 loop-place-preserved c =
@@ -56,7 +69,9 @@ loop-place-preserved c =
           let h = answer_at task asked entries c.requires.can place w.in-Some.number e at (sym c.answered.ensures ∙ w.in-Some.is) in
           let i = w.index-asked-number.result in
           let s = w.index-as_slice-instance.result in
-          let a : record { stream = s; instance = i } ≡ h.request = request_read task asked entries c.requires.can place w.in-Some.number e h i s w.index-asked-number.is (w.index-as_slice-instance.is ∙ ap (λ ss. get_or ss i.stream s) w.as_slice.ensures) in
+          let a : record { stream = s; instance = i } ≡ h.request =
+          request_read task asked entries c.requires.can place w.in-Some.number e h i s w.index-asked-number.is
+          (w.index-as_slice-instance.is ∙ ap (λ ss. get_or ss i.stream s) w.as_slice.ensures) in
           record {
             known =
                 ap (λ (f : Store). f.known) w.facts-is ∙ w.in_ok-learn_answer.ensures.known

@@ -7,7 +7,8 @@ use Rattle.session_core.proofs.learn.learn_tuples.Given as goal
 -- with the tuples that are left, all is known
 abbrev pub invariant-loop : goal.invariant-loop
 invariant-loop l = record {
-  known : known_with l.task l.facts.known (record { stream = l.stream; instance = l.instance }) (entry.Got 0 (l.tuples - l.counter) l.rest) ≡ known_with l.task l.initial.facts.known (record { stream = l.stream; instance = l.instance }) (entry.Got 0 l.tuples l.values);
+  known : known_with l.task l.facts.known (record { stream = l.stream; instance = l.instance }) (entry.Got 0 (l.tuples - l.counter) l.rest)
+      ≡ known_with l.task l.initial.facts.known (record { stream = l.stream; instance = l.instance }) (entry.Got 0 l.tuples l.values);
   long : length l.rest ≡ (l.tuples - l.counter) * length l.stream.outputs;
   named : All (IsIn l.facts.known.names) l.instance.inputs;
   constants : length l.task.domain.constants ≤ length l.facts.known.names;

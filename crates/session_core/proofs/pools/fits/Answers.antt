@@ -5,8 +5,12 @@ use Rattle.session_core.proofs.pools.fits.Goals as goal
 
 pub returns-then-served-pool : goal.returns-then-served-pool
 returns-then-served-pool c =
-    sym (sym c.loop-pool.invariant ∙ too_many c.args.pools.now c.loop-pool.pool-index c.pool-item.result (streams_of c.args.dues.now) c.loop-pool-test.true c.pool-item.is (omega (arith, c.served.ensures.count, c.if-served-pool.true)))
+    sym (sym c.loop-pool.invariant
+    ∙ too_many c.args.pools.now c.loop-pool.pool-index c.pool-item.result (streams_of c.args.dues.now) c.loop-pool-test.true
+    c.pool-item.is (omega (arith, c.served.ensures.count, c.if-served-pool.true)))
 
 pub loop-pool-preserved : goal.loop-pool-preserved
 loop-pool-preserved c =
-    sym (few_enough c.args.pools.now c.loop-pool.pool-index c.pool-item.result (streams_of c.args.dues.now) c.loop-pool-test.true c.pool-item.is (omega (arith, c.served.ensures.count, c.if-served-pool.false))) ∙ c.loop-pool.invariant
+    sym (few_enough c.args.pools.now c.loop-pool.pool-index c.pool-item.result
+    (streams_of c.args.dues.now) c.loop-pool-test.true c.pool-item.is (omega (arith, c.served.ensures.count, c.if-served-pool.false)))
+    ∙ c.loop-pool.invariant

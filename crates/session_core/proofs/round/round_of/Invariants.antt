@@ -8,5 +8,6 @@ abbrev pub invariant-loop-place : goal.invariant-loop-place
 invariant-loop-place l = record {
   asks : l.asks.items ≡ asks_from l.scene.task.now l.scene.facts.now.known.names l.first (take l.place l.dues);
   instances : l.instances.items ≡ instances_of (take l.place l.dues);
-  cells : l.cells.items ≡ slots_from l.scene.task.now l.scene.facts.now.known.names l.scene.version l.scene.pools.now l.first [] (take l.place l.dues);
+  cells : l.cells.items
+      ≡ slots_from l.scene.task.now l.scene.facts.now.known.names l.scene.version l.scene.pools.now l.first [] (take l.place l.dues);
 }

@@ -14,5 +14,6 @@ returns c =
       version = c.requires.version;
       some_calls = c.requires.some_calls;
       calls = c.requires.calls;
-      pools = subst (AreFitPools task) (sym (ap (map workers_of) c.in_ok-pools.ensures)) (one_pool task pool refl c.requires.some_workers c.requires.workers refl);
+      pools = subst (AreFitPools task) (sym (ap (map workers_of) c.in_ok-pools.ensures))
+          (one_pool task pool refl c.requires.some_workers c.requires.workers refl);
     }

@@ -14,9 +14,11 @@ loop-atom-preserved c =
     let index = c.loop-atom.atom-index in
     let grows = c.number_of.ensures.grows in
     let pushed = c.in_ok-push.ensures.items in (
-      ap (atoms_of new) pushed ∙ numbers_more old new row n atom grows c.loop-atom.invariant.1 c.in_ok-number_of.ensures.number ∙ (λ i. c.loop-atom.invariant.0 i ++ c.atom-item.is i ∷ [])
+      ap (atoms_of new) pushed ∙ numbers_more old new row n atom grows c.loop-atom.invariant.1 c.in_ok-number_of.ensures.number
+          ∙ (λ i. c.loop-atom.invariant.0 i ++ c.atom-item.is i ∷ [])
           ∙ sym (take_more c.args.atoms.now index atom c.loop-atom-test.true),
-      subst (All (λ n. n < length new)) (sym pushed) (known_more old new row n atom grows c.loop-atom.invariant.1 c.in_ok-number_of.ensures.number),
+      subst (All (λ n. n < length new)) (sym pushed)
+          (known_more old new row n atom grows c.loop-atom.invariant.1 c.in_ok-number_of.ensures.number),
       grows_on c.args.numbered.now.keys old new c.loop-atom.invariant.2 grows,
       c.number_of.ensures.distinct,
     )

@@ -10,8 +10,10 @@ pub returns-in_err-name_of-clause-other : goal.returns-in_err-name_of-clause-oth
 returns-in_err-name_of-clause-other c =
     let missed : Only Shape (names_of (view c.args.value.now) ≡ None) c.in_err-name_of.field-0.0 =
     only_weaker Shape _ _ c.in_err-name_of.field-0.0
-    (λ none. ap (option_and_then if_some) (listed-array name_of (view c.args.value.now) c.deref-item-items.result.now c.loop-item.invariant.list
-    ∙ reads_stop (λ v. name_of (view v)) c.deref-item-items.result.now c.loop-item.item-index c.item-item.result _ (omega arith) c.item-item.is none c.loop-item.invariant.reads))
+    (λ none. ap (option_and_then if_some)
+    (listed-array name_of (view c.args.value.now) c.deref-item-items.result.now c.loop-item.invariant.list
+    ∙ reads_stop (λ v. name_of (view v)) c.deref-item-items.result.now c.loop-item.item-index c.item-item.result _
+    (omega arith) c.item-item.is none c.loop-item.invariant.reads))
     c.in_err-name_of.ensures.other in
     search rules
 
@@ -21,5 +23,6 @@ returns-clause-names c =
     listed-array name_of (view c.args.value.now) c.deref-item-items.result.now c.loop-item.invariant.list
     ∙ reads_all (λ v. name_of (view v)) c.deref-item-items.result.now c.loop-item.item-index _ (omega arith) c.loop-item.invariant.reads in
     let some : 1 ≤ length c.loop-item.names.items = grind arith in
-    let whole : names_of (view c.args.value.now) ≡ Some c.loop-item.names.items = ap (option_and_then if_some) all ∙ if_some-filled c.loop-item.names.items some in
+    let whole : names_of (view c.args.value.now) ≡ Some c.loop-item.names.items =
+    ap (option_and_then if_some) all ∙ if_some-filled c.loop-item.names.items some in
     search rules

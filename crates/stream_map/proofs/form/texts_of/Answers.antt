@@ -12,7 +12,8 @@ returns-in_err-text_of-clause-other c =
     let missed : Only Shape (listed as_str (view c.args.value.now) ≡ None) c.in_err-text_of.field-0.0 =
     only_weaker Shape _ _ c.in_err-text_of.field-0.0
     (λ none. listed-array as_str (view c.args.value.now) c.deref-item-items.result.now c.loop-item.invariant.list
-    ∙ reads_stop (λ v. as_str (view v)) c.deref-item-items.result.now c.loop-item.item-index c.item-item.result _ (omega arith) c.item-item.is none c.loop-item.invariant.reads)
+    ∙ reads_stop (λ v. as_str (view v)) c.deref-item-items.result.now c.loop-item.item-index c.item-item.result _
+    (omega arith) c.item-item.is none c.loop-item.invariant.reads)
     c.in_err-text_of.ensures.other in
     search rules
 

@@ -31,18 +31,31 @@ loop-text-preserved c =
     let text = shown c.in-Some.text in
     let rest = map shown (into_iter_items c.next.new.self) in
     let items : into_iter_items c.loop-text.text-iterator ≡ c.in-Some.text ∷ into_iter_items c.next.new.self = search rules in
-    let given = each_given (place_of names) c.in-Some.text.streams c.in_ok-streams.streams (ap (each_of (place_of names)) (sym c.as_slice.ensures) ∙ c.in_ok-streams.ensures.places) in
+    let given =
+    each_given (place_of names) c.in-Some.text.streams c.in_ok-streams.streams
+    (ap (each_of (place_of names)) (sym c.as_slice.ensures) ∙ c.in_ok-streams.ensures.places) in
     let first : c.if-grid.first ≡ cond (is_grid text) 16 c.loop-text.next =
-    elim c.if-grid.branch [ then-grid w ↦ w.first-is ∙ ap (λ b. cond b 16 c.loop-text.next) (sym (sym c.is_grid-grid.ensures ∙ w.if-grid.true)) | else-grid w ↦ w.first-is ∙ ap (λ b. cond b 16 c.loop-text.next) (sym (sym c.is_grid-grid.ensures ∙ w.if-grid.false)) ] in
+    elim c.if-grid.branch [
+      | then-grid w ↦
+          w.first-is ∙ ap (λ b. cond b 16 c.loop-text.next) (sym (sym c.is_grid-grid.ensures ∙ w.if-grid.true))
+      | else-grid w ↦ w.first-is ∙ ap (λ b. cond b 16 c.loop-text.next) (sym (sym c.is_grid-grid.ensures ∙ w.if-grid.false))
+    ] in
     let after : c.if-not-grid.next ≡ c.loop-text.next + own_workers text =
     elim c.if-not-grid.branch [
-      | then-not-grid w ↦ w.next-is ∙ ap (λ b. c.loop-text.next + cond b 0 c.in-Some.text.workers) (sym (sym c.is_grid-grid.ensures ∙ w.if-not-grid.true))
-      | else-not-grid w ↦ w.next-is ∙ sym (add-zero c.loop-text.next) ∙ ap (λ b. c.loop-text.next + cond b 0 c.in-Some.text.workers) (sym (sym c.is_grid-grid.ensures ∙ w.if-not-grid.false))
+      | then-not-grid w ↦
+          w.next-is ∙ ap (λ b. c.loop-text.next + cond b 0 c.in-Some.text.workers) (sym (sym c.is_grid-grid.ensures ∙ w.if-not-grid.true))
+      | else-not-grid w ↦
+          w.next-is ∙ sym (add-zero c.loop-text.next)
+          ∙ ap (λ b. c.loop-text.next + cond b 0 c.in-Some.text.workers) (sym (sym c.is_grid-grid.ensures ∙ w.if-not-grid.false))
     ] in
-    let made : PlainPool = record { first = c.if-grid.first; workers = c.in-Some.text.workers; streams = c.in_ok-streams.streams; words = text.run } in
-    let right : made ≡ record { first = cond (is_grid text) 16 c.loop-text.next; workers = text.workers; streams = places_of names text; words = text.run } =
+    let made : PlainPool = record
+    { first = c.if-grid.first; workers = c.in-Some.text.workers; streams = c.in_ok-streams.streams; words = text.run } in
+    let right : made ≡ record
+    { first = cond (is_grid text) 16 c.loop-text.next; workers = text.workers; streams = places_of names text; words = text.run } =
     (λ i. record { first = first i; workers = c.in-Some.text.workers; streams = sym given.0 i; words = text.run }) in
-    let so_far = ap (λ ts. map plain c.loop-text.pools.items ++ numbered names c.loop-text.next (map shown ts)) (sym items) ∙ c.loop-text.invariant.2.pools in (
+    let so_far =
+    ap (λ ts. map plain c.loop-text.pools.items ++ numbered names c.loop-text.next (map shown ts)) (sym items)
+    ∙ c.loop-text.invariant.2.pools in (
       tt,
       tt,
       record {
@@ -53,7 +66,9 @@ loop-text-preserved c =
             ap (λ b. b || list_any (names_unknown names) rest) (sym given.1)
             ∙ ap (λ ts. list_any (names_unknown names) (map shown ts)) (sym items)
             ∙ c.loop-text.invariant.2.known;
-        numbers = (numbers_left text rest (ap (λ ts. list_any has_wrong_number (map shown ts)) (sym items) ∙ c.loop-text.invariant.2.numbers)).1;
-        workers = workers_left c.loop-text.next c.if-not-grid.next text rest (subst (λ ts. c.loop-text.next + sum_by own_workers (map shown ts) ≤ 16) items c.loop-text.invariant.2.workers) after;
+        numbers = (numbers_left text rest
+            (ap (λ ts. list_any has_wrong_number (map shown ts)) (sym items) ∙ c.loop-text.invariant.2.numbers)).1;
+        workers = workers_left c.loop-text.next c.if-not-grid.next text rest
+            (subst (λ ts. c.loop-text.next + sum_by own_workers (map shown ts) ≤ 16) items c.loop-text.invariant.2.workers) after;
       },
     )

@@ -10,8 +10,10 @@ use Rattle.stream_map.proofs.pools.placed_pools.Given as goal
 abbrev pub invariant-loop-text : goal.invariant-loop-text
 invariant-loop-text l =
     (goal.iterator-loop-text).can_next l.text-iterator × (goal.iterator-loop-text).is_finite l.text-iterator × record {
-      pools : map plain l.pools.items ++ numbered l.names l.next (map shown (into_iter_items l.text-iterator)) ≡ numbered l.names 0 (map shown l.fn.texts.items);
-      known : list_any (names_unknown l.names) (map shown (into_iter_items l.text-iterator)) ≡ list_any (names_unknown l.names) (map shown l.fn.texts.items);
+      pools : map plain l.pools.items ++ numbered l.names l.next (map shown (into_iter_items l.text-iterator))
+          ≡ numbered l.names 0 (map shown l.fn.texts.items);
+      known : list_any (names_unknown l.names) (map shown (into_iter_items l.text-iterator))
+          ≡ list_any (names_unknown l.names) (map shown l.fn.texts.items);
       numbers : list_any has_wrong_number (map shown (into_iter_items l.text-iterator)) ≡ false;
       workers : l.next + sum_by own_workers (map shown (into_iter_items l.text-iterator)) ≤ 16;
     }

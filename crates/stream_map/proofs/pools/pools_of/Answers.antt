@@ -1,5 +1,5 @@
 use Rattle.std.proofs.Common.{◌≡◌, ◌<◌, ◌∙◌, sym, ap, subst, length, map, false, Some, None, All, ℕ, List, rules, arith}
-use Rattle.stream_map.specs.Faults.{fault_of, have_wrong_workers, served_fault, places_in}
+use Rattle.stream_map.specs.Faults.{map_fault, have_wrong_workers, served_fault, all_places}
 use Rattle.stream_map.specs.Form.{stream_names}
 use Rattle.stream_map.specs.Served.{streams_in}
 use Rattle.stream_map.specs.Spelled.{shown}
@@ -22,10 +22,10 @@ returns-in-Some-clause-refused c =
     let flat = streams_numbered n c.in_ok-pools.pools.items 0 texts c.in_ok-pools.ensures.pools in
     let count : c.len.result ≡ length n = search rules in
     let right : have_wrong_workers texts ≡ false = search rules in
-    let told : Some c.in-Some.fault ≡ served_fault (length n) (places_in n texts) =
+    let told : Some c.in-Some.fault ≡ served_fault (length n) (all_places n texts) =
     sym c.in-Some.is ∙ c.in_ok-fault.ensures ∙ (λ i. served_fault (count i) ((ap streams_in c.as_slice-2.ensures.value ∙ flat) i)) in
     let fault = fault_is n texts (Some c.in-Some.fault) right c.in_ok-pools.ensures.known told in
-    refused_from (stream_names c.args.task.now) texts c.in-Some.fault (ap (λ ns. fault_of ns texts) (sym c.in_ok-names.ensures) ∙ fault)
+    refused_from (stream_names c.args.task.now) texts c.in-Some.fault (ap (λ ns. map_fault ns texts) (sym c.in_ok-names.ensures) ∙ fault)
 
 pub returns-clause-right : goal.returns-clause-right
 returns-clause-right c =
@@ -34,6 +34,6 @@ returns-clause-right c =
     let flat = streams_numbered n c.in_ok-pools.pools.items 0 texts c.in_ok-pools.ensures.pools in
     let count : c.len.result ≡ length n = search rules in
     let right : have_wrong_workers texts ≡ false = search rules in
-    let told : None ≡ served_fault (length n) (places_in n texts) =
+    let told : None ≡ served_fault (length n) (all_places n texts) =
     sym c.in-None.is ∙ c.in_ok-fault.ensures ∙ (λ i. served_fault (count i) ((ap streams_in c.as_slice-2.ensures.value ∙ flat) i)) in
-    ap (λ ns. fault_of ns texts) (sym c.in_ok-names.ensures) ∙ fault_is n texts None right c.in_ok-pools.ensures.known told
+    ap (λ ns. map_fault ns texts) (sym c.in_ok-names.ensures) ∙ fault_is n texts None right c.in_ok-pools.ensures.known told

@@ -16,11 +16,13 @@ loop-stream-preserved c =
           length-set c.loop-stream.marks.items (get_or ks i 0) _ ∙ c.loop-stream.invariant.count;
       marks = λ before marked. mark_next before ks c.loop-stream.marks.items i within low (c.loop-stream.invariant.marks before marked);
       repeats = λ before marked.
-          let unmarked : get_or c.loop-stream.marks.items (get_or ks i 0) false ≡ false = first_of (search rules, grind (arith, common_steps)) in
+          let unmarked : get_or c.loop-stream.marks.items (get_or ks i 0) false ≡ false =
+          first_of (search rules, grind (arith, common_steps)) in
           let fresh = sym (c.loop-stream.invariant.marks before marked (get_or ks i 0) false low) ∙ unmarked in
           c.loop-stream.invariant.repeats before marked ∙ repeat_more before ks i (get_or ks i 0) within refl fresh;
     }
 
 pub returns-clause-marks : goal.returns-clause-marks
 returns-clause-marks c before marked =
-    marks_end before c.args.streams.now c.loop-stream.marks.items c.loop-stream.stream-index (omega arith) (c.loop-stream.invariant.marks before marked)
+    marks_end before c.args.streams.now c.loop-stream.marks.items c.loop-stream.stream-index
+    (omega arith) (c.loop-stream.invariant.marks before marked)

@@ -7,5 +7,6 @@ abbrev pub invariant-loop-pool : goal.invariant-loop-pool
 invariant-loop-pool l = record {
   count : length l.marks.items ≡ l.count;
   marks : AreMarks (streams_in (take l.pool-index l.pools)) l.marks.items;
-  repeats : has_repeat [] (streams_in l.pools) ≡ has_repeat (streams_in (take l.pool-index l.pools)) (streams_in (drop l.pool-index l.pools));
+  repeats : has_repeat [] (streams_in l.pools)
+      ≡ has_repeat (streams_in (take l.pool-index l.pools)) (streams_in (drop l.pool-index l.pools));
 }

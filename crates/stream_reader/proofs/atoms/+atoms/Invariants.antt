@@ -13,7 +13,8 @@ decreases-check_atom_rows l = count (trees l.items.now)
 
 abbrev pub invariant-check_atom_rows-parts : goal.invariant-check_atom_rows-parts
 invariant-check_atom_rows-parts l = record {
-  faults : first l.fn.so_far (atom_rows_names l.names l.roles l.scope (trees l.items)) ≡ first l.found (atom_rows_names l.names l.roles l.scope (trees l.left));
+  faults : first l.fn.so_far (atom_rows_names l.names l.roles l.scope (trees l.items))
+      ≡ first l.found (atom_rows_names l.names l.roles l.scope (trees l.left));
   smaller : count (trees l.left) ≤ count (trees l.items);
 }
 

@@ -18,4 +18,5 @@ returns-in-Ok c =
 pub returns-in-Err : goal.returns-in-Err
 returns-in-Err c =
     let none : least_fault (form_faults Streams (tree c.args.text.now)) ≡ None = sym c.check_form.ensures ∙ c.in_default.is in
-    of_text (none_is_none (form_faults Streams (tree c.args.text.now)) none) (subst (ReadsNamed c.args.domain.now (tree c.args.text.now)) c.in-Err.is c.in_ok-streams.ensures)
+    of_text (none_is_none (form_faults Streams (tree c.args.text.now)) none)
+    (subst (ReadsNamed c.args.domain.now (tree c.args.text.now)) c.in-Err.is c.in_ok-streams.ensures)

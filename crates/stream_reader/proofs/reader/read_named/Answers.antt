@@ -9,16 +9,24 @@ use Rattle.stream_reader.proofs.reader.read_named.Goals as goal
 pub returns-in-Some-2 : goal.returns-in-Some-2
 returns-in-Some-2 c =
     let none : None ≡ least_fault (plain_names c.in_ok-names.names c.args.domain.now.roles (trees c.body_of-body.result.now)) =
-    subst (λ rs. None ≡ least_fault (plain_names c.in_ok-names.names rs (trees c.body_of-body.result.now))) c.as_slice.ensures (sym c.in_default.is ∙ c.in_ok-fault.ensures) in
+    subst (λ rs. None ≡ least_fault (plain_names c.in_ok-names.names rs (trees c.body_of-body.result.now))) c.as_slice.ensures
+    (sym c.in_default.is ∙ c.in_ok-fault.ensures) in
     let found : AnswersAcyclic c.args.domain.now c.in_ok-streams.streams.items (trees c.body_of-body.result.now) (Some c.in-Some-2.fault) =
-    subst (AnswersAcyclic c.args.domain.now c.in_ok-streams.streams.items (trees c.body_of-body.result.now)) c.in-Some-2.is (subst (λ ss. AnswersAcyclic c.args.domain.now ss (trees c.body_of-body.result.now) c.in_ok-fault-2.field-0) c.as_slice-2.ensures.value c.in_ok-fault-2.ensures) in
-    cycle_fault c.args.domain.now (tree c.args.text.now) (trees c.body_of-body.result.now) c.in_ok-names.names c.body_of-body.ensures c.in_ok-names.ensures c.in_ok-streams.streams.items c.in_ok-streams.ensures c.in-Some-2.fault none found
+    subst (AnswersAcyclic c.args.domain.now c.in_ok-streams.streams.items (trees c.body_of-body.result.now)) c.in-Some-2.is
+    (subst (λ ss. AnswersAcyclic c.args.domain.now ss (trees c.body_of-body.result.now) c.in_ok-fault-2.field-0)
+    c.as_slice-2.ensures.value c.in_ok-fault-2.ensures) in
+    cycle_fault c.args.domain.now (tree c.args.text.now) (trees c.body_of-body.result.now) c.in_ok-names.names c.body_of-body.ensures
+    c.in_ok-names.ensures c.in_ok-streams.streams.items c.in_ok-streams.ensures c.in-Some-2.fault none found
 
 pub returns : goal.returns
 returns c =
     let none : None ≡ least_fault (plain_names c.in_ok-names.names c.args.domain.now.roles (trees c.body_of-body.result.now)) =
-    subst (λ rs. None ≡ least_fault (plain_names c.in_ok-names.names rs (trees c.body_of-body.result.now))) c.as_slice.ensures (sym c.in_default.is ∙ c.in_ok-fault.ensures) in
+    subst (λ rs. None ≡ least_fault (plain_names c.in_ok-names.names rs (trees c.body_of-body.result.now))) c.as_slice.ensures
+    (sym c.in_default.is ∙ c.in_ok-fault.ensures) in
     let found : AnswersAcyclic c.args.domain.now c.in_ok-streams.streams.items (trees c.body_of-body.result.now) None =
-    subst (AnswersAcyclic c.args.domain.now c.in_ok-streams.streams.items (trees c.body_of-body.result.now)) c.in-None.is (subst (λ ss. AnswersAcyclic c.args.domain.now ss (trees c.body_of-body.result.now) c.in_ok-fault-2.field-0) c.as_slice-2.ensures.value c.in_ok-fault-2.ensures) in
+    subst (AnswersAcyclic c.args.domain.now c.in_ok-streams.streams.items (trees c.body_of-body.result.now)) c.in-None.is
+    (subst (λ ss. AnswersAcyclic c.args.domain.now ss (trees c.body_of-body.result.now) c.in_ok-fault-2.field-0)
+    c.as_slice-2.ensures.value c.in_ok-fault-2.ensures) in
     subst (AreNamed c.args.domain.now (tree c.args.text.now)) (sym c.from_vec.ensures)
-    (all_named c.args.domain.now (tree c.args.text.now) (trees c.body_of-body.result.now) c.in_ok-names.names c.body_of-body.ensures c.in_ok-names.ensures c.in_ok-streams.streams.items c.in_ok-streams.ensures none found)
+    (all_named c.args.domain.now (tree c.args.text.now) (trees c.body_of-body.result.now) c.in_ok-names.names c.body_of-body.ensures
+    c.in_ok-names.ensures c.in_ok-streams.streams.items c.in_ok-streams.ensures none found)

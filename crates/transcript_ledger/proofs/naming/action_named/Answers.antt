@@ -9,7 +9,8 @@ use Rattle.transcript_ledger.proofs.naming.action_named.Goals.{After-position}
 
 module _ (c : After-position) where
   place_is : c.position.result ≡ position (λ (s : Action). same_numbers c.args.name.now s.name) c.as_slice-actions.result.now
-  place_is = position_from_yields_List (λ (s : Action). same_numbers c.args.name.now s.name) _ _ c.position.result c.position.ensures.ran (YieldsList-from_slice c.as_slice-actions.result.now c.iter.ensures.rest) (λ x b q k. search (rules, tests))
+  place_is = position_from_yields_List (λ (s : Action). same_numbers c.args.name.now s.name) _ _ c.position.result c.position.ensures.ran
+      (YieldsList-from_slice c.as_slice-actions.result.now c.iter.ensures.rest) (λ x b q k. search (rules, tests))
 
 pub returns-in-Some : goal.returns-in-Some
 returns-in-Some c =

@@ -4,4 +4,7 @@ use Rattle.transcript_model.proofs.laws.certified_objects_have_names.Goals as go
 pub returns : goal.returns
 returns c = λ task names place stream inputs outputs fit at le ins outs all_in all_out.
     let fits = fit_stream_at task place stream fit at in
-    record { facts = certified_named names task stream inputs outputs fit fits le ins outs all_in all_out; values = λ value. worth_named names task stream inputs value fit fits le ins all_in }
+    record {
+      facts = certified_named names task stream inputs outputs fit fits le ins outs all_in all_out;
+      values = λ value. worth_named names task stream inputs value fit fits le ins all_in;
+    }

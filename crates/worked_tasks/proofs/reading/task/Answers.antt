@@ -19,9 +19,12 @@ fit_together read d e p ss fit over streams is also = record {
 
 pub returns : goal.returns
 returns c =
-    let fit = fit_together c.in_ok-domain.domain.value c.deref.result.now c.deref-2.result.now c.in_ok-problem.problem.value c.in_ok-streams.streams.value
+    let fit = fit_together c.in_ok-domain.domain.value c.deref.result.now c.deref-2.result.now c.in_ok-problem.problem.value
+    c.in_ok-streams.streams.value
     c.in_ok-domain.ensures.fit c.in_ok-problem.ensures c.in_ok-streams.ensures c.deref.ensures c.deref-2.ensures in
     subst IsFit (sym c.in_ok-new.ensures.ok)
     (subst (λ d. IsFit (record { domain = d; problem = c.into_inner-2.result; streams = c.into_inner-3.result })) (sym c.into_inner.ensures)
-    (subst (λ p. IsFit (record { domain = c.in_ok-domain.domain.value; problem = p; streams = c.into_inner-3.result })) (sym c.into_inner-2.ensures)
-    (subst (λ ss. IsFit (record { domain = c.in_ok-domain.domain.value; problem = c.in_ok-problem.problem.value; streams = ss })) (sym c.into_inner-3.ensures) fit)))
+    (subst (λ p. IsFit (record { domain = c.in_ok-domain.domain.value; problem = p; streams = c.into_inner-3.result }))
+    (sym c.into_inner-2.ensures)
+    (subst (λ ss. IsFit (record { domain = c.in_ok-domain.domain.value; problem = c.in_ok-problem.problem.value; streams = ss }))
+    (sym c.into_inner-3.ensures) fit)))

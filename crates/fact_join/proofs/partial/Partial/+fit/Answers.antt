@@ -11,4 +11,6 @@ returns-in_ok-left-in-Some-Some t c =
     let object = arm.object.now in
     let objects = arm.objects.now in
     rw (arm.ensures.cases.0, arm.ensures'.cases.0)
-    (narrows_both c.args.self.now c.in_ok-left-in-Some-Some.left (λ slots. object_of slots term ≡ object) (λ slots. objects_at slots terms ≡ objects) (λ slots. objects_at slots (term ∷ terms) ≡ object ∷ objects) c.fit.result c.in_ok-left-in-Some-Some.ensures (λ slots. objects_cons slots term terms object objects) c.fit.ensures)
+    (narrows_both c.args.self.now c.in_ok-left-in-Some-Some.left (λ slots. object_of slots term ≡ object)
+    (λ slots. objects_at slots terms ≡ objects) (λ slots. objects_at slots (term ∷ terms) ≡ object ∷ objects) c.fit.result
+    c.in_ok-left-in-Some-Some.ensures (λ slots. objects_cons slots term terms object objects) c.fit.ensures)

@@ -7,5 +7,6 @@ pub invariant_of-result : goal.invariant_of-result
 invariant_of-result c = record {
   objects = c.new-2.ensures Objects c.new.result.keys;
   atoms = c.new-3.ensures Atoms c.new.result.keys;
-  atoms_at = subst (CoverPlaces c.new.result.keys) (sym c.new-4.ensures.items) (λ place table at. let none : None ≡ Some table = at in absurd (cc));
+  atoms_at = subst (CoverPlaces c.new.result.keys)
+      (sym c.new-4.ensures.items) (λ place table at. let none : None ≡ Some table = at in absurd (cc));
 }

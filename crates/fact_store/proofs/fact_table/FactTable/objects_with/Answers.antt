@@ -1,7 +1,7 @@
 use Rattle.std.proofs.Common.{◌∙◌, ◌++◌, ◌∷◌, [], ap, sym}
 use Rattle.task_model.specs.Known.{objects_of}
-use Rattle.fact_store.proofs.LeastLemmas.{next_taken}
 use Rattle.fact_store.proofs.fact_table.FactTable.objects_with.Goals as goal
+use Rattle.lemmas.proofs.Members.{next_taken}
 
 pub loop-number-preserved : goal.loop-number-preserved
 loop-number-preserved c =

@@ -12,5 +12,7 @@ returns-then-slot-lt16 c =
 
 pub returns-else-slot-lt16 : goal.returns-else-slot-lt16
 returns-else-slot-lt16 c =
-    let past : get_or c.self.inside.filled c.args.slot false ≡ false = get_or_past c.self.inside.filled c.args.slot false (omega (arith, c.self.told)) in
-    le-ltb c.args.slot 16 c.if-slot-lt16.false ∙ sym past ∙ sym (flag_at c.self.inside.filled c.args.slot) ∙ ap (list_any (λ n. n == c.args.slot)) c.self.view_is
+    let past : get_or c.self.inside.filled c.args.slot false ≡ false =
+    get_or_past c.self.inside.filled c.args.slot false (omega (arith, c.self.told)) in
+    le-ltb c.args.slot 16 c.if-slot-lt16.false ∙ sym past ∙ sym (flag_at c.self.inside.filled c.args.slot)
+    ∙ ap (list_any (λ n. n == c.args.slot)) c.self.view_is

@@ -6,6 +6,7 @@ use Rattle.gen_host.proofs.box_host.BoxHostHost.faults.Given as goal
 
 abbrev pub invariant-loop-member : goal.invariant-loop-member
 invariant-loop-member g l = record {
-  below : all_below last_count (λ b. (goal.Generator-dyn g (b.vtable, b.value)).faults b.value) (take l.member-index l.self.members.items) ≡ true;
+  below : all_below last_count (λ b. (goal.Generator-dyn g (b.vtable, b.value)).faults b.value) (take l.member-index l.self.members.items)
+      ≡ true;
   added : l.sum ≡ sum_by (λ b. (goal.Generator-dyn g (b.vtable, b.value)).faults b.value) (take l.member-index l.self.members.items);
 }

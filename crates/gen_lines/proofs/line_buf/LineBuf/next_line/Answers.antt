@@ -29,5 +29,7 @@ returns c =
     let there : position is_feed (drop start items) ≡ Some n = search rules in
     let from : line ≡ strip_last 13 (take (start + n - start) (drop start items)) = search rules in
     let short : length line < length items = line_short items line start n there from in
-    let size : length items ≡ vec_len c.self.inside.bytes = sym (ap length c.deref.ensures.value) ∙ c.deref.ensures.len in
-    ((refl, λ _. tt, after_from items held start n c.self.view_is some), record { after = tt; shown = (line_from items held line start n c.self.view_is some from, omega (arith, size, c.self.invariant)) })
+    let size : length items ≡ vec_len c.self.inside.bytes = sym (ap length c.deref.ensures.value) ∙ c.deref.ensures.len in (
+      (refl, λ _. tt, after_from items held start n c.self.view_is some),
+      record { after = tt; shown = (line_from items held line start n c.self.view_is some from, omega (arith, size, c.self.invariant)) },
+    )

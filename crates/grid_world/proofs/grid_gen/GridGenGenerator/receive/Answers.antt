@@ -6,7 +6,8 @@ use Rattle.grid_world.proofs.grid_gen.GridGenGenerator.receive.Goals as goal
 
 pub returns-then-left-gt0-clause-spoken : goal.returns-then-left-gt0-clause-spoken
 returns-then-left-gt0-clause-spoken c =
-    heard_given c.args.self.now.session c.in-Some.session c.give.new.self c.give.result _ (sym (ap (λ (g : GeneratorState). g.session) c.self.view_is) ∙ c.in-Some.is) c.give.ensures.given c.give.ensures.bytes
+    heard_given c.args.self.now.session c.in-Some.session c.give.new.self c.give.result _
+    (sym (ap (λ (g : GeneratorState). g.session) c.self.view_is) ∙ c.in-Some.is) c.give.ensures.given c.give.ensures.bytes
 
 pub returns-clause-cause : goal.returns-clause-cause
 returns-clause-cause c =

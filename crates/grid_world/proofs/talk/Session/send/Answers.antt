@@ -8,5 +8,6 @@ returns-clause-given c =
     let i = c.self.inside in
     let bytes = c.args.bytes.now in
     let more = c.in_ok-heard.ensures i.written.items (sym (c.deref.ensures.value ∙ c.self.invariant.0)) in
-    let stays = heard_stays i.grid i.written.items bytes _ _ i.given more (omega (arith, c.self.invariant.2, ap length c.self.invariant.1)) in
+    let stays =
+    heard_stays i.grid i.written.items bytes _ _ i.given more (omega (arith, c.self.invariant.2, ap length c.self.invariant.1)) in
     subst (λ (s : SessionState). KeepsGiven s bytes) c.self.view_is stays

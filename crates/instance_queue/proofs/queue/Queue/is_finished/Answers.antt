@@ -11,4 +11,5 @@ returns-then-is_test c =
     let i = c.args.instance.now in
     let open_still : list_any (is_end_of i) notes ≡ false = sym (ap (λ (t : Tally). t.ended) c.tally-tally.ensures) ∙ c.if-tally.false in
     let test : is_test c.args.stream.now ≡ true = sym c.is_test.ensures ∙ c.if-is_test.true in
-    ap (λ (t : Tally). nat_lt 0 t.yields) c.tally-tally.ensures ∙ yielded_some notes i ∙ sym (λ k. open_still k || (test k && list_any (is_yield_of i) notes))
+    ap (λ (t : Tally). nat_lt 0 t.yields) c.tally-tally.ensures ∙ yielded_some notes i
+    ∙ sym (λ k. open_still k || (test k && list_any (is_yield_of i) notes))

@@ -12,7 +12,18 @@ returns-then-self-clause-last c = λ one.
     let pools = shares_of c.args.shares.now in
     let count = c.longest_front-count.result in
     let asked = none_to_ask s c.args.self.now c.self.invariant c.self.view_is c.requires.asked in
-    let behind : c.split_at.result.1.now ≡ drop s.round s.dues.items = c.split_at.ensures.back ∙ ap (drop s.round) c.as_slice.ensures.value in
-    let front : IsLongestFront pools (instances_of (drop s.round s.dues.items)) count = subst (λ (ds : List Due). IsLongestFront pools (instances_of ds) count) behind c.longest_front-count.ensures in
-    subst (λ (a : Agenda). Starts pools a.later (a.next + 1) a.is_cut (shown (record { dues = s.dues; asked = s.asked; answered = s.answered + 1; round = s.round + count; before = s.before; is_cut = s.is_cut }))) c.self.view_is
+    let behind : c.split_at.result.1.now ≡ drop s.round s.dues.items =
+    c.split_at.ensures.back ∙ ap (drop s.round) c.as_slice.ensures.value in
+    let front : IsLongestFront pools (instances_of (drop s.round s.dues.items)) count =
+    subst (λ (ds : List Due). IsLongestFront pools (instances_of ds) count) behind c.longest_front-count.ensures in
+    subst (λ (a : Agenda).
+    Starts pools a.later (a.next + 1) a.is_cut
+    (shown (record {
+      dues = s.dues;
+      asked = s.asked;
+      answered = s.answered + 1;
+      round = s.round + count;
+      before = s.before;
+      is_cut = s.is_cut;
+    }))) c.self.view_is
     (next_round pools s count c.self.invariant c.if-self.true asked front)

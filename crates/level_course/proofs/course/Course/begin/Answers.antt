@@ -13,9 +13,16 @@ returns c =
     let dues = c.truncate.new.self in
     let pools = shares_of c.args.shares.now in
     let count = c.longest_front-self-inside.result in
-    let front : IsLongestFront pools (instances_of dues.items) count = subst (λ (ds : List Due). IsLongestFront pools (instances_of ds) count) c.as_slice.ensures.value c.longest_front-self-inside.ensures in
+    let front : IsLongestFront pools (instances_of dues.items) count =
+    subst (λ (ds : List Due). IsLongestFront pools (instances_of ds) count) c.as_slice.ensures.value c.longest_front-self-inside.ensures
+    in
     let list = take left (instances_of c.args.dues.items) in
-    let is : list ≡ instances_of dues.items = take-map (λ (d : Due). d.instance) left c.args.dues.items ∙ ap instances_of (sym c.truncate.ensures.items) in
+    let is : list ≡ instances_of dues.items =
+    take-map (λ (d : Due). d.instance) left c.args.dues.items ∙ ap instances_of (sym c.truncate.ensures.items) in
     let long : c.len.result ≡ length c.args.dues.items = omega (arith, c.len.ensures, c.args.dues.ok) in
-    subst (λ n. Starts pools list (c.args.before + 1) (nat_lt left n) (shown (record { dues = dues; asked = 0; answered = 0; round = count; before = c.args.before; is_cut = nat_lt left c.len.result }))) long
-    (first_round pools (record { dues = dues; asked = 0; answered = 0; round = count; before = c.args.before; is_cut = nat_lt left c.len.result }) list is refl refl front)
+    subst (λ n. Starts pools list (c.args.before + 1) (nat_lt left n)
+    (shown (record { dues = dues; asked = 0; answered = 0; round = count; before = c.args.before; is_cut = nat_lt left c.len.result })))
+    long
+    (first_round pools
+    (record { dues = dues; asked = 0; answered = 0; round = count; before = c.args.before; is_cut = nat_lt left c.len.result }) list is
+    refl refl front)

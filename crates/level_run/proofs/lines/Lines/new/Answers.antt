@@ -10,6 +10,7 @@ loop-preserved c =
     let items = c.in_ok-push.ensures.items in
     record {
       many = omega (arith, ap length items, length-append c.loop.buffers.items (c.in_ok-new.field-0 ∷ []), c.loop.invariant.many);
-      empty = subst (λ (held : List (List ℕ)). (k : ℕ) → unwrap_or (slice_get held k) [] ≡ []) (sym items) (none_held c.loop.buffers.items c.in_ok-new.field-0 c.loop.invariant.empty c.in_ok-new.ensures);
+      empty = subst (λ (held : List (List ℕ)). (k : ℕ) → unwrap_or (slice_get held k) [] ≡ [])
+          (sym items) (none_held c.loop.buffers.items c.in_ok-new.field-0 c.loop.invariant.empty c.in_ok-new.ensures);
       most = omega (arith, c.loop-test.true);
     }

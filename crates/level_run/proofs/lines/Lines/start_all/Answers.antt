@@ -22,7 +22,8 @@ start_child-requires-clause-words g c =
 
 pub start_child-requires-clause-idle : goal.start_child-requires-clause-idle
 start_child-requires-clause-idle g c =
-    let own = found_worker c.args.pools.now c.loop-child.child c.in-Some.pool.now (sym c.pool_with.ensures ∙ ap option_copied c.in-Some.is) in
+    let own = found_worker c.args.pools.now c.loop-child.child c.in-Some.pool.now
+    (sym c.pool_with.ensures ∙ ap option_copied c.in-Some.is) in
     c.loop-child.invariant.left own.0 c.loop-child.child c.in-Some.pool.now (omega arith) own.1 own.2
 
 pub loop-child-preserved : goal.loop-child-preserved
@@ -42,30 +43,44 @@ loop-child-preserved g c =
       left = elim c.match-pool_with.branch as (λ w. IdleFrom pools (child + 1) (is_running c.match-pool_with.self)) [
         | in-Some+in_ok-start_child w ↦
             subst (λ (s : Held). IdleFrom pools (child + 1) (is_running s)) (sym w.self-is)
-            (idle_further pools child was (is_running w.start_child.new.self) w.in_ok-start_child.ensures.running c.loop-child.invariant.left)
+            (idle_further pools child was (is_running w.start_child.new.self) w.in_ok-start_child.ensures.running
+            c.loop-child.invariant.left)
         | in_default w ↦
             subst (λ (s : Held). IdleFrom pools (child + 1) (is_running s)) (sym w.self-is)
             (idle_still pools child was c.loop-child.invariant.left)
       ];
       silent = search rules;
       kept = search rules;
-      log = elim c.match-pool_with.branch as (λ w. Extends (g.H.Host.log c.args.host.now) (g.H.Host.log c.match-pool_with.host) (flat_map (start_at pools) (numbers_from 0 (child + 1)))) [
-        | in-Some+in_ok-start_child w ↦
-            subst (λ h. Extends (g.H.Host.log c.args.host.now) (g.H.Host.log h) (flat_map (start_at pools) (numbers_from 0 (child + 1)))) (sym w.host-is)
-            (child_started pools child (g.H.Host.log c.args.host.now) (g.H.Host.log c.loop-child.host) (g.H.Host.log w.start_child.new.host) c.loop-child.invariant.log
-            (subst (λ o. Extends (g.H.Host.log c.loop-child.host) (g.H.Host.log w.start_child.new.host) (start_in child o)) (sym (ap option_copied w.in-Some.is) ∙ c.pool_with.ensures)
-            (subst (λ ws. Logs (g.H.Host.log c.loop-child.host) (g.H.Host.log w.start_child.new.host) (started child (map string_bytes ws) (Ok tt))) w.as_slice.ensures w.in_ok-start_child.ensures.log)))
-        | in_default w ↦
-            subst (λ h. Extends (g.H.Host.log c.args.host.now) (g.H.Host.log h) (flat_map (start_at pools) (numbers_from 0 (child + 1)))) (sym w.host-is)
-            (child_started pools child (g.H.Host.log c.args.host.now) (g.H.Host.log c.loop-child.host) (g.H.Host.log c.loop-child.host) c.loop-child.invariant.log
-            (subst (λ o. Extends (g.H.Host.log c.loop-child.host) (g.H.Host.log c.loop-child.host) (start_in child o)) (sym (ap option_copied w.in_default.is) ∙ c.pool_with.ensures) (extends_none (g.H.Host.log c.loop-child.host))))
-      ];
+      log = elim c.match-pool_with.branch as (λ w.
+          Extends (g.H.Host.log c.args.host.now)
+          (g.H.Host.log c.match-pool_with.host) (flat_map (start_at pools) (numbers_from 0 (child + 1)))) [
+            | in-Some+in_ok-start_child w ↦
+                subst (λ h. Extends (g.H.Host.log c.args.host.now)
+                (g.H.Host.log h) (flat_map (start_at pools) (numbers_from 0 (child + 1))))
+                (sym w.host-is)
+                (child_started pools child (g.H.Host.log c.args.host.now) (g.H.Host.log c.loop-child.host)
+                (g.H.Host.log w.start_child.new.host) c.loop-child.invariant.log
+                (subst (λ o. Extends (g.H.Host.log c.loop-child.host) (g.H.Host.log w.start_child.new.host) (start_in child o))
+                (sym (ap option_copied w.in-Some.is) ∙ c.pool_with.ensures)
+                (subst (λ ws. Logs (g.H.Host.log c.loop-child.host)
+                (g.H.Host.log w.start_child.new.host) (started child (map string_bytes ws) (Ok tt))) w.as_slice.ensures
+                w.in_ok-start_child.ensures.log)))
+            | in_default w ↦
+                subst (λ h. Extends (g.H.Host.log c.args.host.now)
+                (g.H.Host.log h) (flat_map (start_at pools) (numbers_from 0 (child + 1))))
+                (sym w.host-is)
+                (child_started pools child (g.H.Host.log c.args.host.now) (g.H.Host.log c.loop-child.host)
+                (g.H.Host.log c.loop-child.host) c.loop-child.invariant.log
+                (subst (λ o. Extends (g.H.Host.log c.loop-child.host) (g.H.Host.log c.loop-child.host) (start_in child o))
+                (sym (ap option_copied w.in_default.is) ∙ c.pool_with.ensures) (extends_none (g.H.Host.log c.loop-child.host))))
+          ];
       host = search rules;
     }
 
 pub returns-clause-running : goal.returns-clause-running
 returns-clause-running g c = λ k child p at is.
-    c.loop-child.invariant.done k child p (omega (arith, c.loop-child-test.false, worker_low c.args.pools.now c.requires.pools k child p at is)) at is
+    c.loop-child.invariant.done k child p
+    (omega (arith, c.loop-child-test.false, worker_low c.args.pools.now c.requires.pools k child p at is)) at is
 
 pub returns-clause-log : goal.returns-clause-log
 returns-clause-log g c =
@@ -78,6 +93,9 @@ returns-in_err-start_child-clause-refused g c =
     let fault = c.in_err-start_child.field-0.0 in
     let child = c.loop-child.child in
     handed c.from_residual.result fault _ c.from_residual.ensures.1
-    (child_refused c.args.pools.now child c.in-Some.pool.now fault (g.H.Host.log c.args.host.now) (g.H.Host.log c.loop-child.host) (g.H.Host.log c.start_child.new.host)
+    (child_refused c.args.pools.now child c.in-Some.pool.now fault (g.H.Host.log c.args.host.now)
+    (g.H.Host.log c.loop-child.host) (g.H.Host.log c.start_child.new.host)
     c.loop-child-test.true (sym c.pool_with.ensures ∙ ap option_copied c.in-Some.is) c.loop-child.invariant.log
-    (subst (λ ws. (cause : HostFault) × IsHostFault cause fault × Logs (g.H.Host.log c.loop-child.host) (g.H.Host.log c.start_child.new.host) (started child (map string_bytes ws) (Err cause))) c.as_slice.ensures c.in_err-start_child.ensures.refused))
+    (subst (λ ws. (cause : HostFault) × IsHostFault cause fault
+    × Logs (g.H.Host.log c.loop-child.host) (g.H.Host.log c.start_child.new.host) (started child (map string_bytes ws) (Err cause)))
+    c.as_slice.ensures c.in_err-start_child.ensures.refused))

@@ -26,7 +26,8 @@ returns-in-Some-clause-yes c = λ e.
     record {
       instance = next;
       head = head_is c;
-      is = same_yes task c.names-names.result.now l.queue (c.len.result + 1) next c.args.number c.args.turn c.args.call.now (sym c.is_request.ensures ∙ e)
+      is = same_yes task c.names-names.result.now l.queue
+          (c.len.result + 1) next c.args.number c.args.turn c.args.call.now (sym c.is_request.ensures ∙ e)
           ∙ (λ k. entry.Ask (number_is c k) (yields_of l.queue next) (call_of_instance task (c.names-names.ensures k) next));
     }
 
@@ -38,4 +39,6 @@ returns-in-Some-clause-no c = λ n.
     let same : n.instance ≡ next = some_is n.instance next (sym n.head ∙ head_is c) in
     c.is_request.ensures
     ∙ same_no task c.names-names.result.now l.queue (c.len.result + 1) next c.args.number c.args.turn c.args.call.now
-    (n.is ∙ (λ k. entry.Ask (sym (number_is c) k) (yields_of l.queue (same k)) (call_of_instance task (sym c.names-names.ensures k) (same k))))
+    (n.is
+    ∙ (λ k. entry.Ask (sym (number_is c) k)
+    (yields_of l.queue (same k)) (call_of_instance task (sym c.names-names.ensures k) (same k))))

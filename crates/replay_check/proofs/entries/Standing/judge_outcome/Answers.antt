@@ -21,7 +21,9 @@ returns-then-not-is_between c =
     let yes : c.is_limit_of_calls.result ≡ true = c.is_limit_of_calls.ensures.no is in
     absurd (cc)
     in
-    misplaced_found (limits_by b) c.args.limit b.task.now entries o (elsewhere b c.args.limit c.requires.bounds entries s c.requires.standing o other (rests_not s.course.answers s.course.is_cut (sym c.is_between.ensures ∙ not_between)))
+    misplaced_found (limits_by b) c.args.limit b.task.now entries o
+    (elsewhere b c.args.limit c.requires.bounds entries s c.requires.standing o other
+    (rests_not s.course.answers s.course.is_cut (sym c.is_between.ensures ∙ not_between)))
 
 pub judge_said-requires-clause-placed : goal.judge_said-requires-clause-placed
 judge_said-requires-clause-placed c =
@@ -35,7 +37,8 @@ judge_said-requires-clause-placed c =
           between_placed b c.args.limit c.requires.bounds entries s c.requires.standing c.args.outcome.now r.0 r.1
       | else-not-is_limit_of_calls-via-else-not-is_limit_of_calls w ↦
           let spent = c.is_limit_of_calls.ensures.yes (search (rules, tests)) in
-          subst (IsPlaced (limits_by b) c.args.limit b.task.now entries) (sym spent) (calls_placed b c.args.limit c.requires.bounds entries s c.requires.standing)
+          subst (IsPlaced (limits_by b) c.args.limit b.task.now entries)
+          (sym spent) (calls_placed b c.args.limit c.requires.bounds entries s c.requires.standing)
     ]
 
 pub judge_said-requires-clause-resting : goal.judge_said-requires-clause-resting

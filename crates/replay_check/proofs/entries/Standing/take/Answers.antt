@@ -7,4 +7,5 @@ pub returns-in_default-entry : goal.returns-in_default-entry
 returns-in_default-entry c =
     let e = c.index-entries-place.result in
     let there = get_some c.args.entries.now c.args.place e c.requires.can.within c.index-entries-place.is in
-    other_refused c.args.bounds.now c.args.entries.now c.args.place c.args.self.now c.requires.can e there (not_ask e c.in_default-entry.not-Ask) (sym c.answered.ensures ∙ c.in_default.is) c.in_default-entry.not-Level
+    other_refused c.args.bounds.now c.args.entries.now c.args.place c.args.self.now c.requires.can e there
+    (not_ask e c.in_default-entry.not-Ask) (sym c.answered.ensures ∙ c.in_default.is) c.in_default-entry.not-Level

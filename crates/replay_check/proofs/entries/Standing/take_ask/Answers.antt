@@ -12,15 +12,18 @@ returns-in_default c =
     let b = c.args.bounds.now in
     let can = c.requires.can in
     let before = take c.args.place c.args.entries.now in
-    ask_is_refused b c.args.entries.now c.args.place c.args.self.now can c.args.number c.args.turn c.args.call.now c.requires.here c.in_ok-asked.asked c.in_default.is (c.in_ok-asked.ensures b.version before can.standing.ledger)
+    ask_is_refused b c.args.entries.now c.args.place c.args.self.now can c.args.number c.args.turn c.args.call.now c.requires.here
+    c.in_ok-asked.asked c.in_default.is (c.in_ok-asked.ensures b.version before can.standing.ledger)
 
 pub returns-then-not-is_next : goal.returns-then-not-is_next
 returns-then-not-is_next c =
     let b = c.args.bounds.now in
     let can = c.requires.can in
     let before = take c.args.place c.args.entries.now in
-    let said = subst (IsAskedBy b.calls b.task.now before c.args.number c.args.turn c.args.call.now) c.in-Some.is (c.in_ok-asked.ensures b.version before can.standing.ledger) in
-    ask_out_of_order b c.args.entries.now c.args.place c.args.self.now can c.args.number c.args.turn c.args.call.now c.requires.here c.in-Some.instance said
+    let said = subst (IsAskedBy b.calls b.task.now before c.args.number c.args.turn c.args.call.now) c.in-Some.is
+    (c.in_ok-asked.ensures b.version before can.standing.ledger) in
+    ask_out_of_order b c.args.entries.now c.args.place c.args.self.now can c.args.number c.args.turn c.args.call.now c.requires.here
+    c.in-Some.instance said
     (λ next. false≢true (sym c.if-not-is_next.true ∙ c.is_next.ensures.no next))
 
 pub returns : goal.returns
@@ -30,9 +33,15 @@ returns c =
     let s = c.args.self.now in
     let can = c.requires.can in
     let before = take c.args.place c.args.entries.now in
-    let said = subst (IsAskedBy b.calls task before c.args.number c.args.turn c.args.call.now) c.in-Some.is (c.in_ok-asked.ensures b.version before can.standing.ledger) in
-    let number = (ask_number b c.args.entries.now c.args.place s can c.args.number c.args.turn c.args.call.now c.requires.here c.in-Some.instance said).0 in
+    let said = subst (IsAskedBy b.calls task before c.args.number c.args.turn c.args.call.now) c.in-Some.is
+    (c.in_ok-asked.ensures b.version before can.standing.ledger) in
+    let number =
+    (ask_number b c.args.entries.now c.args.place s can c.args.number c.args.turn c.args.call.now c.requires.here c.in-Some.instance
+    said).0 in
     let next = c.is_next.ensures.yes c.if-not-is_next.false in
-    let kept = c.in_ok-ask.ensures.kept b.version c.args.turn task before c.args.call.now can.standing.ledger (subst (λ n. IsRightAsk task before n c.args.turn c.args.call.now) number said.0) said.2 in
-    let ledger = subst (λ n. IsLedger b.version task (before ++ entry.Ask n c.args.turn c.args.call.now ∷ []) c.ask.new.self) (sym number) kept in
-    ask_taken b c.args.entries.now c.args.place s can c.args.number c.args.turn c.args.call.now c.requires.here (record { ledger = c.ask.new.self; course = c.ask-2.new.self }) next said.0 ledger c.ask-2.ensures
+    let kept = c.in_ok-ask.ensures.kept b.version c.args.turn task before c.args.call.now can.standing.ledger
+    (subst (λ n. IsRightAsk task before n c.args.turn c.args.call.now) number said.0) said.2 in
+    let ledger =
+    subst (λ n. IsLedger b.version task (before ++ entry.Ask n c.args.turn c.args.call.now ∷ []) c.ask.new.self) (sym number) kept in
+    ask_taken b c.args.entries.now c.args.place s can c.args.number c.args.turn c.args.call.now c.requires.here
+    (record { ledger = c.ask.new.self; course = c.ask-2.new.self }) next said.0 ledger c.ask-2.ensures

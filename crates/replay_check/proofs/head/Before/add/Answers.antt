@@ -16,7 +16,12 @@ returns c = λ before h.
     let names : c.as_slice-names.result.now ≡ pool.streams = c.as_slice-names.ensures in
     let streams : c.in-Some.streams.items ≡ streams_in task pool = found.1 ∙ ap (filter_map (stream_named task)) names in
     let together : b.workers + pool.workers ≤ 17 = omega arith in
-    let fits = pool_fits task before pool b h (omega arith) (omega arith) together (ap (are_new task b.served.items) (sym names) ∙ found.0) in
+    let fits = pool_fits task before pool b h (omega arith) (omega arith) together
+    (ap (are_new task b.served.items) (sym names) ∙ found.0) in
     let share : Share = record { workers = pool.workers; streams = c.from_vec.result } in
-    let is : share_of share ≡ share_in task pool = ap (λ (s : List ℕ). record { workers = pool.workers; streams = s }) (c.from_vec.ensures ∙ streams) in
-    (fits, pool_passed task before pool b h _ share fits together c.in_ok-push.ensures.items is (found.2 ∙ ap (λ (s : List ℕ). b.served.items ++ s) streams) refl)
+    let is : share_of share ≡ share_in task pool =
+    ap (λ (s : List ℕ). record { workers = pool.workers; streams = s }) (c.from_vec.ensures ∙ streams) in (
+      fits,
+      pool_passed task before pool b h _ share fits together c.in_ok-push.ensures.items is
+          (found.2 ∙ ap (λ (s : List ℕ). b.served.items ++ s) streams) refl,
+    )

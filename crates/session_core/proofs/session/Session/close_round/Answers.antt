@@ -14,4 +14,7 @@ returns-clause-kept c =
     λ task h. subst (IsSession task) (sym (returns-clause-after c)) (close_kept task c.args.self.now c.requires.open c.requires.answered h)
 
 pub returns-clause-rest : goal.returns-clause-rest
-returns-clause-rest c = λ task dues count h front ready. subst (λ (t : State). AreReady task t.entries (drop count dues)) (sym (returns-clause-after c)) (rest_ready task c.args.self.now c.requires.open c.requires.answered h dues count front ready)
+returns-clause-rest c =
+    λ task dues count h front ready.
+    subst (λ (t : State). AreReady task t.entries (drop count dues))
+    (sym (returns-clause-after c)) (rest_ready task c.args.self.now c.requires.open c.requires.answered h dues count front ready)

@@ -32,4 +32,5 @@ pub returns-clause-ready : goal.returns-clause-ready
 returns-clause-ready c =
     let task = c.args.task.now in
     let s = c.args.self.now in
-    IfOk-weaker c.next_level.result (λ dues. AreDueInTurn task (known_of task s.entries) (notes_of task s.entries) dues.items) (λ dues. AreReady task s.entries dues.items) (λ dues level. level_ready task s.entries dues.items level) (returns-clause-due c)
+    IfOk-weaker c.next_level.result (λ dues. AreDueInTurn task (known_of task s.entries) (notes_of task s.entries) dues.items)
+    (λ dues. AreReady task s.entries dues.items) (λ dues level. level_ready task s.entries dues.items level) (returns-clause-due c)

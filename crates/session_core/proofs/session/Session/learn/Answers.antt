@@ -28,23 +28,32 @@ pub returns-in-Ok-clause-learnt : goal.returns-in-Ok-clause-learnt
 returns-in-Ok-clause-learnt c =
     let task = c.args.task.now in
     let s = shown c.self.inside in
-    let known : c.learn_from-learnt.new.facts.known ≡ known_of task s.entries = c.in-Ok.ensures.known ∙ ap (known_of task) c.as_slice-2.ensures.value in
-    let notes : c.learn_from-learnt.new.queue ≡ notes_of task s.entries = c.in-Ok.ensures.notes ∙ ap (notes_of task) c.as_slice-2.ensures.value in
+    let known : c.learn_from-learnt.new.facts.known ≡ known_of task s.entries =
+    c.in-Ok.ensures.known ∙ ap (known_of task) c.as_slice-2.ensures.value in
+    let notes : c.learn_from-learnt.new.queue ≡ notes_of task s.entries =
+    c.in-Ok.ensures.notes ∙ ap (notes_of task) c.as_slice-2.ensures.value in
     let long : c.len-self-inside.result ≡ length s.entries = c.len-self-inside.ensures ∙ c.self.inside.entries.ok.0 in
-    let after : with_learnt s c.learn_from-learnt.new.facts.known c.learn_from-learnt.new.queue c.len-self-inside.result s.failed ≡ after_learn task s = λ i. with_learnt s (known i) (notes i) (long i) (c.if-self.false i) in
+    let after : with_learnt s c.learn_from-learnt.new.facts.known c.learn_from-learnt.new.queue c.len-self-inside.result s.failed
+    ≡ after_learn task s =
+    λ i. with_learnt s (known i) (notes i) (long i) (c.if-self.false i) in
     after ∙ ap (after_learn task) c.self.view_is
 
 pub returns-in-Ok-clause-kept : goal.returns-in-Ok-clause-kept
 returns-in-Ok-clause-kept c =
     let task = c.args.task.now in
     let s = shown c.self.inside in
-    let known : c.learn_from-learnt.new.facts.known ≡ known_of task s.entries = c.in-Ok.ensures.known ∙ ap (known_of task) c.as_slice-2.ensures.value in
-    let notes : c.learn_from-learnt.new.queue ≡ notes_of task s.entries = c.in-Ok.ensures.notes ∙ ap (notes_of task) c.as_slice-2.ensures.value in
+    let known : c.learn_from-learnt.new.facts.known ≡ known_of task s.entries =
+    c.in-Ok.ensures.known ∙ ap (known_of task) c.as_slice-2.ensures.value in
+    let notes : c.learn_from-learnt.new.queue ≡ notes_of task s.entries =
+    c.in-Ok.ensures.notes ∙ ap (notes_of task) c.as_slice-2.ensures.value in
     let long : c.len-self-inside.result ≡ length s.entries = c.len-self-inside.ensures ∙ c.self.inside.entries.ok.0 in
-    let after : with_learnt s c.learn_from-learnt.new.facts.known c.learn_from-learnt.new.queue c.len-self-inside.result s.failed ≡ after_learn task s = λ i. with_learnt s (known i) (notes i) (long i) (c.if-self.false i) in
+    let after : with_learnt s c.learn_from-learnt.new.facts.known c.learn_from-learnt.new.queue c.len-self-inside.result s.failed
+    ≡ after_learn task s =
+    λ i. with_learnt s (known i) (notes i) (long i) (c.if-self.false i) in
     subst (IsSession task) (sym after) (all_learnt task s (subst (IsSession task) (sym c.self.view_is) c.requires.session))
 
 pub returns-in-Err-clause-kept : goal.returns-in-Err-clause-kept
 returns-in-Err-clause-kept c =
     let task = c.args.task.now in
-    not_learnt task (shown c.self.inside) c.learn_from-learnt.new.facts.known c.learn_from-learnt.new.queue (subst (IsSession task) (sym c.self.view_is) c.requires.session)
+    not_learnt task (shown c.self.inside) c.learn_from-learnt.new.facts.known c.learn_from-learnt.new.queue
+    (subst (IsSession task) (sym c.self.view_is) c.requires.session)

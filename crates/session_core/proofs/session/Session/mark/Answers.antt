@@ -11,7 +11,8 @@ returns-then-is_learnt-clause-kept c = λ task h.
     let closed : s.is_open ≡ false = ap (λ (t : State). t.is_open) c.self.view_is ∙ c.requires.closed in
     let whole : s.learnt ≡ length s.entries = c.if-is_learnt.true ∙ c.len.ensures ∙ c.self.inside.entries.ok.0 in
     subst (λ es. IsSession task (entries_become s es (s.learnt + 1))) (sym c.in_ok-push.ensures.items)
-    (mark_kept task s c.args.entry (s.learnt + 1) closed c.requires.mark (all_again whole refl) (subst (IsSession task) (sym c.self.view_is) h))
+    (mark_kept task s c.args.entry (s.learnt + 1) closed c.requires.mark
+    (all_again whole refl) (subst (IsSession task) (sym c.self.view_is) h))
 
 pub returns-else-is_learnt-clause-kept : goal.returns-else-is_learnt-clause-kept
 returns-else-is_learnt-clause-kept c = λ task h.

@@ -13,9 +13,13 @@ returns-clause-cut c =
     let s = shown c.self.inside in
     let dues = c.args.dues.now in
     let asked : c.len.result ≡ length s.asked = c.len.ensures ∙ c.self.inside.asked.ok.0 in
-    let most : c.min-most.result ≡ min (length dues) (calls_left s) = c.min-most.ensures ∙ ap (λ n. min (length dues) (s.calls - n)) asked in
-    let longest : IsLongestFront s.pools (take c.min-most.result dues) c.longest_front.result = subst (λ ps. IsLongestFront ps (take c.min-most.result dues) c.longest_front.result) c.as_slice.ensures.value c.longest_front.ensures in
-    subst (λ (t : State). IsNextRound t dues c.longest_front.result) c.self.view_is (next_is s dues c.min-most.result c.longest_front.result (omega (arith, c.self.invariant.few)) most longest)
+    let most : c.min-most.result ≡ min (length dues) (calls_left s) =
+    c.min-most.ensures ∙ ap (λ n. min (length dues) (s.calls - n)) asked in
+    let longest : IsLongestFront s.pools (take c.min-most.result dues) c.longest_front.result =
+    subst (λ ps. IsLongestFront ps (take c.min-most.result dues) c.longest_front.result) c.as_slice.ensures.value
+    c.longest_front.ensures in
+    subst (λ (t : State). IsNextRound t dues c.longest_front.result) c.self.view_is
+    (next_is s dues c.min-most.result c.longest_front.result (omega (arith, c.self.invariant.few)) most longest)
 
 pub returns-clause-some : goal.returns-clause-some
 returns-clause-some c = λ task h there left.
@@ -23,10 +27,16 @@ returns-clause-some c = λ task h there left.
     let dues = c.args.dues.now in
     let was = subst (IsSession task) (sym c.self.view_is) h in
     let asked : c.len.result ≡ length s.asked = c.len.ensures ∙ c.self.inside.asked.ok.0 in
-    let most : c.min-most.result ≡ min (length dues) (calls_left s) = c.min-most.ensures ∙ ap (λ n. min (length dues) (s.calls - n)) asked in
-    let longest : IsLongestFront s.pools (take c.min-most.result dues) c.longest_front.result = subst (λ ps. IsLongestFront ps (take c.min-most.result dues) c.longest_front.result) c.as_slice.ensures.value c.longest_front.ensures in
+    let most : c.min-most.result ≡ min (length dues) (calls_left s) =
+    c.min-most.ensures ∙ ap (λ n. min (length dues) (s.calls - n)) asked in
+    let longest : IsLongestFront s.pools (take c.min-most.result dues) c.longest_front.result =
+    subst (λ ps. IsLongestFront ps (take c.min-most.result dues) c.longest_front.result) c.as_slice.ensures.value
+    c.longest_front.ensures in
     let room : length s.asked < s.calls = subst (λ (t : State). length t.asked < t.calls) (sym c.self.view_is) left in
-    some_front s.pools (take c.min-most.result dues) c.longest_front.result longest was.pools.some (omega (arith, length-take c.min-most.result dues, most, there, room))
+    some_front s.pools (take c.min-most.result dues) c.longest_front.result longest was.pools.some
+    (omega (arith, length-take c.min-most.result dues, most, there, room))
 
 pub returns-clause-may : goal.returns-clause-may
-returns-clause-may c = λ task h works learnt ready. may_begin task c.args.self.now c.args.dues.now c.longest_front.result h works learnt ready (returns-clause-cut c)
+returns-clause-may c =
+    λ task h works learnt ready.
+    may_begin task c.args.self.now c.args.dues.now c.longest_front.result h works learnt ready (returns-clause-cut c)

@@ -6,4 +6,5 @@ use Rattle.state_store.proofs.store.StateStore.len.Goals as goal
 pub returns : goal.returns
 returns c =
     let keys = c.self.inside.rows.keys in
-    c.len.ensures.len ∙ sym (length-map keys (λ v. v.items)) ∙ sym (length-map (map (λ v. v.items) keys) (state_of c.self.inside.atoms.keys)) ∙ ap length c.self.view_is
+    c.len.ensures.len ∙ sym (length-map keys (λ v. v.items))
+    ∙ sym (length-map (map (λ v. v.items) keys) (state_of c.self.inside.atoms.keys)) ∙ ap length c.self.view_is

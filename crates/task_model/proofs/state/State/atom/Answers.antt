@@ -14,5 +14,7 @@ pub returns : goal.returns
 returns c =
     let ks = c.self.inside.atoms.items in
     let size : len c.args.self.now ≡ length ks = sym (ap len c.self.view_is) ∙ len-from_list ks c.self.invariant in
-    let found : slice_get ks c.args.place ≡ Some c.index.result.now = slice_get-get_or ks c.args.place c.index.result.now (omega arith) ∙ ap Some (sym c.index.ensures) in
-    ap (λ s. slice_get (items s) c.args.place) (sym c.self.view_is) ∙ ap (λ xs. slice_get xs c.args.place) (items-from_list ks c.self.invariant) ∙ found
+    let found : slice_get ks c.args.place ≡ Some c.index.result.now =
+    slice_get-get_or ks c.args.place c.index.result.now (omega arith) ∙ ap Some (sym c.index.ensures) in
+    ap (λ s. slice_get (items s) c.args.place) (sym c.self.view_is)
+    ∙ ap (λ xs. slice_get xs c.args.place) (items-from_list ks c.self.invariant) ∙ found

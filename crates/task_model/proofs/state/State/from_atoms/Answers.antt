@@ -9,9 +9,11 @@ use Rattle.task_model.proofs.state.State.from_atoms.Goals as goal
 pub invariant_of-result : goal.invariant_of-result
 invariant_of-result c =
     let sorted = c.sort_unstable.new.self.items in
-    subst (IsStrictlySortedBy atom_cmp) (sym (dedup_is same_atom sorted c.dedup.new.self.items c.dedup.ensures.filtered)) (sorted_of sorted c.sort_unstable.ensures.sorted)
+    subst (IsStrictlySortedBy atom_cmp) (sym (dedup_is same_atom sorted c.dedup.new.self.items c.dedup.ensures.filtered))
+    (sorted_of sorted c.sort_unstable.ensures.sorted)
 
 pub returns : goal.returns
 returns c =
     let sorted = c.sort_unstable.new.self.items in
-    ap from_list (dedup_is same_atom sorted c.dedup.new.self.items c.dedup.ensures.filtered) ∙ from_list-dedup c.args.atoms.items sorted c.sort_unstable.ensures.permutation
+    ap from_list (dedup_is same_atom sorted c.dedup.new.self.items c.dedup.ensures.filtered)
+    ∙ from_list-dedup c.args.atoms.items sorted c.sort_unstable.ensures.permutation

@@ -13,4 +13,5 @@ returns c =
     let found = c.binary_search.result in
     let within = subst (λ xs. IsSearchInRange found (length xs)) c.deref.ensures.value c.binary_search.ensures.bound in
     let at = subst (λ xs. IsBinarySearchResult (λ y. atom_cmp y k) xs found) c.deref.ensures.value c.binary_search.ensures.position in
-    c.is_ok.ensures.value ∙ found_is ks k c.self.invariant found within at ∙ sym (contains-from_list ks k) ∙ ap (λ s. contains s k) c.self.view_is
+    c.is_ok.ensures.value ∙ found_is ks k c.self.invariant found within at ∙ sym (contains-from_list ks k)
+    ∙ ap (λ s. contains s k) c.self.view_is

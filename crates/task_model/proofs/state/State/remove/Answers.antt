@@ -10,7 +10,9 @@ use Rattle.task_model.specs.AtomOrder.{atom_cmp}
 use Rattle.task_model.proofs.StateOrderLemmas.{Parts, searchable, any_found, any_absent, sorted_without, from_list-remove, remove-absent}
 
 pub invariant_of-self : goal.invariant_of-self
-invariant_of-self c = subst (IsStrictlySortedBy atom_cmp) (sym c.remove.ensures.items) (sorted_without c.self.inside.atoms.items c.in-Ok.place c.self.invariant)
+invariant_of-self c =
+    subst (IsStrictlySortedBy atom_cmp) (sym c.remove.ensures.items)
+    (sorted_without c.self.inside.atoms.items c.in-Ok.place c.self.invariant)
 
 pub returns-in-Ok-clause-state : goal.returns-in-Ok-clause-state
 returns-in-Ok-clause-state c =
@@ -18,7 +20,8 @@ returns-in-Ok-clause-state c =
     let k = c.args.atom.now in
     let within = subst (λ xs. c.in-Ok.place < length xs) c.deref.ensures.value c.in-Ok.ensures.bound in
     let at = subst (λ xs. HoldsAt (λ y. atom_cmp y k ≡ Equal) xs c.in-Ok.place) c.deref.ensures.value c.in-Ok.ensures.ok in
-    ap from_list c.remove.ensures.items ∙ from_list-remove ks k c.in-Ok.place c.self.invariant within at ∙ ap (λ s. remove s k) c.self.view_is
+    ap from_list c.remove.ensures.items ∙ from_list-remove ks k c.in-Ok.place c.self.invariant within at
+    ∙ ap (λ s. remove s k) c.self.view_is
 
 pub returns-in-Ok-clause-there : goal.returns-in-Ok-clause-there
 returns-in-Ok-clause-there c =
@@ -32,7 +35,9 @@ absent : (c : goal.In-Err) → contains c.args.self.now c.args.atom.now ≡ fals
 absent c =
     let ks = c.self.inside.atoms.items in
     let k = c.args.atom.now in
-    let parts : Parts k ks c.in-Err.field-0 = subst (λ xs. IsNonDecreasingBy (λ y. ordering_index (atom_cmp y k)) xs → Parts k xs c.in-Err.field-0) c.deref.ensures.value c.in-Err.ensures.position (searchable ks k c.self.invariant) in
+    let parts : Parts k ks c.in-Err.field-0 =
+    subst (λ xs. IsNonDecreasingBy (λ y. ordering_index (atom_cmp y k)) xs → Parts k xs c.in-Err.field-0) c.deref.ensures.value
+    c.in-Err.ensures.position (searchable ks k c.self.invariant) in
     sym (ap (λ s. contains s k) c.self.view_is) ∙ contains-from_list ks k ∙ any_absent ks k c.in-Err.field-0 parts
 
 pub returns-in-Err-clause-state : goal.returns-in-Err-clause-state

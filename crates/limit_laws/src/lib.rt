@@ -1,0 +1,25 @@
+//! The limits have the values that the documents tell. Contracts cite a limit by its name, so that no clause of theirs fixes
+//! its value; this law does.
+#![tactic(auto)]
+
+ghost use Rattle.fact_store.specs.declared.facts.TheConstants.{MOST_NAMES};
+ghost use Rattle.gen_lines.specs.declared.values.TheConstants.{VALUE_BYTES};
+ghost use Rattle.io_world.specs.declared.host.TheConstants.{CHILDREN};
+ghost use Rattle.std.specs.Prelude.{◌≡◌};
+ghost use Rattle.task_model.specs.declared.limits.TheConstants.{LARGEST_NUMBER, MOST_DUE, MOST_STATES};
+ghost use Rattle.transcript_model.specs.declared.limits.TheConstants.{MOST_CALLS, MOST_DEPTH, WORKERS};
+
+/// Costs and values are at most 1,000,000, and as many instances may be due; a search goes through at most 200,000 states; a
+/// run makes at most 100,000 requests, of pools with at most 16 workers and children below 17; entries are supposed at most
+/// 8 deep; a value has at most 64 bytes, and fewer than 2^32 - 2^18 objects have names.
+pub fn limits_have_their_values()
+    ensures numbers { LARGEST_NUMBER ≡ 1000000 }
+    ensures due { MOST_DUE ≡ 1000000 }
+    ensures states { MOST_STATES ≡ 200000 }
+    ensures calls { MOST_CALLS ≡ 100000 }
+    ensures depth { MOST_DEPTH ≡ 8 }
+    ensures workers { WORKERS ≡ 16 }
+    ensures children { CHILDREN ≡ 17 }
+    ensures value { VALUE_BYTES ≡ 64 }
+    ensures names { MOST_NAMES ≡ 4294705152 }
+{}

@@ -1,0 +1,5 @@
+pub mod BatchesLemmas
+pub mod CountsLemmas
+pub mod FrontsLemmas
+pub mod LazyLemmas
+pub mod ModesLemmas

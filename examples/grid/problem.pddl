@@ -1,0 +1,5 @@
+(define (problem table) (:domain grid)
+  (:objects a b - block left right - region home-a home-b - pose)
+  (:init (free) (fits a right) (fits b left)
+    (pose a home-a) (at a home-a) (pose b home-b) (at b home-b))
+  (:goal (and (placed a right) (placed b left))))

@@ -1,0 +1,11 @@
+(define (stream grid)
+  (:stream place :inputs (?b - block ?r - region) :domain (fits ?b ?r)
+    :outputs (?p - pose) :certified (and (pose ?b ?p) (in ?b ?p ?r)))
+  (:stream grasp :inputs (?b - block) :outputs (?g - side)
+    :certified (grasp ?b ?g))
+  (:stream reach :inputs (?b - block ?p - pose ?g - side)
+    :domain (and (pose ?b ?p) (grasp ?b ?g)) :outputs (?c - cell)
+    :certified (reach ?b ?p ?g ?c))
+  (:stream clear
+    :inputs (?b - block ?p - pose ?o - block ?q - pose)
+    :domain (and (pose ?b ?p) (pose ?o ?q)) :certified (clear ?b ?p ?o ?q)))

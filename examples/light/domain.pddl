@@ -1,0 +1,2 @@
+(define (domain light) (:predicates (on))
+  (:action press :parameters () :precondition (not (on)) :effect (on)))

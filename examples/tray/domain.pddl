@@ -1,0 +1,17 @@
+; An arm takes cups from a rack and puts them on a tray on which a bottle stands.
+(define (domain tray)
+  (:types cup pose conf)
+  (:predicates (racked ?c - cup) (pair ?c ?o - cup)
+    (pose ?c - cup ?p - pose) (clear ?c - cup ?p - pose)
+    (apart ?c - cup ?p - pose ?o - cup ?r - pose)
+    (reach ?p - pose ?q - conf)
+    (at ?c - cup ?p - pose) (blocked ?c - cup ?p - pose) (served ?c - cup))
+  (:functions (turn ?q - conf) - number (total-cost) - number)
+  ; another cup stands where it may touch this one
+  (:derived (blocked ?c - cup ?p - pose)
+    (exists (?o - cup ?r - pose)
+      (and (at ?o ?r) (not (= ?o ?c)) (not (apart ?c ?p ?o ?r)) (not (apart ?o ?r ?c ?p)))))
+  (:derived (served ?c - cup) (exists (?p - pose) (at ?c ?p)))
+  (:action put :parameters (?c - cup ?p - pose ?q - conf)
+    :precondition (and (racked ?c) (clear ?c ?p) (reach ?p ?q) (not (blocked ?c ?p)))
+    :effect (and (at ?c ?p) (not (racked ?c)) (increase (total-cost) (turn ?q)))))

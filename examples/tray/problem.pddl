@@ -1,0 +1,5 @@
+(define (problem breakfast) (:domain tray)
+  (:objects mug glass - cup)
+  (:init (racked mug) (racked glass) (pair mug glass) (= (total-cost) 0))
+  (:goal (and (served mug) (served glass)))
+  (:metric minimize (total-cost)))
