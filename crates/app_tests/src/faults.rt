@@ -1,6 +1,6 @@
 //! Faults, each with its last line.
-use crate::given::{CUP, Given, Row, check_rows};
 use pddlstream_app::Status;
+use run_rows::{CUP, Given, Row, wrong_row};
 use std::alloc::{AllocError, Global};
 use std::test::Fail;
 
@@ -24,7 +24,7 @@ const TRIES: &[&[&str]] = &[
     &["replay", "d", "p", "s"],
     &["replay", "d", "p", "s", "r", "x"],
     &["replay", "d", "p", "s", "r", "--states", "200001"],
-    &["generate", "3"],
+    &["generate", "13"],
 ];
 
 #[test]
@@ -32,7 +32,7 @@ fn other_words_are_no_command(rt: HostRuntime) -> Result<(), Fail> {
     for words in TRIES {
         let given = Given { words, ..CUP };
         let row = ("other words are no command", given, USAGE, Status::Usage);
-        check_rows(&rt, rt.alloc(), &[row])?;
+        assert_eq!(rt; wrong_row(rt.alloc(), &[row])?, None);
     }
     Ok(())
 }
@@ -197,7 +197,8 @@ fault generator
 
 #[test]
 fn each_fault_has_its_last_line(rt: HostRuntime) -> Result<(), Fail> {
-    check_rows(&rt, rt.alloc(), &ROWS)
+    assert_eq!(rt; wrong_row(rt.alloc(), &ROWS)?, None);
+    Ok(())
 }
 
 /// The answer `end` with spaces behind it.
@@ -241,7 +242,10 @@ fn a_line_has_at_most_1024_bytes(rt: HostRuntime) -> Result<(), Fail> {
             answers: line.as_str(),
             ..CUP
         };
-        check_rows(&rt, rt.alloc(), &[("a line", given, want, ends)])?;
+        assert_eq!(rt;
+            wrong_row(rt.alloc(), &[("a line", given, want, ends)])?,
+            None
+        );
     }
     Ok(())
 }

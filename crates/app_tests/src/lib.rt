@@ -4,18 +4,12 @@
 #[cfg(test)]
 mod faults;
 #[cfg(test)]
-mod given;
-#[cfg(test)]
-mod joins;
+mod lengths;
 #[cfg(test)]
 mod limits;
-#[cfg(test)]
-mod maps;
 #[cfg(test)]
 mod outcomes;
 #[cfg(test)]
 mod refusals;
 #[cfg(test)]
 mod replays;
-#[cfg(test)]
-mod workers;

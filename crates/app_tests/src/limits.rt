@@ -1,6 +1,6 @@
 //! Limits. Of two lamps that can be turned on, four states are reached.
-use crate::given::{CUP, Given, PAIR, Row, check_rows};
 use pddlstream_app::Status;
+use run_rows::{CUP, Given, PAIR, Row, wrong_row};
 use std::test::Fail;
 use worked_tasks::{FETCH, LAMPS, Texts};
 
@@ -10,7 +10,7 @@ const FOUR: &[&str] = &["solve", "d", "p", "s", "--states", "4", "--", "g"];
 
 const THREE: &[&str] = &["solve", "d", "p", "s", "--states", "3", "--", "g"];
 
-const ROWS: [Row<'static>; 5] = [
+const ROWS: [Row<'static>; 6] = [
     (
         "the calls are spent",
         Given {
@@ -111,9 +111,32 @@ done
 ",
         Status::Limit,
     ),
+    (
+        "the last call gives a plan, which is printed and not the limit",
+        Given {
+            words: &["solve", "d", "p", "s", "--calls", "1", "--", "g"],
+            answers: "yield left\n",
+            ..CUP
+        },
+        "pddlstream 1 incremental
+limits 1 100000 3
+pool 1 grip
+level
+ask 1 0 grip cup
+got 1 left
+plan 2
+do take cup #left
+do drop cup #left
+cost 2
+from #left 1
+done
+",
+        Status::Plan,
+    ),
 ];
 
 #[test]
 fn a_run_ends_at_its_limits(rt: HostRuntime) -> Result<(), Fail> {
-    check_rows(&rt, rt.alloc(), &ROWS)
+    assert_eq!(rt; wrong_row(rt.alloc(), &ROWS)?, None);
+    Ok(())
 }

@@ -1,6 +1,6 @@
 //! Texts that are refused, and files that aren't there.
-use crate::given::{CUP, Given, Row, check_rows};
 use pddlstream_app::Status;
+use run_rows::{CUP, Given, Row, wrong_row};
 use std::test::Fail;
 use worked_tasks::{FETCH, Texts};
 
@@ -37,7 +37,10 @@ fn domains_are_refused(rt: HostRuntime) -> Result<(), Fail> {
             texts: Texts { domain, ..FETCH },
             ..CUP
         };
-        check_rows(&rt, rt.alloc(), &[(domain, given, want, Status::Input)])?;
+        assert_eq!(rt;
+            wrong_row(rt.alloc(), &[(domain, given, want, Status::Input)])?,
+            None
+        );
     }
     Ok(())
 }
@@ -70,7 +73,10 @@ fn streams_are_refused(rt: HostRuntime) -> Result<(), Fail> {
             },
             ..CUP
         };
-        check_rows(&rt, rt.alloc(), &[(streams, given, want, Status::Input)])?;
+        assert_eq!(rt;
+            wrong_row(rt.alloc(), &[(streams, given, want, Status::Input)])?,
+            None
+        );
     }
     Ok(())
 }
@@ -168,5 +174,6 @@ const ROWS: [Row<'static>; 7] = [
 
 #[test]
 fn the_first_text_that_is_refused_or_missing_is_told(rt: HostRuntime) -> Result<(), Fail> {
-    check_rows(&rt, rt.alloc(), &ROWS)
+    assert_eq!(rt; wrong_row(rt.alloc(), &ROWS)?, None);
+    Ok(())
 }

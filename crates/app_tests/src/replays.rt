@@ -1,6 +1,6 @@
 //! Reports that are judged.
-use crate::given::{CUP, Given, Row, check_rows};
 use pddlstream_app::Status;
+use run_rows::{CUP, Given, Row, wrong_row};
 use std::test::Fail;
 use worked_tasks::{ARM, FETCH, LAMPS, Texts};
 
@@ -64,7 +64,10 @@ const WRONG: &[(&str, &str)] = &[
 fn the_first_wrong_line_is_told(rt: HostRuntime) -> Result<(), Fail> {
     for (report, want) in WRONG {
         let given = Given { report, ..FETCHED };
-        check_rows(&rt, rt.alloc(), &[(report, given, want, Status::Invalid)])?;
+        assert_eq!(rt;
+            wrong_row(rt.alloc(), &[(report, given, want, Status::Invalid)])?,
+            None
+        );
     }
     Ok(())
 }
@@ -155,5 +158,6 @@ done
 
 #[test]
 fn a_report_is_judged_over_its_task(rt: HostRuntime) -> Result<(), Fail> {
-    check_rows(&rt, rt.alloc(), &ROWS)
+    assert_eq!(rt; wrong_row(rt.alloc(), &ROWS)?, None);
+    Ok(())
 }

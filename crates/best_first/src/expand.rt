@@ -1,6 +1,7 @@
 //! One state's successors.
 ghost use Rattle.std.specs.Prelude.{◌≡◌, ◌+◌, ◌<◌, ◌≤◌, ◌↔◌, ◌++◌, ℕ, List, length, Contains, IsTrue, IfOk, OnOk, Some, slice_get};
 ghost use Rattle.grounder.specs.Applicable.{IsApplicable, AreApplicable};
+ghost use Rattle.grounder.specs.Candidates.{AreCandidates};
 ghost use Rattle.task_model.specs.Fit.{IsFit};
 ghost use Rattle.task_model.specs.State.{Atoms};
 ghost use Rattle.task_model.specs.Steps.{IsStep};
@@ -9,7 +10,7 @@ ghost use Rattle.best_first.specs.Explored.{ExploringEnds, IsExplored, IsGrown, 
 
 use crate::tree::{Link, Tree};
 use formula_eval::{Env, holds};
-use grounder::applicable;
+use grounder::Candidates;
 use plan_check::{Applied, after, step_cost};
 use state_store::StateStore;
 use std::alloc::{AllocError, Global};
@@ -172,6 +173,7 @@ fn visit_all<L: Look>(
 pub(crate) fn expand<L: Look>(
     alloc: Global,
     scene: &Scene<'_, L>,
+    candidates: &Candidates,
     tree: &mut Tree,
     from: u32,
 ) -> Result<Turn, AllocError>
@@ -180,10 +182,12 @@ pub(crate) fn expand<L: Look>(
     requires explored { IsExplored scene.now.task.now (L.known scene.now.look.now)
         scene.now.seeks_goal scene.now.limit tree.old.store tree.old.links.items from }
     requires there { from < length tree.old.store }
+    requires candidates { AreCandidates scene.now.task.now (L.known scene.now.look.now)
+        candidates.now }
     ensures { IfOk result (Comes scene.now.task.now (L.known scene.now.look.now)
         scene.now.seeks_goal scene.now.limit tree.new.store tree.new.links.items (from + 1)) }
 {
     let state = tree.store.get(from)?;
-    let steps = applicable(alloc, scene.task, scene.look, &state)?;
+    let steps = candidates.applicable(alloc, scene.task, scene.look, &state)?;
     visit_all(scene, tree, from, &state, steps.as_slice())
 }

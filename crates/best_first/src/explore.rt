@@ -6,8 +6,13 @@ ghost use Rattle.best_first.specs.Outcome.{ComesTo};
 
 use crate::expand::{Scene, Turn, ends, expand};
 use crate::tree::Tree;
+use grounder::Candidates;
 use std::alloc::{AllocError, Global};
 use task_model::Look;
+
+/// How many arguments of actions are kept for all states. Each takes 80 bytes; an action that has more is joined
+/// anew in each state.
+const MOST_CANDIDATES: usize = 100_000;
 
 /// What an exploration comes to.
 #[derive(Drop)]
@@ -33,9 +38,10 @@ pub(crate) fn explore<L: Look>(alloc: Global, scene: &Scene<'_, L>) -> Result<Ex
     if ends(scene, &tree.store, 0)? {
         return Ok(Explored::Goal(tree));
     }
+    let candidates = Candidates::new(alloc, scene.task, scene.look, MOST_CANDIDATES)?;
     let mut next: u32 = 0;
     while next as usize <= tree.links.len() {
-        match expand(alloc, scene, &mut tree, next)? {
+        match expand(alloc, scene, &candidates, &mut tree, next)? {
             Turn::On => next += 1,
             Turn::Goal => return Ok(Explored::Goal(tree)),
             Turn::More => return Ok(Explored::More),

@@ -1,6 +1,6 @@
 pub mod CyclesEdgeLemmas
 pub mod DomainsLeastLemmas
-pub mod DomainsRoleLemmas
+pub mod MarksLemmas
 pub mod FitDomain
 pub mod FitItems
 pub mod FitNames

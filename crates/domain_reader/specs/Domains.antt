@@ -1,13 +1,11 @@
 -- What domains are, and all their name faults.
-use Rattle.std.specs.Prelude.{◌≡◌, ℕ, Bool, true, false, ◌==◌, if◌then◌else◌, List, [], ◌∷◌, ◌++◌, map, length, Option, Some, None, Result, Ok, Err, codes}
-use Rattle.std.specs.List.{list_any}
+use Rattle.std.specs.Prelude.{◌≡◌, ℕ, Bool, true, false, if◌then◌else◌, List, [], ◌∷◌, ◌++◌, map, length, Option, Some, None, Result, Ok, Err, codes}
 use Rattle.sexpr_text.specs.Trees.{Trees, nothing, word, list}
 use Rattle.lemmas.specs.Lists.{numbers_from}
 use Rattle.task_model.specs.Roles.{role_of}
 use Rattle.task_model.specs.declared.domain.Action.{Action}
 use Rattle.task_model.specs.declared.domain.Declared as declared
 use Rattle.task_model.specs.declared.domain.Derived as rule
-use Rattle.task_model.specs.declared.domain.Pattern.{Pattern}
 use Rattle.task_model.specs.declared.domain.Role.{Role}
 use Rattle.task_model.specs.declared.domain.Domain.{Domain}
 use Rattle.form_reader.specs.declared.fault.Fault.{Fault}
@@ -136,18 +134,6 @@ constants_of sorts body =
     declared_list (constants_in sorts no_typed body).names (constants_in sorts no_typed body).sorts
 
 -- ---- roles
-
-abbrev pub is_headed : List rule.Derived → ℕ → Bool
-is_headed rules pred = list_any (λ (d : rule.Derived). d.pred == pred) rules
-
-abbrev pub has_pattern : List Pattern → ℕ → Bool
-has_pattern patterns pred = list_any (λ (p : Pattern). p.pred == pred) patterns
-
-abbrev pub is_changed_by : Action → ℕ → Bool
-is_changed_by a pred = has_pattern (a.adds ++ a.deletes) pred
-
-abbrev pub is_changed : List Action → ℕ → Bool
-is_changed actions pred = list_any (λ (a : Action). is_changed_by a pred) actions
 
 abbrev pub roles_of : Domain → List Role
 roles_of d = map (role_of d) (numbers_from 0 (length d.predicates))

@@ -2,4 +2,5 @@ pub mod Tables
 pub mod Effects
 pub mod Names
 pub mod Cycles
+pub mod Marks
 pub mod Domains

@@ -3,7 +3,6 @@
 
 ghost use Rattle.std.specs.Prelude.{◌≡◌, IfOk, OnOk};
 ghost use Rattle.sexpr_text.specs.Trees.{tree, trees};
-ghost use Rattle.task_model.specs.Roles as roles;
 ghost use Rattle.form_reader.specs.Faults.{least_fault};
 ghost use Rattle.form_reader.specs.declared.groups.Spot.TheVariants.{Start};
 ghost use Rattle.name_tables.specs.Variables.{named_words};
@@ -17,15 +16,16 @@ use crate::once::{
     Declared as Declares, check_derived_count, check_second_actions, check_second_items,
     check_second_signatures, is_action,
 };
+use crate::roles::roles_of;
 use crate::tables::{add_heads, is_derived, name_of, vocabulary_of};
 use form_reader::{Fault, InputKind, Item, TextKind, head_of, inner_of, tail_of};
 use name_tables::{
     NameTable, Scope, TypedNames, Vocabulary, body_of, check_cycles, condition_of, declare_groups,
-    declared_place, enter, named_sorts, number, single_of, value_at,
+    declared_place, enter, named_sorts, single_of, value_at,
 };
 use sexpr_text::{Front, Tree, front_of};
 use std::alloc::{AllocError, Global};
-use task_model::{Action, Declared, Derived, Domain, Name, Pattern, Role, Seq};
+use task_model::{Action, Declared, Derived, Domain, Name, Seq};
 
 /// Whether the item declares constants.
 fn is_constants(item: Item) -> bool
@@ -167,75 +167,6 @@ fn rules_of(alloc: Global, names: &Vocabulary, items: &[Tree]) -> Result<Vec<Der
     }
 }
 
-/// Whether a rule heads the predicate.
-fn is_headed(rules: &[Derived], pred: u32) -> bool
-    ensures { result ≡ specs.is_headed rules.now pred }
-{
-    for rule in rules {
-        if rule.pred == pred {
-            return true;
-        }
-    }
-    false
-}
-
-/// Whether one of the atoms is of the predicate.
-fn has_pattern(patterns: &[Pattern], pred: u32) -> bool
-    ensures { result ≡ specs.has_pattern patterns.now pred }
-{
-    for pattern in patterns {
-        if pattern.pred == pred {
-            return true;
-        }
-    }
-    false
-}
-
-/// Whether an action changes atoms of the predicate.
-#[tactic(auto, using(crate::proofs::DomainsRoleLemmas::pattern_append))]
-fn is_changed_by(action: &Action, pred: u32) -> bool
-    ensures { result ≡ specs.is_changed_by action.now pred }
-{
-    has_pattern(action.adds.as_slice(), pred) || has_pattern(action.deletes.as_slice(), pred)
-}
-
-/// Whether some action changes atoms of the predicate.
-fn is_changed(actions: &[Action], pred: u32) -> bool
-    ensures { result ≡ specs.is_changed actions.now pred }
-{
-    for action in actions {
-        if is_changed_by(action, pred) {
-            return true;
-        }
-    }
-    false
-}
-
-/// The role of a predicate.
-#[tactic(auto, unfolding(task_model::specs::Roles::role_of))]
-fn role_of(domain: &Domain, pred: u32) -> Role
-    ensures { result ≡ roles.role_of domain.now pred }
-{
-    if is_headed(domain.derived.as_slice(), pred) {
-        return Role::Derived;
-    }
-    if is_changed(domain.actions.as_slice(), pred) {
-        return Role::Fluent;
-    }
-    Role::Static
-}
-
-/// The roles of all predicates. Fails only where memory is wanting.
-fn roles_of(alloc: Global, domain: &Domain) -> Result<Vec<Role>, AllocError>
-    ensures { IfOk result (λ list. list.items ≡ specs.roles_of domain.now) }
-{
-    let mut list = Vec::new(alloc);
-    for place in 0..domain.predicates.len() {
-        list.push(role_of(domain, number(place)?))?;
-    }
-    Ok(list)
-}
-
 /// The constants of items with their types.
 fn constants_of(
     alloc: Global,
@@ -274,7 +205,6 @@ fn parts_of(alloc: Global, names: &Vocabulary, text: &Tree) -> Result<Domain, Al
 }
 
 /// The domain that a text spells. Fails only where memory is wanting.
-#[tactic(auto, unfolding(task_model::specs::Roles::role_of))]
 pub(crate) fn domain_of(
     alloc: Global,
     names: &Vocabulary,

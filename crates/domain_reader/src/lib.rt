@@ -8,6 +8,7 @@ mod effects;
 mod items;
 mod once;
 mod reader;
+mod roles;
 mod tables;
 
 pub use once::check_second_items;

@@ -7,6 +7,8 @@ mod answers;
 #[cfg(test)]
 mod faults;
 #[cfg(test)]
+mod members;
+#[cfg(test)]
 mod statuses;
 #[cfg(test)]
 mod tasks;

@@ -111,6 +111,10 @@ fn words_and_files_are_refused(rt: HostRuntime) -> Result<(), Fail> {
     let none: Vec<String> = Vec::new(alloc);
     let status = serve(alloc, none.as_slice(), &mut files, &mut source, &mut sink);
     assert_eq!(rt; status, GridStatus::Usage);
+    let mut two = words(alloc, "g")?;
+    two.push(String::from_str(alloc, "g")?)?;
+    let status = serve(alloc, two.as_slice(), &mut files, &mut source, &mut sink);
+    assert_eq!(rt; status, GridStatus::Usage);
     let missing = words(alloc, "h")?;
     let status = serve(
         alloc,
@@ -121,6 +125,73 @@ fn words_and_files_are_refused(rt: HostRuntime) -> Result<(), Fail> {
     );
     assert_eq!(rt; status, GridStatus::ReadFault);
     assert_eq!(rt; sink.taken(), b"".as_slice());
+    Ok(())
+}
+
+/// A text, so many letters behind it, and another text.
+fn stretched(
+    alloc: Global,
+    front: &str,
+    letters: usize,
+    back: &str,
+) -> Result<Vec<u8>, AllocError> {
+    let mut bytes = Vec::from_slice(alloc, front.as_bytes())?;
+    let middle = vec![in alloc; b'a'; letters]?;
+    bytes.extend_from_slice(middle.as_slice())?;
+    bytes.extend_from_slice(back.as_bytes())?;
+    Ok(bytes)
+}
+
+/// What stands before and behind so many letters in the input, how the program ends, and what it answers.
+type Long = (&'static str, usize, &'static str, GridStatus, &'static str);
+
+const LONG: [Long; 6] = [
+    ("", 4096, "\n", GridStatus::Done, "end\n"),
+    ("", 4097, "\n", GridStatus::Input, ""),
+    ("", 4096, "", GridStatus::Done, ""),
+    ("", 4097, "", GridStatus::Input, ""),
+    (
+        "next 0 grasp b1\n",
+        4096,
+        "\nnext 1 grasp b1\n",
+        GridStatus::Done,
+        "yield n\nend\nyield e\n",
+    ),
+    (
+        "next 0 grasp b1\n",
+        4097,
+        "\nnext 1 grasp b1\n",
+        GridStatus::Input,
+        "yield n\n",
+    ),
+];
+
+#[test]
+fn a_line_has_at_most_4096_bytes(rt: HostRuntime) -> Result<(), Fail> {
+    for (front, letters, back, status, written) in LONG {
+        let input = stretched(rt.alloc(), front, letters, back)?;
+        let found = run(rt.alloc(), GRID, input.as_slice(), &[], 99)?;
+        assert_eq!(rt; found.0, status, "{letters}");
+        assert_eq!(rt; found.1.as_slice(), written.as_bytes(), "{letters}");
+    }
+    Ok(())
+}
+
+/// The grid with a line that is passed over, of so many bytes in all.
+fn grid_of(alloc: Global, size: usize) -> Result<Vec<u8>, AllocError> {
+    stretched(alloc, "grid 9 9\n;", size.saturating_sub(10), "")
+}
+
+#[test]
+fn a_grid_file_has_at_most_4_mib(rt: HostRuntime) -> Result<(), Fail> {
+    let longest = grid_of(rt.alloc(), 4_194_304)?;
+    let found = run(rt.alloc(), longest.as_slice(), b"\n", &[], 99)?;
+    assert_eq!(rt; found.0, GridStatus::Done);
+    assert_eq!(rt; found.1.as_slice(), b"end\n".as_slice());
+    let longer = grid_of(rt.alloc(), 4_194_305)?;
+    let found = run(rt.alloc(), longer.as_slice(), b"\n", &[], 99)?;
+    assert_eq!(rt; found.0, GridStatus::ReadFault);
+    assert_eq!(rt; found.1.as_slice(), b"".as_slice());
     Ok(())
 }
 

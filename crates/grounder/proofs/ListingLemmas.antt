@@ -18,7 +18,8 @@ use Rattle.task_model.specs.declared.task.GroundAction.{GroundAction}
 use Rattle.task_model.specs.declared.task.Task.{Task}
 use Rattle.grounder.specs.Applicable.{IsApplicable, AreApplicable, step_cmp}
 use Rattle.grounder.specs.Listing.{can_take, AreArguments, AreStepsOf, AddsSteps}
-use Rattle.grounder.specs.Parts.{AreNeeded}
+use Rattle.grounder.proofs.PartsLemmas.{settled_where}
+use Rattle.grounder.specs.Parts.{AreNeeded, tops_of}
 use Rattle.lemmas.proofs.Ascending.{contains_none, contains_here, contains_later, contains_cases, all_from, all_at, rising_append, ascending}
 use Rattle.lemmas.specs.Lists.{AreDistinct}
 use Rattle.fact_join.proofs.OrderLemmas.{sorted_ascends, strictly_sorted}
@@ -46,12 +47,28 @@ is_some-of o x e = ap is_some e
 numbers_tie : (xs ys : List ℕ) → slice_cmp nat_cmp xs ys ≡ Equal → xs ≡ ys
 numbers_tie xs ys e = (numbers_decided xs ys).0 (lists_ties nat_cmp unsigned_ties xs ys ∙ ap is_eq e)
 
+-- all of which something holds, each once, and sorted
+pub sorted_all : (P : List ℕ → Type 0) (found rows : List (List ℕ)) → Adds P [] found
+    → IsPermutation found rows → IsSorted (slice_cmp nat_cmp) rows
+    → IsStrictlySortedBy (slice_cmp nat_cmp) rows × ((args : List ℕ) → Contains rows args ↔ P args)
+sorted_all P found rows (more, is, all) moved up =
+    let distinct : AreDistinct found = subst AreDistinct (sym is) all.distinct in (
+      strictly_sorted (slice_cmp nat_cmp) rows
+          (sorted_ascends (slice_cmp nat_cmp) nat_list_cmp_total numbers_tie rows
+          (distinct_permuted same_numbers numbers_decided found rows moved distinct) up),
+      λ args. (
+        λ m. (all.each args).0
+            (subst (λ xs. Contains xs args) is (Contains-permutation rows found args (IsPermutation-sym found rows moved) m)),
+        λ p. Contains-permutation found rows args moved (subst (λ xs. Contains xs args) (sym is) ((all.each args).1 p)),
+      ),
+    )
+
 module _ (task : Task) (known : Known) (state : Atoms) (action : Action) where
   abbrev takes : List ℕ → Bool
   takes args = can_take task known state action args
 
   answer_is : (partial : Partial) (atoms : List QueryAtom) → ((slots : List ℕ) → Agrees partial slots)
-      → AreNeeded task.domain action.condition atoms → (args : List ℕ)
+      → AreNeeded task.domain (tops_of action.condition) atoms → (args : List ℕ)
       → IsAnswer known action.params takes partial atoms args ↔ ((have_types known args action.params ≡ true) × (takes args ≡ true))
   answer_is partial atoms free needed args = (
     λ a. (a.types, a.wanted),
@@ -59,7 +76,9 @@ module _ (task : Task) (known : Known) (state : Atoms) (action : Action) where
       agrees = free (slots_of args);
       types = typed;
       known_atoms =
-          needed.known known state (slots_of args) (first_so (is_true task.domain known state action.condition (slots_of args)) _ can);
+          needed.known known (slots_of args)
+          ∙ settled_where task.domain known state
+          (slots_of args) action.condition (first_so (is_true task.domain known state action.condition (slots_of args)) _ can);
       wanted = can;
     },
   )
@@ -67,22 +86,15 @@ module _ (task : Task) (known : Known) (state : Atoms) (action : Action) where
   -- the answers, sorted, are the arguments
   pub sorted_arguments : (partial : Partial) (atoms : List QueryAtom) (found rows : List (List ℕ))
       → ((slots : List ℕ) → Agrees partial slots)
-      → AreNeeded task.domain action.condition atoms
+      → AreNeeded task.domain (tops_of action.condition) atoms
       → Adds (IsAnswer known action.params takes partial atoms) [] found
       → IsPermutation found rows → IsSorted (slice_cmp nat_cmp) rows → AreArguments task known state action rows
-  sorted_arguments partial atoms found rows free needed (more, is, all) moved up =
-      let distinct : AreDistinct found = subst AreDistinct (sym is) all.distinct in
+  sorted_arguments partial atoms found rows free needed adds moved up =
+      let all = sorted_all (IsAnswer known action.params takes partial atoms) found rows adds moved up in
+      let is = answer_is partial atoms free needed in
       record {
-        ascending = strictly_sorted (slice_cmp nat_cmp) rows
-            (sorted_ascends (slice_cmp nat_cmp) nat_list_cmp_total numbers_tie rows
-            (distinct_permuted same_numbers numbers_decided found rows moved distinct) up);
-        each = λ args. (
-          λ m. (answer_is partial atoms free needed args).0
-              ((all.each args).0 (subst (λ xs. Contains xs args) is
-              (Contains-permutation rows found args (IsPermutation-sym found rows moved) m))),
-          λ p. Contains-permutation found rows args moved
-              (subst (λ xs. Contains xs args) (sym is) ((all.each args).1 ((answer_is partial atoms free needed args).1 p))),
-        );
+        ascending = all.0;
+        each = λ args. (λ m. (is args).0 ((all.1 args).0 m), λ p. (all.1 args).1 ((is args).1 p));
       }
 
 -- ---- the steps of one action

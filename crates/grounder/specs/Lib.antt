@@ -1,3 +1,4 @@
 pub mod Applicable
 pub mod Listing
 pub mod Parts
+pub mod Candidates

@@ -1,31 +1,69 @@
--- Static atoms without which a condition isn't true.
-use Rattle.std.specs.Prelude.{◌≡◌, ℕ, List, length, true}
+-- The static atoms of a condition: no state changes whether they are true.
+use Rattle.std.specs.Prelude.{◌≡◌, ℕ, List, [], ◌∷◌, length, Bool, true, false}
 use Rattle.std.specs.List.{list_all}
-use Rattle.task_model.specs.Condition.{Condition}
-use Rattle.task_model.specs.Fit.{is_sound}
-use Rattle.task_model.specs.Known.{Known}
+use Rattle.task_model.specs.Condition.{Condition, Conditions, Atom, Equal, All, Any, Not, Exists, none, more}
+use Rattle.task_model.specs.Fit.{is_sound, is_static_role}
+use Rattle.task_model.specs.Known.{Known, is_fact, atom_fact}
 use Rattle.lemmas.specs.Lists.{numbers_from}
-use Rattle.task_model.specs.State.{Atoms}
-use Rattle.task_model.specs.Truth.{is_true}
+use Rattle.task_model.specs.Roles.{role_of}
+use Rattle.task_model.specs.Truth.{objects_at}
 use Rattle.task_model.specs.declared.domain.Domain.{Domain}
+use Rattle.std.specs.Prelude.{not, ◌||◌}
 use Rattle.fact_join.specs.Answers.{is_known, is_atom_of}
 use Rattle.fact_join.specs.declared.query.QueryAtom.{QueryAtom}
 
+abbrev pub list_of : Conditions → List Condition
+list_of none = []
+list_of (more part parts) = part ∷ list_of parts
+
+-- the parts that all have to be true where the condition is made of such, and else the condition alone
+abbrev pub tops_of : Condition → List Condition
+tops_of (Atom pred args) = Atom pred args ∷ []
+tops_of (Equal s t) = Equal s t ∷ []
+tops_of (All parts) = list_of parts
+tops_of (Any parts) = Any parts ∷ []
+tops_of (Not part) = Not part ∷ []
+tops_of (Exists first sorts body) = Exists first sorts body ∷ []
+
+-- it is an atom of a static predicate
+abbrev pub is_static : Domain → Condition → Bool
+is_static domain (Atom pred args) = is_static_role (role_of domain pred)
+is_static domain (Equal s t) = false
+is_static domain (All parts) = false
+is_static domain (Any parts) = false
+is_static domain (Not part) = false
+is_static domain (Exists first sorts body) = false
+
+-- it is a known fact if it is an atom, where the slots have these objects
+abbrev pub is_known_atom : Known → List ℕ → Condition → Bool
+is_known_atom known slots (Atom pred args) =
+    is_fact known.facts (atom_fact pred (objects_at slots args))
+is_known_atom known slots (Equal s t) = true
+is_known_atom known slots (All parts) = true
+is_known_atom known slots (Any parts) = true
+is_known_atom known slots (Not part) = true
+is_known_atom known slots (Exists first sorts body) = true
+
+-- it is a known fact if it is an atom of a static predicate
+abbrev pub is_settled : Domain → Known → List ℕ → Condition → Bool
+is_settled domain known slots part = not (is_static domain part) || is_known_atom known slots part
+
 -- the condition is fit where so many slots are filled
-abbrev pub IsSoundOver : Domain → ℕ → Condition → Type 0
-IsSoundOver domain width condition =
-    is_sound domain (length domain.constants) condition (numbers_from 0 width) ≡ true
+abbrev pub is_sound_over : Domain → ℕ → Condition → Bool
+is_sound_over domain width condition =
+    is_sound domain (length domain.constants) condition (numbers_from 0 width)
 
--- Where the condition is true the atoms are known, and their slots are those that are filled for the condition.
-pub record AreNeeded (domain : Domain) (condition : Condition) (atoms : List QueryAtom) : Type 0 where
-  pub slots : (width : ℕ) → IsSoundOver domain width condition
+-- The atoms are those of static predicates among the parts: they are known exactly where these are settled, and their
+-- slots are filled where the parts' are.
+pub record AreNeeded (domain : Domain) (parts : List Condition) (atoms : List QueryAtom) : Type 0 where
+  pub slots : (width : ℕ) → list_all (is_sound_over domain width) parts ≡ true
       → list_all (is_atom_of width) atoms ≡ true
-  pub known : (known : Known) (state : Atoms) (slots : List ℕ)
-      → is_true domain known state condition slots ≡ true
-      → list_all (is_known known slots) atoms ≡ true
+  pub known : (known : Known) (slots : List ℕ)
+      → list_all (is_known known slots) atoms ≡ list_all (is_settled domain known slots) parts
 
--- the same of one atom
-pub record IsNeeded (domain : Domain) (condition : Condition) (atom : QueryAtom) : Type 0 where
-  pub slots : (width : ℕ) → IsSoundOver domain width condition → is_atom_of width atom ≡ true
-  pub known : (known : Known) (state : Atoms) (slots : List ℕ)
-      → is_true domain known state condition slots ≡ true → is_known known slots atom ≡ true
+-- the same of one atom and one part
+pub record IsNeeded (domain : Domain) (part : Condition) (atom : QueryAtom) : Type 0 where
+  pub static : is_static domain part ≡ true
+  pub slots : (width : ℕ) → is_sound_over domain width part ≡ true → is_atom_of width atom ≡ true
+  pub known : (known : Known) (slots : List ℕ)
+      → is_known known slots atom ≡ is_settled domain known slots part

@@ -1,19 +1,34 @@
-//! The static atoms that a condition needs.
-ghost use Rattle.std.specs.Prelude.{◌≡◌, true, IfOk, IfSome};
+//! The static atoms of a condition.
+ghost use Rattle.std.specs.Prelude.{◌≡◌, false, true, IfOk, MatchOption};
 ghost use Rattle.formula_eval.specs.Readable.{is_readable};
-ghost use Rattle.task_model.specs.Condition.{parts_of, All};
 ghost use Rattle.task_model.specs.Fit.{IsFitDomain};
-ghost use Rattle.grounder.specs.Parts.{IsNeeded, AreNeeded};
+ghost use Rattle.grounder.specs.Parts.{IsNeeded, AreNeeded, is_static, tops_of};
 
 use fact_join::QueryAtom;
 use std::alloc::{AllocError, Global};
+use std::slice;
 use task_model::{Domain, Formula, FormulaNode, Role};
 
+/// The parts that all have to be true where the condition is made of such, and else the condition alone.
+pub(crate) fn tops(condition: &Formula) -> &[Formula]
+    ensures { result.now ≡ tops_of condition.now }
+{
+    match &condition.node {
+        FormulaNode::All(parts) => parts.as_slice(),
+        FormulaNode::Atom { .. }
+        | FormulaNode::Equal(..)
+        | FormulaNode::Any(_)
+        | FormulaNode::Not(_)
+        | FormulaNode::Exists { .. } => slice::from_ref(condition),
+    }
+}
+
 /// The condition as an atom, if it is one of a static predicate.
-fn static_atom<'a>(domain: &Domain, condition: &'a Formula) -> Option<QueryAtom<'a>>
+pub(crate) fn static_atom<'a>(domain: &Domain, condition: &'a Formula) -> Option<QueryAtom<'a>>
     requires fit { IsFitDomain domain.now }
     requires readable { is_readable domain.now condition.now ≡ true }
-    ensures { IfSome result (IsNeeded domain.now condition.now) }
+    ensures { MatchOption result (is_static domain.now condition.now ≡ false)
+        (IsNeeded domain.now condition.now) }
 {
     let FormulaNode::Atom { pred, args } = &condition.node else {
         return None;
@@ -27,25 +42,6 @@ fn static_atom<'a>(domain: &Domain, condition: &'a Formula) -> Option<QueryAtom<
     }
 }
 
-/// The parts that are atoms of static predicates. Fails only where memory is wanting.
-fn static_parts<'a>(
-    alloc: Global,
-    domain: &Domain,
-    parts: &'a [Formula],
-) -> Result<Vec<QueryAtom<'a>>, AllocError>
-    requires fit { IsFitDomain domain.now }
-    requires readable { is_readable domain.now (All (parts_of parts.now)) ≡ true }
-    ensures { IfOk result (λ atoms. AreNeeded domain.now (All (parts_of parts.now)) atoms.items) }
-{
-    let mut atoms = Vec::new(alloc);
-    for part in parts {
-        if let Some(atom) = static_atom(domain, part) {
-            atoms.push(atom)?;
-        }
-    }
-    Ok(atoms)
-}
-
 /// The atoms of static predicates that stand at the top of the condition: the condition itself, or parts that all
 /// have to be true. Fails only where memory is wanting.
 pub(crate) fn static_atoms<'a>(
@@ -55,14 +51,13 @@ pub(crate) fn static_atoms<'a>(
 ) -> Result<Vec<QueryAtom<'a>>, AllocError>
     requires fit { IsFitDomain domain.now }
     requires readable { is_readable domain.now condition.now ≡ true }
-    ensures { IfOk result (λ atoms. AreNeeded domain.now condition.now atoms.items) }
+    ensures { IfOk result (λ atoms. AreNeeded domain.now (tops_of condition.now) atoms.items) }
 {
-    if let FormulaNode::All(parts) = &condition.node {
-        return static_parts(alloc, domain, parts.as_slice());
-    }
     let mut atoms = Vec::new(alloc);
-    if let Some(atom) = static_atom(domain, condition) {
-        atoms.push(atom)?;
+    for part in tops(condition) {
+        if let Some(atom) = static_atom(domain, part) {
+            atoms.push(atom)?;
+        }
     }
     Ok(atoms)
 }

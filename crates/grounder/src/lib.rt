@@ -3,6 +3,8 @@
 
 pub mod actions;
 mod atoms;
+pub mod candidates;
 mod steps;
 
 pub use actions::applicable;
+pub use candidates::Candidates;

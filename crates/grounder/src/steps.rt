@@ -1,9 +1,10 @@
 //! The steps of one action.
 ghost use Rattle.std.specs.Prelude.{◌≡◌, ◌≤◌, OnOk, IfOk, length, true, Some, slice_get};
 ghost use Rattle.task_model.specs.Fit.{IsFit, is_fit_action};
+ghost use Rattle.grounder.specs.Candidates.{can_go_on};
 ghost use Rattle.grounder.specs.Listing.{AddsSteps, AreArguments};
 
-use crate::atoms::static_atoms;
+use crate::atoms::{static_atom, static_atoms, tops};
 use fact_join::{Partial, Query, Wanted, join};
 use formula_eval::{Env, holds};
 use plan_check::step_cost;
@@ -42,6 +43,29 @@ impl<'a, L: Look> Wanted for Scene<'a, L> {
             &self.action.condition,
             &mut env,
         ) && step_cost(self.task, self.look, self.state, self.action, args).is_some()
+    }
+}
+
+impl<'a, L: Look> Scene<'a, L> {
+    /// Whether the action can be taken with these objects as far as its static atoms don't say: all other parts of
+    /// its condition are true, and its cost has a value.
+    pub(crate) fn can_go(&self, args: &[Obj]) -> bool
+        requires fit { IsFit self.now.task.now }
+        requires action { is_fit_action self.now.task.now.domain self.now.action.now ≡ true }
+        requires few { length args.now ≤ 16 }
+        ensures { result ≡ can_go_on self.now.task.now (L.known self.now.look.now)
+            self.now.state.now
+            self.now.action.now args.now }
+    {
+        let mut env = Env::new(args);
+        for part in tops(&self.action.condition) {
+            if static_atom(&self.task.domain, part).is_none()
+                && !holds(self.task, self.look, self.state, part, &mut env)
+            {
+                return false;
+            }
+        }
+        step_cost(self.task, self.look, self.state, self.action, args).is_some()
     }
 }
 

@@ -5,3 +5,5 @@
 mod chains;
 #[cfg(test)]
 mod shapes;
+#[cfg(test)]
+mod wide;

@@ -1,9 +1,10 @@
 //! Streams and actions whose atoms share variables, or have one twice, a constant, none in common, or no atoms.
 use fact_store::Facts;
-use grounder::applicable;
+use grounder::{Candidates, applicable};
 use instance_queue::Queue;
 use plan_check::initial;
 use std::alloc::Global;
+use std::process::Abort;
 use std::test::Fail;
 use task_model::{GroundAction, Obj};
 use worked_tasks::{Texts, task};
@@ -70,17 +71,57 @@ fn a_level_has_each_instance_once(rt: HostRuntime) -> Result<(), Fail> {
     Ok(())
 }
 
+/// Asserts that these are the steps that are to be found.
+fn check_steps(rt: &impl Abort, alloc: Global, steps: &[GroundAction]) -> Result<(), Fail> {
+    assert_eq!(rt; steps.len(), FOUND.len());
+    for (step, want) in steps.iter().zip(FOUND) {
+        assert_eq!(rt; step.action, want.0);
+        assert_eq!(rt; places(alloc, step.args.as_slice())?.as_slice(), want.1);
+    }
+    Ok(())
+}
+
 #[test]
 fn an_action_has_each_tuple_once(rt: HostRuntime) -> Result<(), Fail> {
     let alloc = rt.alloc();
     let task = task(alloc, &EDGES)?;
     let facts = Box::new(alloc, Facts::new(alloc, &task)?)?;
     let state = initial(alloc, &task)?;
-    let steps: Vec<GroundAction> = applicable(alloc, &task, &*facts, &state)?;
-    assert_eq!(rt; steps.len(), FOUND.len());
-    for (step, want) in steps.iter().zip(FOUND) {
-        assert_eq!(rt; step.action, want.0);
-        assert_eq!(rt; places(alloc, step.args.as_slice())?.as_slice(), want.1);
+    let steps = applicable(alloc, &task, &*facts, &state)?;
+    check_steps(&rt, alloc, steps.as_slice())
+}
+
+#[test]
+fn candidates_give_the_same_steps_however_many_are_kept(rt: HostRuntime) -> Result<(), Fail> {
+    let alloc = rt.alloc();
+    let task = task(alloc, &EDGES)?;
+    let facts = Box::new(alloc, Facts::new(alloc, &task)?)?;
+    let state = initial(alloc, &task)?;
+    for most in [100, 6, 0] {
+        let candidates = Candidates::new(alloc, &task, &*facts, most)?;
+        let steps = candidates.applicable(alloc, &task, &*facts, &state)?;
+        check_steps(&rt, alloc, steps.as_slice())?;
     }
+    Ok(())
+}
+
+/// How many candidates are kept of each action where 6 may be: of `path`, `loop` and `both` all; then `from`, which has
+/// two, and `rest`, which has one, are left out, and of `mark` none are there.
+const KEPT: [Option<usize>; 6] = [Some(4), Some(1), Some(1), None, Some(0), None];
+
+#[test]
+fn candidates_are_kept_up_to_the_most(rt: HostRuntime) -> Result<(), Fail> {
+    let alloc = rt.alloc();
+    let task = task(alloc, &EDGES)?;
+    let facts = Box::new(alloc, Facts::new(alloc, &task)?)?;
+    let candidates = Candidates::new(alloc, &task, &*facts, 6)?;
+    let mut kept = Vec::new(alloc);
+    for rows in candidates.actions.as_slice() {
+        kept.push(match rows {
+            Some(rows) => Some(rows.len()),
+            None => None,
+        })?;
+    }
+    assert_eq!(rt; kept.as_slice(), KEPT.as_slice());
     Ok(())
 }

@@ -42,7 +42,8 @@ fn send_one<H: Host, O: Sink>(
 ) -> Result<(), RunFault>
     requires rolling { IsRolling session.old (H.running host.old) place 0 }
     requires within { place < length session.old.slots }
-    ensures rolled { OnOk result (Rolled session.old session.new (H.running host.new) (place + 1) 0) }
+    ensures rolled { OnOk result (Rolled session.old session.new (H.running host.new) (place + 1)
+        0) }
     ensures goes { OnOk result (Goes (session.old.entries ++ take place session.old.asks)
         (session.old.entries ++ take (place + 1) session.old.asks) (O.taken out.old)
         (O.taken out.new)) }

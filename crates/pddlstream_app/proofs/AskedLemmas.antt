@@ -1,5 +1,5 @@
 -- Which files were asked for.
-use Rattle.std.proofs.Common.{◌≡◌, ℕ, List, [], ◌∷◌, refl, sym, subst, ◌⊎◌, inl, inr, false, Option, Result, Ok, Err, IfOk, IfErr}
+use Rattle.std.proofs.Common.{◌≡◌, ℕ, List, [], ◌∷◌, refl, sym, subst, ◌⊎◌, inl, inr, false, Option, Some, Result, Ok, Err, IfOk, IfErr}
 use Rattle.std.specs.Io.KnownBytes.{Appends}
 use Rattle.level_run.proofs.StoppedLemmas.{appends_then}
 use Rattle.level_run.specs.declared.fault.RunFault.{RunFault}
@@ -7,16 +7,21 @@ use Rattle.level_run.specs.declared.fault.RunFault.TheVariants as fault
 use Rattle.transcript_model.specs.declared.outcome.Outcome.{Outcome}
 use Rattle.transcript_model.specs.declared.outcome.Outcome.TheVariants as outcome
 use Rattle.pddlstream_app.proofs.RunsLemmas.{before_last}
-use Rattle.pddlstream_app.specs.Asked.{AsksAll, AsksBefore, AsksFiles, AsksSome, AsksToNamed, AsksUpTo}
-use Rattle.command_line.specs.Words.{solve}
-use Rattle.pddlstream_app.proofs.InputsLemmas.{is_of_input}
+use Rattle.pddlstream_app.specs.Asked.{AsksAll, AsksAllOf, AsksBefore, AsksFiles, AsksSome, AsksToNamed, AsksUpTo}
+use Rattle.command_line.specs.Words.{Command, SolveWords, command_of, generate, replay, solve}
+use Rattle.pddlstream_app.proofs.InputsLemmas.{is_of_input, made_nothing}
 use Rattle.pddlstream_app.specs.Files.{file_of}
-use Rattle.pddlstream_app.specs.Inputs.{HasNoInput, file_at, files_named}
+use Rattle.pddlstream_app.specs.Inputs.{EndsReading, HasNoInput, ReadsNothing, SolvesNothing, file_at, files_named}
 use Rattle.pddlstream_app.specs.declared.stop.FileRole.TheVariants as role
 use Rattle.pddlstream_app.specs.declared.stop.Text.TheVariants.{Domain, Problem, Streams}
 use Rattle.pddlstream_app.specs.Outside.{FilesSeen, Outside, Written}
 use Rattle.pddlstream_app.specs.Replays.{kind_of_verdict}
-use Rattle.pddlstream_app.specs.Runs.{ClosesRun, HasOutcome, HasVerdict, IsBeforeLast, IsCompleted, IsSaid, IsStopped, kind_of}
+use Rattle.pddlstream_app.specs.Runs.{ClosesRun, HasOutcome, HasVerdict, IsBeforeLast, IsCompleted, IsLined, IsSaid, IsStopped, kind_of}
+use Rattle.level_run.specs.declared.incremental_mode.Ran.{Ran}
+use Rattle.pddlstream_app.specs.Solving.{HasNoReport, IsSolved}
+use Rattle.pddlstream_app.specs.Works.{made_files, made_words}
+use Rattle.io_world.specs.Faults.{Extends}
+use Rattle.io_world.specs.Talks.{Event, Talk}
 use Rattle.replay_check.specs.declared.verdict.Verdict.{Verdict}
 use Rattle.replay_check.specs.declared.verdict.Verdict.TheVariants as verdict
 use Rattle.pddlstream_app.specs.Stop.{is_write, status_at, last_text}
@@ -25,12 +30,12 @@ use Rattle.pddlstream_app.specs.declared.stop.Stop.{Stop}
 use Rattle.pddlstream_app.specs.declared.stop.Stop.TheVariants as stop
 
 module _ (words : List (List ℕ)) (files : FilesSeen) where
-  -- the files up to that at which a run ends
-  up_to : (why : Stop) → HasNoInput words files why → AsksUpTo words files
-  up_to why (inl n) = let s = n.stopped in
+  reading_up_to : (command : Command) → command_of words ≡ Some command → (why : Stop)
+      → EndsReading command files why → AsksUpTo words files
+  reading_up_to command meant why n = let s = n.stopped in
       record {
-        command = n.command;
-        meant = n.meant;
+        command = command;
+        meant = meant;
         all = n.all;
         are = n.are;
         before = s.before;
@@ -40,20 +45,32 @@ module _ (words : List (List ℕ)) (files : FilesSeen) where
         answer = s.answer;
         asked = s.asked;
       }
-  up_to why (inr n) =
-      let paths = n.asked.files in
-      record {
-        command = solve n.asked;
-        meant = n.meant;
-        all = files_named (solve n.asked);
-        are = inl refl;
-        before = file_of (role.Text Domain) paths.domain ∷ file_of (role.Text Problem) paths.problem ∷ [];
-        wanted = file_of (role.Text Streams) paths.streams;
-        later = file_at role.Map n.asked.path;
-        order = refl;
-        answer = Ok tt;
-        asked = n.asked_for;
-      }
+
+  solving_up_to : (w : SolveWords) → command_of words ≡ Some (solve w) → (why : Stop)
+      → SolvesNothing w files why → AsksUpTo words files
+  solving_up_to w meant why (inl n) = reading_up_to (solve w) meant why n
+  solving_up_to w meant why (inr n) = record {
+    command = solve w;
+    meant = meant;
+    all = files_named (solve w);
+    are = inl refl;
+    before = file_of (role.Text Domain) w.files.domain ∷ file_of (role.Text Problem) w.files.problem ∷ [];
+    wanted = file_of (role.Text Streams) w.files.streams;
+    later = file_at role.Map w.path;
+    order = refl;
+    answer = Ok tt;
+    asked = n.asked_for;
+  }
+
+  -- the files up to that at which a run ends, if its command has some
+  command_some : (command : Command) → command_of words ≡ Some command → (why : Stop)
+      → ReadsNothing command files why → AsksSome words files
+  command_some (solve w) meant why n = inr (inr (solving_up_to w meant why n))
+  command_some (replay w) meant why n = inr (inr (reading_up_to (replay w) meant why n))
+  command_some (generate number) meant why n = inl n.asked_for
+
+  up_to : (why : Stop) → HasNoInput words files why → AsksSome words files
+  up_to why n = command_some n.command n.meant why n.cause
 
   -- the run over the task stopped
   pub asked_running : (f : RunFault) → AsksAll words files → AsksBefore words files (stop.Run f)
@@ -76,7 +93,7 @@ module _ (words : List (List ℕ)) (files : FilesSeen) where
       absurd (is_of_input words files (stop.Run fault.Generator) n)
   asked_reading (stop.Run fault.Write) n =
       absurd (is_of_input words files (stop.Run fault.Write) n)
-  asked_reading (stop.Run fault.Memory) n = inr (inr (up_to (stop.Run fault.Memory) n))
+  asked_reading (stop.Run fault.Memory) n = up_to (stop.Run fault.Memory) n
 
   -- the verdict was written, or not
   pub asked_said : (IsSo : Verdict → Type 0) (written : Written) (r : Result Status Stop)
@@ -87,6 +104,13 @@ module _ (words : List (List ℕ)) (files : FilesSeen) where
       subst (AsksBefore words files) (sym x.0) (inr (inl all))
   asked_said IsSo written (Err why) (inr (v, is, inr x)) all = subst (AsksBefore words files) (sym x.0) all
 
+  -- the line of a run was written, or not
+  pub asked_lined : (kind : Status) (line : List ℕ) (written : Written) (r : Result Status Stop)
+      → IsLined kind line written r → AsksAll words files → IfErr r (AsksBefore words files)
+  asked_lined kind line written (Ok status) said all = tt
+  asked_lined kind line written (Err why) (inl x) all = subst (AsksBefore words files) (sym x.0) (inr (inl all))
+  asked_lined kind line written (Err why) (inr x) all = subst (AsksBefore words files) (sym x.0) all
+
   pub asked_if_ok : (r : Result Status Stop) → AsksAll words files
       → IfOk r (λ status. AsksAll words files)
   asked_if_ok (Ok status) all = all
@@ -94,15 +118,47 @@ module _ (words : List (List ℕ)) (files : FilesSeen) where
 
   pub some_before : (why : Stop) → AsksBefore words files why → AsksSome words files
   some_before stop.Usage a = inl a.1
-  some_before (stop.Input which kind place) a = inr (inr (up_to (stop.Input which kind place) a))
-  some_before (stop.Map why) a = inr (inr (up_to (stop.Map why) a))
-  some_before (stop.Grid kind line) a = inr (inr (up_to (stop.Grid kind line) a))
-  some_before (stop.Failed which) a = inr (inr (up_to (stop.Failed which) a))
-  some_before (stop.TooLong which) a = inr (inr (up_to (stop.TooLong which) a))
+  some_before (stop.Input which kind place) a = up_to (stop.Input which kind place) a
+  some_before (stop.Map why) a = up_to (stop.Map why) a
+  some_before (stop.Grid kind line) a = up_to (stop.Grid kind line) a
+  some_before (stop.Failed which) a = up_to (stop.Failed which) a
+  some_before (stop.TooLong which) a = up_to (stop.TooLong which) a
   some_before (stop.Run (fault.Answer number why)) a = inr (inl a)
   some_before (stop.Run fault.Generator) a = inr (inl a)
   some_before (stop.Run fault.Write) a = inr (inl a)
   some_before (stop.Run fault.Memory) a = a
+
+module _ (words : List (List ℕ)) (outside : Outside) (asked : SolveWords) (meant : command_of words ≡ Some (solve asked)) where
+  -- the files of a task that is to be solved were read
+  pub asks_solving : AsksAllOf (solve asked) outside.files → AsksAll words outside.files
+  asks_solving all = record { command = solve asked; meant = meant; asks = all }
+
+  pub asked_solved : (written : Written) (ran : Ran) → IsSolved asked outside written ran → AsksAll words outside.files
+  asked_solved written ran solved = asks_solving solved.asks
+
+  -- it has no report
+  pub asked_solving : (written : Written) (why : Stop) → HasNoReport asked outside written why
+      → AsksBefore words outside.files why
+  asked_solving written why (inl u) =
+      asked_reading words outside.files why (record { command = solve asked; meant = meant; cause = u.cause })
+  asked_solving written why (inr u) =
+      subst (AsksBefore words outside.files) (sym u.is) (asked_running words outside.files u.fault (asks_solving u.asks))
+
+module _ (words : List (List ℕ)) (files : FilesSeen) (number : ℕ) (meant : command_of words ≡ Some (generate number))
+    (nothing : Extends files.before files.after []) where
+  -- the task of a number is to be made: it has no files
+  pub asks_making : AsksAll words files
+  asks_making = record { command = generate number; meant = meant; asks = record { all = []; are = refl; asked = nothing } }
+
+  -- it has no report
+  pub asked_unmade : (made : FilesSeen) → made.told ≡ Some (made_files number) → (w : SolveWords) → w ≡ made_words
+      → (spoken : ℕ → Option Talk) (was now : Option (List Event)) (written : Written) (why : Stop)
+      → HasNoReport w (record { files = made; spoken = spoken; was = was; now = now }) written why
+      → AsksBefore words files why
+  asked_unmade made are w same spoken was now written why (inl u) =
+      asked_reading words files why (made_nothing words files made number meant nothing are w same why u.cause)
+  asked_unmade made are w same spoken was now written why (inr u) =
+      subst (AsksBefore words files) (sym u.is) (asked_running words files u.fault asks_making)
 
 -- the run has an outcome, or a verdict
 pub asked_completed : (words : List (List ℕ)) (outside : Outside) (some written : Written) (status : Status)

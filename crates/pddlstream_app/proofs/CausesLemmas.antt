@@ -1,14 +1,14 @@
 -- The causes of how runs end.
-use Rattle.std.proofs.Common.{◌≡◌, ℕ, ◌≤◌, arith, List, true, false, refl, sym, ap, ◌∙◌, ◌⊎◌, inl, inr, Result, Ok, Err}
-use Rattle.io_world.specs.Faults.{Rose, HasCause}
+use Rattle.std.proofs.Common.{◌≡◌, ℕ, ◌≤◌, arith, List, true, false, refl, sym, ap, ◌∙◌, ◌⊎◌, inl, inr, subst, Result, Ok, Err, IfErr}
+use Rattle.io_world.specs.Faults.{Rose, HasCause, last_count}
 use Rattle.transcript_model.specs.declared.outcome.Outcome.{Outcome}
 use Rattle.transcript_model.specs.declared.outcome.Outcome.TheVariants as outcome
 use Rattle.pddlstream_app.specs.Outside.{Outside, Written}
 use Rattle.pddlstream_app.specs.Replays.{kind_of_verdict}
-use Rattle.pddlstream_app.specs.Runs.{Caused, ClosesRun, HasOutcome, HasVerdict, IsCompleted, IsSaid, IsShown, kind_of}
+use Rattle.pddlstream_app.specs.Runs.{Caused, ClosesRun, HasOutcome, HasVerdict, IsCompleted, IsLined, IsSaid, IsShown, kind_of}
 use Rattle.replay_check.specs.declared.verdict.Verdict.{Verdict}
 use Rattle.replay_check.specs.declared.verdict.Verdict.TheVariants as verdict
-use Rattle.pddlstream_app.specs.Stop.{is_write, is_write_fault, status_at}
+use Rattle.pddlstream_app.specs.Stop.{IsOfInput, is_write, is_write_fault, status_at}
 use Rattle.level_run.specs.declared.fault.RunFault.TheVariants as fault
 use Rattle.pddlstream_app.specs.declared.status.Status.{Status}
 use Rattle.pddlstream_app.specs.declared.status.Status.TheVariants.{GeneratorFault, WriteFault, Memory}
@@ -129,3 +129,43 @@ pub said_of : (IsSo : Verdict → Type 0) (v : Verdict) (written : Written) (r :
     → IsSo v → IsShown v written r → IsSaid IsSo written r
 said_of IsSo v written (Ok status) is shown = (v, is, shown)
 said_of IsSo v written (Err why) is shown = inr (v, is, shown)
+
+-- ---- made tasks
+
+-- a sink that never fails is no cause
+pub unfailed : {T : Type 0} (r : Result T Stop) (why : Stop) → r ≡ Err why
+    → HasCause (stop.Run fault.Write) last_count 0 0 r → ¬ (why ≡ stop.Run fault.Write)
+unfailed r why is h e = let rose = h.cause (is ∙ ap Err e) in omega (arith, rose)
+
+-- neither want of memory nor a fault of the sink is a fault of the generator
+pub lined_generator : (kind : Status) (line : List ℕ) (written : Written) (r : Result Status Stop) → IsLined kind line written r
+    → IfErr r (λ why. ¬ (why ≡ stop.Run fault.Generator))
+lined_generator kind line written (Ok status) said = tt
+lined_generator kind line written (Err why) (inl m) = λ e. subst IsOfInput (sym m.0 ∙ e) tt
+lined_generator kind line written (Err why) (inr w) = λ e.
+    let other : true ≡ false = ap is_write (sym w.0 ∙ e) in absurd (cc)
+
+-- so it counts none
+pub spared : {T : Type 0} (r : Result T Stop) (why : Stop) (count : ℕ) → r ≡ Err why → ¬ (why ≡ stop.Run fault.Write)
+    → HasCause (stop.Run fault.Write) last_count count count r
+spared {T} r why count is not = record {
+  later = omega arith;
+  cause = λ failed. absurd (not (same_err (sym is ∙ failed)));
+}
+  where
+    same_err : {x y : Stop} → (let e : Result T Stop = Err x in e) ≡ Err y → x ≡ y
+    same_err e = cc
+
+pub host_of_lined : (kind : Status) (line : List ℕ) (written : Written) (r : Result Status Stop) → IsLined kind line written r
+    → (last before now : ℕ) → before ≤ now → HasCause (stop.Run fault.Generator) last before now r
+host_of_lined kind line written r said last before now later = record {
+  later = later;
+  cause = λ failed. absurd (of r said failed);
+}
+  where
+    same_err : {x y : Stop} → (let e : Result Status Stop = Err x in e) ≡ Err y → x ≡ y
+    same_err e = cc
+
+    of : (r : Result Status Stop) → IsLined kind line written r → r ≡ Err (stop.Run fault.Generator) → ⊥
+    of (Ok status) said failed = absurd (cc)
+    of (Err why) said failed = lined_generator kind line written (Err why) said (same_err failed)

@@ -11,7 +11,7 @@ use Rattle.level_run.specs.declared.fault.RunFault.TheVariants as fault
 use Rattle.pddlstream_app.specs.Complete.{GoesWell, EndsWell}
 use Rattle.pddlstream_app.specs.Files.{AreBytes, FileWanted, HasBytes}
 use Rattle.pddlstream_app.specs.Heads.{AreServed, HaveText, MeansBy, MeansPools}
-use Rattle.pddlstream_app.specs.Inputs.{EndsReading, HasNoInput, HasNoPool, IsNoCommand, IsRefused, IsRefusedMap, IsTaskOf, IsTooLong, MayBeFilesOf, file_at, files_named}
+use Rattle.pddlstream_app.specs.Inputs.{EndsReading, HasNoInput, HasNoPool, IsRefused, IsRefusedMap, IsTaskOf, IsTooLong, MayBeFilesOf, ReadsNothing, SolvesNothing, file_at, files_named}
 use Rattle.pddlstream_app.specs.Outside.{Outside, Written}
 use Rattle.pddlstream_app.specs.Runs.{ClosesRun, HasOutcome, HasVerdict, IsBeforeLast, IsCompleted, kind_of}
 use Rattle.pddlstream_app.specs.Stop.{status_at}
@@ -109,8 +109,8 @@ other_command : (words : List (List ℕ)) (a : SolveWords) (b : ReplayWords)
     → command_of words ≡ Some (replay b) → ⊥
 other_command words a b x y = let both = sym x ∙ y in absurd (cc)
 
-module _ {words : List (List ℕ)} {outside : Outside}
-    {host_rose sink_rose : Type 0} (well : GoesWell words outside host_rose sink_rose) where
+module _ {words : List (List ℕ)} {outside : Outside} {host_rose sink_rose : Type 0}
+    (well : GoesWell words outside host_rose sink_rose) where
   abbrev asked : SolveWords
   asked = well.asked
 
@@ -152,49 +152,52 @@ module _ {words : List (List ℕ)} {outside : Outside}
   -- files at one of which a run may end are among them, from the first on
   among_all : (all : List FileWanted) → MayBeFilesOf (Some well.files) (solve asked) all
       → (more : List FileWanted) × (all_files ≡ all ++ more)
-  among_all all (inl named) =
-      (file_at role.Grid (grid_file (map plain s.meant)), ap (λ fs. fs ++ file_at role.Grid (grid_file (map plain s.meant))) (sym named))
+  among_all all (inl named) = (
+    file_at role.Grid (grid_file (map plain s.meant)),
+    ap (λ fs. fs ++ file_at role.Grid (grid_file (map plain s.meant)))
+        (sym named),
+  )
   among_all all (inr (task, pools, spelled, means, are)) =
       let task_is = one_spelled well.files asked.files well.task task t spelled in
       let same = one_meaning well.files asked well.task asked.path s.meant pools s.means
       (subst (λ u. MeansPools (Some well.files) asked u pools) task_is means) in
       ([], ap (λ ps. files_named (solve asked) ++ file_at role.Grid (grid_file ps)) (sym same) ∙ sym are ∙ sym (append-nil all))
 
-  at : (why : Stop) (n : EndsReading words outside.files why)
+  at : (why : Stop) (n : EndsReading (solve asked) outside.files why)
       → TextAt well.files well.task texts_of n.stopped.texts n.stopped.wanted
   at why n =
       let r = n.stopped in
-      let same = same_command words n.command (solve asked) n.meant well.meant in
-      let are = subst (λ o. MayBeFilesOf o (solve asked) n.all) well.are_told
-      (subst (λ c. MayBeFilesOf outside.files.told c n.all) same n.are) in
+      let are = subst (λ o. MayBeFilesOf o (solve asked) n.all) well.are_told n.are in
       let more = among_all n.all are in
       let order = order_of n.all all_files r.before r.wanted r.later more.0 more.1 r.order in
-      text_at well.files well.task r.before r.wanted
-      (r.later ++ more.0) r.texts texts_of (subst (λ o. AreBytes o r.before r.texts) well.are_told r.are)
+      text_at well.files well.task r.before r.wanted (r.later ++ more.0) r.texts texts_of
+      (subst (λ o. AreBytes o r.before r.texts) well.are_told r.are)
       (subst (λ fs. AreGood well.files well.task fs texts_of) order all_good)
 
   -- the same text is told
-  told_text : (why : Stop) (n : EndsReading words outside.files why) (bytes : List ℕ)
+  told_text : (why : Stop) (n : EndsReading (solve asked) outside.files why) (bytes : List ℕ)
       → HasBytes outside.files.told n.stopped.wanted bytes → bytes ≡ (at why n).text
   told_text why n bytes has =
-      one_text well.files n.stopped.wanted (at why n).text bytes
-      (at why n).has (subst (λ o. HasBytes o n.stopped.wanted bytes) well.are_told has)
+      one_text well.files n.stopped.wanted (at why n).text bytes (at why n).has
+      (subst (λ o. HasBytes o n.stopped.wanted bytes) well.are_told has)
 
   -- no text is refused, and each is read
-  no_reading : (why : Stop) → EndsReading words outside.files why → why ≡ stop.Run fault.Memory
+  no_reading : (why : Stop) → EndsReading (solve asked) outside.files why → why ≡ stop.Run fault.Memory
   no_reading stop.Usage n = absurd n.stopped.cause
   no_reading (stop.Input which kind place) n =
       let here = at (stop.Input which kind place) n in
       let refused = n.stopped.cause.1 in
       let same = told_text (stop.Input which kind place) n refused.bytes refused.has in
-      absurd (none_refused t.domain t.problem t.streams (of_map.0 ++ of_grid.0) well.task t.spelled n.stopped.texts here.text here.rest
-      which kind place here.split (subst (λ b. IsRefused n.stopped.texts which b kind place) same refused.so))
+      absurd (none_refused t.domain t.problem t.streams
+      (of_map.0 ++ of_grid.0) well.task t.spelled n.stopped.texts here.text here.rest which kind place here.split
+      (subst (λ b. IsRefused n.stopped.texts which b kind place) same refused.so))
   no_reading (stop.Map why) n =
       let here = at (stop.Map why) n in
       let refused = n.stopped.cause.1 in
       let same = told_text (stop.Map why) n refused.bytes refused.has in
-      let no = before_map t.domain t.problem t.streams (of_map.0 ++ of_grid.0) well.task t.spelled n.stopped.texts here.text here.rest why
-      here.split (subst (λ b. IsRefusedMap n.stopped.texts b why) same refused.so) in
+      let no = before_map t.domain t.problem t.streams
+      (of_map.0 ++ of_grid.0) well.task t.spelled n.stopped.texts here.text here.rest why here.split
+      (subst (λ b. IsRefusedMap n.stopped.texts b why) same refused.so) in
       let good = subst (λ r. IsGood well.files well.task r here.text) (sym n.stopped.cause.0) here.good in
       absurd (map_not_refused well.task here.text good.0 why good.1 no.0 no.1)
   no_reading (stop.Grid kind line) n =
@@ -214,36 +217,30 @@ module _ {words : List (List ℕ)} {outside : Outside}
   no_reading (stop.Run fault.Memory) n = refl
 
   -- the program makes its pool
-  has_pool : (why : Stop) → HasNoPool words outside.files why → ⊥
+  has_pool : (why : Stop) → HasNoPool asked outside.files why → ⊥
   has_pool why n =
-      let both : Some (solve n.asked) ≡ Some (solve asked) = sym n.meant ∙ well.meant in
-      let same : n.asked ≡ asked = cc in
-      let none : asked.path ≡ None = ap (λ (w : SolveWords). w.path) (sym same) ∙ n.no_map in
-      let spelled =
-      subst (λ o. IsTaskOf o asked.files n.task) well.are_told
-      (subst (λ (w : SolveWords). IsTaskOf outside.files.told w.files n.task) same n.spelled) in
+      let spelled = subst (λ o. IsTaskOf o asked.files n.task) well.are_told n.spelled in
       let task = one_spelled well.files asked.files well.task n.task t spelled in
-      let means : Accepted well.task (words_form well.task asked.program asked.workers) s.meant =
-      subst (λ p. MeansBy p (Some well.files) asked well.task s.meant) none s.means in
-      let refused =
-      subst (λ u. Refused (stream_names u) (words_form u asked.program asked.workers) n.fault) task
-      (subst (λ (w : SolveWords). Refused (stream_names n.task) (words_form n.task w.program w.workers) n.fault) same n.refused) in
+      let means : Accepted well.task (words_form well.task asked.program asked.workers) s.meant = subst
+      (λ p. MeansBy p (Some well.files) asked well.task s.meant) n.no_map s.means in
+      let refused = subst (λ u. Refused (stream_names u) (words_form u asked.program asked.workers) n.fault) task n.refused in
       form_not_refused (stream_names well.task)
       (words_form well.task asked.program asked.workers) means.spelled n.fault means.form_is means.right n.certain refused
 
+  no_solving : (why : Stop) → SolvesNothing asked outside.files why → why ≡ stop.Run fault.Memory
+  no_solving why (inl n) = no_reading why n
+  no_solving why (inr n) = absurd (has_pool why n)
+
   no_input : (why : Stop) → HasNoInput words outside.files why → why ≡ stop.Run fault.Memory
-  no_input why (inl n) = no_reading why n
-  no_input why (inr n) = absurd (has_pool why n)
+  no_input why n =
+      no_solving why (subst (λ c. ReadsNothing c outside.files why)
+      (same_command words n.command (solve asked) n.meant well.meant) n.cause)
 
   -- a run stops only for want of memory
   pub stops_for_memory : (written : Written) (why : Stop)
       → IsBeforeLast words outside written why → (why ≡ stop.Run fault.Generator → host_rose)
       → why ≡ stop.Run fault.Memory
-  stops_for_memory written stop.Usage b host = absurd (no_words b.cause.0)
-    where
-      no_words : IsNoCommand words → ⊥
-      no_words (inl none) = let both = sym none ∙ well.meant in absurd (cc)
-      no_words (inr (n, makes)) = let both = sym makes ∙ well.meant in absurd (cc)
+  stops_for_memory written stop.Usage b host = let both = sym b.cause.0 ∙ well.meant in absurd (cc)
   stops_for_memory written (stop.Input which kind place) b host =
       no_input (stop.Input which kind place) b.cause.0
   stops_for_memory written (stop.Map why) b host = no_input (stop.Map why) b.cause.0

@@ -5,14 +5,13 @@ use Rattle.level_run.specs.Reports as reports
 use Rattle.level_run.specs.declared.fault.RunFault.TheVariants as fault
 use Rattle.replay_check.specs.declared.verdict.Verdict.{Verdict}
 use Rattle.replay_check.specs.declared.verdict.Verdict.TheVariants as verdict
-use Rattle.report_text.specs.Texts.{text_of_report}
 use Rattle.transcript_model.specs.declared.outcome.Outcome.{Outcome}
 use Rattle.transcript_model.specs.declared.outcome.Outcome.TheVariants as outcome
 use Rattle.pddlstream_app.proofs.RunsLemmas.{taken_all}
 use Rattle.pddlstream_app.specs.Headline.{PrintsNoPlan, PrintsPlan}
 use Rattle.pddlstream_app.specs.Outside.{Outside, Written}
 use Rattle.pddlstream_app.specs.Replays.{kind_of_verdict}
-use Rattle.pddlstream_app.specs.Runs.{Ends, HasOutcome, ProgramRun, RunWrites, kind_of, report_of}
+use Rattle.pddlstream_app.specs.Runs.{Ends, HasOutcome, ProgramRun, RunWrites, kind_of, shown_text}
 use Rattle.pddlstream_app.specs.Stop.{status_at}
 use Rattle.pddlstream_app.specs.declared.status.Status.{Status}
 use Rattle.pddlstream_app.specs.declared.status.Status.TheVariants.{NoPlan, Plan}
@@ -49,7 +48,7 @@ not_both a b same lost found =
 module _ (words : List (List ℕ)) (outside : Outside) (written : Written) where
   -- the outcome that the run printed
   abbrev Printed : ProgramRun words outside.files.told → Outcome → Type 0
-  Printed run o = Appends written.before written.after (text_of_report (report_of run.task run.head run.entries o))
+  Printed run o = Appends written.before written.after (shown_text run.work run.task run.head run.entries o)
 
   plan_from : (o : Outcome) → kind_of o ≡ Plan → (run : ProgramRun words outside.files.told)
       → reports.IsRun run.task run.head run.entries o

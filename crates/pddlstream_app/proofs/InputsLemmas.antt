@@ -13,11 +13,12 @@ use Rattle.task_reader.specs.Refusals.{Refuses}
 use Rattle.task_reader.specs.Texts.{SpellsDomain, SpellsProblem, RefusesDomain, RefusesProblem, RefusesStreams}
 use Rattle.task_reader.specs.declared.refusal.InputRefusal.{InputRefusal}
 use Rattle.task_reader.specs.declared.refusal.InputRefusal.TheVariants as refusal
-use Rattle.command_line.specs.Words.{ReplayWords, TaskFiles, command_of, replay}
+use Rattle.command_line.specs.Words.{Command, ReplayWords, SolveWords, TaskFiles, command_of, generate, replay, solve}
 use Rattle.pddlstream_app.specs.Files.{AreBytes, FileWanted, HasBytes, file_of}
-use Rattle.pddlstream_app.specs.Inputs.{AreAccepted, EndsAtFile, EndsHere, HasNoInput, IsRefused, IsTaskOf, MayEnd, ask, files_named, reads, stop_for, task_files}
+use Rattle.pddlstream_app.specs.Inputs.{AreAccepted, EndsAtFile, EndsHere, EndsReading, HasNoInput, IsRefused, IsTaskOf, MayEnd, ReadsNothing, SolvesNothing, ask, files_named, reads, stop_for, task_files}
 use Rattle.pddlstream_app.specs.Outside.{FilesSeen}
 use Rattle.pddlstream_app.specs.Stop.{IsOfInput}
+use Rattle.pddlstream_app.specs.Works.{made_files, made_words}
 use Rattle.level_run.specs.declared.fault.RunFault.TheVariants as fault
 use Rattle.pddlstream_app.specs.declared.stop.Stop.{Stop}
 use Rattle.pddlstream_app.specs.declared.stop.Stop.TheVariants.{Usage, Input, Map, Grid, Failed, TooLong, Run}
@@ -132,11 +133,35 @@ may_end files texts wanted (Run fault.Generator) n = n
 may_end files texts wanted (Run fault.Write) n = n
 may_end files texts wanted (Run fault.Memory) n = tt
 
+reading_input : (command : Command) (files : FilesSeen) (why : Stop) → EndsReading command files why
+    → IsOfInput why
+reading_input command files why n = may_end files n.stopped.texts n.stopped.wanted why n.stopped.cause
+
+solving_input : (w : SolveWords) (files : FilesSeen) (why : Stop) → SolvesNothing w files why
+    → IsOfInput why
+solving_input w files why (inl n) = reading_input (solve w) files why n
+solving_input w files why (inr n) = subst IsOfInput (sym n.is) tt
+
+command_input : (command : Command) (files : FilesSeen) (why : Stop) → ReadsNothing command files why
+    → IsOfInput why
+command_input (solve w) files why n = solving_input w files why n
+command_input (replay w) files why n = reading_input (replay w) files why n
+command_input (generate number) files why n = solving_input made_words n.made why n.cause
+
 pub is_of_input : (words : List (List ℕ)) (files : FilesSeen) (why : Stop) → HasNoInput words files why
     → IsOfInput why
-is_of_input words files why (inl n) =
-    may_end files n.stopped.texts n.stopped.wanted why n.stopped.cause
-is_of_input words files why (inr n) = subst IsOfInput (sym n.is) tt
+is_of_input words files why n = command_input n.command files why n.cause
+
+-- what the words name that stand for a number is no input, so the task of the number isn't
+pub made_nothing : (words : List (List ℕ)) (files made : FilesSeen) (number : ℕ)
+    → command_of words ≡ Some (generate number) → Extends files.before files.after []
+    → made.told ≡ Some (made_files number) → (w : SolveWords) → w ≡ made_words
+    → (why : Stop) → SolvesNothing w made why → HasNoInput words files why
+made_nothing words files made number meant nothing are w is why cause = record {
+  command = generate number;
+  meant = meant;
+  cause = record { made = made; are = are; cause = subst (λ u. SolvesNothing u made why) is cause; asked_for = nothing };
+}
 
 -- a run that ends so has no fault of the host, nor of the sink
 pub no_cause : {T : Type 0} (r : Result T Stop) (why bad : Stop) (last count : ℕ) → IsErrAnd r (λ e. e ≡ why)
@@ -167,11 +192,13 @@ pub ends_at_report : (words : List (List ℕ)) (asked : ReplayWords) → command
     → HasNoInput words (looks told first last old new) why
 ends_at_report words asked meant task told later same first mid last earlier old middle new t read why ends =
     let texts = t.domain ∷ t.problem ∷ t.streams ∷ [] in
-    inl (record {
+    record {
       command = replay asked;
       meant = meant;
-      all = files_named (replay asked);
-      are = inl refl;
-      stopped = ends_behind told first mid last earlier old middle new later same
-          (task_files asked.files) read texts t.are (task, t.spelled) (file_of role.Report asked.report) [] why (ends texts);
-    })
+      cause = record {
+        all = files_named (replay asked);
+        are = inl refl;
+        stopped = ends_behind told first mid last earlier old middle new later same (task_files asked.files) read texts t.are
+            (task, t.spelled) (file_of role.Report asked.report) [] why (ends texts);
+      };
+    }

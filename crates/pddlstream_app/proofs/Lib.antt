@@ -3,6 +3,7 @@ pub mod RunsLemmas
 pub mod CompleteLemmas
 pub mod HeadsLemmas
 pub mod InputsLemmas
+pub mod MakingLemmas
 pub mod HeadlineLemmas
 pub mod PoolsLemmas
 pub mod RefusalsLemmas

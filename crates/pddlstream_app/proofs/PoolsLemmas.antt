@@ -4,7 +4,7 @@ use Rattle.std.proofs.lemmas.List.{append-nil, map-append}
 use Rattle.std.proofs.lemmas.Str.{IsUtf8-from_ascii}
 use Rattle.grid_text.proofs.FilesLemmas.{read_is_ascii}
 use Rattle.grid_text.specs.Grids.{GridFile}
-use Rattle.command_line.specs.Words.{SolveWords, TaskFiles, command_of, solve}
+use Rattle.command_line.specs.Words.{SolveWords, TaskFiles, solve}
 use Rattle.grid_text.specs.Files.{BlamesGridText, IsGridOf}
 use Rattle.grid_text.specs.declared.fault.GridFault.{GridFault}
 use Rattle.grid_text.specs.declared.fault.GridFault.TheVariants as grid
@@ -22,10 +22,10 @@ use Rattle.task_model.specs.declared.task.Task.{Task}
 use Rattle.task_reader.specs.Tasks.{Spells}
 use Rattle.transcript_model.specs.declared.head.Pool.{Pool}
 use Rattle.pddlstream_app.proofs.InputsLemmas.{ends_behind}
-use Rattle.pddlstream_app.specs.Asked.{AsksAll}
+use Rattle.pddlstream_app.specs.Asked.{AsksAllOf}
 use Rattle.pddlstream_app.specs.Files.{AreBytes, FileWanted, HasBytes, file_of}
 use Rattle.pddlstream_app.specs.Heads.{AreServed, HaveText, MeansBy, MeansPools}
-use Rattle.pddlstream_app.specs.Inputs.{AreAccepted, EndsAtFile, EndsAtPools, EndsFirst, EndsHere, HasNoInput, IsAnswer, IsTaskOf, MayEnd, ask, file_at, files_named, reads, stop_for_grid, stop_for_map, task_files}
+use Rattle.pddlstream_app.specs.Inputs.{AreAccepted, EndsAtFile, EndsAtPools, EndsFirst, EndsHere, IsAnswer, IsTaskOf, MayEnd, SolvesNothing, ask, file_at, files_named, reads, stop_for_grid, stop_for_map, task_files}
 use Rattle.pddlstream_app.specs.Outside.{FilesSeen}
 use Rattle.pddlstream_app.specs.declared.stop.FileRole.TheVariants as role
 use Rattle.pddlstream_app.specs.declared.stop.Stop.{Stop}
@@ -122,8 +122,8 @@ pub none_made : {X : Type 0} (path : Option (List ℕ)) → path ≡ None → (f
     → IfErr r (λ why. (d p s : List ℕ) → Spells d p s task → EndsAtPools path files (d ∷ p ∷ s ∷ []) w task why)
 none_made path none files nothing w task (Ok x) made = tt
 none_made path none files nothing w task (Err why) made = λ d p s spelled.
-    subst (λ o. EndsAtPools o files (d ∷ p ∷ s ∷ []) w task why)
-    (sym none) (record { fault = made.0; is = made.1; refused = made.2; asked = nothing })
+    subst (λ o. EndsAtPools o files (d ∷ p ∷ s ∷ []) w task why) (sym none)
+    (record { fault = made.0; is = made.1; refused = made.2; asked = nothing })
 
 -- a grid's text is UTF-8
 pub grid_is_utf8 : (bytes : List ℕ) (g : GridFile) → IsGridOf bytes g → IsUtf8 bytes
@@ -135,13 +135,11 @@ pub reads_more : (old mid new : Option (List Asked)) (xs ys : List FileWanted) �
 reads_more old mid new xs ys first second =
     subst (Extends old new) (sym (map-append (ask (Ok tt)) xs ys)) (extends_more old mid new (reads xs) (reads ys) first second)
 
-module _ (words : List (List ℕ)) (asked : SolveWords) (meant : command_of words ≡ Some (solve asked)) where
+module _ (asked : SolveWords) where
   -- the run ends at one of the files that the words name
   pub ends_named : (files : FilesSeen) (why : Stop) → EndsAtFile files (files_named (solve asked)) why
-      → HasNoInput words files why
+      → SolvesNothing asked files why
   ends_named files why ends = inl (record {
-    command = solve asked;
-    meant = meant;
     all = files_named (solve asked);
     are = inl refl;
     stopped = ends;
@@ -158,10 +156,10 @@ module _ (words : List (List ℕ)) (asked : SolveWords) (meant : command_of word
     -- the program makes no pool, or memory is wanting
     no_pool : (why : Stop) (f : MapFault) → asked.path ≡ None → why ≡ stop_for_map f
         → Refused (stream_names task) (words_form task asked.program asked.workers) f
-        → Extends middle new [] → HasNoInput words here why
+        → Extends middle new [] → SolvesNothing asked here why
     no_pool why f none is r nothing = by (which_stop f)
       where
-        wanting : why ≡ stop.Run fault.Memory → HasNoInput words here why
+        wanting : why ≡ stop.Run fault.Memory → SolvesNothing asked here why
         wanting memory = ends_named here why (record {
           before = file_of (role.Text Domain) asked.files.domain ∷ file_of (role.Text Problem) asked.files.problem ∷ [];
           wanted = file_of (role.Text Streams) asked.files.streams;
@@ -170,18 +168,17 @@ module _ (words : List (List ℕ)) (asked : SolveWords) (meant : command_of word
           texts = t.domain ∷ t.problem ∷ [];
           are = (t.are.0, (t.are.1.0, tt));
           accepted = (task.domain, task.problem, t.spelled.domain, t.spelled.problem);
-          cause = subst (λ w. MayEnd here (t.domain ∷ t.problem ∷ []) (file_of (role.Text Streams) asked.files.streams) w) (sym memory) tt;
+          cause = subst (λ w. MayEnd here (t.domain ∷ t.problem ∷ []) (file_of (role.Text Streams) asked.files.streams) w)
+              (sym memory) tt;
           answer = Ok tt;
           answered = subst (λ w. IsAnswer w (Ok tt)) (sym memory) tt;
           asked = extends_more old middle new (reads (task_files asked.files)) [] read nothing;
         })
 
         by : (stop_for_map f ≡ stop.Run fault.Memory) ⊎ ((stop_for_map f ≡ stop.Map f) × ¬ (f ≡ maps.Memory))
-            → HasNoInput words here why
+            → SolvesNothing asked here why
         by (inl memory) = wanting (is ∙ memory)
         by (inr (told_so, certain)) = inr (record {
-          asked = asked;
-          meant = meant;
           no_map = none;
           task = task;
           spelled = t;
@@ -195,14 +192,15 @@ module _ (words : List (List ℕ)) (asked : SolveWords) (meant : command_of word
     -- the pools that the words mean weren't read
     pub ends_at_pools : (later : Option FileMap) → later ≡ told → (why : Stop)
         → EndsAtPools asked.path (looks later mid last middle new) texts asked task why
-        → HasNoInput words here why
+        → SolvesNothing asked here why
     ends_at_pools later same why ends = by asked.path refl ends
       where
         by : (path : Option (List ℕ)) → asked.path ≡ path
             → EndsAtPools path (looks later mid last middle new) texts asked task why
-            → HasNoInput words here why
+            → SolvesNothing asked here why
         by None none m = no_pool why m.fault none m.is m.refused m.asked
-        by (Some path) is at = ends_named here why (subst (λ p. EndsAtFile here (task_files asked.files ++ file_at role.Map p) why) (sym is)
+        by (Some path) is at = ends_named here why
+            (subst (λ p. EndsAtFile here (task_files asked.files ++ file_at role.Map p) why) (sym is)
             (ends_behind told first mid last earlier old middle new later same (task_files asked.files) read texts t.are
             (task, t.spelled) (file_of role.Map path) [] why at))
 
@@ -226,20 +224,18 @@ module _ (words : List (List ℕ)) (asked : SolveWords) (meant : command_of word
 
     -- the grid's file wasn't read, or holds no grid
     pub ends_at_grid : (later : Option FileMap) → later ≡ told → (why : Stop)
-        → ((texts : List (List ℕ))
-        → EndsFirst (looks later mid last middle new) texts (file_at role.Grid (grid_file (map plain pools))) why)
-        → HasNoInput words (looks told first last old new) why
+        → ((texts : List (List ℕ)) → EndsFirst (looks later mid last middle new) texts
+        (file_at role.Grid (grid_file (map plain pools))) why)
+        → SolvesNothing asked (looks told first last old new) why
     ends_at_grid later same why ends = by (grid_file (map plain pools)) refl ends
       where
         by : (path : Option (List ℕ)) → grid_file (map plain pools) ≡ path
             → ((texts : List (List ℕ)) → EndsFirst (looks later mid last middle new) texts (file_at role.Grid path) why)
-            → HasNoInput words (looks told first last old new) why
+            → SolvesNothing asked (looks told first last old new) why
         by None none at = absurd (at [])
         by (Some path) is at =
             let r = are_read asked.path means in
             inl (record {
-              command = solve asked;
-              meant = meant;
               all = files_named (solve asked) ++ file_of role.Grid path ∷ [];
               are = inr (task, pools, t, means, ap (λ p. files_named (solve asked) ++ file_at role.Grid p) (sym is));
               stopped = ends_behind told first mid last earlier old middle new later same
@@ -248,10 +244,8 @@ module _ (words : List (List ℕ)) (asked : SolveWords) (meant : command_of word
 
     -- all files were asked for
     pub asks_all : Extends middle new (reads (file_at role.Grid (grid_file (map plain pools))))
-        → AsksAll words (looks told first last old new)
+        → AsksAllOf (solve asked) (looks told first last old new)
     asks_all more = record {
-      command = solve asked;
-      meant = meant;
       all = files_named (solve asked) ++ file_at role.Grid (grid_file (map plain pools));
       are = (task, pools, t, means, refl);
       asked = reads_more old middle new (files_named (solve asked)) (file_at role.Grid (grid_file (map plain pools))) read more;

@@ -1,5 +1,5 @@
 -- How runs end.
-use Rattle.std.proofs.Common.{◌≡◌, ℕ, ◌+◌, arith, List, [], ◌++◌, length, take, true, false, MatchBool, Option, Some, refl, sym, subst, ap, ◌∙◌, append_assoc, ◌⊎◌, inl, inr, Result, Ok, Err, IfOk, IfErr}
+use Rattle.std.proofs.Common.{◌≡◌, ℕ, ◌+◌, arith, List, [], ◌++◌, length, take, true, false, MatchBool, Option, None, Some, refl, sym, subst, ap, ◌∙◌, append_assoc, ◌⊎◌, inl, inr, Result, Ok, Err, IfOk, IfErr}
 use Rattle.std.proofs.Math.Seq.{take-append-add}
 use Rattle.std.proofs.lemmas.List.{length-append}
 use Rattle.std.specs.Io.KnownBytes.{Appends}
@@ -17,18 +17,19 @@ use Rattle.transcript_model.specs.declared.entry.Entry.{Entry}
 use Rattle.transcript_model.specs.declared.head.Head.{Head}
 use Rattle.transcript_model.specs.declared.outcome.Outcome.{Outcome}
 use Rattle.transcript_model.specs.declared.outcome.Outcome.TheVariants as outcome
-use Rattle.pddlstream_app.specs.Heads.{IsHeadOf}
 use Rattle.pddlstream_app.proofs.InputsLemmas.{is_of_input}
 use Rattle.pddlstream_app.specs.Files.{HasBytes, file_of}
-use Rattle.pddlstream_app.specs.Inputs.{HasNoInput, IsNoCommand, IsTaskOf}
+use Rattle.pddlstream_app.specs.Inputs.{HasNoInput, IsTaskOf}
 use Rattle.pddlstream_app.specs.Outside.{IsUntouched, Outside, Written}
 use Rattle.pddlstream_app.specs.Replays.{kind_of_verdict, verdict_text}
-use Rattle.pddlstream_app.specs.Runs.{ClosesRun, Ends, HasFault, HasOutcome, HasVerdict, IsBefore, IsBeforeLast, IsCompleted, IsPartOfRun, IsSaid, IsStopped, IsUnneeded, LeavesReplays, ProgramRun, RunWrites, TellsStatus, TookAll, TookPart, kind_of, report_of}
+use Rattle.pddlstream_app.specs.Runs.{ClosesRun, Ends, HasFault, HasOutcome, HasVerdict, IsBefore, IsBeforeLast, IsCompleted, IsPartOfRun, IsSaid, IsStopped, IsUnneeded, LeavesReplays, ProgramRun, RunWrites, TellsStatus, TookAll, TookPart, kind_of, report_of, shown_so_far, shown_text}
 use Rattle.replay_check.specs.Verdicts.{IsVerdict}
 use Rattle.replay_check.specs.declared.verdict.Verdict.{Verdict}
 use Rattle.replay_check.specs.declared.verdict.Verdict.TheVariants as verdict
 use Rattle.pddlstream_app.specs.Stop.{is_write, is_write_fault, status_at, last_text}
-use Rattle.command_line.specs.Words.{ReplayWords, SolveWords, command_of, replay, solve}
+use Rattle.command_line.specs.Words.{ReplayWords, SolveWords, command_of, generate, replay, solve}
+use Rattle.pddlstream_app.specs.Solving.{HasNoReport, IsPosed, IsSolved}
+use Rattle.pddlstream_app.specs.Works.{Work, command_for, files_of, solving, words_of}
 use Rattle.level_run.specs.declared.fault.RunFault.{RunFault}
 use Rattle.level_run.specs.declared.fault.RunFault.TheVariants as fault
 use Rattle.pddlstream_app.specs.declared.status.Status.{Status}
@@ -65,12 +66,13 @@ module _ (words : List (List ℕ)) (outside : Outside) (written : Written) where
   -- the sink took all
   all_taken : (status : Status) → is_write_fault status ≡ false → TookAll words outside written status
       → Ends words outside written status
-  all_taken status whole all =
-      subst (λ b. MatchBool b (TookPart words outside written) (TookAll words outside written status)) (sym whole) all
+  all_taken status whole all = subst (λ b. MatchBool b (TookPart words outside written) (TookAll words outside written status))
+      (sym whole) all
 
   pub taken_all : (status : Status) → is_write_fault status ≡ false → Ends words outside written status
       → TookAll words outside written status
-  taken_all status whole ends = subst (λ b. MatchBool b (TookPart words outside written) (TookAll words outside written status)) whole ends
+  taken_all status whole ends = subst
+      (λ b. MatchBool b (TookPart words outside written) (TookAll words outside written status)) whole ends
 
   -- before the last line
   pub before_last : (why : Stop) → IsStopped words outside written why → is_write why ≡ false
@@ -89,11 +91,9 @@ module _ (words : List (List ℕ)) (outside : Outside) (written : Written) where
     where
       of : (has : HasOutcome words outside status c.text ⊎ HasVerdict words outside status c.text)
           → IsUnneeded has → Ends words outside written status
-      of (inl h) none =
-          all_taken status (ap is_write_fault (sym h.kind) ∙ outcome_whole h.outcome)
+      of (inl h) none = all_taken status (ap is_write_fault (sym h.kind) ∙ outcome_whole h.outcome)
           (record { text = c.text; writes = inl h; unneeded = none; took = c.took })
-      of (inr h) none =
-          all_taken status (ap is_write_fault (sym h.kind) ∙ verdict_whole h.verdict)
+      of (inr h) none = all_taken status (ap is_write_fault (sym h.kind) ∙ verdict_whole h.verdict)
           (record { text = c.text; writes = inr (inl h); unneeded = tt; took = c.took })
 
 -- ---- reports
@@ -103,7 +103,7 @@ pub whole_is : (task : Task) (head : Head) (entries : List Entry) (o : Outcome)
 whole_is task head entries o = sym (append_assoc (text_so_far task head entries) (text_of_outcome head.version o) (line_text done_line))
 
 module _ (words : List (List ℕ)) (outside : Outside) where
-  abbrev unwritten : Option (List ℕ) → Written
+  abbrev pub unwritten : Option (List ℕ) → Written
   unwritten sink = record { before = sink; after = sink }
 
   -- a file was not read, or its bytes were refused
@@ -131,7 +131,7 @@ module _ (words : List (List ℕ)) (outside : Outside) where
       record { text = []; cause = inl (refl, none); took = appends_none sink }
 
   -- the words are no command
-  pub stopped_words : (sink : Option (List ℕ)) → IsNoCommand words
+  pub stopped_words : (sink : Option (List ℕ)) → command_of words ≡ None
       → LogStops outside.was outside.now
       → IsStopped words outside (unwritten sink) stop.Usage
   stopped_words sink no_command none =
@@ -166,9 +166,8 @@ module _ (words : List (List ℕ)) (outside : Outside) where
     -- the verdict was written
     pub completed_said : (r : Result Status Stop) → IsSaid (IsVerdict asked.states task bytes) written r
         → IfOk r (IsCompleted words outside written)
-    completed_said (Ok status) (v, is, shown) =
-        subst (IsCompleted words outside written)
-        (sym shown.0) (record { text = verdict_text v; has = inr (has_verdict v is); unneeded = tt; took = shown.1 })
+    completed_said (Ok status) (v, is, shown) = subst (IsCompleted words outside written) (sym shown.0)
+        (record { text = verdict_text v; has = inr (has_verdict v is); unneeded = tt; took = shown.1 })
     completed_said (Err why) said = tt
 
     -- it was not written, or in part
@@ -180,33 +179,37 @@ module _ (words : List (List ℕ)) (outside : Outside) where
         subst (IsStopped words outside written) (sym x.0) (stopped_early written x.1 stops)
     stopped_said stops (Err why) (inr (v, is, inl x)) =
         subst (IsStopped words outside written) (sym x.0) (stopped_early written x.1 stops)
-    stopped_said stops (Err why) (inr (v, is, inr (failed, n, less, app))) =
-        subst (IsStopped words outside written) (sym failed)
-        (record
-        { text = verdict_text v; was = inl (kind_of_verdict v, inr (inl (has_verdict v is))); count = n; less = less; took = app })
+    stopped_said stops (Err why) (inr (v, is, inr (failed, n, less, app))) = subst (IsStopped words outside written) (sym failed)
+        (record {
+          text = verdict_text v;
+          was = inl
+              (kind_of_verdict v, inr (inl (has_verdict v is)));
+          count = n;
+          less = less;
+          took = app;
+        })
 
-  -- a task is to be solved
-  module _ (asked : SolveWords) (meant : command_of words ≡ Some (solve asked)) (task : Task)
-      (spelled : IsTaskOf outside.files.told asked.files task) (fit : IsFit task) (head : Head)
-      (headed : IsHeadOf outside.files.told asked task head) where
+  -- a task is to be solved, or made and solved
+  module _ (work : Work) (meant : command_of words ≡ Some (command_for work)) (task : Task) (head : Head)
+      (posed : IsPosed (files_of outside.files.told work) (words_of work) task head) where
     abbrev run_with : (entries : List Entry) → IsLegal head.version task entries
         → ProgramRun words outside.files.told
     run_with entries legal = record {
-      asked = asked;
+      work = work;
       meant = meant;
       task = task;
-      spelled = spelled;
-      fit = fit;
+      spelled = posed.spelled;
+      fit = posed.fit;
       head = head;
-      headed = headed;
+      headed = posed.headed;
       entries = entries;
       legal = legal;
     }
 
-    outcome_with : (text : List ℕ) (entries : List Entry) (o : Outcome)
+    pub outcome_with : (text : List ℕ) (entries : List Entry) (o : Outcome)
         → reports.IsRun task head entries o
         → Dialogue task head.version (workers_in head) entries outside.spoken → LogRan task head entries outside.was outside.now
-        → text ≡ whole_text task head entries o → HasOutcome words outside (kind_of o) text
+        → text ≡ shown_text work task head entries o → HasOutcome words outside (kind_of o) text
     outcome_with text entries o turns talks calls is = record {
       run = run_with entries turns.legal;
       outcome = o;
@@ -214,76 +217,127 @@ module _ (words : List (List ℕ)) (outside : Outside) where
       turns = turns;
       talks = talks;
       calls = calls;
-      is = is ∙ whole_is task head entries o;
+      is = is;
     }
 
-    -- the report was written
-    pub completed : (written : Written) (ran : Ran) (status : Status)
-        → IsReported task head outside.spoken outside.was outside.now written.before written.after ran
-        → (ran.asks ≡ 0 → IsUntouched outside) → status ≡ kind_of ran.outcome
-        → IsCompleted words outside written status
+    -- a run that shows this has an outcome
+    pub completed_with : (written : Written) (ran : Ran) {old new : Option (List ℕ)}
+        (r : IsReported task head outside.spoken outside.was outside.now old new ran)
+        → (ran.asks ≡ 0 → IsUntouched outside)
+        → Appends written.before written.after (shown_text work task head r.entries ran.outcome)
+        → IsCompleted words outside written (kind_of ran.outcome)
     unfolding outcome_with
-    completed written ran status r none is =
-        let text = whole_text task head r.entries ran.outcome in
-        subst (IsCompleted words outside written) (sym is) (record {
-          text = text;
-          has = inl (outcome_with text r.entries ran.outcome r.run r.talks r.calls refl);
-          unneeded = λ asked. none (r.asks ∙ asked);
-          took = r.told;
-        })
+    completed_with written ran r none took = record {
+      text = shown_text work task head r.entries ran.outcome;
+      has = inl (outcome_with (shown_text work task head r.entries ran.outcome) r.entries ran.outcome r.run r.talks r.calls refl);
+      unneeded = λ asked. none (r.asks ∙ asked);
+      took = took;
+    }
 
-    part_with : (text : List ℕ) (f : RunFault) → IsPart task head f outside.spoken outside.was outside.now text
-        → IsPartOfRun words outside f text
-    part_with text f p = record {
+    part_with : (text shows : List ℕ) (f : RunFault) (p : IsPart task head f outside.spoken outside.was outside.now text)
+        → shows ≡ shown_so_far work task head p.entries
+        → IsPartOfRun words outside f shows
+    part_with text shows f p is = record {
       run = run_with p.entries p.front.turns.legal;
       front = p.front;
       blamed = p.blamed;
       talks = p.talks;
       calls = p.calls;
       needed = p.needed;
-      is = p.is;
+      is = is;
     }
 
     abbrev ToWrite : RunFault → List ℕ → Type 0
     ToWrite f text = WasToWrite task head f outside.spoken outside.was outside.now text
 
+    -- what was shown of a run that was to write this
+    abbrev Shows : RunFault → List ℕ → List ℕ → Type 0
+    Shows f text shows =
+        (p : IsPart task head f outside.spoken outside.was outside.now text) → shows ≡ shown_so_far work task head p.entries
+
+    -- nothing, where memory is wanting at once
+    abbrev ShowsNothing : List ℕ → List ℕ → Type 0
+    ShowsNothing text shows = text ≡ [] → shows ≡ []
+
+    pub stopped_with : (written : Written) (f : RunFault) (text shows : List ℕ) → ToWrite f text → Shows f text shows
+        → ShowsNothing text shows → ¬ (f ≡ fault.Write) → Appends written.before written.after shows
+        → IsStopped words outside written (stop.Run f)
+    stopped_with written fault.Generator text shows w is none other took =
+        record { text = shows; cause = of w; took = took }
+      where
+        of : ToWrite fault.Generator text → IsBefore words outside (stop.Run fault.Generator) shows
+        of (inl x) = absurd (let e = x.0 in cc)
+        of (inr (inl p)) = part_with text shows fault.Generator p (is p)
+        of (inr (inr x)) = absurd (let e = x.0 in cc)
+    stopped_with written fault.Memory text shows w is none other took =
+        record { text = shows; cause = of w; took = took }
+      where
+        of : ToWrite fault.Memory text → IsBefore words outside (stop.Run fault.Memory) shows
+        of (inl x) = inl (none x.1, x.2)
+        of (inr (inl p)) = inr (inl (fault.Memory, part_with text shows fault.Memory p (is p)))
+        of (inr (inr x)) = absurd (let e = x.0 in cc)
+    stopped_with written (fault.Answer number why) text shows w is none other took =
+        record { text = shows; cause = of w; took = took }
+      where
+        of : ToWrite (fault.Answer number why) text
+            → IsBefore words outside (stop.Run (fault.Answer number why)) shows
+        of (inl x) = absurd (let e = x.0 in cc)
+        of (inr (inl p)) = part_with text shows (fault.Answer number why) p (is p)
+        of (inr (inr x)) = absurd (let e = x.0 in cc)
+    stopped_with written fault.Write text shows w is none other took = absurd (other refl)
+
+  -- a task is to be solved
+  module _ (asked : SolveWords) (meant : command_of words ≡ Some (solve asked)) where
+    -- the report was written
+    pub completed : (written : Written) (ran : Ran) (status : Status) → IsSolved asked outside written ran
+        → status ≡ kind_of ran.outcome → IsCompleted words outside written status
+    completed written ran status s is =
+        let r = s.reported in
+        subst (IsCompleted words outside written) (sym is)
+        (completed_with (solving asked) meant s.task s.head s.posed written ran r s.unneeded
+        (subst (Appends written.before written.after) (whole_is s.task s.head r.entries ran.outcome) r.told))
+
+    abbrev Part : RunFault → List ℕ → Type 0
+    Part f text = ((other : Status) × RunWrites words outside other text) ⊎ IsPartOfRun words outside f text
+
     -- the run over the task has no outcome
-    pub stopped_running : (written : Written) (f : RunFault)
+    stopped_running : (written : Written) (f : RunFault) (task : Task) (head : Head)
+        → IsPosed outside.files.told asked task head
         → IsBroken task head outside.spoken outside.was outside.now written.before written.after f
         → IsStopped words outside written (stop.Run f)
-    stopped_running written fault.Generator b =
-        record { text = b.text; cause = of b.form; took = b.told }
-      where
-        of : {text : List ℕ} → ToWrite fault.Generator text
-            → IsBefore words outside (stop.Run fault.Generator) text
-        of (inl x) = absurd (let e = x.0 in cc)
-        of {text} (inr (inl p)) = part_with text fault.Generator p
-        of (inr (inr x)) = absurd (let e = x.0 in cc)
-    stopped_running written fault.Memory b =
-        record { text = b.text; cause = of b.form; took = b.told }
-      where
-        of : {text : List ℕ} → ToWrite fault.Memory text
-            → IsBefore words outside (stop.Run fault.Memory) text
-        of (inl x) = inl (x.1, x.2)
-        of {text} (inr (inl p)) = inr (fault.Memory, part_with text fault.Memory p)
-        of (inr (inr x)) = absurd (let e = x.0 in cc)
-    stopped_running written (fault.Answer number why) b =
-        record { text = b.text; cause = of b.form; took = b.told }
-      where
-        of : {text : List ℕ} → ToWrite (fault.Answer number why) text
-            → IsBefore words outside (stop.Run (fault.Answer number why)) text
-        of (inl x) = absurd (let e = x.0 in cc)
-        of {text} (inr (inl p)) = part_with text (fault.Answer number why) p
-        of (inr (inr x)) = absurd (let e = x.0 in cc)
-    stopped_running written fault.Write b =
+    stopped_running written fault.Generator task head posed b =
+        stopped_with (solving asked) meant task head posed written fault.Generator b.text b.text b.form (λ p. p.is) (λ e. e)
+        (λ e. absurd (cc)) b.told
+    stopped_running written fault.Memory task head posed b =
+        stopped_with (solving asked) meant task head posed written fault.Memory b.text b.text b.form (λ p. p.is) (λ e. e)
+        (λ e. absurd (cc)) b.told
+    stopped_running written (fault.Answer number why) task head posed b =
+        stopped_with (solving asked) meant task head posed written (fault.Answer number why) b.text b.text b.form (λ p. p.is) (λ e. e)
+        (λ e. absurd (cc)) b.told
+    stopped_running written fault.Write task head posed b =
         record { text = b.text; was = of b.form; count = b.told.0; less = b.told.1; took = b.told.2 }
       where
-        of : {text : List ℕ} → ToWrite fault.Write text
-            → ((other : Status) × RunWrites words outside other text) ⊎ IsPartOfRun words outside fault.Write text
+        of : {text : List ℕ} → WasToWrite task head fault.Write outside.spoken outside.was outside.now text
+            → Part fault.Write text
         of (inl x) = absurd (let e = x.0 in cc)
-        of {text} (inr (inl p)) = inr (part_with text fault.Write p)
+        of {text} (inr (inl p)) = inr (part_with (solving asked) meant task head posed text text fault.Write p p.is)
         of {text} (inr (inr x)) =
-            let w = x.1 in inl (kind_of w.outcome, inl (outcome_with text w.entries w.outcome w.run w.talks w.calls w.is))
+            let w = x.1 in
+            inl (
+              kind_of w.outcome,
+              inl (outcome_with
+                  (solving asked) meant task head posed text w.entries w.outcome w.run w.talks w.calls
+                  (w.is ∙ whole_is task head w.entries w.outcome)),
+            )
+
+    -- the task has no report
+    pub stopped_solving : (written : Written) (why : Stop) → HasNoReport asked outside written why
+        → IsStopped words outside written why
+    stopped_solving written why (inl u) =
+        subst (λ after. IsStopped words outside (record { before = written.before; after = after }) why) (sym u.nothing)
+        (stopped_reading written.before why (record { command = solve asked; meant = meant; cause = u.cause }) u.none)
+    stopped_solving written why (inr u) =
+        subst (IsStopped words outside written) (sym u.is) (stopped_running written u.fault u.task u.head u.posed u.broken)
 
   -- ---- last lines
 
@@ -296,8 +350,8 @@ module _ (words : List (List ℕ)) (outside : Outside) where
   for_memory (stop.Grid kind line) text b = inl b.1
   for_memory (stop.Failed which) text b = inl b.1
   for_memory (stop.TooLong which) text b = inl b.1
-  for_memory (stop.Run (fault.Answer number why)) text b = inr (fault.Answer number why, b)
-  for_memory (stop.Run fault.Generator) text b = inr (fault.Generator, b)
+  for_memory (stop.Run (fault.Answer number why)) text b = inr (inl (fault.Answer number why, b))
+  for_memory (stop.Run fault.Generator) text b = inr (inl (fault.Generator, b))
   for_memory (stop.Run fault.Write) text b = absurd b
   for_memory (stop.Run fault.Memory) text b = b
 
@@ -339,18 +393,22 @@ module _ (words : List (List ℕ)) (outside : Outside) where
             → ClosesRun why (record { before = mid; after = new }) status
             → Ends words outside ended status
         of b (inl x) = ends_told why b status other x
-        of b (inr x) =
-            ends_told (stop.Run fault.Memory) (record { text = b.text; cause = for_memory why b.text b.cause; took = b.took }) status refl x
+        of b (inr x) = ends_told (stop.Run fault.Memory)
+            (record { text = b.text; cause = for_memory why b.text b.cause; took = b.took }) status refl x
 
 -- ---- replays
 
 -- a task that is solved isn't judged
 pub no_replay : (words : List (List ℕ)) (outside : Outside) (asked : SolveWords)
     → command_of words ≡ Some (solve asked) → LeavesReplays words outside
-no_replay words outside asked solving other judging = let both = sym solving ∙ judging in absurd (cc)
+no_replay words outside asked is_solved other judging = let both = sym is_solved ∙ judging in absurd (cc)
 
-pub no_command : (words : List (List ℕ)) (outside : Outside) → IsNoCommand words
+-- nor is one that is made
+pub no_replay_made : (words : List (List ℕ)) (outside : Outside) (number : ℕ)
+    → command_of words ≡ Some (generate number) → LeavesReplays words outside
+no_replay_made words outside number making_it other judging =
+    let both = sym making_it ∙ judging in absurd (cc)
+
+pub no_command : (words : List (List ℕ)) (outside : Outside) → command_of words ≡ None
     → LeavesReplays words outside
-no_command words outside (inl none) other judging = let both = sym none ∙ judging in absurd (cc)
-no_command words outside (inr (n, makes)) other judging =
-    let both = sym makes ∙ judging in absurd (cc)
+no_command words outside none other judging = let both = sym none ∙ judging in absurd (cc)

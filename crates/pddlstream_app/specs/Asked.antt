@@ -1,11 +1,11 @@
 -- Which files a run asks for.
-use Rattle.std.specs.Prelude.{◌≡◌, ◌⊎◌, ℕ, List, [], ◌∷◌, ◌++◌, Some}
+use Rattle.std.specs.Prelude.{◌≡◌, ◌⊎◌, ℕ, List, [], ◌∷◌, ◌++◌, None, Some}
 use Rattle.std.specs.Io.KnownBytes.{Appends}
 use Rattle.io_world.specs.Faults.{Extends}
 use Rattle.level_run.specs.declared.fault.RunFault.TheVariants as fault
 use Rattle.command_line.specs.Words.{Command, command_of}
 use Rattle.pddlstream_app.specs.Files.{FileWanted}
-use Rattle.pddlstream_app.specs.Inputs.{AreFilesOf, FileAnswer, HasNoInput, IsNoCommand, MayBeFilesOf, ask, reads}
+use Rattle.pddlstream_app.specs.Inputs.{AreFilesOf, FileAnswer, HasNoInput, MayBeFilesOf, ask, reads}
 use Rattle.pddlstream_app.specs.Outside.{FilesSeen, Written}
 use Rattle.pddlstream_app.specs.Stop.{status_at, last_text}
 use Rattle.pddlstream_app.specs.declared.status.Status.{Status}
@@ -19,15 +19,19 @@ AsksNothing files = Extends files.before files.after []
 
 -- no file was asked for, where the words mean no command
 abbrev pub AsksNone : List (List ℕ) → FilesSeen → Type 0
-AsksNone words files = IsNoCommand words × AsksNothing files
+AsksNone words files = (command_of words ≡ None) × AsksNothing files
 
--- The words mean a command, and its files were asked for and read.
-pub record AsksAll (words : List (List ℕ)) (files : FilesSeen) : Type 0 where
-  pub command : Command
-  pub meant : command_of words ≡ Some command
+-- The files of a command were asked for and read.
+pub record AsksAllOf (command : Command) (files : FilesSeen) : Type 0 where
   pub all : List FileWanted
   pub are : AreFilesOf files.told command all
   pub asked : Extends files.before files.after (reads all)
+
+-- The words mean a command, and its files were asked for and read: none for `generate`.
+pub record AsksAll (words : List (List ℕ)) (files : FilesSeen) : Type 0 where
+  pub command : Command
+  pub meant : command_of words ≡ Some command
+  pub asks : AsksAllOf command files
 
 -- The words mean a command, and its files up to this one were asked for; those before it were read.
 pub record AsksUpTo (words : List (List ℕ)) (files : FilesSeen) : Type 0 where
@@ -47,7 +51,8 @@ abbrev pub AsksSome : List (List ℕ) → FilesSeen → Type 0
 AsksSome words files = AsksNothing files ⊎ AsksAll words files ⊎ AsksUpTo words files
 
 -- The file that the last line names is the cause of the run's end, and the files were asked for up to that one; or,
--- where no map is named, the words of the program are, and the texts were asked for.
+-- where no map is named, the words of the program are, and the texts were asked for; or, of `generate`, a text that was
+-- made is, and no file was asked for.
 pub record AsksToNamed (words : List (List ℕ)) (files : FilesSeen) (written : Written) (status : Status) : Type 0 where
   pub why : Stop
   pub kind : status_at why ≡ status

@@ -2,7 +2,6 @@
 use Rattle.std.specs.Prelude.{◌≡◌, ℕ, List, map, Option}
 use Rattle.std.specs.Io.KnownBytes.{Appends}
 use Rattle.io_world.specs.FileMap.{FileMap}
-use Rattle.report_text.specs.Texts.{text_of_report}
 use Rattle.task_model.specs.Plans.{IsSolvable, IsValid}
 use Rattle.task_model.specs.declared.task.GroundAction.{GroundAction}
 use Rattle.transcript_model.specs.Calls.{call_of_step}
@@ -13,12 +12,12 @@ use Rattle.transcript_model.specs.declared.entry.Call.{Call}
 use Rattle.transcript_model.specs.declared.outcome.Origin.{Origin}
 use Rattle.transcript_model.specs.declared.outcome.Outcome.TheVariants as outcome
 use Rattle.pddlstream_app.specs.Outside.{Written}
-use Rattle.pddlstream_app.specs.Runs.{ProgramRun, report_of}
+use Rattle.pddlstream_app.specs.Runs.{ProgramRun, shown_text}
 
--- The sink took the whole report of a run with this plan. The run's transcript is legal; over what its answers certify
--- and what the problem says at first the steps are executable, one after another, up to the goal; the printed calls are
--- these steps and the printed cost is what they cost; and each generated object among them comes from the answer that
--- is named.
+-- The sink took all that is shown of a run with this plan: its report, or the line of `generate`. The run's transcript
+-- is legal; over what its answers certify and what the problem says at first the steps are executable, one after
+-- another, up to the goal; the printed calls are these steps and the printed cost is what they cost; and each
+-- generated object among them comes from the answer that is named.
 pub record PrintsPlan (words : List (List ℕ)) (told : Option FileMap) (written : Written) : Type 0 where
   pub run : ProgramRun words told
   pub steps : List GroundAction
@@ -29,13 +28,12 @@ pub record PrintsPlan (words : List (List ℕ)) (told : Option FileMap) (written
   pub valid : IsValid run.task (known_of run.task run.entries) steps cost
   pub origins : AreOrigins run.head.version run.entries calls from
   pub took : Appends written.before written.after
-      (text_of_report (report_of run.task run.head run.entries (outcome.Plan calls cost from)))
+      (shown_text run.work run.task run.head run.entries (outcome.Plan calls cost from))
 
--- The sink took the whole report of a run with `no plan`. In its transcript no request waits and each instance that is
--- reachable has finished; and over what is known then no plan exists.
+-- The sink took all that is shown of a run with `no plan`. In its transcript no request waits and each instance that
+-- is reachable has finished; and over what is known then no plan exists.
 pub record PrintsNoPlan (words : List (List ℕ)) (told : Option FileMap) (written : Written) : Type 0 where
   pub run : ProgramRun words told
   pub closed : IsClosed run.head.version run.task run.entries
   pub unsolvable : ¬ (IsSolvable run.task (known_of run.task run.entries))
-  pub took : Appends written.before written.after
-      (text_of_report (report_of run.task run.head run.entries outcome.NoPlan))
+  pub took : Appends written.before written.after (shown_text run.work run.task run.head run.entries outcome.NoPlan)

@@ -26,6 +26,7 @@ use Rattle.stream_map.specs.declared.fault.MapFault.TheVariants.{Memory}
 use Rattle.transcript_model.specs.declared.head.Pool.{Pool}
 use Rattle.pddlstream_app.specs.Files.{AreBytes, FileWanted, HoldsFile, file_of, most_of}
 use Rattle.pddlstream_app.specs.Heads.{MeansPools}
+use Rattle.pddlstream_app.specs.Works.{made_files, made_words}
 use Rattle.level_run.specs.declared.fault.RunFault.TheVariants as fault
 use Rattle.pddlstream_app.specs.declared.stop.Stop.{Stop}
 use Rattle.pddlstream_app.specs.declared.stop.Stop.TheVariants.{Input, Map, Grid, Failed, TooLong, Run}
@@ -35,10 +36,6 @@ use Rattle.pddlstream_app.specs.declared.stop.Text.{Text}
 use Rattle.pddlstream_app.specs.declared.stop.Text.TheVariants.{Domain, Problem, Streams}
 
 -- ---- the files of a command
-
--- the words mean no command, or the one that isn't built, `generate`
-abbrev pub IsNoCommand : List (List ℕ) → Type 0
-IsNoCommand words = (command_of words ≡ None) ⊎ ((n : ℕ) × (command_of words ≡ Some (generate n)))
 
 -- the files of a task
 abbrev pub task_files : TaskFiles → List FileWanted
@@ -174,19 +171,14 @@ pub record EndsAtFile (files : FilesSeen) (all : List FileWanted) (why : Stop) :
   pub answered : IsAnswer why answer
   pub asked : Extends files.before files.after (reads before ++ ask answer wanted ∷ [])
 
--- The words mean a command, and the run ends so at one of its files.
-pub record EndsReading (words : List (List ℕ)) (files : FilesSeen) (why : Stop) : Type 0 where
-  pub command : Command
-  pub meant : command_of words ≡ Some command
+-- The run ends so at one of the files of this command.
+pub record EndsReading (command : Command) (files : FilesSeen) (why : Stop) : Type 0 where
   pub all : List FileWanted
   pub are : MayBeFilesOf files.told command all
   pub stopped : EndsAtFile files all why
 
--- The words mean that a task is to be solved, and name no map; the task was read, and their program makes no pool for
--- it.
-pub record HasNoPool (words : List (List ℕ)) (files : FilesSeen) (why : Stop) : Type 0 where
-  pub asked : SolveWords
-  pub meant : command_of words ≡ Some (solve asked)
+-- The words name no map; the task was read, and their program makes no pool for it.
+pub record HasNoPool (asked : SolveWords) (files : FilesSeen) (why : Stop) : Type 0 where
   pub no_map : asked.path ≡ None
   pub task : Task
   pub spelled : IsTaskOf files.told asked.files task
@@ -196,9 +188,28 @@ pub record HasNoPool (words : List (List ℕ)) (files : FilesSeen) (why : Stop) 
   pub refused : Refused (stream_names task) (words_form task asked.program asked.workers) fault
   pub asked_for : Extends files.before files.after (reads (task_files asked.files))
 
--- what is to be read is no input, for this cause
-abbrev pub HasNoInput : List (List ℕ) → FilesSeen → Stop → Type 0
-HasNoInput words files why = EndsReading words files why ⊎ HasNoPool words files why
+-- what words that mean a task is to be solved name is no input, for this cause
+abbrev pub SolvesNothing : SolveWords → FilesSeen → Stop → Type 0
+SolvesNothing w files why = EndsReading (solve w) files why ⊎ HasNoPool w files why
+
+-- The task of a number is made, and its texts are no input, for this cause. No file was asked for.
+pub record MakesNothing (number : ℕ) (files : FilesSeen) (why : Stop) : Type 0 where
+  pub made : FilesSeen
+  pub are : made.told ≡ Some (made_files number)
+  pub cause : SolvesNothing made_words made why
+  pub asked_for : Extends files.before files.after []
+
+-- what a command reads is no input, for this cause
+abbrev pub ReadsNothing : Command → FilesSeen → Stop → Type 0
+ReadsNothing (solve w) files why = SolvesNothing w files why
+ReadsNothing (replay w) files why = EndsReading (replay w) files why
+ReadsNothing (generate n) files why = MakesNothing n files why
+
+-- The words mean a command, and what it reads is no input, for this cause.
+pub record HasNoInput (words : List (List ℕ)) (files : FilesSeen) (why : Stop) : Type 0 where
+  pub command : Command
+  pub meant : command_of words ≡ Some command
+  pub cause : ReadsNothing command files why
 
 -- The run ends at the first of these files, behind these texts, if there is one.
 abbrev pub EndsFirst : FilesSeen → List (List ℕ) → List FileWanted → Stop → Type 0

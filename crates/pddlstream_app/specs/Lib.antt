@@ -9,4 +9,6 @@ pub mod Outside
 pub mod Paths
 pub mod Replays
 pub mod Runs
+pub mod Solving
 pub mod Stop
+pub mod Works

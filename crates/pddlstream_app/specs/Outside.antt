@@ -18,6 +18,11 @@ abbrev pub seen_of : {F : Type 0} → (F → Option FileMap) → (F → ℕ) →
 seen_of told faults asked old new =
     record { told = told old; first = faults old; last = faults new; before = asked old; after = asked new }
 
+-- what files tell of which none is read
+abbrev pub unread : Option FileMap → ℕ → Option (List Asked) → FilesSeen
+unread told count asked =
+    record { told = told; first = count; last = count; before = asked; after = asked }
+
 -- the count of faults rose
 abbrev pub HaveFailed : FilesSeen → Type 0
 HaveFailed files = Rose last_count files.first files.last

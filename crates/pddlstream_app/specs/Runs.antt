@@ -1,5 +1,5 @@
 -- What a run of the program is, what it writes, and how it ends.
-use Rattle.std.specs.Prelude.{◌≡◌, ◌⊎◌, ℕ, ◌<◌, ◌≤◌, List, [], ◌++◌, map, length, take, true, MatchBool, Option, Some, Result, Ok, Err, ⊤}
+use Rattle.std.specs.Prelude.{◌≡◌, ◌⊎◌, ℕ, ◌<◌, ◌≤◌, List, [], ◌++◌, map, length, take, true, MatchBool, Option, None, Some, Result, Ok, Err, ⊤, count_by}
 use Rattle.std.proofs.Common.{inl, inr}
 use Rattle.std.specs.Io.KnownBytes.{Appends}
 use Rattle.io_world.specs.FileMap.{FileMap}
@@ -14,20 +14,21 @@ use Rattle.level_run.specs.Rolling.{Blames}
 use Rattle.level_run.specs.Turns.{IsFrontOfRun}
 use Rattle.task_model.specs.Fit.{IsFit}
 use Rattle.task_model.specs.declared.task.Task.{Task}
-use Rattle.transcript_model.specs.Legal.{IsLegal, asks_of, is_open}
+use Rattle.transcript_model.specs.Legal.{IsLegal, asks_of, is_level, is_open}
 use Rattle.report_text.specs.Texts.{shown_pool, text_of_report}
 use Rattle.transcript_model.specs.declared.entry.Entry.{Entry}
 use Rattle.transcript_model.specs.declared.head.Head.{Head}
 use Rattle.transcript_model.specs.declared.outcome.Outcome.{Outcome}
 use Rattle.transcript_model.specs.declared.outcome.Outcome.TheVariants as outcome
 use Rattle.transcript_model.specs.declared.report.Report.{Report}
-use Rattle.command_line.specs.Words.{ReplayWords, SolveWords, command_of, replay, solve}
+use Rattle.command_line.specs.Words.{ReplayWords, command_of, generate, replay}
 use Rattle.pddlstream_app.specs.Heads.{IsHeadOf}
 use Rattle.pddlstream_app.specs.Files.{HoldsFile, file_of}
-use Rattle.pddlstream_app.specs.Inputs.{HasNoInput, IsNoCommand, IsTaskOf}
+use Rattle.pddlstream_app.specs.Inputs.{HasNoInput, IsTaskOf}
 use Rattle.pddlstream_app.specs.Outside.{IsUntouched, Outside, Written}
 use Rattle.pddlstream_app.specs.Stop.{is_write, is_write_fault, last_text, status_at}
 use Rattle.pddlstream_app.specs.Replays.{kind_of_verdict, verdict_text}
+use Rattle.pddlstream_app.specs.Works.{Work, command_for, files_of, made_line, making, solving, words_of}
 use Rattle.replay_check.specs.Verdicts.{IsVerdict}
 use Rattle.replay_check.specs.declared.verdict.Verdict.{Verdict}
 use Rattle.pddlstream_app.specs.declared.stop.FileRole.TheVariants as role
@@ -41,22 +42,18 @@ use Rattle.pddlstream_app.specs.declared.stop.Stop.TheVariants as stop
 -- ---- a run
 
 -- What a run is: the words mean that a task is to be solved, the told files spell a fit task, the head has the limits
--- of the words and the pools that they and the told files mean, and the transcript is legal.
+-- of the words and the pools that they and the told files mean, and the transcript is legal. Or the words mean that the
+-- task of a number is to be made and solved: then the same holds of the files and the words that stand for it.
 pub record ProgramRun (words : List (List ℕ)) (told : Option FileMap) : Type 0 where
-  pub asked : SolveWords
-  pub meant : command_of words ≡ Some (solve asked)
+  pub work : Work
+  pub meant : command_of words ≡ Some (command_for work)
   pub task : Task
-  pub spelled : IsTaskOf told asked.files task
+  pub spelled : IsTaskOf (files_of told work) (words_of work).files task
   pub fit : IsFit task
   pub head : Head
-  pub headed : IsHeadOf told asked task head
+  pub headed : IsHeadOf (files_of told work) (words_of work) task head
   pub entries : List Entry
   pub legal : IsLegal head.version task entries
-
--- the lines of a run's head and of its transcript
-abbrev pub lines_so_far : (words : List (List ℕ)) (told : Option FileMap) → ProgramRun words told
-    → List ℕ
-lines_so_far words told run = text_so_far run.task run.head run.entries
 
 -- a run's report, if this is its outcome
 abbrev pub report_of : Task → Head → List Entry → Outcome → Report
@@ -72,6 +69,16 @@ report_of task head entries o =
       outcome = o;
     }
 
+-- what is shown of a run before its outcome: the lines of its head and of its transcript, and nothing of `generate`
+abbrev pub shown_so_far : Work → Task → Head → List Entry → List ℕ
+shown_so_far (solving w) task head entries = text_so_far task head entries
+shown_so_far (making n) task head entries = []
+
+-- all that is shown of a run with this outcome: its report, or the line of `generate`
+abbrev pub shown_text : Work → Task → Head → List Entry → Outcome → List ℕ
+shown_text (solving w) task head entries o = text_of_report (report_of task head entries o)
+shown_text (making n) task head entries o = made_line n o (count_by is_level entries) (asks_of entries)
+
 -- ---- outcomes
 
 -- how a run ends with this outcome
@@ -80,10 +87,11 @@ kind_of (outcome.Plan steps cost from) = Plan
 kind_of outcome.NoPlan = NoPlan
 kind_of (outcome.Limit kind) = Limit
 
--- The text is the report of a run, with an outcome of the status's kind. The run's transcript is a list of whole turns
--- of incremental mode, or one after a batch that was cut, each of which begins where no plan exists; the outcome may
--- stand there and is sure, and a limit that a plan would have avoided stands only where there is none. What was said with the children is the transcript's dialogue, and the calls that came to the
--- log are its calls, in order, and then stops.
+-- The text is all that is shown of a run with an outcome of the status's kind. The run's transcript is a list of whole
+-- turns of incremental mode, or one after a batch that was cut, each of which begins where no plan exists; the outcome
+-- may stand there and is sure, and a limit that a plan would have avoided stands only where there is none. What was
+-- said with the children is the transcript's dialogue, and the calls that came to the log are its calls, in order, and
+-- then stops.
 pub record HasOutcome (words : List (List ℕ)) (outside : Outside) (status : Status) (text : List ℕ) : Type 0 where
   pub run : ProgramRun words outside.files.told
   pub outcome : Outcome
@@ -91,7 +99,7 @@ pub record HasOutcome (words : List (List ℕ)) (outside : Outside) (status : St
   pub turns : reports.IsRun run.task run.head run.entries outcome
   pub talks : Dialogue run.task run.head.version (workers_in run.head) run.entries outside.spoken
   pub calls : LogRan run.task run.head run.entries outside.was outside.now
-  pub is : text ≡ text_of_report (report_of run.task run.head run.entries outcome)
+  pub is : text ≡ shown_text run.work run.task run.head run.entries outcome
 
 -- The words mean that a report is to be judged, and the text says what is said of the report's bytes, of the task that
 -- the told files spell, and of the limit of the words. No call was made on a child.
@@ -110,7 +118,7 @@ pub record HasVerdict (words : List (List ℕ)) (outside : Outside) (status : St
 
 -- ---- faults
 
--- The text is the lines of a run's head and transcript, where the run stopped with this fault. The transcript is one of
+-- The text is what is shown of a run that stopped with this fault. The transcript is one of
 -- whole turns, the last of which may stop at any entry; each begins where no plan exists. If a request is blamed, it is
 -- open, and what its child said next is no answer. What was said with the children is the transcript's dialogue, broken
 -- off behind it; the calls that came to the log are the transcript's, up to where it broke off, and then stops. Where
@@ -122,7 +130,7 @@ pub record IsPartOfRun (words : List (List ℕ)) (outside : Outside) (f : RunFau
   pub talks : BrokenOff run.task run.head.version (workers_in run.head) run.entries outside.spoken
   pub calls : LogBroken run.task run.head run.entries f outside.was outside.now
   pub needed : LogStops outside.was outside.now ⊎ HasLevel run.entries
-  pub is : text ≡ lines_so_far words outside.files.told run
+  pub is : text ≡ shown_so_far run.work run.task run.head run.entries
 
 -- The transcript is a front of a run, the request that is blamed is open, all before it are answered, and what its
 -- child said next is no answer, for this cause.
@@ -137,13 +145,22 @@ pub record HasBadAnswer {words : List (List ℕ)} (outside : Outside) (run : Pro
 abbrev pub IsEarly : Outside → List ℕ → Type 0
 IsEarly outside text = (text ≡ []) × LogStops outside.was outside.now
 
+-- The task of a number was made and solved, and for its line memory was wanting, so that nothing was written.
+pub record IsUnsaid (words : List (List ℕ)) (outside : Outside) (text : List ℕ) : Type 0 where
+  pub number : ℕ
+  pub meant : command_of words ≡ Some (generate number)
+  pub status : Status
+  pub line : List ℕ
+  pub has : HasOutcome words outside status line
+  pub is : text ≡ []
+
 -- what was written before the last line of a run that stops so, with the cause; for want of memory a run may stop that
 -- had another fault to tell
 abbrev pub IsBefore : List (List ℕ) → Outside → Stop → List ℕ → Type 0
-IsBefore words outside stop.Usage text = IsNoCommand words × IsEarly outside text
+IsBefore words outside stop.Usage text = (command_of words ≡ None) × IsEarly outside text
 IsBefore words outside (stop.Run fault.Write) text = ⊥
 IsBefore words outside (stop.Run fault.Memory) text =
-    IsEarly outside text ⊎ ((f : RunFault) × IsPartOfRun words outside f text)
+    IsEarly outside text ⊎ ((f : RunFault) × IsPartOfRun words outside f text) ⊎ IsUnsaid words outside text
 IsBefore words outside (stop.Run f) text = IsPartOfRun words outside f text
 IsBefore words outside why text = HasNoInput words outside.files why × IsEarly outside text
 
@@ -175,8 +192,8 @@ pub record TookAll (words : List (List ℕ)) (outside : Outside) (written : Writ
   pub unneeded : IsUnneeded writes
   pub took : Appends written.before written.after text
 
--- The sink took a part, and not all, of what was to be written: all that a run writes that ends in another way, or the
--- lines of a run's head and transcript.
+-- The sink took a part, and not all, of what was to be written: all that a run writes that ends in another way, or what
+-- is shown of a run before its outcome.
 pub record TookPart (words : List (List ℕ)) (outside : Outside) (written : Written) : Type 0 where
   pub text : List ℕ
   pub was : ((other : Status) × RunWrites words outside other text) ⊎ IsPartOfRun words outside fault.Write text
@@ -231,14 +248,16 @@ ClosesRun why written ended =
     TellsStatus (status_at why) (last_text why) written ended
     ⊎ TellsStatus Memory (last_text (stop.Run fault.Memory)) written ended
 
--- the line of a verdict was written; or memory was wanting, or the sink failed and took a part
-abbrev pub IsShown : Verdict → Written → Result Status Stop → Type 0
-IsShown v written (Ok status) =
-    (status ≡ kind_of_verdict v) × Appends written.before written.after (verdict_text v)
-IsShown v written (Err why) =
+-- the line was written, and the run ends so; or memory was wanting for it, or the sink failed and took a part
+abbrev pub IsLined : Status → List ℕ → Written → Result Status Stop → Type 0
+IsLined kind line written (Ok status) = (status ≡ kind) × Appends written.before written.after line
+IsLined kind line written (Err why) =
     ((why ≡ stop.Run fault.Memory) × Appends written.before written.after [])
-    ⊎ ((why ≡ stop.Run fault.Write) × (n : ℕ) × (n < length (verdict_text v))
-    × Appends written.before written.after (take n (verdict_text v)))
+    ⊎ ((why ≡ stop.Run fault.Write) × (n : ℕ) × (n < length line) × Appends written.before written.after (take n line))
+
+-- the same of the line of a verdict
+abbrev pub IsShown : Verdict → Written → Result Status Stop → Type 0
+IsShown v = IsLined (kind_of_verdict v) (verdict_text v)
 
 -- what is said was written of which this is so; or memory was wanting, or the sink failed and took a part of it
 abbrev pub IsSaid : (Verdict → Type 0) → Written → Result Status Stop → Type 0

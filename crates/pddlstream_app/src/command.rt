@@ -11,6 +11,7 @@ ghost use Rattle.pddlstream_app.specs.declared.status.Status.TheVariants.{Genera
 ghost use Rattle.pddlstream_app.specs.declared.stop.Stop.TheVariants.{Run};
 
 use crate::judge::judge;
+use crate::make::make;
 use crate::solve::solve;
 use crate::status::Status;
 use crate::stop::{MEMORY, Stop};
@@ -80,7 +81,7 @@ fn attempt<F: Files, H: Host, O: Sink>(
     match config {
         Config::Solve(words) => solve(alloc, &words, files, host, out),
         Config::Replay(words) => judge(alloc, &words, files, out),
-        Config::Generate(_) => Err(Stop::Usage),
+        Config::Generate(number) => make(alloc, number, host, out),
     }
 }
 
@@ -95,6 +96,9 @@ fn attempt<F: Files, H: Host, O: Sink>(
 ///
 /// `replay DOMAIN PROBLEM STREAMS REPORT [--states N]` reads the three texts so, then the report's file, and writes `valid`,
 /// `invalid LINE KIND`, or `limit states` where a claim of the report can't be decided within N states.
+///
+/// `generate N` makes the grid's task of that number, solves it as `solve` does by `@grid`, without a report, and writes one
+/// line, `generate N OUTCOME levels L asks A`: how many levels and requests the run had. It reads no file.
 ///
 /// A fault's line is the last: for a refused text it names the text, the kind of the fault and its place, in bytes from the
 /// text's beginning; for a map the kind, and for a grid the kind and the line.

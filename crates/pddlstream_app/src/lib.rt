@@ -4,6 +4,7 @@
 mod command;
 mod head;
 mod judge;
+mod make;
 mod maps;
 mod solve;
 mod status;

@@ -5,6 +5,7 @@ ghost use Rattle.pddlstream_app.specs.Asked.{AsksAll, AsksBefore};
 ghost use Rattle.pddlstream_app.specs.Outside.{outside_of, seen_of, written_of};
 ghost use Rattle.pddlstream_app.specs.Paths.{held_files};
 ghost use Rattle.pddlstream_app.specs.Runs.{IsCompleted, IsStopped, kind_of};
+ghost use Rattle.pddlstream_app.specs.Solving.{HasNoReport, IsSolved};
 ghost use Rattle.command_line.specs.Held.{held_solve};
 ghost use Rattle.command_line.specs.Ranges.{AreInRange};
 ghost use Rattle.command_line.specs.Words.{command_of, solve as to_solve};
@@ -18,12 +19,12 @@ use crate::stop::Stop;
 use crate::texts::{TaskPaths, read_task};
 use command_line::SolveConfig;
 use io_world::{Files, Host, Sink};
-use level_run::incremental;
+use level_run::{Ran, incremental};
 use std::alloc::Global;
 use transcript_model::Outcome;
 
 /// How a run ends that has this outcome.
-fn status_of(outcome: &Outcome) -> Status
+pub(crate) fn status_of(outcome: &Outcome) -> Status
     ensures { result ≡ kind_of outcome.now }
 {
     match outcome {
@@ -44,7 +45,40 @@ fn paths_of(words: &SolveConfig) -> TaskPaths<'_>
     }
 }
 
-/// Reads the files, and writes the report.
+/// Reads the files, and writes the report of the task that they spell.
+pub(crate) fn report<F: Files, H: Host, O: Sink>(
+    alloc: Global,
+    words: &SolveConfig,
+    files: &mut F,
+    host: &mut H,
+    out: &mut O,
+) -> Result<Ran, Stop>
+    requires within { AreInRange (held_solve words.now) }
+    requires idle { (k : ℕ) → H.running host.old k ≡ false }
+    ensures solved { IfOk result (IsSolved (held_solve words.now) (outside_of (seen_of F.told
+        F.faults F.asked files.old files.new) H.spoken H.log host.old host.new)
+        (written_of O.taken out.old out.new)) }
+    ensures failed { IfErr result (HasNoReport (held_solve words.now) (outside_of (seen_of F.told
+        F.faults F.asked files.old files.new) H.spoken H.log host.old host.new)
+        (written_of O.taken out.old out.new)) }
+    ensures idle { (k : ℕ) → H.running host.new k ≡ false }
+    ensures host { HasCause (Run fault.Generator) H.last (H.faults host.old) (H.faults host.new)
+        result }
+    ensures sink { HasCause (Run fault.Write) last_count (O.faults out.old) (O.faults out.new)
+        result }
+{
+    let paths = paths_of(words);
+    let task = read_task(alloc, files, &paths)?;
+    let meant = meant_pools(alloc, files, words, &task)?;
+    let pools = place_grid(alloc, files, meant)?;
+    let head = head_of(words, pools);
+    match incremental(alloc, &task, &head, host, out) {
+        Ok(ran) => Ok(ran),
+        Err(fault) => Err(Stop::Run(fault)),
+    }
+}
+
+/// Reads the files, writes the report, and answers how the run ends.
 pub(crate) fn solve<F: Files, H: Host, O: Sink>(
     alloc: Global,
     words: &SolveConfig,
@@ -74,13 +108,8 @@ pub(crate) fn solve<F: Files, H: Host, O: Sink>(
         ≡ Some (to_solve (held_solve words.now))
         → IfErr result (AsksBefore line (seen_of F.told F.faults F.asked files.old files.new)) }
 {
-    let paths = paths_of(words);
-    let task = read_task(alloc, files, &paths)?;
-    let meant = meant_pools(alloc, files, words, &task)?;
-    let pools = place_grid(alloc, files, meant)?;
-    let head = head_of(words, pools);
-    match incremental(alloc, &task, &head, host, out) {
+    match report(alloc, words, files, host, out) {
         Ok(ran) => Ok(status_of(&ran.outcome)),
-        Err(fault) => Err(Stop::Run(fault)),
+        Err(stop) => Err(stop),
     }
 }

@@ -1,24 +1,18 @@
 -- What is said of a plan, from the run of its steps.
-use Rattle.std.proofs.Common.{◌≡◌, ℕ, ◌<◌, ◌^◌, List, map, sym, ap, subst, ◌∙◌, arith, Option, Some, None}
-use Rattle.shown_plan.specs.Shown.{ShowsPlan}
+use Rattle.std.proofs.Common.{◌≡◌, ℕ, ◌<◌, ◌^◌, List, sym, ap, subst, ◌∙◌, arith, Option, Some, None}
 use Rattle.task_model.proofs.StepsLemmas.{execution_determined}
 use Rattle.task_model.specs.Fit.{IsFit}
 use Rattle.task_model.specs.Initial.{initial_state}
 use Rattle.task_model.specs.Known.{IsCoherent}
 use Rattle.task_model.specs.Plans.{Executes, IsGoal}
-use Rattle.task_model.specs.declared.task.GroundAction.{GroundAction}
 use Rattle.task_model.specs.declared.task.Task.{Task}
-use Rattle.transcript_model.specs.Calls.{call_of_step}
-use Rattle.transcript_model.specs.Outcomes.{AreOrigins}
-use Rattle.transcript_model.specs.Transcript.{known_of, names_of}
+use Rattle.transcript_model.specs.Transcript.{known_of}
 use Rattle.transcript_model.specs.declared.entry.Call.{Call}
 use Rattle.transcript_model.specs.declared.entry.Entry.{Entry}
 use Rattle.transcript_model.specs.declared.outcome.Origin.{Origin}
-use Rattle.transcript_model.specs.declared.outcome.Outcome.{Outcome}
-use Rattle.transcript_model.specs.declared.outcome.Outcome.TheVariants as outcome
 use Rattle.replay_check.proofs.RunsLemmas.{same_steps}
 use Rattle.replay_check.specs.Plans.{IsPlan}
-use Rattle.replay_check.specs.Runs.{IsPlanOf, IsPlanned, IsRunOf, IsSum}
+use Rattle.replay_check.specs.Runs.{IsPlanned, IsRunOf, IsSum}
 use Rattle.replay_check.specs.declared.plan.Planned.TheVariants.{NoGoal, WrongCost}
 use Rattle.replay_check.specs.declared.steps.Run.{Run}
 
@@ -30,16 +24,16 @@ module _ (version : ℕ) (task : Task) (fit : IsFit task) (entries : List Entry)
   same_end : (cost : ℕ) (plan : IsPlan task entries calls cost)
       → (plan.valid.0 ≡ run.state) × (cost ≡ r.total)
   same_end cost plan =
-      let same = same_steps task fit entries coherent (initial_state task) plan.valid.0 run.state plan.steps run.steps.items cost r.total
-      plan.valid.1 r.runs (sym plan.shown ∙ r.shown) in
+      let same = same_steps task fit entries coherent
+      (initial_state task) plan.valid.0 run.state plan.steps r.steps cost r.total plan.valid.1 r.runs (sym plan.shown ∙ r.shown) in
       let ran = subst (λ steps. Executes task (known_of task entries) (initial_state task) steps plan.valid.0 cost) same plan.valid.1 in
-      execution_determined task (known_of task entries) (initial_state task) run.steps.items plan.valid.0 run.state cost r.total ran r.runs
+      execution_determined task (known_of task entries) (initial_state task) r.steps plan.valid.0 run.state cost r.total ran r.runs
 
   -- the steps don't reach the goal
   pub goal_missed : (cost : ℕ) → ¬ (IsGoal task (known_of task entries) run.state)
       → IsPlanned version task entries calls cost from NoGoal
   goal_missed cost missed = (
-    record { steps = run.steps.items; shown = r.shown; state = run.state; cost = r.total; runs = r.runs },
+    record { steps = r.steps; shown = r.shown; state = run.state; cost = r.total; runs = r.runs },
     λ other plan. missed (subst (IsGoal task (known_of task entries)) (same_end other plan).0 plan.valid.2),
   )
 
@@ -53,33 +47,21 @@ module _ (version : ℕ) (task : Task) (fit : IsFit task) (entries : List Entry)
       → ¬ (run.cost ≡ Some cost)
       → IsPlanned version task entries calls cost from WrongCost
   costs_other cost few reached other = (
-    (r.total, record { steps = run.steps.items; shown = r.shown; valid = (run.state, r.runs, reached) }),
+    (r.total, record { steps = r.steps; shown = r.shown; valid = (run.state, r.runs, reached) }),
     λ plan. other (summed run.cost cost few (same_end cost plan).1 r.sum),
   )
 
   -- they reach it, and cost so much
   pub plan_run : (cost : ℕ) → IsGoal task (known_of task entries) run.state → run.cost ≡ Some cost
-      → IsPlanOf task entries calls cost run.steps.items
+      → IsPlan task entries calls cost
   plan_run cost reached is =
       let total : r.total ≡ cost = sym (subst (IsSum r.total) is r.sum) in
       record {
+        steps = r.steps;
         shown = r.shown;
         valid = (
           run.state,
-          subst (Executes task (known_of task entries) (initial_state task) run.steps.items run.state) total r.runs,
+          subst (Executes task (known_of task entries) (initial_state task) r.steps run.state) total r.runs,
           reached,
         );
       }
-
--- ---- origins
-
--- the origins that are shown with a plan are those that are due
-pub shown_origins : (version : ℕ) (task : Task) (entries : List Entry) (steps : List GroundAction) (cost : ℕ)
-    (o : Outcome) (calls told : List Call) (other : ℕ) (from : List Origin)
-    → ShowsPlan version task entries steps cost o → o ≡ outcome.Plan told other from
-    → calls ≡ map (call_of_step task (names_of task entries)) steps → AreOrigins version entries calls from
-shown_origins version task entries steps cost o calls told other from s is shown =
-    let both : outcome.Plan s.calls cost s.from ≡ outcome.Plan told other from = sym s.is ∙ is in
-    let origins : s.from ≡ from = cc in
-    let same : s.calls ≡ calls = s.shown ∙ sym shown in
-    subst (AreOrigins version entries calls) origins (subst (λ cs. AreOrigins version entries cs s.from) same s.origins)

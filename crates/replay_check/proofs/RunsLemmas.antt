@@ -222,12 +222,10 @@ module _ (task : Task) (fit : IsFit task) (entries : List Entry) (coherent : IsC
   step_stuck calls call run step fault other r is fails can =
       let l = last_of calls call can in
       let same : l.last ≡ step = same_Some l.last step (sym (found l.state l.after l.last l.more l.step) ∙ ap found_in (sym l.is) ∙ is) in
-      let fronts =
-      same_steps (initial_state task) l.state run.state l.front run.steps.items l.cost r.total l.runs r.runs (sym l.shown ∙ r.shown) in
+      let fronts = same_steps (initial_state task) l.state run.state l.front r.steps l.cost r.total l.runs r.runs (sym l.shown ∙ r.shown) in
       let ran = subst (λ steps. Executes task (known_of task entries) (initial_state task) steps l.state l.cost) fronts l.runs in
       let states =
-      (execution_determined task (known_of task entries)
-      (initial_state task) run.steps.items l.state run.state l.cost r.total ran r.runs).0 in
+      (execution_determined task (known_of task entries) (initial_state task) r.steps l.state run.state l.cost r.total ran r.runs).0 in
       let there = subst (λ s. IsStep task (known_of task entries) s l.last l.after l.more) states l.step in
       let taken = subst (λ s. IsStep task (known_of task entries) run.state s l.after l.more) same there in
       fails_not run.state l.after step l.more fault other taken fails
@@ -236,33 +234,32 @@ module _ (task : Task) (fit : IsFit task) (entries : List Entry) (coherent : IsC
   pub step_more : (calls : List Call) (call : Call) (run next : Run) (step : GroundAction) (cost : ℕ)
       → IsRunOf task entries calls run
       → found_in call ≡ Some step → IsStep task (known_of task entries) run.state step next.state cost
-      → next.steps.items ≡ run.steps.items ++ step ∷ [] → ((total : ℕ) → IsSum total run.cost → IsSum (total + cost) next.cost)
+      → ((total : ℕ) → IsSum total run.cost → IsSum (total + cost) next.cost)
       → IsRunOf task entries (calls ++ call ∷ []) next
-  step_more calls call run next step cost r is taken steps sum =
+  step_more calls call run next step cost r is taken sum =
       let one : Executes task (known_of task entries) run.state (step ∷ []) next.state cost =
       (next.state, cost, 0, taken, (refl, refl), omega arith) in
-      let whole =
-      whole_of_parts task (known_of task entries) (initial_state task) next.state run.steps.items (step ∷ [])
-      (r.total + cost) (run.state, r.total, cost, r.runs, one, refl) in
       record {
+        steps = r.steps ++ step ∷ [];
         shown =
             (λ i. r.shown i ++ step_shown task fit (names_of task entries) coherent.names call step is i ∷ [])
-            ∙ sym (map-append cs run.steps.items (step ∷ [])) ∙ ap (map cs) (sym steps);
+            ∙ sym (map-append cs r.steps (step ∷ []));
         total = r.total + cost;
-        runs = subst (λ xs. Executes task (known_of task entries) (initial_state task) xs next.state (r.total + cost)) (sym steps) whole;
+        runs = whole_of_parts task (known_of task entries) (initial_state task) next.state r.steps (step ∷ [])
+            (r.total + cost) (run.state, r.total, cost, r.runs, one, refl);
         sum = sum r.total r.sum;
       }
 
   -- no step was taken
-  pub none_taken : (run : Run) → run.steps.items ≡ [] → run.state ≡ initial_state task
-      → run.cost ≡ Some 0 → IsRunOf task entries [] run
-  none_taken run steps state cost =
-      record {
-        shown = ap (map cs) (sym steps);
-        total = 0;
-        runs = subst (λ xs. Executes task (known_of task entries) (initial_state task) xs run.state 0) (sym steps) (sym state, refl);
-        sum = subst (IsSum 0) (sym cost) refl;
-      }
+  pub none_taken : (run : Run) → run.state ≡ initial_state task → run.cost ≡ Some 0
+      → IsRunOf task entries [] run
+  none_taken run state cost = record {
+    steps = [];
+    shown = refl;
+    total = 0;
+    runs = (sym state, refl);
+    sum = subst (IsSum 0) (sym cost) refl;
+  }
 
 -- a front that was taken can be taken, and with the next call it is stuck
 pub stops_at : (task : Task) (entries : List Entry) (calls : List Call) (place : ℕ) (call : Call) (run : Run)
@@ -273,6 +270,6 @@ stops_at task entries calls place call run r lt is stuck =
     take_more calls place call lt ∙ ap (λ (c : Call). take place calls ++ c ∷ []) (sym is) in
     record {
       within = lt;
-      runs = record { steps = run.steps.items; shown = r.shown; state = run.state; cost = r.total; runs = r.runs };
+      runs = record { steps = r.steps; shown = r.shown; state = run.state; cost = r.total; runs = r.runs };
       stuck = λ can. stuck (subst (CanRun task entries) next can);
     }

@@ -1,7 +1,7 @@
 -- Plans whose steps are taken one after another.
 use Rattle.std.specs.Prelude.{◌≡◌, ℕ, ◌+◌, ◌^◌, ◌<◌, ◌≤◌, List, [], ◌∷◌, ◌++◌, length, take, Bool, true, false, Option, None, Some, slice_get}
 use Rattle.task_model.specs.Initial.{initial_state}
-use Rattle.task_model.specs.Plans.{Executes, IsValid}
+use Rattle.task_model.specs.Plans.{Executes}
 use Rattle.task_model.specs.declared.task.GroundAction.{GroundAction}
 use Rattle.task_model.specs.declared.task.Task.{Task}
 use Rattle.transcript_model.specs.Outcomes.{AreOrigins, IsTruePlan}
@@ -23,9 +23,10 @@ IsSum total None = 2 ^ 64 ≤ total
 
 -- The steps that these calls show were taken, and lead to the state.
 pub record IsRunOf (task : Task) (entries : List Entry) (calls : List Call) (run : Run) : Type 0 where
-  pub shown : Shows task entries calls run.steps.items
+  pub steps : List GroundAction
+  pub shown : Shows task entries calls steps
   pub total : ℕ
-  pub runs : Executes task (known_of task entries) (initial_state task) run.steps.items run.state total
+  pub runs : Executes task (known_of task entries) (initial_state task) steps run.state total
   pub sum : IsSum total run.cost
 
 -- one step more was taken; or it can't be
@@ -42,12 +43,6 @@ pub record StopsAtStep (task : Task) (entries : List Entry) (calls : List Call) 
 abbrev pub IsRan : Task → List Entry → List Call → Ran → Type 0
 IsRan task entries calls (Stops place) = StopsAtStep task entries calls place
 IsRan task entries calls (Ends run) = IsRunOf task entries calls run
-
--- these steps are a valid plan of this cost, which the calls show
-pub record IsPlanOf (task : Task) (entries : List Entry) (calls : List Call) (cost : ℕ)
-    (steps : List GroundAction) : Type 0 where
-  pub shown : Shows task entries calls steps
-  pub valid : IsValid task (known_of task entries) steps cost
 
 -- the origin here is the first that isn't the one that is due
 pub record DiffersAt (version : ℕ) (entries : List Entry) (calls : List Call) (from : List Origin)

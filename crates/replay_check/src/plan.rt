@@ -1,18 +1,19 @@
 //! Whether the plan that a report shows is valid, costs what it says, and has its origins.
 ghost use Rattle.std.specs.Prelude.{IfOk};
 ghost use Rattle.transcript_ledger.specs.Ledgers.{IsLedger};
-ghost use Rattle.replay_check.specs.Runs.{IsNear, IsPlanOf, IsPlanned};
+ghost use Rattle.transcript_model.specs.Legal.{IsLegal};
+ghost use Rattle.replay_check.specs.Plans.{IsPlan};
+ghost use Rattle.replay_check.specs.Runs.{IsNear, IsPlanned};
 ghost use Rattle.replay_check.specs.Standings.{AreBounds};
 
 use crate::bounds::Bounds;
 use crate::origins::first_difference;
 use crate::steps::{Ran, run_steps};
 use formula_eval::{Env, holds};
-use shown_plan::plan_outcome;
+use shown_plan::plan_origins;
 use std::alloc::AllocError;
-use task_model::GroundAction;
 use transcript_ledger::Ledger;
-use transcript_model::{Call, Entry, Origin, Outcome};
+use transcript_model::{Call, Entry, Origin};
 
 /// The plan of an outcome, as a report shows it.
 #[derive(Drop)]
@@ -38,35 +39,18 @@ pub enum Planned {
     WrongOrigin(usize),
 }
 
-/// Whether the shown origins are those of the valid plan of these steps.
-fn judge_origins(
-    bounds: &Bounds<'_>,
-    ledger: &Ledger,
-    plan: &ShownPlan<'_>,
-    steps: &[GroundAction],
-) -> Result<Planned, AllocError>
+/// Whether the shown origins are those of the valid plan.
+fn judge_origins(bounds: &Bounds<'_>, plan: &ShownPlan<'_>) -> Result<Planned, AllocError>
     requires bounds { AreBounds bounds.now }
-    requires ledger { IsLedger bounds.now.version bounds.now.task.now plan.now.entries.now
-        ledger.now }
-    requires plan { IsPlanOf bounds.now.task.now plan.now.entries.now plan.now.calls.now
-        plan.now.cost steps.now }
+    requires legal { IsLegal bounds.now.version bounds.now.task.now plan.now.entries.now }
+    requires plan { IsPlan bounds.now.task.now plan.now.entries.now plan.now.calls.now
+        plan.now.cost }
     ensures said { IfOk result (IsPlanned bounds.now.version bounds.now.task.now
         plan.now.entries.now plan.now.calls.now plan.now.cost plan.now.from.now) }
     ensures near { IfOk result IsNear }
 {
-    let shown = plan_outcome(
-        bounds.alloc,
-        bounds.task,
-        &ledger.facts,
-        bounds.version,
-        plan.entries,
-        steps,
-        plan.cost,
-    )?;
-    let Outcome::Plan { from, .. } = shown else {
-        unreachable!();
-    };
-    match first_difference(plan.from, from.as_slice()) {
+    let due = plan_origins(bounds.alloc, bounds.version, plan.entries, plan.calls)?;
+    match first_difference(plan.from, due.as_slice()) {
         Some(place) => Ok(Planned::WrongOrigin(place)),
         None => Ok(Planned::Right),
     }
@@ -97,5 +81,5 @@ pub(crate) fn judge_plan(
     if !run.costs(plan.cost) {
         return Ok(Planned::WrongCost);
     }
-    judge_origins(bounds, ledger, plan, run.steps.as_slice())
+    judge_origins(bounds, plan)
 }

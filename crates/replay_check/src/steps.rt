@@ -9,16 +9,15 @@ ghost use Rattle.transcript_model.specs.declared.entry.Entry.{Entry as AnyEntry}
 
 use crate::bounds::Bounds;
 use fact_store::Facts;
-use plan_check::{StepFault, apply, initial};
+use plan_check::{StepFault, advance, initial};
 use std::alloc::AllocError;
-use task_model::{GroundAction, State};
+use task_model::State;
 use transcript_ledger::step_of;
 use transcript_model::Call;
 
-/// The steps that were taken, the state that they lead to, and what they cost together, unless that is 2^64 or more.
+/// The state that the steps so far lead to, and what they cost together, unless that is 2^64 or more.
 #[derive(Drop)]
 pub(crate) struct Run {
-    pub(crate) steps: Vec<GroundAction>,
     pub(crate) state: State,
     pub(crate) cost: Option<u64>,
 }
@@ -65,11 +64,9 @@ impl Run {
         let Some(step) = step_of(bounds.alloc, bounds.task, facts, call)? else {
             return Ok(false);
         };
-        match apply(bounds.task, facts, &self.state, &step) {
-            Ok(applied) => {
-                self.cost = plus(self.cost, applied.cost);
-                self.state = applied.state;
-                self.steps.push(step)?;
+        match advance(bounds.task, facts, &mut self.state, &step) {
+            Ok(cost) => {
+                self.cost = plus(self.cost, cost);
                 Ok(true)
             }
             Err(fault) => {
@@ -100,7 +97,6 @@ pub(crate) fn run_steps(
         → IfOk result (IsRan bounds.now.task.now entries calls.now) }
 {
     let mut run = Run {
-        steps: Vec::new(bounds.alloc),
         state: initial(bounds.alloc, bounds.task)?,
         cost: Some(0),
     };

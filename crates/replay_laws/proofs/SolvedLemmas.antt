@@ -4,12 +4,16 @@ use Rattle.io_world.specs.FileMap.{FileMap}
 use Rattle.level_run.specs.Reports.{whole_text}
 use Rattle.command_line.proofs.RangesLemmas.{in_range}
 use Rattle.command_line.specs.Ranges.{AreInRange}
-use Rattle.command_line.specs.Words.{SolveWords, TaskFiles, solve}
+use Rattle.command_line.specs.Words.{SolveWords, TaskFiles, command_of, solve}
 use Rattle.pddlstream_app.proofs.HeadsLemmas.{head_runs}
+use Rattle.pddlstream_app.proofs.RunsLemmas.{whole_is}
 use Rattle.pddlstream_app.specs.Files.{Holds}
 use Rattle.pddlstream_app.specs.Heads.{IsHeadOf}
 use Rattle.pddlstream_app.specs.Inputs.{IsTaskOf}
 use Rattle.pddlstream_app.specs.Replays.{kind_of_verdict, verdict_text}
+use Rattle.pddlstream_app.specs.Runs.{report_of, shown_text}
+use Rattle.pddlstream_app.specs.Works.{Work, command_for, files_of, making, solving, words_of}
+use Rattle.report_text.specs.Texts.{text_of_report}
 use Rattle.task_reader.proofs.SpelledLemmas.{one_task}
 use Rattle.replay_check.specs.Verdicts.{IsVerdict}
 use Rattle.replay_check.specs.declared.verdict.Verdict.TheVariants.{Valid}
@@ -20,7 +24,6 @@ use Rattle.replay_laws.proofs.MapPoolLemmas.{served_shown}
 use Rattle.replay_laws.proofs.WrittenLemmas.{written_valid}
 use Rattle.replay_laws.specs.Solved.{AreSameTexts, SolvedReportsAreValid}
 use Rattle.replay_laws.specs.Written.{IsHeadOfReports}
-use Rattle.pddlstream_app.proofs.RunsLemmas.{whole_is}
 
 -- ---- the head of a run
 
@@ -61,28 +64,40 @@ same_task files later paths others t u same x y =
 
 -- ---- the verdict
 
+-- words that mean a task is to be solved have no other work
+same_work : (words : List (List ℕ)) (asked : SolveWords) (work : Work) → command_of words ≡ Some (command_for work)
+    → command_of words ≡ Some (solve asked) → work ≡ solving asked
+same_work words asked (solving w) one two = let both = sym one ∙ two in ap solving (let e : w ≡ asked = cc in e)
+same_work words asked (making n) one two = let both = sym one ∙ two in absurd (cc)
+
 pub solved_valid : SolvedReportsAreValid
-solved_valid files later words others outside after status end text said solved judged first second same report le =
+solved_valid files later words others outside after status end text said asked meant solved judged first second same report le =
     let run = solved.run in
+    let work : run.work ≡ solving asked = same_work words asked run.work run.meant meant in
+    let spelled : IsTaskOf outside.files.told asked.files run.task = subst
+    (λ w. IsTaskOf (files_of outside.files.told w) (words_of w).files run.task) work run.spelled in
+    let headed : IsHeadOf outside.files.told asked run.task run.head = subst
+    (λ w. IsHeadOf (files_of outside.files.told w) (words_of w) run.task run.head) work run.headed in
     let whole = whole_text run.task run.head run.entries solved.outcome in
     let judging = judged.report in
-    let held : Holds (Some later) judged.asked.report judging.bytes =
-    subst (λ told. Holds told judged.asked.report judging.bytes) second judging.has.held in
+    let held : Holds (Some later) judged.asked.report judging.bytes = subst
+    (λ told. Holds told judged.asked.report judging.bytes) second judging.has.held in
     let both : Some judging.bytes ≡ Some text = sym held ∙ report in
     let read : judging.bytes ≡ text = cc in
-    let wrote : judging.bytes ≡ whole = read ∙ solved.is ∙ sym (whole_is run.task run.head run.entries solved.outcome) in
+    let shows : text ≡ text_of_report (report_of run.task run.head run.entries solved.outcome) = subst
+    (λ w. text ≡ shown_text w run.task run.head run.entries solved.outcome) work solved.is in
+    let wrote : judging.bytes ≡ whole = read ∙ shows ∙ sym (whole_is run.task run.head run.entries solved.outcome) in
     let task : judged.task ≡ run.task =
-    same_task files later run.asked.files judged.asked.files run.task judged.task same
-    (subst (λ told. IsTaskOf told run.asked.files run.task) first run.spelled)
+    same_task files later asked.files judged.asked.files run.task judged.task same
+    (subst (λ told. IsTaskOf told asked.files run.task) first spelled)
     (subst (λ told. IsTaskOf told judged.asked.files judged.task) second judged.spelled) in
     let verdict : IsVerdict judged.asked.states run.task whole judged.verdict =
     subst (λ b. IsVerdict judged.asked.states run.task b judged.verdict) wrote
     (subst (λ t. IsVerdict judged.asked.states t judging.bytes judged.verdict) task judging.so) in
-    let can = shown_head outside.files.told run.task run.asked run.head run.headed (in_range words (solve run.asked) run.meant) in
+    let can = shown_head outside.files.told run.task asked run.head headed (in_range words (solve asked) meant) in
     let most = judging.has.short in
     let short : length whole < 2 ^ 31 = omega (arith, most, ap length wrote) in
-    let states : run.head.states ≤ judged.asked.states = omega (arith, le, run.headed.states) in
-    let valid : judged.verdict ≡ Valid =
-    written_valid run.task run.head run.entries solved.outcome run.fit can solved.turns judged.asked.states judged.verdict short states
-    verdict in
+    let states : run.head.states ≤ judged.asked.states = omega (arith, le, headed.states) in
+    let valid : judged.verdict ≡ Valid = written_valid run.task run.head run.entries solved.outcome run.fit can solved.turns
+    judged.asked.states judged.verdict short states verdict in
     (sym judged.kind ∙ ap kind_of_verdict valid, judged.is ∙ ap verdict_text valid)

@@ -1,7 +1,7 @@
 -- What the program writes where it solves, it finds valid where it judges. The law is the contract of a public function
 -- of `lib.rt`.
 use Rattle.std.specs.Prelude.{◌≡◌, ℕ, ◌≤◌, List, Some}
-use Rattle.command_line.specs.Words.{TaskFiles}
+use Rattle.command_line.specs.Words.{SolveWords, TaskFiles, command_of, solve}
 use Rattle.io_world.specs.FileMap.{FileMap}
 use Rattle.pddlstream_app.specs.Outside.{Outside}
 use Rattle.pddlstream_app.specs.Replays.{verdict_text}
@@ -16,14 +16,15 @@ pub record AreSameTexts (files later : FileMap) (paths others : TaskFiles) : Typ
   pub problem : files paths.problem ≡ later others.problem
   pub streams : files paths.streams ≡ later others.streams
 
--- A run for these words has an outcome and writes this text. A later run, for other words, judges a report: its task
--- has the same three texts, its report is what was written, and its limit is at least the run's. Then it says that the
--- report is valid, and ends so.
+-- A run for words that mean a task is to be solved has an outcome and writes this text. A later run, for other words,
+-- judges a report: its task has the same three texts, its report is what was written, and its limit is at least the
+-- run's. Then it says that the report is valid, and ends so.
 abbrev pub SolvedReportsAreValid : Type 0
 SolvedReportsAreValid =
-    (files later : FileMap) (words others : List (List ℕ)) (outside after : Outside)
-    (status end : Status) (text said : List ℕ)
-    (solved : HasOutcome words outside status text) (judged : HasVerdict others after end said)
+    (files later : FileMap) (words others : List (List ℕ)) (outside after : Outside) (status end : Status)
+    (text said : List ℕ) (asked : SolveWords) → command_of words ≡ Some (solve asked)
+    → HasOutcome words outside status text
+    → (judged : HasVerdict others after end said)
     → outside.files.told ≡ Some files → after.files.told ≡ Some later
-    → AreSameTexts files later solved.run.asked.files judged.asked.files → later judged.asked.report ≡ Some text
-    → solved.run.asked.limits.states ≤ judged.asked.states → (end ≡ Done) × (said ≡ verdict_text Valid)
+    → AreSameTexts files later asked.files judged.asked.files → later judged.asked.report ≡ Some text
+    → asked.limits.states ≤ judged.asked.states → (end ≡ Done) × (said ≡ verdict_text Valid)

@@ -11,6 +11,8 @@ pub mod given;
 #[cfg(test)]
 mod lamp_tests;
 #[cfg(test)]
+mod large_tests;
+#[cfg(test)]
 mod level_tests;
 #[cfg(test)]
 mod plan_tests;

@@ -50,7 +50,8 @@ fn note_value(sources: &mut Sources<'_>, entry: &Entry, value: &[u8])
     ensures here { (before : List AnyEntry)
         → HasBest before value.now (found_in (λ k. k.now) sources.old value.now)
         ⊎ HasBest (before ++ entry.now ∷ []) value.now (found_in (λ k. k.now) sources.old value.now)
-        → HasBest (before ++ entry.now ∷ []) value.now (found_in (λ k. k.now) sources.new value.now) }
+        → HasBest (before ++ entry.now ∷ []) value.now
+        (found_in (λ k. k.now) sources.new value.now) }
     ensures others { (other : List ℕ) → same_numbers other value.now ≡ false
         → found_in (λ k. k.now) sources.new other ≡ found_in (λ k. k.now) sources.old other }
 {

@@ -30,6 +30,9 @@ const SHELF: &[&str] = &[
     "shelf/map.json",
 ];
 
+/// The task of three blocks on a grid is made and solved, by the generator of the grid that the host has.
+const MADE: &[&str] = &["generate", "3"];
+
 /// The words as strings.
 pub(crate) fn strings(alloc: Global, words: &[&str]) -> Result<Vec<String>, AllocError> {
     let mut list = Vec::with_capacity(alloc, words.len())?;
@@ -58,5 +61,6 @@ pub(crate) fn print_reports<H: Host>(rt: &HostRuntime, host: &mut H) -> io::Resu
     ensures { (k : ℕ) → H.running host.new k ≡ false }
 {
     print_report(rt, host, LIFT)?;
-    print_report(rt, host, SHELF)
+    print_report(rt, host, SHELF)?;
+    print_report(rt, host, MADE)
 }

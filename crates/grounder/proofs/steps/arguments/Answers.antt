@@ -1,8 +1,10 @@
-use Rattle.std.proofs.Common.{[], subst}
+use Rattle.std.proofs.Common.{[], length, ap, ◌∙◌, arith, subst}
+use Rattle.std.specs.List.{list_all}
 use Rattle.plan_check.proofs.ReadableLemmas.{readable_action}
 use Rattle.fact_join.specs.Adding.{Adds}
-use Rattle.fact_join.specs.Answers.{IsAnswer}
+use Rattle.fact_join.specs.Answers.{IsAnswer, is_atom_of}
 use Rattle.grounder.proofs.ListingLemmas.{sorted_arguments, on_ok_then}
+use Rattle.grounder.proofs.PartsLemmas.{sound_action}
 use Rattle.grounder.specs.Listing.{can_take}
 use Rattle.grounder.proofs.steps.arguments.Goals as goal
 
@@ -26,3 +28,22 @@ returns g c =
     let all = subst (λ sorts. Adds (IsAnswer known sorts takes partial atoms) [] found) c.as_slice.ensures these in
     sorted_arguments scene.task.now known scene.state.now action partial atoms found c.sort_unstable.new.self.items c.new.ensures
     c.in_ok-atoms.ensures all c.sort_unstable.ensures.permutation c.sort_unstable.ensures.sorted
+
+pub join-requires : goal.join-requires
+join-requires g c =
+    let scene = c.args.scene.now in
+    let domain = scene.task.now.domain in
+    let action = scene.action.now in
+    let params = (readable_action domain c.requires.fit.domain action c.requires.action).params in
+    let slots = c.in_ok-atoms.ensures.slots (length action.params) (sound_action domain action c.requires.action) in (
+      omega arith,
+      (
+        record {
+          narrow = omega (arith, params, ap length c.as_slice.ensures);
+          slots = ap (λ n. list_all (is_atom_of n) c.as_slice-2.result.now) (ap length c.as_slice.ensures)
+              ∙ ap (list_all (is_atom_of (length action.params))) c.as_slice-2.ensures.value ∙ slots;
+          judged = λ tuple long. (c.requires.fit, c.requires.action, omega (arith, long, params, ap length c.as_slice.ensures));
+        },
+        omega (arith, ap length c.new-rows.ensures.items),
+      ),
+    )

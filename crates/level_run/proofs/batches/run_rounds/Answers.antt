@@ -113,7 +113,8 @@ returns-in_err-run_round-clause-stopped g c =
           (g.O.Sink.taken c.args.out.now) (g.O.Sink.taken c.rounds.out) (g.O.Sink.taken c.run_round.new.out)
           (LogBreaks task head.version (workers_in head) s.entries fault was log)
           (LogBreaks task head.version (workers_in head) now.entries fault mid log) i.goes
-          (breaks_then task head.version (workers_in head) s.entries now.entries fault was mid log i.order i.goes.more i.goes.pushed) stopped,
+          (breaks_then task head.version (workers_in head) s.entries now.entries fault was mid log i.order i.goes.more i.goes.pushed)
+          stopped,
     )
 
 pub rounds-preserved : goal.rounds-preserved

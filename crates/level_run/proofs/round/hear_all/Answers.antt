@@ -67,7 +67,8 @@ loop-place-preserved g c =
           (g.H.Host.log c.hear_one.new.host)) i.rolled.same later.1 in (
             later.0,
             calls_then task s.pools (s.entries ++ s.asks) (s.entries ++ s.asks ++ take place (finished old.slots))
-                (s.entries ++ s.asks ++ take (place + 1) (finished new.slots)) (g.H.Host.log c.args.host.now) (g.H.Host.log c.loop-place.host)
+                (s.entries ++ s.asks ++ take (place + 1) (finished new.slots))
+                (g.H.Host.log c.args.host.now) (g.H.Host.log c.loop-place.host)
                 (g.H.Host.log c.hear_one.new.host) before.1
                 (subst (λ es. Calls task s.pools (s.entries ++ s.asks ++ es) (s.entries ++ s.asks ++ take (place + 1) (finished new.slots))
                 (g.H.Host.log c.loop-place.host) (g.H.Host.log c.hear_one.new.host)) e.goes.0 came),

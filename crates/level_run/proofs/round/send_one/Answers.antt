@@ -122,10 +122,13 @@ returns-clause-said g c = λ task kept h talking.
     let now = g.H.Host.log c.send.new.host in
     on_ok c.print_entry.result _ (
       subst (λ (x : State). IsTalking task x (c.args.place + 1) 0 kept (g.H.Host.spoken c.send.new.host)) (sym after)
-          (talking_sent_by task s c.args.place kept (g.H.Host.spoken c.args.host.now) (g.H.Host.spoken c.send.new.host) there.0 there.1 talking
+          (talking_sent_by task s c.args.place kept (g.H.Host.spoken c.args.host.now)
+          (g.H.Host.spoken c.send.new.host) there.0 there.1 talking
           c.request-child.result.0 c.request-child.result.1.now is.0 is.1 c.in_ok-send.ensures.all),
       calls_one task s.pools (s.entries ++ take c.args.place s.asks)
-          (s.entries ++ take (c.args.place + 1) s.asks) c.ask.result.now was now (one_more s.entries s.asks c.args.place c.ask.result.now at)
-          (sent_calls task s c.args.place kept (g.H.Host.spoken c.args.host.now) there.0 there.1 c.ask.result.now at c.requires.rolling.begun h
+          (s.entries ++ take (c.args.place + 1) s.asks) c.ask.result.now was now
+          (one_more s.entries s.asks c.args.place c.ask.result.now at)
+          (sent_calls task s c.args.place kept
+          (g.H.Host.spoken c.args.host.now) there.0 there.1 c.ask.result.now at c.requires.rolling.begun h
           talking c.request-child.result.0 c.request-child.result.1.now was now is.0 is.1 c.in_ok-send.ensures.log),
     )

@@ -1,7 +1,7 @@
 use Rattle.std.proofs.Common.{◌≡◌, map, string_bytes, Some, subst}
 use Rattle.command_line.proofs.RangesLemmas.{in_range}
 use Rattle.command_line.specs.Held.{held, held_replay, held_solve}
-use Rattle.command_line.specs.Words.{command_of, replay, solve}
+use Rattle.command_line.specs.Words.{command_of, generate, replay, solve}
 use Rattle.pddlstream_app.proofs.command.attempt.Goals as goal
 
 pub solve-requires-clause-within : goal.solve-requires-clause-within
@@ -14,3 +14,14 @@ judge-requires g c = record {
   within = in_range (map string_bytes c.args.words.now) (replay (held_replay c.in-Replay.words))
       (subst (λ command. command_of (map string_bytes c.args.words.now) ≡ Some (held command)) c.in-Replay.is c.in-Ok.ensures.config);
 }
+
+pub make-requires-clause-within : goal.make-requires-clause-within
+make-requires-clause-within g c =
+    in_range (map string_bytes c.args.words.now) (generate c.in-Generate.number)
+    (subst (λ command. command_of (map string_bytes c.args.words.now) ≡ Some (held command)) c.in-Generate.is c.in-Ok.ensures.config)
+
+pub returns-in-Generate-clause-asked_before : goal.returns-in-Generate-clause-asked_before
+returns-in-Generate-clause-asked_before g c =
+    c.make.ensures.asked_before (map string_bytes c.args.words.now) (g.F.Files.told c.args.files.now) (g.F.Files.faults c.args.files.now)
+    (g.F.Files.asked c.args.files.now)
+    (subst (λ command. command_of (map string_bytes c.args.words.now) ≡ Some (held command)) c.in-Generate.is c.in-Ok.ensures.config)

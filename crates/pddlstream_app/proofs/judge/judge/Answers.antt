@@ -26,32 +26,43 @@ pub returns-in_err-task-clause-stopped : goal.returns-in_err-task-clause-stopped
 returns-in_err-task-clause-stopped g c line spoken log meant =
     handed c.from_residual.result c.in_err-task.field-0.0 _ c.from_residual.ensures.1
     (stopped_reading line _ _ c.in_err-task.field-0.0
-    (inl (record {
-      command = replay (held_replay c.args.words.now);
+    (record {
+      command = replay
+          (held_replay c.args.words.now);
       meant = meant;
-      all = files_named (replay (held_replay c.args.words.now));
-      are = inl refl;
-      stopped = ends_in c.paths_of-paths.ensures _ (c.in_err-task.ensures.stop _);
-    })) (stops_none log))
+      cause = record {
+        all = files_named
+            (replay (held_replay c.args.words.now));
+        are = inl refl;
+        stopped = ends_in c.paths_of-paths.ensures _
+            (c.in_err-task.ensures.stop _);
+      };
+    }) (stops_none log))
 
 pub returns-in_err-task-clause-asked_before : goal.returns-in_err-task-clause-asked_before
 returns-in_err-task-clause-asked_before g c line meant =
     handed c.from_residual.result c.in_err-task.field-0.0 _ c.from_residual.ensures.1
     (asked_reading line _ c.in_err-task.field-0.0
-    (inl (record {
-      command = replay (held_replay c.args.words.now);
+    (record {
+      command = replay
+          (held_replay c.args.words.now);
       meant = meant;
-      all = files_named (replay (held_replay c.args.words.now));
-      are = inl refl;
-      stopped = ends_in c.paths_of-paths.ensures _ (c.in_err-task.ensures.stop _);
-    })))
+      cause = record {
+        all = files_named
+            (replay (held_replay c.args.words.now));
+        are = inl refl;
+        stopped = ends_in c.paths_of-paths.ensures _
+            (c.in_err-task.ensures.stop _);
+      };
+    }))
 
 pub returns-in_err-report-clause-stopped : goal.returns-in_err-report-clause-stopped
 returns-in_err-report-clause-stopped g c line spoken log meant =
     handed c.from_residual-in_err-report.result c.in_err-report.field-0.0 _ c.from_residual-in_err-report.ensures.1
     (stopped_reading line _ _ c.in_err-report.field-0.0
-    (ends_at_report line (held_replay c.args.words.now) meant c.in_ok-task.task (g.F.Files.told c.args.files.now) _ c.read_task.ensures.same
-    _ _ _ c.read_task.ensures.later _ _ _ (spelled_in c.paths_of-paths.ensures c.in_ok-task.ensures.task)
+    (ends_at_report line (held_replay c.args.words.now) meant c.in_ok-task.task
+    (g.F.Files.told c.args.files.now) _ c.read_task.ensures.same _ _ _ c.read_task.ensures.later _ _ _
+    (spelled_in c.paths_of-paths.ensures c.in_ok-task.ensures.task)
     (read_in _ _ c.paths_of-paths.ensures c.in_ok-task.ensures.asked) c.in_err-report.field-0.0 c.in_err-report.ensures.stop)
     (stops_none log))
 
@@ -59,16 +70,18 @@ pub returns-in_err-report-clause-asked_before : goal.returns-in_err-report-claus
 returns-in_err-report-clause-asked_before g c line meant =
     handed c.from_residual-in_err-report.result c.in_err-report.field-0.0 _ c.from_residual-in_err-report.ensures.1
     (asked_reading line _ c.in_err-report.field-0.0
-    (ends_at_report line (held_replay c.args.words.now) meant c.in_ok-task.task (g.F.Files.told c.args.files.now) _ c.read_task.ensures.same
-    _ _ _ c.read_task.ensures.later _ _ _ (spelled_in c.paths_of-paths.ensures c.in_ok-task.ensures.task)
+    (ends_at_report line (held_replay c.args.words.now) meant c.in_ok-task.task
+    (g.F.Files.told c.args.files.now) _ c.read_task.ensures.same _ _ _ c.read_task.ensures.later _ _ _
+    (spelled_in c.paths_of-paths.ensures c.in_ok-task.ensures.task)
     (read_in _ _ c.paths_of-paths.ensures c.in_ok-task.ensures.asked) c.in_err-report.field-0.0 c.in_err-report.ensures.stop))
 
 pub returns-clause-completed : goal.returns-clause-completed
 returns-clause-completed g c line spoken log meant =
     completed_said line _ (held_replay c.args.words.now) meant c.in_ok-task.task
     (spelled_in c.paths_of-paths.ensures c.in_ok-task.ensures.task) c.in_ok-task.ensures.fit refl c.in_ok-report.report.items
-    (subst (λ told. HasBytes told (file_of role.Report (held_replay c.args.words.now).report) c.in_ok-report.report.items)
-    c.read_task.ensures.same c.in_ok-report.ensures.bytes) _ c.judge_bytes.result
+    (subst (λ told. HasBytes told (file_of role.Report
+    (held_replay c.args.words.now).report) c.in_ok-report.report.items) c.read_task.ensures.same c.in_ok-report.ensures.bytes) _
+    c.judge_bytes.result
     (subst (λ bytes. IsSaid (IsVerdict c.args.words.now.states c.in_ok-task.task bytes)
     (written_of g.O.Sink.taken c.args.out.now c.judge_bytes.new.out) c.judge_bytes.result) c.as_slice.ensures.value
     c.judge_bytes.ensures.said)
@@ -77,8 +90,9 @@ pub returns-clause-stopped : goal.returns-clause-stopped
 returns-clause-stopped g c line spoken log meant =
     stopped_said line _ (held_replay c.args.words.now) meant c.in_ok-task.task
     (spelled_in c.paths_of-paths.ensures c.in_ok-task.ensures.task) c.in_ok-task.ensures.fit refl c.in_ok-report.report.items
-    (subst (λ told. HasBytes told (file_of role.Report (held_replay c.args.words.now).report) c.in_ok-report.report.items)
-    c.read_task.ensures.same c.in_ok-report.ensures.bytes) _ (stops_none log) c.judge_bytes.result
+    (subst (λ told. HasBytes told (file_of role.Report
+    (held_replay c.args.words.now).report) c.in_ok-report.report.items) c.read_task.ensures.same c.in_ok-report.ensures.bytes) _
+    (stops_none log) c.judge_bytes.result
     (subst (λ bytes. IsSaid (IsVerdict c.args.words.now.states c.in_ok-task.task bytes)
     (written_of g.O.Sink.taken c.args.out.now c.judge_bytes.new.out) c.judge_bytes.result) c.as_slice.ensures.value
     c.judge_bytes.ensures.said)
@@ -89,10 +103,13 @@ returns-clause-asked g c line meant =
     (record {
       command = replay (held_replay c.args.words.now);
       meant = meant;
-      all = files_named (replay (held_replay c.args.words.now));
-      are = refl;
-      asked = extends_more _ _ _ _ _ (read_in _ _ c.paths_of-paths.ensures c.in_ok-task.ensures.asked)
-          c.in_ok-report.ensures.asked;
+      asks = record {
+        all = files_named
+            (replay (held_replay c.args.words.now));
+        are = refl;
+        asked = extends_more _ _ _ _ _
+            (read_in _ _ c.paths_of-paths.ensures c.in_ok-task.ensures.asked) c.in_ok-report.ensures.asked;
+      };
     })
 
 pub returns-clause-asked_before : goal.returns-clause-asked_before
@@ -101,10 +118,13 @@ returns-clause-asked_before g c line meant =
     (record {
       command = replay (held_replay c.args.words.now);
       meant = meant;
-      all = files_named (replay (held_replay c.args.words.now));
-      are = refl;
-      asked = extends_more _ _ _ _ _ (read_in _ _ c.paths_of-paths.ensures c.in_ok-task.ensures.asked)
-          c.in_ok-report.ensures.asked;
+      asks = record {
+        all = files_named
+            (replay (held_replay c.args.words.now));
+        are = refl;
+        asked = extends_more _ _ _ _ _
+            (read_in _ _ c.paths_of-paths.ensures c.in_ok-task.ensures.asked) c.in_ok-report.ensures.asked;
+      };
     })
 
 -- neither want of memory nor a fault of the sink is a fault of the generator

@@ -4,7 +4,7 @@ use Rattle.task_model.specs.Known.{IsCoherent, Known}
 use Rattle.task_model.specs.Plans.{IsGoal}
 use Rattle.task_model.specs.Truth.{is_true}
 use Rattle.replay_check.proofs.PlansLemmas.{costs_other, goal_missed, plan_run}
-use Rattle.replay_check.specs.Runs.{IsPlanOf, IsRunOf}
+use Rattle.replay_check.specs.Runs.{IsRunOf}
 use Rattle.replay_check.proofs.plan.judge_plan.Goals as goal
 
 pub holds-requires-clause-readable : goal.holds-requires-clause-readable
@@ -66,6 +66,5 @@ judge_origins-requires-clause-plan c =
     (ap (is_true task.domain known c.in-Ends.run'.state task.problem.goal) (sym c.new-env.ensures) ∙ sym c.holds.ensures.value
     ∙ over) in
     let same : c.in-Ends.run'.cost ≡ Some p.cost = c.costs.ensures.0 (search (rules, tests)) in
-    subst (IsPlanOf task p.entries.now p.calls.now p.cost) (sym c.as_slice.ensures.value)
-    (plan_run c.args.bounds.now.version task c.requires.bounds.fit p.entries.now coherent p.calls.now p.from.now c.in-Ends.run' run
-    p.cost reached same)
+    plan_run c.args.bounds.now.version task c.requires.bounds.fit p.entries.now coherent p.calls.now p.from.now c.in-Ends.run' run p.cost
+    reached same

@@ -14,18 +14,18 @@ returns-in_default c = λ entries calls known run.
     no_step task c.requires.fit entries coherent calls c.args.call.now
     (sym (ap (λ (k : Known). step_named task k.names c.args.call.now) known) ∙ sym c.in_ok-step.ensures ∙ c.in_default.is)
 
-pub returns-in_ok-push-in-Ok : goal.returns-in_ok-push-in-Ok
-returns-in_ok-push-in-Ok c = λ entries calls known run.
+pub returns-in-Ok : goal.returns-in-Ok
+returns-in-Ok c = λ entries calls known run.
     let task = c.args.bounds.now.task.now in
     let coherent = subst IsCoherent known c.args.facts.now.coherent in
     let named : step_named task (names_of task entries) c.args.call.now ≡ Some c.in-Some.step =
     sym (ap (λ (k : Known). step_named task k.names c.args.call.now) known) ∙ sym c.in_ok-step.ensures ∙ c.in-Some.is in
-    step_more task c.requires.fit entries coherent calls c.args.call.now c.args.self.now _ c.in-Some.step c.in-Ok.applied.cost run named
-    (subst (λ (k : Known). IsStep task k c.args.self.now.state c.in-Some.step c.in-Ok.applied.state c.in-Ok.applied.cost) known
-    c.in-Ok.ensures.ok) c.in_ok-push-in-Ok.ensures.items c.plus-self.ensures
+    step_more task c.requires.fit entries coherent calls c.args.call.now c.args.self.now _ c.in-Some.step c.in-Ok.cost run named
+    (subst (λ (k : Known). IsStep task k c.args.self.now.state c.in-Some.step c.advance.new.state c.in-Ok.cost) known
+    c.in-Ok.ensures.ok) c.plus-self.ensures
 
-pub returns-in_ok-unless_memory-in-Err : goal.returns-in_ok-unless_memory-in-Err
-returns-in_ok-unless_memory-in-Err c = λ entries calls known run.
+pub returns : goal.returns
+returns c = λ entries calls known run.
     let task = c.args.bounds.now.task.now in
     let coherent = subst IsCoherent known c.args.facts.now.coherent in
     let named : step_named task (names_of task entries) c.args.call.now ≡ Some c.in-Some.step =

@@ -1,0 +1,14 @@
+use Rattle.std.proofs.Common.{◌≡◌, ◌++◌, map, take}
+use Rattle.std.specs.List.{filter}
+use Rattle.grounder.proofs.CandidatesLemmas.{goes}
+use Rattle.grounder.proofs.ListingLemmas.{step_with}
+use Rattle.grounder.proofs.candidates.add_from_rows.Given as goal
+
+-- the steps with those of the rows that were passed and go on stand behind the old ones
+abbrev pub invariant-loop-args : goal.invariant-loop-args
+invariant-loop-args g l =
+    let known = g.L.Look.known l.scene.look.now in
+    l.steps.items
+    ≡ l.initial.steps.items
+    ++ map (step_with l.scene.number)
+    (filter (goes l.scene.task.now known l.scene.state.now l.scene.action.now) (take l.args-index l.rows))

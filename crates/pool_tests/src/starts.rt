@@ -1,0 +1,169 @@
+//! Which children are started, in which order, and what becomes of a run where one does not start.
+
+use crate::noting_host::NotingHost;
+use pddlstream_app::Status;
+use run_rows::{CUP, Given, host_of, ran_over};
+use std::alloc::Global;
+use std::process::Abort;
+use std::test::Fail;
+use worked_tasks::Texts;
+
+/// Three tests of one cup, in a map of a pool of two workers, the grid and a pool of one.
+const THREE: Given<'static> = Given {
+    words: &["solve", "d", "p", "s", "--map", "m"],
+    texts: Texts {
+        domain: "(define (domain t) (:predicates (item ?x) (a ?x) (b ?x) (c ?x)))",
+        problem: "(define (problem t1) (:domain t) (:objects cup) (:init (item cup))
+  (:goal (and (a cup) (b cup) (c cup))))",
+        streams: "(define (stream t)
+  (:stream one :inputs (?x) :domain (item ?x) :certified (a ?x))
+  (:stream two :inputs (?x) :domain (item ?x) :certified (b ?x))
+  (:stream three :inputs (?x) :domain (item ?x) :certified (c ?x)))",
+    },
+    map: "{\"pools\":[{\"run\":[\"g\"],\"workers\":2,\"streams\":[\"one\"]},
+        {\"run\":[\"@grid\",\"f\"],\"streams\":[\"two\"]},
+        {\"run\":[\"h\",\"x\"],\"streams\":[\"three\"]}]}",
+    grid: "grid 4 6",
+    answers: "yield\n",
+    others: &[
+        "", "yield\n", "", "", "", "", "", "", "", "", "", "", "", "", "", "yield\n",
+    ],
+    ..CUP
+};
+
+/// The same with the pool of the grid first.
+const GRID_FIRST: Given<'static> = Given {
+    map: "{\"pools\":[{\"run\":[\"@grid\",\"f\"],\"streams\":[\"two\"]},
+        {\"run\":[\"g\"],\"workers\":2,\"streams\":[\"one\"]},
+        {\"run\":[\"h\",\"x\"],\"streams\":[\"three\"]}]}",
+    ..THREE
+};
+
+/// All workers, in the order of their numbers.
+const ALL: &str = "0 g\n1 g\n2 h x\n16 @grid grid 4 6\n";
+
+const PLAN: &str = "pddlstream 1 incremental
+limits 10000 100000 3
+pool 2 one
+pool 1 two
+pool 1 three
+level
+ask 1 0 one cup
+ask 2 0 two cup
+ask 3 0 three cup
+got 1
+got 2
+got 3
+plan 0
+cost 0
+done
+";
+
+const PLAN_GRID_FIRST: &str = "pddlstream 1 incremental
+limits 10000 100000 3
+pool 1 two
+pool 2 one
+pool 1 three
+level
+ask 1 0 one cup
+ask 2 0 two cup
+ask 3 0 three cup
+got 1
+got 2
+got 3
+plan 0
+cost 0
+done
+";
+
+const FAULT: &str = "pddlstream 1 incremental
+limits 10000 100000 3
+pool 2 one
+pool 1 two
+pool 1 three
+level
+fault generator
+";
+
+/// What is given, the text of the run, its starts, how many children are stopped, and how it ends.
+type Row = (Given<'static>, &'static str, &'static str, usize, Status);
+
+const ROWS: [Row; 7] = [
+    (THREE, PLAN, ALL, 4, Status::Plan),
+    (GRID_FIRST, PLAN_GRID_FIRST, ALL, 4, Status::Plan),
+    (
+        Given {
+            host_fails: &[0],
+            ..THREE
+        },
+        FAULT,
+        "0 g\n",
+        0,
+        Status::GeneratorFault,
+    ),
+    (
+        Given {
+            host_fails: &[1],
+            ..THREE
+        },
+        FAULT,
+        "0 g\n1 g\n",
+        1,
+        Status::GeneratorFault,
+    ),
+    (
+        Given {
+            host_fails: &[2],
+            ..THREE
+        },
+        FAULT,
+        "0 g\n1 g\n2 h x\n",
+        2,
+        Status::GeneratorFault,
+    ),
+    (
+        Given {
+            host_fails: &[3],
+            ..THREE
+        },
+        FAULT,
+        ALL,
+        3,
+        Status::GeneratorFault,
+    ),
+    // The calls behind four starts, three writes and three reads are the stops.
+    (
+        Given {
+            host_fails: &[10, 11, 12, 13],
+            ..THREE
+        },
+        PLAN,
+        ALL,
+        4,
+        Status::Plan,
+    ),
+];
+
+/// Asserts that the run has its text and its starts, and ends so.
+fn check(rt: &impl Abort, alloc: Global, place: usize, row: &Row) -> Result<(), Fail> {
+    let (given, want, starts, stops, ends) = row;
+    let mut host = NotingHost::new(host_of(alloc, given)?);
+    let (text, status) = ran_over(alloc, given, &mut host)?;
+    assert_eq!(rt; text.as_slice(), want.as_bytes(), "row {place}");
+    assert_eq!(rt;
+        host.starts(alloc)?.as_slice(),
+        starts.as_bytes(),
+        "row {place}"
+    );
+    assert_eq!(rt; host.stops(), *stops, "row {place}");
+    assert_eq!(rt; status, *ends, "row {place}");
+    Ok(())
+}
+
+#[test]
+fn workers_start_in_the_order_of_their_numbers(rt: HostRuntime) -> Result<(), Fail> {
+    for (place, row) in ROWS.iter().enumerate() {
+        check(&rt, rt.alloc(), place, row)?;
+    }
+    Ok(())
+}

@@ -1,0 +1,6 @@
+//! Runs of the commands over files, children and a sink in memory, for tests.
+#![tactic(auto)]
+
+mod given;
+
+pub use given::{CUP, Given, PAIR, Row, Wrong, host_of, ran_over, run_of, wrong_row};
