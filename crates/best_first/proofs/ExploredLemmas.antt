@@ -1,45 +1,30 @@
 -- How the explored states grow.
-use Rattle.std.proofs.Common.{◌≡◌, ℕ, zero, suc, ◌+◌, ◌<◌, ◌≤◌, inl, inr, Bool, List, [], ◌∷◌, ◌++◌, length, length-append, refl, sym, ap, subst, ◌∙◌, arith, Some, slice_get, Contains, Result, Ok, Err, OnOk}
+use Rattle.std.proofs.Common.{◌≡◌, ℕ, ◌+◌, ◌<◌, ◌≤◌, inl, inr, Bool, List, [], ◌∷◌, ◌++◌, length, length-append, sym, ap, subst, ◌∙◌, arith, Some, slice_get, Result, Ok, Err, OnOk}
 use Rattle.std.proofs.lemmas.Bool.{cases_lt}
-use Rattle.std.proofs.lemmas.List.Elements.{All-contains, Contains-append_left}
+use Rattle.std.proofs.lemmas.List.Elements.{Contains-append_left}
 use Rattle.std.proofs.lemmas.Option.{slice_get_within}
 use Rattle.grounder.specs.Applicable.{AreApplicable}
-use Rattle.task_model.proofs.StepsLemmas.{step_determined}
-use Rattle.lemmas.proofs.Members.{member_at, place_of, push_cases, distinct_push, get_append, get_pushed}
+use Rattle.lemmas.proofs.Members.{member_at, place_of, push_cases, get_append, get_single}
 use Rattle.task_model.specs.Initial.{initial_state}
 use Rattle.task_model.specs.Known.{Known}
-use Rattle.task_model.specs.Plans.{Executes, IsGoal, IsReached, IsReachedWithin, MoreThan}
+use Rattle.task_model.specs.Plans.{IsGoal, IsReached, IsReachedWithin, MoreThan}
 use Rattle.task_model.specs.State.{Atoms}
 use Rattle.task_model.specs.Steps.{IsStep}
 use Rattle.task_model.specs.declared.task.GroundAction.{GroundAction}
 use Rattle.task_model.specs.declared.task.Task.{Task}
-use Rattle.best_first.specs.Explored.{IsLink, IsTree, ExploringEnds, IsExplored, IsGrown, IsMet, IsBeyond}
+use Rattle.best_first.specs.Explored.{IsTree, ExploringEnds, IsExplored, IsGrown, IsMet, IsBeyond, Leads}
 use Rattle.best_first.specs.Outcome.{IsAll}
 use Rattle.best_first.specs.declared.tree.Link.{Link}
-use Rattle.lemmas.proofs.Pigeonhole.{pigeons}
 use Rattle.lemmas.proofs.ListTests.{one_there, all_by_place}
+use Rattle.best_first.proofs.TreesLemmas.{AreTaken, all_taken, closed_all, grown_tree, met_last, start_tree, still_there, taken_next}
 use Rattle.best_first.proofs.ReachedLemmas.{within_more, within_reached, within_none, initially, within_step, within_last}
-use Rattle.lemmas.proofs.Options.{none_at}
 
 pub on_ok : {T E P : Type 0} (r : Result T E) → P → OnOk r P
 on_ok (Ok x) p = p
 on_ok (Err e) p = tt
 
-only_at : {A : Type 0} (y : A) (n : ℕ) (x : A) → slice_get (y ∷ []) n ≡ Some x → (n ≡ 0) × (y ≡ x)
-only_at y zero x e = (refl, cc)
-only_at y (suc n) x e = absurd (cc)
-
 module _ (task : Task) (known : Known) where
   -- ---- the initial state
-
-  start_tree : IsTree task known (initial_state task ∷ []) []
-  start_tree = record {
-    first = refl;
-    distinct = λ i j x e f. (only_at (initial_state task) i x e).0 ∙ sym (only_at (initial_state task) j x f).0;
-    linked = refl;
-    earlier = record { earlier = λ n link e. absurd (none_at n link e); small = λ n link e. absurd (none_at n link e) };
-    each = λ n link e. absurd (none_at n link e);
-  }
 
   pub explored_start : (seeks : Bool) (limit : ℕ) → 1 ≤ limit
       → ¬ (ExploringEnds task known seeks (initial_state task))
@@ -47,16 +32,16 @@ module _ (task : Task) (known : Known) where
   explored_start seeks limit some open_end = record {
     level = 0;
     edge = 1;
-    tree = start_tree;
+    tree = start_tree task known;
     few = some;
-    none_ends = λ n s e. subst (λ t. ¬ (ExploringEnds task known seeks t)) (only_at (initial_state task) n s e).1 open_end;
+    none_ends = λ n s e. subst (λ t. ¬ (ExploringEnds task known seeks t)) (get_single (initial_state task) s n e).1 open_end;
     expanded = λ n s after step cost h. absurd (omega arith);
     done_within = omega arith;
     edge_within = omega arith;
     inner = λ s r. (0, omega arith, ap Some (within_none task known s r));
-    near = λ n s h e. subst (IsReachedWithin task known 0) (only_at (initial_state task) n s e).1 (initially task known);
+    near = λ n s h e. subst (IsReachedWithin task known 0) (get_single (initial_state task) s n e).1 (initially task known);
     outer = λ n s e. within_more task known 0 (0 + 1) s
-        (omega arith) (subst (IsReachedWithin task known 0) (only_at (initial_state task) n s e).1 (initially task known));
+        (omega arith) (subst (IsReachedWithin task known 0) (get_single (initial_state task) s n e).1 (initially task known));
   }
 
   pub met_at_start : (seeks : Bool) (limit : ℕ)
@@ -64,9 +49,9 @@ module _ (task : Task) (known : Known) where
       → IsMet task known seeks limit (initial_state task ∷ []) []
   met_at_start seeks limit ends = record {
     sought = ends.0;
-    tree = start_tree;
+    tree = start_tree task known;
     few = omega arith;
-    goal = λ s e. subst (IsGoal task known) (only_at (initial_state task) 0 s e).1 ends.1;
+    goal = λ s e. subst (IsGoal task known) (get_single (initial_state task) s 0 e).1 ends.1;
     others = λ n s h e. absurd (omega arith);
   }
 
@@ -111,60 +96,13 @@ module _ (task : Task) (known : Known) where
 
     -- ---- one state more
 
-    link_on : (states more : List Atoms) (n : ℕ) (link : Link) → IsLink task known states n link
-        → IsLink task known (states ++ more) n link
-    link_on states more n link l = record {
-      before = l.before;
-      after = l.after;
-      from = get_append states more link.parent l.before l.from;
-      to = get_append states more (n + 1) l.after l.to;
-      step = l.step;
-    }
-
-    grown_tree : (states : List Atoms) (links : List Link) (source after : Atoms) (link : Link)
-        → IsTree task known states links → slice_get states link.parent ≡ Some source
-        → IsStep task known source link.step after link.cost → link.cost ≤ 262144000000
-        → ¬ (Contains states after) → IsTree task known (states ++ after ∷ []) (links ++ link ∷ [])
-    grown_tree states links source after link tree here is small fresh =
-        let within = slice_get_within states link.parent source here in
-        record {
-          first = get_append states (after ∷ []) 0 (initial_state task) tree.first;
-          distinct = distinct_push states after tree.distinct fresh;
-          linked = omega (arith, length-append states (after ∷ []), length-append links (link ∷ []), tree.linked);
-          earlier = record {
-            earlier = λ n l e.
-                elim (push_cases links link n l e) [
-                  | inl h ↦ tree.earlier.earlier n l h
-                  | inr k ↦ subst (λ (m : Link). m.parent ≤ n) (sym k.1) (omega (arith, within, tree.linked, k.0))
-                ];
-            small = λ n l e.
-                elim (push_cases links link n l e) [
-                  | inl h ↦ tree.earlier.small n l h
-                  | inr k ↦ subst (λ (m : Link). m.cost ≤ 262144000000) (sym k.1) small
-                ];
-          };
-          each = λ n l e.
-              elim (push_cases links link n l e) [
-                | inl h ↦ link_on states (after ∷ []) n l (tree.each n l h)
-                | inr k ↦
-                    let one : IsLink task known (states ++ after ∷ []) n link = record {
-                      before = source;
-                      after = after;
-                      from = get_append states (after ∷ []) link.parent source here;
-                      to = get_pushed states after (n + 1) (omega (arith, k.0, tree.linked));
-                      step = is;
-                    } in
-                    subst (IsLink task known (states ++ after ∷ []) n) (sym k.1) one
-              ];
-        }
-
     module _ (states : List Atoms) (links : List Link) (from id : ℕ) (g : IsGrown task known seeks limit states links from id) where
       was : Ahead g.before g.earlier from
       was = forward g.before g.earlier from g.explored (slice_get_within g.before from g.source g.here)
 
       tree_now : IsTree task known (g.before ++ g.after ∷ []) (g.earlier ++ g.link ∷ [])
       tree_now =
-          grown_tree g.before g.earlier g.source g.after g.link g.explored.tree
+          grown_tree task known g.before g.earlier g.source g.after g.link g.explored.tree
           (subst (λ n. slice_get g.before n ≡ Some g.source) (sym g.parent) g.here) g.step g.small g.fresh
 
       -- each state is reached within one step more than the level
@@ -230,22 +168,8 @@ module _ (task : Task) (known : Known) where
           → IsMet task known seeks limit states links
       grown_met ends =
           let e = g.explored in
-          let many : length (g.earlier ++ g.link ∷ []) ≡ length g.before =
-          omega (arith, length-append g.earlier (g.link ∷ []), e.tree.linked) in
-          let now : IsMet task known seeks limit (g.before ++ g.after ∷ []) (g.earlier ++ g.link ∷ []) = record {
-            sought = ends.0;
-            tree = tree_now;
-            few = omega (arith, many, e.few);
-            goal = λ s at. subst (IsGoal task known)
-                (one_there (g.before ++ g.after ∷ [])
-                (length (g.earlier ++ g.link ∷ [])) g.after s (get_pushed g.before g.after (length (g.earlier ++ g.link ∷ [])) many) at)
-                ends.1;
-            others = λ n s h at is.
-                elim (push_cases g.before g.after n s at) [
-                  | inl k ↦ e.none_ends n s k (ends.0, is)
-                  | inr k ↦ absurd (omega (arith, k.0, many, h))
-                ];
-          } in
+          let now = met_last task known seeks limit g.before (g.earlier ++ g.link ∷ []) g.after ends.0 tree_now e.few
+          (λ n s at is. e.none_ends n s at (ends.0, is)) ends.1 in
           subst (λ ss. IsMet task known seeks limit ss links)
           (sym g.states_are) (subst (IsMet task known seeks limit (g.before ++ g.after ∷ [])) (sym g.links_are) now)
 
@@ -287,9 +211,7 @@ module _ (task : Task) (known : Known) where
         (count : ℕ) : Type 0 where
       pub explored : IsExplored task known seeks limit states links from
       pub here : slice_get states from ≡ Some state
-      pub kept : (n : ℕ) (step : GroundAction) (after : Atoms) (cost : ℕ) → n < count
-          → slice_get steps n ≡ Some step → IsStep task known state step after cost
-          → Contains states after
+      pub kept : AreTaken task known states state steps count
 
     pub expanding_start : (states : List Atoms) (links : List Link) (from : ℕ) (state : Atoms) (steps : List GroundAction)
         → IsExplored task known seeks limit states links from → slice_get states from ≡ Some state
@@ -301,27 +223,13 @@ module _ (task : Task) (known : Known) where
         (count : ℕ) (new : List Atoms) (new_links : List Link) (step : GroundAction)
         → IsExpanding states links from state steps count → slice_get steps count ≡ Some step
         → IsExplored task known seeks limit new new_links from
-        → (more : List Atoms) × (new ≡ states ++ more)
-        → (after : Atoms) × (cost : ℕ) × IsStep task known state step after cost × Contains new after
+        → Leads task known states state step new
         → IsExpanding new new_links from state steps (count + 1)
-    expanding_next states links from state steps count new new_links step is at e grows leads =
+    expanding_next states links from state steps count new new_links step is at e leads =
         record {
           explored = e;
-          here = subst (λ ss. slice_get ss from ≡ Some state) (sym grows.1) (get_append states grows.0 from state is.here);
-          kept = λ n other after cost h found taken.
-              elim (cases_lt n count) [
-                | inl earlier ↦
-                    subst (λ ss. Contains ss after)
-                    (sym grows.1) (Contains-append_left states grows.0 after (is.kept n other after cost earlier found taken))
-                | inr now ↦
-                    let place : n ≡ count = omega arith in
-                    let same : other ≡ step =
-                    one_there steps count other step (subst (λ k. slice_get steps k ≡ Some other) place found) at in
-                    let there =
-                    step_determined task known state leads.0 after step leads.1 cost leads.2
-                    (subst (λ x. IsStep task known state x after cost) same taken) in
-                    subst (Contains new) there.0 leads.3
-              ];
+          here = still_there task known states new state step from state leads is.here;
+          kept = taken_next task known states new state steps count step is.kept at leads;
         }
 
     pub expanding_done : (states : List Atoms) (links : List Link) (from : ℕ) (state : Atoms) (steps : List GroundAction) (count : ℕ)
@@ -344,8 +252,7 @@ module _ (task : Task) (known : Known) where
                     let place : n ≡ from = omega arith in
                     let same : s ≡ state = one_there states from s state (subst (λ k. slice_get states k ≡ Some s) place at) is.here in
                     let taken_here = subst (λ b. IsStep task known b step after cost) same taken in
-                    let listed = place_of steps step (are.every step (after, cost, taken_here)) in
-                    is.kept listed.0 step after cost (omega (arith, slice_get_within steps listed.0 step listed.1, end)) listed.1 taken_here
+                    all_taken task known states state steps count is.kept end are step after cost taken_here
               ];
           done_within = omega (arith, ahead.1);
           edge_within = e.edge_within;
@@ -356,30 +263,9 @@ module _ (task : Task) (known : Known) where
 
     -- ---- all states
 
-    closed : (states : List Atoms) (links : List Link) (done : ℕ)
-        → IsExplored task known seeks limit states links done → length states ≤ done
-        → (steps : List GroundAction) (before after : Atoms) (cost : ℕ) → Contains states before
-        → Executes task known before steps after cost → Contains states after
-    closed states links done e all [] before after cost c x = subst (Contains states) x.0 c
-    closed states links done e all (step ∷ steps) before after cost c x =
-        let at = place_of states before c in
-        let next = e.expanded at.0 before x.0 step x.1 (omega (arith, slice_get_within states at.0 before at.1, all)) at.1 x.3 in
-        closed states links done e all steps x.0 after x.2 next x.4
-
     pub explored_all : (states : List Atoms) (links : List Link) (done : ℕ)
         → IsExplored task known seeks limit states links done → length states ≤ done
         → IsAll task known seeks limit
     explored_all states links done e all =
-        let start : Contains states (initial_state task) = member_at states 0 (initial_state task) e.tree.first in
-        record {
-          few = λ more.
-              let bound = pigeons more.0 states more.2 (λ x c.
-              let r = All-contains (IsReached task known) more.0 x more.3 c in
-              closed states links done e all r.0 (initial_state task) x r.1 start r.2) in
-              absurd (omega (arith, bound, more.1, e.few));
-          none = λ sought solvable.
-              let valid = solvable.2 in
-              let c = closed states links done e all solvable.0 (initial_state task) valid.0 solvable.1 start valid.1 in
-              let at = place_of states valid.0 c in
-              e.none_ends at.0 valid.0 at.1 (sought, valid.2);
-        }
+        closed_all task known seeks limit states links e.tree e.few e.none_ends
+        (λ n s after step cost at is. e.expanded n s after step cost (omega (arith, slice_get_within states n s at, all)) at is)

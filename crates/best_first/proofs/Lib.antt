@@ -1,3 +1,5 @@
 pub mod ExploredLemmas
-pub mod ReachedLemmas
+pub mod FrontiersLemmas
 pub mod LinksLemmas
+pub mod ReachedLemmas
+pub mod TreesLemmas

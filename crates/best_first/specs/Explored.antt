@@ -1,5 +1,5 @@
 -- What holds while states are explored, nearest first.
-use Rattle.std.specs.Prelude.{◌≡◌, ℕ, ◌+◌, ◌<◌, ◌≤◌, List, [], ◌∷◌, ◌++◌, length, Bool, true, Some, slice_get, Contains}
+use Rattle.std.specs.Prelude.{◌≡◌, ℕ, ◌+◌, ◌<◌, ◌≤◌, List, [], ◌∷◌, ◌++◌, length, Bool, true, Option, None, Some, slice_get, Contains}
 use Rattle.task_model.specs.Initial.{initial_state}
 use Rattle.task_model.specs.Known.{Known}
 use Rattle.lemmas.specs.Lists.{AreDistinct}
@@ -52,6 +52,43 @@ module _ (task : Task) (known : Known) where
         → IsReachedWithin task known level s
     pub outer : (n : ℕ) (s : Atoms) → slice_get states n ≡ Some s
         → IsReachedWithin task known (level + 1) s
+
+  -- The step leads from the state at `from` to one that is new, which was added at this place with its link.
+  pub record IsAdded (before : List Atoms) (earlier : List Link) (from : ℕ) (source : Atoms) (step : GroundAction)
+      (states : List Atoms) (links : List Link) (id cost : ℕ) : Type 0 where
+    pub after : Atoms
+    pub leads : IsStep task known source step after cost
+    pub small : cost ≤ 262144000000
+    pub fresh : ¬ (Contains before after)
+    pub states_are : states ≡ before ++ after ∷ []
+    pub links_are : links ≡ earlier ++ record { parent = from; step = step; cost = cost } ∷ []
+    pub place : slice_get states id ≡ Some after
+
+  -- the step leads to a state that was there, and nothing is added
+  pub record IsKept (before : List Atoms) (earlier : List Link) (source : Atoms) (step : GroundAction)
+      (states : List Atoms) (links : List Link) : Type 0 where
+    pub after : Atoms
+    pub cost : ℕ
+    pub leads : IsStep task known source step after cost
+    pub there : Contains before after
+    pub states_are : states ≡ before
+    pub links_are : links ≡ earlier
+
+  -- what becomes of the states by one step from the one at `from`
+  abbrev pub Grows : List Atoms → List Link → ℕ → Atoms → GroundAction → List Atoms → List Link → Option (ℕ × ℕ)
+      → Type 0
+  Grows before earlier from source step states links (Some found) =
+      IsAdded before earlier from source step states links found.0 found.1
+  Grows before earlier from source step states links None = IsKept before earlier source step states links
+
+  -- The states are there still, others behind them, and the step leads to one of them all.
+  pub record Leads (before : List Atoms) (source : Atoms) (step : GroundAction) (states : List Atoms) : Type 0 where
+    pub more : List Atoms
+    pub states_are : states ≡ before ++ more
+    pub after : Atoms
+    pub cost : ℕ
+    pub leads : IsStep task known source step after cost
+    pub there : Contains states after
 
   -- A state was added to explored ones, by a step from the one at `from`.
   pub record IsGrown (seeks : Bool) (limit : ℕ) (states : List Atoms) (links : List Link) (from id : ℕ) : Type 0 where

@@ -1,4 +1,6 @@
 pub mod Answer
 pub mod Explored
+pub mod Frontiers
 pub mod Links
 pub mod Outcome
+pub mod Relaxed

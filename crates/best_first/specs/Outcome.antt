@@ -17,3 +17,9 @@ ComesTo task known seeks limit (Goal tree) =
     IsMet task known seeks limit tree.store tree.links.items
 ComesTo task known seeks limit All = IsAll task known seeks limit
 ComesTo task known seeks limit More = IsBeyond task known seeks limit
+
+-- the same where nothing is known of more states
+abbrev pub ComesWithin : Task → Known → ℕ → found.Explored → Type 0
+ComesWithin task known limit (Goal tree) = IsMet task known true limit tree.store tree.links.items
+ComesWithin task known limit All = IsAll task known true limit
+ComesWithin task known limit More = Unit {0}

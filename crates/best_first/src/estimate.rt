@@ -2,6 +2,9 @@
 ghost use Rattle.std.specs.Prelude.{◌≡◌};
 ghost use Rattle.task_model.specs.Fit.{IsFit};
 
+use crate::fluents::fluent_atom;
+use formula_eval::Env;
+use grounder::tops;
 use task_model::{Look, State, Task};
 
 /// An estimate of what it costs to come from a state to the goal. It may order a search, and never prunes:
@@ -22,5 +25,25 @@ impl Estimate for Blind {
         ensures { result ≡ 0 }
     {
         0
+    }
+}
+
+/// The estimate that counts the fluent atoms at the top of the goal that are not in the state: the goal itself, or
+/// those among the parts that all have to be true.
+#[derive(Clone, Copy, Default, Debug)]
+pub struct GoalCount;
+
+impl Estimate for GoalCount {
+    fn estimate<L: Look>(&mut self, task: &Task, _look: &L, state: &State) -> u64
+        requires { IsFit task.now }
+    {
+        let env = Env::new(&[]);
+        let mut count: u64 = 0;
+        for part in tops(&task.problem.goal) {
+            if let Some(atom) = fluent_atom(state.allocator(), &task.domain, part, &env) {
+                count = count.saturating_add(u64::from(!state.has(&atom)));
+            }
+        }
+        count
     }
 }

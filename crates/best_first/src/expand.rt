@@ -3,10 +3,11 @@ ghost use Rattle.std.specs.Prelude.{◌≡◌, ◌+◌, ◌<◌, ◌≤◌, ◌�
 ghost use Rattle.grounder.specs.Applicable.{IsApplicable, AreApplicable};
 ghost use Rattle.grounder.specs.Candidates.{AreCandidates};
 ghost use Rattle.task_model.specs.Fit.{IsFit};
+ghost use Rattle.task_model.specs.Plans.{IsGoal};
 ghost use Rattle.task_model.specs.State.{Atoms};
 ghost use Rattle.task_model.specs.Steps.{IsStep};
 ghost use Rattle.task_model.specs.declared.limits.TheConstants.{MOST_STATES};
-ghost use Rattle.best_first.specs.Explored.{ExploringEnds, IsExplored, IsGrown, Comes};
+ghost use Rattle.best_first.specs.Explored.{ExploringEnds, Grows, IsExplored, IsGrown, Leads, Comes};
 
 use crate::tree::{Link, Tree};
 use formula_eval::{Env, holds};
@@ -36,6 +37,21 @@ pub(crate) enum Turn {
     More,
 }
 
+/// Whether the state meets the goal.
+pub(crate) fn meets_goal<L: Look>(scene: &Scene<'_, L>, state: &State) -> bool
+    requires { IsFit scene.now.task.now }
+    ensures { IsTrue result ↔ IsGoal scene.now.task.now (L.known scene.now.look.now) state.now }
+{
+    let mut env = Env::new(&[]);
+    holds(
+        scene.task,
+        scene.look,
+        state,
+        &scene.task.problem.goal,
+        &mut env,
+    )
+}
+
 /// Whether the state at this place ends the search.
 pub(crate) fn ends<L: Look>(
     scene: &Scene<'_, L>,
@@ -47,18 +63,7 @@ pub(crate) fn ends<L: Look>(
     ensures { IfOk result (λ ends. (s : Atoms) → slice_get store.now id ≡ Some s → IsTrue ends
         ↔ ExploringEnds scene.now.task.now (L.known scene.now.look.now) scene.now.seeks_goal s) }
 {
-    if !scene.seeks_goal {
-        return Ok(false);
-    }
-    let state = store.get(id)?;
-    let mut env = Env::new(&[]);
-    Ok(holds(
-        scene.task,
-        scene.look,
-        &state,
-        &scene.task.problem.goal,
-        &mut env,
-    ))
+    Ok(scene.seeks_goal && meets_goal(scene, &store.get(id)?))
 }
 
 /// What a step does that can be taken. Fails only where memory is wanting.
@@ -80,6 +85,35 @@ fn take_step<L: Look>(
     };
     let state = after(state, action, args)?;
     Ok(Applied { state, cost })
+}
+
+/// Takes a step from the state at `from`, and adds the state to which it leads, if that is new: its place and
+/// what the step costs are answered then. Fails only where memory is wanting.
+pub(crate) fn grow<L: Look>(
+    scene: &Scene<'_, L>,
+    tree: &mut Tree,
+    from: u32,
+    state: &State,
+    step: &GroundAction,
+) -> Result<Option<(u32, u64)>, AllocError>
+    requires fit { IsFit scene.now.task.now }
+    requires few { length tree.old.store ≤ MOST_STATES }
+    requires can { IsApplicable scene.now.task.now (L.known scene.now.look.now) state.now step.now }
+    ensures { IfOk result (Grows scene.now.task.now (L.known scene.now.look.now) tree.old.store
+        tree.old.links.items from state.now step.now tree.new.store tree.new.links.items) }
+{
+    let applied = take_step(scene, state, step)?;
+    let (id, fresh) = tree.store.intern(applied.state)?;
+    if !fresh {
+        return Ok(None);
+    }
+    let step = step.copy()?;
+    tree.links.push(Link {
+        parent: from,
+        step,
+        cost: applied.cost,
+    })?;
+    Ok(Some((id, applied.cost)))
 }
 
 /// How it goes on after the last state was added.
@@ -121,23 +155,13 @@ fn visit<L: Look>(
     requires can { IsApplicable scene.now.task.now (L.known scene.now.look.now) state.now step.now }
     ensures comes { IfOk result (Comes scene.now.task.now (L.known scene.now.look.now)
         scene.now.seeks_goal scene.now.limit tree.new.store tree.new.links.items from) }
-    ensures grows { OnOk result ((more : List Atoms) × (tree.new.store ≡ tree.old.store ++ more)) }
-    ensures kept { OnOk result ((after : Atoms) × (cost : ℕ)
-        × IsStep scene.now.task.now (L.known scene.now.look.now) state.now step.now after cost
-        × Contains tree.new.store after) }
+    ensures leads { OnOk result (Leads scene.now.task.now (L.known scene.now.look.now) tree.old.store
+        state.now step.now tree.new.store) }
 {
-    let applied = take_step(scene, state, step)?;
-    let (id, fresh) = tree.store.intern(applied.state)?;
-    if !fresh {
-        return Ok(Turn::On);
+    match grow(scene, tree, from, state, step)? {
+        Some((id, _)) => settle(scene, tree, from, id),
+        None => Ok(Turn::On),
     }
-    let step = step.copy()?;
-    tree.links.push(Link {
-        parent: from,
-        step,
-        cost: applied.cost,
-    })?;
-    settle(scene, tree, from, id)
 }
 
 /// Takes all the steps from the state at `from`, as long as nothing ends it. They are all that can be taken.

@@ -4,7 +4,9 @@ ghost use Rattle.task_model.specs.Fit.{IsFit};
 ghost use Rattle.task_model.specs.Plans.{IsFar, IsReached, IsSolvable, MoreThan};
 ghost use Rattle.task_model.specs.declared.limits.TheConstants.{MOST_STATES};
 ghost use Rattle.best_first.specs.Answer.{HasPlan, IsNothing, IsLimit};
+ghost use Rattle.best_first.specs.Outcome.{ComesTo};
 
+use crate::best::explore_best;
 use crate::estimate::Estimate;
 use crate::expand::Scene;
 use crate::explore::{Explored, explore};
@@ -13,19 +15,41 @@ use crate::path::path;
 use std::alloc::{AllocError, Global};
 use task_model::{Look, Task};
 
+/// Goes through the states that are reached, best first by the estimate, and where that meets the limit, nearest
+/// first. Fails only where memory is wanting.
+fn explore_with<L: Look, E: Estimate>(
+    alloc: Global,
+    scene: &Scene<'_, L>,
+    estimate: &mut E,
+) -> Result<Explored, AllocError>
+    requires fit { IsFit scene.now.task.now }
+    requires some { 1 ≤ scene.now.limit }
+    requires limit { scene.now.limit ≤ MOST_STATES }
+    requires seeks { IsTrue scene.now.seeks_goal }
+    ensures { IfOk result (ComesTo scene.now.task.now (L.known scene.now.look.now)
+        scene.now.seeks_goal scene.now.limit) }
+{
+    match explore_best(alloc, scene, estimate)? {
+        Explored::Goal(tree) => Ok(Explored::Goal(tree)),
+        Explored::All => Ok(Explored::All),
+        Explored::More => explore(alloc, scene),
+    }
+}
+
 /// Looks for a valid plan among the states that are reached, at most `limit` of them, from 1 to 200,000.
 ///
 /// A plan that is found has at most `limit` steps; its states are distinct, and only the last of them meets
 /// the goal. `Nothing` comes exactly where there is no valid plan and at most `limit` states are reached.
 /// `Limit` comes only where more than `limit` states are reached, and so many also within the number of
-/// steps of each valid plan. All this holds whatever the estimate answers. Today the search goes by the
-/// number of steps and asks no estimate. Fails only where memory is wanting.
+/// steps of each valid plan. All this holds whatever the estimate answers: it says which state is expanded
+/// next, the one with the least sum of the cost so far and the estimate, and of equal ones the oldest. Fails
+/// only where memory is wanting.
 pub fn search<L: Look, E: Estimate>(
     alloc: Global,
     task: &Task,
     look: &L,
     limit: u32,
-    _estimate: &mut E,
+    estimate: &mut E,
 ) -> Result<Found, AllocError>
     requires fit { IsFit task.now }
     requires some { 1 ≤ limit }
@@ -42,7 +66,7 @@ pub fn search<L: Look, E: Estimate>(
         limit,
         seeks_goal: true,
     };
-    match explore(alloc, &scene)? {
+    match explore_with(alloc, &scene, estimate)? {
         Explored::Goal(tree) => {
             let (plan, cost) = path(alloc, tree.links.as_slice())?;
             Ok(Found::Plan(plan, cost))

@@ -1,5 +1,5 @@
 -- What streams of fit tasks name.
-use Rattle.std.proofs.Common.{◌≡◌, ℕ, zero, suc, ◌+◌, ◌-◌, ◌<◌, ◌≤◌, arith, true, ◌&&◌, List, [], ◌∷◌, ◌++◌, length, get_or, refl, sym, subst, All, nat_le, slice_index, Some}
+use Rattle.std.proofs.Common.{◌≡◌, ℕ, zero, suc, ◌+◌, ◌<◌, ◌≤◌, arith, true, ◌&&◌, List, [], ◌∷◌, ◌++◌, length, get_or, refl, sym, subst, All, nat_le, slice_index, Some}
 use Rattle.std.proofs.lemmas.Bool.{leb-true}
 use Rattle.std.proofs.lemmas.List.{length-append}
 use Rattle.std.proofs.lemmas.List.Elements.{All-append}
@@ -18,7 +18,7 @@ use Rattle.task_model.specs.declared.domain.Pattern.{Pattern}
 use Rattle.task_model.specs.declared.domain.Signature.{Signature}
 use Rattle.task_model.specs.declared.stream.Stream.{Stream}
 use Rattle.task_model.specs.declared.stream.Worth.{Worth}
-use Rattle.transcript_model.proofs.NamedObjectLemmas.{terms_named}
+use Rattle.transcript_model.proofs.NamedObjectLemmas.{terms_named, passes_all}
 
 -- ---- slots and constants
 
@@ -127,6 +127,39 @@ module _ (domain : Domain) (fit : IsFitDomain domain) (names : List (List ℕ)) 
       (All-append (IsIn names) inputs outputs first second) s.certified
       (subst (λ n. list_all (is_fit_pattern domain (length domain.constants) (numbers_from 0 n)) s.certified ≡ true)
       (sym long) parts.certified)
+
+-- what is asked of a pattern or a term before it is looked up
+abbrev pub IsShort : List Term → Type 0
+IsShort args = (length args ≤ 8) × (list_all is_readable_term args ≡ true)
+
+-- the certified atoms of a fit stream can be looked up
+pub short_certified : (domain : Domain) → IsFitDomain domain → (s : Stream) → HasFitParts domain s
+    → All (λ (p : Pattern). IsShort p.args) s.certified
+short_certified domain fit s parts =
+    passes_all (is_fit_pattern domain (length domain.constants) (numbers_from 0 (length s.inputs + length s.outputs)))
+    (λ (p : Pattern). IsShort p.args) s.certified
+    (λ p f.
+    let most : length s.inputs + length s.outputs ≤ 16 = omega (arith, parts.inputs, parts.outputs) in (
+      short_application domain.predicates fit.predicates.arities (length domain.constants) p.pred p.args
+          (length s.inputs + length s.outputs) most f,
+      readable_application domain.predicates fit.predicates.arities (length domain.constants) p.pred p.args
+          (length s.inputs + length s.outputs) most f,
+    )) parts.certified
+
+-- so can the term of a fit cost stream
+pub short_worth : (domain : Domain) → IsFitDomain domain → (s : Stream) → HasFitParts domain s → (worth : Worth)
+    → s.worth ≡ Some worth → IsShort worth.args
+short_worth domain fit s parts worth e =
+    let most : length s.inputs ≤ 16 = omega (arith, parts.inputs) in
+    let whole : is_fit_worth domain (record s { worth = Some worth }) ≡ true =
+    subst (λ w. is_fit_worth domain (record s { worth = w }) ≡ true) e parts.worth in
+    let fits : is_fit_application domain.functions (length domain.constants)
+    (numbers_from 0 (length s.inputs)) worth.func worth.args ≡ true =
+    second_so (is_empty s.outputs && is_empty s.certified) _ whole in (
+      short_application domain.functions fit.functions.arities (length domain.constants) worth.func worth.args (length s.inputs) most fits,
+      readable_application domain.functions fit.functions.arities (length domain.constants) worth.func worth.args (length s.inputs) most
+          fits,
+    )
 
 -- the term of a fit cost stream
 pub record IsPlainWorth (names : List (List ℕ)) (inputs : List ℕ) (worth : Worth) : Type 0 where

@@ -1,2 +1,3 @@
 pub mod FitStreamLemmas
 pub mod OutputsLemmas
+pub mod CertifiedLemmas

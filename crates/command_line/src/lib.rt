@@ -15,5 +15,6 @@ mod words;
 
 pub use config::{Config, ReplayConfig, SolveConfig};
 pub use fault::WordsFault;
+pub use number::{DEFAULT_CALLS, DEFAULT_DEPTH, DEFAULT_STATES};
 pub use usage::usage_text;
 pub use words::read_words;

@@ -8,14 +8,14 @@ ghost use Rattle.command_line.specs.Numbers.{count_in, count_of};
 use crate::line::text_in;
 use clap::ArgMatches;
 
-/// How many calls may be made where the words don't say.
-pub(crate) const DEFAULT_CALLS: u32 = 10_000;
+/// How many calls may be made where the words don't say. The number is this project's.
+pub const DEFAULT_CALLS: u32 = 10_000;
 
-/// How many states a search may go through where the words don't say.
-pub(crate) const DEFAULT_STATES: u32 = 100_000;
+/// How many states a search may go through where the words don't say. The number is this project's.
+pub const DEFAULT_STATES: u32 = 100_000;
 
-/// The depth where the words don't say.
-pub(crate) const DEFAULT_DEPTH: u32 = 3;
+/// The depth where the words don't say. The number is this project's.
+pub const DEFAULT_DEPTH: u32 = 3;
 
 fn are_digits(word: &[u8]) -> bool
     ensures { result ≡ list_all is_ascii_digit word.now }

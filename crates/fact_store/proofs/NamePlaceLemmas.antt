@@ -1,5 +1,5 @@
 -- Names and their places.
-use Rattle.std.proofs.Common.{◌≡◌, ℕ, ◌+◌, Bool, true, false, cond, List, [], ◌∷◌, ◌++◌, map, length, refl, sym, subst, ap, ◌∙◌, Some, slice_get, Contains, option_map, ◌⊎◌, inl, inr, Result, Ok, Err, is_ok, ◌<◌, ◌≤◌, arith, not}
+use Rattle.std.proofs.Common.{◌≡◌, ℕ, Bool, true, false, cond, List, [], ◌∷◌, ◌++◌, map, length, refl, sym, subst, ap, ◌∙◌, Some, slice_get, Contains, option_map, ◌⊎◌, inl, inr, Result, Ok, Err, is_ok, ◌<◌, ◌≤◌, arith, not}
 use Rattle.std.proofs.lemmas.List.{length_push, map_push}
 use Rattle.std.proofs.lemmas.Option.{slice_get-map}
 use Rattle.std.specs.List.{list_any, find}

@@ -1,5 +1,5 @@
 //! The facts, with the tables by which they are found.
-ghost use Rattle.std.specs.Prelude.{◌≡◌, List, [], not, length, slice_get, option_copied, IfOk, OnOk, OnErr};
+ghost use Rattle.std.specs.Prelude.{◌≡◌, ◌<◌, List, [], not, length, slice_get, option_copied, IfOk, OnOk, OnErr};
 ghost use Rattle.task_model.specs.Known.{is_fact, with_fact, objects_of, matches_of};
 ghost use Rattle.task_model.specs.declared.fact.Fact.{Fact};
 ghost use Rattle.fact_store.specs.Atoms.{atoms_of};
@@ -15,7 +15,7 @@ use task_model::{Fact, Obj};
 /// The facts in the order in which they came. Contracts see the list of them. Each table covers a front of this list, mostly
 /// all of it: where memory is wanting it stays behind, and the facts that it doesn't cover are searched.
 #[derive(Drop)]
-pub(crate) struct FactTable {
+pub struct FactTable {
     facts: IndexSet<Fact>,
     objects: Table,
     atoms: Table,
@@ -65,7 +65,7 @@ fn cover_each(tables: &mut [Table], alloc: Global, facts: &[Fact])
 
 impl FactTable {
     /// The table without facts, which takes no memory.
-    pub(crate) fn new(alloc: Global) -> FactTable
+    pub fn new(alloc: Global) -> FactTable
         ensures { result ≡ [] }
     {
         FactTable {
@@ -78,14 +78,14 @@ impl FactTable {
     }
 
     /// Takes room for so many facts more. Fails only where memory is wanting.
-    pub(crate) fn reserve(&mut self, count: usize) -> Result<(), AllocError>
+    pub fn reserve(&mut self, count: usize) -> Result<(), AllocError>
         ensures { self.new ≡ self.old }
     {
         self.facts.reserve(count)
     }
 
     /// Whether the fact is there.
-    pub(crate) fn contains(&self, fact: &Fact) -> bool
+    pub fn contains(&self, fact: &Fact) -> bool
         ensures { result ≡ is_fact self.now fact.now }
     {
         self.facts.contains(fact)
@@ -93,7 +93,7 @@ impl FactTable {
 
     /// Puts a fact behind the others, and answers true, or answers false where it is there. Fails only
     /// where memory is wanting, and leaves all as it was then.
-    pub(crate) fn insert(&mut self, fact: Fact) -> Result<bool, AllocError>
+    pub fn insert(&mut self, fact: Fact) -> Result<bool, AllocError>
         ensures fresh { IfOk result (λ fresh. fresh ≡ not (is_fact self.old fact)) }
         ensures facts { OnOk result (self.new ≡ with_fact self.old fact) }
         ensures err { OnErr result (self.new ≡ self.old) }
@@ -116,15 +116,16 @@ impl FactTable {
     }
 
     /// How many objects have the type.
-    pub(crate) fn count(&self, sort: u32) -> usize
-        ensures { result ≡ length (objects_of self.now sort) }
+    pub fn count(&self, sort: u32) -> usize
+        ensures count { result ≡ length (objects_of self.now sort) }
+        ensures few { result < 9223372036854775808 }
     {
         self.objects
             .count(Group::Objects, (sort, 0), self.facts.as_slice())
     }
 
     /// The object of that number among those that have the type.
-    pub(crate) fn object(&self, sort: u32, number: usize) -> Option<Obj>
+    pub fn object(&self, sort: u32, number: usize) -> Option<Obj>
         ensures { result ≡ slice_get (objects_of self.now sort) number }
     {
         let fact = self
@@ -134,7 +135,7 @@ impl FactTable {
     }
 
     /// The objects that have the type, in the facts' order. Fails only where memory is wanting.
-    pub(crate) fn objects_with(&self, alloc: Global, sort: u32) -> Result<Vec<Obj>, AllocError>
+    pub fn objects_with(&self, alloc: Global, sort: u32) -> Result<Vec<Obj>, AllocError>
         ensures { IfOk result (λ objects. objects.items ≡ objects_of self.now sort) }
     {
         let count = self.count(sort);
@@ -149,7 +150,7 @@ impl FactTable {
     }
 
     /// How many atoms the predicate has.
-    pub(crate) fn atoms(&self, pred: u32) -> usize
+    pub fn atoms(&self, pred: u32) -> usize
         ensures { result ≡ length (atoms_of self.now pred) }
     {
         self.atoms
@@ -157,7 +158,7 @@ impl FactTable {
     }
 
     /// The atom of that number among those of the predicate.
-    pub(crate) fn atom(&self, pred: u32, number: usize) -> Option<&Fact>
+    pub fn atom(&self, pred: u32, number: usize) -> Option<&Fact>
         ensures { option_copied result ≡ slice_get (atoms_of self.now pred) number }
     {
         self.atoms
@@ -165,8 +166,9 @@ impl FactTable {
     }
 
     /// How many atoms of the predicate have the object at this place.
-    pub(crate) fn matches(&self, pred: u32, place: usize, object: Obj) -> usize
-        ensures { result ≡ length (matches_of self.now pred place object) }
+    pub fn matches(&self, pred: u32, place: usize, object: Obj) -> usize
+        ensures count { result ≡ length (matches_of self.now pred place object) }
+        ensures few { result < 9223372036854775808 }
     {
         let (group, key, facts) = (
             Group::AtomsAt(place),
@@ -180,13 +182,7 @@ impl FactTable {
     }
 
     /// The atom of that number among those of the predicate with the object at this place.
-    pub(crate) fn matched(
-        &self,
-        pred: u32,
-        place: usize,
-        object: Obj,
-        number: usize,
-    ) -> Option<&Fact>
+    pub fn matched(&self, pred: u32, place: usize, object: Obj, number: usize) -> Option<&Fact>
         ensures { option_copied result ≡ slice_get (matches_of self.now pred place object) number }
     {
         let (group, key, facts) = (

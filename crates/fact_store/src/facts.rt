@@ -90,11 +90,33 @@ impl Facts {
         self.facts.reserve(objects.saturating_mul(2))
     }
 
+    /// The facts, with the tables by which they are found.
+    pub fn fact_table(&self) -> &FactTable
+        ensures { result.now ≡ self.now.known.facts }
+    {
+        &self.facts
+    }
+
+    /// The values of functions, with the least of each term.
+    pub fn value_table(&self) -> &ValueTable
+        ensures { result.now ≡ self.now.known.values }
+    {
+        &self.values
+    }
+
     /// The names of the objects, each at its object's place.
     pub fn names(&self) -> &[Name]
         ensures { result.now ≡ self.now.known.names }
     {
         self.names.as_slice()
+    }
+
+    /// How many objects have names.
+    pub fn name_count(&self) -> u32
+        ensures count { result ≡ length self.now.known.names }
+        ensures few { result ≤ MOST_NAMES }
+    {
+        self.names.len() as u32
     }
 
     /// The object with this name, or None exactly where no object has it. It takes no memory.

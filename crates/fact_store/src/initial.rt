@@ -63,7 +63,7 @@ fn add_types(facts: &mut Facts, alloc: Global, sorts: &[u32], object: Obj) -> Re
 }
 
 /// The proper supertypes of the type, and none where there is no such type.
-fn supertypes(domain: &Domain, sort: u32) -> &[u32]
+pub fn supertypes(domain: &Domain, sort: u32) -> &[u32]
     ensures { result.now ≡ unwrap_or (option_map (λ s. s.above) (slice_get domain.now.sorts sort))
         [] }
 {

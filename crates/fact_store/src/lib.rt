@@ -8,5 +8,7 @@ mod scan;
 mod table;
 mod value_table;
 
+pub use fact_table::FactTable;
 pub use facts::{Facts, MOST_NAMES};
-pub use initial::add_supertypes;
+pub use initial::{add_supertypes, supertypes};
+pub use value_table::ValueTable;

@@ -137,7 +137,8 @@ impl Table {
     /// How many of the facts have this key.
     pub(crate) fn count(&self, group: Group, key: Key, facts: &[Fact]) -> usize
         requires { Covers group facts.now self.now }
-        ensures { result ≡ length (facts_with group key facts.now) }
+        ensures count { result ≡ length (facts_with group key facts.now) }
+        ensures few { result < 9223372036854775808 }
     {
         self.places(key).len() + count_with(group, key, &facts[self.done..])
     }

@@ -17,7 +17,7 @@ type Term = (u32, Row);
 /// The values in the order in which they came. Contracts see the list of them. `least` has the least value of each term among
 /// the first `done`, mostly all of them: where memory is wanting it stays behind, and the others are searched.
 #[derive(Drop)]
-pub(crate) struct ValueTable {
+pub struct ValueTable {
     values: IndexSet<Valued>,
     least: IndexMap<Term, u32>,
     done: usize,
@@ -86,7 +86,7 @@ fn put(least: &mut IndexMap<Term, u32>, v: &Valued) -> Result<(), AllocError>
 
 impl ValueTable {
     /// The table without values, which takes no memory.
-    pub(crate) fn new(alloc: Global) -> ValueTable
+    pub fn new(alloc: Global) -> ValueTable
         ensures { result ≡ [] }
     {
         ValueTable {
@@ -97,9 +97,16 @@ impl ValueTable {
         }
     }
 
+    /// Whether this value of the term is there.
+    pub fn contains(&self, value: &Valued) -> bool
+        ensures { result ≡ list_any (same_value value.now) self.now }
+    {
+        self.values.contains(value)
+    }
+
     /// Puts a value behind the others, and answers true, or answers false where it is there. Fails only
     /// where memory is wanting, and leaves all as it was then.
-    pub(crate) fn insert(&mut self, value: Valued) -> Result<bool, AllocError>
+    pub fn insert(&mut self, value: Valued) -> Result<bool, AllocError>
         ensures fresh { IfOk result (λ fresh. fresh ≡ not (list_any (same_value value) self.old)) }
         ensures values { OnOk result (self.new ≡ with_value self.old value) }
         ensures err { OnErr result (self.new ≡ self.old) }
@@ -122,7 +129,7 @@ impl ValueTable {
     }
 
     /// The least value of the function's term, or None where there is none.
-    pub(crate) fn value(&self, func: u32, args: &[Obj]) -> Option<u32>
+    pub fn value(&self, func: u32, args: &[Obj]) -> Option<u32>
         ensures { result ≡ value_of self.now func args.now }
     {
         let values = self.values.as_slice();

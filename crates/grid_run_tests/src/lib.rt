@@ -1,9 +1,7 @@
-//! Tests of `run` over the grid's generator, of `generate`, and of long walks.
+//! Tests of `run` over the grid's generator, and of `generate`.
 #![tactic(auto)]
 
 #[cfg(test)]
 mod grid;
 #[cfg(test)]
 mod making;
-#[cfg(test)]
-mod walks;

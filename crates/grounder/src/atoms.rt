@@ -10,7 +10,7 @@ use std::slice;
 use task_model::{Domain, Formula, FormulaNode, Role};
 
 /// The parts that all have to be true where the condition is made of such, and else the condition alone.
-pub(crate) fn tops(condition: &Formula) -> &[Formula]
+pub fn tops(condition: &Formula) -> &[Formula]
     ensures { result.now ≡ tops_of condition.now }
 {
     match &condition.node {

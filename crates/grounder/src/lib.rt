@@ -2,9 +2,10 @@
 #![tactic(auto)]
 
 pub mod actions;
-mod atoms;
+pub mod atoms;
 pub mod candidates;
 mod steps;
 
 pub use actions::applicable;
+pub use atoms::tops;
 pub use candidates::Candidates;

@@ -1,19 +1,22 @@
--- What is found, once it is sorted, is the level.
-use Rattle.std.proofs.Common.{◌≡◌, ◌≤◌, List, [], ◌∷◌, length, refl, sym, ap, subst, ◌∙◌, arith, Contains, All}
+-- What is found is the level.
+use Rattle.std.proofs.Common.{◌≡◌, ℕ, ◌+◌, ◌<◌, ◌≤◌, ◌++◌, get_or, take, Bool, not, List, [], ◌∷◌, length, refl, sym, ap, subst, ◌∙◌, arith, All}
+use Rattle.std.proofs.lemmas.List.{length-map, map_push, take_more}
 use Rattle.std.proofs.lemmas.List.Elements.{All-nil, All-cons}
-use Rattle.std.proofs.lemmas.List.Sorted.{IsPermutation-map, IsPermutation-sym, Contains-permutation, All-permutation, length_permutation}
-use Rattle.std.specs.List.Sorted.{IsPermutation, IsSortedBy}
-use Rattle.task_model.specs.Known.{Known, IsCoherent}
-use Rattle.task_model.specs.Streams.{Note, IsDue, yields_of, same_instance}
+use Rattle.fact_join.specs.Adding.{ComesOf as Lacks}
+use Rattle.fact_join.specs.declared.query.JoinFault.{JoinFault}
+use Rattle.fact_join.specs.declared.query.JoinFault.TheVariants as join
+use Rattle.lemmas.proofs.Bools.{not_true}
+use Rattle.task_model.specs.Known.{Known, IsCoherent, IsIn}
+use Rattle.task_model.specs.Streams.{Note, IsDue, yields_of, is_finished, AreDue}
 use Rattle.task_model.specs.declared.stream.Instance.{Instance}
+use Rattle.task_model.specs.declared.stream.Stream.{Stream}
 use Rattle.task_model.specs.declared.task.Task.{Task}
-use Rattle.instance_queue.proofs.FoundLemmas.{due_below}
-use Rattle.instance_queue.proofs.InstanceOrderLemmas.{ascending, comes_before}
-use Rattle.instance_queue.specs.Found.{asks_of, due_of, IsDueBelow, AreAsksOf}
-use Rattle.instance_queue.specs.Level.{instances_of, AreDueInTurn}
+use Rattle.instance_queue.specs.Asks.{asks_of, due_of}
+use Rattle.instance_queue.specs.Faults.{fault_of}
+use Rattle.instance_queue.specs.Level.{instances_of, AreDueInTurn, ComesOf}
 use Rattle.instance_queue.specs.declared.due.Due.{Due}
-use Rattle.lemmas.proofs.Distinct.{distinct_permuted}
-use Rattle.instance_queue.proofs.NotesLemmas.{instance_decided}
+use Rattle.instance_search.proofs.InstanceOrderLemmas.{reachable_in}
+use Rattle.instance_search.specs.Found.{IsFound, AreFound}
 
 asked : (notes : List Note) (xs : List Instance) → instances_of (asks_of notes xs) ≡ xs
 asked notes [] = refl
@@ -25,34 +28,51 @@ turned notes [] = All-nil (λ (d : Due). d.turn ≡ yields_of notes d.instance)
 turned notes (x ∷ xs) =
     All-cons (λ (d : Due). d.turn ≡ yields_of notes d.instance) (due_of notes x) (asks_of notes xs) refl (turned notes xs)
 
-module _ (task : Task) (known : Known) (notes : List Note) (coherent : IsCoherent known) where
-  abbrev HasTurn : Due → Type 0
-  HasTurn d = d.turn ≡ yields_of notes d.instance
+-- one ask more
+pub asks_more : (notes : List Note) (xs : List Instance) (i : ℕ) (x copied : Instance) (turn : ℕ) (dues : List Due)
+    → i < length xs → x ≡ get_or xs i x → copied ≡ x → turn ≡ yields_of notes x → dues ≡ asks_of notes (take i xs)
+    → dues ++ record { instance = copied; turn = turn } ∷ [] ≡ asks_of notes (take (i + 1) xs)
+asks_more notes xs i x copied turn dues within is same told passed =
+    (λ k. passed k ++ record { instance = same k; turn = told k } ∷ [])
+    ∙ sym (map_push (due_of notes) (take i xs) x)
+    ∙ ap (asks_of notes) (sym (take_more xs i x within ∙ ap (λ y. take i xs ++ y ∷ []) (sym is)))
 
-  -- what is found, sorted, is the level
-  pub level_is : (xs ys : List Due)
-      → AreAsksOf (IsDueBelow task.streams known notes (length task.streams)) notes xs
-      → length xs ≤ 1000000 → IsPermutation xs ys
-      → IsSortedBy (comes_before known.names) ys → AreDueInTurn task known notes ys
-  level_is xs ys (all, is, found_all) few moved up =
-      let found : instances_of xs ≡ all = ap instances_of is ∙ asked notes all in
-      let sorted = instances_of ys in
-      let moves : IsPermutation all sorted =
-      subst (λ zs. IsPermutation zs sorted) found (IsPermutation-map (λ (d : Due). d.instance) xs ys moved) in
-      let back : IsPermutation sorted all = IsPermutation-sym all sorted moves in
-      let due : (i : Instance) → Contains sorted i → IsDue task known notes i =
-      λ i m. (due_below task known notes i).0 ((found_all.each i).0 (Contains-permutation sorted all i back m)) in
-      let distinct = distinct_permuted same_instance instance_decided all sorted moves found_all.distinct in
-      let told = subst (All HasTurn) (sym is) (turned notes all) in
-      let long : length ys ≡ length xs = length_permutation xs ys moved in
+module _ (task : Task) (known : Known) (notes : List Note) where
+  abbrev seeks : Stream → Instance → Bool
+  seeks stream instance = not (is_finished stream notes instance)
+
+  pub found_is_due : (i : Instance) → IsFound task known seeks i → IsDue task known notes i
+  found_is_due i f =
+      record { stream = f.stream; named = f.named; reachable = f.reachable; unfinished = not_true (is_finished f.stream notes i) f.sought }
+
+  due_is_found : (i : Instance) → IsDue task known notes i → IsFound task known seeks i
+  due_is_found i d =
+      record { stream = d.stream; named = d.named; reachable = d.reachable; sought = ap not d.unfinished }
+
+  found_due : (xs : List Instance) → AreFound task known seeks xs → AreDue task known notes xs
+  found_due xs f = record {
+    each = λ i. (λ m. found_is_due i ((f.each i).0 m), λ d. (f.each i).1 (due_is_found i d));
+    ascend = f.ascend;
+  }
+
+  pub level_is : (xs : List Instance) (ys : List Due) → AreFound task known seeks xs
+      → length xs ≤ 1000000 → ys ≡ asks_of notes xs → AreDueInTurn task known notes ys
+  level_is xs ys f few is =
+      let same : instances_of ys ≡ xs = ap instances_of is ∙ asked notes xs in
+      let long : length ys ≡ length xs = ap length is ∙ length-map xs (due_of notes) in
       record {
-        due = record {
-          each = λ i. (
-            due i,
-            λ d. Contains-permutation all sorted i moves ((found_all.each i).1 ((due_below task known notes i).1 d)),
-          );
-          ascend = ascending task known notes coherent ys due distinct up;
-        };
-        turns = All-permutation HasTurn xs ys moved told;
+        due = subst (AreDue task known notes) (sym same) (found_due xs f);
+        turns = subst (All (λ (d : Due). d.turn ≡ yields_of notes d.instance)) (sym is) (turned notes xs);
         few = omega (arith, long, few);
       }
+
+  pub level_fault : (f : JoinFault) → Lacks 1000000 (IsFound task known seeks) [] f
+      → ComesOf task known notes (fault_of f)
+  level_fault join.TooMany (more, distinct, each, many) =
+      (more, omega (arith, many), distinct, λ i m. found_is_due i (each i m))
+  level_fault join.Memory h = tt
+
+-- the inputs of an instance that is due have names
+pub due_in : (task : Task) (known : Known) (notes : List Note) → IsCoherent known → (i : Instance)
+    → IsDue task known notes i → All (IsIn known.names) i.inputs
+due_in task known notes c i d = reachable_in d.stream known c i d.reachable

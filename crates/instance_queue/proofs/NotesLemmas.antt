@@ -3,11 +3,11 @@ use Rattle.std.proofs.Common.{◌≡◌, ℕ, ◌+◌, Bool, true, false, cond, 
 use borrow.Author.Tests.{lt-ltb}
 use Rattle.std.proofs.lemmas.List.Folds.{list_any-append}
 use Rattle.std.proofs.lemmas.List.Sums.{sum_by-append}
-use Rattle.std.specs.Bool.{Decides}
 use Rattle.std.specs.Cmp.{IsEquivalence, decided}
 use Rattle.std.specs.List.{list_any}
 use Rattle.std.proofs.lemmas.List.{map_push}
 use Rattle.indexmap.specs.IndexMap.{IndexMap, get}
+use Rattle.instance_search.proofs.InstanceOrderLemmas.{instance_decided}
 use Rattle.task_model.proofs.StreamsLemmas.{instances_same, instance_itself}
 use Rattle.task_model.specs.Streams.{Note, Yielded, Ended, same_instance, is_yield_of, is_end_of, yields_of}
 use Rattle.task_model.specs.declared.stream.Instance.{Instance}
@@ -16,10 +16,6 @@ use Rattle.instance_queue.specs.declared.queue.Noted.{Noted}
 use Rattle.instance_queue.specs.declared.queue.Tally.{Tally}
 
 -- ---- instances
-
-pub instance_decided : (a b : Instance) → Decides (same_instance a b) (a ≡ b)
-instance_decided a b =
-    (instances_same a b, λ e. subst (λ x. same_instance a x ≡ true) e (instance_itself a))
 
 pub instances_equivalence : IsEquivalence same_instance
 instances_equivalence = decided same_instance instance_decided

@@ -1,6 +1,5 @@
+pub mod Asks
 pub mod Faults
-pub mod Found
 pub mod Level
 pub mod Notes
-pub mod Readable
 pub mod Tallies

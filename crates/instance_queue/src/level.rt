@@ -1,131 +1,39 @@
-//! The instances that are due, found by joins over the streams' domain facts.
-ghost use Rattle.std.specs.Prelude.{◌≤◌, ◌-◌, length, IfOk, IfErr, OnOk};
-ghost use Rattle.fact_join.specs.Adding.{AreAll};
+//! The instances that are due, with their turns.
+ghost use Rattle.std.specs.Prelude.{◌≡◌, IfOk, IfErr};
 ghost use Rattle.task_model.specs.Fit.{IsFit};
-ghost use Rattle.instance_queue.specs.Found.{IsDueInput, LacksInputs, AreDomainAtoms, AddsAsks, AreAsksOf, IsDueBelow};
+ghost use Rattle.instance_queue.specs.Asks as asks;
 ghost use Rattle.instance_queue.specs.Level.{AreDueInTurn, ComesOf};
-ghost use Rattle.instance_queue.specs.Readable.{IsReadableStream};
 
 use crate::due::{Due, QueueFault};
-use crate::order::compare;
 use crate::queue::Queue;
-use fact_join::{Partial, Query, QueryAtom, Wanted, join};
 use fact_store::Facts;
+use instance_search::{Names, Sought, found_instances};
 use std::alloc::{AllocError, Global};
-use task_model::{Instance, MOST_DUE, Obj, Row, Stream, Task};
+use task_model::{Instance, MOST_DUE, Stream, Task};
 
-/// What the instances of one stream are sought over.
-#[derive(Drop)]
-struct Search<'a> {
-    alloc: Global,
-    queue: &'a Queue,
-    facts: &'a Facts,
-    stream: &'a Stream,
-    place: u32,
-}
-
-impl<'a> Wanted for Search<'a> {
-    ghost use Rattle.std.specs.Prelude.{◌≤◌, length, not};
+impl Sought for Queue {
+    ghost use Rattle.std.specs.Prelude.{not};
     ghost use Rattle.task_model.specs.Streams.{is_finished};
-    ghost use Rattle.instance_queue.specs.Found.{instance_at};
 
-    ghost can_judge = { λ search inputs. length inputs ≤ 8 };
+    ghost seeks = { λ queue stream instance. not (is_finished stream queue instance) };
 
-    ghost wants = { λ search inputs. not
-        (is_finished search.stream.now search.queue.now (instance_at search.place inputs)) };
-
-    /// Whether the instance with these inputs hasn't finished.
-    fn wants(&self, inputs: &[Obj]) -> bool {
-        let inputs = match Row::new(self.alloc, inputs) {
-            Ok(inputs) => inputs,
-            Err(_) => unreachable!(),
-        };
-        let instance = Instance {
-            stream: self.place,
-            inputs,
-        };
-        !self.queue.is_finished(self.stream, &instance)
+    /// Whether the instance hasn't finished.
+    fn seeks(&self, stream: &Stream, instance: &Instance) -> bool {
+        !self.is_finished(stream, instance)
     }
 }
 
-/// The stream's domain facts. Fails only where memory is wanting.
-fn domain_atoms(alloc: Global, stream: &Stream) -> Result<Vec<QueryAtom<'_>>, AllocError>
-    ensures { IfOk result (λ atoms. AreDomainAtoms stream.now atoms.items) }
+/// The asks of the instances, each with its turn. Fails only where memory is wanting.
+fn asks_of(alloc: Global, queue: &Queue, instances: &[Instance]) -> Result<Vec<Due>, AllocError>
+    ensures { IfOk result (λ dues. dues.items ≡ asks.asks_of queue.now instances.now) }
 {
-    let mut atoms = Vec::with_capacity(alloc, stream.domain.len())?;
-    for pattern in stream.domain.as_slice() {
-        atoms.push(QueryAtom {
-            pred: pattern.pred,
-            terms: pattern.args.as_slice(),
+    let mut dues = Vec::with_capacity(alloc, instances.len())?;
+    for instance in instances {
+        let turn = queue.yields(instance);
+        dues.push(Due {
+            instance: instance.copy()?,
+            turn,
         })?;
-    }
-    Ok(atoms)
-}
-
-/// The inputs with which instances of the stream are due, each once. Fails where there are more than `most`, and
-/// where memory is wanting.
-fn due_inputs(search: &Search<'_>, most: usize) -> Result<Vec<Row>, QueueFault>
-    requires { IsReadableStream search.now.stream.now }
-    ensures due { IfOk result (λ rows. AreAll (IsDueInput search.now.facts.now.known
-        search.now.queue.now search.now.stream.now search.now.place) rows.items) }
-    ensures few { IfOk result (λ rows. length rows.items ≤ most) }
-    ensures fault { IfErr result (LacksInputs most search.now.facts.now.known search.now.queue.now
-        search.now.stream.now search.now.place) }
-{
-    let atoms = domain_atoms(search.alloc, search.stream)?;
-    let query = Query {
-        look: search.facts,
-        sorts: search.stream.inputs.as_slice(),
-        wanted: search,
-        most,
-        alloc: search.alloc,
-    };
-    let mut rows = Vec::new(search.alloc);
-    join(&query, &Partial::new(), atoms.as_slice(), &mut rows)?;
-    Ok(rows)
-}
-
-/// Adds the asks that are due of one stream. Fails where more than [`MOST_DUE`] would stand there, and where memory is
-/// wanting.
-fn add_asks(search: &Search<'_>, dues: &mut Vec<Due>) -> Result<(), QueueFault>
-    requires few { length dues.old.items ≤ MOST_DUE }
-    requires readable { IsReadableStream search.now.stream.now }
-    ensures due { OnOk result (AddsAsks search.now.facts.now.known search.now.queue.now
-        search.now.stream.now search.now.place dues.old.items dues.new.items) }
-    ensures few { OnOk result (length dues.new.items ≤ MOST_DUE) }
-    ensures fault { IfErr result (LacksInputs (MOST_DUE - length dues.old.items)
-        search.now.facts.now.known search.now.queue.now search.now.stream.now search.now.place) }
-{
-    let rows = due_inputs(search, MOST_DUE - dues.len())?;
-    for inputs in rows.as_slice() {
-        let instance = Instance {
-            stream: search.place,
-            inputs: inputs.copy()?,
-        };
-        let turn = search.queue.yields(&instance);
-        dues.push(Due { instance, turn })?;
-    }
-    Ok(())
-}
-
-/// The asks that are due, stream by stream.
-fn found(alloc: Global, queue: &Queue, task: &Task, facts: &Facts) -> Result<Vec<Due>, QueueFault>
-    requires { IsFit task.now }
-    ensures due { IfOk result (λ dues. AreAsksOf (IsDueBelow task.now.streams facts.now.known
-        queue.now (length task.now.streams)) queue.now dues.items) }
-    ensures few { IfOk result (λ dues. length dues.items ≤ MOST_DUE) }
-    ensures fault { IfErr result (ComesOf task.now facts.now.known queue.now) }
-{
-    let mut dues = Vec::new(alloc);
-    for (place, stream) in task.streams.as_slice().iter().enumerate() {
-        let search = Search {
-            alloc,
-            queue,
-            facts,
-            stream,
-            place: place as u32,
-        };
-        add_asks(&search, &mut dues)?;
     }
     Ok(dues)
 }
@@ -141,8 +49,7 @@ pub(crate) fn level(
     ensures due { IfOk result (λ dues. AreDueInTurn task.now facts.now.known queue.now dues.items) }
     ensures fault { IfErr result (ComesOf task.now facts.now.known queue.now) }
 {
-    let mut dues = found(alloc, queue, task, facts)?;
-    let names = facts.names();
-    dues.sort_unstable_by(|a, b| compare(names, &a.instance, &b.instance));
-    Ok(dues)
+    let names = Names::new(facts.names(), &[]);
+    let instances = found_instances(alloc, task, facts, &names, queue, MOST_DUE)?;
+    Ok(asks_of(alloc, queue, instances.as_slice())?)
 }

@@ -3,9 +3,7 @@
 
 mod due;
 mod level;
-mod order;
 mod queue;
-mod reach;
 
 pub use due::{Due, QueueFault};
 pub use queue::Queue;

@@ -1,9 +1,12 @@
 //! The notes of what was answered, and what they say of an instance.
+ghost use Rattle.std.specs.Prelude.{◌≡◌};
+ghost use Rattle.task_model.specs.Streams.{is_test as tests};
+
 use crate::due::{Due, QueueFault};
 use crate::level::level;
-use crate::reach::{is_reachable, is_test, stream_of};
 use fact_store::Facts;
 use indexmap::IndexMap;
+use instance_search::{is_reachable, stream_of};
 use std::alloc::{AllocError, Global};
 use std::marker::Model;
 use task_model::{Instance, Stream, Task};
@@ -46,8 +49,15 @@ impl Model for Queue {
     ghost invariant = { λ q. AreTallied q.tallies (notes_in q.notes.items) };
 }
 
+/// Whether the stream can only say yes, and that once.
+fn is_test(stream: &Stream) -> bool
+    ensures { result ≡ tests stream.now }
+{
+    stream.outputs.is_empty() && stream.worth.is_none()
+}
+
 impl Queue {
-    ghost use Rattle.std.specs.Prelude.{◌≡◌, ◌<◌, ◌++◌, ◌∷◌, [], IfOk, IfErr, OnOk, OnErr, false};
+    ghost use Rattle.std.specs.Prelude.{◌<◌, ◌++◌, ◌∷◌, [], IfOk, IfErr, OnOk, OnErr, false};
     ghost use Rattle.task_model.specs.Fit.{IsFit};
     ghost use Rattle.task_model.specs.Streams.{Note, Yielded, Ended, yields_of, is_finished, at_stream, is_due as due, is_reachable as reaches};
     ghost use Rattle.instance_queue.specs.Notes.{tally_of, note_of};

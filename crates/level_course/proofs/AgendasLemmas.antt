@@ -1,25 +1,17 @@
--- What the code of a level's course shows: lists that are passed one by one, and fronts of them.
-use Rattle.std.proofs.Common.{◌≡◌, ℕ, zero, suc, ◌+◌, ◌-◌, ◌<◌, ◌≤◌, true, false, ◌&&◌, List, [], ◌∷◌, ◌++◌, length, take, drop, refl, sym, ap, subst, ◌∙◌, arith, get_or, nat_le, count_by, append_assoc, drop-cons, add-one}
+-- What the code of a level's course shows: lists that are passed one by one, and rounds of them.
+use Rattle.std.proofs.Common.{◌≡◌, ℕ, zero, suc, ◌+◌, ◌-◌, ◌<◌, ◌≤◌, List, [], ◌∷◌, length, take, drop, refl, sym, ap, ◌∙◌, arith, add-one}
 use Rattle.std.proofs.Math.ListN.{take-append-drop, length-drop}
 use Rattle.std.proofs.Math.Seq.{drop-nil}
-use Rattle.std.proofs.lemmas.Bool.{le-leb, lt-leb, true≢false}
-use Rattle.std.proofs.lemmas.List.{append-nil, length-map, length-take-le, take-map, drop-take, drop-map}
+use Rattle.std.proofs.lemmas.List.{length-map, length-take-le, take-map, drop-take, drop-map}
 use Rattle.instance_queue.specs.Level.{instances_of}
 use Rattle.instance_queue.specs.declared.due.Due.{Due}
+use Rattle.pools.specs.Pools.{IsLongestFront}
 use Rattle.task_model.specs.declared.stream.Instance.{Instance}
-use Rattle.transcript_model.specs.Rounds as rounds
-use Rattle.transcript_model.specs.Rounds.{IsFull, fits, serves}
-use Rattle.transcript_model.proofs.RoundsFrontLemmas.{one_fits}
-use Rattle.level_course.specs.Pools.{AllWork, IsLongestFront, share_of, shares_of}
+use Rattle.transcript_model.specs.Rounds.{Share}
 use Rattle.level_course.specs.Agendas.{Agenda, IsSoundAgenda, Starts, shown, with_asked}
 use Rattle.level_course.specs.declared.course.Course.TheInside.{Inside}
-use Rattle.level_course.specs.declared.shares.Share.{Share}
 
 -- ---- lists
-
-pub left : {A : Type 0} (xs : List A) (k : ℕ) (x : A) → k < length xs → x ≡ get_or xs k x
-    → drop k xs ≡ x ∷ drop (k + 1) xs
-left xs k x lt is = drop-cons xs k x lt ∙ (λ i. sym is i ∷ drop (sym (add-one k) i) xs)
 
 drop_one : {A : Type 0} (n : ℕ) (xs : List A) → drop (suc n) xs ≡ drop 1 (drop n xs)
 drop_one zero xs = refl
@@ -48,65 +40,6 @@ pub all_asked : (from to : ℕ) (dues : List Due) → from ≤ to → to ≤ len
 all_asked from to dues le within none =
     omega (arith, le, between_places from to dues within, none_left (instances_of (drop from (take to dues))) none)
 
--- ---- pools one after another
-
-one_left : (shares : List Share) (k : ℕ) (p : Share) (list : List Instance) → k < length shares
-    → p ≡ get_or shares k p
-    → fits (shares_of (drop k shares)) list
-    ≡ (nat_le (count_by (serves (share_of p)) list) p.workers && fits (shares_of (drop (k + 1) shares)) list)
-one_left shares k p list lt is = ap (λ ps. fits (shares_of ps) list) (left shares k p lt is)
-
-pub too_many : (shares : List Share) (k : ℕ) (p : Share) (list : List Instance) → k < length shares
-    → p ≡ get_or shares k p
-    → p.workers < count_by (serves (share_of p)) list → fits (shares_of (drop k shares)) list ≡ false
-too_many shares k p list lt is more =
-    one_left shares k p list lt is
-    ∙ (λ i. lt-leb (count_by (serves (share_of p)) list) p.workers more i && fits (shares_of (drop (k + 1) shares)) list)
-
-pub few_enough : (shares : List Share) (k : ℕ) (p : Share) (list : List Instance)
-    → k < length shares → p ≡ get_or shares k p
-    → count_by (serves (share_of p)) list ≤ p.workers → fits (shares_of (drop k shares)) list ≡ fits (shares_of (drop (k + 1) shares)) list
-few_enough shares k p list lt is few =
-    one_left shares k p list lt is
-    ∙ (λ i. le-leb (count_by (serves (share_of p)) list) p.workers few i && fits (shares_of (drop (k + 1) shares)) list)
-
--- ---- fronts
-
-full_from : (pools : List rounds.Share) (taken list : List Instance) (k : ℕ)
-    → (k < length list → fits pools (taken ++ take (suc k) list) ≡ false) → IsFull pools (taken ++ take k list) (drop k list)
-full_from pools taken [] zero stuck = tt
-full_from pools taken [] (suc k) stuck = tt
-full_from pools taken (i ∷ is) zero stuck =
-    ap (λ xs. fits pools (xs ++ i ∷ [])) (append-nil taken) ∙ stuck (omega arith)
-full_from pools taken (i ∷ is) (suc k) stuck =
-    subst (λ xs. IsFull pools xs (drop k is)) (append_assoc taken (i ∷ []) (take k is))
-    (full_from pools (taken ++ i ∷ []) is k
-    (λ lt. ap (fits pools) (append_assoc taken (i ∷ []) (take (suc k) is)) ∙ stuck (omega (arith, lt))))
-
-some_front : (pools : List rounds.Share) (list : List Instance) (k : ℕ)
-    → fits pools (take (suc k) list) ≡ false → AllWork pools
-    → 0 < length list → 0 < k
-some_front pools [] k stuck workers lt = absurd (omega (arith, lt))
-some_front pools (i ∷ is) zero stuck workers lt =
-    absurd (true≢false (sym (one_fits pools i workers) ∙ stuck))
-some_front pools (i ∷ is) (suc k) stuck workers lt = omega arith
-
--- a front that fits, where with the next one it doesn't
-pub longest : (pools : List rounds.Share) (dues : List Due) (count : ℕ) → count < length dues
-    → fits pools (instances_of (take count dues)) ≡ true → fits pools (instances_of (take (count + 1) dues)) ≡ false
-    → IsLongestFront pools (instances_of dues) count
-longest pools dues count lt fit stuck =
-    let name = λ (d : Due). d.instance in
-    let more : fits pools (take (suc count) (instances_of dues)) ≡ false =
-    ap (λ n. fits pools (take n (instances_of dues))) (sym (add-one count)) ∙ ap (fits pools) (take-map name (count + 1) dues)
-    ∙ stuck in
-    record {
-      within = omega (arith, lt, length-map dues (λ (d : Due). d.instance));
-      fit = ap (fits pools) (take-map name count dues) ∙ fit;
-      full = full_from pools [] (instances_of dues) count (λ within. more);
-      some = some_front pools (instances_of dues) count more;
-    }
-
 -- ---- the course
 
 abbrev pub asked_more : Inside → Inside
@@ -131,7 +64,7 @@ pub some_to_answer : (s : Inside) (a : Agenda) → shown s ≡ a → 0 < a.answe
 some_to_answer s a is some = let e = ap (λ (x : Agenda). x.answers) is in omega (arith, e, some)
 
 -- where the last round ends, the next begins
-pub next_round : (pools : List rounds.Share) (s : Inside) (count : ℕ) → IsSoundAgenda s
+pub next_round : (pools : List Share) (s : Inside) (count : ℕ) → IsSoundAgenda s
     → s.answered + 1 ≡ s.round → s.asked ≡ s.round
     → IsLongestFront pools (instances_of (drop s.round s.dues.items)) count
     → Starts pools (instances_of (drop s.round s.dues.items)) (s.before + s.answered + 1 + 1) s.is_cut
@@ -167,7 +100,7 @@ next_round pools s count sound last asked front =
         ∙ ap (λ k. drop k (x ∷ xs)) (let e : suc (n + m) ≡ suc n + m = omega arith in e)
 
 -- the first round of a level
-pub first_round : (pools : List rounds.Share) (s : Inside) (list : List Instance)
+pub first_round : (pools : List Share) (s : Inside) (list : List Instance)
     → list ≡ instances_of s.dues.items → s.asked ≡ 0
     → s.answered ≡ 0 → IsLongestFront pools (instances_of s.dues.items) s.round → Starts pools list (s.before + 1) s.is_cut (shown s)
 first_round pools s list is none first front =

@@ -1,6 +1,7 @@
 -- What a level has still to do.
 use Rattle.std.specs.Prelude.{◌≡◌, ℕ, ◌+◌, ◌-◌, ◌<◌, ◌≤◌, List, [], ◌++◌, length, take, drop, Bool, true, false}
 use Rattle.instance_queue.specs.Level.{instances_of}
+use Rattle.pools.specs.Pools.{HaveWorkers}
 use Rattle.task_model.specs.declared.stream.Instance.{Instance}
 use Rattle.task_model.specs.declared.task.Task.{Task}
 use Rattle.transcript_model.specs.Legal.{asks_of}
@@ -8,7 +9,6 @@ use Rattle.transcript_model.specs.Rounds.{Share, IsFull, fits, requests_from}
 use Rattle.transcript_model.specs.declared.entry.Entry.{Entry}
 use Rattle.transcript_model.specs.declared.limits.TheConstants.{MOST_CALLS}
 use Rattle.level_course.specs.Courses.{Course as Place}
-use Rattle.level_course.specs.Pools.{AllWork}
 use Rattle.level_course.specs.declared.course.Course.TheInside.{Inside}
 
 -- The instances of the open round that are still to be asked; the number of the request that is answered next, and how
@@ -40,7 +40,7 @@ pub record Starts (pools : List Share) (list : List Instance) (number : ℕ) (cu
   pub parts : list ≡ round ++ rest
   pub fit : fits pools round ≡ true
   pub full : IsFull pools round rest
-  pub some : AllWork pools → 0 < length list → 0 < length round
+  pub some : HaveWorkers pools → 0 < length list → 0 < length round
   pub is : a ≡ record { to_ask = round; next = number; answers = length round; later = rest; is_cut = cut }
 
 -- where a transcript stands behind which this is to be done

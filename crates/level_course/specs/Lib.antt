@@ -1,4 +1,3 @@
 pub mod Agendas
 pub mod Courses
 pub mod Laws
-pub mod Pools

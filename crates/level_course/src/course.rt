@@ -1,8 +1,8 @@
 //! Where in a level a transcript stands.
 ghost use Rattle.transcript_model.specs.declared.limits.TheConstants.{MOST_CALLS};
 
-use crate::shares::{Share, longest_front};
 use instance_queue::Due;
+use pools::{Workers, longest_front};
 use std::alloc::Global;
 use std::marker::Model;
 use task_model::Instance;
@@ -35,7 +35,7 @@ impl Course {
     ghost use Rattle.std.specs.Prelude.{◌≡◌, ◌+◌, ◌-◌, ◌<◌, ◌≤◌, ◌==◌, ◌&&◌, not, [], length, take, nat_lt, slice_get, option_copied, IfSome, IfNone};
     ghost use Rattle.instance_queue.specs.Level.{instances_of};
     ghost use Rattle.level_course.specs.Agendas.{Starts, nothing_to_do, with_answer, with_asked};
-    ghost use Rattle.level_course.specs.Pools.{shares_of};
+    ghost use Rattle.pools.specs.Pools.{shares_of};
 
     /// Before the first level.
     pub fn new(alloc: Global) -> Course
@@ -83,16 +83,16 @@ impl Course {
     }
 
     /// Begins a level over all that is due, after so many requests of so many.
-    pub fn begin(&mut self, shares: &[Share], mut dues: Vec<Due>, before: u32, calls: u32)
+    pub fn begin(&mut self, pools: &[Workers], mut dues: Vec<Due>, before: u32, calls: u32)
         requires left { before ≤ calls }
         requires few { calls ≤ MOST_CALLS }
-        ensures { Starts (shares_of shares.now) (take (calls - before) (instances_of dues.items))
+        ensures { Starts (shares_of pools.now) (take (calls - before) (instances_of dues.items))
             (before + 1) (nat_lt (calls - before) (length dues.items)) self.new }
     {
         let left = (calls - before) as usize;
         self.is_cut = left < dues.len();
         dues.truncate(left);
-        self.round = longest_front(shares, dues.as_slice());
+        self.round = longest_front(pools, dues.as_slice());
         self.dues = dues;
         self.asked = 0;
         self.answered = 0;
@@ -108,18 +108,18 @@ impl Course {
     }
 
     /// Goes on behind the next answer, and to the next round where that was the last of this one.
-    pub fn answer(&mut self, shares: &[Share])
+    pub fn answer(&mut self, pools: &[Workers])
         requires asked { self.old.to_ask ≡ [] }
         requires some { 0 < self.old.answers }
         ensures more { 1 < self.old.answers → self.new ≡ with_answer self.old }
         ensures last { self.old.answers ≡ 1
-            → Starts (shares_of shares.now) self.old.later (self.old.next + 1) self.old.is_cut
+            → Starts (shares_of pools.now) self.old.later (self.old.next + 1) self.old.is_cut
             self.new }
     {
         self.answered += 1;
         if self.answered == self.round {
             let (_, later) = self.dues.as_slice().split_at(self.round);
-            let count = longest_front(shares, later);
+            let count = longest_front(pools, later);
             self.round += count;
         }
     }

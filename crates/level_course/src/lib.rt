@@ -3,7 +3,5 @@
 
 mod course;
 pub mod laws;
-mod shares;
 
 pub use course::Course;
-pub use shares::Share;

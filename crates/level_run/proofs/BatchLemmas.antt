@@ -6,8 +6,8 @@ use Rattle.std.proofs.lemmas.List.{append-nil, take-map, drop-take, length-take,
 use Rattle.std.proofs.lemmas.Simd.{map-map}
 use Rattle.instance_queue.specs.Level.{instances_of}
 use Rattle.instance_queue.specs.declared.due.Due.{Due}
-use Rattle.session_core.specs.Pools.{workers_of}
-use Rattle.session_core.specs.Ready as ready
+use Rattle.pools.specs.Pools as pools
+use Rattle.pools.specs.Pools.{shares_of, workers_of}
 use Rattle.session_core.specs.Ready.{IsNextRound, calls_left}
 use Rattle.session_core.specs.Session.{IsOf, IsSession}
 use Rattle.session_core.specs.State.{State}
@@ -24,9 +24,9 @@ less a b c = omega arith
 
 -- the pools of the head, as a session has them
 pools_same : (head : Head) (s : State) → IsOf head s
-    → map ready.share_of s.pools ≡ map share_of head.pools
+    → shares_of s.pools ≡ map share_of head.pools
 pools_same head s of =
-    ap (map ready.share_of) of.pools ∙ map-map ready.share_of workers_of head.pools
+    ap shares_of of.pools ∙ map-map pools.share_of workers_of head.pools
 
 pub batch_none : (head : Head) (task : Task) (before : List Entry) (list : List Instance)
     → take (rounds.calls_left (limits_of head) before) list ≡ [] → IsBatch (limits_of head) task before list []

@@ -9,7 +9,7 @@ use Rattle.io_world.specs.Talks.{Talk}
 use Rattle.io_world.specs.declared.host.HostFault.{HostFault}
 use Rattle.io_world.specs.declared.host.HostFault.TheVariants as host
 use Rattle.io_world.proofs.TalksLemmas.{extends_none}
-use Rattle.session_core.specs.declared.pools.Workers.{Workers}
+use Rattle.pools.specs.Pools.{Workers}
 use Rattle.task_model.specs.declared.task.Task.{Task}
 use Rattle.transcript_model.specs.Legal.{HasNoneOpen, IsLegal}
 use Rattle.transcript_model.specs.declared.entry.Entry.{Entry}

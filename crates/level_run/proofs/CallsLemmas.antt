@@ -5,7 +5,7 @@ use Rattle.std.proofs.lemmas.List.{append-nil, append_cancel_left}
 use Rattle.std.proofs.lemmas.List.Elements.{All-tail}
 use Rattle.io_world.specs.Faults.{Extends}
 use Rattle.io_world.specs.Talks.{Talk, Event, started, wrote, heard, stopped, silence, spelled, said_after, heard_more, IsGiven, Takes}
-use Rattle.session_core.specs.declared.pools.Workers.{Workers}
+use Rattle.pools.specs.Pools.{Workers}
 use Rattle.task_model.specs.declared.task.Task.{Task}
 use Rattle.transcript_model.specs.Legal.{is_ask, is_answer}
 use Rattle.transcript_model.specs.declared.entry.Entry.{Entry}

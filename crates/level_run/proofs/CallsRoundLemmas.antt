@@ -17,7 +17,7 @@ use Rattle.session_core.specs.Session.{IsSession, begun}
 use Rattle.transcript_model.specs.Legal.{is_answer}
 use Rattle.session_core.specs.Slots.{Slot, answers_of}
 use Rattle.session_core.specs.State.{State, with_slots}
-use Rattle.session_core.specs.declared.pools.Workers.{Workers}
+use Rattle.pools.specs.Pools.{Workers}
 use Rattle.task_model.specs.declared.task.Task.{Task}
 use Rattle.transcript_model.specs.declared.entry.Entry.{Entry}
 use Rattle.level_run.proofs.CallsLemmas.{answer_calls, ask_calls, calls_then, log_one, spelled_join, spelled_reads}

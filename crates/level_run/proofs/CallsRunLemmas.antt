@@ -19,7 +19,7 @@ use Rattle.transcript_model.specs.declared.entry.Entry.{Entry}
 use Rattle.transcript_model.specs.declared.entry.Entry.TheVariants as entry
 use Rattle.transcript_model.specs.declared.head.Head.{Head}
 use Rattle.transcript_model.specs.declared.head.Pool.{Pool}
-use Rattle.session_core.specs.declared.pools.Workers.{Workers}
+use Rattle.pools.specs.Pools.{Workers}
 use Rattle.level_run.proofs.CallsLemmas.{follows_join}
 use Rattle.level_run.proofs.StartsLemmas.{starts_cut, starts_more}
 use Rattle.level_run.proofs.TalkingLemmas.{none_asked}

@@ -14,7 +14,7 @@ use Rattle.gen_lines.specs.declared.answer.Why.TheVariants.{TooLong}
 use Rattle.io_world.specs.Talks.{Talk, Hears, Writes, heard_more, wrote_more}
 use Rattle.session_core.proofs.SessionLemmas.{count_joined, count_one}
 use Rattle.session_core.specs.Slots.{entry_of}
-use Rattle.session_core.specs.declared.pools.Workers.{Workers}
+use Rattle.pools.specs.Pools.{Workers}
 use Rattle.lemmas.proofs.Members.{push_cases, get_append, get_pushed, next_taken}
 use Rattle.lemmas.proofs.Options.{same_some}
 use Rattle.task_model.specs.declared.task.Task.{Task}

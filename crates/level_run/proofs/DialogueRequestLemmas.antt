@@ -3,9 +3,8 @@ use Rattle.std.proofs.Common.{◌≡◌, ℕ, zero, suc, ◌+◌, ◌<◌, arith
 use Rattle.std.proofs.lemmas.List.Elements.{filter-append}
 use Rattle.instance_queue.specs.declared.due.Due.{Due}
 use Rattle.session_core.proofs.SessionLemmas.{count_joined, count_one}
-use Rattle.session_core.specs.Pools.{child_for}
+use Rattle.pools.specs.Pools.{Workers, child_for}
 use Rattle.session_core.specs.Slots.{Slot, asks_from, slot_for, slots_from, wanted_at}
-use Rattle.session_core.specs.declared.pools.Workers.{Workers}
 use Rattle.task_model.specs.Fit.{IsFit}
 use Rattle.task_model.specs.declared.stream.Instance.{Instance}
 use Rattle.task_model.specs.declared.task.Task.{Task}

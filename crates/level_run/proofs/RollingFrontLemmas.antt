@@ -6,11 +6,10 @@ use Rattle.lemmas.proofs.Numbers.{plus_zero}
 use Rattle.instance_queue.specs.Level.{instances_of}
 use Rattle.instance_queue.specs.declared.due.Due.{Due}
 use Rattle.transcript_model.proofs.RoundsFrontLemmas.{batch_exists}
-use Rattle.session_core.specs.Pools.{workers_of}
+use Rattle.pools.specs.Pools.{Workers, workers_of}
 use Rattle.session_core.specs.Ready.{IsNextRound}
 use Rattle.session_core.specs.Session.{IsOf, IsSession}
 use Rattle.session_core.specs.State.{State}
-use Rattle.session_core.specs.declared.pools.Workers.{Workers}
 use Rattle.task_model.specs.declared.stream.Instance.{Instance}
 use Rattle.task_model.specs.declared.task.Task.{Task}
 use Rattle.transcript_model.proofs.LegalNumberLemmas.{asks_more}

@@ -22,10 +22,9 @@ use Rattle.session_core.proofs.RoundBeginLemmas.{child_served, children_distinct
 use Rattle.session_core.proofs.StateLemmas.{bad_is}
 use Rattle.session_core.proofs.SlotsLemmas.{children_of, children_kept, child_kept, map_at, own_slot, at_own, at_other}
 use Rattle.session_core.specs.Heard.{is_bad_at, number_at}
-use Rattle.session_core.specs.Pools.{HasChild}
+use Rattle.pools.specs.Pools.{HasChild, Workers}
 use Rattle.session_core.specs.Session.{IsSession, MayBeginRound, begun}
 use Rattle.session_core.specs.Slots.{Slot, IsUnsent, IsAwaited, sent_slot, heard_slot, at_child, is_slot_of, slot_of, reply_to, fault_of, entry_of, answers_of, all_answered, asks_from, slot_for, slots_from}
-use Rattle.session_core.specs.declared.pools.Workers.{Workers}
 use Rattle.session_core.specs.State.{State, with_slots, after_sent, after_line}
 use Rattle.level_run.proofs.RollingPrintLemmas.{round_legal, answers_legal, one_more, open_there, round_is, front_answers}
 use Rattle.level_run.proofs.StoppedLemmas.{goes_then}

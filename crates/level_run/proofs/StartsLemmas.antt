@@ -12,8 +12,7 @@ use Rattle.lemmas.specs.Lists.{numbers_from}
 use Rattle.std.proofs.lemmas.Option.{slice_get-map, slice_get-get_or, slice_get_past, slice_get_within}
 use Rattle.std.specs.Result.{IfOk, OnOk}
 use Rattle.io_world.specs.Talks.{Becomes, Same}
-use Rattle.session_core.specs.Pools.{workers_of}
-use Rattle.session_core.specs.declared.pools.Workers.{Workers}
+use Rattle.pools.specs.Pools.{Workers, workers_of}
 use Rattle.task_model.specs.declared.task.Task.{Task}
 use Rattle.transcript_model.specs.declared.head.Head.{Head}
 use Rattle.transcript_model.specs.declared.head.Pool.{Pool}

@@ -14,7 +14,7 @@ use Rattle.report_text.specs.Texts.{text_of_entry}
 use Rattle.transcript_model.specs.declared.entry.Entry.{Entry}
 use Rattle.io_world.specs.Talks.{Talk}
 use Rattle.session_core.specs.Slots.{Slot}
-use Rattle.session_core.specs.declared.pools.Workers.{Workers}
+use Rattle.pools.specs.Pools.{Workers}
 use Rattle.level_run.specs.Dialogue.{BrokenOff, HasBadLine}
 use Rattle.level_run.specs.Pieces.{CutOff}
 use Rattle.level_run.specs.Rolling.{Goes, Stopped, Blames}

@@ -5,7 +5,7 @@ use Rattle.gen_lines.specs.Cutting.{fresh}
 use Rattle.io_world.specs.Talks.{Talk}
 use Rattle.session_core.specs.Session.{IsOf}
 use Rattle.session_core.specs.State.{State}
-use Rattle.session_core.specs.declared.pools.Workers.{Workers}
+use Rattle.pools.specs.Pools.{Workers}
 use Rattle.task_model.specs.declared.task.Task.{Task}
 use Rattle.transcript_model.specs.Legal.{IsLegal, asks_of}
 use Rattle.transcript_model.specs.declared.entry.Entry.{Entry}

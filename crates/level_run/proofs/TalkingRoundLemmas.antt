@@ -20,7 +20,7 @@ use Rattle.session_core.specs.Session.{IsSession, AreSlotsFor, MayBeginRound, be
 use Rattle.session_core.specs.Slots.{Slot, answers_of, asks_from, at_child, entry_of, fault_of, heard_slot, is_slot_of, reply_to, sent_slot, slots_from}
 use Rattle.session_core.specs.State.{State, after_line, after_sent, with_slots}
 use Rattle.session_core.specs.declared.fault.Heard.TheVariants as heard
-use Rattle.session_core.specs.declared.pools.Workers.{Workers}
+use Rattle.pools.specs.Pools.{Workers}
 use Rattle.lemmas.proofs.Members.{member_at, get_behind, next_taken}
 use Rattle.lemmas.proofs.ListTests.{get_there}
 use Rattle.task_model.specs.declared.task.Task.{Task}

@@ -6,7 +6,7 @@ use Rattle.io_world.specs.Faults.{Extends}
 use Rattle.io_world.specs.Talks.{Event, started, wrote, heard, stopped, silence, spelled, IsGiven, Takes}
 use Rattle.io_world.specs.declared.host.HostFault.{HostFault}
 use Rattle.io_world.specs.declared.host.HostFault.TheVariants as host
-use Rattle.session_core.specs.declared.pools.Workers.{Workers}
+use Rattle.pools.specs.Pools.{Workers}
 use Rattle.task_model.specs.declared.task.Task.{Task}
 use Rattle.transcript_model.specs.Legal.{HasNoneOpen, IsLegal, asks_of}
 use Rattle.transcript_model.specs.declared.entry.Entry.{Entry}

@@ -7,8 +7,7 @@ use Rattle.io_world.specs.Faults.{Extends}
 use Rattle.io_world.specs.declared.host.HostFault.{HostFault}
 use Rattle.io_world.specs.declared.host.TheConstants.{CHILDREN}
 use Rattle.io_world.specs.Talks.{Event, started, stopped, silence, spelled, IsGiven, Takes}
-use Rattle.session_core.specs.Pools.{child_for}
-use Rattle.session_core.specs.declared.pools.Workers.{Workers}
+use Rattle.pools.specs.Pools.{Workers, child_for}
 use Rattle.task_model.specs.declared.task.Task.{Task}
 use Rattle.transcript_model.specs.Legal.{asks_of}
 use Rattle.transcript_model.specs.declared.entry.Call.{Call}

@@ -8,9 +8,8 @@ use Rattle.gen_lines.specs.declared.answer.Wanted.{Wanted}
 use Rattle.gen_lines.specs.declared.answer.Why.{Why}
 use Rattle.gen_lines.specs.declared.answer.Why.TheVariants.{TooLong}
 use Rattle.io_world.specs.Talks.{Talk}
-use Rattle.session_core.specs.Pools.{HasChild, child_for, workers_of}
+use Rattle.pools.specs.Pools.{HasChild, Workers, child_for, workers_of}
 use Rattle.session_core.specs.Slots.{entry_of, wanted_at}
-use Rattle.session_core.specs.declared.pools.Workers.{Workers}
 use Rattle.task_model.specs.declared.task.Task.{Task}
 use Rattle.transcript_model.specs.Legal.{IsLegal, is_answer}
 use Rattle.transcript_model.specs.Names.{stream_named}

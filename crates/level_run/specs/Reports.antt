@@ -2,7 +2,7 @@
 use Rattle.std.specs.Prelude.{◌≡◌, ◌⊎◌, ℕ, ◌<◌, List, [], ◌++◌, length, All, Option, count_by}
 use Rattle.std.specs.Io.KnownBytes.{Appends}
 use Rattle.std.specs.List.{flat_map}
-use Rattle.mode_turns.specs.Lazy.{IsLazy, IsLazyEnd}
+use Rattle.mode_turns.specs.Lazy.{IsFewDue, IsLazy, IsLazyEnd}
 use Rattle.task_model.specs.declared.task.Task.{Task}
 use Rattle.transcript_model.specs.Legal.{IsLegal, asks_of, is_level}
 use Rattle.transcript_model.specs.Outcomes.{MayStand}
@@ -19,7 +19,7 @@ use Rattle.level_run.specs.Calls.{LogRan, LogStops}
 use Rattle.level_run.specs.Dialogue.{BrokenOff, Dialogue, workers_in}
 use Rattle.level_run.specs.Rolling.{Blames}
 use Rattle.level_run.specs.Stops.{StopsAt}
-use Rattle.level_run.specs.Turns.{IsFewDue, IsFrontOfRun, IsSure}
+use Rattle.level_run.specs.Turns.{IsFrontOfRun, IsSure}
 use Rattle.level_run.specs.declared.fault.RunFault.{RunFault}
 use Rattle.level_run.specs.declared.fault.RunFault.TheVariants.{Write, Memory}
 use Rattle.level_run.specs.declared.incremental_mode.Ran.{Ran}

@@ -13,7 +13,7 @@ use Rattle.transcript_model.specs.declared.entry.Entry.{Entry}
 use Rattle.transcript_model.specs.declared.entry.Entry.TheVariants as entry
 use Rattle.session_core.specs.Slots.{Slot}
 use Rattle.session_core.specs.State.{State, with_slots}
-use Rattle.session_core.specs.declared.pools.Workers.{Workers}
+use Rattle.pools.specs.Pools.{Workers}
 use Rattle.level_run.specs.Dialogue.{BrokenOff, HasBadLine}
 use Rattle.level_run.specs.Stops.{StopsAt}
 use Rattle.level_run.specs.declared.fault.RunFault.{RunFault}

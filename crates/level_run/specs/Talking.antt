@@ -10,7 +10,7 @@ use Rattle.session_core.specs.Heard.{heard_at, is_bad_at, number_at}
 use Rattle.session_core.specs.Slots.{Slot}
 use Rattle.session_core.specs.State.{State, after_line}
 use Rattle.session_core.specs.declared.fault.Heard.TheVariants as heard
-use Rattle.session_core.specs.declared.pools.Workers.{Workers}
+use Rattle.pools.specs.Pools.{Workers}
 use Rattle.task_model.specs.declared.task.Task.{Task}
 use Rattle.transcript_model.specs.declared.entry.Entry.{Entry}
 use Rattle.level_run.specs.Dialogue.{AreSaid, IsOneOf, Request, bytes_to, count_to, last_round, replies_of, requests_of, text_of_request, wanted_by}

@@ -2,12 +2,11 @@
 use Rattle.std.specs.Prelude.{◌≡◌, ℕ, ◌+◌, ◌^◌, ◌<◌, ◌≤◌, List, [], ◌∷◌, ◌++◌, length, All, Bool, true, false, Some, slice_get}
 use Rattle.instance_queue.specs.Level.{AreDueInTurn}
 use Rattle.instance_queue.specs.declared.due.Due.{Due}
-use Rattle.session_core.specs.Pools.{HasChild}
+use Rattle.pools.specs.Pools.{HasChild, Workers}
 use Rattle.session_core.specs.Ready.{AreReady}
 use Rattle.session_core.specs.Session.{IsFitHead, IsLearnt}
 use Rattle.session_core.specs.State.{State}
-use Rattle.session_core.specs.declared.pools.Workers.{Workers}
-use Rattle.mode_turns.specs.Lazy.{IsLazy, IsLazyEnd, IsNeeded}
+use Rattle.mode_turns.specs.Lazy.{IsFewDue, IsLazy, IsLazyEnd, IsNeeded}
 use Rattle.task_model.specs.declared.limits.TheConstants.{MOST_DUE, MOST_STATES}
 use Rattle.task_model.specs.Plans.{IsFar, IsReached, MoreThan}
 use Rattle.task_model.specs.Streams.{AreDue, IsDue}
@@ -60,13 +59,6 @@ EndsBatch task entries before after calls many CallsSpent =
     × ((i : Instance) × IsDue task (known_of task entries) (notes_of task entries) i)
 
 -- ---- turns
-
--- where the limit of calls stands behind no cut batch, at most so many instances are due as may be listed
-abbrev pub IsFewDue : Task → List Entry → Stage → Outcome → Type 0
-IsFewDue task entries stage o =
-    o ≡ outcome.Limit Calls → stage ≡ between
-    → (list : List Instance) × AreDue task (known_of task entries) (notes_of task entries) list
-    × (length list ≤ MOST_DUE)
 
 -- the cost of a plan has room in 64 bits
 abbrev pub HasRoom : Outcome → Type 0

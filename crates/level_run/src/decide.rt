@@ -8,7 +8,7 @@ ghost use Rattle.transcript_model.specs.Transcript.{known_of};
 ghost use Rattle.transcript_model.specs.declared.head.Mode.TheVariants.{Incremental};
 
 use crate::fault::RunFault;
-use best_first::{Blind, Found, search};
+use best_first::{Found, GoalCount, search};
 use instance_queue::{Due, QueueFault};
 use session_core::Session;
 use shown_plan::plan_outcome;
@@ -44,7 +44,7 @@ pub(crate) fn decide(
     ensures only { IfErr result (λ fault. fault ≡ Memory) }
 {
     let facts = session.facts();
-    match search(alloc, task, facts, head.states, &mut Blind)? {
+    match search(alloc, task, facts, head.states, &mut GoalCount)? {
         Found::Plan(plan, cost) => {
             let entries = session.entries();
             let steps = plan.steps.as_slice();

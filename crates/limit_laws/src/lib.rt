@@ -2,6 +2,7 @@
 //! its value; this law does.
 #![tactic(auto)]
 
+ghost use Rattle.command_line.specs.declared.number.TheConstants.{DEFAULT_CALLS, DEFAULT_DEPTH, DEFAULT_STATES};
 ghost use Rattle.fact_store.specs.declared.facts.TheConstants.{MOST_NAMES};
 ghost use Rattle.gen_lines.specs.declared.values.TheConstants.{VALUE_BYTES};
 ghost use Rattle.io_world.specs.declared.host.TheConstants.{CHILDREN};
@@ -22,4 +23,12 @@ pub fn limits_have_their_values()
     ensures children { CHILDREN ≡ 17 }
     ensures value { VALUE_BYTES ≡ 64 }
     ensures names { MOST_NAMES ≡ 4294705152 }
+{}
+
+/// Where the words name no limit, a run makes at most 10,000 requests, a search goes through at most 100,000 states, and
+/// entries are supposed at most 3 deep.
+pub fn defaults_have_their_values()
+    ensures calls { DEFAULT_CALLS ≡ 10000 }
+    ensures states { DEFAULT_STATES ≡ 100000 }
+    ensures depth { DEFAULT_DEPTH ≡ 3 }
 {}

@@ -1,9 +1,12 @@
 -- No turn begins where a plan is at hand, and a run doesn't end with a limit there.
-use Rattle.std.specs.Prelude.{◌≡◌, ◌⊎◌, ℕ, List, take, Bool, true, false, Some, slice_get}
+use Rattle.std.specs.Prelude.{◌≡◌, ◌≤◌, ◌⊎◌, ℕ, List, length, take, Bool, true, false, Some, slice_get}
 use Rattle.task_model.specs.Plans.{IsFar, IsSolvable}
+use Rattle.task_model.specs.Streams.{AreDue}
+use Rattle.task_model.specs.declared.limits.TheConstants.{MOST_DUE}
+use Rattle.task_model.specs.declared.stream.Instance.{Instance}
 use Rattle.task_model.specs.declared.task.Task.{Task}
 use Rattle.transcript_model.specs.Rounds.{Limits}
-use Rattle.transcript_model.specs.Transcript.{known_of}
+use Rattle.transcript_model.specs.Transcript.{known_of, notes_of}
 use Rattle.transcript_model.specs.Turns.{Stage, between}
 use Rattle.transcript_model.specs.declared.entry.Entry.{Entry}
 use Rattle.transcript_model.specs.declared.entry.Entry.TheVariants as entry
@@ -67,3 +70,10 @@ abbrev pub IsLazyEnd : Limits → Task → List Entry → Stage → Outcome → 
 IsLazyEnd limits task entries stage o =
     (o ≡ outcome.Limit Instances) ⊎ ((o ≡ outcome.Limit Calls) × (stage ≡ between))
     → IsNeeded limits task entries
+
+-- Where the limit of calls stands behind no cut batch, at most so many instances are due as may be listed.
+abbrev pub IsFewDue : Task → List Entry → Stage → Outcome → Type 0
+IsFewDue task entries stage o =
+    o ≡ outcome.Limit Calls → stage ≡ between
+    → (list : List Instance) × AreDue task (known_of task entries) (notes_of task entries) list
+    × (length list ≤ MOST_DUE)

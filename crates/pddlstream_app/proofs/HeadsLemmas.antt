@@ -12,9 +12,8 @@ use Rattle.lemmas.proofs.Bools.{right_true}
 use Rattle.lemmas.proofs.ListTests.{all_by_place, number_found}
 use Rattle.lemmas.proofs.Members.{member_at, place_of}
 use Rattle.level_run.specs.Turns.{IsRunnable}
-use Rattle.session_core.specs.Pools.{AreFitPools, serves, server, workers_of}
-use Rattle.session_core.specs.Pools as children
-use Rattle.session_core.specs.declared.pools.Workers.{Workers}
+use Rattle.pools.specs.Pools.{AreFitPools, Workers, has_stream, server, workers_of}
+use Rattle.pools.specs.Pools as children
 use Rattle.stream_map.proofs.LawsLemmas.{accepted_maps, accepted_words, texts_keep}
 use Rattle.stream_map.specs.Children.{PlainPool, grid_file, plain}
 use Rattle.stream_map.specs.Laws.{AreWhole, PoolHasChild}
@@ -55,15 +54,15 @@ among (s ∷ ss) (suc k) stream at = right_true (s == stream) _ (among ss k stre
 
 -- a stream that a pool serves has a server
 served_by : (all : List Workers) (k stream : ℕ) (p : Workers) → slice_get all k ≡ Some p
-    → serves p stream ≡ true → (q : Workers) × (server all stream ≡ Some q)
+    → has_stream p stream ≡ true → (q : Workers) × (server all stream ≡ Some q)
 served_by [] k stream p at is = absurd (cc)
 served_by (q ∷ all) zero stream p at is =
-    let here : serves q stream ≡ true = ap (λ w. serves w stream) (same_Some q p at) ∙ is in
+    let here : has_stream q stream ≡ true = ap (λ w. has_stream w stream) (same_Some q p at) ∙ is in
     (q, ap (λ b. cond b (Some q) (server all stream)) here)
 served_by (q ∷ all) (suc k) stream p at is =
-    by (serves q stream) refl (served_by all k stream p at is)
+    by (has_stream q stream) refl (served_by all k stream p at is)
   where
-    by : (b : Bool) → serves q stream ≡ b → (r : Workers) × (server all stream ≡ Some r)
+    by : (b : Bool) → has_stream q stream ≡ b → (r : Workers) × (server all stream ≡ Some r)
         → (r : Workers) × (server (q ∷ all) stream ≡ Some r)
     by true e rest = (q, ap (λ b. cond b (Some q) (server all stream)) e)
     by false e rest = (rest.0, ap (λ b. cond b (Some q) (server all stream)) e ∙ rest.1)
@@ -86,9 +85,9 @@ module _ (task : Task) (pools : List Pool) (all : AreWhole task (map plain pools
       record { from = here.from; to = here.to }
 
   -- where it serves a stream
-  serves_at : (p : Pool) (q : Workers) (stream : ℕ) → workers_of p ≡ q → serves q stream ≡ true
+  serves_at : (p : Pool) (q : Workers) (stream : ℕ) → workers_of p ≡ q → has_stream q stream ≡ true
       → (a : ℕ) × (slice_get p.streams a ≡ Some stream)
-  serves_at p q stream is e = number_found p.streams stream (ap (λ w. serves w stream) is ∙ e)
+  serves_at p q stream is e = number_found p.streams stream (ap (λ w. has_stream w stream) is ∙ e)
 
   served : (stream : ℕ) → stream < length task.streams
       → (q : Workers) × (server (map workers_of pools) stream ≡ Some q)

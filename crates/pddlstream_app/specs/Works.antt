@@ -2,6 +2,7 @@
 use Rattle.std.specs.Prelude.{ℕ, List, [], ◌∷◌, ◌++◌, codes, Option, None, Some}
 use Rattle.std.specs.Fmt.{decimal}
 use Rattle.command_line.specs.Words.{Command, SolveWords, generate, solve}
+use Rattle.command_line.specs.declared.number.TheConstants.{DEFAULT_CALLS, DEFAULT_DEPTH, DEFAULT_STATES}
 use Rattle.grid_text.specs.Tasks.{grid_task}
 use Rattle.grid_text.specs.declared.task.GridTask.{GridTask}
 use Rattle.io_world.specs.FileMap.{FileMap, StoredFile, map_or_empty}
@@ -30,7 +31,7 @@ made_words = record {
   program = codes "@grid" ∷ codes "grid" ∷ [];
   workers = 1;
   mode = Incremental;
-  limits = record { calls = 10000; states = 100000; depth = 3 };
+  limits = record { calls = DEFAULT_CALLS; states = DEFAULT_STATES; depth = DEFAULT_DEPTH };
 }
 
 abbrev pub file_with : List ℕ → List ℕ → StoredFile

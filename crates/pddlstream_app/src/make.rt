@@ -16,7 +16,7 @@ ghost use Rattle.pddlstream_app.specs.declared.stop.Stop.TheVariants.{Run};
 use crate::solve::{report, status_of};
 use crate::status::Status;
 use crate::stop::Stop;
-use command_line::SolveConfig;
+use command_line::{DEFAULT_CALLS, DEFAULT_DEPTH, DEFAULT_STATES, SolveConfig};
 use grid_text::grid_task;
 use io_world::{Host, Sink, SureFiles, SureSink, write_all};
 use level_run::{Ran, RunFault};
@@ -40,9 +40,9 @@ fn made_words(alloc: Global) -> Result<SolveConfig, AllocError>
         program: Seq::from_vec(program),
         workers: 1,
         mode: Mode::Incremental,
-        calls: 10_000,
-        states: 100_000,
-        depth: 3,
+        calls: DEFAULT_CALLS,
+        states: DEFAULT_STATES,
+        depth: DEFAULT_DEPTH as u8,
     })
 }
 

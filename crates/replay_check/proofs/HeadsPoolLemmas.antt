@@ -4,8 +4,7 @@ use Rattle.std.proofs.lemmas.List.{map-append, append-nil}
 use Rattle.std.proofs.lemmas.List.Concat.{flat_map-append}
 use Rattle.std.proofs.lemmas.List.Sums.{sum_by-append}
 use Rattle.lemmas.proofs.Bools.{and_four}
-use Rattle.level_course.specs.Pools.{share_of, shares_of}
-use Rattle.level_course.specs.declared.shares.Share.{Share}
+use Rattle.pools.specs.Pools.{Workers, share_of, shares_of}
 use Rattle.task_model.specs.declared.task.Task.{Task}
 use Rattle.transcript_model.specs.declared.head.PoolLine.{PoolLine}
 use Rattle.replay_check.specs.Headed.{IsAfter}
@@ -48,15 +47,15 @@ module _ (task : Task) (before : List PoolLine) (pool : PoolLine) (b : Before) (
       by (inr (is, front)) = (λ i. is_fit_pool task (front i) (sym is i)) ∙ fits
 
   -- one pool more
-  pub pool_passed : (a : Before) (share : Share) → is_fit_pool task before pool ≡ true
+  pub pool_passed : (a : Before) (own : Workers) → is_fit_pool task before pool ≡ true
       → b.workers + pool.workers ≤ 17
-      → a.shares.items ≡ b.shares.items ++ share ∷ [] → share_of share ≡ share_in task pool
+      → a.pools.items ≡ b.pools.items ++ own ∷ [] → share_of own ≡ share_in task pool
       → a.served.items ≡ b.served.items ++ streams_in task pool → a.workers ≡ b.workers + pool.workers
       → IsAfter task (before ++ pool ∷ []) a
-  pool_passed a share fits few shares is served workers =
+  pool_passed a own fits few pools is served workers =
       record {
-        shares =
-            ap shares_of shares ∙ map-append share_of b.shares.items (share ∷ []) ∙ (λ i. h.shares i ++ is i ∷ [])
+        pools =
+            ap shares_of pools ∙ map-append share_of b.pools.items (own ∷ []) ∙ (λ i. h.pools i ++ is i ∷ [])
             ∙ sym (map-append (share_in task) before (pool ∷ []));
         served =
             served ∙ (λ i. h.served i ++ sym (append-nil (streams_in task pool)) i)
@@ -68,11 +67,11 @@ module _ (task : Task) (before : List PoolLine) (pool : PoolLine) (b : Before) (
       }
 
 -- before the first pool
-pub none_passed : (task : Task) (b : Before) → b.shares.items ≡ [] → b.served.items ≡ []
+pub none_passed : (task : Task) (b : Before) → b.pools.items ≡ [] → b.served.items ≡ []
     → b.workers ≡ 0 → IsAfter task [] b
-none_passed task b shares served workers =
+none_passed task b pools served workers =
     record {
-      shares = ap shares_of shares;
+      pools = ap shares_of pools;
       served = served;
       workers = workers;
       few = omega (arith, workers);

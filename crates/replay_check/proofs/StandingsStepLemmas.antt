@@ -9,7 +9,7 @@ use Rattle.instance_queue.specs.declared.due.Due.{Due}
 use Rattle.level_course.proofs.CoursesLemmas.{leads_then}
 use Rattle.level_course.specs.Agendas.{Agenda, Starts, nothing_to_do, place_in, with_answer, with_asked}
 use Rattle.level_course.specs.Courses.{Course, IsCourseStep, Leads, Opens, at_first}
-use Rattle.level_course.specs.Pools.{AllWork}
+use Rattle.pools.specs.Pools.{HaveWorkers}
 use Rattle.session_core.proofs.SessionLemmas.{count_joined, count_one}
 use Rattle.task_model.specs.Known.{Known}
 use Rattle.task_model.specs.Streams.{AreDue, Note, yields_of}
@@ -82,7 +82,7 @@ module _ (pools : List Share) (list : List Instance) (number : ℕ) (cut : Bool)
       omega (arith, here, later, all)
 
 starts_open : (limits : Limits) (task : Task) (es : List Entry) (list : List Instance) (number : ℕ) (cut : Bool) (b : Agenda)
-    → AllWork limits.pools → number ≡ asks_of es + 1 → Starts limits.pools list number cut b
+    → HaveWorkers limits.pools → number ≡ asks_of es + 1 → Starts limits.pools list number cut b
     → Opens limits task es list cut (place_in task es b)
 starts_open limits task es list number cut b workers next st =
     record {
@@ -228,7 +228,7 @@ module _ (limits : Limits) (task : Task) (entries : List Entry) (l : Ledger) (a 
   -- ---- an answer
 
   module _ (n : ℕ) (e : Entry) (is : answered_number e ≡ Some n) (next : n ≡ a.next) (none : a.to_ask ≡ [])
-      (may : MayFollow limits.version task entries e) (workers : AllWork limits.pools) (few : limits.calls ≤ 100000) where
+      (may : MayFollow limits.version task entries e) (workers : HaveWorkers limits.pools) (few : limits.calls ≤ 100000) where
     no_more : length a.to_ask ≡ 0
     no_more = ap length none
 
@@ -384,7 +384,7 @@ module _ (limits : Limits) (task : Task) (entries : List Entry) (l : Ledger) (a 
 
   module _ (b : Agenda) (dues : List Due) (resting : a.answers ≡ 0) (uncut : a.is_cut ≡ false)
       (turn : AreDueInTurn task l.facts.known l.queue dues) (some : 0 < length dues) (left : asks_of entries < limits.calls)
-      (workers : AllWork limits.pools) where
+      (workers : HaveWorkers limits.pools) where
     may_begin : MayBegin limits task entries
     may_begin =
         let long : length (instances_of dues) ≡ length dues = length-map dues (λ (d : Due). d.instance) in

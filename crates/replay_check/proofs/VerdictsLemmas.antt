@@ -9,7 +9,7 @@ use Rattle.lemmas.proofs.ListTests.{all_by_place}
 use Rattle.level_course.proofs.CoursesTurnLemmas.{turned}
 use Rattle.level_course.specs.Agendas.{place_in}
 use Rattle.level_course.specs.Courses.{at_first}
-use Rattle.level_course.specs.Pools.{AllWork}
+use Rattle.pools.specs.Pools.{HaveWorkers}
 use Rattle.task_model.specs.declared.task.Task.{Task}
 use Rattle.transcript_model.specs.Rounds.{Limits, Share}
 use Rattle.transcript_model.specs.Turns.{AreTurnsOf, IsModeLegal, Stage}
@@ -342,7 +342,7 @@ shared_at task (pool ∷ pools) zero p at =
 shared_at task (pool ∷ pools) (suc k) p at = shared_at task pools k p at
 
 pub pools_work : (task : Task) (pools : List PoolLine) → AreFitPoolLines task pools
-    → AllWork (map (share_in task) pools)
+    → HaveWorkers (map (share_in task) pools)
 pools_work task pools fit =
     all_by_place (λ (p : Share). 1 ≤ p.workers) (map (share_in task) pools) each
   where

@@ -5,7 +5,7 @@ use Rattle.std.proofs.lemmas.List.Elements.{All-contains}
 use Rattle.instance_queue.specs.Level.{AreDueInTurn, instances_of}
 use Rattle.instance_queue.specs.declared.due.Due.{Due}
 use Rattle.level_course.specs.Agendas.{Starts, with_answer, with_asked}
-use Rattle.level_course.specs.Pools.{shares_of}
+use Rattle.pools.specs.Pools.{shares_of}
 use Rattle.lemmas.proofs.Members.{member_at, next_taken}
 use Rattle.task_model.specs.Streams.{MoreAreDue}
 use Rattle.task_model.specs.declared.stream.Instance.{Instance}
@@ -135,7 +135,7 @@ module _ (b : Bounds) (entries : List Entry) (place : ℕ) (s : Standing) (can :
       → n ≡ s.course.next → s.course.to_ask ≡ []
       → 0 < s.course.answers → IsLedger b.version b.task.now (take (place + 1) entries) new.ledger
       → (1 < s.course.answers → new.course ≡ with_answer s.course)
-      → (s.course.answers ≡ 1 → Starts (shares_of b.shares.now) s.course.later (s.course.next + 1) s.course.is_cut new.course)
+      → (s.course.answers ≡ 1 → Starts (shares_of b.pools.now) s.course.later (s.course.next + 1) s.course.is_cut new.course)
       → IsStanding b (take (place + 1) entries) new
   answer_taken new may next none some ledger more last =
       is_taken b entries place s can e there new (by (cases_lt 1 s.course.answers))
@@ -196,14 +196,14 @@ module _ (b : Bounds) (entries : List Entry) (place : ℕ) (s : Standing)
       → s.course.answers ≡ 0 → s.course.is_cut ≡ false
       → AreDueInTurn b.task.now s.ledger.facts.known s.ledger.queue dues → 0 < length dues → before ≡ length s.ledger.asked.items
       → before < b.calls
-      → Starts (shares_of b.shares.now) (take (b.calls - before) (instances_of dues)) (before + 1)
+      → Starts (shares_of b.pools.now) (take (b.calls - before) (instances_of dues)) (before + 1)
       (nat_lt (b.calls - before) (length dues)) new.course
       → IsStanding b (take (place + 1) entries) new
   level_taken new dues before ledger resting uncut turn some is left st =
       let counted : before ≡ asks_of (take place entries) = is ∙ can.standing.ledger.counted in
-      let at : Starts (shares_of b.shares.now) (take (b.calls - asks_of (take place entries)) (instances_of dues))
+      let at : Starts (shares_of b.pools.now) (take (b.calls - asks_of (take place entries)) (instances_of dues))
       (asks_of (take place entries) + 1) (nat_lt (b.calls - asks_of (take place entries)) (length dues)) new.course =
-      subst (λ m. Starts (shares_of b.shares.now) (take (b.calls - m) (instances_of dues)) (m + 1)
+      subst (λ m. Starts (shares_of b.pools.now) (take (b.calls - m) (instances_of dues)) (m + 1)
       (nat_lt (b.calls - m) (length dues)) new.course) counted st in
       is_taken b entries place s can entry.Level there new
       (subst (λ l. StandsBehind (limits_by b) b.task.now (take place entries ++ entry.Level ∷ []) l new.course) (sym ledger)

@@ -17,7 +17,7 @@ use Rattle.transcript_model.specs.declared.head.Mode.TheVariants.{Incremental}
 use Rattle.transcript_model.specs.declared.limits.TheConstants.{MOST_CALLS}
 use Rattle.level_course.specs.Agendas.{Agenda, place_in}
 use Rattle.level_course.specs.Courses.{Leads, at_first}
-use Rattle.level_course.specs.Pools.{AllWork, shares_of}
+use Rattle.pools.specs.Pools.{HaveWorkers, shares_of}
 use Rattle.replay_check.specs.Breaches.{BreaksEntry}
 use Rattle.replay_check.specs.Kinds.{breach_number}
 use Rattle.transcript_ledger.specs.Ledgers.{IsLedger}
@@ -34,13 +34,13 @@ limits_by b = record {
   calls = b.calls;
   states = b.states;
   depth = b.depth;
-  pools = shares_of b.shares.now;
+  pools = shares_of b.pools.now;
 }
 
 -- the task is fit, each pool has a worker, and there are at most 100,000 calls and from 1 to 200,000 states
 pub record AreBounds (b : Bounds) : Type 0 where
   pub fit : IsFit b.task.now
-  pub workers : AllWork (shares_of b.shares.now)
+  pub workers : HaveWorkers (shares_of b.pools.now)
   pub calls : b.calls ≤ MOST_CALLS
   pub some_states : 1 ≤ b.states
   pub few_states : b.states ≤ MOST_STATES

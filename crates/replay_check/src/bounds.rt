@@ -1,5 +1,5 @@
 //! What a transcript is judged by.
-use level_course::Share;
+use pools::Workers;
 use std::alloc::Global;
 use task_model::Task;
 
@@ -12,5 +12,5 @@ pub(crate) struct Bounds<'a> {
     pub(crate) calls: u32,
     pub(crate) states: u32,
     pub(crate) depth: u8,
-    pub(crate) shares: &'a [Share],
+    pub(crate) pools: &'a [Workers],
 }

@@ -10,7 +10,7 @@ ghost use Rattle.transcript_model.specs.declared.outcome.Outcome.TheVariants as 
 ghost use Rattle.task_model.specs.declared.limits.TheConstants.{MOST_STATES};
 
 use crate::bounds::Bounds;
-use best_first::{Blind, Found, exceeds, search};
+use best_first::{Found, GoalCount, exceeds, search};
 use std::alloc::AllocError;
 use transcript_ledger::{Ledger, dues_of};
 
@@ -52,7 +52,13 @@ pub(crate) fn judge_no_plan(
     if !dues.as_slice().is_empty() {
         return Ok(Claim::False);
     }
-    match search(bounds.alloc, bounds.task, &ledger.facts, limit, &mut Blind)? {
+    match search(
+        bounds.alloc,
+        bounds.task,
+        &ledger.facts,
+        limit,
+        &mut GoalCount,
+    )? {
         Found::Nothing => Ok(Claim::True),
         Found::Limit => Ok(Claim::Open),
         Found::Plan(_, _) => {

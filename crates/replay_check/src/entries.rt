@@ -114,7 +114,7 @@ impl Standing {
             entries,
             place,
         )?;
-        self.course.answer(bounds.shares);
+        self.course.answer(bounds.pools);
         Ok(None)
     }
 
@@ -139,7 +139,7 @@ impl Standing {
         if dues.as_slice().is_empty() {
             return Ok(Some(BreachKind::Order));
         }
-        self.course.begin(bounds.shares, dues, before, bounds.calls);
+        self.course.begin(bounds.pools, dues, before, bounds.calls);
         Ok(None)
     }
 

@@ -1,7 +1,7 @@
 //! The head of a report.
 ghost use Rattle.std.specs.Prelude.{◌≡◌, ◌+◌, ◌<◌, ◌≤◌, List, ◌++◌, length, map, take, slice_get, IfErr, IfOk, IfSome, IfNone, false, true};
 ghost use Rattle.std.specs.List.{filter_map, list_any};
-ghost use Rattle.level_course.specs.Pools.{shares_of};
+ghost use Rattle.pools.specs.Pools.{shares_of};
 ghost use Rattle.replay_check.specs.Headed.{IsAfter, IsHeaded};
 ghost use Rattle.replay_check.specs.Heads.{AreFitPoolLines, are_fit_limits as limits_fit, are_new, are_served as all_served, is_fit_pool, share_in};
 ghost use Rattle.task_model.specs.Fit.{IsFit};
@@ -11,7 +11,7 @@ ghost use Rattle.transcript_model.specs.declared.head.PoolLine.{PoolLine as AnyP
 ghost use Rattle.io_world.specs.declared.host.TheConstants.{CHILDREN};
 
 use io_world::CHILDREN;
-use level_course::Share;
+use pools::Workers;
 use std::alloc::{AllocError, Global};
 use task_model::{MOST_STATES, Name, Seq, Task};
 use transcript_ledger::stream_named;
@@ -20,8 +20,8 @@ use transcript_model::{MOST_CALLS, MOST_DEPTH, Mode, PoolLine, Report, WORKERS};
 /// What is said of a head.
 #[derive(Drop)]
 pub(crate) enum Headed {
-    /// It fits the task, and has these pools.
-    Fits(Vec<Share>),
+    /// It fits the task, and has these pools; the children of each have the numbers behind those of the pools before it.
+    Fits(Vec<Workers>),
     /// It breaks a rule first in this line.
     Breaks(usize),
 }
@@ -70,7 +70,7 @@ fn streams_of(
 /// What the pools before have.
 #[derive(Drop)]
 pub(crate) struct Before {
-    pub(crate) shares: Vec<Share>,
+    pub(crate) pools: Vec<Workers>,
     pub(crate) served: Vec<u32>,
     pub(crate) workers: u32,
 }
@@ -85,6 +85,7 @@ impl Before {
         ensures { (before : List AnyPool) → IsAfter task.now before self.old
             → IfOk result (IsPassed task.now before pool.now self.new) }
     {
+        let first = self.workers as u8;
         let workers = pool.workers;
         self.workers += workers as u32;
         if workers < 1 || workers > WORKERS || self.workers > CHILDREN as u32 {
@@ -94,10 +95,9 @@ impl Before {
         let Some(streams) = streams_of(alloc, task, &mut self.served, names)? else {
             return Ok(false);
         };
-        self.shares.push(Share {
-            workers,
-            streams: Seq::from_vec(streams),
-        })?;
+        let streams = Seq::from_vec(streams);
+        let pool = Workers::new(alloc, first, workers, streams, task.streams.len())?;
+        self.pools.push(pool)?;
         Ok(true)
     }
 }
@@ -131,11 +131,11 @@ fn judge_pools(
     alloc: Global,
     task: &Task,
     pools: &[PoolLine],
-) -> Result<Result<Vec<Share>, usize>, AllocError>
+) -> Result<Result<Vec<Workers>, usize>, AllocError>
     requires { IsFit task.now }
     ensures fit { IfOk result (λ judged. IfOk judged
-        (λ shares. AreFitPoolLines task.now pools.now
-        × (shares_of shares.items ≡ map (share_in task.now) pools.now))) }
+        (λ all. AreFitPoolLines task.now pools.now
+        × (shares_of all.items ≡ map (share_in task.now) pools.now))) }
     ensures wrong { IfOk result (λ judged. IfErr judged
         (λ place. AreFitPoolLines task.now (take place pools.now)
         × IfSome (slice_get pools.now place)
@@ -143,7 +143,7 @@ fn judge_pools(
     ensures there { IfOk result (λ judged. IfErr judged (λ place. place < length pools.now)) }
 {
     let mut before = Before {
-        shares: Vec::new(alloc),
+        pools: Vec::new(alloc),
         served: Vec::new(alloc),
         workers: 0,
     };
@@ -152,7 +152,7 @@ fn judge_pools(
             return Ok(Err(place));
         }
     }
-    Ok(Ok(before.shares))
+    Ok(Ok(before.pools))
 }
 
 /// Whether the head fits the task, and if not, its first line that breaks a rule.
@@ -167,12 +167,12 @@ pub(crate) fn judge_head(alloc: Global, task: &Task, report: &Report) -> Result<
         return Ok(Headed::Breaks(2));
     }
     let pools = report.pools.as_slice();
-    let shares = match judge_pools(alloc, task, pools)? {
-        Ok(shares) => shares,
+    let workers = match judge_pools(alloc, task, pools)? {
+        Ok(workers) => workers,
         Err(place) => return Ok(Headed::Breaks(place + 3)),
     };
     if !are_served(task, pools) {
         return Ok(Headed::Breaks(pools.len() + 3));
     }
-    Ok(Headed::Fits(shares))
+    Ok(Headed::Fits(workers))
 }

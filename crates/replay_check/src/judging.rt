@@ -82,8 +82,8 @@ fn judge(alloc: Global, task: &Task, report: &Report, limit: u32) -> Result<Verd
     requires few { limit ≤ MOST_STATES }
     ensures { IfOk result (IsReportVerdict limit task.now report.now) }
 {
-    let shares = match judge_head(alloc, task, report)? {
-        Headed::Fits(shares) => shares,
+    let pools = match judge_head(alloc, task, report)? {
+        Headed::Fits(pools) => pools,
         Headed::Breaks(line) => return Ok(invalid(line, BreachKind::Head)),
     };
     let bounds = Bounds {
@@ -93,7 +93,7 @@ fn judge(alloc: Global, task: &Task, report: &Report, limit: u32) -> Result<Verd
         calls: report.calls,
         states: report.states,
         depth: report.depth,
-        shares: shares.as_slice(),
+        pools: pools.as_slice(),
     };
     judge_rest(&bounds, report, limit)
 }

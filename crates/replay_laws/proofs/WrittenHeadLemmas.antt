@@ -8,9 +8,8 @@ use Rattle.std.specs.List.{list_any, filter_map, flat_map}
 use Rattle.std.specs.Option.{option_map}
 use Rattle.std.proofs.lemmas.Map.Keys.{any_passes_from_place}
 use Rattle.replay_check.specs.Heads.{AreFitPoolLines, IsFitHead, are_new, is_fit_pool, limits_in, served_by, share_in, workers_in}
-use Rattle.session_core.proofs.RoundBeginLemmas.{server_is}
-use Rattle.session_core.specs.Pools.{workers_of}
-use Rattle.session_core.specs.declared.pools.Workers.{Workers}
+use Rattle.pools.proofs.PoolsLemmas.{server_is}
+use Rattle.pools.specs.Pools.{Workers, workers_of}
 use Rattle.task_model.proofs.KnownLemmas.{numbers_decided}
 use Rattle.lemmas.proofs.Members.{member_at, get_append}
 use Rattle.lemmas.proofs.Bools.{and_four}

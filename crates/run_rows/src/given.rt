@@ -5,7 +5,7 @@ ghost use Rattle.io_world.specs.ScriptHostState.{is_running};
 use io_world::{Host, MemFiles, MemSink, Script, ScriptHost};
 use pddlstream_app::{Status, run};
 use std::alloc::{AllocError, Global};
-use worked_tasks::{FETCH, TWO, Texts};
+use worked_tasks::{FETCH, Texts};
 
 /// What a run is given.
 #[derive(Clone, Copy)]
@@ -57,18 +57,6 @@ pub const CUP: Given<'static> = Given {
     host_fails: &[],
     sink_fails: &[],
 };
-
-/// Two grips of one cup and a test, and a child that says nothing.
-pub const PAIR: Given<'static> = Given { texts: TWO, ..CUP };
-
-/// A run of the task of these texts, with a child that says this.
-pub fn run_of<'a>(texts: Texts<'a>, answers: &'a str) -> Given<'a> {
-    Given {
-        texts,
-        answers,
-        ..CUP
-    }
-}
 
 fn strings(alloc: Global, words: &[&str]) -> Result<Vec<String>, AllocError> {
     let mut list = Vec::new(alloc);
@@ -159,44 +147,4 @@ pub fn ran_over<H: Host>(
     let mut sink = MemSink::new(alloc, 7, 100_000, fails)?;
     let status = run(alloc, words.as_slice(), &mut files, host, &mut sink);
     Ok((Vec::from_slice(alloc, sink.taken())?, status))
-}
-
-/// What the run writes, and how it ends.
-fn ran(alloc: Global, given: &Given<'_>) -> Result<(Vec<u8>, Status), AllocError> {
-    let mut host = host_of(alloc, given)?;
-    ran_over(alloc, given, &mut host)
-}
-
-/// A run: what it shows, what it is given, its text, and how it ends.
-pub type Row<'a> = (&'a str, Given<'a>, &'a str, Status);
-
-/// What a run wrote, and how it ended, where it was to write or to end otherwise.
-#[derive(Debug, Drop, PartialEq)]
-pub struct Wrong<'a> {
-    /// What the run was to show.
-    pub shows: &'a str,
-    /// What it wrote.
-    pub text: String,
-    /// How it ended.
-    pub status: Status,
-}
-
-/// The first of these runs that hasn't its text, or doesn't end so.
-///
-/// # Errors
-///
-/// Memory ran out.
-pub fn wrong_row<'a>(alloc: Global, rows: &[Row<'a>]) -> Result<Option<Wrong<'a>>, AllocError> {
-    for (shows, given, want, ends) in rows {
-        let (text, status) = ran(alloc, given)?;
-        if text.as_slice() != want.as_bytes() || status != *ends {
-            let text = String::from_utf8_lossy(alloc, text.as_slice())?;
-            return Ok(Some(Wrong {
-                shows,
-                text,
-                status,
-            }));
-        }
-    }
-    Ok(None)
 }

@@ -3,4 +3,4 @@
 
 mod given;
 
-pub use given::{CUP, Given, PAIR, Row, Wrong, host_of, ran_over, run_of, wrong_row};
+pub use given::{CUP, Given, SOLVE, host_of, ran_over};

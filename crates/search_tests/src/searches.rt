@@ -1,5 +1,8 @@
 //! Searches over two lamps, of which four states are reached, and over an action that costs what a function says.
-use crate::asked::{estimated, exceeded, first_steps, searched, steps_found};
+use crate::asked::{
+    cost_left, estimated, exceeded, first_steps, goals_left, searched, searched_by_costs,
+    searched_by_goals, steps_found,
+};
 use crate::outcome::Outcome;
 use std::test::Fail;
 use worked_tasks::{KEEP, LAMPS, Texts};
@@ -29,6 +32,14 @@ const PRICELESS: Texts<'static> = Texts {
     ..KEEP
 };
 
+/// That three of twenty-three lamps are on. At most two steps reach 1 + 23 + 253 = 277 states, and three are needed.
+const THREE: Texts<'static> = Texts {
+    problem: "(define (problem l) (:domain lamps)
+  (:objects l1 l2 l3 l4 l5 l6 l7 l8 l9 l10 l11 l12 l13 l14 l15 l16 l17 l18 l19 l20 l21 l22 l23)
+  (:goal (and (on l1) (on l2) (on l3))))",
+    ..LAMPS
+};
+
 /// Tasks, limits of states, and what a search comes to.
 const SEARCHES: [(Texts<'static>, u32, Outcome); 8] = [
     // no plan is said where all four states are allowed
@@ -54,6 +65,34 @@ fn a_search_finds_a_plan_or_says_that_there_is_none(rt: HostRuntime) -> Result<(
 }
 
 #[test]
+fn counted_goals_find_the_same_answers(rt: HostRuntime) -> Result<(), Fail> {
+    for (texts, limit, want) in SEARCHES {
+        assert_eq!(rt; searched_by_goals(rt.alloc(), &texts, limit)?, want);
+    }
+    Ok(())
+}
+
+#[test]
+fn counted_goals_find_a_plan_where_the_blind_search_meets_the_limit(
+    rt: HostRuntime,
+) -> Result<(), Fail> {
+    let plan = Outcome::Plan { steps: 3, cost: 3 };
+    assert_eq!(rt; searched_by_goals(rt.alloc(), &THREE, 200)?, plan);
+    assert_eq!(rt; searched(rt.alloc(), &THREE, 200)?, Outcome::Limit);
+    Ok(())
+}
+
+#[test]
+fn the_additive_estimate_finds_the_same_answers(rt: HostRuntime) -> Result<(), Fail> {
+    for (texts, limit, want) in SEARCHES {
+        assert_eq!(rt; searched_by_costs(rt.alloc(), &texts, limit)?, want);
+    }
+    let plan = Outcome::Plan { steps: 3, cost: 3 };
+    assert_eq!(rt; searched_by_costs(rt.alloc(), &THREE, 200)?, plan);
+    Ok(())
+}
+
+#[test]
 fn four_states_exceed_three_and_not_four(rt: HostRuntime) -> Result<(), Fail> {
     assert!(rt; !exceeded(rt.alloc(), &LAMPS, 4)?);
     assert!(rt; exceeded(rt.alloc(), &LAMPS, 3)?);
@@ -72,5 +111,28 @@ fn steps_are_told_with_their_lamps(rt: HostRuntime) -> Result<(), Fail> {
 #[test]
 fn the_blind_estimate_is_always_0(rt: HostRuntime) -> Result<(), Fail> {
     assert_eq!(rt; estimated(rt.alloc(), &LAMPS)?, 0);
+    Ok(())
+}
+
+#[test]
+fn goals_that_are_left_are_counted(rt: HostRuntime) -> Result<(), Fail> {
+    assert_eq!(rt; goals_left(rt.alloc(), &FIRST)?, 1);
+    assert_eq!(rt; goals_left(rt.alloc(), &BOTH)?, 2);
+    assert_eq!(rt; goals_left(rt.alloc(), &ALWAYS)?, 0);
+    // a static atom isn't counted
+    assert_eq!(rt; goals_left(rt.alloc(), &LAMPS)?, 0);
+    // the goal (and (p) (q)), of which p holds
+    assert_eq!(rt; goals_left(rt.alloc(), &KEEP)?, 1);
+    Ok(())
+}
+
+#[test]
+fn costs_that_are_left_are_added_up(rt: HostRuntime) -> Result<(), Fail> {
+    assert_eq!(rt; cost_left(rt.alloc(), &FIRST)?, 1);
+    assert_eq!(rt; cost_left(rt.alloc(), &BOTH)?, 2);
+    assert_eq!(rt; cost_left(rt.alloc(), &ALWAYS)?, 0);
+    assert_eq!(rt; cost_left(rt.alloc(), &THREE)?, 3);
+    // p holds, and the one action that adds q costs 7
+    assert_eq!(rt; cost_left(rt.alloc(), &KEEP)?, 7);
     Ok(())
 }

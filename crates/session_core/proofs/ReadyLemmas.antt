@@ -39,11 +39,10 @@ use Rattle.transcript_model.specs.Transcript.{Asked, asked, certified, known_of,
 use Rattle.transcript_model.specs.declared.entry.Entry.{Entry}
 use Rattle.transcript_model.specs.declared.entry.Entry.TheVariants as entry
 use Rattle.session_core.proofs.RoundCloseLemmas.{close_kept}
-use Rattle.session_core.proofs.ReadyRoundLemmas.{fits_same, workers_fit}
 use Rattle.transcript_model.specs.Legal.{answered_number}
 use Rattle.session_core.specs.Ready.{AreReady, IsNextRound}
 use Rattle.session_core.specs.Session.{IsSession, IsLearnt, AreSlotsFor, Asks, MayBeginRound}
-use Rattle.session_core.specs.Slots.{Slot, streams_of, asks_from, entry_of, answers_of, all_answered}
+use Rattle.session_core.specs.Slots.{Slot, asks_from, entry_of, answers_of, all_answered}
 use Rattle.session_core.specs.State.{State, after_close}
 
 -- ---- lists
@@ -117,7 +116,7 @@ may_begin task s dues count h works learnt ready next =
       turns = subst (λ ns. All (λ (d : Due). d.turn ≡ yields_of ns d.instance) front)
           (sym notes) (All-take (λ (d : Due). d.turn ≡ yields_of (notes_of task s.entries) d.instance) count dues ready.turns);
       distinct = distinct_left (instances_of front) (instances_of (drop count dues)) (subst AreDistinct parts ready.distinct);
-      fit = workers_fit s.pools (streams_of front) (sym (fits_same s.pools front) ∙ next.fit);
+      fit = next.fit;
       left = omega (arith, next.left, length-front);
     }
   where

@@ -6,26 +6,27 @@ use Rattle.std.proofs.lemmas.List.{append-nil, length-map}
 use Rattle.std.proofs.lemmas.Option.{slice_get_within, slice_get-get_or, slice_get-map}
 use Rattle.std.proofs.lemmas.List.Elements.{All-nil, All-cons}
 use Rattle.gen_lines.specs.Request.{IsNamed}
-use Rattle.instance_queue.proofs.InstanceOrderLemmas.{due_in}
+use Rattle.instance_queue.proofs.LevelLemmas.{due_in}
 use Rattle.instance_queue.specs.Level.{instances_of}
 use Rattle.instance_queue.specs.declared.due.Due.{Due}
 use Rattle.lemmas.proofs.Members.{member_at}
+use Rattle.pools.proofs.PoolsLemmas.{server_is, workers_fit}
+use Rattle.pools.specs.Pools.{AreFitPools, HasChild, Workers, child_for, has_stream, server, shares_of, streams_of}
 use Rattle.task_model.specs.Known.{Known, IsIn, IsCoherent}
 use Rattle.lemmas.specs.Lists.{AreDistinct}
 use Rattle.task_model.specs.Streams.{IsDue, yields_of}
 use Rattle.task_model.specs.declared.stream.Instance.{Instance}
 use Rattle.task_model.specs.declared.task.Task.{Task}
 use Rattle.transcript_model.proofs.CoherentLemmas.{coherent}
+use Rattle.transcript_model.specs.Rounds.{fits}
 use Rattle.transcript_model.specs.Transcript.{known_of, notes_of}
 use Rattle.transcript_model.specs.declared.entry.Entry.{Entry}
 use Rattle.session_core.proofs.SessionLemmas.{count_joined, count_one}
 use Rattle.session_core.proofs.SlotsLemmas.{children_of}
 use Rattle.session_core.specs.Events.{IsFresh}
-use Rattle.session_core.specs.Pools.{serves, server, child_for, HasChild, AreFitPools, FitWorkers}
 use Rattle.session_core.specs.Session.{IsSession, AreSlotsFor, MayBeginRound, begun}
-use Rattle.session_core.specs.Slots.{Slot, streams_of, ask_for, asks_from, slot_for, slots_from}
+use Rattle.session_core.specs.Slots.{Slot, ask_for, asks_from, slot_for, slots_from}
 use Rattle.session_core.specs.State.{State, IsSound}
-use Rattle.session_core.specs.declared.pools.Workers.{Workers}
 
 -- ---- one due more
 
@@ -102,17 +103,6 @@ instances_step (u ∷ us) (suc k) d at =
 
 -- ---- children
 
-pub server_is : (pools : List Workers) (stream : ℕ) (p : Workers) → server pools stream ≡ Some p
-    → (k : ℕ) × (slice_get pools k ≡ Some p) × (serves p stream ≡ true)
-server_is [] stream p e = absurd (cc)
-server_is (q ∷ qs) stream p e =
-    elim (serves q stream) as (λ b.
-    serves q stream ≡ b → cond b (Some q) (server qs stream) ≡ Some p
-    → (k : ℕ) × (slice_get (q ∷ qs) k ≡ Some p) × (serves p stream ≡ true)) [
-      | true ↦ λ passes f. let same : q ≡ p = cc in (0, ap Some same, ap (λ w. serves w stream) (sym same) ∙ passes)
-      | false ↦ λ _ f. let r = server_is qs stream p f in (suc r.0, r.1, r.2)
-    ] refl e
-
 count_head : (p : ℕ → Bool) (x : ℕ) (xs : List ℕ)
     → count_by p (x ∷ xs) ≡ cond (p x) 1 0 + count_by p xs
 count_head p x xs = count_joined p (x ∷ []) xs ∙ ap (λ n. n + count_by p xs) (count_one p x)
@@ -153,19 +143,19 @@ record Served (pools : List Workers) (dues : List Due) (k : ℕ) (d : Due) : Typ
   pool : Workers
   place : ℕ
   at : slice_get pools place ≡ Some pool
-  serving : serves pool d.instance.stream ≡ true
-  child : child_for pools (streams_of (take k dues)) d.instance.stream ≡ pool.first + count_by (serves pool) (take k (streams_of dues))
-  inside : count_by (serves pool) (take k (streams_of dues)) + 1 ≤ pool.workers
+  serving : has_stream pool d.instance.stream ≡ true
+  child : child_for pools (streams_of (take k dues)) d.instance.stream ≡ pool.first + count_by (has_stream pool) (take k (streams_of dues))
+  inside : count_by (has_stream pool) (take k (streams_of dues)) + 1 ≤ pool.workers
 
 served_at : (task : Task) (pools : List Workers) (dues : List Due) → AreFitPools task pools
-    → FitWorkers pools (streams_of dues)
+    → fits (shares_of pools) (instances_of dues) ≡ true
     → (k : ℕ) (d : Due) → slice_get dues k ≡ Some d → d.instance.stream < length task.streams → Served pools dues k d
-served_at task pools dues fit fits k d at below =
+served_at task pools dues fit few k d at below =
     let found = fit.served d.instance.stream below in
     let is = server_is pools d.instance.stream found.0 found.1 in
     let stream_at : slice_get (streams_of dues) k ≡ Some d.instance.stream =
     slice_get-map (λ (u : Due). u.instance.stream) dues k ∙ ap (option_map (λ (u : Due). u.instance.stream)) at in
-    let enough = count_whole (serves found.0) (streams_of dues) k d.instance.stream stream_at is.2 in
+    let enough = count_whole (has_stream found.0) (streams_of dues) k d.instance.stream stream_at is.2 in
     record {
       pool = found.0;
       place = is.0;
@@ -173,12 +163,12 @@ served_at task pools dues fit fits k d at below =
       serving = is.2;
       child =
           child_is found.0 found.1
-          ∙ ap (λ xs. found.0.first + count_by (serves found.0) xs) (take_streams dues k);
-      inside = omega (arith, enough, fits is.0 found.0 is.1);
+          ∙ ap (λ xs. found.0.first + count_by (has_stream found.0) xs) (take_streams dues k);
+      inside = omega (arith, enough, workers_fit pools dues few is.0 found.0 is.1);
     }
   where
     child_is : (p : Workers) → server pools d.instance.stream ≡ Some p
-        → child_for pools (streams_of (take k dues)) d.instance.stream ≡ p.first + count_by (serves p) (streams_of (take k dues))
+        → child_for pools (streams_of (take k dues)) d.instance.stream ≡ p.first + count_by (has_stream p) (streams_of (take k dues))
     child_is p e = rw e refl
 
 -- ---- the state with the round
@@ -238,7 +228,7 @@ module _ (task : Task) (s : State) (dues : List Due) (works : s.failed ≡ false
   child_served names version n k c at_k =
       let x = child_at task names version s.pools n [] dues k c at_k in
       let p = served k x.0 x.1 in
-      let is : c ≡ p.pool.first + count_by (serves p.pool) (take k (streams_of dues)) = x.2 ∙ p.child in
+      let is : c ≡ p.pool.first + count_by (has_stream p.pool) (take k (streams_of dues)) = x.2 ∙ p.child in
       (p.place, p.pool, p.at, record { from = omega (arith, is); to = omega (arith, is, p.inside) })
 
   children_apart : (names : List (List ℕ)) (version n j k c : ℕ) → j < k
@@ -249,18 +239,18 @@ module _ (task : Task) (s : State) (dues : List Due) (works : s.failed ≡ false
       let y = child_at task names version s.pools n [] dues k c at_k in
       let p = served j x.0 x.1 in
       let q = served k y.0 y.1 in
-      let c_p : c ≡ p.pool.first + count_by (serves p.pool) (take j (streams_of dues)) = x.2 ∙ p.child in
-      let c_q : c ≡ q.pool.first + count_by (serves q.pool) (take k (streams_of dues)) = y.2 ∙ q.child in
+      let c_p : c ≡ p.pool.first + count_by (has_stream p.pool) (take j (streams_of dues)) = x.2 ∙ p.child in
+      let c_q : c ≡ q.pool.first + count_by (has_stream q.pool) (take k (streams_of dues)) = y.2 ∙ q.child in
       let in_p : HasChild p.pool c = record { from = omega (arith, c_p); to = omega (arith, c_p, p.inside) } in
       let in_q : HasChild q.pool c = record { from = omega (arith, c_q); to = omega (arith, c_q, q.inside) } in
       let place : p.place ≡ q.place = h.pools.apart p.place q.place c p.pool q.pool p.at q.at in_p in_q in
       let same : p.pool ≡ q.pool = same_pool (slice_get s.pools q.place) p.pool q.pool (ap (slice_get s.pools) (sym place) ∙ p.at) q.at in
       let stream_at : slice_get (streams_of dues) j ≡ Some x.0.instance.stream =
       slice_get-map (λ (u : Due). u.instance.stream) dues j ∙ ap (option_map (λ (u : Due). u.instance.stream)) x.1 in
-      let rises = count_passes (serves p.pool) (streams_of dues) j k x.0.instance.stream below stream_at p.serving in
-      let moved : q.pool.first + count_by (serves q.pool) (take k (streams_of dues)) ≡ p.pool.first + count_by
-      (serves p.pool) (take k (streams_of dues)) =
-      ap (λ (w : Workers). w.first + count_by (serves w) (take k (streams_of dues))) (sym same) in
+      let rises = count_passes (has_stream p.pool) (streams_of dues) j k x.0.instance.stream below stream_at p.serving in
+      let moved : q.pool.first + count_by (has_stream q.pool) (take k (streams_of dues)) ≡ p.pool.first + count_by
+      (has_stream p.pool) (take k (streams_of dues)) =
+      ap (λ (w : Workers). w.first + count_by (has_stream w) (take k (streams_of dues))) (sym same) in
       absurd (omega (arith, c_p, c_q, moved, rises))
     where
       same_pool : (o : Option Workers) (a b : Workers) → o ≡ Some a → o ≡ Some b → a ≡ b

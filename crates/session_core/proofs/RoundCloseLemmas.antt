@@ -13,7 +13,7 @@ use Rattle.gen_lines.proofs.ReplyLemmas.{yields_are_right, numbers_are_small}
 use Rattle.gen_lines.specs.Reply as reply
 use Rattle.gen_lines.specs.Reply.{Reply, reply_of}
 use Rattle.gen_lines.specs.declared.answer.Wanted.TheVariants as wanted
-use Rattle.instance_queue.proofs.InstanceOrderLemmas.{due_in}
+use Rattle.instance_queue.proofs.LevelLemmas.{due_in}
 use Rattle.instance_queue.specs.Level.{instances_of}
 use Rattle.instance_queue.specs.declared.due.Due.{Due}
 use Rattle.task_model.specs.Fit.{IsFit}

@@ -1,11 +1,11 @@
 -- The session in which nothing was asked.
 use Rattle.std.proofs.Common.{◌≡◌, ℕ, ◌≤◌, true, false, [], length, take, refl, sym, ap, ◌∙◌, subst, arith, count_by, slice_get}
+use Rattle.pools.specs.Pools.{AreFitPools}
 use Rattle.task_model.specs.Fit.{IsFit}
 use Rattle.task_model.specs.declared.task.Task.{Task}
 use Rattle.transcript_model.specs.Legal.{IsLegal, HasNoneOpen, asks_of, is_answer}
 use Rattle.transcript_model.specs.Transcript.{known_of, notes_of}
 use Rattle.transcript_model.specs.declared.head.Head.{Head}
-use Rattle.session_core.specs.Pools.{AreFitPools}
 use Rattle.session_core.specs.Session.{IsFitHead, IsOf, IsSession}
 use Rattle.session_core.specs.State.{State}
 use Rattle.lemmas.proofs.Options.{none_at}

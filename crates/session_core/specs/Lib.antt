@@ -1,5 +1,4 @@
 pub mod Events
-pub mod Pools
 pub mod Ready
 pub mod Room
 pub mod Heard

@@ -1,18 +1,16 @@
 -- Asks that wait for their round, and how many of them make the next.
-use Rattle.std.specs.Prelude.{◌≡◌, ℕ, ◌+◌, ◌-◌, ◌≤◌, ◌<◌, List, map, length, take, drop, All, true, false, Contains}
+use Rattle.std.specs.Prelude.{◌≡◌, ℕ, ◌+◌, ◌-◌, ◌≤◌, List, length, take, drop, All, true, Contains}
 use Rattle.instance_queue.specs.Level.{instances_of}
 use Rattle.instance_queue.specs.declared.due.Due.{Due}
 use Rattle.lemmas.specs.Lists.{AreDistinct}
+use Rattle.pools.specs.Pools.{shares_of}
 use Rattle.task_model.specs.Streams.{IsDue, yields_of}
 use Rattle.task_model.specs.declared.stream.Instance.{Instance}
 use Rattle.task_model.specs.declared.task.Task.{Task}
-use Rattle.transcript_model.specs.Rounds.{Share, fits, IsFull}
+use Rattle.transcript_model.specs.Rounds.{fits, IsFull}
 use Rattle.transcript_model.specs.Transcript.{known_of, notes_of}
 use Rattle.transcript_model.specs.declared.entry.Entry.{Entry}
-use Rattle.session_core.specs.Pools.{fits_workers}
-use Rattle.session_core.specs.Slots.{streams_of}
 use Rattle.session_core.specs.State.{State}
-use Rattle.session_core.specs.declared.pools.Workers.{Workers}
 
 -- The asks are due after the transcript, each with its turn, and of different instances.
 pub record AreReady (task : Task) (entries : List Entry) (dues : List Due) : Type 0 where
@@ -23,16 +21,6 @@ pub record AreReady (task : Task) (entries : List Entry) (dues : List Due) : Typ
 
 -- ---- rounds
 
--- so many workers for these streams
-abbrev pub share_of : Workers → Share
-share_of pool = record { workers = pool.workers; streams = pool.streams }
-
--- so many of the dues fit the workers, and with the next one they wouldn't
-pub record IsLongestFront (pools : List Workers) (dues : List Due) (count : ℕ) : Type 0 where
-  pub within : count ≤ length dues
-  pub fit : fits_workers pools (streams_of (take count dues)) ≡ true
-  pub full : count < length dues → fits_workers pools (streams_of (take (count + 1) dues)) ≡ false
-
 -- how many more requests may be made
 abbrev pub calls_left : State → ℕ
 calls_left s = s.calls - length s.asked
@@ -41,6 +29,6 @@ calls_left s = s.calls - length s.asked
 pub record IsNextRound (s : State) (dues : List Due) (count : ℕ) : Type 0 where
   pub within : count ≤ length dues
   pub left : length s.asked + count ≤ s.calls
-  pub fit : fits (map share_of s.pools) (instances_of (take count dues)) ≡ true
-  pub full : IsFull (map share_of s.pools)
+  pub fit : fits (shares_of s.pools) (instances_of (take count dues)) ≡ true
+  pub full : IsFull (shares_of s.pools)
       (instances_of (take count dues)) (instances_of (drop count (take (calls_left s) dues)))

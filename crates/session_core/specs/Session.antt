@@ -3,6 +3,7 @@ use Rattle.std.specs.Prelude.{◌≡◌, ℕ, ◌+◌, ◌≤◌, List, [], ◌�
 use Rattle.gen_lines.specs.Reply.{reply_of}
 use Rattle.instance_queue.specs.Level.{instances_of}
 use Rattle.instance_queue.specs.declared.due.Due.{Due}
+use Rattle.pools.specs.Pools.{AreFitPools, shares_of, workers_of}
 use Rattle.task_model.specs.Fit.{IsFit}
 use Rattle.lemmas.specs.Lists.{AreDistinct}
 use Rattle.task_model.specs.Streams.{IsDue, yields_of}
@@ -10,12 +11,12 @@ use Rattle.task_model.specs.declared.stream.Instance.{Instance}
 use Rattle.task_model.specs.declared.stream.Stream.{Stream}
 use Rattle.task_model.specs.declared.task.Task.{Task}
 use Rattle.transcript_model.specs.Legal.{IsLegal, HasNoneOpen, asks_of, is_answer}
+use Rattle.transcript_model.specs.Rounds.{fits}
 use Rattle.transcript_model.specs.Transcript.{asked, names_of, known_of, notes_of}
 use Rattle.transcript_model.specs.declared.entry.Entry.{Entry}
 use Rattle.transcript_model.specs.declared.head.Head.{Head}
 use Rattle.transcript_model.specs.declared.limits.TheConstants.{MOST_CALLS}
-use Rattle.session_core.specs.Pools.{workers_of, AreFitPools, FitWorkers}
-use Rattle.session_core.specs.Slots.{Slot, wanted_at, streams_of, asks_from, slots_from, entry_of}
+use Rattle.session_core.specs.Slots.{Slot, wanted_at, asks_from, slots_from, entry_of}
 use Rattle.session_core.specs.State.{State, with_round, with_learnt}
 use Rattle.session_core.specs.declared.fault.CoreFault.{CoreFault}
 use Rattle.session_core.specs.declared.fault.CoreFault.TheVariants.{Failed, Memory}
@@ -107,7 +108,7 @@ pub record MayBeginRound (task : Task) (s : State) (dues : List Due) : Type 0 wh
   pub due : (i : Instance) → Contains (instances_of dues) i → IsDue task s.known s.notes i
   pub turns : All (λ (d : Due). d.turn ≡ yields_of s.notes d.instance) dues
   pub distinct : AreDistinct (instances_of dues)
-  pub fit : FitWorkers s.pools (streams_of dues)
+  pub fit : fits (shares_of s.pools) (instances_of dues) ≡ true
   pub left : length s.asked + length dues ≤ s.calls
 
 -- a round of these asks is open, of which nothing was sent

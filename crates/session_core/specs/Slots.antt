@@ -1,5 +1,5 @@
 -- The places of a round: what each due asks of which child, and what was heard.
-use Rattle.std.specs.Prelude.{◌≡◌, ℕ, ◌+◌, ◌≤◌, ◌==◌, List, [], ◌∷◌, ◌++◌, map, length, take, Bool, true, false, ◌&&◌, not, Option, None, Some, slice_get, is_none, if◌then◌else◌}
+use Rattle.std.specs.Prelude.{◌≡◌, ℕ, ◌+◌, ◌≤◌, ◌==◌, List, [], ◌∷◌, ◌++◌, length, take, Bool, true, false, ◌&&◌, not, Option, None, Some, slice_get, is_none, if◌then◌else◌}
 use Rattle.std.specs.List.{find, filter_map}
 use Rattle.gen_lines.specs.Reply as reply
 use Rattle.gen_lines.specs.Reply.{Reply, reply_of}
@@ -8,14 +8,13 @@ use Rattle.gen_lines.specs.declared.answer.Wanted.{Wanted}
 use Rattle.gen_lines.specs.declared.answer.Wanted.TheVariants as wanted
 use Rattle.gen_lines.specs.declared.answer.Why.{Why}
 use Rattle.instance_queue.specs.declared.due.Due.{Due}
+use Rattle.pools.specs.Pools.{Workers, child_for, streams_of}
 use Rattle.task_model.specs.declared.stream.Stream.{Stream}
 use Rattle.task_model.specs.declared.task.Task.{Task}
 use Rattle.transcript_model.specs.Legal.{has_several}
 use Rattle.transcript_model.specs.Names.{call_of_instance}
 use Rattle.transcript_model.specs.declared.entry.Entry.{Entry}
 use Rattle.transcript_model.specs.declared.entry.Entry.TheVariants as entry
-use Rattle.session_core.specs.Pools.{child_for}
-use Rattle.session_core.specs.declared.pools.Workers.{Workers}
 
 -- One due of a round: the number of its ask, its child, the request, what may be answered, whether the request was
 -- sent, and the answer if one was heard.
@@ -40,9 +39,6 @@ wanted_at task version stream = of (slice_get task.streams stream)
     of : Option Stream → Wanted
     of (Some s) = wanted_of version s
     of None = wanted.Number
-
-abbrev pub streams_of : List Due → List ℕ
-streams_of = map (λ (d : Due). d.instance.stream)
 
 module _ (task : Task) (names : List (List ℕ)) where
   -- the request of this number, as an entry

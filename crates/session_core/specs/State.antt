@@ -2,12 +2,12 @@
 use Rattle.std.specs.Prelude.{◌≡◌, ℕ, ◌+◌, ◌≤◌, List, [], ◌∷◌, ◌++◌, map, length, Bool, true, false}
 use Rattle.task_model.specs.Known.{Known}
 use Rattle.lemmas.specs.Lists.{AreDistinct}
+use Rattle.pools.specs.Pools.{Workers}
 use Rattle.task_model.specs.Streams.{Note}
 use Rattle.task_model.specs.declared.stream.Instance.{Instance}
 use Rattle.transcript_model.specs.declared.entry.Entry.{Entry}
 use Rattle.transcript_model.specs.declared.limits.TheConstants.{MOST_CALLS}
 use Rattle.session_core.specs.Slots.{Slot, sent_slot, heard_slot, at_child, answers_of}
-use Rattle.session_core.specs.declared.pools.Workers.{Workers}
 
 -- What it was given: the version of the protocol, the most calls, and the pools. The transcript, and the instances that
 -- were asked. What is known and noted, and of how many entries. The open round: its requests as entries, their

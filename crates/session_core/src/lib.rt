@@ -6,7 +6,6 @@ mod cell;
 mod fault;
 pub mod laws;
 mod learn;
-mod pools;
 mod room;
 mod round;
 mod session;

@@ -1,10 +1,10 @@
 //! The session.
 use crate::fault::{CoreFault, Heard};
 use crate::learn::learn_from;
-use crate::pools::{Workers, longest_front, workers_in};
 use crate::round::{Round, Scene, are_answered, cell_of, place_of, put_answers, round_of};
 use fact_store::Facts;
 use instance_queue::{Due, Queue, QueueFault};
+use pools::{Workers, longest_front, workers_in};
 use std::alloc::{AllocError, Global};
 use std::marker::Model;
 use std::mem;
@@ -71,7 +71,7 @@ impl Session {
         ensures first { IfOk result (IsNew task.now) }
         ensures session { IfOk result (IsSession task.now) }
     {
-        let pools = workers_in(alloc, head.pools.as_slice())?;
+        let pools = workers_in(alloc, head.pools.as_slice(), task.streams.len())?;
         let facts = Facts::new(alloc, task)?;
         let queue = Queue::new(alloc, task)?;
         Ok(Session {

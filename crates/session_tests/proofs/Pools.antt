@@ -5,14 +5,13 @@ use Rattle.lemmas.proofs.Numbers.{in_numbers}
 use Rattle.lemmas.proofs.Members.{get_single}
 use Rattle.lemmas.specs.Lists.{numbers_from}
 use Rattle.task_model.specs.declared.task.Task.{Task}
-use Rattle.session_core.specs.Pools.{AreFitPools, serves, server}
-use Rattle.session_core.specs.declared.pools.Workers.{Workers}
+use Rattle.pools.specs.Pools.{AreFitPools, Workers, has_stream, server}
 
 module _ (task : Task) (pool : Workers) (first : pool.first ≡ 0) (some : 1 ≤ pool.workers)
     (few : pool.workers ≤ 16) (streams : pool.streams ≡ numbers_from 0 (length task.streams)) where
   served_by : (stream : ℕ) → stream < length task.streams → server (pool ∷ []) stream ≡ Some pool
   served_by stream lt =
-      let serving : serves pool stream ≡ true =
+      let serving : has_stream pool stream ≡ true =
       ap (λ ns. list_any (λ s. s == stream) ns) streams ∙ in_numbers 0 (length task.streams) stream (omega arith) (omega (arith, lt)) in
       ap (λ b. cond b (Some pool) None) serving
 

@@ -1,4 +1,4 @@
-use Rattle.std.proofs.Common.{true, false, arith}
+use Rattle.std.proofs.Common.{arith}
 use Rattle.lemmas.proofs.Bools.{not_both}
 use Rattle.best_first.proofs.ExploredLemmas.{grown_met, grown_explored, grown_beyond, grown_place}
 use Rattle.best_first.specs.Explored.{ExploringEnds}

@@ -1,57 +1,51 @@
-use Rattle.std.proofs.Common.{◌∷◌, [], ◌++◌, sym, ap, subst, ◌∙◌, refl, if◌then◌else◌}
-use Rattle.lemmas.proofs.Members.{member_at}
-use Rattle.task_model.specs.Steps.{IsStep}
+use Rattle.std.proofs.Common.{refl, subst}
 use Rattle.best_first.proofs.ExploredLemmas.{on_ok}
+use Rattle.best_first.proofs.TreesLemmas.{grows_leads}
+use Rattle.best_first.specs.Explored.{Grows, IsAdded}
 use Rattle.best_first.proofs.expand.visit.Goals as goal
-
-pub returns-then-not-fresh-clause-kept : goal.returns-then-not-fresh-clause-kept
-returns-then-not-fresh-clause-kept g c =
-    let applied = c.in_ok-applied.applied in (
-      applied.state,
-      applied.cost,
-      c.in_ok-applied.ensures.step,
-      member_at c.intern.new.self c.in_ok-id.id applied.state c.in_ok-id.ensures.place,
-    )
 
 pub settle-requires-clause-grown : goal.settle-requires-clause-grown
 settle-requires-clause-grown g c =
     let scene = c.args.scene.now in
     let known = g.L.Look.known scene.look.now in
-    let applied = c.in_ok-applied.applied in
-    let old = c.args.tree.now.store in
+    let old = c.args.tree.now in
+    let new = c.grow.new.tree in
+    let cost = c.in-Some.field-0-1 in
+    let added : IsAdded scene.task.now known old.store old.links.items c.args.from c.args.state.now c.args.step.now new.store
+    new.links.items c.in-Some.id cost =
+    subst
+    (Grows scene.task.now known old.store old.links.items c.args.from c.args.state.now c.args.step.now new.store new.links.items)
+    c.in-Some.is c.in_ok-id.ensures in
     record {
-      before = old;
-      earlier = c.args.tree.now.links.items;
+      before = old.store;
+      earlier = old.links.items;
       source = c.args.state.now;
-      after = applied.state;
-      link = record { parent = c.args.from; step = c.in_ok-step.step; cost = applied.cost };
+      after = added.after;
+      link = record { parent = c.args.from; step = c.args.step.now; cost = cost };
       explored = c.requires.explored;
       here = c.requires.here;
       parent = refl;
-      step = subst (λ s. IsStep scene.task.now known c.args.state.now s applied.state applied.cost)
-          (sym c.in_ok-step.ensures) c.in_ok-applied.ensures.step;
-      small = c.in_ok-applied.ensures.small;
-      fresh = c.in_ok-id.ensures.fresh.0 c.if-not-fresh.false;
-      states_are =
-          c.in_ok-id.ensures.states
-          ∙ ap (λ b. if b then old ++ applied.state ∷ [] else old) c.if-not-fresh.false;
-      links_are = c.in_ok-push.ensures.items;
-      place = c.in_ok-id.ensures.place;
+      step = added.leads;
+      small = added.small;
+      fresh = added.fresh;
+      states_are = added.states_are;
+      links_are = added.links_are;
+      place = added.place;
     }
 
-pub returns-clause-grows : goal.returns-clause-grows
-returns-clause-grows g c =
-    let applied = c.in_ok-applied.applied in
-    let old = c.args.tree.now.store in
+pub returns-in-Some-clause-leads : goal.returns-in-Some-clause-leads
+returns-in-Some-clause-leads g c =
+    let scene = c.args.scene.now in
+    let old = c.args.tree.now in
+    let new = c.grow.new.tree in
     on_ok c.settle.result
-    (applied.state ∷ [], c.in_ok-id.ensures.states ∙ ap (λ b. if b then old ++ applied.state ∷ [] else old) c.if-not-fresh.false)
+    (grows_leads scene.task.now (g.L.Look.known scene.look.now) old.store old.links.items c.args.from c.args.state.now c.args.step.now
+    new.store new.links.items c.in_ok-id.field-0 c.in_ok-id.ensures)
 
-pub returns-clause-kept : goal.returns-clause-kept
-returns-clause-kept g c =
-    let applied = c.in_ok-applied.applied in
-    on_ok c.settle.result (
-      applied.state,
-      applied.cost,
-      c.in_ok-applied.ensures.step,
-      member_at c.intern.new.self c.in_ok-id.id applied.state c.in_ok-id.ensures.place,
-    )
+pub returns-in-None-clause-leads : goal.returns-in-None-clause-leads
+returns-in-None-clause-leads g c =
+    let scene = c.args.scene.now in
+    let old = c.args.tree.now in
+    let new = c.grow.new.tree in
+    grows_leads scene.task.now (g.L.Look.known scene.look.now) old.store old.links.items c.args.from c.args.state.now c.args.step.now
+    new.store new.links.items c.in_ok-id.field-0 c.in_ok-id.ensures

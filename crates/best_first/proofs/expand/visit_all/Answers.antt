@@ -27,7 +27,7 @@ loop-step-preserved g c =
     c.in-On.is c.in_ok-visit.ensures.comes in
     expanding_next scene.task.now known scene.seeks_goal scene.limit c.loop-step.tree.store c.loop-step.tree.links.items c.args.from
     c.args.state.now c.args.steps.now c.loop-step.step-index c.visit.new.tree.store c.visit.new.tree.links.items c.step-item.result
-    c.loop-step.invariant at e c.in_ok-visit.ensures.grows c.in_ok-visit.ensures.kept
+    c.loop-step.invariant at e c.in_ok-visit.ensures.leads
 
 pub returns : goal.returns
 returns g c =

@@ -1,4 +1,4 @@
-use Rattle.std.proofs.Common.{◌≡◌, ◌∷◌, [], true, false, sym, ap, subst, arith, Some, slice_get}
+use Rattle.std.proofs.Common.{◌≡◌, ◌∷◌, [], sym, ap, subst, arith, Some, slice_get}
 use Rattle.lemmas.proofs.Bools.{not_both}
 use Rattle.task_model.specs.Initial.{initial_state}
 use Rattle.best_first.specs.Explored.{ExploringEnds, IsExplored, IsMet}

@@ -2,7 +2,7 @@ use Rattle.std.proofs.Common.{◌≡◌, ◌+◌, ◌++◌, ◌<◌, ◌≤◌, 
 use Rattle.std.proofs.lemmas.List.{length-take-le, length-drop}
 use Rattle.instance_queue.specs.Level.{instances_of}
 use Rattle.session_core.specs.Ready.{AreReady}
-use Rattle.session_core.specs.declared.pools.Workers.{Workers}
+use Rattle.pools.specs.Pools.{Workers}
 use Rattle.transcript_model.specs.Legal.{asks_of}
 use Rattle.transcript_model.specs.Rounds.{IsBatch, IsRound, limits_of}
 use Rattle.transcript_model.specs.declared.entry.Entry.{Entry}

@@ -12,8 +12,8 @@ returns-in-Err c =
     let place = c.in-Err.place in
     let mode : r.mode ≡ Incremental = search (rules, tests) in
     let limits : are_fit_limits r ≡ true = search (rules, tests) in
-    let wrong = rw c.in-Err.is at c.in_ok-shares.ensures.wrong in
-    let there = rw c.in-Err.is at c.in_ok-shares.ensures.there in
+    let wrong = rw c.in-Err.is at c.in_ok-workers.ensures.wrong in
+    let there = rw c.in-Err.is at c.in_ok-workers.ensures.there in
     let pools = c.as_slice-pools.ensures in
     first_wrong task r place mode limits (subst (λ (ps : List PoolLine). AreFitPoolLines task (take place ps)) pools wrong.0)
     (subst (λ (ps : List PoolLine). place < length ps) pools there)

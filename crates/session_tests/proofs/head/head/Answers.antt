@@ -1,6 +1,5 @@
 use Rattle.std.proofs.Common.{ap, sym, subst, map, length, refl}
-use Rattle.session_core.specs.Pools.{AreFitPools, workers_of}
-use Rattle.session_core.specs.declared.pools.Workers.{Workers}
+use Rattle.pools.specs.Pools.{AreFitPools, Workers, workers_of}
 use Rattle.lemmas.specs.Lists.{numbers_from}
 use Rattle.session_tests.proofs.Pools.{one_pool}
 use Rattle.session_tests.proofs.head.head.Goals as goal

@@ -19,5 +19,11 @@ overflow_add-result c =
     (λ _. refl) c.args.facts.now in
     omega (arith, sum_is c, all)
 
-pub returns : goal.returns
-returns c = sum_is c
+pub returns-clause-count : goal.returns-clause-count
+returns-clause-count c = sum_is c
+
+pub returns-clause-few : goal.returns-clause-few
+returns-clause-few c =
+    let all = length-filter_both (has_key c.args.group c.args.key) (λ f. not (has_key c.args.group c.args.key f))
+    (λ _. refl) c.args.facts.now in
+    omega (arith, sum_is c, all)

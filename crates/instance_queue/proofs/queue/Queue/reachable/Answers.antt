@@ -1,5 +1,5 @@
 use Rattle.std.proofs.Common.{sym}
-use Rattle.instance_queue.proofs.ReadableLemmas.{fit_readable_stream}
+use Rattle.instance_search.proofs.ReadableLemmas.{fit_readable_stream}
 use Rattle.instance_queue.proofs.queue.Queue.reachable.Goals as goal
 
 pub is_reachable-requires : goal.is_reachable-requires

@@ -1,15 +1,15 @@
 use Rattle.std.proofs.Common.{◌≡◌, ◌∙◌, subst, ap, drop, ◌+◌, List}
 use Rattle.instance_queue.specs.Level.{instances_of}
 use Rattle.instance_queue.specs.declared.due.Due.{Due}
+use Rattle.pools.specs.Pools.{IsLongestFront, shares_of}
 use Rattle.level_course.proofs.AgendasLemmas.{none_to_ask, next_round}
 use Rattle.level_course.specs.Agendas.{Agenda, Starts, shown}
-use Rattle.level_course.specs.Pools.{IsLongestFront, shares_of}
 use Rattle.level_course.proofs.course.Course.answer.Goals as goal
 
 pub returns-then-self-clause-last : goal.returns-then-self-clause-last
 returns-then-self-clause-last c = λ one.
     let s = c.self.inside in
-    let pools = shares_of c.args.shares.now in
+    let pools = shares_of c.args.pools.now in
     let count = c.longest_front-count.result in
     let asked = none_to_ask s c.args.self.now c.self.invariant c.self.view_is c.requires.asked in
     let behind : c.split_at.result.1.now ≡ drop s.round s.dues.items =

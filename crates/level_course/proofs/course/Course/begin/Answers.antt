@@ -2,16 +2,16 @@ use Rattle.std.proofs.Common.{◌≡◌, ◌∙◌, refl, sym, subst, ap, ◌+�
 use Rattle.std.proofs.lemmas.List.{take-map}
 use Rattle.instance_queue.specs.Level.{instances_of}
 use Rattle.instance_queue.specs.declared.due.Due.{Due}
+use Rattle.pools.specs.Pools.{IsLongestFront, shares_of}
 use Rattle.level_course.proofs.AgendasLemmas.{first_round}
 use Rattle.level_course.specs.Agendas.{Starts, shown}
-use Rattle.level_course.specs.Pools.{IsLongestFront, shares_of}
 use Rattle.level_course.proofs.course.Course.begin.Goals as goal
 
 pub returns : goal.returns
 returns c =
     let left = c.args.calls - c.args.before in
     let dues = c.truncate.new.self in
-    let pools = shares_of c.args.shares.now in
+    let pools = shares_of c.args.pools.now in
     let count = c.longest_front-self-inside.result in
     let front : IsLongestFront pools (instances_of dues.items) count =
     subst (λ (ds : List Due). IsLongestFront pools (instances_of ds) count) c.as_slice.ensures.value c.longest_front-self-inside.ensures

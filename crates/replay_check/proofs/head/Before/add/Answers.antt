@@ -1,8 +1,7 @@
-use Rattle.std.proofs.Common.{◌≡◌, ◌+◌, ◌≤◌, ◌++◌, List, ℕ, sym, ap, arith, ◌∙◌, refl}
+use Rattle.std.proofs.Common.{◌≡◌, ◌+◌, ◌≤◌, ◌++◌, List, [], ◌∷◌, ℕ, sym, ap, arith, ◌∙◌, refl}
 use Rattle.std.specs.List.{filter_map}
 use Rattle.transcript_model.specs.Names.{stream_named}
-use Rattle.level_course.specs.Pools.{share_of}
-use Rattle.level_course.specs.declared.shares.Share.{Share}
+use Rattle.pools.specs.Pools.{Workers, share_of}
 use Rattle.replay_check.specs.Heads.{are_new, share_in, streams_in}
 use Rattle.replay_check.proofs.HeadsPoolLemmas.{pool_fits, pool_passed}
 use Rattle.replay_check.proofs.head.Before.add.Goals as goal
@@ -18,10 +17,11 @@ returns c = λ before h.
     let together : b.workers + pool.workers ≤ 17 = omega arith in
     let fits = pool_fits task before pool b h (omega arith) (omega arith) together
     (ap (are_new task b.served.items) (sym names) ∙ found.0) in
-    let share : Share = record { workers = pool.workers; streams = c.from_vec.result } in
-    let is : share_of share ≡ share_in task pool =
-    ap (λ (s : List ℕ). record { workers = pool.workers; streams = s }) (c.from_vec.ensures ∙ streams) in (
+    let own : Workers = record { first = b.workers; workers = pool.workers; streams = c.from_vec-streams.result } in
+    let is : share_of own ≡ share_in task pool =
+    ap (λ (s : List ℕ). record { workers = pool.workers; streams = s }) (c.from_vec-streams.ensures ∙ streams) in (
       fits,
-      pool_passed task before pool b h _ share fits together c.in_ok-push.ensures.items is
+      pool_passed task before pool b h _ own fits together
+          (c.in_ok-push.ensures.items ∙ ap (λ (w : Workers). b.pools.items ++ w ∷ []) c.in_ok-pool.ensures) is
           (found.2 ∙ ap (λ (s : List ℕ). b.served.items ++ s) streams) refl,
     )

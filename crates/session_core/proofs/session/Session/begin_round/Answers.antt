@@ -1,10 +1,10 @@
 use Rattle.std.proofs.Common.{◌≡◌, ap, sym, subst, ◌∙◌, ◌+◌, ◌≤◌, false, length, [], take, vec_len, vec_capacity, arith}
 use Rattle.session_core.proofs.RoundBeginLemmas.{the_state, named_all, children_fit, begun_sound, begun_fresh, begin_kept}
 use Rattle.session_core.specs.Events.{IsFresh}
-use Rattle.session_core.specs.Pools.{child_for}
+use Rattle.pools.specs.Pools.{child_for, streams_of}
 use Rattle.session_core.specs.Session.{IsSession, MayBeginRound}
 use Rattle.session_core.specs.Shown.{shown}
-use Rattle.session_core.specs.Slots.{asks_from, slots_from, streams_of}
+use Rattle.session_core.specs.Slots.{asks_from, slots_from}
 use Rattle.session_core.specs.State.{State, IsSound}
 use Rattle.session_core.proofs.session.Session.begin_round.Goals as goal
 

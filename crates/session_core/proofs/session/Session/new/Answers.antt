@@ -1,5 +1,5 @@
 use Rattle.std.proofs.Common.{refl, ap, map, ◌∙◌}
-use Rattle.session_core.specs.Pools.{workers_of}
+use Rattle.pools.specs.Pools.{workers_of}
 use Rattle.session_core.proofs.SessionNewLemmas.{new_session}
 use Rattle.session_core.proofs.session.Session.new.Goals as goal
 

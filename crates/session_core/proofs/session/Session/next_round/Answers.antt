@@ -1,8 +1,12 @@
 use Rattle.std.proofs.Common.{◌≡◌, ◌-◌, ◌<◌, length, take, min, arith, ap, sym, subst, ◌∙◌}
-use Rattle.std.proofs.lemmas.List.{length-take}
-use Rattle.session_core.proofs.ReadyRoundLemmas.{next_is, some_front}
+use Rattle.std.proofs.lemmas.List.{length-map, length-take}
+use Rattle.instance_queue.specs.Level.{instances_of}
+use Rattle.instance_queue.specs.declared.due.Due.{Due}
+use Rattle.pools.proofs.PoolsLemmas.{have_workers}
+use Rattle.pools.specs.Pools.{IsLongestFront, shares_of}
+use Rattle.session_core.proofs.ReadyRoundLemmas.{next_is}
 use Rattle.session_core.proofs.ReadyLemmas.{may_begin}
-use Rattle.session_core.specs.Ready.{IsLongestFront, IsNextRound, calls_left}
+use Rattle.session_core.specs.Ready.{IsNextRound, calls_left}
 use Rattle.session_core.specs.Session.{IsSession}
 use Rattle.session_core.specs.Shown.{shown}
 use Rattle.session_core.specs.State.{State}
@@ -15,8 +19,8 @@ returns-clause-cut c =
     let asked : c.len.result ≡ length s.asked = c.len.ensures ∙ c.self.inside.asked.ok.0 in
     let most : c.min-most.result ≡ min (length dues) (calls_left s) =
     c.min-most.ensures ∙ ap (λ n. min (length dues) (s.calls - n)) asked in
-    let longest : IsLongestFront s.pools (take c.min-most.result dues) c.longest_front.result =
-    subst (λ ps. IsLongestFront ps (take c.min-most.result dues) c.longest_front.result) c.as_slice.ensures.value
+    let longest : IsLongestFront (shares_of s.pools) (instances_of (take c.min-most.result dues)) c.longest_front.result =
+    subst (λ ps. IsLongestFront (shares_of ps) (instances_of (take c.min-most.result dues)) c.longest_front.result) c.as_slice.ensures.value
     c.longest_front.ensures in
     subst (λ (t : State). IsNextRound t dues c.longest_front.result) c.self.view_is
     (next_is s dues c.min-most.result c.longest_front.result (omega (arith, c.self.invariant.few)) most longest)
@@ -29,12 +33,19 @@ returns-clause-some c = λ task h there left.
     let asked : c.len.result ≡ length s.asked = c.len.ensures ∙ c.self.inside.asked.ok.0 in
     let most : c.min-most.result ≡ min (length dues) (calls_left s) =
     c.min-most.ensures ∙ ap (λ n. min (length dues) (s.calls - n)) asked in
-    let longest : IsLongestFront s.pools (take c.min-most.result dues) c.longest_front.result =
-    subst (λ ps. IsLongestFront ps (take c.min-most.result dues) c.longest_front.result) c.as_slice.ensures.value
+    let longest : IsLongestFront (shares_of s.pools) (instances_of (take c.min-most.result dues)) c.longest_front.result =
+    subst (λ ps. IsLongestFront (shares_of ps) (instances_of (take c.min-most.result dues)) c.longest_front.result) c.as_slice.ensures.value
     c.longest_front.ensures in
     let room : length s.asked < s.calls = subst (λ (t : State). length t.asked < t.calls) (sym c.self.view_is) left in
-    some_front s.pools (take c.min-most.result dues) c.longest_front.result longest was.pools.some
-    (omega (arith, length-take c.min-most.result dues, most, there, room))
+    longest.some (have_workers task s.pools was.pools)
+    (omega (
+      arith,
+      length-map (take c.min-most.result dues) (λ (d : Due). d.instance),
+      length-take c.min-most.result dues,
+      most,
+      there,
+      room,
+    ))
 
 pub returns-clause-may : goal.returns-clause-may
 returns-clause-may c =

@@ -1,0 +1,15 @@
+-- What is known of a store with names, facts and values behind its own.
+use Rattle.std.specs.Prelude.{ℕ, List, ◌++◌, min, Option, None, Some}
+use Rattle.task_model.specs.Known.{Known}
+use Rattle.task_model.specs.declared.fact.Fact.{Fact}
+use Rattle.task_model.specs.declared.task.Valued.{Valued}
+
+abbrev pub laid_over : Known → List (List ℕ) → List Fact → List Valued → Known
+laid_over known names facts values =
+    record { names = known.names ++ names; facts = known.facts ++ facts; values = known.values ++ values }
+
+-- the lesser of two numbers, or the one that there is
+abbrev pub lesser_of : Option ℕ → Option ℕ → Option ℕ
+lesser_of None second = second
+lesser_of (Some n) None = Some n
+lesser_of (Some n) (Some m) = Some (min n m)

@@ -1,0 +1,5 @@
+mod PlaceholderLemmas
+mod SupposingLemmas
+mod DraftLemmas
+mod PassLemmas
+mod TriedLemmas

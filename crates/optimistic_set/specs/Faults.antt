@@ -1,0 +1,21 @@
+-- When there is no list of entries.
+use Rattle.std.specs.Prelude.{ℕ, List}
+use Rattle.fact_join.specs.declared.query.JoinFault.{JoinFault}
+use Rattle.fact_join.specs.declared.query.JoinFault.TheVariants as join
+use Rattle.task_model.specs.Known.{Known}
+use Rattle.task_model.specs.Streams.{Note}
+use Rattle.task_model.specs.declared.stream.Instance.{Instance}
+use Rattle.task_model.specs.declared.task.Task.{Task}
+use Rattle.transcript_model.specs.Dreaming.{MoreAreSupposed}
+use Rattle.optimistic_set.specs.declared.fault.OptimisticFault.{OptimisticFault}
+use Rattle.optimistic_set.specs.declared.fault.OptimisticFault.TheVariants.{TooManyEntries, Memory}
+
+-- the faults of a join as faults of a list
+abbrev pub fault_of : JoinFault → OptimisticFault
+fault_of join.TooMany = TooManyEntries
+fault_of join.Memory = Memory
+
+-- what is true where there is no list
+abbrev pub ComesOf : Task → Known → List Note → List Instance → ℕ → OptimisticFault → Type 0
+ComesOf task known notes tried depth TooManyEntries = MoreAreSupposed 20000 task known notes tried depth
+ComesOf task known notes tried depth Memory = Unit {0}

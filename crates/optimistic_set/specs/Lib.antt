@@ -1,0 +1,5 @@
+pub mod Dreamable
+pub mod Drafts
+pub mod Entries
+pub mod Faults
+pub mod Members

@@ -1,0 +1,9 @@
+pub mod BatchLemmas
+pub mod BoundedLemmas
+pub mod DuesLemmas
+pub mod LevelLemmas
+pub mod OneLemmas
+pub mod RequestedLemmas
+pub mod SaidLemmas
+pub mod SettledLemmas
+pub mod TurnsLemmas

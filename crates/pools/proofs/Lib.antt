@@ -1,0 +1,3 @@
+pub mod PoolsFrontLemmas
+pub mod PoolsLemmas
+pub mod ServedLemmas

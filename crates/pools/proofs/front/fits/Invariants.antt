@@ -1,0 +1,10 @@
+use Rattle.std.proofs.Common.{◌≡◌, drop}
+use Rattle.instance_queue.specs.Level.{instances_of}
+use Rattle.pools.specs.Pools.{shares_of}
+use Rattle.transcript_model.specs.Rounds.{fits}
+use Rattle.pools.proofs.front.fits.Given as goal
+
+-- what is left decides
+abbrev pub invariant-loop-pool : goal.invariant-loop-pool
+invariant-loop-pool l =
+    fits (shares_of (drop l.pool-index l.pools)) (instances_of l.dues) ≡ fits (shares_of l.pools) (instances_of l.dues)
