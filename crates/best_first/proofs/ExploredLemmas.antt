@@ -12,7 +12,7 @@ use Rattle.task_model.specs.State.{Atoms}
 use Rattle.task_model.specs.Steps.{IsStep}
 use Rattle.task_model.specs.declared.task.GroundAction.{GroundAction}
 use Rattle.task_model.specs.declared.task.Task.{Task}
-use Rattle.best_first.specs.Explored.{IsTree, ExploringEnds, IsExplored, IsGrown, IsMet, IsBeyond, Leads}
+use Rattle.best_first.specs.Explored.{IsTree, ExploringEnds, IsExplored, IsGrown, IsMet, IsBeyond, LeadsToState}
 use Rattle.best_first.specs.Outcome.{IsAll}
 use Rattle.best_first.specs.declared.tree.Link.{Link}
 use Rattle.lemmas.proofs.ListTests.{one_there, all_by_place}
@@ -223,7 +223,7 @@ module _ (task : Task) (known : Known) where
         (count : ℕ) (new : List Atoms) (new_links : List Link) (step : GroundAction)
         → IsExpanding states links from state steps count → slice_get steps count ≡ Some step
         → IsExplored task known seeks limit new new_links from
-        → Leads task known states state step new
+        → LeadsToState task known states state step new
         → IsExpanding new new_links from state steps (count + 1)
     expanding_next states links from state steps count new new_links step is at e leads =
         record {

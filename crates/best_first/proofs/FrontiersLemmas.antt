@@ -16,7 +16,7 @@ use Rattle.task_model.specs.Steps.{IsStep}
 use Rattle.task_model.specs.declared.task.GroundAction.{GroundAction}
 use Rattle.task_model.specs.declared.task.Task.{Task}
 use Rattle.best_first.proofs.TreesLemmas.{AreTaken, all_taken, closed_all, grown_tree, met_last, start_tree, still_there, taken_next}
-use Rattle.best_first.specs.Explored.{IsAdded, IsMet, IsTree, Leads}
+use Rattle.best_first.specs.Explored.{IsAdded, IsMet, IsTree, LeadsToState}
 use Rattle.best_first.specs.Frontiers.{IsExpanded, IsFrontier, IsOpen, IsWidened, closed_count, in_heap}
 use Rattle.best_first.specs.Outcome.{IsAll}
 use Rattle.best_first.specs.declared.best.Open.{Open}
@@ -237,7 +237,7 @@ module _ (task : Task) (known : Known) where
         → IsVisiting states links queue from closed state steps count → slice_get steps count ≡ Some step
         → IsFrontier task known limit new new_links (in_heap from ∷ now)
         × (closed_count new (in_heap from ∷ now) ≡ closed_count states (in_heap from ∷ queue))
-        → Leads task known states state step new
+        → LeadsToState task known states state step new
         → IsVisiting new new_links now from closed state steps (count + 1)
     visiting_next states links queue from closed state steps count new new_links now step v at f leads = record {
       frontier = f.0;

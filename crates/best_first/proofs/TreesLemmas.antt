@@ -17,7 +17,7 @@ use Rattle.task_model.specs.State.{Atoms}
 use Rattle.task_model.specs.Steps.{IsStep}
 use Rattle.task_model.specs.declared.task.GroundAction.{GroundAction}
 use Rattle.task_model.specs.declared.task.Task.{Task}
-use Rattle.best_first.specs.Explored.{ExploringEnds, Grows, IsLink, IsMet, IsTree, Leads}
+use Rattle.best_first.specs.Explored.{ExploringEnds, Grows, IsLink, IsMet, IsTree, LeadsToState}
 use Rattle.best_first.specs.Outcome.{IsAll}
 use Rattle.best_first.specs.declared.tree.Link.{Link}
 
@@ -90,14 +90,14 @@ module _ (task : Task) (known : Known) where
       → Contains states after
 
   pub still_there : (states new : List Atoms) (source : Atoms) (step : GroundAction) (n : ℕ) (s : Atoms)
-      → Leads task known states source step new → slice_get states n ≡ Some s
+      → LeadsToState task known states source step new → slice_get states n ≡ Some s
       → slice_get new n ≡ Some s
   still_there states new source step n s leads here =
       subst (λ ss. slice_get ss n ≡ Some s) (sym leads.states_are) (get_append states leads.more n s here)
 
   pub taken_next : (states new : List Atoms) (state : Atoms) (steps : List GroundAction) (count : ℕ) (step : GroundAction)
       → AreTaken states state steps count → slice_get steps count ≡ Some step
-      → Leads task known states state step new → AreTaken new state steps (count + 1)
+      → LeadsToState task known states state step new → AreTaken new state steps (count + 1)
   taken_next states new state steps count step before at leads n other after cost h found taken =
       elim (cases_lt n count) [
         | inl earlier ↦
@@ -125,7 +125,7 @@ module _ (task : Task) (known : Known) where
   pub grows_leads : (before : List Atoms) (earlier : List Link) (from : ℕ) (source : Atoms) (step : GroundAction)
       (states : List Atoms) (links : List Link) (found : Option (ℕ × ℕ))
       → Grows task known before earlier from source step states links found
-      → Leads task known before source step states
+      → LeadsToState task known before source step states
   grows_leads before earlier from source step states links (Some found) g = record {
     more = g.after ∷ [];
     states_are = g.states_are;

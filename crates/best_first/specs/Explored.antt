@@ -82,7 +82,8 @@ module _ (task : Task) (known : Known) where
   Grows before earlier from source step states links None = IsKept before earlier source step states links
 
   -- The states are there still, others behind them, and the step leads to one of them all.
-  pub record Leads (before : List Atoms) (source : Atoms) (step : GroundAction) (states : List Atoms) : Type 0 where
+  pub record LeadsToState (before : List Atoms) (source : Atoms) (step : GroundAction)
+      (states : List Atoms) : Type 0 where
     pub more : List Atoms
     pub states_are : states ≡ before ++ more
     pub after : Atoms

@@ -1,11 +1,11 @@
 //! All states that are reached, those first that an estimate puts near the goal.
-ghost use Rattle.std.specs.Prelude.{◌≡◌, ◌∷◌, ◌-◌, ◌<◌, ◌≤◌, length, IfOk, OnOk, Some, slice_get};
-ghost use Rattle.std.specs.BinaryHeap.{heap_items, heap_len};
+ghost use Rattle.std.specs.Prelude.{◌≡◌, ◌∷◌, ◌-◌, ◌<◌, ◌≤◌, IfOk, OnOk, Some, slice_get};
+ghost use Rattle.std.specs.BinaryHeap.{heap_items};
 ghost use Rattle.grounder.specs.Applicable.{IsApplicable, AreApplicable};
 ghost use Rattle.grounder.specs.Candidates.{AreCandidates};
 ghost use Rattle.task_model.specs.Fit.{IsFit};
 ghost use Rattle.task_model.specs.declared.limits.TheConstants.{MOST_STATES};
-ghost use Rattle.best_first.specs.Explored.{Leads};
+ghost use Rattle.best_first.specs.Explored.{LeadsToState};
 ghost use Rattle.best_first.specs.Frontiers.{IsFrontier, IsWidened, Spreads, closed_count, in_heap};
 ghost use Rattle.best_first.specs.Outcome.{ComesWithin};
 
@@ -91,7 +91,7 @@ fn visit<L: Look, E: Estimate>(
         scene.now.limit frontier.new.tree.store frontier.new.tree.links.items
         (in_heap from ∷ heap_items frontier.new.queue)
         (closed_count frontier.old.tree.store (in_heap from ∷ heap_items frontier.old.queue))) }
-    ensures leads { OnOk result (Leads scene.now.task.now (L.known scene.now.look.now)
+    ensures leads { OnOk result (LeadsToState scene.now.task.now (L.known scene.now.look.now)
         frontier.old.tree.store state.now step.now frontier.new.tree.store) }
 {
     match grow(scene, &mut frontier.tree, from.place, state, step)? {

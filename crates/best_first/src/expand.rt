@@ -1,5 +1,5 @@
 //! One state's successors.
-ghost use Rattle.std.specs.Prelude.{◌≡◌, ◌+◌, ◌<◌, ◌≤◌, ◌↔◌, ◌++◌, ℕ, List, length, Contains, IsTrue, IfOk, OnOk, Some, slice_get};
+ghost use Rattle.std.specs.Prelude.{◌≡◌, ◌+◌, ◌<◌, ◌≤◌, ◌↔◌, length, IsTrue, IfOk, OnOk, Some, slice_get};
 ghost use Rattle.grounder.specs.Applicable.{IsApplicable, AreApplicable};
 ghost use Rattle.grounder.specs.Candidates.{AreCandidates};
 ghost use Rattle.task_model.specs.Fit.{IsFit};
@@ -7,10 +7,11 @@ ghost use Rattle.task_model.specs.Plans.{IsGoal};
 ghost use Rattle.task_model.specs.State.{Atoms};
 ghost use Rattle.task_model.specs.Steps.{IsStep};
 ghost use Rattle.task_model.specs.declared.limits.TheConstants.{MOST_STATES};
-ghost use Rattle.best_first.specs.Explored.{ExploringEnds, Grows, IsExplored, IsGrown, Leads, Comes};
+ghost use Rattle.best_first.specs.Explored.{ExploringEnds, Grows, IsExplored, IsGrown, LeadsToState, Comes};
 
 use crate::tree::{Link, Tree};
-use formula_eval::{Env, holds};
+use formula_eval::Env;
+use formula_memo::holds_once;
 use grounder::Candidates;
 use plan_check::{Applied, after, step_cost};
 use state_store::StateStore;
@@ -43,7 +44,7 @@ pub(crate) fn meets_goal<L: Look>(scene: &Scene<'_, L>, state: &State) -> bool
     ensures { IsTrue result ↔ IsGoal scene.now.task.now (L.known scene.now.look.now) state.now }
 {
     let mut env = Env::new(&[]);
-    holds(
+    holds_once(
         scene.task,
         scene.look,
         state,
@@ -155,8 +156,8 @@ fn visit<L: Look>(
     requires can { IsApplicable scene.now.task.now (L.known scene.now.look.now) state.now step.now }
     ensures comes { IfOk result (Comes scene.now.task.now (L.known scene.now.look.now)
         scene.now.seeks_goal scene.now.limit tree.new.store tree.new.links.items from) }
-    ensures leads { OnOk result (Leads scene.now.task.now (L.known scene.now.look.now) tree.old.store
-        state.now step.now tree.new.store) }
+    ensures leads { OnOk result (LeadsToState scene.now.task.now (L.known scene.now.look.now)
+        tree.old.store state.now step.now tree.new.store) }
 {
     match grow(scene, tree, from, state, step)? {
         Some((id, _)) => settle(scene, tree, from, id),

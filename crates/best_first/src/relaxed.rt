@@ -4,7 +4,7 @@ ghost use Rattle.std.specs.List.{list_all};
 ghost use Rattle.formula_eval.specs.Readable.{is_readable};
 ghost use Rattle.plan_check.specs.Readable.{is_readable_pattern};
 ghost use Rattle.task_model.specs.Fit.{IsFit, is_fit_action};
-ghost use Rattle.grounder.specs.Candidates.{AreRows};
+ghost use Rattle.grounder.specs.Candidates.{AreCandidateRows};
 ghost use Rattle.best_first.specs.Relaxed.{HasRoom};
 
 use crate::fluents::fluent_atom;
@@ -199,7 +199,7 @@ impl RelaxedTask {
     ) -> Result<(), AllocError>
         requires fit { IsFit task.now }
         requires action { is_fit_action task.now.domain action.now ≡ true }
-        requires rows { AreRows task.now.domain (L.known look.now) action.now rows.now }
+        requires rows { AreCandidateRows task.now.domain (L.known look.now) action.now rows.now }
     {
         for objects in rows {
             self.add_step(alloc, task, look, action, objects.as_slice())?;

@@ -1,12 +1,11 @@
 //! What one tuple of a yield certifies.
 ghost use Rattle.std.specs.Prelude.{◌≡◌, ◌≤◌, ◌<◌, ◌+◌, map, length, true, All, IfOk, OnOk};
 ghost use Rattle.std.specs.List.{list_all};
-ghost use Rattle.certify.specs.Outputs.{AreNamed};
-ghost use Rattle.transcript_model.specs.Names.{generated};
+ghost use Rattle.certify.specs.Tuples.{Teaches};
 ghost use Rattle.formula_eval.specs.Readable.{is_readable_term};
 ghost use Rattle.task_model.specs.Fit.{IsFitDomain, is_fit_stream};
-ghost use Rattle.task_model.specs.Known.{IsIn, with_facts, with_names};
-ghost use Rattle.task_model.specs.Streams.{certified_by, output_types, fact_of};
+ghost use Rattle.task_model.specs.Known.{IsIn, with_facts};
+ghost use Rattle.task_model.specs.Streams.{output_types, fact_of};
 ghost use Rattle.task_model.specs.Truth.{slots_of, objects_at as objects_of_terms};
 ghost use Rattle.fact_store.specs.declared.facts.TheConstants.{MOST_NAMES};
 
@@ -86,13 +85,8 @@ pub fn learn_tuple(
     requires named { All (IsIn facts.old.known.names) inputs.now }
     requires constants { length domain.now.constants ≤ length facts.old.known.names }
     requires room { length facts.old.known.names + length values.now < MOST_NAMES }
-    ensures names { OnOk result (facts.new.known.names
-        ≡ with_names facts.old.known.names (map generated values.now)) }
-    ensures outputs { IfOk result (λ outputs. AreNamed facts.new.known.names outputs values.now) }
-    ensures facts { IfOk result (λ outputs. facts.new.known.facts
-        ≡ with_facts facts.old.known.facts
-        (certified_by domain.now stream.now inputs.now outputs)) }
-    ensures values { OnOk result (facts.new.known.values ≡ facts.old.known.values) }
+    ensures { IfOk result (Teaches domain.now stream.now inputs.now values.now
+        facts.old.known facts.new.known) }
 {
     let outputs = name_outputs(facts, alloc, values)?;
     learn_types(

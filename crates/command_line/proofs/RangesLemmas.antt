@@ -10,7 +10,7 @@ use Rattle.clap.specs.Words.{App, Row, Text, first_of, matches_of}
 use Rattle.command_line.specs.Apps.{generate_app, is_taken, replay_app, solve_app}
 use Rattle.command_line.specs.Numbers.{are_few_digits, count_in, count_of, count_or, is_count}
 use Rattle.command_line.specs.Ranges.{AreInRange, IsBetween, IsInRange}
-use Rattle.command_line.specs.Words.{Command, Limits, ReplayWords, SolveWords, are_apart, command_of, files_in, generate, generate_in, generate_of, limits_in, mode_or, path_in, program_in, read_by, replay, replay_in, replay_of, solve, solve_in, solve_of}
+use Rattle.command_line.specs.Words.{Command, GivenLimits, ReplayWords, SolveWords, are_apart, command_of, files_in, generate, generate_in, generate_of, limits_in, mode_or, path_in, program_in, read_by, replay, replay_in, replay_of, solve, solve_in, solve_of}
 use Rattle.lemmas.proofs.Options.{and_then_some, where_true}
 use Rattle.std.proofs.lemmas.Option.{same_Some}
 
@@ -39,13 +39,13 @@ or_between most default some (Some word) n e = count_between most word n e
 
 -- ---- what is read of rows
 
-limits_between : (rows : List Row) (l : Limits) → limits_in rows ≡ Some l
+limits_between : (rows : List Row) (l : GivenLimits) → limits_in rows ≡ Some l
     → IsBetween 100000 l.calls × IsBetween 200000 l.states × IsBetween 8 l.depth
 limits_between rows l e =
     let calls = and_then_some _ (count_in (codes "calls") 100000 10000 rows) l e in
     let states = and_then_some _ (count_in (codes "states") 200000 100000 rows) l calls.2 in
     let depth = and_then_some _ (count_in (codes "depth") 8 3 rows) l states.2 in
-    subst (λ (x : Limits). IsBetween 100000 x.calls × IsBetween 200000 x.states × IsBetween 8 x.depth) (same_Some _ l depth.2) (
+    subst (λ (x : GivenLimits). IsBetween 100000 x.calls × IsBetween 200000 x.states × IsBetween 8 x.depth) (same_Some _ l depth.2) (
       or_between 100000 10000 (omega arith, omega arith) (first_of (codes "calls") rows) calls.0 calls.1,
       or_between 200000 100000 (omega arith, omega arith) (first_of (codes "states") rows) states.0 states.1,
       or_between 8 3 (omega arith, omega arith) (first_of (codes "depth") rows) depth.0 depth.1,

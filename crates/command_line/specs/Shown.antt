@@ -2,7 +2,7 @@
 use Rattle.std.specs.Prelude.{List, Option, map, option_map}
 use Rattle.std.specs.Borrow.{Bor}
 use Rattle.clap.specs.Words.{Text}
-use Rattle.command_line.specs.Words.{Limits, ReplayWords, SolveWords, TaskFiles, words_or}
+use Rattle.command_line.specs.Words.{GivenLimits, ReplayWords, SolveWords, TaskFiles, words_or}
 use Rattle.command_line.specs.declared.replay.ReplayWords as code_replay
 use Rattle.command_line.specs.declared.solve.Limits as code_limits
 use Rattle.command_line.specs.declared.solve.SolveWords as code_solve
@@ -16,10 +16,10 @@ abbrev pub shown_files : Option code_files.TaskFiles → Option TaskFiles
 shown_files = option_map lent_files
 
 -- the limits of a run
-abbrev pub lent_limits : code_limits.Limits → Limits
+abbrev pub lent_limits : code_limits.Limits → GivenLimits
 lent_limits l = record { calls = l.calls; states = l.states; depth = l.depth }
 
-abbrev pub shown_limits : Option code_limits.Limits → Option Limits
+abbrev pub shown_limits : Option code_limits.Limits → Option GivenLimits
 shown_limits = option_map lent_limits
 
 -- a program and its words

@@ -16,7 +16,7 @@ pub record TaskFiles : Type 0 where
   pub streams : Text
 
 -- the limits of a run
-pub record Limits : Type 0 where
+pub record GivenLimits : Type 0 where
   pub calls : ℕ
   pub states : ℕ
   pub depth : ℕ
@@ -28,7 +28,7 @@ pub record SolveWords : Type 0 where
   pub program : List Text
   pub workers : ℕ
   pub mode : Mode
-  pub limits : Limits
+  pub limits : GivenLimits
 
 -- `replay` with a task, a report, and the most states
 pub record ReplayWords : Type 0 where
@@ -57,7 +57,7 @@ files_in rows =
     Some (record { domain = domain; problem = problem; streams = streams }))))
 
 -- the limits, and the default of each that the words lack
-abbrev pub limits_in : List Row → Option Limits
+abbrev pub limits_in : List Row → Option GivenLimits
 limits_in rows =
     given (count_in (codes "calls") MOST_CALLS DEFAULT_CALLS rows) (λ calls.
     given (count_in (codes "states") MOST_STATES DEFAULT_STATES rows) (λ states.

@@ -10,7 +10,7 @@ use Rattle.form_reader.specs.declared.items.TextKind.TheVariants.{Domain as Doma
 use Rattle.form_reader.specs.Texts.{form_faults}
 use Rattle.task_model.specs.declared.domain.Domain.{Domain}
 use Rattle.domain_reader.specs.Domains.{AnswersDerived, AnswersNames, AnswersTypes, AreNameFaults, IsDomainAnswered, IsDomainBy, IsDomainRead, domain_names, of_names, plain_names}
-use Rattle.domain_reader.specs.Tables.{vocabulary_of}
+use Rattle.domain_reader.specs.Tables.{vocabulary_in}
 use Rattle.name_tables.specs.Texts.{body_of}
 
 pub all_names : (v : Vocabulary) (body : Trees) (plain types answered : Option Fault)
@@ -28,12 +28,12 @@ all_names v body plain types answered e t d =
 
 -- over the text's own names and items
 pub of_text : (t b : Trees) (v : Vocabulary) (o : Option Fault) → b ≡ body_of t
-    → v ≡ vocabulary_of b → AnswersNames v b o → AnswersNames (domain_names t) (body_of t) o
-of_text t b v o e f a = subst (λ c. AnswersNames (domain_names t) c o) e (subst (λ w. AnswersNames w b o) (f ∙ ap vocabulary_of e) a)
+    → v ≡ vocabulary_in b → AnswersNames v b o → AnswersNames (domain_names t) (body_of t) o
+of_text t b v o e f a = subst (λ c. AnswersNames (domain_names t) c o) e (subst (λ w. AnswersNames w b o) (f ∙ ap vocabulary_in e) a)
 
-pub domain_by : (t b : Trees) (v : Vocabulary) (d : Domain) → b ≡ body_of t → v ≡ vocabulary_of b
+pub domain_by : (t b : Trees) (v : Vocabulary) (d : Domain) → b ≡ body_of t → v ≡ vocabulary_in b
     → IsDomainBy v t d → IsDomainBy (domain_names t) t d
-domain_by t b v d e f i = subst (λ w. IsDomainBy w t d) (f ∙ ap vocabulary_of e) i
+domain_by t b v d e f i = subst (λ w. IsDomainBy w t d) (f ∙ ap vocabulary_in e) i
 
 pub read_whole : (t : Trees) (d : Domain) → least_fault (form_faults Domain' t) ≡ None
     → AnswersNames (domain_names t) (body_of t) None → IsDomainBy (domain_names t) t d

@@ -37,7 +37,7 @@ use Rattle.domain_reader.proofs.FitRules.{derived_rule, place_used, rule_body, r
 use Rattle.domain_reader.specs.Cycles.{bodies_in, body_put, derived_edges, derived_in, derived_item, derived_place, mention_put, mentions_in, no_edges}
 use Rattle.name_tables.specs.Cycles.{CycleFaults}
 use Rattle.domain_reader.specs.Domains.{rule_of, rules_of}
-use Rattle.domain_reader.specs.Tables.{headed, is_derived}
+use Rattle.domain_reader.specs.Tables.{headed, is_derived_item}
 use Rattle.name_tables.specs.declared.cycles.Candidate.{Candidate}
 
 -- ---- edges of the mentioned predicates
@@ -234,7 +234,7 @@ module _ (v : Vocabulary) (heads : List (List ℕ)) where
   abbrev table : List (List ℕ)
   table = v.predicates.names
 
-  item_place : (items : Trees) (a : ℕ) → is_derived (item_of text.Domain (head_of items)) ≡ true
+  item_place : (items : Trees) (a : ℕ) → is_derived_item (item_of text.Domain (head_of items)) ≡ true
       → IsClean v heads (item_of text.Domain (head_of items)) (tail_of items)
       → ((rule_of v (tail_of items)).pred == a) ≡ true → derived_place table items ≡ Some a
   item_place items a e c same =
@@ -244,14 +244,14 @@ module _ (v : Vocabulary) (heads : List (List ℕ)) where
 
   placed_within : (items : Trees) (a : ℕ) → derived_place table items ≡ Some a → a < length table
   placed_within items a e =
-      elim (is_derived (item_of text.Domain (head_of items))) as
+      elim (is_derived_item (item_of text.Domain (head_of items))) as
       (λ b. (if b then place_of (headed items) table else None) ≡ Some a → a < length table) [
         | true ↦ λ f. place_within (headed items) table a f
         | false ↦ λ f. absurd (cc)
       ] e
 
   rule_leads : (edges : List (List ℕ)) (items : Trees) (a b : ℕ) → length edges ≡ length table
-      → is_derived (item_of text.Domain (head_of items)) ≡ true
+      → is_derived_item (item_of text.Domain (head_of items)) ≡ true
       → IsClean v heads (item_of text.Domain (head_of items)) (tail_of items)
       → rests a b (rule_of v (tail_of items)) ≡ true
       → leads (body_put table edges (derived_place table items) (tail_of (tail_of items))) a b ≡ true
@@ -273,8 +273,8 @@ module _ (v : Vocabulary) (heads : List (List ℕ)) where
       let it = item_of text.Domain (head_of items) in
       let put = body_put table edges (derived_place table items) (tail_of (tail_of items)) in
       let more = rules_lead put rest a b ((body_grows table edges (derived_place table items) (tail_of (tail_of items))).long ∙ long) c.1 in
-      elim (is_derived it) as (λ d.
-      is_derived it ≡ d → list_any (rests a b) ((if d then rule_of v (tail_of items) ∷ [] else []) ++ rules_of v rest) ≡ true
+      elim (is_derived_item it) as (λ d.
+      is_derived_item it ≡ d → list_any (rests a b) ((if d then rule_of v (tail_of items) ∷ [] else []) ++ rules_of v rest) ≡ true
       → leads (bodies_in table put rest) a b ≡ true) [
         | true ↦ λ e g. elim (or_cases (rests a b (rule_of v (tail_of items))) (list_any (rests a b) (rules_of v rest)) g) [
           | inl f ↦ (bodies_grow table put rest).keeps a b (rule_leads edges items a b long e c.0 f)
@@ -294,8 +294,8 @@ module _ (v : Vocabulary) (heads : List (List ℕ)) where
       let own = derived_item (derived_place table items) at in
       let more : list_any (rests a b) (rules_of v rest) ≡ true → is_candidate (own ++ derived_in table rest) a ≡ true =
       λ f. any_append_right (λ (x : Candidate). x.node == a) own (derived_in table rest) (rules_listed rest a b c.1 f) in
-      elim (is_derived it) as (λ d.
-      is_derived it ≡ d → list_any (rests a b) ((if d then rule_of v (tail_of items) ∷ [] else []) ++ rules_of v rest) ≡ true
+      elim (is_derived_item it) as (λ d.
+      is_derived_item it ≡ d → list_any (rests a b) ((if d then rule_of v (tail_of items) ∷ [] else []) ++ rules_of v rest) ≡ true
       → is_candidate (own ++ derived_in table rest) a ≡ true) [
         | true ↦ λ e g. elim (or_cases (rests a b (rule_of v (tail_of items))) (list_any (rests a b) (rules_of v rest)) g) [
           | inl f ↦

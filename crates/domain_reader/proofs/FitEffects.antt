@@ -33,7 +33,7 @@ use Rattle.name_tables.proofs.NamesLemmas.{name_there, place_named, same_name}
 use Rattle.name_tables.proofs.VariablesWidthLemmas.{name_long}
 use Rattle.domain_reader.proofs.FitNames.{predicate_name}
 use Rattle.domain_reader.proofs.FitRules.{place_used}
-use Rattle.domain_reader.specs.Effects.{Done, added, after_effect, after_effects, changed_names, charged, cost_names, cost_of, effect_names, effects_names, is_derived_name, negated_names, taken}
+use Rattle.domain_reader.specs.Effects.{Done, added, after_effect, after_effects, changed_names, charged, cost_names, cost_term_of, effect_names, effects_names, is_derived_name, negated_names, taken}
 
 -- ---- words
 
@@ -189,7 +189,7 @@ module _ (v : Vocabulary) (d : domain.Domain) (knows : Knows v d (length d.const
       (ap (λ o. is_derived_role (role_of d (unwrap_or o 0))) found.1 ∙ plain text found.0 found.1 absent)
 
   cost_fits : (place : ℕ) (ts : Trees) → cost_faults place ts ≡ [] → cost_names v scope ts ≡ []
-      → is_fit_cost d filled (cost_of v scope ts) ≡ true
+      → is_fit_cost d filled (cost_term_of v scope ts) ≡ true
   cost_fits place nothing f n = absurd (some_fault (shape place) [] f)
   cost_fits place (word text at rest) f n =
       let counts : is_number text ≡ true = (chosen (is_number text) (end_faults rest) (number at) [] f).0 in
@@ -244,8 +244,8 @@ module _ (v : Vocabulary) (d : domain.Domain) (knows : Knows v d (length d.const
     deletes = i.deletes;
     free_deletes = i.free_deletes;
     few_deletes = omega (arith, i.few_deletes);
-    costs = all_push (is_fit_cost d filled) c.costs (cost_of v scope ts) i.costs (cost_fits place ts f n);
-    few_costs = omega (arith, i.few_costs, length-append c.costs (cost_of v scope ts ∷ []));
+    costs = all_push (is_fit_cost d filled) c.costs (cost_term_of v scope ts) i.costs (cost_fits place ts f n);
+    few_costs = omega (arith, i.few_costs, length-append c.costs (cost_term_of v scope ts ∷ []));
   }
 
   negated_done : (most place : ℕ) (c : Done) (text : List ℕ) (ts : Trees)

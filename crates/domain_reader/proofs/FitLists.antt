@@ -26,7 +26,7 @@ use Rattle.domain_reader.proofs.FitNames.{AreTables, IsSigned, tables_fit}
 use Rattle.domain_reader.proofs.FitSorts.{sorts_many}
 use Rattle.domain_reader.specs.Cycles.{type_edges}
 use Rattle.domain_reader.specs.Domains.{ArePartsOf, constants_in, is_constants}
-use Rattle.domain_reader.specs.Tables.{no_names, vocabulary_of, with_item, with_items}
+use Rattle.domain_reader.specs.Tables.{no_names, vocabulary_in, with_item, with_items}
 use Rattle.name_tables.specs.Texts.{body_of}
 use Rattle.task_model.specs.Known.{with_names}
 
@@ -107,10 +107,10 @@ same_constants sorts v t (list items at rest) e =
 
 -- ---- a domain without faults
 
-module _ (t : Trees) (d : domain.Domain) (heads : List (List ℕ)) (clean : AreClean (vocabulary_of (body_of t)) heads (body_of t))
-    (small : size (body_of t) ≤ 4194304) (parts : ArePartsOf (vocabulary_of (body_of t)) t d) where
+module _ (t : Trees) (d : domain.Domain) (heads : List (List ℕ)) (clean : AreClean (vocabulary_in (body_of t)) heads (body_of t))
+    (small : size (body_of t) ≤ 4194304) (parts : ArePartsOf (vocabulary_in (body_of t)) t d) where
   abbrev v : Vocabulary
-  v = vocabulary_of (body_of t)
+  v = vocabulary_in (body_of t)
 
   abbrev typed : Typed
   typed = constants_in v.sorts no_typed (body_of t)

@@ -32,7 +32,7 @@ use Rattle.name_tables.proofs.NoFaultLemmas.{chosen, met, some_fault}
 use Rattle.name_tables.proofs.VariablesWidthLemmas.{name_long}
 use Rattle.domain_reader.proofs.FitItems.{AreClean, IsClean}
 use Rattle.domain_reader.specs.Names.{declaration_names, functions_names, predicates_names, total_cost_names}
-use Rattle.domain_reader.specs.Tables.{declared_arity, functions_in, no_names, predicates_in, types_in, vocabulary_of, with_item, with_items}
+use Rattle.domain_reader.specs.Tables.{declared_arity, functions_in, no_names, predicates_in, types_in, vocabulary_in, with_item, with_items}
 use Rattle.task_model.proofs.KnownLemmas.{length_with_name, with_name-distinct, length_with_names, with_names-distinct}
 
 -- ---- a table of names, each once and a name, and at most so many
@@ -359,11 +359,11 @@ tables_first = record {
 }
 
 -- the tables of a domain with such items
-pub tables_fit : (heads : List (List ℕ)) (body : Trees) → AreClean (vocabulary_of body) heads body
-    → AreTables (size body + 2) (vocabulary_of body)
+pub tables_fit : (heads : List (List ℕ)) (body : Trees) → AreClean (vocabulary_in body) heads body
+    → AreTables (size body + 2) (vocabulary_in body)
 tables_fit heads body c =
     let v = with_items no_names body in
-    let a = tables_items (vocabulary_of body) heads 1 no_names body c tables_first in
+    let a = tables_items (vocabulary_in body) heads 1 no_names body c tables_first in
     let more = tables_more (1 + size body) (size body + 2) v (omega arith) a in
     record {
       sorts = more.sorts;

@@ -27,7 +27,7 @@ use Rattle.domain_reader.proofs.FitNames.{Known, known_with}
 use Rattle.domain_reader.proofs.FitRules.{derived_rule, rule_pred, rule_there}
 use Rattle.domain_reader.specs.Domains.{rule_of, rules_of}
 use Rattle.domain_reader.specs.Names.{counts_as_derived, crowded, seen_once, too_many_derived}
-use Rattle.domain_reader.specs.Tables.{headed, heads_in, is_derived}
+use Rattle.domain_reader.specs.Tables.{headed, heads_in, is_derived_item}
 
 -- a role is Derived where an item heads the predicate
 pub derived_by : (d : domain.Domain) (pred : ℕ)
@@ -52,7 +52,7 @@ heads_kept : (names : List (List ℕ)) (body : Trees) → Known names (heads_in 
 heads_kept names nothing n h = h
 heads_kept names (word w at rest) n h = heads_kept names rest n h
 heads_kept names (list items at rest) n h =
-    elim (is_derived (item_of text.Domain (head_of items))) as
+    elim (is_derived_item (item_of text.Domain (head_of items))) as
     (λ b. has_name n (heads_in (if b then with_name names (headed items) else names) rest) ≡ true) [
       | true ↦ heads_kept (with_name names (headed items)) rest n (known_with names (headed items) n h)
       | false ↦ heads_kept names rest n h
@@ -88,10 +88,11 @@ module _ (v : Vocabulary) (clean_heads : List (List ℕ)) where
   predicates = v.predicates.names
 
   headed_name : (items rest : Trees) (names counted : List (List ℕ)) (pred : ℕ)
-      → is_derived (item_of text.Domain (head_of items)) ≡ true
+      → is_derived_item (item_of text.Domain (head_of items)) ≡ true
       → IsClean v clean_heads (item_of text.Domain (head_of items)) (tail_of items)
       → ((rule_of v (tail_of items)).pred == pred) ≡ true →
-      IsDerivedName v (heads_in (if is_derived (item_of text.Domain (head_of items)) then with_name names (headed items) else names) rest)
+      IsDerivedName v
+      (heads_in (if is_derived_item (item_of text.Domain (head_of items)) then with_name names (headed items) else names) rest)
       (counted_in predicates (seen_once (counts_as_derived predicates items) (headed items) counted) rest) pred
   headed_name items rest names counted pred e c same =
       let it = item_of text.Domain (head_of items) in
@@ -100,7 +101,7 @@ module _ (v : Vocabulary) (clean_heads : List (List ℕ)) where
       found.1 ∙ ap Some (sym (rule_pred v (tail_of items) found.0 found.1) ∙ eqb-true (rule_of v (tail_of items)).pred pred same) in
       let there : has_name (headed items) predicates ≡ true =
       name_there (headed items) predicates pred (place_named (headed items) predicates pred at) in
-      let counts : counts_as_derived predicates items ≡ true = and_from (is_derived it) (has_name (headed items) predicates) e there in
+      let counts : counts_as_derived predicates items ≡ true = and_from (is_derived_item it) (has_name (headed items) predicates) e there in
       record {
         name = headed items;
         place = at;
@@ -118,17 +119,17 @@ module _ (v : Vocabulary) (clean_heads : List (List ℕ)) where
   headed_names names counted (word w at rest) pred c h = headed_names names counted rest pred c h
   headed_names names counted (list items at rest) pred c h =
       let it = item_of text.Domain (head_of items) in
-      elim (is_derived it) as (λ b.
-      is_derived it ≡ b → list_any (is_headed pred) ((if b then rule_of v (tail_of items) ∷ [] else []) ++ rules_of v rest) ≡ true
-      → IsDerivedName v (heads_in (if is_derived it then with_name names (headed items) else names) rest)
+      elim (is_derived_item it) as (λ b.
+      is_derived_item it ≡ b → list_any (is_headed pred) ((if b then rule_of v (tail_of items) ∷ [] else []) ++ rules_of v rest) ≡ true
+      → IsDerivedName v (heads_in (if is_derived_item it then with_name names (headed items) else names) rest)
       (counted_in predicates (seen_once (counts_as_derived predicates items) (headed items) counted) rest) pred) [
         | true ↦ λ e g. elim (or_cases ((rule_of v (tail_of items)).pred == pred) (list_any (is_headed pred) (rules_of v rest)) g) [
           | inl same ↦ headed_name items rest names counted pred e c.0 same
           | inr more ↦
-              headed_names (if is_derived it then with_name names (headed items) else names)
+              headed_names (if is_derived_item it then with_name names (headed items) else names)
               (seen_once (counts_as_derived predicates items) (headed items) counted) rest pred c.1 more
         ]
-        | false ↦ λ e g. headed_names (if is_derived it then with_name names (headed items) else names)
+        | false ↦ λ e g. headed_names (if is_derived_item it then with_name names (headed items) else names)
             (seen_once (counts_as_derived predicates items) (headed items) counted) rest pred c.1 g
       ] refl h
 

@@ -34,7 +34,7 @@ use Rattle.domain_reader.proofs.FitItems.{AreClean, IsClean}
 use Rattle.domain_reader.proofs.FitNames.{few_declared}
 use Rattle.domain_reader.specs.Domains.{rule_of, rules_of}
 use Rattle.domain_reader.specs.Names.{declaration_names, derived_names, head_names}
-use Rattle.domain_reader.specs.Tables.{is_derived}
+use Rattle.domain_reader.specs.Tables.{is_derived_item}
 
 -- a name that is used without fault is there
 pub place_used : (s : Signed) (o : Option ℕ) (count at place : ℕ)
@@ -51,7 +51,7 @@ pub record IsRule (v : Vocabulary) (rest : Trees) : Type 0 where
   pub named : derived_names v rest ≡ []
 
 pub derived_rule : (v : Vocabulary) (heads : List (List ℕ)) (it : Item) (rest : Trees)
-    → is_derived it ≡ true → IsClean v heads it rest → IsRule v rest
+    → is_derived_item it ≡ true → IsClean v heads it rest → IsRule v rest
 derived_rule v heads item.Derived rest e c =
     record { place = c.place; formed = c.formed; named = c.named }
 derived_rule v heads _ rest e c = absurd (cc)
@@ -158,9 +158,9 @@ module _ (v : Vocabulary) (d : domain.Domain) (knows : Knows v d (length d.const
 
   here_fits : (heads : List (List ℕ)) (it : Item) (rest : Trees) → IsClean v heads it rest
       → size rest ≤ 8388608 → depth rest ≤ 64
-      → list_all (is_fit_item d) (if is_derived it then rule_of v rest ∷ [] else []) ≡ true
+      → list_all (is_fit_item d) (if is_derived_item it then rule_of v rest ∷ [] else []) ≡ true
   here_fits heads it rest c small shallow =
-      elim (is_derived it) as (λ b. is_derived it ≡ b → list_all (is_fit_item d) (if b then rule_of v rest ∷ [] else []) ≡ true) [
+      elim (is_derived_item it) as (λ b. is_derived_item it ≡ b → list_all (is_fit_item d) (if b then rule_of v rest ∷ [] else []) ≡ true) [
         | true ↦ λ e. and_from (is_fit_item d (rule_of v rest)) true (rule_fits rest (derived_rule v heads it rest e c) small shallow) refl
         | false ↦ λ _. refl
       ] refl
@@ -171,7 +171,7 @@ module _ (v : Vocabulary) (d : domain.Domain) (knows : Knows v d (length d.const
   rules_fit heads (word w at rest) c small shallow = rules_fit heads rest c (omega arith) shallow
   rules_fit heads (list items at rest) c small shallow =
       let it = item_of text.Domain (head_of items) in
-      all_append (is_fit_item d) (if is_derived it then rule_of v (tail_of items) ∷ [] else [])
+      all_append (is_fit_item d) (if is_derived_item it then rule_of v (tail_of items) ∷ [] else [])
       (rules_of v rest) (here_fits heads it (tail_of items) c.0 (omega (arith, tail_small items)) (omega (arith, tail_shallow items)))
       (rules_fit heads rest c.1 (omega arith) (omega arith))
 
@@ -179,7 +179,7 @@ pub rules_long : (v : Vocabulary) (body : Trees) → length (rules_of v body) �
 rules_long v nothing = omega arith
 rules_long v (word w at rest) = omega (arith, rules_long v rest)
 rules_long v (list items at rest) =
-    elim (is_derived (item_of text.Domain (head_of items))) as
+    elim (is_derived_item (item_of text.Domain (head_of items))) as
     (λ b. length ((if b then rule_of v (tail_of items) ∷ [] else []) ++ rules_of v rest) ≤ size items + 2 + size rest) [
       | true ↦ omega (arith, rules_long v rest)
       | false ↦ omega (arith, rules_long v rest)

@@ -35,7 +35,7 @@ use Rattle.domain_reader.proofs.FitEdges.{is_candidate, none_cyclic, put_keeps, 
 use Rattle.domain_reader.proofs.FitNames.{Known, known_with, rest_formed, tables_fit}
 use Rattle.domain_reader.specs.Cycles.{AreSorts, no_sorts, more_sorts, IsAbove, edge_put, edges_each, edges_in, first_edges, is_types, listed_in, listed_row, type_edges, under_object}
 use Rattle.name_tables.specs.Cycles.{CycleFaults}
-use Rattle.domain_reader.specs.Tables.{no_names, types_in, with_item, with_items, vocabulary_of}
+use Rattle.domain_reader.specs.Tables.{no_names, types_in, with_item, with_items, vocabulary_in}
 use Rattle.name_tables.specs.declared.cycles.Candidate.{Candidate}
 
 -- ---- each word of `:types` is a type
@@ -414,12 +414,12 @@ module _ (size : ℕ) (edges names : List (List ℕ)) (all : List sort.Sort) (L 
 
 -- the types of a domain whose items have no faults and whose types are on no cycle
 pub types_fit : (heads : List (List ℕ)) (body : Trees) (all : List sort.Sort)
-    → AreClean (vocabulary_of body) heads body → size body ≤ 4194304
-    → CycleFaults TypeCycle (type_edges (vocabulary_of body).sorts body) (listed_in (vocabulary_of body).sorts [] body) []
-    → AreSorts (type_edges (vocabulary_of body).sorts body) 0 (vocabulary_of body).sorts all
+    → AreClean (vocabulary_in body) heads body → size body ≤ 4194304
+    → CycleFaults TypeCycle (type_edges (vocabulary_in body).sorts body) (listed_in (vocabulary_in body).sorts [] body) []
+    → AreSorts (type_edges (vocabulary_in body).sorts body) 0 (vocabulary_in body).sorts all
     → AreFitSorts all
 types_fit heads body all clean small none are =
-    let v = vocabulary_of body in
+    let v = vocabulary_in body in
     let tables = tables_fit heads body clean in
     let listed = listed_in v.sorts [] body in
     let edges = type_edges v.sorts body in

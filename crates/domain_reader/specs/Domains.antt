@@ -30,7 +30,7 @@ use Rattle.domain_reader.specs.Cycles.{AreSorts, derived_edges, derived_in, list
 use Rattle.name_tables.specs.Cycles.{CycleFaults, AnswersCycles}
 use Rattle.domain_reader.specs.Effects.{Done, after_effect}
 use Rattle.domain_reader.specs.Names.{is_action, items_names, parameters_of, second_actions, second_items, second_signatures, too_many_derived}
-use Rattle.domain_reader.specs.Tables.{heads_in, is_derived, name_of, vocabulary_of}
+use Rattle.domain_reader.specs.Tables.{heads_in, is_derived_item, name_of, vocabulary_in}
 use Rattle.name_tables.specs.Texts.{body_of, value_at}
 
 -- ---- name faults
@@ -126,7 +126,7 @@ abbrev pub rules_of : Vocabulary → Trees → List rule.Derived
 rules_of v nothing = []
 rules_of v (word w at rest) = rules_of v rest
 rules_of v (list items at rest) =
-    (if is_derived (item_of text.Domain (head_of items)) then rule_of v (tail_of items) ∷ [] else [])
+    (if is_derived_item (item_of text.Domain (head_of items)) then rule_of v (tail_of items) ∷ [] else [])
     ++ rules_of v rest
 
 abbrev pub constants_of : List (List ℕ) → Trees → List declared.Declared
@@ -158,13 +158,13 @@ pub record IsDomainBy (v : Vocabulary) (t : Trees) (d : Domain) : Type 0 where
 
 -- the names of a text that is this row of one tree
 abbrev pub domain_names : Trees → Vocabulary
-domain_names t = vocabulary_of (body_of t)
+domain_names t = vocabulary_in (body_of t)
 
 -- the domain that the names give, or the name fault that is answered
-abbrev pub ReadsNamed : Trees → Result Domain Fault → Type 0
-ReadsNamed t (Ok d) =
+abbrev pub DomainReadsNamed : Trees → Result Domain Fault → Type 0
+DomainReadsNamed t (Ok d) =
     AnswersNames (domain_names t) (body_of t) None × IsDomainBy (domain_names t) t d
-ReadsNamed t (Err f) = AnswersNames (domain_names t) (body_of t) (Some f)
+DomainReadsNamed t (Err f) = AnswersNames (domain_names t) (body_of t) (Some f)
 
 -- The fault is answered: of form faults the least, and where there is none, of name faults the least.
 pub data IsDomainAnswered (t : Trees) (f : Fault) : Type 0 where

@@ -60,10 +60,10 @@ pub record Done : Type 0 where
 
 module _ (v : Vocabulary) (scope : List (List ℕ)) where
   -- a number, or a function term
-  abbrev pub cost_of : Trees → CostTerm
-  cost_of nothing = Number 0
-  cost_of (word text at rest) = Number (if is_number text then digits_value 10 text else 0)
-  cost_of (list items at rest) =
+  abbrev pub cost_term_of : Trees → CostTerm
+  cost_term_of nothing = Number 0
+  cost_term_of (word text at rest) = Number (if is_number text then digits_value 10 text else 0)
+  cost_term_of (list items at rest) =
       Value (declared_place v.functions (head_of items)) (terms_of v.objects scope (tail_of items))
 
   abbrev pub added : Done → Trees → Done
@@ -73,7 +73,7 @@ module _ (v : Vocabulary) (scope : List (List ℕ)) where
   taken c items = record c { deletes = c.deletes ++ pattern_of v scope items ∷ [] }
 
   abbrev pub charged : Done → Trees → Done
-  charged c rest = record c { costs = c.costs ++ cost_of rest ∷ [] }
+  charged c rest = record c { costs = c.costs ++ cost_term_of rest ∷ [] }
 
   -- what was done so far, and then these effects
   abbrev mutual

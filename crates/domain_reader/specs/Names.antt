@@ -25,7 +25,7 @@ use Rattle.name_tables.specs.declared.vocabulary.Vocabulary.{Vocabulary}
 use Rattle.domain_reader.specs.declared.once.Declared.{Declared}
 use Rattle.domain_reader.specs.declared.once.Declared.TheVariants.{Predicates, Functions}
 use Rattle.domain_reader.specs.Effects.{effect_names}
-use Rattle.domain_reader.specs.Tables.{headed, is_derived}
+use Rattle.domain_reader.specs.Tables.{headed, is_derived_item}
 
 -- ---- declarations
 
@@ -209,7 +209,7 @@ second_signatures d seen (list items at rest) =
 -- a `:derived` item of a predicate that is there
 abbrev pub counts_as_derived : List (List ℕ) → Trees → Bool
 counts_as_derived predicates items =
-    is_derived (item_of Domain (head_of items)) && has_name (headed items) predicates
+    is_derived_item (item_of Domain (head_of items)) && has_name (headed items) predicates
 
 -- of an item that counts, the 65th predicate is one too many
 abbrev pub crowded : Bool → List ℕ → ℕ → List (List ℕ) → List Fault

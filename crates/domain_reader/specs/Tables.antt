@@ -76,12 +76,12 @@ no_names = record {
 }
 
 -- the names of a domain with these items
-abbrev pub vocabulary_of : Trees → Vocabulary
-vocabulary_of body = with_total_cost (with_items no_names body)
+abbrev pub vocabulary_in : Trees → Vocabulary
+vocabulary_in body = with_total_cost (with_items no_names body)
 
-abbrev pub is_derived : Item → Bool
-is_derived item.Derived = true
-is_derived _ = false
+abbrev pub is_derived_item : Item → Bool
+is_derived_item item.Derived = true
+is_derived_item _ = false
 
 -- the predicate that a list heads, if it is a `:derived` item
 abbrev pub headed : Trees → List ℕ
@@ -92,4 +92,4 @@ abbrev pub heads_in : List (List ℕ) → Trees → List (List ℕ)
 heads_in names nothing = names
 heads_in names (word text at rest) = heads_in names rest
 heads_in names (list items at rest) =
-    heads_in (if is_derived (item_of Domain (head_of items)) then with_name names (headed items) else names) rest
+    heads_in (if is_derived_item (item_of Domain (head_of items)) then with_name names (headed items) else names) rest

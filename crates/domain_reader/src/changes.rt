@@ -50,7 +50,7 @@ fn cost_of(
     scope: &Scope,
     items: &[Tree],
 ) -> Result<CostTerm, AllocError>
-    ensures { IfOk result (λ t. t ≡ specs.cost_of names.now scope.now (trees items.now)) }
+    ensures { IfOk result (λ t. t ≡ specs.cost_term_of names.now scope.now (trees items.now)) }
 {
     match front_of(items) {
         Front::End => Ok(CostTerm::Number(0)),

@@ -29,7 +29,7 @@ fn check_names(
 
 /// The domain, or its name fault that is answered. Fails only where memory is wanting.
 fn read_named(alloc: Global, text: &Tree) -> Result<Result<Domain, Fault>, AllocError>
-    ensures { IfOk result (λ r. specs.ReadsNamed (tree text.now) r) }
+    ensures { IfOk result (λ r. specs.DomainReadsNamed (tree text.now) r) }
 {
     let body = body_of(text);
     let names = vocabulary_of(alloc, body)?;

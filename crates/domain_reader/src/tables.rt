@@ -146,7 +146,7 @@ fn add_item(names: &mut Vocabulary, item: Item, items: &[Tree]) -> Result<(), Al
 
 /// The names of a domain with these items. Fails only where memory is wanting.
 pub(crate) fn vocabulary_of(alloc: Global, body: &[Tree]) -> Result<Vocabulary, AllocError>
-    ensures { IfOk result (λ names. names ≡ specs.vocabulary_of (trees body.now)) }
+    ensures { IfOk result (λ names. names ≡ specs.vocabulary_in (trees body.now)) }
 {
     let mut names = no_names(alloc)?;
     add_items(&mut names, body)?;
@@ -188,7 +188,7 @@ fn add_items(names: &mut Vocabulary, items: &[Tree]) -> Result<(), AllocError>
 
 /// Whether the item is of a derived predicate.
 pub(crate) fn is_derived(item: Item) -> bool
-    ensures { result ≡ specs.is_derived item }
+    ensures { result ≡ specs.is_derived_item item }
 {
     matches!(item, Item::Derived)
 }

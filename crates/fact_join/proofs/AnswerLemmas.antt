@@ -16,7 +16,7 @@ use Rattle.task_model.specs.declared.condition.Term.TheVariants.{Slot, Object}
 use Rattle.task_model.specs.declared.fact.Fact.{Fact}
 use Rattle.fact_join.proofs.AddingLemmas.{Among}
 use Rattle.fact_join.proofs.FactLemmas.{from_filter, into_filter, has_object, match_is, is_match_at}
-use Rattle.fact_join.specs.Answers.{IsAnswer, IsAnswerBy, is_known, is_term_of, is_atom_of}
+use Rattle.fact_join.specs.Answers.{IsAnswer, IsAnswerBy, is_known, is_term_of, is_atom_over}
 use Rattle.fact_join.specs.Leads.{IsLead}
 use Rattle.fact_join.specs.Partials.{Agrees, AreFixed}
 use Rattle.fact_join.specs.declared.lead.Lead.{Lead}
@@ -186,14 +186,14 @@ module _ (known : Known) (sorts : List ℕ) (wants : List ℕ → Bool) where
 -- ---- the terms of atoms
 
 pub terms_at : (width : ℕ) (atoms : List QueryAtom) (place : ℕ) (atom : QueryAtom)
-    → list_all (is_atom_of width) atoms ≡ true → slice_get atoms place ≡ Some atom
+    → list_all (is_atom_over width) atoms ≡ true → slice_get atoms place ≡ Some atom
     → list_all (is_term_of width) atom.terms.now ≡ true
 terms_at width atoms place atom e at =
     second_so (nat_le (length atom.terms.now) 8) (list_all (is_term_of width) atom.terms.now)
-    (all_at (is_atom_of width) atoms place atom e at)
+    (all_at (is_atom_over width) atoms place atom e at)
 
 pub atom_terms : (width : ℕ) (atom : QueryAtom) (atoms : List QueryAtom)
-    → list_all (is_atom_of width) (atom ∷ atoms) ≡ true
+    → list_all (is_atom_over width) (atom ∷ atoms) ≡ true
     → list_all (is_term_of width) atom.terms.now ≡ true
 atom_terms width atom atoms e = terms_at width (atom ∷ atoms) 0 atom e refl
 

@@ -10,7 +10,7 @@ use Rattle.lemmas.proofs.Members.{take_next, place_of}
 use Rattle.task_model.specs.Known.{Known, is_fact, atom_fact}
 use Rattle.task_model.specs.Truth.{slots_of, objects_at}
 use Rattle.fact_join.proofs.AnswerLemmas.{slot_below, terms_at}
-use Rattle.fact_join.specs.Answers.{IsAnswer, is_known, is_atom_of}
+use Rattle.fact_join.specs.Answers.{IsAnswer, is_known, is_atom_over}
 use Rattle.fact_join.specs.Fronts.{AreKnown, AreLeft}
 use Rattle.fact_join.specs.Partials.{Agrees}
 use Rattle.fact_join.specs.declared.partial.Partial.{Partial}
@@ -57,12 +57,12 @@ module _ (known : Known) (partial : Partial) where
       let whole : length left ≡ length atoms - are.before = ap length are.rest ∙ length-drop are.before atoms in omega (arith, whole)
 
   pub left_fits : (width : ℕ) (atoms : List QueryAtom) (slot : ℕ) (left : List QueryAtom) → AreLeft known partial atoms slot left
-      → list_all (is_atom_of width) atoms ≡ true → list_all (is_atom_of width) left ≡ true
+      → list_all (is_atom_over width) atoms ≡ true → list_all (is_atom_over width) left ≡ true
   left_fits width atoms slot left are fit =
-      ap (list_all (is_atom_of width)) are.rest ∙ all_dropped (is_atom_of width) are.before atoms fit
+      ap (list_all (is_atom_over width)) are.rest ∙ all_dropped (is_atom_over width) are.before atoms fit
 
   pub slot_left : (width : ℕ) (atoms : List QueryAtom) (slot : ℕ) (left : List QueryAtom) → AreLeft known partial atoms slot left
-      → list_all (is_atom_of width) atoms ≡ true → slot < width
+      → list_all (is_atom_over width) atoms ≡ true → slot < width
   slot_left width atoms slot left are fit =
       let p = place_of atoms are.atom are.there in
       slot_below width are.atom.terms.now slot (terms_at width atoms p.0 are.atom fit p.1) are.term

@@ -18,8 +18,8 @@ is_term_of width (Slot n) = nat_lt n width
 is_term_of width (Object o) = true
 
 -- at most eight terms, whose slots are places of the tuple
-abbrev pub is_atom_of : ℕ → QueryAtom → Bool
-is_atom_of width atom =
+abbrev pub is_atom_over : ℕ → QueryAtom → Bool
+is_atom_over width atom =
     nat_le (length atom.terms.now) 8 && list_all (is_term_of width) atom.terms.now
 
 -- the atom is known where the slots have these objects
@@ -37,7 +37,7 @@ pub record IsAnswer (known : Known) (sorts : List ℕ) (wants : List ℕ → Boo
 -- At most sixteen types; the slots of the atoms are places of the tuple; each tuple as long can be judged.
 pub record IsAskable (sorts : List ℕ) (can_judge : List ℕ → Type 0) (atoms : List QueryAtom) : Type 0 where
   pub narrow : length sorts ≤ 16
-  pub slots : list_all (is_atom_of (length sorts)) atoms ≡ true
+  pub slots : list_all (is_atom_over (length sorts)) atoms ≡ true
   pub judged : (tuple : List ℕ) → length tuple ≡ length sorts → can_judge tuple
 
 -- the answers stand behind the old rows, each once

@@ -1,11 +1,11 @@
 -- What lists one behind another say of a look-up.
-use Rattle.std.proofs.Common.{◌≡◌, ℕ, ◌+◌, ◌-◌, ◌<◌, min, map, filter, length, slice_get, List, [], ◌∷◌, ◌++◌, refl, sym, ap, ◌∙◌, None, Some, arith, zero, suc, length-append, drop, get_or}
+use Rattle.std.proofs.Common.{◌≡◌, ℕ, ◌+◌, ◌-◌, ◌<◌, min, map, filter, length, slice_get, List, [], ◌∷◌, ◌++◌, refl, sym, ap, ◌∙◌, Some, arith, zero, suc, length-append, drop, get_or}
 use Rattle.std.proofs.lemmas.List.{map-append, drop_more}
 use Rattle.std.proofs.lemmas.List.Elements.{filter-append, filter_map-append}
 use Rattle.task_model.specs.Known.{least, least_from, value_of, is_value_of, object_with, objects_of, is_match, matches_of, with_fact, with_facts}
 use Rattle.task_model.specs.declared.fact.Fact.{Fact}
 use Rattle.task_model.specs.declared.task.Valued.{Valued}
-use Rattle.fact_layer.specs.Laid.{lesser_of}
+use Rattle.fact_layer.specs.Laid.{lesser_option}
 
 min_three : (a b c : ℕ) → min (min a b) c ≡ min a (min b c)
 min_three a b c = grind arith
@@ -19,14 +19,14 @@ least_from-append : (m : ℕ) (xs ys : List ℕ)
 least_from-append m [] ys = refl
 least_from-append m (x ∷ xs) ys = least_from-append (min m x) xs ys
 
-least-append : (xs ys : List ℕ) → lesser_of (least xs) (least ys) ≡ least (xs ++ ys)
+least-append : (xs ys : List ℕ) → lesser_option (least xs) (least ys) ≡ least (xs ++ ys)
 least-append [] ys = refl
 least-append (x ∷ xs) [] = ap Some (sym (least_from-append x xs []))
 least-append (x ∷ xs) (y ∷ ys) =
     ap Some (sym (least_from-min (least_from x xs) y ys) ∙ sym (least_from-append x xs (y ∷ ys)))
 
 pub value-append : (func : ℕ) (args : List ℕ) (xs ys : List Valued)
-    → lesser_of (value_of xs func args) (value_of ys func args) ≡ value_of (xs ++ ys) func args
+    → lesser_option (value_of xs func args) (value_of ys func args) ≡ value_of (xs ++ ys) func args
 value-append func args xs ys =
     least-append (map (λ (v : Valued). v.value) (filter (is_value_of func args) xs))
     (map (λ (v : Valued). v.value) (filter (is_value_of func args) ys))
@@ -59,11 +59,6 @@ matches-append pred place object xs ys = sym (filter-append (is_match pred place
 pub counted : {A : Type 0} (xs ys zs : List A) (n m : ℕ) → n ≡ length xs → m ≡ length ys → xs ++ ys ≡ zs
     → n + m ≡ length zs
 counted xs ys zs n m first second is = omega (arith, length-append xs ys, ap length is)
-
-pub nothing_past : {A : Type 0} (xs : List A) (i : ℕ) → i < length xs → slice_get xs i ≡ None → ⊥
-nothing_past [] i lt e = absurd (omega arith)
-nothing_past (x ∷ xs) zero lt e = absurd (cc)
-nothing_past (x ∷ xs) (suc i) lt e = let less : i < length xs = omega arith in nothing_past xs i less e
 
 -- one fact more of those that are put behind others
 pub facts_more : (facts : List Fact) (i : ℕ) (fact : Fact) (old new : List Fact) → i < length facts

@@ -9,7 +9,7 @@ laid_over known names facts values =
     record { names = known.names ++ names; facts = known.facts ++ facts; values = known.values ++ values }
 
 -- the lesser of two numbers, or the one that there is
-abbrev pub lesser_of : Option ℕ → Option ℕ → Option ℕ
-lesser_of None second = second
-lesser_of (Some n) None = Some n
-lesser_of (Some n) (Some m) = Some (min n m)
+abbrev pub lesser_option : Option ℕ → Option ℕ → Option ℕ
+lesser_option None second = second
+lesser_option (Some n) None = Some n
+lesser_option (Some n) (Some m) = Some (min n m)

@@ -2,7 +2,7 @@
 ghost use Rattle.std.specs.Prelude.{◌≡◌, ◌++◌, ◌<◌, [], not, length, slice_get, Some, IfOk, OnOk, OnErr};
 ghost use Rattle.std.specs.List.{list_any};
 ghost use Rattle.task_model.specs.Known.{is_fact, with_fact, with_facts, same_value, with_value, objects_of, value_of, matches_of};
-ghost use Rattle.fact_layer.specs.Laid.{lesser_of};
+ghost use Rattle.fact_layer.specs.Laid.{lesser_option};
 
 use fact_store::{FactTable, Facts, ValueTable};
 use std::alloc::{AllocError, Global};
@@ -20,7 +20,7 @@ pub struct More {
 
 /// The lesser of two numbers, or the one that there is.
 fn lesser(first: Option<u32>, second: Option<u32>) -> Option<u32>
-    ensures { result ≡ lesser_of first second }
+    ensures { result ≡ lesser_option first second }
 {
     match (first, second) {
         (Some(first), Some(second)) => Some(first.min(second)),

@@ -1,13 +1,7 @@
 -- What a scan of a list passes.
-use Rattle.std.proofs.Common.{◌≡◌, ℕ, zero, suc, ◌<◌, arith, List, [], ◌∷◌, length, get_or, sym, ap, ◌∙◌, Option, None, Some, slice_get, option_copied, Bor}
+use Rattle.std.proofs.Common.{◌≡◌, ℕ, ◌<◌, List, length, get_or, sym, ap, ◌∙◌, Option, None, Some, slice_get, option_copied, Bor}
 use Rattle.std.proofs.lemmas.Option.{slice_get-get_or, slice_get_past}
 use Rattle.std.specs.Slice.{IsItemAt}
-
--- within a list something stands
-pub something : {A : Type 0} (xs : List A) (i : ℕ) → i < length xs → slice_get xs i ≡ None → ⊥
-something [] i h e = omega arith
-something (x ∷ xs) zero h e = absurd (cc)
-something (x ∷ xs) (suc i) h e = something xs i (omega arith) e
 
 -- what an index reads stands there
 pub read_at : {A : Type 0} (xs : List A) (i : ℕ) (x : A) → i < length xs

@@ -27,6 +27,10 @@ in_more [] more object h = absurd (not_both false h refl)
 in_more (n ∷ ns) more zero h = refl
 in_more (n ∷ ns) more (suc object) h = in_more ns more object h
 
+pub all_in_more : (names more : List (List ℕ)) (objects : List ℕ) → All (IsIn names) objects
+    → All (IsIn (names ++ more)) objects
+all_in_more names more objects all k d lt = in_more names more _ (all k d lt)
+
 numbers_equivalence : IsEquivalence same_numbers
 numbers_equivalence = decided same_numbers numbers_decided
 

@@ -11,7 +11,7 @@ use Rattle.task_model.specs.Known.{is_fact, with_fact}
 use Rattle.task_model.specs.declared.fact.Fact.{Fact}
 use Rattle.lemmas.proofs.Members.{get_append, next_taken}
 use Rattle.fact_store.proofs.LeastLemmas.{one_more}
-use Rattle.fact_store.specs.Tables.{AreCovered, CoverPlaces, Covers, Key, facts_with, has_key, is_key, key_of, places_found, places_in, same_key}
+use Rattle.fact_store.specs.Tables.{AreCovered, CoverPlaces, Covers, Key, facts_with, has_key, is_key, group_key, places_found, places_in, same_key}
 use Rattle.fact_store.specs.declared.table.Group.{Group}
 use Rattle.fact_store.specs.declared.table.Group.TheVariants.{Objects, Atoms, AtomsAt}
 use Rattle.fact_store.specs.declared.table.Table.{Table}
@@ -146,7 +146,7 @@ module _ (group : Group) (facts : List Fact) (old new : Table) (fact : Fact)
       one true = ap (λ o. o ∷ []) at
       one false = refl
 
-  pub covers_one : (key : Key) → key_of group fact ≡ Some key → new.done ≡ old.done + 1
+  pub covers_one : (key : Key) → group_key group fact ≡ Some key → new.done ≡ old.done + 1
       → ((q : Key) → places_in new.lists q ≡ cond (same_key key q) (places_in old.lists q ++ old.done ∷ []) (places_in old.lists q))
       → Covers group facts new
   covers_one key is next put = record {
@@ -160,7 +160,7 @@ module _ (group : Group) (facts : List Fact) (old new : Table) (fact : Fact)
       either true ps = refl
       either false ps = sym (append-nil ps)
 
-  pub covers_none : key_of group fact ≡ None → new.done ≡ old.done + 1
+  pub covers_none : group_key group fact ≡ None → new.done ≡ old.done + 1
       → ((q : Key) → places_in new.lists q ≡ places_in old.lists q) → Covers group facts new
   covers_none is next same = record {
     within = subst (λ n. n ≤ length facts) (sym next) (one_more facts old.done fact at);

@@ -18,8 +18,8 @@ abbrev pub same_key : Key → Key → Bool
 same_key a b = (a.0 == b.0) && (a.1 == b.1)
 
 -- the key of a fact, if it belongs to the group
-abbrev pub key_of : Group → Fact → Option Key
-key_of group fact = of group fact.kind fact.args
+abbrev pub group_key : Group → Fact → Option Key
+group_key group fact = of group fact.kind fact.args
   where
     with : Option ℕ → Option Key
     with (Some object) = Some (fact.name, object)
@@ -36,7 +36,7 @@ is_key (Some key) q = same_key key q
 is_key None q = false
 
 abbrev pub has_key : Group → Key → Fact → Bool
-has_key group q fact = is_key (key_of group fact) q
+has_key group q fact = is_key (group_key group fact) q
 
 -- the facts of the group with this key
 abbrev pub facts_with : Group → Key → List Fact → List Fact

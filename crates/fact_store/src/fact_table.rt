@@ -1,5 +1,5 @@
 //! The facts, with the tables by which they are found.
-ghost use Rattle.std.specs.Prelude.{◌≡◌, ◌<◌, List, [], not, length, slice_get, option_copied, IfOk, OnOk, OnErr};
+ghost use Rattle.std.specs.Prelude.{◌≡◌, ◌<◌, ◌^◌, List, [], not, length, slice_get, option_copied, IfOk, OnOk, OnErr};
 ghost use Rattle.task_model.specs.Known.{is_fact, with_fact, objects_of, matches_of};
 ghost use Rattle.task_model.specs.declared.fact.Fact.{Fact};
 ghost use Rattle.fact_store.specs.Atoms.{atoms_of};
@@ -118,7 +118,7 @@ impl FactTable {
     /// How many objects have the type.
     pub fn count(&self, sort: u32) -> usize
         ensures count { result ≡ length (objects_of self.now sort) }
-        ensures few { result < 9223372036854775808 }
+        ensures few { result < 2 ^ 63 }
     {
         self.objects
             .count(Group::Objects, (sort, 0), self.facts.as_slice())
@@ -168,7 +168,7 @@ impl FactTable {
     /// How many atoms of the predicate have the object at this place.
     pub fn matches(&self, pred: u32, place: usize, object: Obj) -> usize
         ensures count { result ≡ length (matches_of self.now pred place object) }
-        ensures few { result < 9223372036854775808 }
+        ensures few { result < 2 ^ 63 }
     {
         let (group, key, facts) = (
             Group::AtomsAt(place),

@@ -1,5 +1,5 @@
 //! A table by which facts are found.
-ghost use Rattle.std.specs.Prelude.{◌≡◌, ◌+◌, ◌<◌, ◌∷◌, ◌++◌, [], true, length, slice_get, if◌then◌else◌, OnOk, OnErr};
+ghost use Rattle.std.specs.Prelude.{◌≡◌, ◌+◌, ◌<◌, ◌^◌, ◌∷◌, ◌++◌, [], true, length, slice_get, if◌then◌else◌, OnOk, OnErr};
 ghost use Rattle.fact_store.specs.Tables.{Covers, Key, facts_with, same_key, places_in};
 ghost use Rattle.fact_store.specs.Tables as tables;
 
@@ -32,7 +32,7 @@ pub(crate) struct Table {
 
 /// The key of the fact, if it belongs to the group.
 fn key_of(group: Group, fact: &Fact) -> Option<Key>
-    ensures { result ≡ tables.key_of group fact.now }
+    ensures { result ≡ tables.group_key group fact.now }
 {
     match (group, fact.kind, fact.args.as_slice()) {
         (Group::Objects, Kind::Sort, [_]) | (Group::Atoms, Kind::Predicate, _) => Some((
@@ -138,7 +138,7 @@ impl Table {
     pub(crate) fn count(&self, group: Group, key: Key, facts: &[Fact]) -> usize
         requires { Covers group facts.now self.now }
         ensures count { result ≡ length (facts_with group key facts.now) }
-        ensures few { result < 9223372036854775808 }
+        ensures few { result < 2 ^ 63 }
     {
         self.places(key).len() + count_with(group, key, &facts[self.done..])
     }

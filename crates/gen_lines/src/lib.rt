@@ -13,4 +13,4 @@ pub use answer::{Answer, Wanted, Why, answer_of};
 pub use line_buf::{LINE_BYTES, LineBuf, Seen};
 pub use request::request_text;
 pub use spans::Spans;
-pub use values::VALUE_BYTES;
+pub use values::{VALUE_BYTES, is_value};

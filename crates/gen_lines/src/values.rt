@@ -18,9 +18,10 @@ pub(crate) fn is_bar(field: &[u8]) -> bool
     field == b"|".as_slice()
 }
 
-/// Whether a field is a value.
+/// Whether a field is a value: one to 64 visible bytes of ASCII, none of them a bracket, `;`, `#`, `@` or `|`. (PDDLStream
+/// 2020 gives values any form; the bytes are this project's.)
 #[tactic(auto, unfolding(crate::specs::Reply::is_value))]
-pub(crate) fn is_value(field: &[u8]) -> bool
+pub fn is_value(field: &[u8]) -> bool
     ensures { result ≡ is_value field.now }
 {
     !field.is_empty() && field.len() <= VALUE_BYTES && are_value_bytes(field)

@@ -4,8 +4,8 @@ use Rattle.std.specs.Str.Parse.{digits_value}
 use Rattle.std.proofs.lemmas.Bool.{and_parts}
 use Rattle.std.proofs.lemmas.Bool.Decides.{nat_tests}
 use Rattle.gen_lines.specs.Reply.{fields}
-use Rattle.grid_text.specs.Entries.{Entry, Item, entry_of, has_numbers, item_of, most_extent, rect_of}
-use Rattle.grid_text.specs.Grids.{GridFile, area, entry_fault, fault_in, found_fault, is_due, is_full, is_inside, is_taken, item_in}
+use Rattle.grid_text.specs.Entries.{Entry, Item, entry_of, has_numbers, grid_item, most_extent, rect_of}
+use Rattle.grid_text.specs.Grids.{GridFile, area, entry_fault, fault_in, found_fault, is_sort_due, is_full, is_inside, is_name_taken, item_in}
 use Rattle.grid_text.specs.Lines.{is_passed, may_stand_in_line}
 use Rattle.grid_text.specs.Numbers.{is_extent, is_short_number}
 use Rattle.grid_text.specs.Rects.{HasCells, LiesInLargest, is_within}
@@ -45,21 +45,21 @@ no_fault_by true true false taken full e = absurd (cc)
 no_fault_by true true true taken full e = (refl, refl)
 
 right_entry : (grid : GridFile) (entry : Entry) → entry_fault grid entry ≡ None
-    → RightItem grid (item_of entry)
+    → RightItem grid (grid_item entry)
 unfolding entry_fault
 right_entry grid entry e =
-    let p = no_fault_by (is_due grid entry.sort) (has_numbers entry)
-    (is_inside grid entry.sort (rect_of entry)) (is_taken grid entry.sort entry.name) (is_full grid entry.sort) e in
+    let p = no_fault_by (is_sort_due grid entry.sort) (has_numbers entry)
+    (is_inside grid entry.sort (rect_of entry)) (is_name_taken grid entry.sort entry.name) (is_full grid entry.sort) e in
     record { cells = numbers_cells entry p.0; inside = p.1 }
 
 right_by : (grid : GridFile) (stands passed : Bool) (entry : Option Entry) (item : Item)
     → (if not stands then Some Form else if passed then None else found_fault grid entry) ≡ None
-    → (if passed then None else option_map item_of entry) ≡ Some item → RightItem grid item
+    → (if passed then None else option_map grid_item entry) ≡ Some item → RightItem grid item
 right_by grid false passed entry item f e = absurd (cc)
 right_by grid true true entry item f e = absurd (cc)
 right_by grid true false None item f e = absurd (cc)
 right_by grid true false (Some entry) item f e =
-    let same : item_of entry ≡ item = cc in
+    let same : grid_item entry ≡ item = cc in
     rw (← same) (right_entry grid entry f)
 
 pub right_item : (grid : GridFile) (line : List ℕ) (item : Item) → fault_in grid line ≡ None

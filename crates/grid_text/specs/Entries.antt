@@ -18,8 +18,8 @@ pub record Entry : Type 0 where
   pub h : List ℕ
 
 -- by a line's first word
-unfoldable pub sort_of : List ℕ → Option EntrySort
-sort_of word =
+unfoldable pub entry_sort : List ℕ → Option EntrySort
+entry_sort word =
     if bytes_eq word (codes "grid") then Some Size else
     if bytes_eq word (codes "block") then Some Block else
     if bytes_eq word (codes "region") then Some Region else
@@ -43,17 +43,17 @@ size_of (w ∷ h ∷ []) =
 size_of (w ∷ h ∷ next ∷ more) = None
 
 -- `NAME w h x y`
-abbrev pub block_of : List (List ℕ) → Option Entry
-block_of [] = None
-block_of (name ∷ given) =
+abbrev pub block_entry : List (List ℕ) → Option Entry
+block_entry [] = None
+block_entry (name ∷ given) =
     if is_name name
     then option_map (λ f. record { sort = Block; name = name; x = f.2; y = f.3; w = f.0; h = f.1 }) (four_of given)
     else None
 
 -- `NAME x y w h`
-abbrev pub region_of : List (List ℕ) → Option Entry
-region_of [] = None
-region_of (name ∷ given) =
+abbrev pub region_entry : List (List ℕ) → Option Entry
+region_entry [] = None
+region_entry (name ∷ given) =
     if is_name name
     then option_map (λ f. record { sort = Region; name = name; x = f.0; y = f.1; w = f.2; h = f.3 }) (four_of given)
     else None
@@ -66,14 +66,14 @@ obstacle_of given =
 abbrev pub given_of : Option EntrySort → List (List ℕ) → Option Entry
 given_of None given = None
 given_of (Some Size) given = size_of given
-given_of (Some Block) given = block_of given
-given_of (Some Region) given = region_of given
+given_of (Some Block) given = block_entry given
+given_of (Some Region) given = region_entry given
 given_of (Some Obstacle) given = obstacle_of given
 
 -- what the fields of a line say, if its words, its name and their number are right
 abbrev pub entry_of : List (List ℕ) → Option Entry
 entry_of [] = None
-entry_of (word ∷ given) = given_of (sort_of word) given
+entry_of (word ∷ given) = given_of (entry_sort word) given
 
 -- Numbers
 
@@ -104,5 +104,5 @@ pub record Item : Type 0 where
   pub name : List ℕ
   pub rect : Rect
 
-abbrev pub item_of : Entry → Item
-item_of entry = record { sort = entry.sort; name = entry.name; rect = rect_of entry }
+abbrev pub grid_item : Entry → Item
+grid_item entry = record { sort = entry.sort; name = entry.name; rect = rect_of entry }

@@ -3,7 +3,7 @@ use Rattle.std.specs.Prelude.{◌≡◌, ℕ, Bool, true, false, not, ◌==◌, 
 use Rattle.std.specs.List.{list_any}
 use Rattle.std.specs.Str.{bytes_eq}
 use Rattle.gen_lines.specs.Reply.{fields}
-use Rattle.grid_text.specs.Entries.{Entry, Item, entry_of, has_numbers, item_of, rect_of}
+use Rattle.grid_text.specs.Entries.{Entry, Item, entry_of, has_numbers, grid_item, rect_of}
 use Rattle.grid_text.specs.Lines.{is_passed, may_stand_in_line}
 use Rattle.grid_text.specs.Rects.{is_within}
 use Rattle.grid_text.specs.declared.entry.EntrySort.{EntrySort}
@@ -45,7 +45,7 @@ region_of name rect = record { name = name; rect = rect }
 
 -- what a line says, which is nothing where it is passed over
 abbrev pub item_in : List ℕ → Option Item
-item_in line = if is_passed line then None else option_map item_of (entry_of (fields line))
+item_in line = if is_passed line then None else option_map grid_item (entry_of (fields line))
 
 -- the size, the block, the region or the obstacle that a line tells, if it is of that sort
 abbrev pub size_told : EntrySort → List ℕ → Rect → Option Rect
@@ -113,11 +113,11 @@ with_line grid line = with_grid_item grid (item_in line)
 -- Faults of a line behind lines that say this grid
 
 -- the size comes first, and once
-abbrev pub is_due : GridFile → EntrySort → Bool
-is_due grid sort.Size = grid.width == 0
-is_due grid sort.Block = not (grid.width == 0)
-is_due grid sort.Region = not (grid.width == 0)
-is_due grid sort.Obstacle = not (grid.width == 0)
+abbrev pub is_sort_due : GridFile → EntrySort → Bool
+is_sort_due grid sort.Size = grid.width == 0
+is_sort_due grid sort.Block = not (grid.width == 0)
+is_sort_due grid sort.Region = not (grid.width == 0)
+is_sort_due grid sort.Obstacle = not (grid.width == 0)
 
 -- the rectangle lies in the grid
 abbrev pub is_inside : GridFile → EntrySort → Rect → Bool
@@ -127,11 +127,11 @@ is_inside grid sort.Region rect = is_within rect (area grid)
 is_inside grid sort.Obstacle rect = is_within rect (area grid)
 
 -- another line of the sort has the name
-abbrev pub is_taken : GridFile → EntrySort → List ℕ → Bool
-is_taken grid sort.Size name = false
-is_taken grid sort.Block name = list_any (λ (b : Block). bytes_eq b.name name) grid.blocks
-is_taken grid sort.Region name = list_any (λ (r : NamedRect). bytes_eq r.name name) grid.regions
-is_taken grid sort.Obstacle name = false
+abbrev pub is_name_taken : GridFile → EntrySort → List ℕ → Bool
+is_name_taken grid sort.Size name = false
+is_name_taken grid sort.Block name = list_any (λ (b : Block). bytes_eq b.name name) grid.blocks
+is_name_taken grid sort.Region name = list_any (λ (r : NamedRect). bytes_eq r.name name) grid.regions
+is_name_taken grid sort.Obstacle name = false
 
 -- there are as many of the sort as there may be
 abbrev pub is_full : GridFile → EntrySort → Bool
@@ -143,10 +143,10 @@ is_full grid sort.Obstacle = nat_le 1000 (length grid.obstacles)
 -- the first fault of a line whose words are right
 unfoldable pub entry_fault : GridFile → Entry → Option GridKind
 entry_fault grid entry =
-    if not (is_due grid entry.sort) then Some Form else
+    if not (is_sort_due grid entry.sort) then Some Form else
     if not (has_numbers entry) then Some Number else
     if not (is_inside grid entry.sort (rect_of entry)) then Some Outside else
-    if is_taken grid entry.sort entry.name then Some Duplicate else
+    if is_name_taken grid entry.sort entry.name then Some Duplicate else
     if is_full grid entry.sort then Some TooMany else None
 
 abbrev pub found_fault : GridFile → Option Entry → Option GridKind

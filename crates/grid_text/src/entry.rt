@@ -71,9 +71,9 @@ pub(crate) fn entry_of(line: &[u8]) -> Option<Entry<'_>>
     }
 }
 
-#[tactic(auto, unfolding(crate::specs::Entries::sort_of))]
+#[tactic(auto, unfolding(crate::specs::Entries::entry_sort))]
 fn sort_of(word: &[u8]) -> Option<EntrySort>
-    ensures { result ≡ specs.sort_of word.now }
+    ensures { result ≡ specs.entry_sort word.now }
 {
     if word == b"grid".as_slice() {
         return Some(EntrySort::Size);
@@ -111,7 +111,7 @@ fn size_of(given: &[u8]) -> Option<Entry<'_>>
 
 /// `NAME w h x y`
 fn block_of(given: &[u8]) -> Option<Entry<'_>>
-    ensures { result ≡ specs.block_of (fields given.now) }
+    ensures { result ≡ specs.block_entry (fields given.now) }
 {
     let (name, rest) = first_field(given)?;
     if !is_name(name) {
@@ -130,7 +130,7 @@ fn block_of(given: &[u8]) -> Option<Entry<'_>>
 
 /// `NAME x y w h`
 fn region_of(given: &[u8]) -> Option<Entry<'_>>
-    ensures { result ≡ specs.region_of (fields given.now) }
+    ensures { result ≡ specs.region_entry (fields given.now) }
 {
     let (name, rest) = first_field(given)?;
     if !is_name(name) {
@@ -195,7 +195,7 @@ impl<'a> Model for Item<'a> {
 /// The entry with its numbers, if they are right.
 #[tactic(auto, unfolding(crate::specs::Entries::has_numbers))]
 pub(crate) fn item_of<'a>(entry: &Entry<'a>) -> Option<Item<'a>>
-    ensures { result ≡ (if specs.has_numbers entry.now then Some (specs.item_of entry.now) else
+    ensures { result ≡ (if specs.has_numbers entry.now then Some (specs.grid_item entry.now) else
         None) }
 {
     let most = most_extent(entry.sort);

@@ -2,7 +2,7 @@
 ghost use Rattle.std.specs.Prelude.{◌≡◌, Some, None, true, OnOk, IfOk, IfErr, MatchResult};
 ghost use Rattle.std.specs.List.{list_any};
 ghost use Rattle.std.specs.Str.{bytes_eq};
-ghost use Rattle.grid_text.specs.Entries.{item_of};
+ghost use Rattle.grid_text.specs.Entries.{grid_item};
 ghost use Rattle.grid_text.specs.Grids as specs;
 ghost use Rattle.grid_text.specs.Rects.{LiesInLargest};
 
@@ -213,7 +213,7 @@ impl Grid {
     #[tactic(auto, unfolding(crate::specs::Grids::entry_fault))]
     fn checked<'a>(&self, entry: &Entry<'a>) -> Result<Item<'a>, GridKind>
         ensures { MatchResult result
-            (λ item. (specs.entry_fault self.now entry.now ≡ None) × (item ≡ item_of entry.now))
+            (λ item. (specs.entry_fault self.now entry.now ≡ None) × (item ≡ grid_item entry.now))
             (λ kind. specs.entry_fault self.now entry.now ≡ Some kind) }
     {
         if !self.is_due(entry.sort()) {
@@ -236,7 +236,7 @@ impl Grid {
 
     /// Whether a line of this sort may come now: the size comes first, and once.
     fn is_due(&self, sort: EntrySort) -> bool
-        ensures { result ≡ specs.is_due self.now sort }
+        ensures { result ≡ specs.is_sort_due self.now sort }
     {
         match sort {
             EntrySort::Size => self.width == 0,
@@ -258,7 +258,7 @@ impl Grid {
 
     /// Whether another line of this sort has the name.
     fn is_taken(&self, sort: EntrySort, name: &[u8]) -> bool
-        ensures { result ≡ specs.is_taken self.now sort name.now }
+        ensures { result ≡ specs.is_name_taken self.now sort name.now }
     {
         match sort {
             EntrySort::Block => has_block(&self.blocks, name),

@@ -3,7 +3,7 @@ use Rattle.std.specs.Prelude.{ℕ, Bool, List, [], ◌∷◌, codes, Option, Som
 use Rattle.std.specs.Str.{bytes_eq}
 use Rattle.std.specs.Str.Parse.{digits_value}
 use Rattle.grid_text.specs.Numbers.{is_decimal}
-use Rattle.grid_world.specs.Words.{stream_of}
+use Rattle.grid_world.specs.Words.{served_stream}
 use Rattle.grid_world.specs.declared.words.Stream.{Stream}
 
 -- which answer of which stream is wanted, for which inputs
@@ -26,5 +26,5 @@ ask_of (next ∷ []) = None
 ask_of (next ∷ turn ∷ []) = None
 ask_of (next ∷ turn ∷ stream ∷ inputs) =
     if is_next next
-    then (if is_decimal turn then ask_to (digits_value 10 turn) inputs (stream_of stream) else None)
+    then (if is_decimal turn then ask_to (digits_value 10 turn) inputs (served_stream stream) else None)
     else None

@@ -66,7 +66,7 @@ pub record HasFaults (source_old source_new sink_old sink_new : ℕ) (status : G
 
 -- What is told of the outside: the files, the paths that were asked for, the counts of faults of the files, the source
 -- and the sink, the bytes that the source had left, and those that the sink took.
-pub record Outside : Type 0 where
+pub record ServedOutside : Type 0 where
   pub told : Option FileMap
   pub asked_old : Option (List Asked)
   pub asked_new : Option (List Asked)
@@ -82,19 +82,19 @@ pub record Outside : Type 0 where
   pub new : Option (List ℕ)
 
 -- nothing was read of the source, and nothing written
-pub record NothingPassed (outside : Outside) : Type 0 where
+pub record NothingPassed (outside : ServedOutside) : Type 0 where
   pub left : outside.after ≡ outside.before
   pub taken : outside.new ≡ outside.old
 
 -- the grid was read, and lines were answered
-pub record HasServed (outside : Outside) (bytes : List ℕ) (status : GridStatus) : Type 0 where
+pub record HasServed (outside : ServedOutside) (bytes : List ℕ) (status : GridStatus) : Type 0 where
   pub grid : GridFile
   pub read : IsGridOf bytes grid
   pub answers : AnswersLines grid outside.before outside.after outside.old outside.new status
   pub faults : HasFaults outside.source_old outside.source_new outside.sink_old outside.sink_new status
 
 -- the file is no grid file
-pub record IsGridRefused (outside : Outside) (bytes : List ℕ) (status : GridStatus) : Type 0 where
+pub record IsGridRefused (outside : ServedOutside) (bytes : List ℕ) (status : GridStatus) : Type 0 where
   pub line : ℕ
   pub kind : GridKind
   pub blames : BlamesGridText bytes (At line kind)
@@ -102,17 +102,17 @@ pub record IsGridRefused (outside : Outside) (bytes : List ℕ) (status : GridSt
   pub untouched : NothingPassed outside
 
 -- nothing was done with this status
-pub record HasStopped (outside : Outside) (status told : GridStatus) : Type 0 where
+pub record HasStopped (outside : ServedOutside) (status told : GridStatus) : Type 0 where
   pub is : status ≡ told
   pub untouched : NothingPassed outside
 
-abbrev pub GridSo : Outside → List ℕ → GridStatus → Type 0
+abbrev pub GridSo : ServedOutside → List ℕ → GridStatus → Type 0
 GridSo outside bytes status =
     HasServed outside bytes status ⊎ IsGridRefused outside bytes status
     ⊎ HasStopped outside status Memory
 
 -- what was done by what the read of the file answered
-abbrev pub FileSo : Outside → List ℕ → GridStatus → Result (Unit {0}) FileFault → Type 0
+abbrev pub FileSo : ServedOutside → List ℕ → GridStatus → Result (Unit {0}) FileFault → Type 0
 FileSo outside path status (Ok u) =
     (bytes : List ℕ) × IfSome outside.told (λ files. files path ≡ Some bytes)
     × GridSo outside bytes status
@@ -124,18 +124,18 @@ FileSo outside path status (Err fault.TooLong) =
 FileSo outside path status (Err fault.Memory) = HasStopped outside status Memory
 
 -- the one file was asked for
-pub record HasAsked (outside : Outside) (path : List ℕ) (status : GridStatus) : Type 0 where
+pub record HasAsked (outside : ServedOutside) (path : List ℕ) (status : GridStatus) : Type 0 where
   pub answer : Result (Unit {0}) FileFault
   pub asked : Extends outside.asked_old outside.asked_new (record { path = path; answer = answer } ∷ [])
   pub so : FileSo outside path status answer
 
 -- no file was asked for
-pub record HasRefusedWords (outside : Outside) (status : GridStatus) : Type 0 where
+pub record HasRefusedWords (outside : ServedOutside) (status : GridStatus) : Type 0 where
   pub stopped : HasStopped outside status Usage
   pub asked : outside.asked_new ≡ outside.asked_old
 
 -- The words are one path, or they are refused.
-abbrev pub Serves : Outside → List (List ℕ) → GridStatus → Type 0
+abbrev pub Serves : ServedOutside → List (List ℕ) → GridStatus → Type 0
 Serves outside [] status = HasRefusedWords outside status
 Serves outside (path ∷ []) status = HasAsked outside path status
 Serves outside (path ∷ next ∷ more) status = HasRefusedWords outside status

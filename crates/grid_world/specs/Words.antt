@@ -12,8 +12,8 @@ use Rattle.grid_world.specs.declared.words.Corner.{Corner}
 use Rattle.grid_world.specs.declared.words.Stream.{Stream}
 use Rattle.grid_world.specs.declared.words.Stream.TheVariants.{Place, Grasp, Reach, Clear}
 
-unfoldable pub stream_of : List ℕ → Option Stream
-stream_of word =
+unfoldable pub served_stream : List ℕ → Option Stream
+served_stream word =
     if bytes_eq word (codes "place") then Some Place else
     if bytes_eq word (codes "grasp") then Some Grasp else
     if bytes_eq word (codes "reach") then Some Reach else

@@ -16,7 +16,7 @@ pub(crate) struct Session {
     running: bool,
     grid: Grid,
     written: Vec<u8>,
-    open: Vec<u8>,
+    begun: Vec<u8>,
     answers: Vec<u8>,
     given: usize,
 }
@@ -32,15 +32,15 @@ impl Model for Session {
     ghost view = { λ s. record
         { running = s.running; grid = s.grid; written = s.written.items; given = s.given } };
 
-    ghost invariant = { λ s. (s.open.items ≡ unfinished s.written.items)
+    ghost invariant = { λ s. (s.begun.items ≡ unfinished s.written.items)
         × (s.answers.items ≡ answers_text s.grid s.written.items)
         × (s.given ≤ length s.answers.items) };
 }
 
-/// What more bytes leave open, and the answers that they bring.
+/// The line that more bytes leave begun, and the answers that they bring.
 #[derive(Drop)]
 struct Heard {
-    open: Vec<u8>,
+    begun: Vec<u8>,
     answers: Vec<u8>,
 }
 
@@ -53,7 +53,7 @@ impl Session {
             running: true,
             grid,
             written: Vec::new(alloc),
-            open: Vec::new(alloc),
+            begun: Vec::new(alloc),
             answers: Vec::new(alloc),
             given: 0,
         }
@@ -66,7 +66,7 @@ impl Session {
         ensures given { OnOk result (KeepsGiven self.old bytes.now) }
         ensures same { OnErr result (self.new ≡ self.old) }
     {
-        let heard = hear(alloc, &self.grid, &self.open, bytes)?;
+        let heard = hear(alloc, &self.grid, &self.begun, bytes)?;
         self.written.reserve(bytes.len())?;
         self.answers.reserve(heard.answers.len())?;
         let Ok(()) = self.written.extend_from_slice(bytes) else {
@@ -75,7 +75,7 @@ impl Session {
         let Ok(()) = self.answers.extend_from_slice(&heard.answers) else {
             unreachable!()
         };
-        self.open = heard.open;
+        self.begun = heard.begun;
         Ok(())
     }
 
@@ -114,13 +114,13 @@ fn copy_front(bytes: &[u8], room: &mut [u8]) -> usize
     count
 }
 
-/// Goes through bytes that come behind an open line.
+/// Goes through bytes that come behind a line that has begun.
 fn hear(alloc: Global, grid: &Grid, left: &[u8], bytes: &[u8]) -> Result<Heard, AllocError>
     ensures { IfOk result (λ heard. (written : List ℕ) → unfinished written ≡ left.now
-        → SessionGoesOn grid.now written bytes.now heard.open.items heard.answers.items) }
+        → SessionGoesOn grid.now written bytes.now heard.begun.items heard.answers.items) }
 {
     let mut heard = Heard {
-        open: Vec::from_slice(alloc, left)?,
+        begun: Vec::from_slice(alloc, left)?,
         answers: Vec::new(alloc),
     };
     for byte in bytes {
@@ -129,18 +129,18 @@ fn hear(alloc: Global, grid: &Grid, left: &[u8], bytes: &[u8]) -> Result<Heard, 
     Ok(heard)
 }
 
-/// Hears one byte more: a line feed ends the open line, which is answered.
+/// Hears one byte more: a line feed ends the line that has begun, which is answered.
 fn hear_byte(grid: &Grid, heard: &mut Heard, byte: u8) -> Result<(), AllocError>
-    ensures { OnOk result (SessionHearsByte grid.now byte heard.old.open.items
+    ensures { OnOk result (SessionHearsByte grid.now byte heard.old.begun.items
         heard.old.answers.items
-        heard.new.open.items heard.new.answers.items) }
+        heard.new.begun.items heard.new.answers.items) }
 {
     if byte == b'\n' {
-        let line = answer_line(grid_answer(grid, without_return(&heard.open)));
+        let line = answer_line(grid_answer(grid, without_return(&heard.begun)));
         heard.answers.extend_from_slice(line.as_str().as_bytes())?;
-        heard.open.clear();
+        heard.begun.clear();
     } else {
-        heard.open.push(byte)?;
+        heard.begun.push(byte)?;
     }
     Ok(())
 }

@@ -24,9 +24,9 @@ pub(crate) struct Corner {
     pub(crate) y: u32,
 }
 
-#[tactic(auto, unfolding(crate::specs::Words::stream_of))]
+#[tactic(auto, unfolding(crate::specs::Words::served_stream))]
 pub(crate) fn stream_of(word: &[u8]) -> Option<Stream>
-    ensures { result ≡ specs.stream_of word.now }
+    ensures { result ≡ specs.served_stream word.now }
 {
     if word == b"place".as_slice() {
         return Some(Stream::Place);

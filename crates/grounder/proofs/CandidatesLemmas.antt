@@ -15,7 +15,7 @@ use Rattle.fact_join.specs.declared.partial.Partial.{Partial}
 use Rattle.fact_join.specs.declared.query.QueryAtom.{QueryAtom}
 use Rattle.grounder.proofs.ListingLemmas.{sorted_all}
 use Rattle.grounder.proofs.PartsLemmas.{settled_where, true_where}
-use Rattle.grounder.specs.Candidates.{AreRows, can_go_on, is_open}
+use Rattle.grounder.specs.Candidates.{AreCandidateRows, can_go_on, is_part_open}
 use Rattle.grounder.specs.Listing.{AreArguments, can_take}
 use Rattle.grounder.specs.Parts.{AreNeeded, is_settled, tops_of}
 use Rattle.task_model.specs.Known.{Known}
@@ -31,7 +31,7 @@ pub sorted_rows : (domain : Domain) (known : Known) (action : Action) (partial :
     (atoms : List QueryAtom) (found rows : List (List ℕ))
     → ((slots : List ℕ) → Agrees partial slots) → AreNeeded domain (tops_of action.condition) atoms
     → Adds (IsAnswer known action.params (λ _. true) partial atoms) [] found
-    → IsPermutation found rows → IsSorted (slice_cmp nat_cmp) rows → AreRows domain known action rows
+    → IsPermutation found rows → IsSorted (slice_cmp nat_cmp) rows → AreCandidateRows domain known action rows
 sorted_rows domain known action partial atoms found rows free needed adds moved up =
     let all = sorted_all (IsAnswer known action.params (λ _. true) partial atoms) found rows adds moved up in
     record {
@@ -55,7 +55,7 @@ module _ (task : Task) (known : Known) (state : Atoms) (action : Action) where
   goes args = can_go_on task known state action args
 
   -- those of the rows of which the rest is true are the arguments with which the action can be taken
-  pub going_rows : (rows : List (List ℕ)) → AreRows task.domain known action rows
+  pub going_rows : (rows : List (List ℕ)) → AreCandidateRows task.domain known action rows
       → AreArguments task known state action (filter goes rows)
   going_rows rows are = record {
     ascending = IsStrictlySortedBy-filter (slice_cmp nat_cmp) goes rows are.ascending;
@@ -68,7 +68,7 @@ module _ (task : Task) (known : Known) (state : Atoms) (action : Action) where
 
       left : List ℕ → Bool
       left args =
-          list_all (is_open task.domain known state (slots_of args)) (tops_of action.condition)
+          list_all (is_part_open task.domain known state (slots_of args)) (tops_of action.condition)
 
       priced : List ℕ → Bool
       priced args = is_some (cost_of task known action args)

@@ -19,10 +19,10 @@ use Rattle.task_model.specs.declared.domain.Domain.{Domain}
 use Rattle.task_model.specs.declared.domain.Role.{Role}
 use Rattle.task_model.specs.declared.domain.Role.TheVariants as role
 use Rattle.fact_join.proofs.FitLemmas.{fit_terms}
-use Rattle.fact_join.specs.Answers.{is_known, is_atom_of}
+use Rattle.fact_join.specs.Answers.{is_known, is_atom_over}
 use Rattle.fact_join.specs.declared.query.QueryAtom.{QueryAtom}
-use Rattle.grounder.specs.Candidates.{is_open}
-use Rattle.grounder.specs.Parts.{AreNeeded, IsNeeded, list_of, tops_of, is_static, is_known_atom, is_settled, is_sound_over}
+use Rattle.grounder.specs.Candidates.{is_part_open}
+use Rattle.grounder.specs.Parts.{AreNeeded, IsNeeded, list_of, tops_of, is_static_part, is_known_atom, is_settled, is_sound_over}
 
 -- ---- parts as a list
 
@@ -121,7 +121,7 @@ module _ (domain : Domain) (known : Known) (state : Atoms) (slots : List ℕ) wh
   true_atom pred args role.Derived is = refl
 
   true_part : (part : Condition)
-      → truth_of part ≡ (is_settled domain known slots part && is_open domain known state slots part)
+      → truth_of part ≡ (is_settled domain known slots part && is_part_open domain known state slots part)
   true_part (Atom pred args) = true_atom pred (objects_at slots args) (role_of domain pred) refl
   true_part (Equal s t) = refl
   true_part (every parts) = refl
@@ -130,13 +130,13 @@ module _ (domain : Domain) (known : Known) (state : Atoms) (slots : List ℕ) wh
   true_part (Exists first sorts body) = refl
 
   all_split : (parts : List Condition)
-      → list_all truth_of parts ≡ (list_all (is_settled domain known slots) parts && list_all (is_open domain known state slots) parts)
+      → list_all truth_of parts ≡ (list_all (is_settled domain known slots) parts && list_all (is_part_open domain known state slots) parts)
   all_split [] = refl
   all_split (part ∷ parts) =
       ap (λ b. b && list_all truth_of parts) (true_part part)
-      ∙ ap (λ b. (is_settled domain known slots part && is_open domain known state slots part) && b) (all_split parts)
-      ∙ and_swap (is_settled domain known slots part) (is_open domain known state slots part)
-      (list_all (is_settled domain known slots) parts) (list_all (is_open domain known state slots) parts)
+      ∙ ap (λ b. (is_settled domain known slots part && is_part_open domain known state slots part) && b) (all_split parts)
+      ∙ and_swap (is_settled domain known slots part) (is_part_open domain known state slots part)
+      (list_all (is_settled domain known slots) parts) (list_all (is_part_open domain known state slots) parts)
     where
       and_swap : (a b c d : Bool) → ((a && b) && (c && d)) ≡ ((a && c) && (b && d))
       and_swap true true c d = refl
@@ -146,14 +146,14 @@ module _ (domain : Domain) (known : Known) (state : Atoms) (slots : List ℕ) wh
 
   -- a condition is true exactly where its static atoms are known facts, and its other parts are true
   pub true_where : (c : Condition)
-      → truth_of c ≡ (list_all (is_settled domain known slots) (tops_of c) && list_all (is_open domain known state slots) (tops_of c))
+      → truth_of c ≡ (list_all (is_settled domain known slots) (tops_of c) && list_all (is_part_open domain known state slots) (tops_of c))
   true_where c = true_tops c ∙ all_split (tops_of c)
 
   pub settled_where : (c : Condition) → truth_of c ≡ true
       → list_all (is_settled domain known slots) (tops_of c) ≡ true
   settled_where c t =
       first_so (list_all (is_settled domain known slots) (tops_of c))
-      (list_all (is_open domain known state slots) (tops_of c)) (sym (true_where c) ∙ t)
+      (list_all (is_part_open domain known state slots) (tops_of c)) (sym (true_where c) ∙ t)
 
 -- ---- the atoms that are needed
 
@@ -187,7 +187,7 @@ module _ (domain : Domain) (parts : List Condition) (atoms : List QueryAtom) (pa
   needed_next atom before one = record {
     slots = λ width sound.
         let front = sound_front width sound in
-        all_push (is_atom_of width) atoms atom (before.slots width front.0) (one.slots width front.1);
+        all_push (is_atom_over width) atoms atom (before.slots width front.0) (one.slots width front.1);
     known = λ known slots.
         list_all-append (is_known known slots) atoms (atom ∷ [])
         ∙ ap (λ b. b && (is_known known slots atom && true)) (before.known known slots)
@@ -196,7 +196,7 @@ module _ (domain : Domain) (parts : List Condition) (atoms : List QueryAtom) (pa
   }
 
   -- one part more, which isn't
-  pub needed_past : is_static domain part ≡ false → AreNeeded domain parts atoms
+  pub needed_past : is_static_part domain part ≡ false → AreNeeded domain parts atoms
       → AreNeeded domain (parts ++ part ∷ []) atoms
   needed_past other before = record {
     slots = λ width sound. before.slots width (sound_front width sound).0;

@@ -9,7 +9,7 @@ use Rattle.task_model.specs.Roles.{role_of}
 use Rattle.task_model.specs.Truth.{objects_at}
 use Rattle.task_model.specs.declared.domain.Domain.{Domain}
 use Rattle.std.specs.Prelude.{not, ◌||◌}
-use Rattle.fact_join.specs.Answers.{is_known, is_atom_of}
+use Rattle.fact_join.specs.Answers.{is_known, is_atom_over}
 use Rattle.fact_join.specs.declared.query.QueryAtom.{QueryAtom}
 
 abbrev pub list_of : Conditions → List Condition
@@ -26,13 +26,13 @@ tops_of (Not part) = Not part ∷ []
 tops_of (Exists first sorts body) = Exists first sorts body ∷ []
 
 -- it is an atom of a static predicate
-abbrev pub is_static : Domain → Condition → Bool
-is_static domain (Atom pred args) = is_static_role (role_of domain pred)
-is_static domain (Equal s t) = false
-is_static domain (All parts) = false
-is_static domain (Any parts) = false
-is_static domain (Not part) = false
-is_static domain (Exists first sorts body) = false
+abbrev pub is_static_part : Domain → Condition → Bool
+is_static_part domain (Atom pred args) = is_static_role (role_of domain pred)
+is_static_part domain (Equal s t) = false
+is_static_part domain (All parts) = false
+is_static_part domain (Any parts) = false
+is_static_part domain (Not part) = false
+is_static_part domain (Exists first sorts body) = false
 
 -- it is a known fact if it is an atom, where the slots have these objects
 abbrev pub is_known_atom : Known → List ℕ → Condition → Bool
@@ -46,7 +46,7 @@ is_known_atom known slots (Exists first sorts body) = true
 
 -- it is a known fact if it is an atom of a static predicate
 abbrev pub is_settled : Domain → Known → List ℕ → Condition → Bool
-is_settled domain known slots part = not (is_static domain part) || is_known_atom known slots part
+is_settled domain known slots part = not (is_static_part domain part) || is_known_atom known slots part
 
 -- the condition is fit where so many slots are filled
 abbrev pub is_sound_over : Domain → ℕ → Condition → Bool
@@ -57,13 +57,13 @@ is_sound_over domain width condition =
 -- slots are filled where the parts' are.
 pub record AreNeeded (domain : Domain) (parts : List Condition) (atoms : List QueryAtom) : Type 0 where
   pub slots : (width : ℕ) → list_all (is_sound_over domain width) parts ≡ true
-      → list_all (is_atom_of width) atoms ≡ true
+      → list_all (is_atom_over width) atoms ≡ true
   pub known : (known : Known) (slots : List ℕ)
       → list_all (is_known known slots) atoms ≡ list_all (is_settled domain known slots) parts
 
 -- the same of one atom and one part
 pub record IsNeeded (domain : Domain) (part : Condition) (atom : QueryAtom) : Type 0 where
-  pub static : is_static domain part ≡ true
-  pub slots : (width : ℕ) → is_sound_over domain width part ≡ true → is_atom_of width atom ≡ true
+  pub static : is_static_part domain part ≡ true
+  pub slots : (width : ℕ) → is_sound_over domain width part ≡ true → is_atom_over width atom ≡ true
   pub known : (known : Known) (slots : List ℕ)
       → is_known known slots atom ≡ is_settled domain known slots part

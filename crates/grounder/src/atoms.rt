@@ -2,7 +2,7 @@
 ghost use Rattle.std.specs.Prelude.{◌≡◌, false, true, IfOk, MatchOption};
 ghost use Rattle.formula_eval.specs.Readable.{is_readable};
 ghost use Rattle.task_model.specs.Fit.{IsFitDomain};
-ghost use Rattle.grounder.specs.Parts.{IsNeeded, AreNeeded, is_static, tops_of};
+ghost use Rattle.grounder.specs.Parts.{IsNeeded, AreNeeded, is_static_part, tops_of};
 
 use fact_join::QueryAtom;
 use std::alloc::{AllocError, Global};
@@ -27,7 +27,7 @@ pub fn tops(condition: &Formula) -> &[Formula]
 pub(crate) fn static_atom<'a>(domain: &Domain, condition: &'a Formula) -> Option<QueryAtom<'a>>
     requires fit { IsFitDomain domain.now }
     requires readable { is_readable domain.now condition.now ≡ true }
-    ensures { MatchOption result (is_static domain.now condition.now ≡ false)
+    ensures { MatchOption result (is_static_part domain.now condition.now ≡ false)
         (IsNeeded domain.now condition.now) }
 {
     let FormulaNode::Atom { pred, args } = &condition.node else {

@@ -2,12 +2,13 @@
 ghost use Rattle.std.specs.Prelude.{◌≡◌, IfOk, IfSome, OnOk, true, Some, slice_get};
 ghost use Rattle.task_model.specs.Fit.{IsFit, is_fit_action};
 ghost use Rattle.grounder.specs.Applicable.{AreApplicable};
-ghost use Rattle.grounder.specs.Candidates.{AreCandidates, AreRows};
+ghost use Rattle.grounder.specs.Candidates.{AreCandidates, AreCandidateRows};
 ghost use Rattle.grounder.specs.Listing.{AddsSteps};
 
 use crate::atoms::static_atoms;
 use crate::steps::{Scene, add_steps};
 use fact_join::{JoinFault, Partial, Query, Wanted, join};
+use formula_memo::Memo;
 use std::alloc::{AllocError, Global};
 use task_model::{Action, GroundAction, Look, Obj, Seq, State, Task, Wide};
 
@@ -40,7 +41,7 @@ fn rows_of<L: Look>(
     requires fit { IsFit task.now }
     requires action { is_fit_action task.now.domain action.now ≡ true }
     ensures { IfOk result
-        (λ rows. IfSome rows (AreRows task.now.domain (L.known look.now) action.now)) }
+        (λ rows. IfSome rows (AreCandidateRows task.now.domain (L.known look.now) action.now)) }
 {
     let atoms = static_atoms(alloc, &task.domain, &action.condition)?;
     let query = Query {
@@ -71,13 +72,14 @@ fn add_from_rows<L: Look>(
     requires fit { IsFit scene.now.task.now }
     requires named { slice_get scene.now.task.now.domain.actions scene.now.number
         ≡ Some scene.now.action.now }
-    requires rows { AreRows scene.now.task.now.domain (L.known scene.now.look.now)
+    requires rows { AreCandidateRows scene.now.task.now.domain (L.known scene.now.look.now)
         scene.now.action.now rows.now }
     ensures { OnOk result (AddsSteps scene.now.task.now (L.known scene.now.look.now)
         scene.now.state.now scene.now.number steps.old.items steps.new.items) }
 {
+    let mut memo = Memo::empty(scene.state.allocator());
     for args in rows {
-        if scene.can_go(args.as_slice()) {
+        if scene.can_go(&mut memo, args.as_slice()) {
             steps.push(GroundAction {
                 action: scene.number,
                 args: args.copy()?,

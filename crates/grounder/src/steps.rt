@@ -1,12 +1,14 @@
 //! The steps of one action.
 ghost use Rattle.std.specs.Prelude.{◌≡◌, ◌≤◌, OnOk, IfOk, length, true, Some, slice_get};
 ghost use Rattle.task_model.specs.Fit.{IsFit, is_fit_action};
+ghost use Rattle.formula_memo.specs.Remembered.{StandsFor};
 ghost use Rattle.grounder.specs.Candidates.{can_go_on};
 ghost use Rattle.grounder.specs.Listing.{AddsSteps, AreArguments};
 
 use crate::atoms::{static_atom, static_atoms, tops};
 use fact_join::{Partial, Query, Wanted, join};
-use formula_eval::{Env, holds};
+use formula_eval::Env;
+use formula_memo::{Memo, holds_once, holds_with};
 use plan_check::step_cost;
 use std::alloc::{AllocError, Global};
 use task_model::{Action, GroundAction, Look, Obj, State, Task, Wide};
@@ -36,7 +38,7 @@ impl<'a, L: Look> Wanted for Scene<'a, L> {
     /// Whether the action can be taken with these objects: its condition is true, and its cost has a value.
     fn wants(&self, args: &[Obj]) -> bool {
         let mut env = Env::new(args);
-        holds(
+        holds_once(
             self.task,
             self.look,
             self.state,
@@ -49,18 +51,21 @@ impl<'a, L: Look> Wanted for Scene<'a, L> {
 impl<'a, L: Look> Scene<'a, L> {
     /// Whether the action can be taken with these objects as far as its static atoms don't say: all other parts of
     /// its condition are true, and its cost has a value.
-    pub(crate) fn can_go(&self, args: &[Obj]) -> bool
+    pub(crate) fn can_go(&self, memo: &mut Memo, args: &[Obj]) -> bool
         requires fit { IsFit self.now.task.now }
         requires action { is_fit_action self.now.task.now.domain self.now.action.now ≡ true }
         requires few { length args.now ≤ 16 }
-        ensures { result ≡ can_go_on self.now.task.now (L.known self.now.look.now)
-            self.now.state.now
-            self.now.action.now args.now }
+        requires stands { StandsFor self.now.task.now.domain (L.known self.now.look.now)
+            self.now.state.now memo.old }
+        ensures value { result ≡ can_go_on self.now.task.now (L.known self.now.look.now)
+            self.now.state.now self.now.action.now args.now }
+        ensures stands { StandsFor self.now.task.now.domain (L.known self.now.look.now)
+            self.now.state.now memo.new }
     {
         let mut env = Env::new(args);
         for part in tops(&self.action.condition) {
             if static_atom(&self.task.domain, part).is_none()
-                && !holds(self.task, self.look, self.state, part, &mut env)
+                && !holds_with(self.task, self.look, self.state, memo, part, &mut env)
             {
                 return false;
             }

@@ -11,31 +11,31 @@ use Rattle.task_model.specs.Streams.{Note, IsDue, yields_of, is_finished, AreDue
 use Rattle.task_model.specs.declared.stream.Instance.{Instance}
 use Rattle.task_model.specs.declared.stream.Stream.{Stream}
 use Rattle.task_model.specs.declared.task.Task.{Task}
-use Rattle.instance_queue.specs.Asks.{asks_of, due_of}
+use Rattle.instance_queue.specs.Asks.{dues_of_instances, due_of}
 use Rattle.instance_queue.specs.Faults.{fault_of}
 use Rattle.instance_queue.specs.Level.{instances_of, AreDueInTurn, ComesOf}
 use Rattle.instance_queue.specs.declared.due.Due.{Due}
 use Rattle.instance_search.proofs.InstanceOrderLemmas.{reachable_in}
 use Rattle.instance_search.specs.Found.{IsFound, AreFound}
 
-asked : (notes : List Note) (xs : List Instance) → instances_of (asks_of notes xs) ≡ xs
+asked : (notes : List Note) (xs : List Instance) → instances_of (dues_of_instances notes xs) ≡ xs
 asked notes [] = refl
 asked notes (x ∷ xs) = ap (λ ys. x ∷ ys) (asked notes xs)
 
 turned : (notes : List Note) (xs : List Instance)
-    → All (λ (d : Due). d.turn ≡ yields_of notes d.instance) (asks_of notes xs)
+    → All (λ (d : Due). d.turn ≡ yields_of notes d.instance) (dues_of_instances notes xs)
 turned notes [] = All-nil (λ (d : Due). d.turn ≡ yields_of notes d.instance)
 turned notes (x ∷ xs) =
-    All-cons (λ (d : Due). d.turn ≡ yields_of notes d.instance) (due_of notes x) (asks_of notes xs) refl (turned notes xs)
+    All-cons (λ (d : Due). d.turn ≡ yields_of notes d.instance) (due_of notes x) (dues_of_instances notes xs) refl (turned notes xs)
 
 -- one ask more
 pub asks_more : (notes : List Note) (xs : List Instance) (i : ℕ) (x copied : Instance) (turn : ℕ) (dues : List Due)
-    → i < length xs → x ≡ get_or xs i x → copied ≡ x → turn ≡ yields_of notes x → dues ≡ asks_of notes (take i xs)
-    → dues ++ record { instance = copied; turn = turn } ∷ [] ≡ asks_of notes (take (i + 1) xs)
+    → i < length xs → x ≡ get_or xs i x → copied ≡ x → turn ≡ yields_of notes x → dues ≡ dues_of_instances notes (take i xs)
+    → dues ++ record { instance = copied; turn = turn } ∷ [] ≡ dues_of_instances notes (take (i + 1) xs)
 asks_more notes xs i x copied turn dues within is same told passed =
     (λ k. passed k ++ record { instance = same k; turn = told k } ∷ [])
     ∙ sym (map_push (due_of notes) (take i xs) x)
-    ∙ ap (asks_of notes) (sym (take_more xs i x within ∙ ap (λ y. take i xs ++ y ∷ []) (sym is)))
+    ∙ ap (dues_of_instances notes) (sym (take_more xs i x within ∙ ap (λ y. take i xs ++ y ∷ []) (sym is)))
 
 module _ (task : Task) (known : Known) (notes : List Note) where
   abbrev seeks : Stream → Instance → Bool
@@ -56,7 +56,7 @@ module _ (task : Task) (known : Known) (notes : List Note) where
   }
 
   pub level_is : (xs : List Instance) (ys : List Due) → AreFound task known seeks xs
-      → length xs ≤ 1000000 → ys ≡ asks_of notes xs → AreDueInTurn task known notes ys
+      → length xs ≤ 1000000 → ys ≡ dues_of_instances notes xs → AreDueInTurn task known notes ys
   level_is xs ys f few is =
       let same : instances_of ys ≡ xs = ap instances_of is ∙ asked notes xs in
       let long : length ys ≡ length xs = ap length is ∙ length-map xs (due_of notes) in

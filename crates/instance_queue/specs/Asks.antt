@@ -8,5 +8,5 @@ abbrev pub due_of : List Note → Instance → Due
 due_of notes instance = record { instance = instance; turn = yields_of notes instance }
 
 -- the asks of these instances, with their turns
-abbrev pub asks_of : List Note → List Instance → List Due
-asks_of notes = map (due_of notes)
+abbrev pub dues_of_instances : List Note → List Instance → List Due
+dues_of_instances notes = map (due_of notes)

@@ -25,7 +25,7 @@ impl Sought for Queue {
 
 /// The asks of the instances, each with its turn. Fails only where memory is wanting.
 fn asks_of(alloc: Global, queue: &Queue, instances: &[Instance]) -> Result<Vec<Due>, AllocError>
-    ensures { IfOk result (λ dues. dues.items ≡ asks.asks_of queue.now instances.now) }
+    ensures { IfOk result (λ dues. dues.items ≡ asks.dues_of_instances queue.now instances.now) }
 {
     let mut dues = Vec::with_capacity(alloc, instances.len())?;
     for instance in instances {

@@ -7,7 +7,7 @@ use Rattle.std.proofs.lemmas.Option.{slice_get_within, same_Some}
 use Rattle.std.specs.Cmp.{first_so, second_so}
 use Rattle.std.specs.List.{list_all}
 use Rattle.fact_join.specs.Adding.{AreAll, Adds, ComesOf}
-use Rattle.fact_join.specs.Answers.{IsAnswer, is_known, is_atom_of}
+use Rattle.fact_join.specs.Answers.{IsAnswer, is_known, is_atom_over}
 use Rattle.fact_join.specs.Partials.{Agrees}
 use Rattle.fact_join.specs.declared.partial.Partial.{Partial}
 use Rattle.fact_join.specs.declared.query.JoinFault.{JoinFault}
@@ -25,17 +25,17 @@ use Rattle.task_model.specs.declared.domain.Pattern.{Pattern}
 use Rattle.task_model.specs.declared.stream.Instance.{Instance}
 use Rattle.task_model.specs.declared.stream.Stream.{Stream}
 use Rattle.task_model.specs.declared.task.Task.{Task}
-use Rattle.instance_search.specs.Found.{Seeks, IsFound, instance_at, pattern_of, AreDomainAtoms, is_sought_at, IsSoughtInput, AddsInstances, IsSoughtBelow}
+use Rattle.instance_search.specs.Found.{Seeks, IsFound, instance_at, pattern_of_query, AreDomainAtoms, is_sought_at, IsSoughtInput, AddsInstances, IsSoughtBelow}
 use Rattle.instance_search.specs.Readable.{IsReadableStream, is_pattern_of}
 
 -- ---- one stream
 
 pub atoms_fit : (stream : Stream) (atoms : List QueryAtom) → IsReadableStream stream
     → AreDomainAtoms stream atoms
-    → list_all (is_atom_of (length stream.inputs)) atoms ≡ true
+    → list_all (is_atom_over (length stream.inputs)) atoms ≡ true
 atoms_fit stream atoms readable are =
     let p = is_pattern_of (length stream.inputs) in
-    sym (all_mapped pattern_of p atoms) ∙ ap (list_all p) are ∙ readable.slots
+    sym (all_mapped pattern_of_query p atoms) ∙ ap (list_all p) are ∙ readable.slots
 
 module _ (known : Known) (seeks : Seeks) (stream : Stream) (place : ℕ)
     (partial : Partial) (free : (slots : List ℕ) → Agrees partial slots)
@@ -50,7 +50,7 @@ module _ (known : Known) (seeks : Seeks) (stream : Stream) (place : ℕ)
       → list_all (is_known known slots) atoms ≡ list_all (λ p. is_fact known.facts (fact_of slots p)) stream.domain
   known_domain slots =
       let p = λ (pattern : Pattern). is_fact known.facts (fact_of slots pattern) in
-      sym (all_mapped pattern_of p atoms) ∙ ap (list_all p) are
+      sym (all_mapped pattern_of_query p atoms) ∙ ap (list_all p) are
 
   answer_is_sought : (inputs : List ℕ) → Answers inputs ↔ IsSoughtInput known seeks stream place inputs
   answer_is_sought inputs = (
@@ -218,7 +218,8 @@ found_below task known seeks i = (
 )
 
 -- more than are left were found in one stream
-pub stream_fault : (task : Task) (known : Known) (seeks : Seeks) (place : ℕ) (stream : Stream) (most : ℕ) (xs : List Instance) (f : JoinFault)
+pub stream_fault : (task : Task) (known : Known) (seeks : Seeks) (place : ℕ) (stream : Stream) (most : ℕ)
+    (xs : List Instance) (f : JoinFault)
     → slice_get task.streams place ≡ Some stream
     → AreAll (IsSoughtBelow task.streams known seeks place) xs
     → length xs ≤ most → ComesOf (most - length xs) (IsSoughtInput known seeks stream place) [] f

@@ -22,7 +22,8 @@ pub record IsFound (task : Task) (known : Known) (seeks : Stream → Instance �
   pub sought : seeks stream instance ≡ true
 
 -- All of these, in the order of asks.
-pub record AreFound (task : Task) (known : Known) (seeks : Stream → Instance → Bool) (instances : List Instance) : Type 0 where
+pub record AreFound (task : Task) (known : Known) (seeks : Stream → Instance → Bool)
+    (instances : List Instance) : Type 0 where
   pub each : (i : Instance) → Contains instances i ↔ IsFound task known seeks i
   pub ascend : AreAscending (instance_cmp known.names) instances
 
@@ -31,12 +32,12 @@ pub record AreFound (task : Task) (known : Known) (seeks : Stream → Instance �
 abbrev pub instance_at : ℕ → List ℕ → Instance
 instance_at place inputs = record { stream = place; inputs = inputs }
 
-abbrev pub pattern_of : QueryAtom → Pattern
-pattern_of atom = record { pred = atom.pred; args = atom.terms.now }
+abbrev pub pattern_of_query : QueryAtom → Pattern
+pattern_of_query atom = record { pred = atom.pred; args = atom.terms.now }
 
 -- these are the atoms of its domain
 abbrev pub AreDomainAtoms : Stream → List QueryAtom → Type 0
-AreDomainAtoms stream atoms = map pattern_of atoms ≡ stream.domain
+AreDomainAtoms stream atoms = map pattern_of_query atoms ≡ stream.domain
 
 -- the instance of this stream is reachable and sought
 abbrev pub is_sought_at : Known → Seeks → Stream → Instance → Bool

@@ -1,16 +1,19 @@
 -- Lists of distinct members.
-use Rattle.std.proofs.Common.{◌≡◌, suc, List, ◌∷◌, arith, zero, [], ◌++◌, map, Contains, refl, sym, ap, subst, inl, inr, ℕ, ◌<◌, Bool, true, false, length, get_or, ◌∙◌, Some, slice_get}
-use Rattle.lemmas.specs.Lists.{AreDistinct}
+use Rattle.std.proofs.Common.{◌≡◌, suc, List, ◌∷◌, arith, zero, [], ◌++◌, map, Contains, refl, sym, ap, subst, inl, inr, ℕ, ◌+◌, ◌<◌, Bool, true, false, length, get_or, ◌∙◌, Some, slice_get, nat_lt}
+use Rattle.lemmas.specs.Lists.{AreAscending, AreDistinct}
 use Rattle.std.proofs.lemmas.List.Elements.{Contains-append_cases}
-use Rattle.lemmas.proofs.Ascending.{contains_none, contains_here, contains_later, contains_cases}
-use Rattle.lemmas.proofs.Members.{place_of, member_at, distinct_nil}
-use Rattle.std.proofs.lemmas.Bool.{cases_lt}
+use Rattle.lemmas.proofs.Ascending.{contains_none, contains_here, contains_later, contains_cases, less_greater}
+use Rattle.lemmas.proofs.Members.{place_of, member_at, distinct_nil, get_append, get_behind}
+use Rattle.std.proofs.lemmas.Bool.{cases_lt, ltb-true, ltb-false}
 use Rattle.std.proofs.lemmas.Map.Keys.{IsDistinct-from_apart, apart_from_distinct, IsDistinct-IsPermutation}
 use Rattle.std.proofs.lemmas.Option.{slice_get_within, get_or_from_slice_get, slice_get-get_or}
 use Rattle.std.specs.Bool.{Decides}
-use Rattle.std.specs.Cmp.{decided, IsEquivalence}
+use Rattle.std.specs.Cmp.{decided, IsEquivalence, IsTotalOrder}
 use Rattle.std.specs.List.{IsDistinct}
 use Rattle.std.specs.List.Sorted.{IsPermutation}
+use Rattle.std.specs.Ordering.{ordering_reverse}
+use Rattle.std.specs.declared.cmp.Ordering.{Ordering}
+use Rattle.std.specs.declared.cmp.Ordering.TheVariants.{Less}
 use Rattle.lemmas.proofs.Bools.{not_both}
 
 pub distinct_tail : {A : Type 0} (x : A) (xs : List A) → AreDistinct (x ∷ xs) → AreDistinct xs
@@ -37,6 +40,42 @@ distinct_append [] ys d e apart = e
 distinct_append (x ∷ xs) ys d e apart =
     distinct_cons x (xs ++ ys) (distinct_append xs ys (distinct_tail x xs d) e (λ z m n. apart z (contains_later x xs z m) n))
     (λ m. elim (Contains-append_cases xs ys x m) [ inl h ↦ head_is_new x xs d h | inr t ↦ apart x (contains_here x xs) t ])
+
+-- ---- of two lists that have nothing twice together
+
+pub distinct_left : {A : Type 0} (xs ys : List A) → AreDistinct (xs ++ ys) → AreDistinct xs
+distinct_left xs ys distinct i j x at_i at_j =
+    distinct i j x (get_append xs ys i x at_i) (get_append xs ys j x at_j)
+
+pub distinct_right : {A : Type 0} (xs ys : List A) → AreDistinct (xs ++ ys) → AreDistinct ys
+distinct_right xs ys distinct i j x at_i at_j =
+    let same = distinct (length xs + i) (length xs + j) x (get_behind xs ys i x at_i) (get_behind xs ys j x at_j) in
+    omega (arith, same)
+
+pub distinct_apart : {A : Type 0} (xs ys : List A) (x : A) → AreDistinct (xs ++ ys) → Contains xs x
+    → Contains ys x → ⊥
+distinct_apart xs ys x distinct first second =
+    let a = place_of xs x first in
+    let b = place_of ys x second in
+    let same = distinct a.0 (length xs + b.0) x (get_append xs ys a.0 x a.1) (get_behind xs ys b.0 x b.1) in
+    omega (arith, same, slice_get_within xs a.0 x a.1)
+
+-- ---- members that ascend are distinct
+
+less_apart : {A : Type 0} (cmp : A → A → Ordering) → IsTotalOrder cmp → (x : A) → cmp x x ≡ Less → ⊥
+less_apart cmp total x less = less_greater (sym less ∙ total.antisymm x x ∙ ap ordering_reverse less)
+
+pub ascending_distinct : {A : Type 0} (cmp : A → A → Ordering) → IsTotalOrder cmp → (xs : List A)
+    → AreAscending cmp xs → AreDistinct xs
+ascending_distinct cmp total xs ascends i j x at_i at_j = by (nat_lt i j) refl (nat_lt j i) refl
+  where
+    by : (a : Bool) → nat_lt i j ≡ a → (b : Bool) → nat_lt j i ≡ b → i ≡ j
+    by true lt b e = absurd (less_apart cmp total x (ascends i j x x (ltb-true i j lt) at_i at_j))
+    by false ge true lt =
+        absurd (less_apart cmp total x (ascends j i x x (ltb-true j i lt) at_j at_i))
+    by false ge false le = omega (arith, ltb-false i j ge, ltb-false j i le)
+
+-- ---- members of lists whose members are mapped
 
 pub from_mapped : {A B : Type 0} (f : A → B) (xs : List A) (y : B) → Contains (map f xs) y
     → (x : A) × Contains xs x × (y ≡ f x)

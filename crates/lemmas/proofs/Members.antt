@@ -1,5 +1,5 @@
 -- Members of lists, by place, and lists of distinct members.
-use Rattle.std.proofs.Common.{◌≡◌, ℕ, zero, suc, ◌+◌, add-one, ◌<◌, ◌⊎◌, inl, inr, List, [], ◌∷◌, ◌++◌, length, map, take, get_or, refl, sym, ap, ◌∙◌, arith, Some, slice_get, Contains}
+use Rattle.std.proofs.Common.{◌≡◌, ℕ, zero, suc, ◌+◌, add-one, ◌<◌, ◌⊎◌, inl, inr, List, [], ◌∷◌, ◌++◌, length, map, take, get_or, refl, sym, ap, ◌∙◌, arith, Some, None, slice_get, Contains}
 use Rattle.std.proofs.Math.Seq.{take-suc}
 use Rattle.std.proofs.lemmas.List.{append-nil}
 use Rattle.std.proofs.lemmas.List.Concat.{flat_map-append}
@@ -14,6 +14,12 @@ member_at xs k x e = (k, slice_get_within xs k x e, get_or_from_slice_get xs k x
 pub place_of : {A : Type 0} (xs : List A) (x : A) → Contains xs x
     → (k : ℕ) × (slice_get xs k ≡ Some x)
 place_of xs x c = (c.0, slice_get-get_or xs c.0 x c.1 ∙ ap Some c.2)
+
+-- within a list something stands
+pub some_within : {A : Type 0} (xs : List A) (i : ℕ) → i < length xs → slice_get xs i ≡ None → ⊥
+some_within [] i lt e = omega arith
+some_within (x ∷ xs) zero lt e = absurd (cc)
+some_within (x ∷ xs) (suc i) lt e = some_within xs i (omega arith) e
 
 -- what stands in a list with one more member stood there, or is that member
 pub push_cases : {A : Type 0} (xs : List A) (y : A) (i : ℕ) (x : A)

@@ -1,5 +1,5 @@
 -- How many levels a run has.
-use Rattle.std.proofs.Common.{◌≡◌, ℕ, zero, suc, ◌+◌, ◌≤◌, arith, subst, true, false, cond, List, [], ◌∷◌, ◌++◌, count_by, refl, ap, ◌∙◌}
+use Rattle.std.proofs.Common.{◌≡◌, ℕ, zero, suc, ◌+◌, true, false, cond, List, [], ◌∷◌, ◌++◌, count_by, refl, ap, ◌∙◌}
 use Rattle.session_core.proofs.SessionLemmas.{count_joined, count_one}
 use Rattle.task_model.specs.Streams.{yields_of}
 use Rattle.task_model.specs.declared.stream.Instance.{Instance}
@@ -11,9 +11,8 @@ use Rattle.transcript_model.specs.Transcript.{names_of, notes_of}
 use Rattle.transcript_model.specs.declared.entry.Entry.{Entry}
 use Rattle.transcript_model.specs.declared.entry.Entry.TheVariants as entry
 use Rattle.transcript_model.specs.declared.head.Head.{Head}
-use Rattle.level_run.specs.Turns.{EndsBatch, RunsLevel}
-use Rattle.level_run.specs.declared.ending.Batch.{Batch}
-use Rattle.level_run.specs.declared.ending.Batch.TheVariants.{CallsSpent}
+use Rattle.level_run.specs.Turns.{RunsLevel}
+use Rattle.round_run.specs.declared.ending.Batch.{Batch}
 
 count_head : (e : Entry) (es : List Entry)
     → count_by is_level (e ∷ es) ≡ cond (is_level e) 1 0 + count_by is_level es
@@ -73,10 +72,3 @@ level_counts head task before after b (now, pushed, level) =
     let one = ap (count_by is_level) level.is ∙ count_head entry.Level level.rest
     ∙ ap (λ n. 1 + n) (rounds_none task _ level.batch.rounds level.rest level.batch.run) in
     ap (count_by is_level) pushed ∙ count_joined is_level before now ∙ ap (λ n. count_by is_level before + n) one
-
--- where calls are wanting some were made
-pub spent_some : (task : Task) (entries : List Entry) (before after calls many : ℕ) (b : Batch)
-    → b ≡ CallsSpent
-    → EndsBatch task entries before after calls many b → 1 ≤ calls → after ≡ 0 → ⊥
-spent_some task entries before after calls many b is ends some none =
-    let e = subst (EndsBatch task entries before after calls many) is ends in omega (arith, e.0, some, none)

@@ -1,39 +1,51 @@
 -- What a run over a task writes.
-use Rattle.std.proofs.Common.{◌≡◌, ℕ, ◌<◌, arith, List, [], count_by, length, Option, refl, sym, subst, ◌⊎◌, inl, inr, IfSome}
+use Rattle.std.proofs.Common.{◌≡◌, ℕ, ◌<◌, ◌≤◌, arith, List, [], count_by, length, Option, refl, sym, subst, ◌⊎◌, inl, inr, IfSome}
 use Rattle.std.proofs.lemmas.List.{append-nil}
 use Rattle.std.specs.Io.KnownBytes.{Appends}
 use Rattle.task_model.specs.declared.task.Task.{Task}
-use Rattle.transcript_model.specs.Legal.{HasNoneOpen, IsLegal, asks_of, is_level}
+use Rattle.transcript_model.specs.Legal.{IsLegal, asks_of, is_level}
 use Rattle.report_text.specs.Texts.{text_of_head}
 use Rattle.transcript_model.specs.declared.entry.Entry.{Entry}
 use Rattle.transcript_model.specs.declared.head.Head.{Head}
 use Rattle.transcript_model.specs.declared.outcome.Outcome.{Outcome}
-use Rattle.transcript_model.specs.declared.head.Mode.TheVariants.{Incremental}
-use Rattle.level_run.proofs.RollingFrontLemmas.{run_between}
+use Rattle.level_run.proofs.TurnsFrontLemmas.{run_between}
 use Rattle.level_run.proofs.TurnsLemmas.{standing_first}
-use Rattle.mode_turns.specs.Modes.{nothing_kept}
-use Rattle.level_run.proofs.StoppedLemmas.{appends_none, appends_then, stops_then}
+use Rattle.mode_turns.proofs.CountsLemmas.{turn_keeps, turns_keep}
+use Rattle.mode_turns.proofs.ModesLemmas.{as_family}
+use Rattle.mode_turns.specs.Modes.{TurnOf, nothing_kept}
+use Rattle.transcript_model.specs.Rounds.{limits_of}
+use Rattle.round_run.proofs.StoppedLemmas.{appends_none, appends_then, stops_then}
 use Rattle.io_world.specs.Talks.{Event, Same, Talk}
-use Rattle.level_run.proofs.BreakingRunLemmas.{broken_more, broken_of, levels_broken, needed_more, needed_stops, quiet_breaks, stops_then_stops}
-use Rattle.level_run.proofs.CallsRunLemmas.{ran_of, ran_stopped, stops_none}
-use Rattle.level_run.specs.Breaking.{HasLevel, LevelBreaks, LogBroken, RunBreaks}
-use Rattle.level_run.specs.Calls.{LogRan, LogStops, Runs}
-use Rattle.level_run.proofs.TalkingLemmas.{broken_unasked}
-use Rattle.level_run.specs.Dialogue.{BrokenOff, Dialogue, IsSaid, replies_of, requests_of, workers_in}
+use Rattle.level_run.proofs.AdvancingLemmas.{needed_more, needed_stops}
+use Rattle.level_run.specs.Advancing.{TurnBreaks}
+use Rattle.round_run.proofs.BreakingRunLemmas.{broken_more, broken_of, levels_broken, still_breaks, stops_then_stops}
+use Rattle.round_run.proofs.CallsRunLemmas.{ran_of, ran_stopped, stops_none}
+use Rattle.round_run.specs.Breaking.{LogBroken, RunBreaks}
+use Rattle.round_run.specs.Calls.{LogRan, LogStops, Runs}
+use Rattle.round_run.proofs.TalkingLemmas.{broken_unasked}
+use Rattle.round_run.specs.Dialogue.{BrokenOff, Dialogue, IsSaid, replies_of, requests_of, workers_in}
 use Rattle.level_run.specs.Reports.{IsBroken, IsReported, IsRun, WasToWrite, text_of_end, text_so_far, whole_text}
-use Rattle.level_run.specs.Rolling.{Goes, Stopped}
-use Rattle.level_run.specs.Stops.{Misses}
-use Rattle.level_run.specs.Turns.{IsFrontOfRun}
-use Rattle.level_run.specs.declared.fault.RunFault.{RunFault}
-use Rattle.level_run.specs.declared.fault.RunFault.TheVariants.{Answer, Generator, Write, Memory}
-use Rattle.level_run.specs.declared.incremental_mode.Ran.{Ran}
+use Rattle.round_run.specs.Rolling.{Goes, Stopped}
+use Rattle.round_run.specs.Stops.{Misses}
+use Rattle.level_run.specs.Turns.{HasTurnLine, IsFrontOfRun}
+use Rattle.round_run.specs.declared.fault.RunFault.{RunFault}
+use Rattle.round_run.specs.declared.fault.RunFault.TheVariants.{Answer, Generator, Write, Memory}
+use Rattle.level_run.specs.declared.mode_run.Ran.{Ran}
+
+-- no more requests are made than the head's calls
+pub run_calls : (task : Task) (head : Head) (entries : List Entry) (o : Outcome) → IsRun task head entries o
+    → asks_of entries ≤ head.calls
+run_calls task head entries o run =
+    turns_keep (limits_of head) task (TurnOf head.mode (limits_of head) task)
+    (λ k before now next cut this. turn_keeps (limits_of head) task head.mode k before now next cut this)
+    nothing_kept [] entries run.stage (as_family head.mode (limits_of head) task entries run.stage run.turns) (omega arith)
 
 module _ (task : Task) (head : Head) (spoken : ℕ → Option Talk) where
   legal_nil : IsLegal head.version task []
   legal_nil k e at = absurd (cc)
 
-  front_nil : head.mode ≡ Incremental → IsFrontOfRun head task []
-  front_nil mode = run_between head task nothing_kept [] (standing_first head task) legal_nil
+  front_nil : IsFrontOfRun head task []
+  front_nil = run_between head task nothing_kept [] (standing_first head task) legal_nil
 
   talks_nil : BrokenOff task head.version (workers_in head) [] spoken
   talks_nil = broken_unasked task head.version (workers_in head) [] spoken refl legal_nil
@@ -63,21 +75,20 @@ module _ (task : Task) (head : Head) (spoken : ℕ → Option Talk) where
       (sym is) (record { text = []; form = inl (refl, refl, stops); told = appends_none sink })
 
   -- the head was to be written
-  pub broken_head : head.mode ≡ Incremental
-      → (fault : RunFault) (log : Option (List Event)) (old new : Option (List ℕ))
+  pub broken_head : (fault : RunFault) (log : Option (List Event)) (old new : Option (List ℕ))
       → Misses fault old new (text_of_head task head) → IsBroken task head spoken log log old new fault
-  broken_head mode Generator log old new misses = absurd misses
-  broken_head mode (Answer number why) log old new misses = absurd misses
-  broken_head mode Memory log old new misses =
+  broken_head Generator log old new misses = absurd misses
+  broken_head (Answer number why) log old new misses = absurd misses
+  broken_head Memory log old new misses =
       record { text = []; form = inl (refl, refl, stops_none log); told = misses }
-  broken_head mode Write log old new misses = record {
+  broken_head Write log old new misses = record {
     text = text_of_head task head;
     form = inr (inl (record {
       entries = [];
-      front = front_nil mode;
+      front = front_nil;
       blamed = tt;
       talks = talks_nil;
-      calls = broken_of task head [] Write log log (quiet_breaks task head [] Write log refl [] (inl refl));
+      calls = broken_of task head [] Write log log (still_breaks task head [] Write log refl);
       needed = inl (stops_none log);
       is = only_head;
     }));
@@ -85,31 +96,30 @@ module _ (task : Task) (head : Head) (spoken : ℕ → Option Talk) where
   }
 
   -- the head was written, and then no memory was there
-  pub broken_behind : head.mode ≡ Incremental
-      → (fault : RunFault) (log : Option (List Event)) (old new : Option (List ℕ))
+  pub broken_behind : (fault : RunFault) (log : Option (List Event)) (old new : Option (List ℕ))
       → Appends old new (text_of_head task head) → fault ≡ Memory → IsBroken task head spoken log log old new fault
-  broken_behind mode fault log old new told is =
+  broken_behind fault log old new told is =
       subst (IsBroken task head spoken log log old new) (sym is) (record {
         text = text_of_head task head;
         form = inr (inl (record {
           entries = [];
-          front = front_nil mode;
+          front = front_nil;
           blamed = tt;
           talks = talks_nil;
-          calls = broken_of task head [] Memory log log (quiet_breaks task head [] Memory log (inl (refl, λ n. refl)) [] (inl refl));
+          calls = broken_of task head [] Memory log log (still_breaks task head [] Memory log (inl (refl, λ n. refl)));
           needed = inl (stops_none log);
           is = only_head;
         }));
         told = told;
       })
 
-  -- the head was written, and the levels stopped
-  pub broken_levels : (fault : RunFault) (was now : Option (List Event)) (old mid new : Option (List ℕ))
+  -- the head was written, and the turns stopped
+  pub broken_turns : (fault : RunFault) (was now : Option (List Event)) (old mid new : Option (List ℕ))
       → Appends old mid (text_of_head task head)
       → Stopped head.version task (workers_in head)
-      (IsFrontOfRun head task) [] fault mid new spoken (LevelBreaks task head [] fault was now)
+      (IsFrontOfRun head task) [] fault mid new spoken (TurnBreaks task head [] fault was now)
       → IsBroken task head spoken was now old new fault
-  broken_levels fault was now old mid new first stopped = record {
+  broken_turns fault was now old mid new first stopped = record {
     text = text_so_far task head stopped.more;
     form = inr (inl (record {
       entries = stopped.more;
@@ -117,7 +127,7 @@ module _ (task : Task) (head : Head) (spoken : ℕ → Option Talk) where
       blamed = stopped.blamed;
       talks = stopped.talks;
       calls = broken_of task head stopped.more fault was now stopped.logged.0;
-      needed = needed_stops stopped.more was now stopped.logged.1;
+      needed = needed_stops head.mode stopped.more was now stopped.logged.1;
       is = refl;
     }));
     told = stops_then fault old mid new _ _ first stopped.told;
@@ -131,16 +141,15 @@ module _ (task : Task) (head : Head) (spoken : ℕ → Option Talk) where
       subst (λ es. Appends old new (text_so_far task head es)) (sym goes.pushed) (appends_then old mid new _ _ first goes.told)
 
   -- the outcome was to be written
-  pub broken_end : head.mode ≡ Incremental
-      → (entries : List Entry) (o : Outcome) (fault : RunFault) (was now : Option (List Event)) (old mid new : Option (List ℕ))
+  pub broken_end : (entries : List Entry) (o : Outcome) (fault : RunFault) (was now : Option (List Event)) (old mid new : Option (List ℕ))
       → IsRun task head entries o → Dialogue task head.version (workers_in head) entries spoken → Runs task head [] entries was now
-      → (now ≡ was) ⊎ HasLevel entries → HasNoneOpen entries → Appends old mid (text_so_far task head entries)
+      → (now ≡ was) ⊎ HasTurnLine head.mode entries → Appends old mid (text_so_far task head entries)
       → Misses fault mid new (text_of_end head.version o) → IsBroken task head spoken was now old new fault
-  broken_end mode entries o Generator was now old mid new run talks runs needed closed first misses =
+  broken_end entries o Generator was now old mid new run talks runs needed first misses =
       absurd misses
-  broken_end mode entries o (Answer number why) was now old mid new run talks runs needed closed first misses =
+  broken_end entries o (Answer number why) was now old mid new run talks runs needed first misses =
       absurd misses
-  broken_end mode entries o Memory was now old mid new run talks runs needed closed first misses =
+  broken_end entries o Memory was now old mid new run talks runs needed first misses =
       record {
         text = text_so_far task head entries;
         form = inr (inl (record {
@@ -149,7 +158,7 @@ module _ (task : Task) (head : Head) (spoken : ℕ → Option Talk) where
           blamed = tt;
           talks = talks_whole entries run.legal talks;
           calls = ended;
-          needed = needed_stops entries was now needed;
+          needed = needed_stops head.mode entries was now needed;
           is = refl;
         }));
         told = subst (Appends old new) (append-nil (text_so_far task head entries))
@@ -159,8 +168,8 @@ module _ (task : Task) (head : Head) (spoken : ℕ → Option Talk) where
       ended : LogBroken task head entries Memory was now
       ended = broken_of task head entries Memory was now (subst (RunBreaks task head [] Memory was now) (append-nil entries)
           (levels_broken task head entries entries Memory was now now runs refl []
-          (quiet_breaks task head entries Memory now (inl (refl, closed)) [] (inl refl))))
-  broken_end mode entries o Write was now old mid new run talks runs needed closed first misses =
+          (still_breaks task head entries Memory now (inl (refl, run.closed)))))
+  broken_end entries o Write was now old mid new run talks runs needed first misses =
       record {
         text = whole_text task head entries o;
         form = inr (inr (
@@ -231,7 +240,7 @@ broken_stopped task head spoken later was now after old new fault same stops b =
           blamed = p.blamed;
           talks = p.talks;
           calls = broken_more task head p.entries fault was now after p.calls stops;
-          needed = needed_more p.entries was now after p.needed stops;
+          needed = needed_more head.mode p.entries was now after p.needed stops;
           is = p.is;
         }))
     of (inr (inr (is, w))) =

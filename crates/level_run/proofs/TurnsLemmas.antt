@@ -1,11 +1,12 @@
 -- A run between two turns.
 use Rattle.std.proofs.Common.{◌≡◌, List, [], ◌++◌, Bool, true, false, refl, sym, subst, inl, inr}
-use Rattle.mode_turns.proofs.LazyLemmas.{lazy_first, level_lazy}
+use Rattle.mode_turns.proofs.LazyLemmas.{lazy_first}
+use Rattle.mode_turns.proofs.LazyTurnsLemmas.{turn_lazy}
 use Rattle.mode_turns.proofs.ModesLemmas.{lead_more, lead_then, leads_between, of_mode}
-use Rattle.mode_turns.specs.Lazy.{IsLazy, IsLazyEnd, IsNeeded}
+use Rattle.mode_turns.specs.Lazy.{IsLazy, IsLazyEnd, IsTurnNeeded}
 use Rattle.mode_turns.specs.Modes.{Leaves, TurnOf, none_left, nothing_kept}
 use Rattle.task_model.specs.declared.task.Task.{Task}
-use Rattle.transcript_model.specs.Legal.{IsLegal}
+use Rattle.transcript_model.specs.Legal.{HasNoneOpen, IsLegal}
 use Rattle.transcript_model.specs.Rounds.{limits_of}
 use Rattle.transcript_model.specs.Turns.{AreTurnsOf, IsLevel, Kept, MayBegin, after_cut, between, cut_off}
 use Rattle.transcript_model.specs.declared.entry.Entry.{Entry}
@@ -16,7 +17,7 @@ use Rattle.transcript_model.specs.declared.outcome.LimitKind.TheVariants.{Calls}
 use Rattle.transcript_model.specs.declared.outcome.Outcome.{Outcome}
 use Rattle.transcript_model.specs.declared.outcome.Outcome.TheVariants as outcome
 use Rattle.level_run.specs.Reports.{IsRun}
-use Rattle.level_run.specs.Turns.{IsSettled, IsSure}
+use Rattle.level_run.specs.Turns.{IsSettledEnd, IsSure}
 
 -- whole turns so far, none of which was needless
 pub record Standing (head : Head) (task : Task) (kept : Kept) (entries : List Entry) : Type 0 where
@@ -33,22 +34,21 @@ pub level_turn : (head : Head) (task : Task) (before now : List Entry) (cut : Bo
 level_turn head task before now cut mode level =
     subst (λ (m : Mode). TurnOf m (limits_of head) task nothing_kept before now nothing_kept cut) (sym mode) (level, refl)
 
-pub standing_next : (head : Head) (task : Task) (before after now : List Entry) → head.mode ≡ Incremental
-    → MayBegin (limits_of head) task before → IsNeeded (limits_of head) task before → after ≡ before ++ now
-    → IsLevel (limits_of head) task before now false
-    → Standing head task nothing_kept before → Standing head task nothing_kept after
-standing_next head task before after now mode may needed pushed level st =
-    subst (Standing head task nothing_kept) (sym pushed) (record {
-      whole = lead_more (limits_of head) task nothing_kept nothing_kept [] before now nothing_kept st.whole may
-          (level_turn head task before now false mode level);
-      lazy = level_lazy (limits_of head) task before now false st.lazy needed level;
+pub standing_next : (head : Head) (task : Task) (kept next : Kept) (before after now : List Entry)
+    → MayBegin (limits_of head) task before → IsTurnNeeded (limits_of head) task before → after ≡ before ++ now
+    → TurnOf head.mode (limits_of head) task kept before now next false
+    → Standing head task kept before → Standing head task next after
+standing_next head task kept next before after now may needed pushed turn st =
+    subst (Standing head task next) (sym pushed) (record {
+      whole = lead_more (limits_of head) task nothing_kept kept [] before now next st.whole may turn;
+      lazy = turn_lazy (limits_of head) task kept before now next false st.lazy needed turn;
     })
 
 -- an outcome between two turns
 pub run_at : (head : Head) (task : Task) (kept : Kept) (entries : List Entry) (o : Outcome)
-    → IsLegal head.version task entries
-    → IsSettled head task entries o → Standing head task kept entries → IsRun task head entries o
-run_at head task kept entries o legal settled st = record {
+    → IsLegal head.version task entries → HasNoneOpen entries
+    → IsSettledEnd head task entries o → Standing head task kept entries → IsRun task head entries o
+run_at head task kept entries o legal closed settled st = record {
   stage = between;
   legal = legal;
   turns = of_mode head.mode (limits_of head) task entries between
@@ -57,25 +57,27 @@ run_at head task kept entries o legal settled st = record {
   end = settled.end;
   few = settled.few;
   stands = inl refl;
+  closed = closed;
   sure = settled.sure;
 }
 
--- the limit of calls after a level that was cut
-pub run_cut : (head : Head) (task : Task) (before after now : List Entry) → head.mode ≡ Incremental
-    → MayBegin (limits_of head) task before → IsNeeded (limits_of head) task before → after ≡ before ++ now
-    → IsLevel (limits_of head) task before now true → IsLegal head.version task after
-    → IsSure head task after (outcome.Limit Calls) → Standing head task nothing_kept before → IsRun task head after (outcome.Limit Calls)
-run_cut head task before after now mode may needed pushed level legal sure st = record {
+-- the limit of calls after a turn that was cut
+pub run_cut : (head : Head) (task : Task) (kept next : Kept) (before after now : List Entry)
+    → MayBegin (limits_of head) task before → IsTurnNeeded (limits_of head) task before → after ≡ before ++ now
+    → TurnOf head.mode (limits_of head) task kept before now next true → IsLegal head.version task after → HasNoneOpen after
+    → IsSure head task after (outcome.Limit Calls) → Standing head task kept before → IsRun task head after (outcome.Limit Calls)
+run_cut head task kept next before after now may needed pushed turn legal closed sure st = record {
   stage = after_cut;
   legal = legal;
   turns = subst (λ es. AreTurnsOf head.mode (limits_of head) task es after_cut) (sym pushed)
       (of_mode head.mode (limits_of head) task (before ++ now) after_cut
-      (lead_then (limits_of head) task nothing_kept nothing_kept [] before now after_cut st.whole
-      (cut_off nothing_kept may (level_turn head task before now true mode level))));
-  lazy = subst (IsLazy (limits_of head) task) (sym pushed) (level_lazy (limits_of head) task before now true st.lazy needed level);
+      (lead_then (limits_of head) task nothing_kept kept [] before now after_cut st.whole (cut_off next may turn)));
+  lazy = subst (IsLazy (limits_of head) task) (sym pushed)
+      (turn_lazy (limits_of head) task kept before now next true st.lazy needed turn);
   end = no_end;
   few = λ calls at. absurd (let bad : after_cut ≡ between = at in cc);
   stands = inr (refl, refl);
+  closed = closed;
   sure = sure;
 }
   where

@@ -1,14 +1,12 @@
 -- Outcomes that are true.
-use Rattle.std.proofs.Common.{◌≡◌, ℕ, ◌^◌, ◌<◌, ◌≤◌, arith, List, [], ◌∷◌, length, take, refl, sym, subst, ap, ◌∙◌, false, true, ◌==◌, eqb-true, ◌+◌, Vec, Global, inl, inr}
+use Rattle.std.proofs.Common.{◌≡◌, ℕ, ◌^◌, ◌<◌, ◌≤◌, arith, List, [], length, take, refl, sym, subst, ap, ◌∙◌, false, ◌+◌, Vec, Global, inl, inr}
 use Rattle.std.proofs.Math.Seq.{take-length}
 use Rattle.std.proofs.lemmas.List.{length-map}
-use Rattle.lemmas.proofs.Ascending.{contains_here}
 use Rattle.best_first.specs.Answer.{HasPlan, IsFoundPlan, IsLimit}
 use Rattle.best_first.specs.declared.found.Found.{Found}
 use Rattle.best_first.specs.declared.found.Found.TheVariants as found
 use Rattle.instance_queue.specs.Level.{AreDueInTurn, instances_of}
 use Rattle.instance_queue.specs.declared.due.Due.{Due}
-use Rattle.session_core.specs.Ready.{AreReady}
 use Rattle.session_core.specs.Session.{IsLearnt, IsOf, IsSession}
 use Rattle.session_core.specs.State.{State}
 use Rattle.shown_plan.proofs.ShownLemmas.{valid_named, true_outcome}
@@ -22,7 +20,8 @@ use Rattle.task_model.specs.declared.stream.Instance.{Instance}
 use Rattle.task_model.specs.declared.task.GroundAction.{GroundAction}
 use Rattle.task_model.specs.declared.task.Plan.{Plan}
 use Rattle.task_model.specs.declared.task.Task.{Task}
-use Rattle.transcript_model.specs.Legal.{IsLegal}
+use Rattle.transcript_model.specs.Calls.{call_of_step}
+use Rattle.transcript_model.specs.Legal.{IsClosed, IsLegal}
 use Rattle.transcript_model.specs.Rounds.{limits_of}
 use Rattle.transcript_model.specs.Transcript.{known_of, names_of, notes_of}
 use Rattle.transcript_model.specs.declared.entry.Entry.{Entry}
@@ -31,13 +30,14 @@ use Rattle.transcript_model.specs.declared.head.Mode.TheVariants.{Incremental}
 use Rattle.transcript_model.specs.declared.outcome.LimitKind.TheVariants.{Calls, States, Instances}
 use Rattle.transcript_model.specs.declared.outcome.Outcome.{Outcome}
 use Rattle.transcript_model.specs.declared.outcome.Outcome.TheVariants as outcome
-use Rattle.level_run.specs.Turns.{EndsBatch, HasRoom, IsDecided, IsSettled, IsSure, IsTurn}
-use Rattle.mode_turns.specs.Lazy.{IsLazyEnd}
+use Rattle.level_run.specs.Turns.{HasFewSteps, IsCostInRange, IsDecided, IsSettledEnd, IsSure, IsTurn}
+use Rattle.round_run.specs.Batches.{EndsBatch}
+use Rattle.mode_turns.specs.Lazy.{IsLazyEnd, IsTurnNeeded}
 use Rattle.transcript_model.specs.Turns.{between}
 use Rattle.level_run.specs.declared.decide.Decision.{Decision}
 use Rattle.level_run.specs.declared.decide.Decision.TheVariants.{Ends, Asks}
-use Rattle.level_run.specs.declared.ending.Batch.{Batch}
-use Rattle.level_run.specs.declared.ending.Batch.TheVariants.{Done, CallsSpent}
+use Rattle.round_run.specs.declared.ending.Batch.{Batch}
+use Rattle.round_run.specs.declared.ending.Batch.TheVariants.{Done, CallsSpent}
 
 module _ (task : Task) (s : State) (works : s.failed ≡ false) (learnt : IsLearnt s) (h : IsSession task s) where
   whole : take s.learnt s.entries ≡ s.entries
@@ -57,6 +57,10 @@ module _ (task : Task) (s : State) (works : s.failed ≡ false) (learnt : IsLear
     pub names_known : known.names ≡ names_of task s.entries
     names_known = ap (λ (k : Known). k.names) all_known
 
+    pub valid_there : (steps : List GroundAction) (cost : ℕ) → IsValid task (known_of task s.entries) steps cost
+        → IsValid task known steps cost
+    valid_there steps cost valid = subst (λ k. IsValid task k steps cost) (sym all_known) valid
+
     pub steps_named : IsCoherent known → (steps : List GroundAction) (cost : ℕ)
         → IsValid task known steps cost
         → AreNamedSteps task (names_of task s.entries) steps
@@ -71,58 +75,61 @@ module _ (task : Task) (s : State) (works : s.failed ≡ false) (learnt : IsLear
     few_there limit none more =
         none (subst (λ k. MoreThan limit (IsReached task k)) (sym all_known) more)
 
-    module _ (head : Head) (of : IsOf head s) (mode : head.mode ≡ Incremental) where
+    pub far_there : (limit : ℕ) → IsFar task known limit → IsFar task (known_of task s.entries) limit
+    far_there limit far = subst (λ k. IsFar task k limit) all_known far
+
+    module _ (head : Head) (of : IsOf head s) where
       pub legal_head : IsLegal head.version task s.entries
       legal_head = subst (λ v. IsLegal v task s.entries) of.version h.legal
 
       plan_sure : (steps : List GroundAction) (cost : ℕ) (o : Outcome)
-          → ShowsPlan head.version task s.entries steps cost o
-          → IsValid task known steps cost → cost < 2 ^ 64 → IsSure head task s.entries o
-      plan_sure steps cost o shows valid small = record {
-        holds = true_outcome (limits_of head) task s.entries steps cost o shows (subst (λ k. IsValid task k steps cost) all_known valid);
+          → ShowsPlan head.version task s.entries steps cost o → IsValid task known steps cost → length steps ≤ head.states
+          → cost < 2 ^ 64 → IsSure head task s.entries o
+      plan_sure steps cost o shows valid few small = record {
+        holds = true_outcome (limits_of head) task s.entries steps cost o shows
+            (subst (λ k. IsValid task k steps cost) all_known valid);
         far = λ e. let both = sym e ∙ shows.is in absurd (cc);
         within = λ e. let both = sym e ∙ shows.is in absurd (cc);
-        room = subst HasRoom (sym shows.is) small;
+        room = subst IsCostInRange (sym shows.is) small;
+        short = subst (HasFewSteps head) (sym shows.is)
+            (omega (arith, few, ap length shows.shown, length-map steps (call_of_step task (names_of task s.entries))));
       }
 
       pub plan_settled : (steps : List GroundAction) (cost : ℕ) (o : Outcome)
-          → ShowsPlan head.version task s.entries steps cost o
-          → IsValid task known steps cost → cost < 2 ^ 64 → IsSettled head task s.entries o
-      plan_settled steps cost o shows valid small = record
-          { sure = plan_sure steps cost o shows valid small; end = end; few = λ e. let both = sym e ∙ shows.is in absurd (cc) }
+          → ShowsPlan head.version task s.entries steps cost o → IsValid task known steps cost → length steps ≤ head.states
+          → cost < 2 ^ 64 → IsSettledEnd head task s.entries o
+      plan_settled steps cost o shows valid few small = record
+          { sure = plan_sure steps cost o shows valid few small; end = end; few = λ e. let both = sym e ∙ shows.is in absurd (cc) }
         where
           end : IsLazyEnd (limits_of head) task s.entries between o
           end (inl e) = let both = sym e ∙ shows.is in absurd (cc)
           end (inr e) = let both = sym e.0 ∙ shows.is in absurd (cc)
 
-      states_sure : IsFar task known head.states
-          → IsSure head task s.entries (outcome.Limit States)
-      states_sure far =
-          let there = subst (λ k. IsFar task k head.states) all_known far in
-          record {
-            holds = record { many = there.reached; closed = λ other. absurd (other mode) };
-            far = λ e. there;
-            within = λ e. absurd (cc);
-            room = tt;
-          }
-
-      pub states_settled : IsFar task known head.states
-          → IsSettled head task s.entries (outcome.Limit States)
-      states_settled far = record { sure = states_sure far; end = end; few = λ e. absurd (cc) }
-        where
-          end : IsLazyEnd (limits_of head) task s.entries between (outcome.Limit States)
-          end (inl e) = absurd (cc)
-          end (inr e) = let kinds = e.0 in absurd (cc)
-
   module _ (head : Head) (of : IsOf head s) where
-    instances_sure : MoreAreDue MOST_DUE task (known_of task s.entries) (notes_of task s.entries)
-        → IsSure head task s.entries (outcome.Limit Instances)
-    instances_sure more = record {
-      holds = more;
-      far = λ e. absurd (cc);
-      within = λ e. absurd (cc);
-      room = tt;
+    pub closed_there : NothingIsDue task (known_of task s.entries) (notes_of task s.entries)
+        → IsClosed head.version task s.entries
+    closed_there due =
+        record { legal = subst (λ v. IsLegal v task s.entries) of.version h.legal; none_open = h.none_open; finished = due }
+
+    -- in incremental mode, or where nothing is due
+    pub states_settled : IsFar task (known_of task s.entries) head.states
+        → (¬ (head.mode ≡ Incremental) → IsClosed head.version task s.entries)
+        → IsSettledEnd head task s.entries (outcome.Limit States)
+    states_settled far closed = record {
+      sure = record {
+        holds = record { many = far.reached; closed = closed };
+        far = λ e. far;
+        within = λ e. absurd (cc);
+        room = tt;
+        short = tt;
+      };
+      end = end;
+      few = λ e. absurd (cc);
     }
+      where
+        end : IsLazyEnd (limits_of head) task s.entries between (outcome.Limit States)
+        end (inl e) = absurd (cc)
+        end (inr e) = let kinds = e.0 in absurd (cc)
 
     pub calls_sure : length s.asked ≡ head.calls → (i : Instance)
         → IsDue task (known_of task s.entries) (notes_of task s.entries) i
@@ -132,40 +139,42 @@ module _ (task : Task) (s : State) (works : s.failed ≡ false) (learnt : IsLear
       far = λ e. absurd (cc);
       within = λ e. absurd (cc);
       room = tt;
+      short = tt;
     }
 
-    pub instances_settled : ¬ (IsSolvable task (known_of task s.entries))
+    pub instances_settled : IsTurnNeeded (limits_of head) task s.entries
         → MoreAreDue MOST_DUE task (known_of task s.entries) (notes_of task s.entries)
-        → IsSettled head task s.entries (outcome.Limit Instances)
-    instances_settled none more = record { sure = instances_sure more; end = λ e. inl none; few = λ e. absurd (cc) }
+        → IsSettledEnd head task s.entries (outcome.Limit Instances)
+    instances_settled needed more = record {
+      sure = record { holds = more; far = λ e. absurd (cc); within = λ e. absurd (cc); room = tt; short = tt };
+      end = λ e. needed;
+      few = λ e. absurd (cc);
+    }
 
-    pub calls_settled : ¬ (IsSolvable task (known_of task s.entries)) → length s.asked ≡ head.calls
+    pub calls_settled : IsTurnNeeded (limits_of head) task s.entries → length s.asked ≡ head.calls
         → (dues : List Due) → AreDueInTurn task (known_of task s.entries) (notes_of task s.entries) dues
         → (i : Instance) → IsDue task (known_of task s.entries) (notes_of task s.entries) i
-        → IsSettled head task s.entries (outcome.Limit Calls)
-    calls_settled none spent dues due i is_due = record {
+        → IsSettledEnd head task s.entries (outcome.Limit Calls)
+    calls_settled needed spent dues due i is_due = record {
       sure = calls_sure spent i is_due;
-      end = λ e. inl none;
+      end = λ e. needed;
       few = λ e at. (instances_of dues, due.due, omega (arith, due.few, length-map dues (λ (d : Due). d.instance)));
-    }
-
-    no_plan_sure : ¬ (IsSolvable task (known_of task s.entries))
-        → ¬ (MoreThan head.states (IsReached task (known_of task s.entries)))
-        → NothingIsDue task (known_of task s.entries) (notes_of task s.entries) → IsSure head task s.entries outcome.NoPlan
-    no_plan_sure none few due = record {
-      holds = record {
-        closed = record { legal = subst (λ v. IsLegal v task s.entries) of.version h.legal; none_open = h.none_open; finished = due };
-        unsolvable = none;
-      };
-      far = λ e. absurd (cc);
-      within = λ e. few;
-      room = tt;
     }
 
     pub no_plan_settled : ¬ (IsSolvable task (known_of task s.entries))
         → ¬ (MoreThan head.states (IsReached task (known_of task s.entries)))
-        → NothingIsDue task (known_of task s.entries) (notes_of task s.entries) → IsSettled head task s.entries outcome.NoPlan
-    no_plan_settled none few due = record { sure = no_plan_sure none few due; end = end; few = λ e. absurd (cc) }
+        → NothingIsDue task (known_of task s.entries) (notes_of task s.entries) → IsSettledEnd head task s.entries outcome.NoPlan
+    no_plan_settled none few due = record {
+      sure = record {
+        holds = record { closed = closed_there due; unsolvable = none };
+        far = λ e. absurd (cc);
+        within = λ e. few;
+        room = tt;
+        short = tt;
+      };
+      end = end;
+      few = λ e. absurd (cc);
+    }
       where
         end : IsLazyEnd (limits_of head) task s.entries between outcome.NoPlan
         end (inl e) = absurd (cc)
@@ -178,22 +187,6 @@ pub none_due : (task : Task) (known : Known) (notes : List Note) (dues : List Du
     → NothingIsDue task known notes
 none_due task known notes dues turn empty =
     nothing_due task known notes (instances_of dues) turn.due (ap instances_of empty)
-
-pub empty_of : {A : Type 0} (xs : List A) → (length xs == 0) ≡ true → xs ≡ []
-empty_of [] e = refl
-empty_of (x ∷ xs) e = absurd (omega (arith, eqb-true (length (x ∷ xs)) 0 e))
-
-pub filled_of : {A : Type 0} (xs : List A) → (length xs == 0) ≡ false → 0 < length xs
-filled_of [] e = absurd (cc)
-filled_of (x ∷ xs) e = omega arith
-
--- something is due where the list isn't empty
-pub first_of : (task : Task) (entries : List Entry) (dues : List Due) → AreReady task entries dues
-    → 0 < length dues
-    → (i : Instance) × IsDue task (known_of task entries) (notes_of task entries) i
-first_of task entries [] ready some = absurd (omega (arith, some))
-first_of task entries (d ∷ ds) ready some =
-    (d.instance, ready.due d.instance (contains_here d.instance (instances_of ds)))
 
 -- ---- what a search has found
 
@@ -211,7 +204,7 @@ found_limit task known limit f is far = far (subst IsLimit (sym is) tt)
 
 pub decided_outcome : (head : Head) (task : Task) (entries : List Entry) (asks : ℕ) (d : Decision) (o : Outcome)
     → d ≡ Ends o
-    → IsDecided head task entries asks d → IsSettled head task entries o
+    → IsDecided head task entries asks d → IsSettledEnd head task entries o
 decided_outcome head task entries asks d o is h = subst (IsDecided head task entries asks) is h
 
 pub decided_dues : (head : Head) (task : Task) (entries : List Entry) (asks : ℕ) (d : Decision) (dues : Vec Due Global)

@@ -1,12 +1,4 @@
-pub mod Breaking
-pub mod Calls
-pub mod Dialogue
-pub mod Held
-pub mod Pieces
+pub mod Advancing
 pub mod Reports
-pub mod Resting
-pub mod Rolling
-pub mod Starts
-pub mod Stops
-pub mod Talking
 pub mod Turns
+pub mod Asking

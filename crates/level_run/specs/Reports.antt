@@ -4,7 +4,7 @@ use Rattle.std.specs.Io.KnownBytes.{Appends}
 use Rattle.std.specs.List.{flat_map}
 use Rattle.mode_turns.specs.Lazy.{IsFewDue, IsLazy, IsLazyEnd}
 use Rattle.task_model.specs.declared.task.Task.{Task}
-use Rattle.transcript_model.specs.Legal.{IsLegal, asks_of, is_level}
+use Rattle.transcript_model.specs.Legal.{HasNoneOpen, IsLegal, asks_of, is_level}
 use Rattle.transcript_model.specs.Outcomes.{MayStand}
 use Rattle.transcript_model.specs.Rounds.{limits_of}
 use Rattle.report_text.specs.Texts.{done_line, line_text, text_of_entry, text_of_head, text_of_outcome}
@@ -14,15 +14,15 @@ use Rattle.transcript_model.specs.declared.head.Head.{Head}
 use Rattle.transcript_model.specs.declared.head.Pool.{Pool}
 use Rattle.transcript_model.specs.declared.outcome.Outcome.{Outcome}
 use Rattle.io_world.specs.Talks.{Event, Talk}
-use Rattle.level_run.specs.Breaking.{HasLevel, LogBroken}
-use Rattle.level_run.specs.Calls.{LogRan, LogStops}
-use Rattle.level_run.specs.Dialogue.{BrokenOff, Dialogue, workers_in}
-use Rattle.level_run.specs.Rolling.{Blames}
-use Rattle.level_run.specs.Stops.{StopsAt}
-use Rattle.level_run.specs.Turns.{IsFrontOfRun, IsSure}
-use Rattle.level_run.specs.declared.fault.RunFault.{RunFault}
-use Rattle.level_run.specs.declared.fault.RunFault.TheVariants.{Write, Memory}
-use Rattle.level_run.specs.declared.incremental_mode.Ran.{Ran}
+use Rattle.round_run.specs.Breaking.{LogBroken}
+use Rattle.round_run.specs.Calls.{LogRan, LogStops}
+use Rattle.round_run.specs.Dialogue.{BrokenOff, Dialogue, workers_in}
+use Rattle.round_run.specs.Rolling.{Blames}
+use Rattle.round_run.specs.Stops.{StopsAt}
+use Rattle.level_run.specs.Turns.{HasTurnLine, IsFrontOfRun, IsSure}
+use Rattle.round_run.specs.declared.fault.RunFault.{RunFault}
+use Rattle.round_run.specs.declared.fault.RunFault.TheVariants.{Write, Memory}
+use Rattle.level_run.specs.declared.mode_run.Ran.{Ran}
 
 -- the streams of the head's pools are the task's
 abbrev pub AreStreamsOf : Task → Head → Type 0
@@ -46,8 +46,8 @@ whole_text task head entries o = text_so_far task head entries ++ text_of_end he
 -- ---- what was written
 
 -- A legal transcript that is a list of whole turns of the head's mode, or one after a batch that was cut, each of which
--- begins where one is needed; an outcome that may stand there and is true of it, and a limit only where a further turn
--- is needed.
+-- begins where one is needed; no request is open; an outcome that may stand there and is true of it, and a limit only
+-- where a further turn is needed.
 pub record IsRun (task : Task) (head : Head) (entries : List Entry) (o : Outcome) : Type 0 where
   pub stage : Stage
   pub legal : IsLegal head.version task entries
@@ -56,6 +56,7 @@ pub record IsRun (task : Task) (head : Head) (entries : List Entry) (o : Outcome
   pub end : IsLazyEnd (limits_of head) task entries stage o
   pub few : IsFewDue task entries stage o
   pub stands : MayStand stage o
+  pub closed : HasNoneOpen entries
   pub sure : IsSure head task entries o
 
 -- A whole report was written, of a run, whose dialogue this was, by the calls that came to the log; the levels and the
@@ -72,7 +73,8 @@ pub record IsReported (task : Task) (head : Head) (spoken : ℕ → Option Talk)
 
 -- The lines of the head and of a legal transcript of whole turns, the last of which may stop at any entry. In it the
 -- request that is blamed is open, if one is; the dialogue was this, and the calls were those of the entries, up to
--- where the run broke off. Where no line of a level stands no child was started.
+-- where the run broke off. Where no line stands that may have
+-- requests behind it no child was started.
 pub record IsPart (task : Task) (head : Head) (fault : RunFault)
     (spoken : ℕ → Option Talk) (was now : Option (List Event)) (text : List ℕ) : Type 0 where
   pub entries : List Entry
@@ -80,11 +82,11 @@ pub record IsPart (task : Task) (head : Head) (fault : RunFault)
   pub blamed : Blames head.version task (workers_in head) spoken fault entries
   pub talks : BrokenOff task head.version (workers_in head) entries spoken
   pub calls : LogBroken task head entries fault was now
-  pub needed : LogStops was now ⊎ HasLevel entries
+  pub needed : LogStops was now ⊎ HasTurnLine head.mode entries
   pub is : text ≡ text_so_far task head entries
 
 -- The text of a report of a run, whose dialogue this was, by the calls that came to the log.
-pub record IsWhole (task : Task) (head : Head) (spoken : ℕ → Option Talk)
+pub record IsWholeReport (task : Task) (head : Head) (spoken : ℕ → Option Talk)
     (was now : Option (List Event)) (text : List ℕ) : Type 0 where
   pub entries : List Entry
   pub outcome : Outcome
@@ -99,7 +101,7 @@ abbrev pub WasToWrite : Task → Head → RunFault → (ℕ → Option Talk) →
     → List ℕ → Type 0
 WasToWrite task head fault spoken was now text =
     ((fault ≡ Memory) × (text ≡ []) × LogStops was now) ⊎ IsPart task head fault spoken was now text
-    ⊎ ((fault ≡ Write) × IsWhole task head spoken was now text)
+    ⊎ ((fault ≡ Write) × IsWholeReport task head spoken was now text)
 
 -- A run had no outcome. All that was to be written was written; but a fault of the sink left some of it out at the end.
 pub record IsBroken (task : Task) (head : Head) (spoken : ℕ → Option Talk)

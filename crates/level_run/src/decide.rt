@@ -1,20 +1,23 @@
 //! What a turn does: it ends the run, or asks a level.
 ghost use Rattle.std.specs.Prelude.{◌≡◌, ◌≤◌, false, length, IfOk, IfErr};
-ghost use Rattle.level_run.specs.Turns.{IsDecided, IsRunnable};
-ghost use Rattle.level_run.specs.declared.fault.RunFault.TheVariants.{Memory};
+ghost use Rattle.level_run.specs.Turns.{IsDecided, IsSettledEnd};
+ghost use Rattle.mode_turns.specs.Lazy.{IsTurnNeeded};
+ghost use Rattle.round_run.specs.Batches.{IsRunnable};
+ghost use Rattle.round_run.specs.declared.fault.RunFault.TheVariants.{Memory};
 ghost use Rattle.session_core.specs.Session.{IsLearnt, IsOf, IsSession};
-ghost use Rattle.task_model.specs.Plans.{IsReached, IsSolvable, MoreThan};
-ghost use Rattle.transcript_model.specs.Transcript.{known_of};
-ghost use Rattle.transcript_model.specs.declared.head.Mode.TheVariants.{Incremental};
+ghost use Rattle.task_model.specs.Plans.{IsFar};
+ghost use Rattle.task_model.specs.Streams.{NothingIsDue};
+ghost use Rattle.transcript_model.specs.Rounds.{limits_of};
+ghost use Rattle.transcript_model.specs.Transcript.{known_of, notes_of};
 
-use crate::fault::RunFault;
-use best_first::{Found, GoalCount, search};
+use crate::plans::known_plan;
+use best_first::{Additive, Found, search};
 use instance_queue::{Due, QueueFault};
+use round_run::RunFault;
 use session_core::Session;
-use shown_plan::plan_outcome;
 use std::alloc::Global;
 use task_model::Task;
-use transcript_model::{Head, LimitKind, Outcome};
+use transcript_model::{Head, LimitKind, Mode, Outcome};
 
 /// What is to be done next.
 #[derive(Drop)]
@@ -33,7 +36,6 @@ pub(crate) fn decide(
     session: &Session,
 ) -> Result<Decision, RunFault>
     requires runnable { IsRunnable task.now head.now }
-    requires mode { head.now.mode ≡ Incremental }
     requires session { IsSession task.now session.now }
     requires head { IsOf head.now session.now }
     requires working { session.now.failed ≡ false }
@@ -44,30 +46,53 @@ pub(crate) fn decide(
     ensures only { IfErr result (λ fault. fault ≡ Memory) }
 {
     let facts = session.facts();
-    match search(alloc, task, facts, head.states, &mut GoalCount)? {
+    let mut estimate = Additive::new(alloc, task, facts)?;
+    match search(alloc, task, facts, head.states, &mut estimate)? {
         Found::Plan(plan, cost) => {
-            let entries = session.entries();
-            let steps = plan.steps.as_slice();
-            let shown = plan_outcome(alloc, task, facts, head.version, entries, steps, cost)?;
+            let shown = known_plan(alloc, task, head, session, &plan, cost)?;
             Ok(Decision::Ends(shown))
         }
-        Found::Limit => Ok(Decision::Ends(Outcome::Limit(LimitKind::States))),
-        Found::Nothing => decide_dues(task, head, session),
+        Found::Limit => decide_far(task, head, session),
+        Found::Nothing => decide_dues(task, head, session, Outcome::NoPlan),
     }
 }
 
-/// What is to be done where there is no plan.
-fn decide_dues(task: &Task, head: &Head, session: &Session) -> Result<Decision, RunFault>
+/// What is to be done where each plan is past the limit of states: in incremental mode the run ends.
+fn decide_far(task: &Task, head: &Head, session: &Session) -> Result<Decision, RunFault>
     requires runnable { IsRunnable task.now head.now }
-    requires mode { head.now.mode ≡ Incremental }
     requires session { IsSession task.now session.now }
     requires head { IsOf head.now session.now }
     requires working { session.now.failed ≡ false }
     requires learnt { IsLearnt session.now }
     requires within { length session.now.asked ≤ head.now.calls }
-    requires unsolvable { ¬ (IsSolvable task.now (known_of task.now session.now.entries)) }
-    requires few { ¬ (MoreThan head.now.states
-        (IsReached task.now (known_of task.now session.now.entries))) }
+    requires far { IsFar task.now (known_of task.now session.now.entries) head.now.states }
+    ensures decided { IfOk result (IsDecided head.now task.now session.now.entries
+        (length session.now.asked)) }
+    ensures only { IfErr result (λ fault. fault ≡ Memory) }
+{
+    let states = Outcome::Limit(LimitKind::States);
+    match head.mode {
+        Mode::Incremental => Ok(Decision::Ends(states)),
+        Mode::Focused | Mode::Binding | Mode::Adaptive => decide_dues(task, head, session, states),
+    }
+}
+
+/// What is to be done where a turn is needed: the run ends with `last` where nothing is due.
+fn decide_dues(
+    task: &Task,
+    head: &Head,
+    session: &Session,
+    last: Outcome,
+) -> Result<Decision, RunFault>
+    requires session { IsSession task.now session.now }
+    requires head { IsOf head.now session.now }
+    requires working { session.now.failed ≡ false }
+    requires learnt { IsLearnt session.now }
+    requires within { length session.now.asked ≤ head.now.calls }
+    requires needed { IsTurnNeeded (limits_of head.now) task.now session.now.entries }
+    requires last { NothingIsDue task.now (known_of task.now session.now.entries)
+        (notes_of task.now session.now.entries)
+        → IsSettledEnd head.now task.now session.now.entries last }
     ensures decided { IfOk result (IsDecided head.now task.now session.now.entries
         (length session.now.asked)) }
     ensures only { IfErr result (λ fault. fault ≡ Memory) }
@@ -80,7 +105,7 @@ fn decide_dues(task: &Task, head: &Head, session: &Session) -> Result<Decision, 
         Err(QueueFault::Memory) => return Err(RunFault::Memory),
     };
     if dues.as_slice().is_empty() {
-        return Ok(Decision::Ends(Outcome::NoPlan));
+        return Ok(Decision::Ends(last));
     }
     if session.asks() == head.calls {
         return Ok(Decision::Ends(Outcome::Limit(LimitKind::Calls)));

@@ -1,20 +1,22 @@
-//! Rounds over several children, and incremental mode: whole levels until a plan exists.
+//! Runs in any mode, turn by turn, and incremental mode: whole levels until a plan exists.
 #![tactic(auto)]
 
-mod batches;
-mod child;
+mod asks;
 mod decide;
-mod ending;
-mod entry_line;
-mod fault;
 mod incremental_mode;
 mod levels;
-mod lines;
+mod marks;
+mod mode_run;
+mod plans;
 mod print;
-mod round;
+mod turn_loop;
+mod turns;
 
-pub use batches::batch;
-pub use ending::Batch;
-pub use fault::RunFault;
-pub use incremental_mode::{Ran, incremental};
-pub use lines::Lines;
+pub use asks::ask_behind;
+pub use incremental_mode::{Levels, incremental};
+pub use levels::fall_back;
+pub use marks::mark;
+pub use mode_run::{Ran, run_mode};
+pub use plans::known_plan;
+pub use round_run::{Batch, Lines, RunFault, batch};
+pub use turns::{Turned, Turns};

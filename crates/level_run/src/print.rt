@@ -3,13 +3,13 @@ ghost use Rattle.std.specs.Prelude.{◌≡◌, ◌<◌, IfErr, OnOk};
 ghost use Rattle.std.specs.Io.KnownBytes.{Appends};
 ghost use Rattle.io_world.specs.Faults.{last_count, HasCause};
 ghost use Rattle.level_run.specs.Reports.{AreStreamsOf, text_of_end};
-ghost use Rattle.level_run.specs.Stops.{StopsAt, Misses, MayWrite};
-ghost use Rattle.level_run.specs.declared.fault.RunFault.TheVariants.{Write};
+ghost use Rattle.round_run.specs.Stops.{StopsAt, Misses, MayWrite};
+ghost use Rattle.round_run.specs.declared.fault.RunFault.TheVariants.{Write};
 ghost use Rattle.report_text.specs.Texts.{text_of_head};
 
-use crate::fault::RunFault;
 use io_world::{Sink, write_all};
 use report_text::{head_text, outcome_text};
+use round_run::RunFault;
 use std::alloc::Global;
 use task_model::Task;
 use transcript_model::{Head, Outcome};

@@ -4,10 +4,13 @@
 
 ghost use Rattle.command_line.specs.declared.number.TheConstants.{DEFAULT_CALLS, DEFAULT_DEPTH, DEFAULT_STATES};
 ghost use Rattle.fact_store.specs.declared.facts.TheConstants.{MOST_NAMES};
+ghost use Rattle.gen_lines.specs.declared.line_buf.TheConstants.{LINE_BYTES};
 ghost use Rattle.gen_lines.specs.declared.values.TheConstants.{VALUE_BYTES};
 ghost use Rattle.io_world.specs.declared.host.TheConstants.{CHILDREN};
-ghost use Rattle.std.specs.Prelude.{◌≡◌};
+ghost use Rattle.report_reader.specs.declared.reader.TheConstants.{REPORT_BYTES};
+ghost use Rattle.std.specs.Prelude.{◌≡◌, ◌*◌, ◌^◌};
 ghost use Rattle.task_model.specs.declared.limits.TheConstants.{LARGEST_NUMBER, MOST_DUE, MOST_STATES};
+ghost use Rattle.task_reader.specs.declared.texts.TheConstants.{TEXT_BYTES};
 ghost use Rattle.transcript_model.specs.declared.limits.TheConstants.{MOST_CALLS, MOST_DEPTH, WORKERS};
 
 /// Costs and values are at most 1,000,000, and as many instances may be due; a search goes through at most 200,000 states; a
@@ -31,4 +34,12 @@ pub fn defaults_have_their_values()
     ensures calls { DEFAULT_CALLS ≡ 10000 }
     ensures states { DEFAULT_STATES ≡ 100000 }
     ensures depth { DEFAULT_DEPTH ≡ 3 }
+{}
+
+/// Texts have at most 4 MiB, reports at most 256 MiB, and 1,025 bytes of a child are held: a line of at most 1,024 and its
+/// line feed.
+pub fn lengths_have_their_values()
+    ensures texts { TEXT_BYTES ≡ 4 * 2 ^ 20 }
+    ensures reports { REPORT_BYTES ≡ 256 * 2 ^ 20 }
+    ensures lines { LINE_BYTES ≡ 1025 }
 {}

@@ -1,10 +1,10 @@
 -- Lazy transcripts, longer and shorter.
-use Rattle.std.proofs.Common.{◌≡◌, ℕ, zero, suc, ◌+◌, arith, All, Bool, List, [], ◌∷◌, ◌++◌, take, true, false, inl, inr, refl, sym, subst, ap, ◌∙◌, append_assoc}
+use Rattle.std.proofs.Common.{◌≡◌, ℕ, zero, suc, ◌+◌, arith, All, List, [], ◌∷◌, ◌++◌, take, true, false, inl, inr, refl, sym, subst, ap, ◌∙◌, append_assoc}
 use Rattle.std.proofs.lemmas.List.{append-nil, take-append-le}
 use Rattle.std.proofs.lemmas.List.Elements.{All-append, All-cons, All-head, All-nil, All-tail}
 use Rattle.std.proofs.lemmas.Option.{slice_get_within}
 use Rattle.lemmas.proofs.Members.{get_append, push_cases, take_append}
-use Rattle.mode_turns.specs.Lazy.{IsLazy, IsNeeded, begins}
+use Rattle.mode_turns.specs.Lazy.{IsLazy, IsTurnNeeded, begins}
 use Rattle.task_model.specs.Streams.{yields_of}
 use Rattle.task_model.specs.declared.stream.Instance.{Instance}
 use Rattle.task_model.specs.declared.task.Task.{Task}
@@ -12,7 +12,6 @@ use Rattle.transcript_model.specs.Legal.{is_answer_to}
 use Rattle.transcript_model.specs.Names.{call_of_instance}
 use Rattle.transcript_model.specs.Rounds.{AreAnswers, AreRoundsRun, Limits, requests, requests_from}
 use Rattle.transcript_model.specs.Transcript.{names_of, notes_of}
-use Rattle.transcript_model.specs.Turns.{IsLevel}
 use Rattle.transcript_model.specs.declared.entry.Call.{Call}
 use Rattle.transcript_model.specs.declared.entry.Entry.{Entry}
 use Rattle.transcript_model.specs.declared.entry.Entry.TheVariants as entry
@@ -27,16 +26,16 @@ lazy_first limits task k e at b = absurd (cc)
 pub lazy_front : (limits : Limits) (task : Task) (entries more : List Entry)
     → IsLazy limits task (entries ++ more) → IsLazy limits task entries
 lazy_front limits task entries more lazy k e at b =
-    subst (IsNeeded limits task) (take-append-le k entries more (omega (arith, slice_get_within entries k e at)))
+    subst (IsTurnNeeded limits task) (take-append-le k entries more (omega (arith, slice_get_within entries k e at)))
     (lazy k e (get_append entries more k e at) b)
 
 -- one entry more, which begins a turn only where one is needed
 pub lazy_push : (limits : Limits) (task : Task) (entries : List Entry) (last : Entry) → IsLazy limits task entries
-    → (begins limits.mode last ≡ true → IsNeeded limits task entries) → IsLazy limits task (entries ++ last ∷ [])
+    → (begins limits.mode last ≡ true → IsTurnNeeded limits task entries) → IsLazy limits task (entries ++ last ∷ [])
 lazy_push limits task entries last lazy needed k e at b = elim (push_cases entries last k e at) [
-  | inl h ↦ subst (IsNeeded limits task) (sym (take-append-le k entries (last ∷ []) (omega (arith, slice_get_within entries k e h))))
+  | inl h ↦ subst (IsTurnNeeded limits task) (sym (take-append-le k entries (last ∷ []) (omega (arith, slice_get_within entries k e h))))
       (lazy k e h b)
-  | inr h ↦ subst (IsNeeded limits task) (sym (ap (λ n. take n (entries ++ last ∷ [])) h.0 ∙ take_append entries (last ∷ [])))
+  | inr h ↦ subst (IsTurnNeeded limits task) (sym (ap (λ n. take n (entries ++ last ∷ [])) h.0 ∙ take_append entries (last ∷ [])))
       (needed (sym (ap (begins limits.mode) h.1) ∙ b))
 ]
 
@@ -81,7 +80,7 @@ answer_quiet mode number (entry.Pick n) is = absurd (cc)
 answer_quiet mode number (entry.Retire n) is = absurd (cc)
 
 module _ (mode : Mode) where
-  abbrev AreQuiet : List Entry → Type 0
+  abbrev pub AreQuiet : List Entry → Type 0
   AreQuiet entries = All (λ e. begins mode e ≡ false) entries
 
   requests_quiet : (task : Task) (before : List Entry) (number : ℕ) (round : List Instance)
@@ -101,19 +100,10 @@ module _ (mode : Mode) where
   answers_quiet number (suc n) (e ∷ es) are =
       All-cons (λ x. begins mode x ≡ false) e es (answer_quiet mode number e are.0) (answers_quiet (number + 1) n es are.1)
 
-  rounds_quiet : (task : Task) (before : List Entry) (rounds : List (List Instance)) (entries : List Entry)
+  pub rounds_quiet : (task : Task) (before : List Entry) (rounds : List (List Instance)) (entries : List Entry)
       → AreRoundsRun task before rounds entries → AreQuiet entries
   rounds_quiet task before [] entries none = subst AreQuiet (sym none) (All-nil (λ e. begins mode e ≡ false))
   rounds_quiet task before (round ∷ rounds) entries (now, rest, is, (answers, same, are), run) =
       let here = subst AreQuiet (sym same) (All-append (λ e. begins mode e ≡ false)
       (requests task before round) answers (requests_quiet task before _ round) (answers_quiet _ _ answers are)) in
       subst AreQuiet (sym is) (All-append (λ e. begins mode e ≡ false) now rest here (rounds_quiet task (before ++ now) rounds rest run))
-
--- a needed level behind a lazy transcript
-pub level_lazy : (limits : Limits) (task : Task) (before now : List Entry) (cut : Bool) → IsLazy limits task before
-    → IsNeeded limits task before → IsLevel limits task before now cut → IsLazy limits task (before ++ now)
-level_lazy limits task before now cut lazy needed level =
-    subst (λ es. IsLazy limits task (before ++ es)) (sym level.is)
-    (subst (IsLazy limits task) (append_assoc before (entry.Level ∷ []) level.rest)
-    (lazy_quiet limits task (before ++ entry.Level ∷ []) level.rest (lazy_push limits task before entry.Level lazy (λ b. needed))
-    (rounds_quiet limits.mode task (before ++ entry.Level ∷ []) level.batch.rounds level.rest level.batch.run)))

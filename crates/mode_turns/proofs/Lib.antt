@@ -3,3 +3,4 @@ pub mod CountsLemmas
 pub mod FrontsLemmas
 pub mod LazyLemmas
 pub mod ModesLemmas
+pub mod LazyTurnsLemmas

@@ -54,8 +54,8 @@ begins Adaptive e = is_dream_line e
 -- ---- where a turn is needed
 
 -- No plan exists; or, in the modes that dream, each is past the limit of states.
-abbrev pub IsNeeded : Limits → Task → List Entry → Type 0
-IsNeeded limits task before =
+abbrev pub IsTurnNeeded : Limits → Task → List Entry → Type 0
+IsTurnNeeded limits task before =
     ¬ (IsSolvable task (known_of task before))
     ⊎ (¬ (limits.mode ≡ Incremental) × IsFar task (known_of task before) limits.states)
 
@@ -63,13 +63,13 @@ IsNeeded limits task before =
 abbrev pub IsLazy : Limits → Task → List Entry → Type 0
 IsLazy limits task entries =
     (k : ℕ) (e : Entry) → slice_get entries k ≡ Some e → begins limits.mode e ≡ true
-    → IsNeeded limits task (take k entries)
+    → IsTurnNeeded limits task (take k entries)
 
 -- A limit of instances, or of calls behind no cut batch, stands only where a further turn is needed.
 abbrev pub IsLazyEnd : Limits → Task → List Entry → Stage → Outcome → Type 0
 IsLazyEnd limits task entries stage o =
     (o ≡ outcome.Limit Instances) ⊎ ((o ≡ outcome.Limit Calls) × (stage ≡ between))
-    → IsNeeded limits task entries
+    → IsTurnNeeded limits task entries
 
 -- Where the limit of calls stands behind no cut batch, at most so many instances are due as may be listed.
 abbrev pub IsFewDue : Task → List Entry → Stage → Outcome → Type 0

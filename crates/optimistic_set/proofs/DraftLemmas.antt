@@ -7,24 +7,24 @@ use Rattle.std.proofs.lemmas.List.Sums.{sum_by-cons}
 use Rattle.std.specs.List.{flat_map}
 use Rattle.certify.proofs.FitStreamLemmas.{fit_parts}
 use Rattle.fact_layer.specs.Laid.{laid_over}
-use Rattle.fact_store.proofs.StoreLemmas.{in_more}
+use Rattle.fact_store.proofs.StoreLemmas.{all_in_more}
 use Rattle.lemmas.proofs.ListTests.{all_by_place}
 use Rattle.lemmas.proofs.Members.{push_cases}
 use Rattle.lemmas.proofs.Numbers.{length-numbers_from}
 use Rattle.lemmas.specs.Lists.{numbers_from}
 use Rattle.task_model.proofs.KnownLemmas.{facts_then, in_names}
 use Rattle.task_model.specs.Dreams.{Entry, entry_facts, entry_values, placeholders, entry_names, instances_of, supposing, HasFreshOutputs}
-use Rattle.task_model.specs.Known.{Known, IsCoherent, IsIn, with_facts, with_value, with_values}
+use Rattle.task_model.specs.Known.{Known, IsCoherent, IsIn, with_facts, with_values}
 use Rattle.task_model.specs.Streams.{certified_by, worth_by}
 use Rattle.task_model.specs.declared.stream.Instance.{Instance}
 use Rattle.task_model.specs.declared.task.Task.{Task}
-use Rattle.task_model.specs.declared.task.Valued.{Valued}
 use Rattle.transcript_model.proofs.NamedObjectLemmas.{fit_stream_at}
 use Rattle.optimistic_set.proofs.PlaceholderLemmas.{HaveFew}
 use Rattle.optimistic_set.proofs.SupposingLemmas.{supposing_coherent}
-use Rattle.optimistic_set.specs.Drafts.{IsBase, IsDraft, IsPlainInstance, IsPushed}
-use Rattle.optimistic_set.specs.Entries.{IsPlainEntry}
+use Rattle.optimistic_set.specs.Drafts.{IsDraft, IsPlainInstance, IsPushed}
+use Rattle.optimistic_set.specs.Entries.{IsBase, IsPlainEntry}
 use Rattle.optimistic_set.specs.declared.draft.Draft.{Draft}
+use Rattle.transcript_model.proofs.LegalPrefixLemmas.{values_then}
 
 -- ---- names of entries
 
@@ -78,9 +78,6 @@ numbers_in names first (suc n) le =
     All-cons (IsIn names) first (numbers_from (first + 1) n) (in_names names first (omega (arith, le)))
     (numbers_in names (first + 1) n (omega (arith, le)))
 
-all_in_more : (names more : List (List ℕ)) (objects : List ℕ) → All (IsIn names) objects → All (IsIn (names ++ more)) objects
-all_in_more names more objects all k d lt = in_more names more _ (all k d lt)
-
 pub plain_later : (task : Task) (names more : List (List ℕ)) (e : Entry) → IsPlainEntry task names e
     → IsPlainEntry task (names ++ more) e
 plain_later task names more e p = record {
@@ -102,11 +99,6 @@ instance_later task names more i p = record {
 }
 
 -- ---- values
-
-values_then : (values first second : List Valued)
-    → with_values values (first ++ second) ≡ with_values (with_values values first) second
-values_then values [] second = refl
-values_then values (v ∷ first) second = values_then (with_value values v) first second
 
 flat_map-push : {X A : Type 0} (f : X → List A) (xs : List X) (x : X) → flat_map f (xs ++ x ∷ []) ≡ flat_map f xs ++ f x
 flat_map-push f xs x = flat_map-append f xs (x ∷ []) ∙ ap (λ ys. flat_map f xs ++ ys) (append-nil (f x))
@@ -158,7 +150,8 @@ module _ (task : Task) (known : Known) (base : IsBase task known) where
       (same : new.facts.now.known ≡ known)
       (fresh : outputs ≡ numbers_from (length known.names + length old.names.items) (length p.stream.outputs))
       (names : new.names.items ≡ old.names.items ++ placeholders (length old.entries.items + 1) 1 (length p.stream.outputs))
-      (facts : known.facts ++ new.more.facts ≡ with_facts (known.facts ++ old.more.facts) (certified_by task.domain p.stream i.inputs outputs))
+      (facts : known.facts ++ new.more.facts
+      ≡ with_facts (known.facts ++ old.more.facts) (certified_by task.domain p.stream i.inputs outputs))
       (values : known.values ++ new.more.values ≡ with_values (known.values ++ old.more.values) (worth_by p.stream i.inputs 0))
       (entries : new.entries.items ≡ old.entries.items ++ record { instance = i; outputs = outputs } ∷ [])
       (asked : new.asked ≡ old.asked ++ i ∷ []) where
@@ -184,7 +177,8 @@ module _ (task : Task) (known : Known) (base : IsBase task known) where
         here : entry_facts task one ≡ certified_by task.domain p.stream i.inputs outputs
         here = rw p.named
 
-    pushed_values : known.values ++ new.more.values ≡ with_values known.values (flat_map (entry_values task) (old.entries.items ++ one ∷ []))
+    pushed_values : known.values ++ new.more.values
+        ≡ with_values known.values (flat_map (entry_values task) (old.entries.items ++ one ∷ []))
     pushed_values =
         values ∙ ap (λ vs. with_values vs (worth_by p.stream i.inputs 0)) d.values
         ∙ sym (values_then known.values (flat_map (entry_values task) old.entries.items) (worth_by p.stream i.inputs 0))
@@ -194,7 +188,8 @@ module _ (task : Task) (known : Known) (base : IsBase task known) where
         here : entry_values task one ≡ worth_by p.stream i.inputs 0
         here = rw p.named
 
-    grown : known.names ++ new.names.items ≡ (known.names ++ old.names.items) ++ placeholders (length old.entries.items + 1) 1 (length p.stream.outputs)
+    grown : known.names ++ new.names.items
+        ≡ (known.names ++ old.names.items) ++ placeholders (length old.entries.items + 1) 1 (length p.stream.outputs)
     grown =
         ap (λ ns. known.names ++ ns) names
         ∙ sym (append_assoc known.names old.names.items (placeholders (length old.entries.items + 1) 1 (length p.stream.outputs)))

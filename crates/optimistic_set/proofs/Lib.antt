@@ -1,5 +1,5 @@
-mod PlaceholderLemmas
-mod SupposingLemmas
+pub mod PlaceholderLemmas
+pub mod SupposingLemmas
 mod DraftLemmas
 mod PassLemmas
 mod TriedLemmas

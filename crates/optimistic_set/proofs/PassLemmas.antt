@@ -20,7 +20,7 @@ use Rattle.task_model.specs.Truth.{have_types}
 use Rattle.task_model.specs.declared.stream.Instance.{Instance}
 use Rattle.task_model.specs.declared.task.Task.{Task}
 use Rattle.optimistic_set.specs.Drafts.{ArePlainInstances, IsPushed, AddsEntries, LacksPass, seeks_new}
-use Rattle.optimistic_set.specs.Faults.{ComesOf, fault_of}
+use Rattle.optimistic_set.specs.Faults.{ComesOf, optimistic_fault}
 use Rattle.optimistic_set.specs.declared.fault.OptimisticFault.{OptimisticFault}
 use Rattle.optimistic_set.specs.declared.fault.OptimisticFault.TheVariants as fault
 
@@ -150,7 +150,7 @@ module _ (task : Task) (known : Known) (notes : List Note) (tried : List Instanc
 pub pass_fault : (task : Task) (known : Known) (notes : List Note) (tried : List Instance) (old : List Entry) (asked : List Instance)
     (f : JoinFault) → asked ≡ instances_of old
     → Lacks (20000 - length old) (IsFound task (supposing task known old old) (seeks_new notes tried asked)) [] f
-    → LacksPass task known notes tried old (fault_of f)
+    → LacksPass task known notes tried old (optimistic_fault f)
 pass_fault task known notes tried old asked join.TooMany same h =
     subst (λ a. Exceeds (20000 - length old) (IsFound task (supposing task known old old) (seeks_new notes tried a)) []) same h
 pass_fault task known notes tried old asked join.Memory same h = tt

@@ -4,30 +4,23 @@ use Rattle.std.specs.List.{list_any, flat_map}
 use Rattle.fact_join.specs.Adding.{Exceeds}
 use Rattle.instance_search.specs.Found.{IsFound}
 use Rattle.task_model.specs.Dreams.{Entry, entry_facts, entry_values, entry_names, instances_of, supposing, HasFreshOutputs}
-use Rattle.task_model.specs.Fit.{IsFit}
 use Rattle.task_model.specs.Known.{Known, IsIn, with_facts, with_values}
 use Rattle.task_model.specs.Streams.{Note, is_finished, same_instance}
 use Rattle.task_model.specs.declared.stream.Instance.{Instance}
 use Rattle.task_model.specs.declared.stream.Stream.{Stream}
 use Rattle.task_model.specs.declared.task.Task.{Task}
-use Rattle.optimistic_set.specs.Dreamable.{AreReal}
 use Rattle.optimistic_set.specs.Entries.{IsPlainEntry}
 use Rattle.optimistic_set.specs.declared.draft.Draft.{Draft}
 use Rattle.optimistic_set.specs.declared.fault.OptimisticFault.{OptimisticFault}
 use Rattle.optimistic_set.specs.declared.fault.OptimisticFault.TheVariants.{TooManyEntries, Memory}
-
--- What entries may be supposed over: the task is fit, the declared objects have names, and no name begins with `@`.
-pub record IsBase (task : Task) (known : Known) : Type 0 where
-  pub fit : IsFit task
-  pub declared : length task.problem.objects ≤ length known.names
-  pub real : AreReal known.names
 
 -- What is written is what the entries say.
 pub record IsDraft (task : Task) (known : Known) (draft : Draft) : Type 0 where
   pub base : draft.facts.now.known ≡ known
   pub names : draft.names.items ≡ entry_names 1 draft.entries.items
   pub facts : known.facts ++ draft.more.facts ≡ with_facts known.facts (flat_map (entry_facts task) draft.entries.items)
-  pub values : known.values ++ draft.more.values ≡ with_values known.values (flat_map (entry_values task) draft.entries.items)
+  pub values : known.values ++ draft.more.values
+      ≡ with_values known.values (flat_map (entry_values task) draft.entries.items)
   pub asked : draft.asked ≡ instances_of draft.entries.items
   pub few : length draft.entries.items ≤ 20000
   pub plain : (k : ℕ) (e : Entry) → slice_get draft.entries.items k ≡ Some e

@@ -1,9 +1,17 @@
 -- Entries that may be supposed: their objects have names.
-use Rattle.std.specs.Prelude.{◌≡◌, ℕ, List, length, All, Some, slice_get}
-use Rattle.task_model.specs.Dreams.{Entry}
-use Rattle.task_model.specs.Known.{IsIn}
+use Rattle.std.specs.Prelude.{◌≡◌, ℕ, ◌≤◌, ◌++◌, List, length, All, Some, slice_get}
+use Rattle.task_model.specs.Dreams.{Entry, entry_names}
+use Rattle.task_model.specs.Fit.{IsFit}
+use Rattle.task_model.specs.Known.{Known, IsIn}
 use Rattle.task_model.specs.declared.stream.Stream.{Stream}
 use Rattle.task_model.specs.declared.task.Task.{Task}
+use Rattle.optimistic_set.specs.Dreamable.{AreReal}
+
+-- What entries may be supposed over: the task is fit, the declared objects have names, and no name begins with `@`.
+pub record IsBase (task : Task) (known : Known) : Type 0 where
+  pub fit : IsFit task
+  pub declared : length task.problem.objects ≤ length known.names
+  pub real : AreReal known.names
 
 -- The entry is one of a stream of the task, has as many inputs and outputs as that, and its objects have names.
 pub record IsPlainEntry (task : Task) (names : List (List ℕ)) (e : Entry) : Type 0 where
@@ -13,3 +21,11 @@ pub record IsPlainEntry (task : Task) (names : List (List ℕ)) (e : Entry) : Ty
   pub outputs : length e.outputs ≡ length stream.outputs
   pub given : All (IsIn names) e.instance.inputs
   pub fresh : All (IsIn names) e.outputs
+
+-- At most 20,000 entries of streams of the task, over what is known without them; with the placeholders of them all their
+-- objects have names.
+pub record ArePlainEntries (task : Task) (known : Known) (list : List Entry) : Type 0 where
+  pub base : IsBase task known
+  pub few : length list ≤ 20000
+  pub each : (k : ℕ) (e : Entry) → slice_get list k ≡ Some e
+      → IsPlainEntry task (known.names ++ entry_names 1 list) e

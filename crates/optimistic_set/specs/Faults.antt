@@ -11,9 +11,9 @@ use Rattle.optimistic_set.specs.declared.fault.OptimisticFault.{OptimisticFault}
 use Rattle.optimistic_set.specs.declared.fault.OptimisticFault.TheVariants.{TooManyEntries, Memory}
 
 -- the faults of a join as faults of a list
-abbrev pub fault_of : JoinFault → OptimisticFault
-fault_of join.TooMany = TooManyEntries
-fault_of join.Memory = Memory
+abbrev pub optimistic_fault : JoinFault → OptimisticFault
+optimistic_fault join.TooMany = TooManyEntries
+optimistic_fault join.Memory = Memory
 
 -- what is true where there is no list
 abbrev pub ComesOf : Task → Known → List Note → List Instance → ℕ → OptimisticFault → Type 0

@@ -7,7 +7,8 @@ ghost use Rattle.task_model.specs.Streams.{certified_by, worth_by};
 ghost use Rattle.task_model.specs.declared.task.Task.{Task as AnyTask};
 ghost use Rattle.fact_join.specs.Adding.{ComesOf};
 ghost use Rattle.instance_search.specs.Found.{IsFound, AreFound};
-ghost use Rattle.optimistic_set.specs.Drafts.{IsDraft, IsBase, IsPlainInstance, ArePlainInstances, AddsEntries, IsPushed, LacksPass, seeks_new};
+ghost use Rattle.optimistic_set.specs.Entries.{IsBase};
+ghost use Rattle.optimistic_set.specs.Drafts.{IsDraft, IsPlainInstance, ArePlainInstances, AddsEntries, IsPushed, LacksPass, seeks_new};
 
 use crate::entry::OptEntry;
 use crate::fault::OptimisticFault;
@@ -59,7 +60,7 @@ impl<'a> Sought for Fresh<'a> {
 }
 
 /// Puts what an entry of the stream certifies behind a store. Fails only where memory is wanting; then some of it may be there.
-pub(crate) fn add_certified(
+pub fn add_certified(
     more: &mut More,
     alloc: Global,
     facts: &Facts,

@@ -1,7 +1,7 @@
 //! Why there is no list of entries.
 ghost use Rattle.std.specs.Prelude.{◌≡◌};
 ghost use Rattle.optimistic_set.specs.declared.fault.OptimisticFault.TheVariants.{Memory};
-ghost use Rattle.optimistic_set.specs.Faults.{fault_of};
+ghost use Rattle.optimistic_set.specs.Faults.{optimistic_fault};
 
 use fact_join::JoinFault;
 use std::alloc::{AllocError, AllocFailed};
@@ -35,7 +35,7 @@ impl<T: Drop> From<AllocFailed<T>> for OptimisticFault {
 }
 
 impl From<JoinFault> for OptimisticFault {
-    ghost from_gives = { λ fault e. e ≡ fault_of fault };
+    ghost from_gives = { λ fault e. e ≡ optimistic_fault fault };
 
     fn from(fault: JoinFault) -> OptimisticFault {
         match fault {

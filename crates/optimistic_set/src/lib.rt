@@ -9,6 +9,7 @@ mod placeholders;
 mod supposed;
 mod tried;
 
+pub use draft::add_certified;
 pub use entry::OptEntry;
 pub use fault::OptimisticFault;
 pub use list::{MOST_ENTRIES, optimistic};

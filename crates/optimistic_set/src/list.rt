@@ -3,6 +3,7 @@ ghost use Rattle.std.specs.Prelude.{◌≡◌, ◌≤◌, length, IfOk, IfErr};
 ghost use Rattle.task_model.specs.Dreams.{AreSupposed, supposing};
 ghost use Rattle.task_model.specs.Fit.{IsFit};
 ghost use Rattle.optimistic_set.specs.Dreamable.{AreReal};
+ghost use Rattle.optimistic_set.specs.Entries.{ArePlainEntries};
 ghost use Rattle.optimistic_set.specs.Faults.{ComesOf};
 
 use crate::draft::Draft;
@@ -40,6 +41,8 @@ pub fn optimistic<'a>(
         ≡ supposing task.now facts.now.known supposed.list supposed.list) }
     ensures base { IfOk result (λ supposed. supposed.base ≡ facts.now.known) }
     ensures few { IfOk result (λ supposed. length supposed.list ≤ 20000) }
+    ensures plain { IfOk result (λ supposed. ArePlainEntries task.now supposed.base
+        supposed.list) }
     ensures fault { IfErr result (ComesOf task.now facts.now.known queue.now tried.now depth) }
 {
     let mut draft = Draft::new(alloc, facts);

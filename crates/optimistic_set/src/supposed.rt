@@ -6,8 +6,9 @@ ghost use Rattle.fact_store.specs.Store.{coherent_prop};
 use crate::draft::Draft;
 use crate::entry::OptEntry;
 use fact_layer::Layer;
+use fact_store::Facts;
 use std::marker::Model;
-use task_model::Task;
+use task_model::{Name, Task};
 
 /// The entries that may be supposed over a store, with what is known with all of them.
 #[derive(Drop)]
@@ -35,8 +36,9 @@ impl<'a> Model for Supposed<'a> {
 }
 
 impl<'a> Supposed<'a> {
-    ghost use Rattle.std.specs.Prelude.{◌≡◌, ◌<◌, length, Some, slice_get};
-    ghost use Rattle.optimistic_set.specs.Drafts.{IsBase, IsDraft};
+    ghost use Rattle.std.specs.Prelude.{◌≡◌, ◌<◌, ◌++◌, length, Some, slice_get};
+    ghost use Rattle.optimistic_set.specs.Drafts.{IsDraft};
+    ghost use Rattle.optimistic_set.specs.Entries.{IsBase, ArePlainEntries};
     ghost use Rattle.task_model.specs.Dreams.{supposing};
 
     /// What was written.
@@ -47,6 +49,8 @@ impl<'a> Supposed<'a> {
         ensures list { result.list ≡ draft.entry.entries.items }
         ensures known { result.known ≡ supposing task.now draft.entry.facts.now.known
             draft.entry.entries.items draft.entry.entries.items }
+        ensures plain { ArePlainEntries task.now draft.entry.facts.now.known
+            draft.entry.entries.items }
     {
         Supposed { draft }
     }
@@ -64,6 +68,27 @@ impl<'a> Supposed<'a> {
         ensures { slice_get self.now.list place ≡ Some result.now }
     {
         &self.draft.entries.as_slice()[place]
+    }
+
+    /// The entries.
+    pub fn entries(&self) -> &[OptEntry]
+        ensures { result.now ≡ self.now.list }
+    {
+        self.draft.entries.as_slice()
+    }
+
+    /// What is known without the entries.
+    pub fn facts(&self) -> &Facts
+        ensures { result.now.known ≡ self.now.base }
+    {
+        self.draft.facts
+    }
+
+    /// The placeholders' names, which stand behind those of the objects.
+    pub fn names(&self) -> &[Name]
+        ensures { self.now.known.names ≡ self.now.base.names ++ result.now }
+    {
+        self.draft.names.as_slice()
     }
 
     /// What is known with all entries, for look-ups. It takes no memory.

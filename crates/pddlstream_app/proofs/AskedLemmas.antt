@@ -1,9 +1,9 @@
 -- Which files were asked for.
 use Rattle.std.proofs.Common.{◌≡◌, ℕ, List, [], ◌∷◌, refl, sym, subst, ◌⊎◌, inl, inr, false, Option, Some, Result, Ok, Err, IfOk, IfErr}
 use Rattle.std.specs.Io.KnownBytes.{Appends}
-use Rattle.level_run.proofs.StoppedLemmas.{appends_then}
-use Rattle.level_run.specs.declared.fault.RunFault.{RunFault}
-use Rattle.level_run.specs.declared.fault.RunFault.TheVariants as fault
+use Rattle.round_run.proofs.StoppedLemmas.{appends_then}
+use Rattle.round_run.specs.declared.fault.RunFault.{RunFault}
+use Rattle.round_run.specs.declared.fault.RunFault.TheVariants as fault
 use Rattle.transcript_model.specs.declared.outcome.Outcome.{Outcome}
 use Rattle.transcript_model.specs.declared.outcome.Outcome.TheVariants as outcome
 use Rattle.pddlstream_app.proofs.RunsLemmas.{before_last}
@@ -16,8 +16,8 @@ use Rattle.pddlstream_app.specs.declared.stop.FileRole.TheVariants as role
 use Rattle.pddlstream_app.specs.declared.stop.Text.TheVariants.{Domain, Problem, Streams}
 use Rattle.pddlstream_app.specs.Outside.{FilesSeen, Outside, Written}
 use Rattle.pddlstream_app.specs.Replays.{kind_of_verdict}
-use Rattle.pddlstream_app.specs.Runs.{ClosesRun, HasOutcome, HasVerdict, IsBeforeLast, IsCompleted, IsLined, IsSaid, IsStopped, kind_of}
-use Rattle.level_run.specs.declared.incremental_mode.Ran.{Ran}
+use Rattle.pddlstream_app.specs.Runs.{ClosesRun, HasOutcome, HasVerdict, IsBeforeLast, IsCompleted, IsLined, IsVerdictSaid, IsStopped, outcome_status}
+use Rattle.level_run.specs.declared.mode_run.Ran.{Ran}
 use Rattle.pddlstream_app.specs.Solving.{HasNoReport, IsSolved}
 use Rattle.pddlstream_app.specs.Works.{made_files, made_words}
 use Rattle.io_world.specs.Faults.{Extends}
@@ -97,7 +97,7 @@ module _ (words : List (List ℕ)) (files : FilesSeen) where
 
   -- the verdict was written, or not
   pub asked_said : (IsSo : Verdict → Type 0) (written : Written) (r : Result Status Stop)
-      → IsSaid IsSo written r → AsksAll words files → IfErr r (AsksBefore words files)
+      → IsVerdictSaid IsSo written r → AsksAll words files → IfErr r (AsksBefore words files)
   asked_said IsSo written (Ok status) said all = tt
   asked_said IsSo written (Err why) (inl x) all = subst (AsksBefore words files) (sym x.0) (inr (inl all))
   asked_said IsSo written (Err why) (inr (v, is, inl x)) all =
@@ -166,7 +166,7 @@ pub asked_completed : (words : List (List ℕ)) (outside : Outside) (some writte
     → AsksFiles words outside.files written status
 asked_completed words outside some written status c all = of c.has
   where
-    solved : (o : Outcome) → AsksFiles words outside.files written (kind_of o)
+    solved : (o : Outcome) → AsksFiles words outside.files written (outcome_status o)
     solved (outcome.Plan steps cost from) = all
     solved outcome.NoPlan = all
     solved (outcome.Limit kind) = all

@@ -5,11 +5,11 @@ use Rattle.transcript_model.specs.declared.outcome.Outcome.{Outcome}
 use Rattle.transcript_model.specs.declared.outcome.Outcome.TheVariants as outcome
 use Rattle.pddlstream_app.specs.Outside.{Outside, Written}
 use Rattle.pddlstream_app.specs.Replays.{kind_of_verdict}
-use Rattle.pddlstream_app.specs.Runs.{Caused, ClosesRun, HasOutcome, HasVerdict, IsCompleted, IsLined, IsSaid, IsShown, kind_of}
+use Rattle.pddlstream_app.specs.Runs.{Caused, ClosesRun, HasOutcome, HasVerdict, IsCompleted, IsLined, IsVerdictSaid, IsShown, outcome_status}
 use Rattle.replay_check.specs.declared.verdict.Verdict.{Verdict}
 use Rattle.replay_check.specs.declared.verdict.Verdict.TheVariants as verdict
 use Rattle.pddlstream_app.specs.Stop.{IsOfInput, is_write, is_write_fault, status_at}
-use Rattle.level_run.specs.declared.fault.RunFault.TheVariants as fault
+use Rattle.round_run.specs.declared.fault.RunFault.TheVariants as fault
 use Rattle.pddlstream_app.specs.declared.status.Status.{Status}
 use Rattle.pddlstream_app.specs.declared.status.Status.TheVariants.{GeneratorFault, WriteFault, Memory}
 use Rattle.pddlstream_app.specs.declared.stop.Stop.{Stop}
@@ -34,7 +34,7 @@ pub other_stop : (why : Stop) → is_write why ≡ false → why ≡ stop.Run fa
 other_stop why e is = let both : true ≡ false = sym (ap is_write is) ∙ e in absurd (cc)
 
 -- an outcome, or a verdict, is no fault
-no_generator : (o : Outcome) → kind_of o ≡ GeneratorFault → ⊥
+no_generator : (o : Outcome) → outcome_status o ≡ GeneratorFault → ⊥
 no_generator (outcome.Plan steps cost from) e = absurd (cc)
 no_generator outcome.NoPlan e = absurd (cc)
 no_generator (outcome.Limit kind) e = absurd (cc)
@@ -126,7 +126,7 @@ module _ (last before now : ℕ) (r : Result Status Stop) where
 
 -- the verdict was written, or not
 pub said_of : (IsSo : Verdict → Type 0) (v : Verdict) (written : Written) (r : Result Status Stop)
-    → IsSo v → IsShown v written r → IsSaid IsSo written r
+    → IsSo v → IsShown v written r → IsVerdictSaid IsSo written r
 said_of IsSo v written (Ok status) is shown = (v, is, shown)
 said_of IsSo v written (Err why) is shown = inr (v, is, shown)
 

@@ -7,13 +7,13 @@ use Rattle.io_world.specs.Faults.{Rose}
 use Rattle.task_model.specs.declared.task.Task.{Task}
 use Rattle.transcript_model.specs.declared.outcome.Outcome.{Outcome}
 use Rattle.transcript_model.specs.declared.outcome.Outcome.TheVariants as outcome
-use Rattle.level_run.specs.declared.fault.RunFault.TheVariants as fault
+use Rattle.round_run.specs.declared.fault.RunFault.TheVariants as fault
 use Rattle.pddlstream_app.specs.Complete.{GoesWell, EndsWell}
 use Rattle.pddlstream_app.specs.Files.{AreBytes, FileWanted, HasBytes}
 use Rattle.pddlstream_app.specs.Heads.{AreServed, HaveText, MeansBy, MeansPools}
-use Rattle.pddlstream_app.specs.Inputs.{EndsReading, HasNoInput, HasNoPool, IsRefused, IsRefusedMap, IsTaskOf, IsTooLong, MayBeFilesOf, ReadsNothing, SolvesNothing, file_at, files_named}
+use Rattle.pddlstream_app.specs.Inputs.{EndsReading, HasNoInput, HasNoPool, IsInputRefused, IsRefusedMap, IsTaskOf, IsTooLong, MayBeFilesOf, ReadsNothing, SolvesNothing, file_at, files_named}
 use Rattle.pddlstream_app.specs.Outside.{Outside, Written}
-use Rattle.pddlstream_app.specs.Runs.{ClosesRun, HasOutcome, HasVerdict, IsBeforeLast, IsCompleted, kind_of}
+use Rattle.pddlstream_app.specs.Runs.{ClosesRun, HasOutcome, HasVerdict, IsBeforeLast, IsCompleted, outcome_status}
 use Rattle.pddlstream_app.specs.Stop.{status_at}
 use Rattle.command_line.specs.Words.{Command, ReplayWords, SolveWords, command_of, replay, solve}
 use Rattle.grid_text.specs.Files.{BlamesGridText, IsGridOf}
@@ -22,7 +22,7 @@ use Rattle.grid_text.specs.declared.fault.GridFault.TheVariants as grid
 use Rattle.stream_map.specs.Accepted.{Accepted, AcceptedMap}
 use Rattle.stream_map.specs.Children.{grid_file, plain}
 use Rattle.stream_map.specs.Faults.{Refused}
-use Rattle.stream_map.specs.Form.{stream_names, words_form}
+use Rattle.stream_map.specs.Form.{all_stream_names, words_form}
 use Rattle.transcript_model.specs.declared.head.Pool.{Pool}
 use Rattle.pddlstream_app.specs.declared.stop.FileRole.{FileRole}
 use Rattle.pddlstream_app.specs.declared.stop.FileRole.TheVariants as role
@@ -190,7 +190,7 @@ module _ {words : List (List ℕ)} {outside : Outside} {host_rose sink_rose : Ty
       let same = told_text (stop.Input which kind place) n refused.bytes refused.has in
       absurd (none_refused t.domain t.problem t.streams
       (of_map.0 ++ of_grid.0) well.task t.spelled n.stopped.texts here.text here.rest which kind place here.split
-      (subst (λ b. IsRefused n.stopped.texts which b kind place) same refused.so))
+      (subst (λ b. IsInputRefused n.stopped.texts which b kind place) same refused.so))
   no_reading (stop.Map why) n =
       let here = at (stop.Map why) n in
       let refused = n.stopped.cause.1 in
@@ -223,8 +223,8 @@ module _ {words : List (List ℕ)} {outside : Outside} {host_rose sink_rose : Ty
       let task = one_spelled well.files asked.files well.task n.task t spelled in
       let means : Accepted well.task (words_form well.task asked.program asked.workers) s.meant = subst
       (λ p. MeansBy p (Some well.files) asked well.task s.meant) n.no_map s.means in
-      let refused = subst (λ u. Refused (stream_names u) (words_form u asked.program asked.workers) n.fault) task n.refused in
-      form_not_refused (stream_names well.task)
+      let refused = subst (λ u. Refused (all_stream_names u) (words_form u asked.program asked.workers) n.fault) task n.refused in
+      form_not_refused (all_stream_names well.task)
       (words_form well.task asked.program asked.workers) means.spelled n.fault means.form_is means.right n.certain refused
 
   no_solving : (why : Stop) → SolvesNothing asked outside.files why → why ≡ stop.Run fault.Memory
@@ -259,7 +259,7 @@ module _ {words : List (List ℕ)} {outside : Outside} {host_rose sink_rose : Ty
       → IsCompleted words outside written status → EndsWell status
   answered_outcome status c = of c.has
     where
-      solved : (o : Outcome) → EndsWell (kind_of o)
+      solved : (o : Outcome) → EndsWell (outcome_status o)
       solved (outcome.Plan steps cost from) = tt
       solved outcome.NoPlan = tt
       solved (outcome.Limit kind) = tt

@@ -2,7 +2,7 @@
 use Rattle.std.proofs.Common.{◌≡◌, ◌∙◌, inl, inr, ℕ, List, Bool, true, false, ap, refl, subst, sym}
 use Rattle.std.specs.Io.KnownBytes.{Appends}
 use Rattle.level_run.specs.Reports as reports
-use Rattle.level_run.specs.declared.fault.RunFault.TheVariants as fault
+use Rattle.round_run.specs.declared.fault.RunFault.TheVariants as fault
 use Rattle.replay_check.specs.declared.verdict.Verdict.{Verdict}
 use Rattle.replay_check.specs.declared.verdict.Verdict.TheVariants as verdict
 use Rattle.transcript_model.specs.declared.outcome.Outcome.{Outcome}
@@ -11,7 +11,7 @@ use Rattle.pddlstream_app.proofs.RunsLemmas.{taken_all}
 use Rattle.pddlstream_app.specs.Headline.{PrintsNoPlan, PrintsPlan}
 use Rattle.pddlstream_app.specs.Outside.{Outside, Written}
 use Rattle.pddlstream_app.specs.Replays.{kind_of_verdict}
-use Rattle.pddlstream_app.specs.Runs.{Ends, HasOutcome, ProgramRun, RunWrites, kind_of, shown_text}
+use Rattle.pddlstream_app.specs.Runs.{Ends, HasOutcome, ProgramRun, RunWrites, outcome_status, shown_text}
 use Rattle.pddlstream_app.specs.Stop.{status_at}
 use Rattle.pddlstream_app.specs.declared.status.Status.{Status}
 use Rattle.pddlstream_app.specs.declared.status.Status.TheVariants.{NoPlan, Plan}
@@ -50,7 +50,7 @@ module _ (words : List (List ℕ)) (outside : Outside) (written : Written) where
   abbrev Printed : ProgramRun words outside.files.told → Outcome → Type 0
   Printed run o = Appends written.before written.after (shown_text run.work run.task run.head run.entries o)
 
-  plan_from : (o : Outcome) → kind_of o ≡ Plan → (run : ProgramRun words outside.files.told)
+  plan_from : (o : Outcome) → outcome_status o ≡ Plan → (run : ProgramRun words outside.files.told)
       → reports.IsRun run.task run.head run.entries o
       → Printed run o → PrintsPlan words outside.files.told written
   plan_from (outcome.Plan calls cost from) kind run turns took =
@@ -69,7 +69,7 @@ module _ (words : List (List ℕ)) (outside : Outside) (written : Written) where
   plan_from outcome.NoPlan kind run turns took = absurd (cc)
   plan_from (outcome.Limit limit) kind run turns took = absurd (cc)
 
-  no_plan_from : (o : Outcome) → kind_of o ≡ NoPlan → (run : ProgramRun words outside.files.told)
+  no_plan_from : (o : Outcome) → outcome_status o ≡ NoPlan → (run : ProgramRun words outside.files.told)
       → reports.IsRun run.task run.head run.entries o
       → Printed run o → PrintsNoPlan words outside.files.told written
   no_plan_from outcome.NoPlan kind run turns took =

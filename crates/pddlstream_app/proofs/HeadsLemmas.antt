@@ -11,7 +11,7 @@ use Rattle.io_world.specs.FileMap.{FileMap}
 use Rattle.lemmas.proofs.Bools.{right_true}
 use Rattle.lemmas.proofs.ListTests.{all_by_place, number_found}
 use Rattle.lemmas.proofs.Members.{member_at, place_of}
-use Rattle.level_run.specs.Turns.{IsRunnable}
+use Rattle.round_run.specs.Batches.{IsRunnable}
 use Rattle.pools.specs.Pools.{AreFitPools, Workers, has_stream, server, workers_of}
 use Rattle.pools.specs.Pools as children
 use Rattle.stream_map.proofs.LawsLemmas.{accepted_maps, accepted_words, texts_keep}

@@ -3,7 +3,7 @@ use Rattle.std.proofs.Common.{◌≡◌, ℕ, ◌≤◌, arith, List, [], ◌∷
 use Rattle.io_world.proofs.TalksLemmas.{extends_more}
 use Rattle.io_world.specs.FileMap.{Asked, FileMap}
 use Rattle.io_world.specs.Faults.{Extends, HasCause}
-use Rattle.level_run.proofs.StoppedLemmas.{handed_err}
+use Rattle.round_run.proofs.StoppedLemmas.{handed_err}
 use Rattle.task_model.specs.Fit.{IsFit}
 use Rattle.task_model.specs.declared.domain.Domain as domains
 use Rattle.task_model.specs.declared.task.Problem as problems
@@ -15,11 +15,11 @@ use Rattle.task_reader.specs.declared.refusal.InputRefusal.{InputRefusal}
 use Rattle.task_reader.specs.declared.refusal.InputRefusal.TheVariants as refusal
 use Rattle.command_line.specs.Words.{Command, ReplayWords, SolveWords, TaskFiles, command_of, generate, replay, solve}
 use Rattle.pddlstream_app.specs.Files.{AreBytes, FileWanted, HasBytes, file_of}
-use Rattle.pddlstream_app.specs.Inputs.{AreAccepted, EndsAtFile, EndsHere, EndsReading, HasNoInput, IsRefused, IsTaskOf, MayEnd, ReadsNothing, SolvesNothing, ask, files_named, reads, stop_for, task_files}
+use Rattle.pddlstream_app.specs.Inputs.{AreAccepted, EndsAtFile, EndsHere, EndsReading, HasNoInput, IsInputRefused, IsTaskOf, MayEnd, ReadsNothing, SolvesNothing, ask, files_named, reads, stop_for, task_files}
 use Rattle.pddlstream_app.specs.Outside.{FilesSeen}
 use Rattle.pddlstream_app.specs.Stop.{IsOfInput}
 use Rattle.pddlstream_app.specs.Works.{made_files, made_words}
-use Rattle.level_run.specs.declared.fault.RunFault.TheVariants as fault
+use Rattle.round_run.specs.declared.fault.RunFault.TheVariants as fault
 use Rattle.pddlstream_app.specs.declared.stop.Stop.{Stop}
 use Rattle.pddlstream_app.specs.declared.stop.Stop.TheVariants.{Usage, Input, Map, Grid, Failed, TooLong, Run}
 use Rattle.pddlstream_app.specs.declared.stop.FileRole.TheVariants as role
@@ -91,20 +91,20 @@ ends_first files wanted more why ends = record {
 -- ---- refusals
 
 pub refused_first : (bytes : List ℕ) (why : InputRefusal) → Refuses (RefusesDomain bytes) why
-    → Refuses (IsRefused [] Domain bytes) why
+    → Refuses (IsInputRefused [] Domain bytes) why
 refused_first bytes (refusal.At kind place) r = r
 refused_first bytes refusal.Memory r = tt
 
 module _ (domain : List ℕ) (d : domains.Domain) (spelled : SpellsDomain domain d) where
   pub refused_second : (bytes : List ℕ) (why : InputRefusal) → Refuses (RefusesProblem d bytes) why
-      → Refuses (IsRefused (domain ∷ []) Problem bytes) why
+      → Refuses (IsInputRefused (domain ∷ []) Problem bytes) why
   refused_second bytes (refusal.At kind place) r =
       record { domain = d; first = spelled; refused = r }
   refused_second bytes refusal.Memory r = tt
 
   pub refused_third : (problem : List ℕ) (p : problems.Problem) → SpellsProblem d problem p
       → (bytes : List ℕ) (why : InputRefusal) → Refuses (RefusesStreams d bytes) why
-      → Refuses (IsRefused (domain ∷ problem ∷ []) Streams bytes) why
+      → Refuses (IsInputRefused (domain ∷ problem ∷ []) Streams bytes) why
   refused_third problem p second bytes (refusal.At kind place) r =
       record { domain = d; first = spelled; problem = p; second = second; refused = r }
   refused_third problem p second bytes refusal.Memory r = tt
@@ -113,7 +113,7 @@ module _ (domain : List ℕ) (d : domains.Domain) (spelled : SpellsDomain domain
 pub ends_refused : (files : FilesSeen) (texts : List (List ℕ)) (which : Text) (path bytes : List ℕ)
     → HasBytes files.told (file_of (role.Text which) path) bytes
     → Extends files.before files.after (ask (Ok tt) (file_of (role.Text which) path) ∷ [])
-    → (why : InputRefusal) → Refuses (IsRefused texts which bytes) why
+    → (why : InputRefusal) → Refuses (IsInputRefused texts which bytes) why
     → EndsHere files texts (file_of (role.Text which) path) (stop_for which why)
 ends_refused files texts which path bytes has asked (refusal.At kind place) r =
     record { cause = (refl, record { bytes = bytes; has = has; so = r }); answer = Ok tt; answered = refl; asked = asked }

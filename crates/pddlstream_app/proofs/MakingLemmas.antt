@@ -2,9 +2,9 @@
 use Rattle.std.proofs.Common.{◌≡◌, ℕ, arith, List, [], Option, Some, refl, sym, subst, ap, ◌∙◌, inl, inr, Result, Ok, Err, IfOk, IfErr}
 use Rattle.std.specs.Io.KnownBytes.{Appends}
 use Rattle.io_world.specs.Faults.{Extends}
-use Rattle.level_run.proofs.StoppedLemmas.{appends_none}
-use Rattle.level_run.specs.declared.fault.RunFault.TheVariants as fault
-use Rattle.level_run.specs.declared.incremental_mode.Ran.{Ran}
+use Rattle.round_run.proofs.StoppedLemmas.{appends_none}
+use Rattle.round_run.specs.declared.fault.RunFault.TheVariants as fault
+use Rattle.level_run.specs.declared.mode_run.Ran.{Ran}
 use Rattle.task_model.specs.declared.task.Task.{Task}
 use Rattle.transcript_model.specs.declared.head.Head.{Head}
 use Rattle.command_line.specs.Ranges.{AreInRange}
@@ -12,7 +12,7 @@ use Rattle.command_line.specs.Words.{SolveWords, command_of, generate}
 use Rattle.pddlstream_app.proofs.InputsLemmas.{made_nothing}
 use Rattle.pddlstream_app.proofs.RunsLemmas.{completed_with, outcome_with, stopped_reading, stopped_with, unwritten}
 use Rattle.pddlstream_app.specs.Outside.{FilesSeen, Outside, Written}
-use Rattle.pddlstream_app.specs.Runs.{HasOutcome, IsCompleted, IsLined, IsStopped, kind_of, shown_text}
+use Rattle.pddlstream_app.specs.Runs.{HasOutcome, IsCompleted, IsLined, IsStopped, outcome_status, shown_text}
 use Rattle.pddlstream_app.specs.Solving.{HasNoReport, IsPosed, IsSolved}
 use Rattle.pddlstream_app.specs.Works.{made_files, made_line, made_words, making}
 use Rattle.pddlstream_app.specs.declared.status.Status.{Status}
@@ -49,14 +49,14 @@ module _ (words : List (List ℕ)) (outside : Outside) (number : ℕ) (meant : c
     line_is : line ≡ shown_text (making number) s.task s.head s.reported.entries ran.outcome
     line_is = λ i. made_line number ran.outcome (s.reported.levels i) (s.reported.asks i)
 
-    has_line : HasOutcome words outside (kind_of ran.outcome) line
+    has_line : HasOutcome words outside (outcome_status ran.outcome) line
     has_line =
         let r = s.reported in
         outcome_with words outside (making number) meant s.task s.head
         (posed_made s.task s.head s.posed) line r.entries ran.outcome r.run r.talks r.calls line_is
 
     -- the line was written
-    pub completed_making : (result : Result Status Stop) → IsLined (kind_of ran.outcome) line outer result
+    pub completed_making : (result : Result Status Stop) → IsLined (outcome_status ran.outcome) line outer result
         → IfOk result (IsCompleted words outside outer)
     completed_making (Ok status) said =
         subst (IsCompleted words outside outer) (sym said.0)
@@ -66,17 +66,18 @@ module _ (words : List (List ℕ)) (outside : Outside) (number : ℕ) (meant : c
     completed_making (Err why) said = tt
 
     -- it was not written, or in part
-    pub stopped_making : (result : Result Status Stop) → IsLined (kind_of ran.outcome) line outer result
+    pub stopped_making : (result : Result Status Stop) → IsLined (outcome_status ran.outcome) line outer result
         → IfErr result (IsStopped words outside outer)
     stopped_making (Ok status) said = tt
     stopped_making (Err why) (inl x) = subst (IsStopped words outside outer) (sym x.0) (record {
       text = [];
-      cause = inr (inr (record { number = number; meant = meant; status = kind_of ran.outcome; line = line; has = has_line; is = refl }));
+      cause = inr
+          (inr (record { number = number; meant = meant; status = outcome_status ran.outcome; line = line; has = has_line; is = refl }));
       took = x.1;
     })
     stopped_making (Err why) (inr (failed, n, less, app)) = subst (IsStopped words outside outer) (sym failed) (record {
       text = line;
-      was = inl (kind_of ran.outcome, inl has_line);
+      was = inl (outcome_status ran.outcome, inl has_line);
       count = n;
       less = less;
       took = app;

@@ -11,11 +11,11 @@ use Rattle.grid_text.specs.declared.fault.GridFault.TheVariants as grid
 use Rattle.io_world.proofs.TalksLemmas.{extends_more}
 use Rattle.io_world.specs.FileMap.{Asked, FileMap}
 use Rattle.io_world.specs.Faults.{Extends}
-use Rattle.level_run.specs.declared.fault.RunFault.TheVariants as fault
+use Rattle.round_run.specs.declared.fault.RunFault.TheVariants as fault
 use Rattle.stream_map.specs.Accepted.{RefusesMap}
 use Rattle.stream_map.specs.Children.{grid_file, plain}
 use Rattle.stream_map.specs.Faults.{Refused}
-use Rattle.stream_map.specs.Form.{stream_names, words_form}
+use Rattle.stream_map.specs.Form.{all_stream_names, words_form}
 use Rattle.stream_map.specs.declared.fault.MapFault.{MapFault}
 use Rattle.stream_map.specs.declared.fault.MapFault.TheVariants as maps
 use Rattle.task_model.specs.declared.task.Task.{Task}
@@ -25,7 +25,7 @@ use Rattle.pddlstream_app.proofs.InputsLemmas.{ends_behind}
 use Rattle.pddlstream_app.specs.Asked.{AsksAllOf}
 use Rattle.pddlstream_app.specs.Files.{AreBytes, FileWanted, HasBytes, file_of}
 use Rattle.pddlstream_app.specs.Heads.{AreServed, HaveText, MeansBy, MeansPools}
-use Rattle.pddlstream_app.specs.Inputs.{AreAccepted, EndsAtFile, EndsAtPools, EndsFirst, EndsHere, IsAnswer, IsTaskOf, MayEnd, SolvesNothing, ask, file_at, files_named, reads, stop_for_grid, stop_for_map, task_files}
+use Rattle.pddlstream_app.specs.Inputs.{AreAccepted, EndsAtFile, EndsAtPools, EndsFirst, EndsHere, IsFileAnswer, IsTaskOf, MayEnd, SolvesNothing, ask, file_at, files_named, reads, stop_for_grid, stop_for_map, task_files}
 use Rattle.pddlstream_app.specs.Outside.{FilesSeen}
 use Rattle.pddlstream_app.specs.declared.stop.FileRole.TheVariants as role
 use Rattle.pddlstream_app.specs.declared.stop.Stop.{Stop}
@@ -87,7 +87,7 @@ pub map_refused : (files : FilesSeen) (d p s : List ℕ) (task : Task) → Spell
     → EndsHere files (d ∷ p ∷ s ∷ []) (file_of role.Map path) (stop_for_map f)
 map_refused files d p s task spelled path bytes has asked f r = by (which_stop f)
   where
-    ends : (why : Stop) → MayEnd files (d ∷ p ∷ s ∷ []) (file_of role.Map path) why → IsAnswer why (Ok tt)
+    ends : (why : Stop) → MayEnd files (d ∷ p ∷ s ∷ []) (file_of role.Map path) why → IsFileAnswer why (Ok tt)
         → EndsHere files (d ∷ p ∷ s ∷ []) (file_of role.Map path) why
     ends why cause answered = record { cause = cause; answer = Ok tt; answered = answered; asked = asked }
 
@@ -118,7 +118,7 @@ extends_none (Some xs) = (xs, refl, sym (append-nil xs))
 -- the program makes no pool, where no map is named
 pub none_made : {X : Type 0} (path : Option (List ℕ)) → path ≡ None → (files : FilesSeen)
     → Extends files.before files.after [] → (w : SolveWords) (task : Task) (r : Result X Stop)
-    → IfErr r (λ why. (f : MapFault) × (why ≡ stop_for_map f) × Refused (stream_names task) (words_form task w.program w.workers) f)
+    → IfErr r (λ why. (f : MapFault) × (why ≡ stop_for_map f) × Refused (all_stream_names task) (words_form task w.program w.workers) f)
     → IfErr r (λ why. (d p s : List ℕ) → Spells d p s task → EndsAtPools path files (d ∷ p ∷ s ∷ []) w task why)
 none_made path none files nothing w task (Ok x) made = tt
 none_made path none files nothing w task (Err why) made = λ d p s spelled.
@@ -155,7 +155,7 @@ module _ (asked : SolveWords) where
 
     -- the program makes no pool, or memory is wanting
     no_pool : (why : Stop) (f : MapFault) → asked.path ≡ None → why ≡ stop_for_map f
-        → Refused (stream_names task) (words_form task asked.program asked.workers) f
+        → Refused (all_stream_names task) (words_form task asked.program asked.workers) f
         → Extends middle new [] → SolvesNothing asked here why
     no_pool why f none is r nothing = by (which_stop f)
       where
@@ -171,7 +171,7 @@ module _ (asked : SolveWords) where
           cause = subst (λ w. MayEnd here (t.domain ∷ t.problem ∷ []) (file_of (role.Text Streams) asked.files.streams) w)
               (sym memory) tt;
           answer = Ok tt;
-          answered = subst (λ w. IsAnswer w (Ok tt)) (sym memory) tt;
+          answered = subst (λ w. IsFileAnswer w (Ok tt)) (sym memory) tt;
           asked = extends_more old middle new (reads (task_files asked.files)) [] read nothing;
         })
 

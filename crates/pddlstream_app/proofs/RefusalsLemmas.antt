@@ -8,7 +8,7 @@ use Rattle.task_reader.specs.Texts.{RefusesDomain}
 use Rattle.task_reader.specs.declared.refusal.FaultKind.{FaultKind}
 use Rattle.pddlstream_app.specs.Files.{FileWanted, HasBytes, file_of, most_of}
 use Rattle.pddlstream_app.specs.Heads.{MeansBy}
-use Rattle.pddlstream_app.specs.Inputs.{IsRefused, IsRefusedMap, IsTaskOf, IsTooLong}
+use Rattle.pddlstream_app.specs.Inputs.{IsInputRefused, IsRefusedMap, IsTaskOf, IsTooLong}
 use Rattle.command_line.specs.Words.{SolveWords, TaskFiles}
 use Rattle.grid_text.specs.Files.{BlamesGridText, IsGridOf}
 use Rattle.grid_text.specs.Grids.{GridFile}
@@ -18,7 +18,7 @@ use Rattle.serde_json.specs.Data.{Data}
 use Rattle.stream_map.specs.Accepted.{Accepted, AcceptedMap, IsJson, RefusedMap, RefusesMap}
 use Rattle.stream_map.specs.Children.{numbered, plain}
 use Rattle.stream_map.specs.Faults.{Refused, map_fault}
-use Rattle.stream_map.specs.Form.{map_of, stream_names, words_form}
+use Rattle.stream_map.specs.Form.{map_in_data, all_stream_names, words_form}
 use Rattle.stream_map.specs.Spelled.{Spelled}
 use Rattle.stream_map.specs.declared.fault.MapFault.{MapFault}
 use Rattle.stream_map.specs.declared.fault.MapFault.TheVariants as maps
@@ -59,7 +59,7 @@ module _ (files : FileMap) where
 module _ (d p s : List ℕ) (more : List (List ℕ)) (task : Task) (spelled : Spells d p s task) where
   -- none of a task's texts is refused
   pub none_refused : (texts : List (List ℕ)) (text : List ℕ) (rest : List (List ℕ)) (which : Text) (kind : FaultKind) (place : ℕ)
-      → d ∷ p ∷ s ∷ more ≡ texts ++ text ∷ rest → IsRefused texts which text kind place → ⊥
+      → d ∷ p ∷ s ∷ more ≡ texts ++ text ∷ rest → IsInputRefused texts which text kind place → ⊥
   none_refused [] text rest Domain kind place is r =
       let same : text ≡ d = cc in
       (task_not_refused d p s task spelled).first kind place (subst (λ b. RefusesDomain b kind place) same r)
@@ -135,8 +135,8 @@ map_not_refused task text pools why a certain r = by why certain r
     none : (f : MapFault) → ¬ (f ≡ maps.Memory) → RefusedMap task text f → ⊥
     none f c x =
         let same = one_value text a.data_of x.data_of a.json x.json in
-        form_not_refused (stream_names task) (map_of a.data_of) a.accepted.spelled f a.accepted.form_is a.accepted.right c
-        (subst (λ v. Refused (stream_names task) (map_of v) f) same x.refused)
+        form_not_refused (all_stream_names task) (map_in_data a.data_of) a.accepted.spelled f a.accepted.form_is a.accepted.right c
+        (subst (λ v. Refused (all_stream_names task) (map_in_data v) f) same x.refused)
 
     by : (f : MapFault) → ¬ (f ≡ maps.Memory) → RefusesMap task text f → ⊥
     by maps.Json c x = let both = sym (x a.json.utf8) ∙ a.json.value in absurd (cc)
@@ -160,7 +160,7 @@ one_form : (task : Task) (form : Option (List Spelled)) (a b : List Pool) → Ac
 one_form task form a b x y =
     let both : Some y.spelled ≡ Some x.spelled = sym y.form_is ∙ x.form_is in
     let same : y.spelled ≡ x.spelled = cc in
-    y.pools_are ∙ ap (numbered (stream_names task) 0) same ∙ sym x.pools_are
+    y.pools_are ∙ ap (numbered (all_stream_names task) 0) same ∙ sym x.pools_are
 
 -- words and files mean pools of one kind
 pub one_meaning : (files : FileMap) (w : SolveWords) (task : Task) (path : Option (List ℕ)) (a b : List Pool)
@@ -170,4 +170,4 @@ one_meaning files w task (Some path) a b x y =
     let bytes = one_text files (file_of role.Map path) x.bytes y.bytes x.has y.has in
     let so = subst (λ t. AcceptedMap task t b) bytes y.so in
     let same = one_value x.bytes x.so.data_of so.data_of x.so.json so.json in
-    one_form task (map_of x.so.data_of) a b x.so.accepted (subst (λ v. Accepted task (map_of v) b) same so.accepted)
+    one_form task (map_in_data x.so.data_of) a b x.so.accepted (subst (λ v. Accepted task (map_in_data v) b) same so.accepted)

@@ -3,12 +3,12 @@ use Rattle.std.proofs.Common.{◌≡◌, ℕ, ◌+◌, arith, List, [], ◌++◌
 use Rattle.std.proofs.Math.Seq.{take-append-add}
 use Rattle.std.proofs.lemmas.List.{length-append}
 use Rattle.std.specs.Io.KnownBytes.{Appends}
-use Rattle.level_run.proofs.StoppedLemmas.{appends_none, appends_then}
-use Rattle.level_run.specs.Calls.{LogRan, LogStops}
-use Rattle.level_run.specs.Dialogue.{Dialogue, workers_in}
+use Rattle.round_run.proofs.StoppedLemmas.{appends_none, appends_then}
+use Rattle.round_run.specs.Calls.{LogRan, LogStops}
+use Rattle.round_run.specs.Dialogue.{Dialogue, workers_in}
 use Rattle.level_run.specs.Reports as reports
 use Rattle.level_run.specs.Reports.{IsBroken, IsPart, IsReported, WasToWrite, text_so_far, whole_text}
-use Rattle.level_run.specs.declared.incremental_mode.Ran.{Ran}
+use Rattle.level_run.specs.declared.mode_run.Ran.{Ran}
 use Rattle.task_model.specs.Fit.{IsFit}
 use Rattle.task_model.specs.declared.task.Task.{Task}
 use Rattle.transcript_model.specs.Legal.{IsLegal}
@@ -22,7 +22,7 @@ use Rattle.pddlstream_app.specs.Files.{HasBytes, file_of}
 use Rattle.pddlstream_app.specs.Inputs.{HasNoInput, IsTaskOf}
 use Rattle.pddlstream_app.specs.Outside.{IsUntouched, Outside, Written}
 use Rattle.pddlstream_app.specs.Replays.{kind_of_verdict, verdict_text}
-use Rattle.pddlstream_app.specs.Runs.{ClosesRun, Ends, HasFault, HasOutcome, HasVerdict, IsBefore, IsBeforeLast, IsCompleted, IsPartOfRun, IsSaid, IsStopped, IsUnneeded, LeavesReplays, ProgramRun, RunWrites, TellsStatus, TookAll, TookPart, kind_of, report_of, shown_so_far, shown_text}
+use Rattle.pddlstream_app.specs.Runs.{ClosesRun, Ends, RunHasFault, HasOutcome, HasVerdict, IsBefore, IsBeforeLast, IsCompleted, IsPartOfRun, IsVerdictSaid, IsStopped, IsUnneeded, LeavesReplays, ProgramRun, RunWrites, TellsStatus, TookAll, TookPart, outcome_status, report_of, shown_so_far, shown_text}
 use Rattle.replay_check.specs.Verdicts.{IsVerdict}
 use Rattle.replay_check.specs.declared.verdict.Verdict.{Verdict}
 use Rattle.replay_check.specs.declared.verdict.Verdict.TheVariants as verdict
@@ -30,8 +30,8 @@ use Rattle.pddlstream_app.specs.Stop.{is_write, is_write_fault, status_at, last_
 use Rattle.command_line.specs.Words.{ReplayWords, SolveWords, command_of, generate, replay, solve}
 use Rattle.pddlstream_app.specs.Solving.{HasNoReport, IsPosed, IsSolved}
 use Rattle.pddlstream_app.specs.Works.{Work, command_for, files_of, solving, words_of}
-use Rattle.level_run.specs.declared.fault.RunFault.{RunFault}
-use Rattle.level_run.specs.declared.fault.RunFault.TheVariants as fault
+use Rattle.round_run.specs.declared.fault.RunFault.{RunFault}
+use Rattle.round_run.specs.declared.fault.RunFault.TheVariants as fault
 use Rattle.pddlstream_app.specs.declared.status.Status.{Status}
 use Rattle.pddlstream_app.specs.declared.status.Status.TheVariants.{WriteFault}
 use Rattle.pddlstream_app.specs.declared.stop.FileRole.TheVariants as role
@@ -40,7 +40,7 @@ use Rattle.pddlstream_app.specs.declared.stop.Stop.TheVariants as stop
 
 -- ---- ways to end
 
-pub outcome_whole : (o : Outcome) → is_write_fault (kind_of o) ≡ false
+pub outcome_whole : (o : Outcome) → is_write_fault (outcome_status o) ≡ false
 outcome_whole (outcome.Plan steps cost from) = refl
 outcome_whole outcome.NoPlan = refl
 outcome_whole (outcome.Limit kind) = refl
@@ -164,7 +164,7 @@ module _ (words : List (List ℕ)) (outside : Outside) where
     }
 
     -- the verdict was written
-    pub completed_said : (r : Result Status Stop) → IsSaid (IsVerdict asked.states task bytes) written r
+    pub completed_said : (r : Result Status Stop) → IsVerdictSaid (IsVerdict asked.states task bytes) written r
         → IfOk r (IsCompleted words outside written)
     completed_said (Ok status) (v, is, shown) = subst (IsCompleted words outside written) (sym shown.0)
         (record { text = verdict_text v; has = inr (has_verdict v is); unneeded = tt; took = shown.1 })
@@ -172,7 +172,7 @@ module _ (words : List (List ℕ)) (outside : Outside) where
 
     -- it was not written, or in part
     pub stopped_said : LogStops outside.was outside.now → (r : Result Status Stop)
-        → IsSaid (IsVerdict asked.states task bytes) written r
+        → IsVerdictSaid (IsVerdict asked.states task bytes) written r
         → IfErr r (IsStopped words outside written)
     stopped_said stops (Ok status) said = tt
     stopped_said stops (Err why) (inl x) =
@@ -209,7 +209,7 @@ module _ (words : List (List ℕ)) (outside : Outside) where
     pub outcome_with : (text : List ℕ) (entries : List Entry) (o : Outcome)
         → reports.IsRun task head entries o
         → Dialogue task head.version (workers_in head) entries outside.spoken → LogRan task head entries outside.was outside.now
-        → text ≡ shown_text work task head entries o → HasOutcome words outside (kind_of o) text
+        → text ≡ shown_text work task head entries o → HasOutcome words outside (outcome_status o) text
     outcome_with text entries o turns talks calls is = record {
       run = run_with entries turns.legal;
       outcome = o;
@@ -225,7 +225,7 @@ module _ (words : List (List ℕ)) (outside : Outside) where
         (r : IsReported task head outside.spoken outside.was outside.now old new ran)
         → (ran.asks ≡ 0 → IsUntouched outside)
         → Appends written.before written.after (shown_text work task head r.entries ran.outcome)
-        → IsCompleted words outside written (kind_of ran.outcome)
+        → IsCompleted words outside written (outcome_status ran.outcome)
     unfolding outcome_with
     completed_with written ran r none took = record {
       text = shown_text work task head r.entries ran.outcome;
@@ -290,7 +290,7 @@ module _ (words : List (List ℕ)) (outside : Outside) where
   module _ (asked : SolveWords) (meant : command_of words ≡ Some (solve asked)) where
     -- the report was written
     pub completed : (written : Written) (ran : Ran) (status : Status) → IsSolved asked outside written ran
-        → status ≡ kind_of ran.outcome → IsCompleted words outside written status
+        → status ≡ outcome_status ran.outcome → IsCompleted words outside written status
     completed written ran status s is =
         let r = s.reported in
         subst (IsCompleted words outside written) (sym is)
@@ -324,7 +324,7 @@ module _ (words : List (List ℕ)) (outside : Outside) where
         of {text} (inr (inr x)) =
             let w = x.1 in
             inl (
-              kind_of w.outcome,
+              outcome_status w.outcome,
               inl (outcome_with
                   (solving asked) meant task head posed text w.entries w.outcome w.run w.talks w.calls
                   (w.is ∙ whole_is task head w.entries w.outcome)),
@@ -360,7 +360,7 @@ module _ (words : List (List ℕ)) (outside : Outside) where
     ended = record { before = old; after = new }
 
     module _ (why : Stop) (b : IsBeforeLast words outside (record { before = old; after = mid }) why) where
-      faulty : HasFault words outside (status_at why) (b.text ++ last_text why)
+      faulty : RunHasFault words outside (status_at why) (b.text ++ last_text why)
       faulty = record { stop = why; kind = refl; before = b.text; cause = b.cause; is = refl }
 
       ends_told : (status : Status) → is_write why ≡ false

@@ -2,7 +2,7 @@
 use Rattle.std.specs.Prelude.{◌≡◌, ◌⊎◌, ℕ, List, [], ◌∷◌, ◌++◌, None, Some}
 use Rattle.std.specs.Io.KnownBytes.{Appends}
 use Rattle.io_world.specs.Faults.{Extends}
-use Rattle.level_run.specs.declared.fault.RunFault.TheVariants as fault
+use Rattle.round_run.specs.declared.fault.RunFault.TheVariants as fault
 use Rattle.command_line.specs.Words.{Command, command_of}
 use Rattle.pddlstream_app.specs.Files.{FileWanted}
 use Rattle.pddlstream_app.specs.Inputs.{AreFilesOf, FileAnswer, HasNoInput, MayBeFilesOf, ask, reads}

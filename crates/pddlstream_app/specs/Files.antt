@@ -3,6 +3,8 @@ use Rattle.std.specs.Prelude.{◌≡◌, ◌≤◌, ℕ, List, [], ◌∷◌, le
 use Rattle.io_world.specs.FileMap.{FileMap}
 use Rattle.pddlstream_app.specs.declared.stop.FileRole.{FileRole}
 use Rattle.pddlstream_app.specs.declared.stop.FileRole.TheVariants as role
+use Rattle.report_reader.specs.declared.reader.TheConstants.{REPORT_BYTES}
+use Rattle.task_reader.specs.declared.texts.TheConstants.{TEXT_BYTES}
 
 -- A file, and what it is read for.
 pub record FileWanted : Type 0 where
@@ -14,16 +16,16 @@ file_of role path = record { role = role; path = path }
 
 -- the most bytes of a file: 4 MiB, and 256 MiB of a report
 abbrev pub most_of : FileRole → ℕ
-most_of role.Report = 268435456
-most_of which = 4194304
+most_of role.Report = REPORT_BYTES
+most_of which = TEXT_BYTES
 
 -- the file of this path has these bytes, where files are told
-abbrev pub Holds : Option FileMap → List ℕ → List ℕ → Type 0
-Holds told path bytes = IfSome told (λ files. files path ≡ Some bytes)
+abbrev pub FileHolds : Option FileMap → List ℕ → List ℕ → Type 0
+FileHolds told path bytes = IfSome told (λ files. files path ≡ Some bytes)
 
 -- The file has these bytes, and no more of them than it may have.
 pub record HasBytes (told : Option FileMap) (wanted : FileWanted) (bytes : List ℕ) : Type 0 where
-  pub held : Holds told wanted.path bytes
+  pub held : FileHolds told wanted.path bytes
   pub short : length bytes ≤ most_of wanted.role
 
 -- The file has bytes of which this is so.

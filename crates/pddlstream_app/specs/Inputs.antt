@@ -20,14 +20,14 @@ use Rattle.grid_text.specs.declared.fault.GridFault.TheVariants as grid
 use Rattle.stream_map.specs.Accepted.{AcceptedMap, RefusesMap}
 use Rattle.stream_map.specs.Children.{grid_file, plain}
 use Rattle.stream_map.specs.Faults.{Refused}
-use Rattle.stream_map.specs.Form.{stream_names, words_form}
+use Rattle.stream_map.specs.Form.{all_stream_names, words_form}
 use Rattle.stream_map.specs.declared.fault.MapFault.{MapFault}
 use Rattle.stream_map.specs.declared.fault.MapFault.TheVariants.{Memory}
 use Rattle.transcript_model.specs.declared.head.Pool.{Pool}
 use Rattle.pddlstream_app.specs.Files.{AreBytes, FileWanted, HoldsFile, file_of, most_of}
 use Rattle.pddlstream_app.specs.Heads.{MeansPools}
 use Rattle.pddlstream_app.specs.Works.{made_files, made_words}
-use Rattle.level_run.specs.declared.fault.RunFault.TheVariants as fault
+use Rattle.round_run.specs.declared.fault.RunFault.TheVariants as fault
 use Rattle.pddlstream_app.specs.declared.stop.Stop.{Stop}
 use Rattle.pddlstream_app.specs.declared.stop.Stop.TheVariants.{Input, Map, Grid, Failed, TooLong, Run}
 use Rattle.pddlstream_app.specs.declared.stop.FileRole.{FileRole}
@@ -86,11 +86,11 @@ AreAccepted (domain ∷ problem ∷ streams ∷ text ∷ texts) =
     (task : Task) × (pools : List Pool) × Spells domain problem streams task × AcceptedMap task text pools
 
 -- behind these texts, which are accepted, this one is refused for this fault
-abbrev pub IsRefused : List (List ℕ) → Text → List ℕ → FaultKind → ℕ → Type 0
-IsRefused [] Domain text kind place = RefusesDomain text kind place
-IsRefused (domain ∷ []) Problem text kind place = RefusesSecond domain text kind place
-IsRefused (domain ∷ problem ∷ []) Streams text kind place = RefusesThird domain problem text kind place
-IsRefused texts which text kind place = ⊥
+abbrev pub IsInputRefused : List (List ℕ) → Text → List ℕ → FaultKind → ℕ → Type 0
+IsInputRefused [] Domain text kind place = RefusesDomain text kind place
+IsInputRefused (domain ∷ []) Problem text kind place = RefusesSecond domain text kind place
+IsInputRefused (domain ∷ problem ∷ []) Streams text kind place = RefusesThird domain problem text kind place
+IsInputRefused texts which text kind place = ⊥
 
 -- behind these texts, which spell a task, this map is refused for this fault
 abbrev pub IsRefusedMap : List (List ℕ) → List ℕ → MapFault → Type 0
@@ -130,7 +130,7 @@ IsTooLong told wanted = IfSome told (λ files. HasMore (files wanted.path) (most
 -- bytes than it may have. Want of memory is free.
 abbrev pub MayEnd : FilesSeen → List (List ℕ) → FileWanted → Stop → Type 0
 MayEnd files texts wanted (Input which kind place) =
-    (role.Text which ≡ wanted.role) × HoldsFile files.told wanted (λ text. IsRefused texts which text kind place)
+    (role.Text which ≡ wanted.role) × HoldsFile files.told wanted (λ text. IsInputRefused texts which text kind place)
 MayEnd files texts wanted (Map why) =
     (role.Map ≡ wanted.role) × HoldsFile files.told wanted (λ text. IsRefusedMap texts text why)
 MayEnd files texts wanted (Grid kind line) =
@@ -141,19 +141,19 @@ MayEnd files texts wanted (Run fault.Memory) = ⊤
 MayEnd files texts wanted why = ⊥
 
 -- how the file was answered at which a run ends so
-abbrev pub IsAnswer : Stop → FileAnswer → Type 0
-IsAnswer (Input which kind place) answer = answer ≡ Ok tt
-IsAnswer (Map why) answer = answer ≡ Ok tt
-IsAnswer (Grid kind line) answer = answer ≡ Ok tt
-IsAnswer (Failed which) answer = answer ≡ Err file.Failed
-IsAnswer (TooLong which) answer = answer ≡ Err file.TooLong
-IsAnswer why answer = ⊤
+abbrev pub IsFileAnswer : Stop → FileAnswer → Type 0
+IsFileAnswer (Input which kind place) answer = answer ≡ Ok tt
+IsFileAnswer (Map why) answer = answer ≡ Ok tt
+IsFileAnswer (Grid kind line) answer = answer ≡ Ok tt
+IsFileAnswer (Failed which) answer = answer ≡ Err file.Failed
+IsFileAnswer (TooLong which) answer = answer ≡ Err file.TooLong
+IsFileAnswer why answer = ⊤
 
 -- The file was asked for, and the run ends at it so, behind these texts.
 pub record EndsHere (files : FilesSeen) (texts : List (List ℕ)) (wanted : FileWanted) (why : Stop) : Type 0 where
   pub cause : MayEnd files texts wanted why
   pub answer : FileAnswer
-  pub answered : IsAnswer why answer
+  pub answered : IsFileAnswer why answer
   pub asked : Extends files.before files.after (ask answer wanted ∷ [])
 
 -- A run ends so at one of these files. Those before it were read, one after another, and their texts accepted; it was
@@ -168,7 +168,7 @@ pub record EndsAtFile (files : FilesSeen) (all : List FileWanted) (why : Stop) :
   pub accepted : AreAccepted texts
   pub cause : MayEnd files texts wanted why
   pub answer : FileAnswer
-  pub answered : IsAnswer why answer
+  pub answered : IsFileAnswer why answer
   pub asked : Extends files.before files.after (reads before ++ ask answer wanted ∷ [])
 
 -- The run ends so at one of the files of this command.
@@ -185,7 +185,7 @@ pub record HasNoPool (asked : SolveWords) (files : FilesSeen) (why : Stop) : Typ
   pub fault : MapFault
   pub is : why ≡ Map fault
   pub certain : ¬ (fault ≡ Memory)
-  pub refused : Refused (stream_names task) (words_form task asked.program asked.workers) fault
+  pub refused : Refused (all_stream_names task) (words_form task asked.program asked.workers) fault
   pub asked_for : Extends files.before files.after (reads (task_files asked.files))
 
 -- what words that mean a task is to be solved name is no input, for this cause
@@ -220,7 +220,7 @@ EndsFirst files texts (wanted ∷ more) why = EndsHere files texts wanted why
 pub record MakesNoPool (files : FilesSeen) (w : SolveWords) (task : Task) (why : Stop) : Type 0 where
   pub fault : MapFault
   pub is : why ≡ stop_for_map fault
-  pub refused : Refused (stream_names task) (words_form task w.program w.workers) fault
+  pub refused : Refused (all_stream_names task) (words_form task w.program w.workers) fault
   pub asked : Extends files.before files.after []
 
 -- why the pools aren't read, behind these texts, of words that name this map

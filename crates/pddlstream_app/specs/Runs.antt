@@ -5,13 +5,13 @@ use Rattle.std.specs.Io.KnownBytes.{Appends}
 use Rattle.io_world.specs.FileMap.{FileMap}
 use Rattle.io_world.specs.Faults.{Rose}
 use Rattle.gen_lines.specs.declared.answer.Why.{Why}
-use Rattle.level_run.specs.Breaking.{HasLevel, LogBroken}
-use Rattle.level_run.specs.Calls.{LogRan, LogStops}
-use Rattle.level_run.specs.Dialogue.{BrokenOff, Dialogue, HasBadLine, workers_in}
+use Rattle.round_run.specs.Breaking.{LogBroken}
+use Rattle.round_run.specs.Calls.{LogRan, LogStops}
+use Rattle.round_run.specs.Dialogue.{BrokenOff, Dialogue, HasBadLine, workers_in}
 use Rattle.level_run.specs.Reports as reports
 use Rattle.level_run.specs.Reports.{text_so_far}
-use Rattle.level_run.specs.Rolling.{Blames}
-use Rattle.level_run.specs.Turns.{IsFrontOfRun}
+use Rattle.round_run.specs.Rolling.{Blames}
+use Rattle.level_run.specs.Turns.{HasTurnLine, IsFrontOfRun}
 use Rattle.task_model.specs.Fit.{IsFit}
 use Rattle.task_model.specs.declared.task.Task.{Task}
 use Rattle.transcript_model.specs.Legal.{IsLegal, asks_of, is_level, is_open}
@@ -32,8 +32,8 @@ use Rattle.pddlstream_app.specs.Works.{Work, command_for, files_of, made_line, m
 use Rattle.replay_check.specs.Verdicts.{IsVerdict}
 use Rattle.replay_check.specs.declared.verdict.Verdict.{Verdict}
 use Rattle.pddlstream_app.specs.declared.stop.FileRole.TheVariants as role
-use Rattle.level_run.specs.declared.fault.RunFault.{RunFault}
-use Rattle.level_run.specs.declared.fault.RunFault.TheVariants as fault
+use Rattle.round_run.specs.declared.fault.RunFault.{RunFault}
+use Rattle.round_run.specs.declared.fault.RunFault.TheVariants as fault
 use Rattle.pddlstream_app.specs.declared.status.Status.{Status}
 use Rattle.pddlstream_app.specs.declared.status.Status.TheVariants.{Plan, NoPlan, Limit, WriteFault, Memory}
 use Rattle.pddlstream_app.specs.declared.stop.Stop.{Stop}
@@ -82,10 +82,10 @@ shown_text (making n) task head entries o = made_line n o (count_by is_level ent
 -- ---- outcomes
 
 -- how a run ends with this outcome
-abbrev pub kind_of : Outcome → Status
-kind_of (outcome.Plan steps cost from) = Plan
-kind_of outcome.NoPlan = NoPlan
-kind_of (outcome.Limit kind) = Limit
+abbrev pub outcome_status : Outcome → Status
+outcome_status (outcome.Plan steps cost from) = Plan
+outcome_status outcome.NoPlan = NoPlan
+outcome_status (outcome.Limit kind) = Limit
 
 -- The text is all that is shown of a run with an outcome of the status's kind. The run's transcript is a list of whole
 -- turns of incremental mode, or one after a batch that was cut, each of which begins where no plan exists; the outcome
@@ -95,7 +95,7 @@ kind_of (outcome.Limit kind) = Limit
 pub record HasOutcome (words : List (List ℕ)) (outside : Outside) (status : Status) (text : List ℕ) : Type 0 where
   pub run : ProgramRun words outside.files.told
   pub outcome : Outcome
-  pub kind : kind_of outcome ≡ status
+  pub kind : outcome_status outcome ≡ status
   pub turns : reports.IsRun run.task run.head run.entries outcome
   pub talks : Dialogue run.task run.head.version (workers_in run.head) run.entries outside.spoken
   pub calls : LogRan run.task run.head run.entries outside.was outside.now
@@ -122,14 +122,14 @@ pub record HasVerdict (words : List (List ℕ)) (outside : Outside) (status : St
 -- whole turns, the last of which may stop at any entry; each begins where no plan exists. If a request is blamed, it is
 -- open, and what its child said next is no answer. What was said with the children is the transcript's dialogue, broken
 -- off behind it; the calls that came to the log are the transcript's, up to where it broke off, and then stops. Where
--- no line of a level stands only stops came.
+-- no line stands that may have requests behind it only stops came.
 pub record IsPartOfRun (words : List (List ℕ)) (outside : Outside) (f : RunFault) (text : List ℕ) : Type 0 where
   pub run : ProgramRun words outside.files.told
   pub front : IsFrontOfRun run.head run.task run.entries
   pub blamed : Blames run.head.version run.task (workers_in run.head) outside.spoken f run.entries
   pub talks : BrokenOff run.task run.head.version (workers_in run.head) run.entries outside.spoken
   pub calls : LogBroken run.task run.head run.entries f outside.was outside.now
-  pub needed : LogStops outside.was outside.now ⊎ HasLevel run.entries
+  pub needed : LogStops outside.was outside.now ⊎ HasTurnLine run.head.mode run.entries
   pub is : text ≡ shown_so_far run.work run.task run.head run.entries
 
 -- The transcript is a front of a run, the request that is blamed is open, all before it are answered, and what its
@@ -165,7 +165,7 @@ IsBefore words outside (stop.Run f) text = IsPartOfRun words outside f text
 IsBefore words outside why text = HasNoInput words outside.files why × IsEarly outside text
 
 -- The text is what a run wrote that stops so, and its last line.
-pub record HasFault (words : List (List ℕ)) (outside : Outside) (status : Status) (text : List ℕ) : Type 0 where
+pub record RunHasFault (words : List (List ℕ)) (outside : Outside) (status : Status) (text : List ℕ) : Type 0 where
   pub stop : Stop
   pub kind : status_at stop ≡ status
   pub before : List ℕ
@@ -177,7 +177,7 @@ pub record HasFault (words : List (List ℕ)) (outside : Outside) (status : Stat
 -- what a run writes in all that ends so
 abbrev pub RunWrites : List (List ℕ) → Outside → Status → List ℕ → Type 0
 RunWrites words outside status text =
-    HasOutcome words outside status text ⊎ HasVerdict words outside status text ⊎ HasFault words outside status text
+    HasOutcome words outside status text ⊎ HasVerdict words outside status text ⊎ RunHasFault words outside status text
 
 -- where what is written is a run's outcome, and its transcript has no request, no call was made on a child
 abbrev pub IsUnneeded : {words : List (List ℕ)} {outside : Outside} {status : Status} {text : List ℕ} {Other : Type 0}
@@ -260,8 +260,8 @@ abbrev pub IsShown : Verdict → Written → Result Status Stop → Type 0
 IsShown v = IsLined (kind_of_verdict v) (verdict_text v)
 
 -- what is said was written of which this is so; or memory was wanting, or the sink failed and took a part of it
-abbrev pub IsSaid : (Verdict → Type 0) → Written → Result Status Stop → Type 0
-IsSaid IsSo written (Ok status) = (v : Verdict) × IsSo v × IsShown v written (Ok status)
-IsSaid IsSo written (Err why) =
+abbrev pub IsVerdictSaid : (Verdict → Type 0) → Written → Result Status Stop → Type 0
+IsVerdictSaid IsSo written (Ok status) = (v : Verdict) × IsSo v × IsShown v written (Ok status)
+IsVerdictSaid IsSo written (Err why) =
     ((why ≡ stop.Run fault.Memory) × Appends written.before written.after [])
     ⊎ ((v : Verdict) × IsSo v × IsShown v written (Err why))

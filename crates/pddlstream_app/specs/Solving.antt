@@ -2,10 +2,10 @@
 use Rattle.std.specs.Prelude.{◌≡◌, ◌⊎◌, Option}
 use Rattle.command_line.specs.Words.{SolveWords, solve}
 use Rattle.io_world.specs.FileMap.{FileMap}
-use Rattle.level_run.specs.Calls.{LogStops}
+use Rattle.round_run.specs.Calls.{LogStops}
 use Rattle.level_run.specs.Reports.{IsBroken, IsReported}
-use Rattle.level_run.specs.declared.fault.RunFault.{RunFault}
-use Rattle.level_run.specs.declared.incremental_mode.Ran.{Ran}
+use Rattle.round_run.specs.declared.fault.RunFault.{RunFault}
+use Rattle.level_run.specs.declared.mode_run.Ran.{Ran}
 use Rattle.task_model.specs.Fit.{IsFit}
 use Rattle.task_model.specs.declared.task.Task.{Task}
 use Rattle.transcript_model.specs.declared.head.Head.{Head}

@@ -9,7 +9,7 @@ use Rattle.grid_text.specs.declared.fault.GridKind.TheVariants as grid
 use Rattle.stream_map.specs.declared.fault.MapFault.{MapFault}
 use Rattle.stream_map.specs.declared.fault.MapFault.TheVariants as faults
 use Rattle.task_reader.specs.Kinds.{kind_word}
-use Rattle.level_run.specs.declared.fault.RunFault.TheVariants as fault
+use Rattle.round_run.specs.declared.fault.RunFault.TheVariants as fault
 use Rattle.pddlstream_app.specs.declared.status.Status.{Status}
 use Rattle.pddlstream_app.specs.declared.status.Status.TheVariants as status
 use Rattle.pddlstream_app.specs.declared.stop.Stop.{Stop}

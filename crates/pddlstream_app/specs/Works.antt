@@ -59,15 +59,15 @@ files_of told (making n) = Some (made_files n)
 
 -- ---- what `generate` prints
 
-abbrev pub limit_word : LimitKind → List ℕ
-limit_word limit.Calls = codes "limit-calls"
-limit_word limit.States = codes "limit-states"
-limit_word limit.Instances = codes "limit-instances"
+abbrev pub limit_status_word : LimitKind → List ℕ
+limit_status_word limit.Calls = codes "limit-calls"
+limit_status_word limit.States = codes "limit-states"
+limit_status_word limit.Instances = codes "limit-instances"
 
 abbrev pub outcome_word : Outcome → List ℕ
 outcome_word (outcome.Plan steps cost from) = codes "plan"
 outcome_word outcome.NoPlan = codes "no-plan"
-outcome_word (outcome.Limit kind) = limit_word kind
+outcome_word (outcome.Limit kind) = limit_status_word kind
 
 -- the line on the task of a number: its outcome, and how many levels and requests the transcript has
 abbrev pub made_line : ℕ → Outcome → (levels asks : ℕ) → List ℕ

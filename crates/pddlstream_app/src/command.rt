@@ -6,7 +6,7 @@ ghost use Rattle.pddlstream_app.specs.Complete.{GoesWell, EndsWell};
 ghost use Rattle.pddlstream_app.specs.Headline.{PrintsNoPlan, PrintsPlan};
 ghost use Rattle.pddlstream_app.specs.Outside.{outside_of, seen_of, written_of};
 ghost use Rattle.pddlstream_app.specs.Runs.{Caused, ClosesRun, Ends, IsCompleted, IsStopped, LeavesReplays, TellsStatus};
-ghost use Rattle.level_run.specs.declared.fault.RunFault.TheVariants as fault;
+ghost use Rattle.round_run.specs.declared.fault.RunFault.TheVariants as fault;
 ghost use Rattle.pddlstream_app.specs.declared.status.Status.TheVariants.{GeneratorFault, NoPlan, Plan, WriteFault};
 ghost use Rattle.pddlstream_app.specs.declared.stop.Stop.TheVariants.{Run};
 

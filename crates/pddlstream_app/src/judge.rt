@@ -9,7 +9,7 @@ ghost use Rattle.pddlstream_app.specs.Inputs.{EndsHere, ask};
 ghost use Rattle.pddlstream_app.specs.Outside.{resting, seen_of, written_of};
 ghost use Rattle.pddlstream_app.specs.Paths.{held_files};
 ghost use Rattle.pddlstream_app.specs.Replays.{kind_of_verdict, verdict_text};
-ghost use Rattle.pddlstream_app.specs.Runs.{IsCompleted, IsSaid, IsShown, IsStopped};
+ghost use Rattle.pddlstream_app.specs.Runs.{IsCompleted, IsVerdictSaid, IsShown, IsStopped};
 ghost use Rattle.pddlstream_app.specs.Stop.{IsOfInput};
 ghost use Rattle.command_line.specs.Held.{held_replay};
 ghost use Rattle.command_line.specs.Ranges.{IsBetween};
@@ -18,7 +18,7 @@ ghost use Rattle.task_model.specs.Fit.{IsFit};
 ghost use Rattle.task_model.specs.declared.limits.TheConstants.{MOST_STATES};
 ghost use Rattle.replay_check.specs.Kinds.{breach_number};
 ghost use Rattle.replay_check.specs.Verdicts.{IsVerdict};
-ghost use Rattle.level_run.specs.declared.fault.RunFault.TheVariants as fault;
+ghost use Rattle.round_run.specs.declared.fault.RunFault.TheVariants as fault;
 ghost use Rattle.pddlstream_app.specs.declared.stop.FileRole.TheVariants as role;
 ghost use Rattle.pddlstream_app.specs.declared.stop.Stop.TheVariants.{Run};
 
@@ -89,8 +89,8 @@ fn judge_bytes<O: Sink>(
     requires some { 1 ≤ states }
     requires few { states ≤ MOST_STATES }
     requires bytes { length bytes.now < 2 ^ 31 }
-    ensures said { IsSaid (IsVerdict states task.now bytes.now) (written_of O.taken out.old out.new)
-        result }
+    ensures said { IsVerdictSaid (IsVerdict states task.now bytes.now)
+        (written_of O.taken out.old out.new) result }
     ensures sink { HasCause (Run fault.Write) last_count (O.faults out.old) (O.faults out.new)
         result }
 {

@@ -8,9 +8,9 @@ ghost use Rattle.io_world.specs.Faults.{last_count, HasCause};
 ghost use Rattle.io_world.specs.FileMap.{Asked, FileMap, stored};
 ghost use Rattle.pddlstream_app.specs.Asked.{AsksAll, AsksBefore};
 ghost use Rattle.pddlstream_app.specs.Outside.{outside_of, unread, written_of};
-ghost use Rattle.pddlstream_app.specs.Runs.{IsCompleted, IsLined, IsStopped, kind_of};
+ghost use Rattle.pddlstream_app.specs.Runs.{IsCompleted, IsLined, IsStopped, outcome_status};
 ghost use Rattle.pddlstream_app.specs.Works as works;
-ghost use Rattle.level_run.specs.declared.fault.RunFault.TheVariants as fault;
+ghost use Rattle.round_run.specs.declared.fault.RunFault.TheVariants as fault;
 ghost use Rattle.pddlstream_app.specs.declared.stop.Stop.TheVariants.{Run};
 
 use crate::solve::{report, status_of};
@@ -95,7 +95,7 @@ fn made_line(alloc: Global, number: u32, ran: &Ran) -> Result<String, AllocError
 
 /// Writes the line on the task of a number.
 fn show<O: Sink>(alloc: Global, number: u32, ran: &Ran, out: &mut O) -> Result<Status, Stop>
-    ensures shown { IsLined (kind_of ran.now.outcome)
+    ensures shown { IsLined (outcome_status ran.now.outcome)
         (works.made_line number ran.now.outcome ran.now.levels ran.now.asks)
         (written_of O.taken out.old out.new) result }
     ensures sink { HasCause (Run fault.Write) last_count (O.faults out.old) (O.faults out.new)

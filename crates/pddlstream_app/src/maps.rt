@@ -12,7 +12,7 @@ ghost use Rattle.pddlstream_app.specs.Stop.{IsOfInput};
 ghost use Rattle.stream_map.specs.Accepted.{Accepted, AcceptedMap};
 ghost use Rattle.stream_map.specs.Children.{grid_file, plain};
 ghost use Rattle.stream_map.specs.Faults.{Refused};
-ghost use Rattle.stream_map.specs.Form.{stream_names, words_form};
+ghost use Rattle.stream_map.specs.Form.{all_stream_names, words_form};
 ghost use Rattle.task_model.specs.Fit.{IsFit};
 ghost use Rattle.task_reader.specs.Tasks.{Spells};
 ghost use Rattle.pddlstream_app.specs.declared.stop.FileRole.TheVariants as role;
@@ -56,7 +56,7 @@ fn program_pools(alloc: Global, words: &SolveConfig, task: &Task) -> Result<Seq<
     ensures pools { IfOk result (Accepted task.now
         (words_form task.now (held_solve words.now).program words.now.workers)) }
     ensures stop { IfErr result (λ why. (fault : MapFault) × (why ≡ stop_for_map fault)
-        × Refused (stream_names task.now)
+        × Refused (all_stream_names task.now)
         (words_form task.now (held_solve words.now).program words.now.workers) fault) }
     ensures input { IfErr result IsOfInput }
 {

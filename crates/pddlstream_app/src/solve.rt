@@ -4,12 +4,12 @@ ghost use Rattle.io_world.specs.Faults.{last_count, HasCause};
 ghost use Rattle.pddlstream_app.specs.Asked.{AsksAll, AsksBefore};
 ghost use Rattle.pddlstream_app.specs.Outside.{outside_of, seen_of, written_of};
 ghost use Rattle.pddlstream_app.specs.Paths.{held_files};
-ghost use Rattle.pddlstream_app.specs.Runs.{IsCompleted, IsStopped, kind_of};
+ghost use Rattle.pddlstream_app.specs.Runs.{IsCompleted, IsStopped, outcome_status};
 ghost use Rattle.pddlstream_app.specs.Solving.{HasNoReport, IsSolved};
 ghost use Rattle.command_line.specs.Held.{held_solve};
 ghost use Rattle.command_line.specs.Ranges.{AreInRange};
 ghost use Rattle.command_line.specs.Words.{command_of, solve as to_solve};
-ghost use Rattle.level_run.specs.declared.fault.RunFault.TheVariants as fault;
+ghost use Rattle.round_run.specs.declared.fault.RunFault.TheVariants as fault;
 ghost use Rattle.pddlstream_app.specs.declared.stop.Stop.TheVariants.{Run};
 
 use crate::head::head_of;
@@ -25,7 +25,7 @@ use transcript_model::Outcome;
 
 /// How a run ends that has this outcome.
 pub(crate) fn status_of(outcome: &Outcome) -> Status
-    ensures { result ≡ kind_of outcome.now }
+    ensures { result ≡ outcome_status outcome.now }
 {
     match outcome {
         Outcome::Plan { .. } => Status::Plan,

@@ -4,7 +4,7 @@ ghost use Rattle.std.specs.Fmt.{decimal};
 ghost use Rattle.task_reader.specs.Kinds.{kind_word};
 ghost use Rattle.pddlstream_app.specs.Files.{most_of};
 ghost use Rattle.pddlstream_app.specs.Stop.{grid_word, is_write, last_text, map_word, role_word, status_at, text_word, why_word};
-ghost use Rattle.level_run.specs.declared.fault.RunFault.TheVariants.{Memory};
+ghost use Rattle.round_run.specs.declared.fault.RunFault.TheVariants.{Memory};
 ghost use Rattle.pddlstream_app.specs.declared.stop.Stop.TheVariants.{Run};
 
 use crate::status::Status;
@@ -12,9 +12,10 @@ use command_line::usage_text;
 use gen_lines::Why;
 use grid_text::GridKind;
 use level_run::RunFault;
+use report_reader::REPORT_BYTES;
 use std::alloc::{AllocError, Global};
 use stream_map::MapFault;
-use task_reader::FaultKind;
+use task_reader::{FaultKind, TEXT_BYTES};
 
 /// One of the three texts.
 #[derive(Clone, Copy, Debug, PartialEq, Eq)]
@@ -132,12 +133,6 @@ impl Text {
         }
     }
 }
-
-/// The most bytes of a text, a map or a grid: 4 MiB.
-const TEXT_BYTES: usize = 4_194_304;
-
-/// The most bytes of a report: 256 MiB.
-const REPORT_BYTES: usize = 268_435_456;
 
 impl FileRole {
     /// The most bytes of such a file.

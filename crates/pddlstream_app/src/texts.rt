@@ -2,7 +2,7 @@
 ghost use Rattle.std.specs.Prelude.{◌≡◌, ◌≤◌, ◌++◌, Ok, Err, [], ◌∷◌, ℕ, List, IfOk, IfErr};
 ghost use Rattle.std.specs.Fn.{FnOnceReturnsAt};
 ghost use Rattle.io_world.specs.Faults.{Extends};
-ghost use Rattle.pddlstream_app.specs.Inputs.{EndsAtFile, EndsHere, IsRefused, IsTaskOf, ask, reads, stop_for, task_files};
+ghost use Rattle.pddlstream_app.specs.Inputs.{EndsAtFile, EndsHere, IsInputRefused, IsTaskOf, ask, reads, stop_for, task_files};
 ghost use Rattle.pddlstream_app.specs.Files.{FileWanted, HasBytes, HoldsFile, file_of};
 ghost use Rattle.pddlstream_app.specs.Outside.{seen_of};
 ghost use Rattle.pddlstream_app.specs.Paths.{held_files};
@@ -82,7 +82,7 @@ fn read_as<F: Files, T, P: FnOnce(&[u8]) -> Result<T, InputRefusal>>(
     // Where each refusal of the text has its cause behind these texts, the run ends at the file.
     ensures stop { IfErr result (λ why. (texts : List (List ℕ))
         → ((bytes : List ℕ) (r : InputRefusal) → FnOnceReturnsAt P.FnOnce parse bytes (Err r)
-        → Refuses (IsRefused texts text bytes) r)
+        → Refuses (IsInputRefused texts text bytes) r)
         → EndsHere (seen_of F.told F.faults F.asked files.old files.new) texts
         (file_of (role.Text text) path.now) why) }
     ensures same { F.told files.new ≡ F.told files.old }

@@ -3,10 +3,8 @@ use Rattle.std.proofs.Common.{◌≡◌, ℕ, zero, suc, ◌+◌, true, false, c
 use Rattle.std.proofs.lemmas.List.{length-append}
 use Rattle.std.proofs.lemmas.List.Elements.{Contains-append_left, Contains-append_right, filter-append}
 use Rattle.std.proofs.lemmas.List.Sums.{sum_by-append}
-use Rattle.std.proofs.lemmas.Option.{slice_get_within}
 use Rattle.std.specs.List.{filter}
 use Rattle.lemmas.proofs.Ascending.{contains_here, contains_later}
-use Rattle.lemmas.proofs.Members.{get_append, get_behind, place_of}
 use Rattle.lemmas.specs.Lists.{AreDistinct}
 use Rattle.plain_runs.proofs.RequestedLemmas.{AreNamed, call_kept, named_kept, yields_kept}
 use Rattle.task_model.specs.Fit.{IsFit}
@@ -22,21 +20,9 @@ use Rattle.transcript_model.specs.Rounds.{AreAnswers, AreRounds, AreRoundsRun, S
 use Rattle.transcript_model.specs.Transcript.{names_of, notes_of}
 use Rattle.transcript_model.specs.declared.entry.Entry.{Entry}
 use Rattle.transcript_model.specs.declared.entry.Entry.TheVariants as entry
+use Rattle.lemmas.proofs.Distinct.{distinct_apart, distinct_right}
 
 -- ---- lists
-
--- of two lists that have nothing twice together, none has what the other has
-apart : {A : Type 0} (xs ys : List A) (x : A) → AreDistinct (xs ++ ys) → Contains ys x → ¬ (Contains xs x)
-apart xs ys x distinct second first =
-    let a = place_of xs x first in
-    let b = place_of ys x second in
-    let same = distinct a.0 (length xs + b.0) x (get_append xs ys a.0 x a.1) (get_behind xs ys b.0 x b.1) in
-    omega (arith, same, slice_get_within xs a.0 x a.1)
-
-right_distinct : {A : Type 0} (xs ys : List A) → AreDistinct (xs ++ ys) → AreDistinct ys
-right_distinct xs ys distinct i j x at_i at_j =
-    let same = distinct (length xs + i) (length xs + j) x (get_behind xs ys i x at_i) (get_behind xs ys j x at_j) in
-    omega (arith, same)
 
 pub levels_more : (xs ys : List Entry) → count_by is_level (xs ++ ys) ≡ count_by is_level xs + count_by is_level ys
 levels_more xs ys = sum_by-append (λ e. cond (is_level e) 1 0) xs ys
@@ -156,7 +142,7 @@ module _ (version : ℕ) (task : Task) (fit : IsFit task) (pools : List Share) w
         calls = λ i m. call_kept task before now i (stand.named.inputs i (in_rest i m)) ∙ stand.calls i (in_rest i m);
         yields = λ i m. yields_kept version task fit before answers (asks_of before + 1) round i legal
             (record { streamed = λ x c. stand.named.streamed x (in_round x c); inputs = λ x c. stand.named.inputs x (in_round x c) })
-            (apart round rest i distinct m) are ∙ stand.yields i (in_rest i m);
+            (λ first. distinct_apart round rest i distinct first m) are ∙ stand.yields i (in_rest i m);
       }
 
   pub rounds_one : (start : List Entry) (rounds : List (List Instance)) (list : List Instance) (before now : List Entry)
@@ -179,7 +165,7 @@ module _ (version : ℕ) (task : Task) (fit : IsFit task) (pools : List Share) w
       let behind = subst (λ es. AreRoundsRun task (before ++ es) rounds later) first_is run in
       let next = rounds_one start rounds rest
       (before ++ (asks ++ answers)) later all (stand_later start before answers round rest here stands both are)
-      (right_distinct round rest both) more behind in
+      (distinct_right round rest both) more behind in
       let count : asks_of (before ++ (asks ++ answers)) + 1 ≡ number + length round =
       omega (
         arith,

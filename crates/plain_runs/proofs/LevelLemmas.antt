@@ -1,18 +1,13 @@
 -- A level of a run says what a level of the plain run says.
-use Rattle.std.proofs.Common.{◌≡◌, ℕ, ◌+◌, ◌-◌, ◌<◌, Bool, true, false, cond, All, Contains, List, [], ◌∷◌, ◌++◌, length, take, drop, Some, slice_get, refl, sym, ap, subst, ◌∙◌, arith, append_assoc, count_by, nat_lt, inl, inr}
-use Rattle.std.proofs.lemmas.Bool.{ltb-true, ltb-false}
+use Rattle.std.proofs.Common.{◌≡◌, ℕ, ◌+◌, ◌-◌, ◌<◌, Bool, true, false, cond, All, Contains, List, [], ◌∷◌, ◌++◌, length, take, drop, Some, slice_get, refl, sym, ap, subst, ◌∙◌, arith, append_assoc, count_by, inl, inr}
 use Rattle.std.proofs.lemmas.List.{append-nil, take-append-drop}
 use Rattle.std.proofs.lemmas.List.Elements.{Contains-append_left, filter-append}
 use Rattle.std.proofs.lemmas.Option.{slice_get_within}
-use Rattle.std.specs.Cmp.{IsTotalOrder}
 use Rattle.std.specs.List.{filter}
-use Rattle.std.specs.Ordering.{ordering_reverse}
-use Rattle.std.specs.declared.cmp.Ordering.{Ordering}
-use Rattle.std.specs.declared.cmp.Ordering.TheVariants.{Less}
 use Rattle.instance_queue.proofs.LevelLemmas.{due_in}
-use Rattle.lemmas.proofs.Ascending.{contains_cases, contains_here, contains_later, contains_none, less_greater}
+use Rattle.lemmas.proofs.Ascending.{contains_cases, contains_here, contains_later, contains_none}
 use Rattle.lemmas.proofs.Members.{get_append}
-use Rattle.lemmas.specs.Lists.{AreAscending, AreDistinct}
+use Rattle.lemmas.specs.Lists.{AreDistinct}
 use Rattle.plain_runs.proofs.BatchLemmas.{IsOneRound, StandAs, asks_found, levels_more, no_answers, no_levels, only_answers, rounds_one}
 use Rattle.plain_runs.proofs.RequestedLemmas.{shown}
 use Rattle.plain_runs.proofs.SaidLemmas.{knows_same}
@@ -34,6 +29,7 @@ use Rattle.transcript_model.specs.Transcript.{known_of, names_of, notes_of}
 use Rattle.transcript_model.specs.Turns.{IsLevel}
 use Rattle.transcript_model.specs.declared.entry.Entry.{Entry}
 use Rattle.transcript_model.specs.declared.entry.Entry.TheVariants as entry
+use Rattle.lemmas.proofs.Distinct.{ascending_distinct}
 
 -- ---- lists
 
@@ -51,17 +47,6 @@ in_filter p (y ∷ xs) x m = by (λ c. in_filter p xs x c) (p y) refl
         contains_later y xs x (later (subst (λ c. Contains (cond c (y ∷ filter p xs) (filter p xs)) x) is m))
 
 -- a list in ascending order has nothing twice
-ascending_once : {A : Type 0} (cmp : A → A → Ordering) → IsTotalOrder cmp → (xs : List A) → AreAscending cmp xs → AreDistinct xs
-ascending_once {A} cmp total xs ascend i j x at_i at_j = by (nat_lt i j) refl (nat_lt j i) refl
-  where
-    never : cmp x x ≡ Less → ⊥
-    never less = less_greater (sym less ∙ total.antisymm x x ∙ ap ordering_reverse less)
-
-    by : (a : Bool) → nat_lt i j ≡ a → (b : Bool) → nat_lt j i ≡ b → i ≡ j
-    by true below b e = absurd (never (ascend i j x x (ltb-true i j below) at_i at_j))
-    by false above true below = absurd (never (ascend j i x x (ltb-true j i below) at_j at_i))
-    by false above false under = omega (arith, ltb-false i j above, ltb-false j i under)
-
 -- ---- instances that are due
 
 -- an instance that is due is found again by its call
@@ -145,7 +130,7 @@ module _ (limits : Limits) (task : Task) (fit : IsFit task) (answers : Answers) 
       let front = legal_front limits.version task before now legal in
       let whole : before ++ now ≡ marked ++ rest =
       ap (λ es. before ++ es) level.is ∙ sym (append_assoc before (entry.Level ∷ []) rest) in
-      let distinct = ascending_once (instance_cmp (known_of task before).names) (instances_total (known_of task before).names)
+      let distinct = ascending_distinct (instance_cmp (known_of task before).names) (instances_total (known_of task before).names)
       list level.due.ascend in
       let few : AreDistinct (take (calls_left limits marked) list) =
       λ i j x at_i at_j. distinct i j x

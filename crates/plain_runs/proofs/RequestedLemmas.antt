@@ -1,11 +1,10 @@
 -- What a round leaves as it was: how instances that it doesn't ask are shown, and how often they yielded.
-use Rattle.std.proofs.Common.{◌≡◌, ℕ, zero, suc, ◌+◌, ◌<◌, true, false, cond, All, Contains, List, [], ◌∷◌, ◌++◌, length, map, Some, slice_get, refl, replicate, sym, ap, subst, ◌∙◌, arith, append_assoc, eqb-true}
+use Rattle.std.proofs.Common.{◌≡◌, ℕ, zero, suc, ◌+◌, ◌<◌, true, false, All, Contains, List, [], ◌∷◌, ◌++◌, length, map, Some, slice_get, refl, replicate, sym, ap, subst, ◌∙◌, arith, append_assoc, eqb-true}
 use Rattle.std.proofs.lemmas.List.Concat.{flat_map-append}
-use Rattle.std.proofs.lemmas.List.Elements.{All-contains, All-cons, All-head, All-nil, All-tail}
-use Rattle.std.proofs.lemmas.List.Sums.{sum_by-append}
+use Rattle.std.proofs.lemmas.List.Elements.{All-contains, All-head, All-tail}
 use Rattle.std.specs.List.{flat_map, list_any}
 use Rattle.std.specs.Option.{unwrap_or}
-use Rattle.fact_store.proofs.StoreLemmas.{in_more}
+use Rattle.fact_store.proofs.StoreLemmas.{all_in_more}
 use Rattle.lemmas.proofs.Ascending.{contains_here, contains_later}
 use Rattle.lemmas.proofs.Members.{get_append, take_append, get_behind}
 use Rattle.lemmas.specs.Lists.{AreDistinct}
@@ -13,7 +12,7 @@ use Rattle.task_model.proofs.StreamsLemmas.{instances_apart, named_at}
 use Rattle.task_model.specs.Fit.{IsFit}
 use Rattle.task_model.specs.Initial.{declared_names}
 use Rattle.task_model.specs.Known.{IsIn, Known}
-use Rattle.task_model.specs.Streams.{Note, Yielded, is_yield_of, name_at, yields_of}
+use Rattle.task_model.specs.Streams.{Yielded, name_at, yields_of}
 use Rattle.task_model.specs.declared.stream.Instance.{Instance}
 use Rattle.task_model.specs.declared.task.Task.{Task}
 use Rattle.transcript_model.proofs.CallNameLemmas.{call_names_instance}
@@ -27,6 +26,8 @@ use Rattle.transcript_model.specs.Transcript.{Asked, asked, names_of, note_of, n
 use Rattle.transcript_model.specs.declared.entry.Call.{Call}
 use Rattle.transcript_model.specs.declared.entry.Entry.{Entry}
 use Rattle.transcript_model.specs.declared.entry.Entry.TheVariants as entry
+use Rattle.task_model.proofs.KnownLemmas.{below_names}
+use Rattle.transcript_model.proofs.LegalOnceLemmas.{yields_more}
 
 -- ---- names of instances
 
@@ -45,17 +46,6 @@ names_kept names added [] known = refl
 names_kept names added (o ∷ objects) known = λ k.
     name_kept names added o (All-head (IsIn names) o objects known) k
     ∷ names_kept names added objects (All-tail (IsIn names) o objects known) k
-
-ins_kept : (names added : List (List ℕ)) (objects : List ℕ) → All (IsIn names) objects → All (IsIn (names ++ added)) objects
-ins_kept names added [] known = All-nil (IsIn (names ++ added))
-ins_kept names added (o ∷ objects) known =
-    All-cons (IsIn (names ++ added)) o objects (in_more names added o (All-head (IsIn names) o objects known))
-    (ins_kept names added objects (All-tail (IsIn names) o objects known))
-
-in_below : (names : List (List ℕ)) (o : ℕ) → IsIn names o → o < length names
-in_below [] o known = absurd (cc)
-in_below (n ∷ names) zero known = omega arith
-in_below (n ∷ names) (suc o) known = omega (arith, in_below names o known)
 
 -- behind more entries an instance is shown as before
 pub call_kept : (task : Task) (before now : List Entry) (i : Instance) → All (IsIn (names_of task before)) i.inputs
@@ -76,7 +66,7 @@ named_kept task before now list named =
     record {
       streamed = named.streamed;
       inputs = λ i m. subst (λ names. All (IsIn names) i.inputs) (sym front.1)
-          (ins_kept (names_of task before) front.0 i.inputs (named.inputs i m));
+          (all_in_more (names_of task before) front.0 i.inputs (named.inputs i m));
     }
 
 -- ---- what a round's requests ask
@@ -91,7 +81,7 @@ module _ (version : ℕ) (task : Task) (fit : IsFit task) where
       → instance_of task (names_of task before) (call_of_instance task (names_of task before) i) ≡ Some i
   shown before list named i m =
       call_names_instance task (names_of task before) i fit (names_of-distinct task before distinct) (named.streamed i m)
-      (λ o c. in_below (names_of task before) o (All-contains (IsIn (names_of task before)) i.inputs o (named.inputs i m) c))
+      (λ o c. below_names (names_of task before) o (All-contains (IsIn (names_of task before)) i.inputs o (named.inputs i m) c))
 
   -- what a request behind these entries is
   right_ask : (at more : List Entry) (number turn : ℕ) (call : Call) → IsLegal version task (at ++ entry.Ask number turn call ∷ more)
@@ -175,9 +165,6 @@ module _ (version : ℕ) (task : Task) (fit : IsFit task) where
       (λ x m. again x (contains_later r round x m)) j i there)
 
 -- ---- notes on others
-
-yields_more : (xs ys : List Note) (i : Instance) → yields_of (xs ++ ys) i ≡ yields_of xs i + yields_of ys i
-yields_more xs ys i = sum_by-append (λ n. cond (is_yield_of i n) 1 0) xs ys
 
 yields_apart : (count : ℕ) (i other : Instance) → ¬ (i ≡ other) → yields_of (replicate count (Yielded other)) i ≡ 0
 yields_apart zero i other apart = refl

@@ -9,7 +9,7 @@ use Rattle.lemmas.proofs.Distinct.{distinct_cons}
 use Rattle.lemmas.proofs.Members.{distinct_nil, get_append}
 use Rattle.lemmas.specs.Lists.{AreDistinct}
 use Rattle.plain_runs.proofs.DuesLemmas.{dues_asked}
-use Rattle.plain_runs.specs.Laws.{IsSettled}
+use Rattle.plain_runs.specs.Laws.{IsSettledOutcome}
 use Rattle.task_model.specs.Fit.{IsFit}
 use Rattle.task_model.specs.Streams.{IsDue, yields_of}
 use Rattle.task_model.specs.declared.stream.Instance.{Instance}
@@ -92,7 +92,7 @@ module _ (limits : Limits) (task : Task) (answers : Answers) (entries : List Ent
       (record { legal = dues_asked limits.version task fit entries list agrees.legal closed due distinct; by = agree_still list }) in
       omega (arith, kept.0, asks_more entries asks, requests_asks task entries (asks_of entries + 1) list)
 
-  pub settled : limits.calls ≤ MOST_CALLS → (o : Outcome) → IsTrueOutcome limits task entries o → IsSettled o
+  pub settled : limits.calls ≤ MOST_CALLS → (o : Outcome) → IsTrueOutcome limits task entries o → IsSettledOutcome o
   settled few (outcome.Plan steps cost from) claim = tt
   settled few outcome.NoPlan claim = tt
   settled few (outcome.Limit limit.States) claim = (bounded entries agrees).1 claim.many

@@ -4,7 +4,7 @@ use Rattle.std.proofs.lemmas.Bool.{ltb-true, ltb-false}
 use Rattle.std.proofs.lemmas.List.{append-nil}
 use Rattle.std.proofs.lemmas.List.Elements.{Contains-append_left, Contains-append_right, filter-append}
 use Rattle.lemmas.proofs.Members.{get_behind, take_append}
-use Rattle.mode_turns.specs.Lazy.{IsNeeded, begins}
+use Rattle.mode_turns.specs.Lazy.{IsTurnNeeded, begins}
 use Rattle.plain_runs.proofs.BatchLemmas.{levels_more}
 use Rattle.plain_runs.proofs.LevelLemmas.{level_says}
 use Rattle.plain_runs.proofs.SaidLemmas.{knows_same}
@@ -54,7 +54,7 @@ module _ (limits : Limits) (task : Task) (fit : IsFit task) (answers : Answers) 
   nothing_said = record { asks = refl; answers = refl; levels = refl }
 
   -- in incremental mode a turn is needed only where no plan exists
-  not_solvable : (before : List Entry) → IsNeeded limits task before → ¬ (IsSolvable task (known_of task before))
+  not_solvable : (before : List Entry) → IsTurnNeeded limits task before → ¬ (IsSolvable task (known_of task before))
   not_solvable before (inl not) = not
   not_solvable before (inr both) = absurd (both.0 run.mode)
 
@@ -137,7 +137,7 @@ module _ (limits : Limits) (task : Task) (fit : IsFit task) (answers : Answers) 
       ∙ get_behind before (entry.Level ∷ more) 0 entry.Level refl in
       let front : take (length before) entries ≡ before = ap (take (length before)) whole ∙ take_append before (entry.Level ∷ more) in
       let begun : begins limits.mode entry.Level ≡ true = ap (λ m. begins m entry.Level) run.mode in
-      let needed = subst (IsNeeded limits task) front (run.lazy (length before) entry.Level there begun) in
+      let needed = subst (IsTurnNeeded limits task) front (run.lazy (length before) entry.Level there begun) in
       let lists : may.list ≡ this.list =
       due_once task (known_of task before) (notes_of task before) may.list this.list may.due this.due in
       record {

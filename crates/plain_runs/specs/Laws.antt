@@ -51,10 +51,10 @@ PoolsDoNotMatter =
     → SaysSame xs ys × (known_of task xs ≡ known_of task ys) × (end_of o ≡ end_of p)
 
 -- what a run ends with that isn't a limit
-abbrev pub IsSettled : Outcome → Type 0
-IsSettled (outcome.Plan steps cost from) = Unit {0}
-IsSettled outcome.NoPlan = Unit {0}
-IsSettled (outcome.Limit kind) = ⊥
+abbrev pub IsSettledOutcome : Outcome → Type 0
+IsSettledOutcome (outcome.Plan steps cost from) = Unit {0}
+IsSettledOutcome outcome.NoPlan = Unit {0}
+IsSettledOutcome (outcome.Limit kind) = ⊥
 
 -- Where every transcript that agrees with the table stays within the limits, a run in any mode whose answers are the
 -- table's ends with a plan or with none.
@@ -62,7 +62,7 @@ abbrev pub BoundedRunsSettle : Type 0
 BoundedRunsSettle =
     (limits : Limits) (task : Task) (answers : Answers) (entries : List Entry) (o : Outcome) → IsFit task
     → AgreesWith limits.version task answers entries → HasNoneOpen entries → IsTrueOutcome limits task entries o
-    → IsBounded limits.version task answers limits.calls limits.states → limits.calls ≤ MOST_CALLS → IsSettled o
+    → IsBounded limits.version task answers limits.calls limits.states → limits.calls ≤ MOST_CALLS → IsSettledOutcome o
 
 -- Such tables exist: where a task has no streams, and at first no more states are reached than the limit allows, every
 -- table is one.

@@ -8,7 +8,8 @@ ghost use Rattle.plan_check.specs.Faults.{PlanFails, StepsRun, fault_at as fault
 use crate::fault::{CheckFault, StepFault};
 use crate::start::initial;
 use crate::step::{Applied, advance};
-use formula_eval::{Env, holds};
+use formula_eval::Env;
+use formula_memo::holds_once;
 use std::alloc::Global;
 use task_model::{GroundAction, Look, Plan, State, Task};
 
@@ -67,7 +68,7 @@ pub fn check<L: Look>(alloc: Global, task: &Task, look: &L, plan: &Plan) -> Resu
         Err(fault) => return Err(fault),
     };
     let mut env = Env::new(&[]);
-    if holds(task, look, &end.state, &task.problem.goal, &mut env) {
+    if holds_once(task, look, &end.state, &task.problem.goal, &mut env) {
         Ok(end.cost)
     } else {
         Err(CheckFault::Goal)

@@ -8,7 +8,8 @@ ghost use Rattle.plan_check.specs.declared.fault.StepFault.TheVariants.{Memory};
 use crate::cost::terms_cost;
 use crate::effect::{after, change};
 use crate::fault::StepFault;
-use formula_eval::{Env, have_types, holds};
+use formula_eval::{Env, have_types};
+use formula_memo::holds_once;
 use task_model::{Action, GroundAction, Look, Obj, State, Task};
 
 /// A state after a step, and what the step costs.
@@ -75,7 +76,7 @@ fn judged<'a, L: Look>(
     if !have_types(state.allocator(), look, args, action.params.as_slice()) {
         return Err(StepFault::Args);
     }
-    if !holds(task, look, state, &action.condition, &mut Env::new(args)) {
+    if !holds_once(task, look, state, &action.condition, &mut Env::new(args)) {
         return Err(StepFault::Condition);
     }
     match cost(task, look, state, action, args) {

@@ -5,6 +5,7 @@ ghost use Rattle.task_model.specs.Fit.{IsFit};
 use crate::known::known;
 use fact_store::Facts;
 use formula_eval::{Env, holds};
+use formula_memo::{Memo, holds_memo, holds_once};
 use plan_check::initial;
 use std::alloc::{AllocError, Global};
 use std::test::Fail;
@@ -52,13 +53,26 @@ fn generate(facts: &mut Facts, alloc: Global) -> Result<(), AllocError>
     Ok(())
 }
 
-/// Whether the goal is true in the initial state.
+/// Whether the goal is true in the initial state, as every judge says. Where two of them differ, this fails.
 fn is_true(alloc: Global, task: &Task, facts: &Facts) -> Result<bool, AllocError>
     requires { IsFit task.now }
 {
     let state = initial(alloc, task)?;
+    let goal = &task.problem.goal;
     let mut env = Env::new(&[]);
-    Ok(holds(task, facts, &state, &task.problem.goal, &mut env))
+    let mut memo = Memo::new(alloc)?;
+    let remembered = holds_memo(task, facts, &state, &mut memo, goal, &mut env)?;
+    memo.clear();
+    let anew = holds_memo(task, facts, &state, &mut memo, goal, &mut env)?;
+    let plain = holds(task, facts, &state, goal, &mut env);
+    if remembered == plain
+        && anew == plain
+        && holds_once(task, facts, &state, goal, &mut env) == plain
+    {
+        Ok(plain)
+    } else {
+        Err(AllocError)
+    }
 }
 
 /// Whether the goal is true at first, and whether it is where `#v` is known too.

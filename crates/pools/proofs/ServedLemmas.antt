@@ -5,7 +5,7 @@ use Rattle.std.proofs.lemmas.List.{get_or-set_other, get_or-set_same, length-set
 use Rattle.std.proofs.lemmas.List.Folds.{list_any-append}
 use Rattle.std.specs.List.{list_any}
 use Rattle.lemmas.proofs.Bools.{or_false, or_true}
-use Rattle.pools.specs.Served.{AreMarked}
+use Rattle.pools.specs.Served.{AreStreamsMarked}
 
 -- one stream more is among them
 pushed : (before : List ℕ) (k stream : ℕ)
@@ -13,8 +13,8 @@ pushed : (before : List ℕ) (k stream : ℕ)
 pushed before k stream =
     list_any-append (λ s. s == stream) before (k ∷ []) ∙ ap (λ b. list_any (λ s. s == stream) before || b) (or_false (k == stream))
 
-pub one_marked : (before : List ℕ) (marks : List Bool) (k : ℕ) → k < length marks → AreMarked before marks
-    → AreMarked (before ++ k ∷ []) (set marks k true)
+pub one_marked : (before : List ℕ) (marks : List Bool) (k : ℕ) → k < length marks → AreStreamsMarked before marks
+    → AreStreamsMarked (before ++ k ∷ []) (set marks k true)
 one_marked before marks k within are stream d lt = by (k == stream) refl
   where
     by : (b : Bool) → (k == stream) ≡ b
@@ -28,8 +28,8 @@ one_marked before marks k within are stream d lt = by (k == stream) refl
         ∙ sym (pushed before k stream ∙ ap (λ b. list_any (λ s. s == stream) before || b) e ∙ or_false (list_any (λ s. s == stream) before))
 
 -- a stream without a mark changes none
-pub none_marked : (before : List ℕ) (marks : List Bool) (k : ℕ) → length marks ≤ k → AreMarked before marks
-    → AreMarked (before ++ k ∷ []) marks
+pub none_marked : (before : List ℕ) (marks : List Bool) (k : ℕ) → length marks ≤ k → AreStreamsMarked before marks
+    → AreStreamsMarked (before ++ k ∷ []) marks
 none_marked before marks k past are stream d lt = by (k == stream) refl
   where
     by : (b : Bool) → (k == stream) ≡ b → get_or marks stream d ≡ list_any (λ s. s == stream) (before ++ k ∷ [])

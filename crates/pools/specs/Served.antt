@@ -3,6 +3,6 @@ use Rattle.std.specs.Prelude.{◌≡◌, ◌<◌, ◌==◌, ℕ, List, Bool, get
 use Rattle.std.specs.List.{list_any}
 
 -- a mark says of its stream whether it is one of these
-abbrev pub AreMarked : List ℕ → List Bool → Type 0
-AreMarked streams marks =
+abbrev pub AreStreamsMarked : List ℕ → List Bool → Type 0
+AreStreamsMarked streams marks =
     (stream : ℕ) (d : Bool) → stream < length marks → get_or marks stream d ≡ list_any (λ s. s == stream) streams

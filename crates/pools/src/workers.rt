@@ -2,7 +2,7 @@
 ghost use Rattle.std.specs.Prelude.{◌≡◌, ◌≤◌, ◌==◌, ℕ, List, [], ◌∷◌, ◌++◌, IfOk, length, option_copied, count_by, map};
 ghost use Rattle.std.specs.List.{list_any};
 ghost use Rattle.instance_queue.specs.Level.{instances_of};
-ghost use Rattle.pools.specs.Served.{AreMarked};
+ghost use Rattle.pools.specs.Served.{AreStreamsMarked};
 ghost use Rattle.pools.specs.Pools.{workers_of, server as server_of, child_for, streams_of};
 
 use instance_queue::Due;
@@ -23,13 +23,13 @@ pub struct Workers {
 
 impl Model for Workers {
     ghost use Rattle.pools.specs.Pools.{Workers};
-    ghost use Rattle.pools.specs.Served.{AreMarked};
+    ghost use Rattle.pools.specs.Served.{AreStreamsMarked};
 
     ghost Value = { Workers };
 
     ghost view = { λ w. record { first = w.first; workers = w.workers; streams = w.streams } };
 
-    ghost invariant = { λ w. AreMarked w.streams w.served.items };
+    ghost invariant = { λ w. AreStreamsMarked w.streams w.served.items };
 }
 
 impl Workers {
@@ -95,8 +95,8 @@ fn is_among(streams: &[u32], stream: u32) -> bool
 
 /// Marks a stream, if there is a mark for it.
 fn mark(marks: &mut Vec<bool>, stream: u32)
-    ensures { (before : List ℕ) → AreMarked before marks.old.items
-        → AreMarked (before ++ stream ∷ []) marks.new.items }
+    ensures { (before : List ℕ) → AreStreamsMarked before marks.old.items
+        → AreStreamsMarked (before ++ stream ∷ []) marks.new.items }
 {
     if (stream as usize) < marks.len() {
         marks[stream as usize] = true;
@@ -105,7 +105,7 @@ fn mark(marks: &mut Vec<bool>, stream: u32)
 
 /// Which of so many streams are among these. Fails only where memory is wanting.
 fn marked(alloc: Global, streams: &[u32], count: usize) -> Result<Vec<bool>, AllocError>
-    ensures { IfOk result (λ marks. AreMarked streams.now marks.items) }
+    ensures { IfOk result (λ marks. AreStreamsMarked streams.now marks.items) }
 {
     let mut marks = vec![in alloc; false; count]?;
     for stream in streams {

@@ -23,7 +23,7 @@ use Rattle.std.proofs.lemmas.Option.{slice_get_within}
 use Rattle.name_tables.proofs.NamesUseLemmas.{IsUsable, place_holds, place_some, usable}
 use Rattle.name_tables.proofs.VocabularyLemmas.{AreNamesOf, role_at, used_arity, used_inside}
 use Rattle.problem_reader.specs.Names.{atom_names, is_derived_at}
-use Rattle.problem_reader.specs.Problems.{fact_of, places_of}
+use Rattle.problem_reader.specs.Problems.{spelled_fact, places_of}
 
 -- ---- arguments
 
@@ -68,7 +68,7 @@ module _ (d : Domain) (n : ℕ) (v : Vocabulary) (fit : IsFitDomain d) (named : 
 
   pub fact_fit : (place : ℕ) (items : Trees) → application_faults Predicate Name place items ≡ []
       → atom_names v d.roles place items ≡ []
-      → is_fit_fact d (length v.objects) (fact_of v items) ≡ true
+      → is_fit_fact d (length v.objects) (spelled_fact v items) ≡ true
   fact_fit place nothing e f = absurd (cc)
   fact_fit place (list items at rest) e f = absurd (cc)
   fact_fit place (word w at rest) e f =

@@ -17,7 +17,7 @@ use Rattle.name_tables.specs.declared.vocabulary.Vocabulary.{Vocabulary}
 use Rattle.name_tables.proofs.FitConditions.{single_fits}
 use Rattle.name_tables.proofs.FitTerms.{Knows, filled_first}
 use Rattle.name_tables.proofs.Parted.{none_both}
-use Rattle.problem_reader.specs.Names.{body_names, facts_names, items_names}
+use Rattle.problem_reader.specs.Names.{problem_body_names, facts_names, problem_items_names}
 use Rattle.problem_reader.specs.Problems.{condition_of, goal_of, init_of, is_goal}
 use Rattle.problem_reader.specs.Values.{is_init, nothing_given, row_names, row_put, values_names}
 
@@ -31,12 +31,12 @@ module _ (v : Vocabulary) (d : Domain) where
     named : conditions_names v [] rest ≡ []
 
   goal_by : (it : Item) (place at : ℕ) (rest : Trees) → is_goal it ≡ true
-      → body_faults it place at rest ≡ [] → body_names v d it rest ≡ [] → IsGoal rest
+      → body_faults it place at rest ≡ [] → problem_body_names v d it rest ≡ [] → IsGoal rest
   goal_by item.Goal place at rest e f g = record { place = place; formed = f; named = g }
   goal_by it place at rest e f g = absurd (cc)
 
   is_good_goal : (place : ℕ) (items : Trees) → item_faults text.Problem place items ≡ []
-      → body_names v d (item_of text.Problem (head_of items)) (tail_of items) ≡ []
+      → problem_body_names v d (item_of text.Problem (head_of items)) (tail_of items) ≡ []
       → is_goal (item_of text.Problem (head_of items)) ≡ true → IsGoal (tail_of items)
   is_good_goal place nothing f g e = absurd (cc)
   is_good_goal place (list items at rest) f g e = absurd (cc)
@@ -54,13 +54,13 @@ module _ (v : Vocabulary) (d : Domain) where
     goal_here false rest behind small shallow is more = more
 
     pub goal_fit : (body : Trees) → size body ≤ 8388608 → depth body ≤ 64
-        → items_faults text.Problem body ≡ [] → items_names v d body ≡ [] → IsFitGoal (goal_of body)
+        → items_faults text.Problem body ≡ [] → problem_items_names v d body ≡ [] → IsFitGoal (goal_of body)
     goal_fit nothing small shallow e f = refl
     goal_fit (word w at rest) small shallow e f = absurd (cc)
     goal_fit (list items at rest) small shallow e f =
         let it : Item = item_of text.Problem (head_of items) in
         let forms = none_both (item_faults text.Problem at items) (items_faults text.Problem rest) e in
-        let names = none_both (body_names v d it (tail_of items)) (items_names v d rest) f in
+        let names = none_both (problem_body_names v d it (tail_of items)) (problem_items_names v d rest) f in
         goal_here (is_goal it) (tail_of items) (goal_of rest) (omega (arith, tail_small items, small))
         (omega (arith, tail_shallow items, shallow)) (is_good_goal at items forms.0 names.0)
         (goal_fit rest (omega (arith, small)) (omega (arith, shallow)) forms.1 names.1)
@@ -78,13 +78,13 @@ module _ (v : Vocabulary) (d : Domain) where
     pub named : facts_names v d.roles rest ≡ []
 
   init_by : (it : Item) (place at : ℕ) (rest : Trees) → is_init it ≡ true
-      → body_faults it place at rest ≡ [] → body_names v d it rest ≡ [] → IsFormed rest
+      → body_faults it place at rest ≡ [] → problem_body_names v d it rest ≡ [] → IsFormed rest
   init_by item.Init place at rest e f g =
       record { formed = append_nil_second _ (facts_faults rest) f; named = g }
   init_by it place at rest e f g = absurd (cc)
 
   is_good_init : (place : ℕ) (items : Trees) → item_faults text.Problem place items ≡ []
-      → body_names v d (item_of text.Problem (head_of items)) (tail_of items) ≡ []
+      → problem_body_names v d (item_of text.Problem (head_of items)) (tail_of items) ≡ []
       → is_init (item_of text.Problem (head_of items)) ≡ true → IsFormed (tail_of items)
   is_good_init place nothing f g e = absurd (cc)
   is_good_init place (list items at rest) f g e = absurd (cc)
@@ -100,14 +100,14 @@ module _ (v : Vocabulary) (d : Domain) where
   }
   init_here false rest behind more is e next = next e
 
-  pub init_good : (body : Trees) → items_faults text.Problem body ≡ [] → items_names v d body ≡ []
+  pub init_good : (body : Trees) → items_faults text.Problem body ≡ [] → problem_items_names v d body ≡ []
       → values_names nothing_given body ≡ [] → IsInit (init_of body)
   init_good nothing e f g = record { formed = refl; named = refl; valued = refl }
   init_good (word w at rest) e f g = absurd (cc)
   init_good (list items at rest) e f g =
       let it : Item = item_of text.Problem (head_of items) in
       let forms = none_both (item_faults text.Problem at items) (items_faults text.Problem rest) e in
-      let names = none_both (body_names v d it (tail_of items)) (items_names v d rest) f in
+      let names = none_both (problem_body_names v d it (tail_of items)) (problem_items_names v d rest) f in
       init_here (is_init it) (tail_of items) (init_of rest) rest (is_good_init at items forms.0 names.0) g (init_good rest forms.1 names.1)
 
 init_less : (b : Bool) (rest behind : Trees) (n : ℕ) → size rest ≤ n → size behind ≤ n

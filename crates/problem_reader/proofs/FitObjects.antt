@@ -27,9 +27,9 @@ use Rattle.name_tables.proofs.FitVocabulary.{constant_names, constants_put, sort
 use Rattle.name_tables.proofs.NamesFreshLemmas.{fresh_from}
 use Rattle.name_tables.proofs.Parted.{none_both}
 use Rattle.name_tables.proofs.NamesLemmas.{has_with}
-use Rattle.problem_reader.specs.Names.{body_names, items_names}
+use Rattle.problem_reader.specs.Names.{problem_body_names, problem_items_names}
 use Rattle.problem_reader.specs.Problems.{all_typed, constants_typed, declare_all, objects_typed}
-use Rattle.problem_reader.specs.Tables.{is_objects, objects_in}
+use Rattle.problem_reader.specs.Tables.{is_objects, object_names_in}
 use Rattle.problem_reader.proofs.TablesObjectLemmas.{names_declared, names_each, seen_put}
 use Rattle.problem_reader.proofs.TablesAppendLemmas.{BeginsWith, begins_each, begins_itself, begins_twice, declared_length, first_ones}
 
@@ -117,13 +117,13 @@ same_here sorts t rest true =
 same_here sorts t rest false = refl
 
 same_all : (sorts : List (List ℕ)) (t : Typed) (body : Trees)
-    → (objects_typed sorts t body).names ≡ objects_in t.names body
+    → (objects_typed sorts t body).names ≡ object_names_in t.names body
 same_all sorts t nothing = refl
 same_all sorts t (word w at rest) = same_all sorts t rest
 same_all sorts t (list items at rest) =
     let it : Item = item_of text.Problem (head_of items) in
     same_all sorts (grown_by sorts t it (tail_of items)) rest
-    ∙ ap (λ ns. objects_in ns rest) (same_here sorts t (tail_of items) (is_objects it))
+    ∙ ap (λ ns. object_names_in ns rest) (same_here sorts t (tail_of items) (is_objects it))
 
 -- the names of such an item, without faults
 record AreGood (v : Vocabulary) (rest : Trees) : Type 0 where
@@ -132,14 +132,14 @@ record AreGood (v : Vocabulary) (rest : Trees) : Type 0 where
   known : types_names v.sorts Start rest ≡ []
 
 good_by : (v : Vocabulary) (d : Domain) (it : Item) (place at : ℕ) (rest : Trees)
-    → is_objects it ≡ true → body_faults it place at rest ≡ [] → body_names v d it rest ≡ []
+    → is_objects it ≡ true → body_faults it place at rest ≡ [] → problem_body_names v d it rest ≡ []
     → AreGood v rest
 good_by v d item.Objects place at rest e f g = record { place = place; formed = f; known = g }
 good_by v d it place at rest e f g = absurd (cc)
 
 good : (v : Vocabulary) (d : Domain) (place : ℕ) (items : Trees)
     → item_faults text.Problem place items ≡ []
-    → body_names v d (item_of text.Problem (head_of items)) (tail_of items) ≡ []
+    → problem_body_names v d (item_of text.Problem (head_of items)) (tail_of items) ≡ []
     → is_objects (item_of text.Problem (head_of items)) ≡ true → AreGood v (tail_of items)
 good v d place nothing f g e = absurd (cc)
 good v d place (list items at rest) f g e = absurd (cc)
@@ -154,14 +154,14 @@ module _ (v : Vocabulary) (d : Domain) (typed : 0 < length v.sorts) where
   typed_here t rest false are a = a
 
   typed_objects : (t : Typed) (body : Trees) → items_faults text.Problem body ≡ []
-      → items_names v d body ≡ [] → AreTyped (length v.sorts) t
+      → problem_items_names v d body ≡ [] → AreTyped (length v.sorts) t
       → AreTyped (length v.sorts) (objects_typed v.sorts t body)
   typed_objects t nothing e f a = a
   typed_objects t (word w at rest) e f a = absurd (cc)
   typed_objects t (list items at rest) e f a =
       let it : Item = item_of text.Problem (head_of items) in
       let forms = none_both (item_faults text.Problem at items) (items_faults text.Problem rest) e in
-      let names = none_both (body_names v d it (tail_of items)) (items_names v d rest) f in
+      let names = none_both (problem_body_names v d it (tail_of items)) (problem_items_names v d rest) f in
       typed_objects (grown_by v.sorts t it (tail_of items)) rest forms.1 names.1
       (typed_here t (tail_of items) (is_objects it) (good v d at items forms.0 names.0) a)
 
@@ -171,14 +171,14 @@ module _ (v : Vocabulary) (d : Domain) (typed : 0 < length v.sorts) where
   few_here t rest false are = omega arith
 
   few_objects : (t : Typed) (body : Trees) → items_faults text.Problem body ≡ []
-      → items_names v d body ≡ []
+      → problem_items_names v d body ≡ []
       → length (objects_typed v.sorts t body).names ≤ length t.names + size body
   few_objects t nothing e f = omega arith
   few_objects t (word w at rest) e f = absurd (cc)
   few_objects t (list items at rest) e f =
       let it : Item = item_of text.Problem (head_of items) in
       let forms = none_both (item_faults text.Problem at items) (items_faults text.Problem rest) e in
-      let names = none_both (body_names v d it (tail_of items)) (items_names v d rest) f in
+      let names = none_both (problem_body_names v d it (tail_of items)) (problem_items_names v d rest) f in
       let more = few_objects (grown_by v.sorts t it (tail_of items)) rest forms.1 names.1 in
       let here = few_here t (tail_of items) (is_objects it) (good v d at items forms.0 names.0) in
       omega (arith, more, here, tail_small items)
@@ -191,7 +191,8 @@ pub record AreConstants (cs : List declared.Declared) : Type 0 where
   pub few : length cs ≤ 4194304
 
 module _ (d : Domain) (v : Vocabulary) (body : Trees) (fit : IsFitDomain d) (constants : AreConstants d.constants)
-    (sorts : length v.sorts ≡ length d.sorts) (formed : items_faults text.Problem body ≡ []) (named : items_names v d body ≡ []) where
+    (sorts : length v.sorts ≡ length d.sorts) (formed : items_faults text.Problem body ≡ [])
+    (named : problem_items_names v d body ≡ []) where
   some : 0 < length v.sorts
   some = sorts_some d v fit sorts
 
@@ -227,10 +228,10 @@ module _ (d : Domain) (v : Vocabulary) (body : Trees) (fit : IsFitDomain d) (con
   objects_long = list_long all.names all.sorts typed_whole.even
 
   -- the names that the problem looks up
-  pub objects_same : all.names ≡ objects_in (put_constants [] d.constants) body
+  pub objects_same : all.names ≡ object_names_in (put_constants [] d.constants) body
   objects_same =
       same_all v.sorts (constants_typed no_typed d.constants) body
-      ∙ ap (λ ns. objects_in ns body) (constants_named no_typed d.constants constants.typed)
+      ∙ ap (λ ns. object_names_in ns body) (constants_named no_typed d.constants constants.typed)
 
   pub objects_fit : size body ≤ 4194304 → AreFitObjects d all_objects
   objects_fit small =

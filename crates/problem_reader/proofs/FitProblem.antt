@@ -23,7 +23,7 @@ use Rattle.domain_reader.specs.Names.{second_items}
 use Rattle.domain_reader.specs.Tables.{name_of}
 use Rattle.name_tables.specs.Texts.{body_of}
 use Rattle.problem_reader.specs.Fitness.{IsFitOver, IsFitRead}
-use Rattle.problem_reader.specs.Names.{items_names}
+use Rattle.problem_reader.specs.Names.{problem_items_names}
 use Rattle.problem_reader.specs.Problems.{IsProblemRead, ProblemReads, facts_of, init_of, problem_of, valueds_of}
 use Rattle.problem_reader.specs.Tables.{problem_names}
 use Rattle.problem_reader.specs.Values.{nothing_given, values_names}
@@ -62,11 +62,11 @@ module _ (d : Domain) (t : Trees) (over : IsFitRead d) (bounded : IsBounded t) (
   form : IsFormed t
   form = formed t some read.formed
 
-  clean : (items_names v d body ++ second_items text.Problem [] body ≡ []) × (values_names nothing_given body ≡ [])
-  clean = none_both (items_names v d body ++ second_items text.Problem [] body) (values_names nothing_given body) read.named
+  clean : (problem_items_names v d body ++ second_items text.Problem [] body ≡ []) × (values_names nothing_given body ≡ [])
+  clean = none_both (problem_items_names v d body ++ second_items text.Problem [] body) (values_names nothing_given body) read.named
 
-  items_clean : items_names v d body ≡ []
-  items_clean = (none_both (items_names v d body) (second_items text.Problem [] body) clean.0).0
+  items_clean : problem_items_names v d body ≡ []
+  items_clean = (none_both (problem_items_names v d body) (second_items text.Problem [] body) clean.0).0
 
   constants : AreConstants d.constants
   constants = constants_read over.text d over.read over.bounded.small

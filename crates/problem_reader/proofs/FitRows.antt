@@ -15,8 +15,8 @@ use Rattle.name_tables.specs.declared.vocabulary.Vocabulary.{Vocabulary}
 use Rattle.name_tables.proofs.Parted.{none_both}
 use Rattle.name_tables.proofs.VocabularyLemmas.{AreNamesOf}
 use Rattle.problem_reader.specs.Names.{atom_names, fact_names, facts_names, is_worth, worth_names}
-use Rattle.problem_reader.specs.Problems.{fact_of, facts_of, places_of, valued_of, valueds_of}
-use Rattle.problem_reader.specs.Values.{Given, row_names, spelled, term_in, value_in, value_names, value_of, value_put}
+use Rattle.problem_reader.specs.Problems.{spelled_fact, facts_of, places_of, valued_of, valueds_of}
+use Rattle.problem_reader.specs.Values.{Given, row_names, spelled, term_in, value_in, problem_value_names, value_of_term, value_put}
 use Rattle.problem_reader.proofs.FitFacts.{fact_fit}
 use Rattle.problem_reader.proofs.FitValues.{IsTerm, term_same, value_good}
 use Rattle.problem_reader.proofs.ValuesLemmas.{IsEven, differs_not, even_put, gets, kept, value_clean}
@@ -33,7 +33,7 @@ pub facts_length : (v : Vocabulary) (row : Trees) → length (facts_of v row) �
 facts_length v nothing = omega arith
 facts_length v (word w at rest) = omega (arith, facts_length v rest)
 facts_length v (list items at rest) =
-    facts_by (is_worth items) (fact_of v items) (facts_of v rest) (size rest) (size items) (facts_length v rest)
+    facts_by (is_worth items) (spelled_fact v items) (facts_of v rest) (size rest) (size items) (facts_length v rest)
 
 valueds_by : (b : Bool) (value : Valued) (values : List Valued) (n m : ℕ) → length values ≤ n
     → length (cond b (value ∷ []) [] ++ values) ≤ m + 2 + n
@@ -56,7 +56,7 @@ module _ (d : Domain) (n : ℕ) (v : Vocabulary) (fit : IsFitDomain d) (named : 
   value_passes = is_fit_value d (length v.objects)
 
   atom_of_list : (place : ℕ) (items : Trees) → is_worth items ≡ false → fact_faults place items ≡ []
-      → fact_names v d.roles place items ≡ [] → fact_passes (fact_of v items) ≡ true
+      → fact_names v d.roles place items ≡ [] → fact_passes (spelled_fact v items) ≡ true
   atom_of_list place nothing is e f = absurd (cc)
   atom_of_list place (list items at rest) is e f = absurd (cc)
   atom_of_list place (word w at rest) is e f =
@@ -67,10 +67,10 @@ module _ (d : Domain) (n : ℕ) (v : Vocabulary) (fit : IsFitDomain d) (named : 
   facts_step : (b : Bool) (place : ℕ) (items : Trees) (facts : List Fact) → is_worth items ≡ b
       → fact_faults place items ≡ [] → fact_names v d.roles place items ≡ []
       → list_all fact_passes facts ≡ true
-      → list_all fact_passes (cond b [] (fact_of v items ∷ []) ++ facts) ≡ true
+      → list_all fact_passes (cond b [] (spelled_fact v items ∷ []) ++ facts) ≡ true
   facts_step true place items facts is e f more = more
   facts_step false place items facts is e f more =
-      and_from (fact_passes (fact_of v items)) (list_all fact_passes facts) (atom_of_list place items is e f) more
+      and_from (fact_passes (spelled_fact v items)) (list_all fact_passes facts) (atom_of_list place items is e f) more
 
   pub facts_fit : (row : Trees) → facts_faults row ≡ [] → facts_names v d.roles row ≡ []
       → list_all fact_passes (facts_of v row) ≡ true
@@ -108,18 +108,18 @@ module _ (d : Domain) (n : ℕ) (v : Vocabulary) (fit : IsFitDomain d) (named : 
       → x ≡ w.value
 
   here_agrees : (g : Given) (place : ℕ) (items t : Trees) (x : ℕ) → IsTerm v t
-      → value_of g (spelled t) ≡ Some x → is_worth items ≡ true → fact_faults place items ≡ []
-      → fact_names v d.roles place items ≡ [] → value_names g place items ≡ []
+      → value_of_term g (spelled t) ≡ Some x → is_worth items ≡ true → fact_faults place items ≡ []
+      → fact_names v d.roles place items ≡ [] → problem_value_names g place items ≡ []
       → Agrees t x (valued_of v items)
   here_agrees g place items t x term given is e f h func args =
       let good = value_good d n v named d.roles place items is e f in
       let same : spelled t ≡ spelled (term_in items) = term_same v t (term_in items) term good.term func args in
-      differs_not g (spelled (term_in items)) x (value_in items) (ap (value_of g) (sym same) ∙ given) (value_clean g place items is h)
+      differs_not g (spelled (term_in items)) x (value_in items) (ap (value_of_term g) (sym same) ∙ given) (value_clean g place items is h)
 
   step_agrees : (b : Bool) (g : Given) (place : ℕ) (items t : Trees) (x : ℕ) (values : List Valued)
-      → IsTerm v t → value_of g (spelled t) ≡ Some x → is_worth items ≡ b
+      → IsTerm v t → value_of_term g (spelled t) ≡ Some x → is_worth items ≡ b
       → fact_faults place items ≡ [] → fact_names v d.roles place items ≡ []
-      → value_names g place items ≡ []
+      → problem_value_names g place items ≡ []
       → ((j : ℕ) (w : Valued) → slice_get values j ≡ Some w → Agrees t x w) → (j : ℕ) (w : Valued)
       → slice_get (cond b (valued_of v items ∷ []) [] ++ values) j ≡ Some w → Agrees t x w
   step_agrees false g place items t x values term given is e f h more j w at = more j w at
@@ -130,7 +130,7 @@ module _ (d : Domain) (n : ℕ) (v : Vocabulary) (fit : IsFitDomain d) (named : 
       (func ∙ ap (λ (u : Valued). u.func) (sym same)) (args ∙ ap (λ (u : Valued). u.args) (sym same))
       ∙ ap (λ (u : Valued). u.value) same
 
-  later_agrees : (g : Given) (row t : Trees) (x : ℕ) → IsTerm v t → value_of g (spelled t) ≡ Some x
+  later_agrees : (g : Given) (row t : Trees) (x : ℕ) → IsTerm v t → value_of_term g (spelled t) ≡ Some x
       → facts_faults row ≡ [] → facts_names v d.roles row ≡ [] → row_names g row ≡ []
       → (j : ℕ) (w : Valued) → slice_get (valueds_of v row) j ≡ Some w → Agrees t x w
   later_agrees g nothing t x term given e f h = λ j w at. absurd (cc)
@@ -138,7 +138,7 @@ module _ (d : Domain) (n : ℕ) (v : Vocabulary) (fit : IsFitDomain d) (named : 
   later_agrees g (list items place rest) t x term given e f h =
       let forms = none_both (fact_faults place items) (facts_faults rest) e in
       let names = none_both (fact_names v d.roles place items) (facts_names v d.roles rest) f in
-      let values = none_both (value_names g place items) (row_names (value_put g items) rest) h in
+      let values = none_both (problem_value_names g place items) (row_names (value_put g items) rest) h in
       step_agrees (is_worth items) g place items t x (valueds_of v rest) term given refl forms.0 names.0 values.0
       (later_agrees (value_put g items) rest t x term (kept g items (spelled t) x given) forms.1 names.1 values.1)
 
@@ -174,7 +174,7 @@ module _ (d : Domain) (n : ℕ) (v : Vocabulary) (fit : IsFitDomain d) (named : 
   one_value g (list items place rest) even e f h =
       let forms = none_both (fact_faults place items) (facts_faults rest) e in
       let names = none_both (fact_names v d.roles place items) (facts_names v d.roles rest) f in
-      let values = none_both (value_names g place items) (row_names (value_put g items) rest) h in
+      let values = none_both (problem_value_names g place items) (row_names (value_put g items) rest) h in
       one_step (is_worth items) items (valueds_of v rest)
       (λ is. later_agrees (value_put g items) rest (term_in items) (value_in items)
       (value_good d n v named d.roles place items is forms.0 names.0).term

@@ -17,10 +17,10 @@ use Rattle.name_tables.specs.Vocabulary.{nothing_signed, put_constants, put_sign
 use Rattle.name_tables.specs.declared.vocabulary.Vocabulary.{Vocabulary}
 use Rattle.domain_reader.specs.Cycles.{AreSorts, no_sorts, more_sorts, type_edges}
 use Rattle.domain_reader.specs.Domains.{IsDomainRead, constants_in, is_constants}
-use Rattle.domain_reader.specs.Tables.{no_names, vocabulary_of, with_item, with_items}
+use Rattle.domain_reader.specs.Tables.{no_names, vocabulary_in, with_item, with_items}
 use Rattle.name_tables.specs.Texts.{body_of}
 use Rattle.problem_reader.specs.Laws.{NamesAreTheDomains}
-use Rattle.problem_reader.specs.Tables.{problem_names, objects_in, with_objects}
+use Rattle.problem_reader.specs.Tables.{problem_names, object_names_in, with_objects}
 use Rattle.problem_reader.proofs.TablesObjectLemmas.{constants_put, even_each, names_each, none_more, seen_put}
 use Rattle.problem_reader.proofs.TablesLemmas.{built, put, signed_again}
 
@@ -98,7 +98,7 @@ objects_even sorts t (list items at rest) h =
 
 module _ (t : Trees) (d : domain.Domain) (read : IsDomainRead t d) where
   abbrev v : Vocabulary
-  v = vocabulary_of (body_of t)
+  v = vocabulary_in (body_of t)
 
   known_sorts : put_sorts [] d.sorts ≡ v.sorts
   known_sorts =
@@ -130,7 +130,7 @@ module _ (t : Trees) (d : domain.Domain) (read : IsDomainRead t d) where
         sorts = known_sorts k;
         predicates = known_predicates k;
         functions = known_functions k;
-        objects = objects_in (known_objects k) body;
+        objects = object_names_in (known_objects k) body;
       }
 
 pub names_are_known : NamesAreTheDomains

@@ -15,7 +15,7 @@ use Rattle.name_tables.specs.Names.{Signed, has_name, with_name, with_signature}
 use Rattle.name_tables.specs.Variables.{is_named, named_words, seen_after, seen_with}
 use Rattle.name_tables.specs.Vocabulary.{nothing_signed, put_signatures, with_total_cost}
 use Rattle.name_tables.specs.declared.vocabulary.Vocabulary.{Vocabulary}
-use Rattle.domain_reader.specs.Tables.{declared_arity, functions_in, no_names, predicates_in, types_in, vocabulary_of, with_item, with_items}
+use Rattle.domain_reader.specs.Tables.{declared_arity, functions_in, no_names, predicates_in, types_in, vocabulary_in, with_item, with_items}
 
 -- names behind those so far, each once
 abbrev pub put : List (List ℕ) → List (List ℕ) → List (List ℕ)
@@ -169,5 +169,5 @@ built_total v b = record {
   objects = b.objects;
 }
 
-pub built : (body : Trees) → IsBuilt (vocabulary_of body)
+pub built : (body : Trees) → IsBuilt (vocabulary_in body)
 built body = built_total (with_items no_names body) (built_items no_names body built_first)

@@ -20,10 +20,10 @@ use Rattle.name_tables.specs.Variables.{types_names, unless}
 use Rattle.name_tables.specs.declared.vocabulary.Vocabulary.{Vocabulary}
 
 -- the name behind `:domain` is the domain's
-abbrev pub domain_names : List ℕ → Trees → List Fault
-domain_names name nothing = []
-domain_names name (word w at rest) = unless (bytes_eq w name) Unknown at
-domain_names name (list items at rest) = []
+abbrev pub domain_name_faults : List ℕ → Trees → List Fault
+domain_name_faults name nothing = []
+domain_name_faults name (word w at rest) = unless (bytes_eq w name) Unknown at
+domain_name_faults name (list items at rest) = []
 
 -- ---- facts
 
@@ -67,26 +67,26 @@ goal_names v rest = conditions_names v [] rest
 -- ---- items
 
 -- what stands behind the first word of an item
-abbrev pub body_names : Vocabulary → Domain → Item → Trees → List Fault
-body_names v d item.Domain rest = domain_names d.name rest
-body_names v d item.Objects rest = types_names v.sorts Start rest
-body_names v d item.Init rest = facts_names v d.roles rest
-body_names v d item.Goal rest = goal_names v rest
-body_names v d item.Requirements rest = []
-body_names v d item.Metric rest = []
-body_names v d item.Types rest = []
-body_names v d item.Constants rest = []
-body_names v d item.Predicates rest = []
-body_names v d item.Functions rest = []
-body_names v d item.Derived rest = []
-body_names v d item.Action rest = []
-body_names v d item.Stream rest = []
-body_names v d item.CostStream rest = []
-body_names v d item.Unknown rest = []
-body_names v d item.NoItem rest = []
+abbrev pub problem_body_names : Vocabulary → Domain → Item → Trees → List Fault
+problem_body_names v d item.Domain rest = domain_name_faults d.name rest
+problem_body_names v d item.Objects rest = types_names v.sorts Start rest
+problem_body_names v d item.Init rest = facts_names v d.roles rest
+problem_body_names v d item.Goal rest = goal_names v rest
+problem_body_names v d item.Requirements rest = []
+problem_body_names v d item.Metric rest = []
+problem_body_names v d item.Types rest = []
+problem_body_names v d item.Constants rest = []
+problem_body_names v d item.Predicates rest = []
+problem_body_names v d item.Functions rest = []
+problem_body_names v d item.Derived rest = []
+problem_body_names v d item.Action rest = []
+problem_body_names v d item.Stream rest = []
+problem_body_names v d item.CostStream rest = []
+problem_body_names v d item.Unknown rest = []
+problem_body_names v d item.NoItem rest = []
 
-abbrev pub items_names : Vocabulary → Domain → Trees → List Fault
-items_names v d nothing = []
-items_names v d (word w at rest) = items_names v d rest
-items_names v d (list items at rest) =
-    body_names v d (item_of text.Problem (head_of items)) (tail_of items) ++ items_names v d rest
+abbrev pub problem_items_names : Vocabulary → Domain → Trees → List Fault
+problem_items_names v d nothing = []
+problem_items_names v d (word w at rest) = problem_items_names v d rest
+problem_items_names v d (list items at rest) =
+    problem_body_names v d (item_of text.Problem (head_of items)) (tail_of items) ++ problem_items_names v d rest

@@ -28,7 +28,7 @@ use Rattle.name_tables.specs.declared.vocabulary.Vocabulary.{Vocabulary}
 use Rattle.domain_reader.specs.Names.{second_items}
 use Rattle.domain_reader.specs.Tables.{name_of}
 use Rattle.name_tables.specs.Texts.{body_of}
-use Rattle.problem_reader.specs.Names.{is_worth, items_names}
+use Rattle.problem_reader.specs.Names.{is_worth, problem_items_names}
 use Rattle.problem_reader.specs.Tables.{is_objects, problem_names}
 use Rattle.problem_reader.specs.Values.{is_init, nothing_given, term_in, value_in, values_names}
 
@@ -37,7 +37,7 @@ use Rattle.problem_reader.specs.Values.{is_init, nothing_given, term_in, value_i
 -- all of a problem of this domain with these items, whose names these are
 abbrev pub names_faults : Domain → Vocabulary → Trees → List faults.Fault
 names_faults d v body =
-    items_names v d body ++ second_items text.Problem [] body ++ values_names nothing_given body
+    problem_items_names v d body ++ second_items text.Problem [] body ++ values_names nothing_given body
 
 -- all of a text that is this row of one tree, as a problem of this domain
 abbrev pub name_faults : Domain → Trees → List faults.Fault
@@ -66,8 +66,8 @@ objects_typed sorts t (list items at rest) =
 abbrev pub all_typed : Domain → List (List ℕ) → Trees → Typed
 all_typed d sorts body = objects_typed sorts (constants_typed no_typed d.constants) body
 
-abbrev pub objects_of : Domain → List (List ℕ) → Trees → List declared.Declared
-objects_of d sorts body =
+abbrev pub declared_objects : Domain → List (List ℕ) → Trees → List declared.Declared
+declared_objects d sorts body =
     declared_list (all_typed d sorts body).names (all_typed d sorts body).sorts
 
 -- ---- facts and values, in the order of the text
@@ -79,8 +79,8 @@ places_of objects (word w at rest) = unwrap_or (place_of w objects) 0 ∷ places
 places_of objects (list items at rest) = places_of objects rest
 
 -- (NAME NAME*)
-abbrev pub fact_of : Vocabulary → Trees → Fact
-fact_of v items = record
+abbrev pub spelled_fact : Vocabulary → Trees → Fact
+spelled_fact v items = record
     { kind = Predicate; name = declared_place v.predicates (head_of items); args = places_of v.objects (tail_of items) }
 
 -- (= (NAME NAME*) NUMBER)
@@ -96,7 +96,7 @@ abbrev pub facts_of : Vocabulary → Trees → List Fact
 facts_of v nothing = []
 facts_of v (word w at rest) = facts_of v rest
 facts_of v (list items at rest) =
-    (if is_worth items then [] else fact_of v items ∷ []) ++ facts_of v rest
+    (if is_worth items then [] else spelled_fact v items ∷ []) ++ facts_of v rest
 
 abbrev pub valueds_of : Vocabulary → Trees → List Valued
 valueds_of v nothing = []
@@ -124,16 +124,16 @@ goal_of (word w at rest) = goal_of rest
 goal_of (list items at rest) =
     if is_goal (item_of text.Problem (head_of items)) then tail_of items else goal_of rest
 
-abbrev pub is_metric : Item → Bool
-is_metric item.Metric = true
-is_metric _ = false
+abbrev pub is_metric_item : Item → Bool
+is_metric_item item.Metric = true
+is_metric_item _ = false
 
 -- whether there is a `:metric`, which can only be the total cost
 abbrev pub has_metric : Trees → Bool
 has_metric nothing = false
 has_metric (word w at rest) = has_metric rest
 has_metric (list items at rest) =
-    if is_metric (item_of text.Problem (head_of items)) then true else has_metric rest
+    if is_metric_item (item_of text.Problem (head_of items)) then true else has_metric rest
 
 -- the condition of a goal, in which no variable is in scope from outside
 abbrev pub condition_of : Vocabulary → Trees → Condition
@@ -144,7 +144,7 @@ abbrev pub problem_by : Domain → Vocabulary → Trees → Problem
 problem_by d v t =
     record {
       name = name_of t;
-      objects = objects_of d v.sorts (body_of t);
+      objects = declared_objects d v.sorts (body_of t);
       init = facts_of v (init_of (body_of t));
       values = valueds_of v (init_of (body_of t));
       goal = condition_of v (goal_of (body_of t));
@@ -157,9 +157,9 @@ problem_of d t = problem_by d (problem_names d (body_of t)) t
 -- ---- reading
 
 -- the problem that the names give, or the name fault that is answered
-abbrev pub ReadsNamed : Domain → Trees → Result Problem faults.Fault → Type 0
-ReadsNamed d t (Ok p) = (least_fault (name_faults d t) ≡ None) × (p ≡ problem_of d t)
-ReadsNamed d t (Err f) = least_fault (name_faults d t) ≡ Some f
+abbrev pub ProblemReadsNamed : Domain → Trees → Result Problem faults.Fault → Type 0
+ProblemReadsNamed d t (Ok p) = (least_fault (name_faults d t) ≡ None) × (p ≡ problem_of d t)
+ProblemReadsNamed d t (Err f) = least_fault (name_faults d t) ≡ Some f
 
 -- The fault is answered: of form faults the least, and where there is none, of name faults the least.
 pub data IsProblemAnswered (d : Domain) (t : Trees) (f : faults.Fault) : Type 0 where

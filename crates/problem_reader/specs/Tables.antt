@@ -17,17 +17,17 @@ is_objects item.Objects = true
 is_objects _ = false
 
 -- The names in `:objects` behind those so far, each once.
-abbrev pub objects_in : List (List ℕ) → Trees → List (List ℕ)
-objects_in names nothing = names
-objects_in names (word w at rest) = objects_in names rest
-objects_in names (list items at rest) =
-    objects_in
+abbrev pub object_names_in : List (List ℕ) → Trees → List (List ℕ)
+object_names_in names nothing = names
+object_names_in names (word w at rest) = object_names_in names rest
+object_names_in names (list items at rest) =
+    object_names_in
     (if is_objects (item_of text.Problem (head_of items)) then seen_after names Start (tail_of items) else names)
     rest
 
 -- names with the objects that items declare behind the others
 abbrev pub with_objects : Vocabulary → Trees → Vocabulary
-with_objects v body = record v { objects = objects_in v.objects body }
+with_objects v body = record v { objects = object_names_in v.objects body }
 
 -- the names of a problem of this domain with these items: the domain's, and behind its constants the objects
 abbrev pub problem_names : Domain → Trees → Vocabulary

@@ -52,12 +52,12 @@ abbrev pub given_value : Given → Option ℕ → Option ℕ
 given_value g None = None
 given_value g (Some place) = slice_get g.values place
 
-abbrev pub value_of : Given → List ℕ → Option ℕ
-value_of g term = given_value g (place_of term g.terms)
+abbrev pub value_of_term : Given → List ℕ → Option ℕ
+value_of_term g term = given_value g (place_of term g.terms)
 
 -- the first value of a term stays
-abbrev pub with_value : Given → List ℕ → ℕ → Given
-with_value g term value =
+abbrev pub with_term_value : Given → List ℕ → ℕ → Given
+with_term_value g term value =
     if has_name term g.terms then g else record { terms = g.terms ++ term ∷ []; values = g.values ++ value ∷ [] }
 
 -- ---- the faults
@@ -68,20 +68,20 @@ differs None value = false
 differs (Some before) value = not (before == value)
 
 -- of a fact, which is the list at this place
-abbrev pub value_names : Given → ℕ → Trees → List Fault
-value_names g place items =
+abbrev pub problem_value_names : Given → ℕ → Trees → List Fault
+problem_value_names g place items =
     if is_worth items
-    then unless (not (differs (value_of g (spelled (term_in items))) (value_in items))) Duplicate place else []
+    then unless (not (differs (value_of_term g (spelled (term_in items))) (value_in items))) Duplicate place else []
 
 abbrev pub value_put : Given → Trees → Given
 value_put g items =
-    if is_worth items then with_value g (spelled (term_in items)) (value_in items) else g
+    if is_worth items then with_term_value g (spelled (term_in items)) (value_in items) else g
 
 -- of facts in a row
 abbrev pub row_names : Given → Trees → List Fault
 row_names g nothing = []
 row_names g (word w at rest) = row_names g rest
-row_names g (list items at rest) = value_names g at items ++ row_names (value_put g items) rest
+row_names g (list items at rest) = problem_value_names g at items ++ row_names (value_put g items) rest
 
 abbrev pub row_put : Given → Trees → Given
 row_put g nothing = g

@@ -32,7 +32,7 @@ fn places_of(alloc: Global, objects: &NameTable, items: &[Tree]) -> Result<Row, 
 
 /// The fact that a list of these trees is.
 fn fact_of(alloc: Global, names: &Vocabulary, items: &[Tree]) -> Result<Fact, AllocError>
-    ensures { IfOk result (λ fact. fact ≡ specs.fact_of names.now (trees items.now)) }
+    ensures { IfOk result (λ fact. fact ≡ specs.spelled_fact names.now (trees items.now)) }
 {
     let name = declared_place(&names.predicates, head_of(items))?;
     let args = places_of(alloc, &names.objects, tail_of(items))?;

@@ -14,7 +14,7 @@ use task_model::{Domain, Role};
 
 /// The name behind `:domain` is the domain's.
 fn check_domain(name: &[u8], items: &[Tree], so_far: Option<Fault>) -> Option<Fault>
-    ensures { result ≡ first so_far (specs.domain_names name.now (trees items.now)) }
+    ensures { result ≡ first so_far (specs.domain_name_faults name.now (trees items.now)) }
 {
     match front_of(items) {
         Front::End | Front::List { .. } => so_far,
@@ -161,7 +161,7 @@ fn check_body(
     so_far: Option<Fault>,
 ) -> Result<Option<Fault>, AllocError>
     ensures { IfOk result (λ f. f ≡ first so_far
-        (specs.body_names names.now domain.now item (trees items.now))) }
+        (specs.problem_body_names names.now domain.now item (trees items.now))) }
 {
     match item {
         Item::Domain => Ok(check_domain(domain.name.bytes(), items, so_far)),
@@ -192,7 +192,7 @@ pub(crate) fn check_items(
     so_far: Option<Fault>,
 ) -> Result<Option<Fault>, AllocError>
     ensures { IfOk result (λ f. f ≡ first so_far
-        (specs.items_names names.now domain.now (trees items.now))) }
+        (specs.problem_items_names names.now domain.now (trees items.now))) }
 {
     let mut left = items;
     let mut found = so_far;

@@ -65,7 +65,7 @@ fn objects_of(
     body: &[Tree],
 ) -> Result<Vec<Declared>, AllocError>
     ensures { IfOk result (λ list. list.items
-        ≡ specs.objects_of domain.now sorts.now (trees body.now)) }
+        ≡ specs.declared_objects domain.now sorts.now (trees body.now)) }
 {
     let mut names = TypedNames::new(alloc);
     declare_constants(&mut names, domain.constants.as_slice())?;
@@ -120,7 +120,7 @@ fn goal_of<'a>(items: &'a [Tree]) -> &'a [Tree]
 
 /// Whether the item is a metric.
 fn is_metric(item: Item) -> bool
-    ensures { result ≡ specs.is_metric item }
+    ensures { result ≡ specs.is_metric_item item }
 {
     matches!(item, Item::Metric)
 }

@@ -40,7 +40,7 @@ fn read_named(
     text: &Tree,
     domain: &Domain,
 ) -> Result<Result<Problem, Fault>, AllocError>
-    ensures { IfOk result (λ r. specs.ReadsNamed domain.now (tree text.now) r) }
+    ensures { IfOk result (λ r. specs.ProblemReadsNamed domain.now (tree text.now) r) }
 {
     let body = body_of(text);
     let names = names_of(alloc, domain, body)?;

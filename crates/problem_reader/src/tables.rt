@@ -19,7 +19,7 @@ pub(crate) fn is_objects(item: Item) -> bool
 
 /// Adds the objects that items declare.
 fn add_objects(names: &mut NameTable, items: &[Tree]) -> Result<(), AllocError>
-    ensures { OnOk result (names.new ≡ specs.objects_in names.old (trees items.now)) }
+    ensures { OnOk result (names.new ≡ specs.object_names_in names.old (trees items.now)) }
 {
     let mut left = items;
     'items: loop {

@@ -81,7 +81,7 @@ impl Values {
 
     /// The first value of the term, if it has one.
     fn value_of(&self, term: &[u8]) -> Option<u32>
-        ensures { result ≡ specs.value_of self.now term.now }
+        ensures { result ≡ specs.value_of_term self.now term.now }
     {
         match self.terms.place_of(term) {
             None => None,
@@ -91,7 +91,7 @@ impl Values {
 
     /// Gives the term a value, unless it has one. Fails only where memory is wanting.
     fn put(&mut self, term: &[u8], value: u32) -> Result<(), AllocError>
-        ensures { OnOk result (self.new ≡ specs.with_value self.old term.now value) }
+        ensures { OnOk result (self.new ≡ specs.with_term_value self.old term.now value) }
     {
         if self.terms.add(term)? {
             self.values.push(value)?;
@@ -119,7 +119,7 @@ fn check_value(
     so_far: Option<Fault>,
 ) -> Result<Option<Fault>, AllocError>
     ensures faults { IfOk result (λ f. f
-        ≡ first so_far (specs.value_names given.old place (trees items.now))) }
+        ≡ first so_far (specs.problem_value_names given.old place (trees items.now))) }
     ensures given { OnOk result (given.new ≡ specs.value_put given.old (trees items.now)) }
 {
     if !is_worth(items) {

@@ -20,7 +20,7 @@ use Rattle.transcript_model.specs.declared.outcome.Outcome.TheVariants as outcom
 use Rattle.replay_check.proofs.OriginsLemmas.{origins_once}
 use Rattle.replay_check.specs.Breaches.{BreaksClaim, BreaksOutcome, BreaksPlan, BreaksSaid, BreaksStep, IsMisplaced}
 use Rattle.replay_check.specs.Claims.{IsJudged}
-use Rattle.replay_check.specs.Findings.{IsClaim, IsFound, IsPlaced}
+use Rattle.replay_check.specs.Findings.{IsClaim, IsRightFinding, IsPlaced}
 use Rattle.replay_check.specs.Kinds.{breach_number}
 use Rattle.replay_check.specs.Lines.{Precedes}
 use Rattle.replay_check.specs.Plans.{CanRun, IsPlan}
@@ -196,11 +196,11 @@ module _ (limits : Limits) (limit : ℕ) (task : Task) (entries : List Entry) (c
   from_first place other kind.Outcome plan differs wrong before = wrong
 
   pub right_found : IsPlanned limits.version task entries calls cost from planned.Right
-      → IsFound limits limit task entries (outcome.Plan calls cost from) finding.Holds
+      → IsRightFinding limits limit task entries (outcome.Plan calls cost from) finding.Holds
   right_found plan = (placed.stands plan, λ none. none)
 
   pub stuck_found : (place : ℕ) → StopsAtStep task entries calls place
-      → IsFound limits limit task entries (outcome.Plan calls cost from) (finding.Breaks (place + 1) kind.Plan)
+      → IsRightFinding limits limit task entries (outcome.Plan calls cost from) (finding.Breaks (place + 1) kind.Plan)
   stuck_found place stops =
       record {
         breaks =
@@ -211,9 +211,9 @@ module _ (limits : Limits) (limit : ℕ) (task : Task) (entries : List Entry) (c
 
   pub no_goal_found : (n : ℕ) → length calls ≡ n
       → IsPlanned limits.version task entries calls cost from planned.NoGoal
-      → IsFound limits limit task entries (outcome.Plan calls cost from) (finding.Breaks (n + 1) kind.Plan)
+      → IsRightFinding limits limit task entries (outcome.Plan calls cost from) (finding.Breaks (n + 1) kind.Plan)
   no_goal_found n is missed =
-      subst (λ m. IsFound limits limit task entries (outcome.Plan calls cost from) (finding.Breaks (m + 1) kind.Plan)) is
+      subst (λ m. IsRightFinding limits limit task entries (outcome.Plan calls cost from) (finding.Breaks (m + 1) kind.Plan)) is
       (record {
         breaks = inr (refl, missed.1);
         first = λ other than wrong. goal_first other than missed.0 (said other than wrong);
@@ -222,9 +222,9 @@ module _ (limits : Limits) (limit : ℕ) (task : Task) (entries : List Entry) (c
 
   pub wrong_cost_found : (n : ℕ) → length calls ≡ n
       → IsPlanned limits.version task entries calls cost from planned.WrongCost
-      → IsFound limits limit task entries (outcome.Plan calls cost from) (finding.Breaks (n + 1) kind.Cost)
+      → IsRightFinding limits limit task entries (outcome.Plan calls cost from) (finding.Breaks (n + 1) kind.Cost)
   wrong_cost_found n is wrong_cost =
-      subst (λ m. IsFound limits limit task entries (outcome.Plan calls cost from) (finding.Breaks (m + 1) kind.Cost)) is
+      subst (λ m. IsRightFinding limits limit task entries (outcome.Plan calls cost from) (finding.Breaks (m + 1) kind.Cost)) is
       (record {
         breaks = (refl, wrong_cost.1);
         first = λ other than wrong.
@@ -234,9 +234,9 @@ module _ (limits : Limits) (limit : ℕ) (task : Task) (entries : List Entry) (c
 
   pub wrong_origin_found : (n place : ℕ) → length calls ≡ n
       → IsPlanned limits.version task entries calls cost from (planned.WrongOrigin place)
-      → IsFound limits limit task entries (outcome.Plan calls cost from) (finding.Breaks (n + 2 + place) kind.From)
+      → IsRightFinding limits limit task entries (outcome.Plan calls cost from) (finding.Breaks (n + 2 + place) kind.From)
   wrong_origin_found n place is differs =
-      subst (λ m. IsFound limits limit task entries (outcome.Plan calls cost from) (finding.Breaks (m + 2 + place) kind.From)) is
+      subst (λ m. IsRightFinding limits limit task entries (outcome.Plan calls cost from) (finding.Breaks (m + 2 + place) kind.From)) is
       (record {
         breaks = record { due = differs.1.due; origins = differs.1.origins; place = place; other = differs.1.other; is = refl };
         first = λ other than wrong. from_first place other than differs.0 differs.1 (said other than wrong);
@@ -296,16 +296,16 @@ module _ (limits : Limits) (limit : ℕ) (task : Task) (entries : List Entry) wh
         last_of_all o other than (as_claim o other than is (only_said o other than placed wrong))
 
     pub true_found : IsJudged limits limit task entries o claim.True
-        → IsFound limits limit task entries o finding.Holds
+        → IsRightFinding limits limit task entries o finding.Holds
     true_found judged = (placed.stands judged.0, judged.1)
 
     pub false_found : IsJudged limits limit task entries o claim.False
-        → IsFound limits limit task entries o (finding.Breaks 0 kind.Outcome)
+        → IsRightFinding limits limit task entries o (finding.Breaks 0 kind.Outcome)
     false_found judged =
         record { breaks = as_said o 0 kind.Outcome is (refl, judged.0); first = none_earlier; decided = λ unsure. absurd (judged.1 unsure) }
 
     pub open_found : IsJudged limits limit task entries o claim.Open
-        → IsFound limits limit task entries o finding.Open
+        → IsRightFinding limits limit task entries o finding.Open
     open_found judged = (judged, none_earlier)
 
 -- ---- places
@@ -351,5 +351,5 @@ module _ (limits : Limits) (limit : ℕ) (task : Task) (entries : List Entry) (o
 
   -- an outcome that may not stand here
   pub misplaced_found : IsMisplaced limits task entries o
-      → IsFound limits limit task entries o (finding.Breaks 0 kind.Order)
+      → IsRightFinding limits limit task entries o (finding.Breaks 0 kind.Order)
   misplaced_found wrong = record { breaks = (refl, wrong); first = before_order; decided = λ unsure. inr (refl, omega arith) }

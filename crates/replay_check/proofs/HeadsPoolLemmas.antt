@@ -8,7 +8,7 @@ use Rattle.pools.specs.Pools.{Workers, share_of, shares_of}
 use Rattle.task_model.specs.declared.task.Task.{Task}
 use Rattle.transcript_model.specs.declared.head.PoolLine.{PoolLine}
 use Rattle.replay_check.specs.Headed.{IsAfter}
-use Rattle.replay_check.specs.Heads.{AreFitPoolLines, are_new, is_fit_pool, served_by, share_in, streams_in, workers_in}
+use Rattle.replay_check.specs.Heads.{AreFitPoolLines, are_new, is_fit_pool, served_by, share_in, pool_line_streams, workers_together}
 use Rattle.replay_check.specs.declared.head.Before.{Before}
 use Rattle.lemmas.proofs.Numbers.{le_test}
 
@@ -30,11 +30,11 @@ module _ (task : Task) (before : List PoolLine) (pool : PoolLine) (b : Before) (
       → are_new task b.served.items pool.streams ≡ true
       → is_fit_pool task before pool ≡ true
   pool_fits some few together new =
-      let all : workers_in before + pool.workers ≤ 17 = let is = h.workers in omega (arith, is, together) in
+      let all : workers_together before + pool.workers ≤ 17 = let is = h.workers in omega (arith, is, together) in
       and_four (nat_le 1 pool.workers) (nat_le pool.workers 16)
-      (nat_le (workers_in before + pool.workers) 17) (are_new task (served_by task before) pool.streams)
+      (nat_le (workers_together before + pool.workers) 17) (are_new task (served_by task before) pool.streams)
       (le_test 1 pool.workers some) (le_test pool.workers 16 few)
-      (le_test (workers_in before + pool.workers) 17 all) (ap (λ (s : List ℕ). are_new task s pool.streams) (sym h.served) ∙ new)
+      (le_test (workers_together before + pool.workers) 17 all) (ap (λ (s : List ℕ). are_new task s pool.streams) (sym h.served) ∙ new)
 
   fit_more : is_fit_pool task before pool ≡ true → AreFitPoolLines task (before ++ pool ∷ [])
   fit_more fits place other at = by (last_or_before before pool place other at)
@@ -50,7 +50,7 @@ module _ (task : Task) (before : List PoolLine) (pool : PoolLine) (b : Before) (
   pub pool_passed : (a : Before) (own : Workers) → is_fit_pool task before pool ≡ true
       → b.workers + pool.workers ≤ 17
       → a.pools.items ≡ b.pools.items ++ own ∷ [] → share_of own ≡ share_in task pool
-      → a.served.items ≡ b.served.items ++ streams_in task pool → a.workers ≡ b.workers + pool.workers
+      → a.served.items ≡ b.served.items ++ pool_line_streams task pool → a.workers ≡ b.workers + pool.workers
       → IsAfter task (before ++ pool ∷ []) a
   pool_passed a own fits few pools is served workers =
       record {
@@ -58,8 +58,8 @@ module _ (task : Task) (before : List PoolLine) (pool : PoolLine) (b : Before) (
             ap shares_of pools ∙ map-append share_of b.pools.items (own ∷ []) ∙ (λ i. h.pools i ++ is i ∷ [])
             ∙ sym (map-append (share_in task) before (pool ∷ []));
         served =
-            served ∙ (λ i. h.served i ++ sym (append-nil (streams_in task pool)) i)
-            ∙ sym (flat_map-append (streams_in task) before (pool ∷ []));
+            served ∙ (λ i. h.served i ++ sym (append-nil (pool_line_streams task pool)) i)
+            ∙ sym (flat_map-append (pool_line_streams task) before (pool ∷ []));
         workers = let sums = sum_by-append (λ (p : PoolLine). p.workers) before (pool ∷ []) in
             let was = h.workers in omega (arith, sums, was, workers);
         few = omega (arith, few, workers);

@@ -27,7 +27,7 @@ use Rattle.transcript_model.specs.declared.outcome.Outcome.TheVariants as outcom
 use Rattle.transcript_model.specs.declared.report.Report.{Report}
 use Rattle.replay_check.proofs.OriginsLemmas.{origins_once}
 use Rattle.replay_check.specs.Breaches.{AreBegun, BreaksClaim, BreaksEntry, BreaksHead, BreaksOutcome, BreaksPlan, BreaksSaid, IsBreach, IsMisplaced, MayAsk}
-use Rattle.replay_check.specs.Heads.{IsFitHead, limits_in}
+use Rattle.replay_check.specs.Heads.{IsFitReportHead, reported_limits}
 use Rattle.replay_check.specs.Plans.{CanRun, IsPlan}
 use Rattle.replay_check.specs.Verdicts.{IsRightReport}
 use Rattle.replay_check.specs.declared.verdict.BreachKind.{BreachKind}
@@ -35,7 +35,7 @@ use Rattle.replay_check.specs.declared.verdict.BreachKind.TheVariants as kind
 
 -- ---- the head
 
-pub head_right : (task : Task) (r : Report) (line : ℕ) → IsFitHead task r → BreaksHead task r line
+pub head_right : (task : Task) (r : Report) (line : ℕ) → IsFitReportHead task r → BreaksHead task r line
     → ⊥
 head_right task r line fit (inl (at, other)) = other fit.mode
 head_right task r line fit (inr (inl (at, wrong))) = true≢false (sym fit.limits ∙ wrong)
@@ -211,8 +211,10 @@ pub no_breach : (task : Task) (r : Report) (line : ℕ) (k : BreachKind) → IsR
     → IsBreach task r line k → ⊥
 no_breach task r line k right (inl (is, wrong)) = head_right task r line right.head wrong
 no_breach task r line k right (inr (inl breaks)) =
-    entry_right (limits_in task r) task r.entries right.stage right.head.mode right.legal.legal right.legal.turns breaks.place breaks.e k
+    entry_right (reported_limits task r) task r.entries right.stage right.head.mode right.legal.legal right.legal.turns breaks.place
+    breaks.e k
     breaks.there breaks.wrong
 no_breach task r line k right (inr (inr breaks)) =
-    outcome_right (limits_in task r) task r.entries right.stage right.legal.legal right.legal.turns r.outcome breaks.offset k right.stands
+    outcome_right (reported_limits task r) task r.entries right.stage right.legal.legal right.legal.turns r.outcome breaks.offset k
+    right.stands
     right.true breaks.wrong

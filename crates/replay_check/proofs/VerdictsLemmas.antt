@@ -24,9 +24,9 @@ use Rattle.replay_check.proofs.FindingsLemmas.{not_later}
 use Rattle.replay_check.proofs.RightReportLemmas.{entry_right, head_right}
 use Rattle.replay_check.proofs.LinesLemmas.{lines_past, lines_rise, offset_few, report_count}
 use Rattle.replay_check.specs.Breaches.{BreaksEntry, BreaksEntries, BreaksEnd, BreaksOutcome, IsBreach}
-use Rattle.replay_check.specs.Findings.{IsFound, NoneEarlier}
+use Rattle.replay_check.specs.Findings.{IsRightFinding, NoneEarlier}
 use Rattle.replay_check.specs.Headed.{IsHeaded}
-use Rattle.replay_check.specs.Heads.{AreFitPoolLines, IsFitHead, are_fit_limits, are_new, is_fit_pool, limits_in, served_by, share_in, workers_in}
+use Rattle.replay_check.specs.Heads.{AreFitPoolLines, IsFitReportHead, are_fit_limits, are_new, is_fit_pool, reported_limits, served_by, share_in, workers_together}
 use Rattle.replay_check.specs.Kinds.{breach_number}
 use Rattle.replay_check.specs.Lines.{Precedes, line_behind_pools, line_of, outcome_line}
 use Rattle.report_text.specs.Texts.{lines_of_report}
@@ -103,14 +103,14 @@ module _ (limit : ℕ) (task : Task) (r : Report) (line : ℕ) (h : IsHeaded tas
   not_in_entries other than b (inl lt) =
       let is = b.is in let upto = h.1 in omega (arith, is, upto, lt)
   not_in_entries other than b (inr (same, lt)) =
-      let least = entry_kind (limits_in task r) task (take b.place r.entries) b.e than b.wrong in
+      let least = entry_kind (reported_limits task r) task (take b.place r.entries) b.e than b.wrong in
       omega (arith, least, lt)
 
   not_in_end : (other : ℕ) (than : BreachKind) → BreaksEnd task r other than
       → Precedes other than line kind.Head → ⊥
   not_in_end other than b (inl lt) = let is = b.is in let upto = h.1 in omega (arith, is, upto, lt)
   not_in_end other than b (inr (same, lt)) =
-      let least = outcome_kind (limits_in task r) task r.entries r.outcome b.offset than b.wrong in
+      let least = outcome_kind (reported_limits task r) task r.entries r.outcome b.offset than b.wrong in
       omega (arith, least, lt)
 
   head_first : NonePrecedes task r line kind.Head
@@ -135,7 +135,7 @@ module _ (limit : ℕ) (task : Task) (r : Report) (line : ℕ) (h : IsHeaded tas
 -- ---- a head that fits
 
 module _ (b : Bounds) (r : Report) (limit : ℕ) (bounds : AreBounds b)
-    (head : IsFitHead b.task.now r) (limits : limits_in b.task.now r ≡ limits_by b) where
+    (head : IsFitReportHead b.task.now r) (limits : reported_limits b.task.now r ≡ limits_by b) where
   abbrev task : Task
   task = b.task.now
 
@@ -156,7 +156,7 @@ module _ (b : Bounds) (r : Report) (limit : ℕ) (bounds : AreBounds b)
       entry_right (limits_by b) task es turns.0 refl stands.ledger.legal turns.1 place e k at wrong
 
   by_bounds : (before : List Entry) (e : Entry) (k : BreachKind)
-      → BreaksEntry (limits_in task r) task before e k
+      → BreaksEntry (reported_limits task r) task before e k
       → BreaksEntry (limits_by b) task before e k
   by_bounds before e k wrong = subst (λ ls. BreaksEntry ls task before e k) limits wrong
 
@@ -257,7 +257,7 @@ module _ (b : Bounds) (r : Report) (limit : ℕ) (bounds : AreBounds b)
 
     -- the line that is told is one of the report's
     pub end_line_few : (offset : ℕ) (k : BreachKind)
-        → IsFound (limits_by b) limit task r.entries r.outcome (finding.Breaks offset k)
+        → IsRightFinding (limits_by b) limit task r.entries r.outcome (finding.Breaks offset k)
         → length (lines_of_report r) < 2 ^ 31 → length r.pools + 3 + length r.entries + offset < 2 ^ 31
     end_line_few offset k w short =
         let few = offset_few (limits_by b) limit task r.entries r.version r.outcome offset k w in
@@ -276,7 +276,7 @@ module _ (b : Bounds) (r : Report) (limit : ℕ) (bounds : AreBounds b)
     states_same : r.states ≡ b.states
     states_same = ap (λ (ls : Limits). ls.states) limits
 
-    pub right_end : IsFound (limits_by b) limit task r.entries r.outcome finding.Holds
+    pub right_end : IsRightFinding (limits_by b) limit task r.entries r.outcome finding.Holds
         → IsReportVerdict limit task r Valid
     right_end (end, decided) = (
       record {
@@ -298,7 +298,7 @@ module _ (b : Bounds) (r : Report) (limit : ℕ) (bounds : AreBounds b)
         none at.0 than at.2
         (nearer (outcome_line r) at.0 than offset k (subst (λ l. Precedes l than (outcome_line r + offset) k) at.1 before))
 
-    pub open_end : IsFound (limits_by b) limit task r.entries r.outcome finding.Open
+    pub open_end : IsRightFinding (limits_by b) limit task r.entries r.outcome finding.Open
         → IsReportVerdict limit task r Limit
     open_end (unsure, none) = (
       subst (λ n. IsUndecidedClaim limit n task r.entries r.outcome) (sym states_same) unsure,
@@ -306,7 +306,7 @@ module _ (b : Bounds) (r : Report) (limit : ℕ) (bounds : AreBounds b)
     )
 
     pub wrong_end : (offset : ℕ) (k : BreachKind)
-        → IsFound (limits_by b) limit task r.entries r.outcome (finding.Breaks offset k)
+        → IsRightFinding (limits_by b) limit task r.entries r.outcome (finding.Breaks offset k)
         → IsReportVerdict limit task r (Invalid (outcome_line r + offset) k)
     wrong_end offset k w =
         record {
@@ -327,7 +327,7 @@ some_worker : (task : Task) (before : List PoolLine) (pool : PoolLine)
     → is_fit_pool task before pool ≡ true → 1 ≤ pool.workers
 some_worker task before pool fits =
     leb-true 1 pool.workers (first_of (nat_le 1 pool.workers) (nat_le pool.workers 16)
-    (nat_le (workers_in before + pool.workers) 17) (are_new task (served_by task before) pool.streams) fits)
+    (nat_le (workers_together before + pool.workers) 17) (are_new task (served_by task before) pool.streams) fits)
   where
     first_of : (x y z w : Bool) → (x && y && z && w) ≡ true → x ≡ true
     first_of true y z w e = refl

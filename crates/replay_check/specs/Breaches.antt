@@ -15,7 +15,7 @@ use Rattle.transcript_model.specs.declared.outcome.Origin.{Origin}
 use Rattle.transcript_model.specs.declared.outcome.Outcome.{Outcome}
 use Rattle.transcript_model.specs.declared.outcome.Outcome.TheVariants as outcome
 use Rattle.transcript_model.specs.declared.report.Report.{Report}
-use Rattle.replay_check.specs.Heads.{are_fit_limits, are_served, is_fit_pool, limits_in}
+use Rattle.replay_check.specs.Heads.{are_fit_limits, are_served, is_fit_pool, reported_limits}
 use Rattle.replay_check.specs.Lines.{line_behind_pools, line_of, outcome_line}
 use Rattle.replay_check.specs.Plans.{CanRun, IsPlan}
 use Rattle.replay_check.specs.declared.verdict.BreachKind.{BreachKind}
@@ -64,7 +64,7 @@ pub record BreaksEntries (task : Task) (r : Report) (line : ℕ) (k : BreachKind
   pub place : ℕ
   pub e : Entry
   pub there : slice_get r.entries place ≡ Some e
-  pub wrong : BreaksEntry (limits_in task r) task (take place r.entries) e k
+  pub wrong : BreaksEntry (reported_limits task r) task (take place r.entries) e k
   pub is : line ≡ line_of r place
 
 -- ---- outcomes
@@ -124,7 +124,7 @@ BreaksOutcome limits task entries o offset k = BreaksSaid limits task entries o 
 
 pub record BreaksEnd (task : Task) (r : Report) (line : ℕ) (k : BreachKind) : Type 0 where
   pub offset : ℕ
-  pub wrong : BreaksOutcome (limits_in task r) task r.entries r.outcome offset k
+  pub wrong : BreaksOutcome (reported_limits task r) task r.entries r.outcome offset k
   pub is : line ≡ outcome_line r + offset
 
 -- ---- all

@@ -49,7 +49,7 @@ module _ (limits : Limits) (limit : ℕ) (task : Task) (entries : List Entry) (o
     pub first : NoneEarlier offset k
     pub decided : CannotTell → Precedes offset k 0 kind.Outcome
 
-  abbrev pub IsFound : Finding → Type 0
-  IsFound Holds = IsRightEnd × ¬ CannotTell
-  IsFound (Breaks offset k) = IsFirstWrong offset k
-  IsFound Open = CannotTell × NoneEarlier 0 kind.Outcome
+  abbrev pub IsRightFinding : Finding → Type 0
+  IsRightFinding Holds = IsRightEnd × ¬ CannotTell
+  IsRightFinding (Breaks offset k) = IsFirstWrong offset k
+  IsRightFinding Open = CannotTell × NoneEarlier 0 kind.Outcome

@@ -17,15 +17,15 @@ use Rattle.io_world.specs.declared.host.TheConstants.{CHILDREN}
 -- ---- what a head says
 
 -- the streams of a pool, by their places in the task
-abbrev pub streams_in : Task → PoolLine → List ℕ
-streams_in task pool = filter_map (stream_named task) pool.streams
+abbrev pub pool_line_streams : Task → PoolLine → List ℕ
+pool_line_streams task pool = filter_map (stream_named task) pool.streams
 
 abbrev pub share_in : Task → PoolLine → Share
-share_in task pool = record { workers = pool.workers; streams = streams_in task pool }
+share_in task pool = record { workers = pool.workers; streams = pool_line_streams task pool }
 
 -- what the head binds the transcript to
-abbrev pub limits_in : Task → Report → Limits
-limits_in task r = record {
+abbrev pub reported_limits : Task → Report → Limits
+reported_limits task r = record {
   version = r.version;
   mode = r.mode;
   calls = r.calls;
@@ -44,12 +44,12 @@ are_fit_limits r =
     && nat_le r.depth MOST_DEPTH
 
 -- the workers of these pools together
-abbrev pub workers_in : List PoolLine → ℕ
-workers_in pools = sum_by (λ (p : PoolLine). p.workers) pools
+abbrev pub workers_together : List PoolLine → ℕ
+workers_together pools = sum_by (λ (p : PoolLine). p.workers) pools
 
 -- the streams that these pools serve
 abbrev pub served_by : Task → List PoolLine → List ℕ
-served_by task pools = flat_map (streams_in task) pools
+served_by task pools = flat_map (pool_line_streams task) pools
 
 -- a stream of the task that isn't one of these
 abbrev pub is_new : List ℕ → Option ℕ → Bool
@@ -66,7 +66,7 @@ are_new task before (name ∷ names) =
 -- From 1 to 16 workers, with the pools before at most 17 together; streams of the task that aren't served before.
 abbrev pub is_fit_pool : Task → List PoolLine → PoolLine → Bool
 is_fit_pool task before pool =
-    nat_le 1 pool.workers && nat_le pool.workers WORKERS && nat_le (workers_in before + pool.workers) CHILDREN
+    nat_le 1 pool.workers && nat_le pool.workers WORKERS && nat_le (workers_together before + pool.workers) CHILDREN
     && are_new task (served_by task before) pool.streams
 
 -- each stream of the task has a pool
@@ -80,7 +80,7 @@ AreFitPoolLines task pools =
     (place : ℕ) (pool : PoolLine) → slice_get pools place ≡ Some pool → is_fit_pool task (take place pools) pool ≡ true
 
 -- The head fits the task: its mode is one that is replayed, and its limits and pools are as they should.
-pub record IsFitHead (task : Task) (r : Report) : Type 0 where
+pub record IsFitReportHead (task : Task) (r : Report) : Type 0 where
   pub mode : r.mode ≡ Incremental
   pub limits : are_fit_limits r ≡ true
   pub pools : AreFitPoolLines task r.pools

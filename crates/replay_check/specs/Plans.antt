@@ -12,13 +12,13 @@ use Rattle.transcript_model.specs.declared.entry.Entry.{Entry}
 
 module _ (task : Task) (entries : List Entry) where
   -- the calls show these steps
-  abbrev pub Shows : List Call → List GroundAction → Type 0
-  Shows calls steps = calls ≡ map (call_of_step task (names_of task entries)) steps
+  abbrev pub ShowsSteps : List Call → List GroundAction → Type 0
+  ShowsSteps calls steps = calls ≡ map (call_of_step task (names_of task entries)) steps
 
   -- the calls are steps that can be taken one after another
   pub record CanRun (calls : List Call) : Type 0 where
     pub steps : List GroundAction
-    pub shown : Shows calls steps
+    pub shown : ShowsSteps calls steps
     pub state : Atoms
     pub cost : ℕ
     pub runs : Executes task (known_of task entries) (initial_state task) steps state cost
@@ -26,5 +26,5 @@ module _ (task : Task) (entries : List Entry) where
   -- they are a valid plan of this cost
   pub record IsPlan (calls : List Call) (cost : ℕ) : Type 0 where
     pub steps : List GroundAction
-    pub shown : Shows calls steps
+    pub shown : ShowsSteps calls steps
     pub valid : IsValid task (known_of task entries) steps cost

@@ -9,7 +9,7 @@ use Rattle.transcript_model.specs.Transcript.{known_of}
 use Rattle.transcript_model.specs.declared.entry.Call.{Call}
 use Rattle.transcript_model.specs.declared.entry.Entry.{Entry}
 use Rattle.transcript_model.specs.declared.outcome.Origin.{Origin}
-use Rattle.replay_check.specs.Plans.{CanRun, IsPlan, Shows}
+use Rattle.replay_check.specs.Plans.{CanRun, IsPlan, ShowsSteps}
 use Rattle.replay_check.specs.declared.plan.Planned.{Planned}
 use Rattle.replay_check.specs.declared.plan.Planned.TheVariants.{Right, Stuck, NoGoal, WrongCost, WrongOrigin}
 use Rattle.replay_check.specs.declared.steps.Ran.{Ran}
@@ -24,7 +24,7 @@ IsSum total None = 2 ^ 64 ≤ total
 -- The steps that these calls show were taken, and lead to the state.
 pub record IsRunOf (task : Task) (entries : List Entry) (calls : List Call) (run : Run) : Type 0 where
   pub steps : List GroundAction
-  pub shown : Shows task entries calls steps
+  pub shown : ShowsSteps task entries calls steps
   pub total : ℕ
   pub runs : Executes task (known_of task entries) (initial_state task) steps run.state total
   pub sum : IsSum total run.cost

@@ -15,7 +15,7 @@ use Rattle.transcript_model.specs.declared.outcome.Outcome.{Outcome}
 use Rattle.transcript_model.specs.declared.outcome.Outcome.TheVariants as outcome
 use Rattle.transcript_model.specs.declared.report.Report.{Report}
 use Rattle.replay_check.specs.Breaches.{IsBreach}
-use Rattle.replay_check.specs.Heads.{IsFitHead, limits_in}
+use Rattle.replay_check.specs.Heads.{IsFitReportHead, reported_limits}
 use Rattle.replay_check.specs.Lines.{Precedes, outcome_line}
 use Rattle.replay_check.specs.declared.verdict.BreachKind.{BreachKind}
 use Rattle.replay_check.specs.declared.verdict.BreachKind.TheVariants as kind
@@ -42,11 +42,11 @@ IsUndecided limit task r = IsUndecidedClaim limit r.states task r.entries r.outc
 -- All that the report says is right: its head fits the task, its transcript is legal and made of whole turns, and its
 -- outcome may stand there and is true.
 pub record IsRightReport (task : Task) (r : Report) : Type 0 where
-  pub head : IsFitHead task r
+  pub head : IsFitReportHead task r
   pub stage : Stage
-  pub legal : IsModeLegal (limits_in task r) task r.entries stage
+  pub legal : IsModeLegal (reported_limits task r) task r.entries stage
   pub stands : MayStand stage r.outcome
-  pub true : IsTrueOutcome (limits_in task r) task r.entries r.outcome
+  pub true : IsTrueOutcome (reported_limits task r) task r.entries r.outcome
 
 -- no breach precedes this one
 abbrev pub NonePrecedes : Task → Report → ℕ → BreachKind → Type 0

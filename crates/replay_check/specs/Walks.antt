@@ -25,9 +25,9 @@ pub record IsWrongAt (b : Bounds) (entries : List Entry) (place : ℕ) (k : Brea
   pub wrong : IsWrong (limits_by b) b.task.now (take place entries) e k
 
 -- the judge stands behind the entry at this place, or that is wrong
-abbrev pub IsTaken : Bounds → List Entry → ℕ → Standing → Option BreachKind → Type 0
-IsTaken b entries place s None = IsStanding b (take (place + 1) entries) s
-IsTaken b entries place s (Some k) = IsWrongAt b entries place k
+abbrev pub IsEntryTaken : Bounds → List Entry → ℕ → Standing → Option BreachKind → Type 0
+IsEntryTaken b entries place s None = IsStanding b (take (place + 1) entries) s
+IsEntryTaken b entries place s (Some k) = IsWrongAt b entries place k
 
 abbrev pub IsWalked : Bounds → List Entry → Walked → Type 0
 IsWalked b entries (Breaks place k) = IsWrongAt b entries place k

@@ -10,7 +10,7 @@ ghost use Rattle.transcript_model.specs.declared.outcome.Outcome.TheVariants as 
 ghost use Rattle.task_model.specs.declared.limits.TheConstants.{MOST_STATES};
 
 use crate::bounds::Bounds;
-use best_first::{Found, GoalCount, exceeds, search};
+use best_first::{Additive, Found, exceeds, search};
 use std::alloc::AllocError;
 use transcript_ledger::{Ledger, dues_of};
 
@@ -52,12 +52,13 @@ pub(crate) fn judge_no_plan(
     if !dues.as_slice().is_empty() {
         return Ok(Claim::False);
     }
+    let mut estimate = Additive::new(bounds.alloc, bounds.task, &ledger.facts)?;
     match search(
         bounds.alloc,
         bounds.task,
         &ledger.facts,
         limit,
-        &mut GoalCount,
+        &mut estimate,
     )? {
         Found::Nothing => Ok(Claim::True),
         Found::Limit => Ok(Claim::Open),

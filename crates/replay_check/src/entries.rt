@@ -1,6 +1,6 @@
 //! The entries of a report, one after another.
 ghost use Rattle.std.specs.Prelude.{◌≡◌, ◌<◌, ◌≤◌, ◌+◌, length, All, Some, slice_get, take, IfOk, IfSome, IsTrue};
-ghost use Rattle.replay_check.specs.Walks.{CanTake, IsTaken, IsWalked};
+ghost use Rattle.replay_check.specs.Walks.{CanTake, IsEntryTaken, IsWalked};
 ghost use Rattle.replay_check.specs.Standings.{AreBounds, IsNextRequest};
 ghost use Rattle.transcript_model.specs.Legal.{answered_number as number_in};
 ghost use Rattle.report_text.specs.Forms.{IsFormedEntry};
@@ -64,7 +64,7 @@ impl Standing {
     ) -> Result<Wrong, AllocError>
         requires can { CanTake bounds.now entries.now place self.old }
         requires here { slice_get entries.now place ≡ Some (entry.Ask number turn call.now) }
-        ensures { IfOk result (IsTaken bounds.now entries.now place self.new) }
+        ensures { IfOk result (IsEntryTaken bounds.now entries.now place self.new) }
     {
         let ledger = &self.ledger;
         let asked = asked_by(
@@ -97,7 +97,7 @@ impl Standing {
     ) -> Result<Wrong, AllocError>
         requires can { CanTake bounds.now entries.now place self.old }
         requires here { IfSome (slice_get entries.now place) (λ e. number_in e ≡ Some number) }
-        ensures { IfOk result (IsTaken bounds.now entries.now place self.new) }
+        ensures { IfOk result (IsEntryTaken bounds.now entries.now place self.new) }
     {
         if !may_answer(bounds.task, &self.ledger, number, &entries[place]) {
             return Ok(Some(BreachKind::Answer));
@@ -127,7 +127,7 @@ impl Standing {
     ) -> Result<Wrong, AllocError>
         requires can { CanTake bounds.now entries.now place self.old }
         requires here { slice_get entries.now place ≡ Some entry.Level }
-        ensures { IfOk result (IsTaken bounds.now entries.now place self.new) }
+        ensures { IfOk result (IsEntryTaken bounds.now entries.now place self.new) }
     {
         let before = self.ledger.asked.len() as u32;
         if !self.course.is_between() || before >= bounds.calls {
@@ -151,7 +151,7 @@ impl Standing {
         place: usize,
     ) -> Result<Wrong, AllocError>
         requires can { CanTake bounds.now entries.now place self.old }
-        ensures { IfOk result (IsTaken bounds.now entries.now place self.new) }
+        ensures { IfOk result (IsEntryTaken bounds.now entries.now place self.new) }
     {
         let entry = &entries[place];
         if let Some(number) = answered(entry) {

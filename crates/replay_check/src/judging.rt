@@ -1,6 +1,6 @@
 //! Reports, replayed.
 ghost use Rattle.std.specs.Prelude.{◌≡◌, ◌<◌, ◌≤◌, ◌^◌, length, IfOk};
-ghost use Rattle.replay_check.specs.Heads.{IsFitHead, limits_in};
+ghost use Rattle.replay_check.specs.Heads.{IsFitReportHead, reported_limits};
 ghost use Rattle.report_text.specs.Texts.{lines_of_report};
 ghost use Rattle.replay_check.specs.Standings.{AreBounds, IsStanding, limits_by};
 ghost use Rattle.replay_check.specs.Verdicts.{IsReportVerdict, IsVerdict};
@@ -39,8 +39,8 @@ fn judge_end(
     limit: u32,
 ) -> Result<Verdict, AllocError>
     requires bounds { AreBounds bounds.now }
-    requires head { IsFitHead bounds.now.task.now report.now }
-    requires limits { limits_in bounds.now.task.now report.now ≡ limits_by bounds.now }
+    requires head { IsFitReportHead bounds.now.task.now report.now }
+    requires limits { reported_limits bounds.now.task.now report.now ≡ limits_by bounds.now }
     requires lines { length (lines_of_report report.now) < 2 ^ 31 }
     requires standing { IsStanding bounds.now report.now.entries standing.now }
     requires some { 1 ≤ limit }
@@ -59,8 +59,8 @@ fn judge_end(
 /// Judges the transcript and the outcome of a report whose head fits.
 fn judge_rest(bounds: &Bounds<'_>, report: &Report, limit: u32) -> Result<Verdict, AllocError>
     requires bounds { AreBounds bounds.now }
-    requires head { IsFitHead bounds.now.task.now report.now }
-    requires limits { limits_in bounds.now.task.now report.now ≡ limits_by bounds.now }
+    requires head { IsFitReportHead bounds.now.task.now report.now }
+    requires limits { reported_limits bounds.now.task.now report.now ≡ limits_by bounds.now }
     requires formed { IsFormed report.now }
     requires lines { length (lines_of_report report.now) < 2 ^ 31 }
     requires some { 1 ≤ limit }

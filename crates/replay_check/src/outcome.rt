@@ -1,7 +1,7 @@
 //! Whether an outcome may stand, and whether what it says is true.
 ghost use Rattle.std.specs.Prelude.{◌≡◌, ◌<◌, ◌≤◌, ◌^◌, ℕ, List, IfOk, IsTrue, length};
 ghost use Rattle.replay_check.specs.Claims.{IsJudged};
-ghost use Rattle.replay_check.specs.Findings.{IsClaim, IsFound, IsPlaced};
+ghost use Rattle.replay_check.specs.Findings.{IsClaim, IsRightFinding, IsPlaced};
 ghost use Rattle.replay_check.specs.Runs.{IsNear, IsPlanned};
 ghost use Rattle.replay_check.specs.Standings.{AreBounds, IsStanding, limits_by};
 ghost use Rattle.task_model.specs.declared.limits.TheConstants.{MOST_STATES};
@@ -38,7 +38,8 @@ pub enum Finding {
 fn claimed(claim: Claim) -> Finding
     ensures { (limits : Limits) (limit : ℕ) (task : AnyTask) (entries : List AnyEntry)
         (o : AnyOutcome) → IsClaim o → IsPlaced limits limit task entries o
-        → IsJudged limits limit task entries o claim → IsFound limits limit task entries o result }
+        → IsJudged limits limit task entries o claim
+        → IsRightFinding limits limit task entries o result }
 {
     match claim {
         Claim::True => Finding::Holds,
@@ -56,7 +57,7 @@ fn planned(steps: usize, planned: Planned) -> Finding
         → IsLegal limits.version task entries
         → IsPlaced limits limit task entries (said.Plan calls cost from)
         → IsPlanned limits.version task entries calls cost from planned
-        → IsFound limits limit task entries (said.Plan calls cost from) result }
+        → IsRightFinding limits limit task entries (said.Plan calls cost from) result }
 {
     match planned {
         Planned::Right => Finding::Holds,
@@ -95,8 +96,8 @@ impl Standing {
         requires resting { outcome.now ≡ said.NoPlan → HasNoneOpen entries.now }
         requires some { 1 ≤ limit }
         requires few { limit ≤ MOST_STATES }
-        ensures { IfOk result (IsFound (limits_by bounds.now) limit bounds.now.task.now entries.now
-            outcome.now) }
+        ensures { IfOk result (IsRightFinding (limits_by bounds.now) limit bounds.now.task.now
+            entries.now outcome.now) }
     {
         let claim = match outcome {
             Outcome::Plan { steps, cost, from } => {
@@ -129,8 +130,8 @@ impl Standing {
         requires standing { IsStanding bounds.now entries.now self.now }
         requires some { 1 ≤ limit }
         requires few { limit ≤ MOST_STATES }
-        ensures { IfOk result (IsFound (limits_by bounds.now) limit bounds.now.task.now entries.now
-            outcome.now) }
+        ensures { IfOk result (IsRightFinding (limits_by bounds.now) limit bounds.now.task.now
+            entries.now outcome.now) }
     {
         if !is_limit_of_calls(outcome) && !self.course.is_between() {
             return Ok(Finding::Breaks(0, BreachKind::Order));

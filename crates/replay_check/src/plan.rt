@@ -9,7 +9,8 @@ ghost use Rattle.replay_check.specs.Standings.{AreBounds};
 use crate::bounds::Bounds;
 use crate::origins::first_difference;
 use crate::steps::{Ran, run_steps};
-use formula_eval::{Env, holds};
+use formula_eval::Env;
+use formula_memo::holds_once;
 use shown_plan::plan_origins;
 use std::alloc::AllocError;
 use transcript_ledger::Ledger;
@@ -75,7 +76,7 @@ pub(crate) fn judge_plan(
     };
     let mut env = Env::new(&[]);
     let goal = &bounds.task.problem.goal;
-    if !holds(bounds.task, &ledger.facts, &run.state, goal, &mut env) {
+    if !holds_once(bounds.task, &ledger.facts, &run.state, goal, &mut env) {
         return Ok(Planned::NoGoal);
     }
     if !run.costs(plan.cost) {

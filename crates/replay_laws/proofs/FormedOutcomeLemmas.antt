@@ -9,7 +9,7 @@ use Rattle.std.specs.List.{list_any, position}
 use Rattle.std.specs.Option.{option_map}
 use Rattle.std.proofs.lemmas.Bool.{true≢false}
 use Rattle.gen_lines.specs.Reply.{is_value}
-use Rattle.level_run.specs.Turns.{HasRoom}
+use Rattle.level_run.specs.Turns.{IsCostInRange}
 use Rattle.shown_plan.proofs.ShownLemmas.{valid_named}
 use Rattle.task_model.proofs.KnownLemmas.{numbers_decided}
 use Rattle.lemmas.proofs.Members.{member_at, place_of}
@@ -186,7 +186,7 @@ module _ (version : ℕ) (task : Task) (fit : IsFit task) (entries : List Entry)
   -- ---- outcomes
 
   pub outcome_formed : (limits : Limits) → limits.version ≡ version → (o : Outcome)
-      → IsTrueOutcome limits task entries o → HasRoom o
+      → IsTrueOutcome limits task entries o → IsCostInRange o
       → length (lines_text (outcome_lines version o)) < 2 ^ 31 → IsFormedOutcome version o
   outcome_formed limits same (outcome.Plan calls cost from) plan room short =
       let steps = steps_few version cost calls from in

@@ -20,7 +20,7 @@ use Rattle.stream_map.proofs.ServedLemmas.{one_place}
 use Rattle.stream_map.specs.Accepted.{Accepted}
 use Rattle.stream_map.specs.Children.{PlainPool, grid_file, numbered, plain, with_second, with_text}
 use Rattle.stream_map.specs.Faults.{map_fault, has_wrong_number, have_wrong_workers, names_unknown, own_workers, place_of}
-use Rattle.stream_map.specs.Form.{datas, each_of, has_only, if_some, is_map_key, is_pool_key, listed, map_of, name_of, names_of, pool_of, pool_with, program_of, stream_names, words_form, workers_of}
+use Rattle.stream_map.specs.Form.{datas, each_of, has_only, if_some, is_map_key, is_pool_key, listed, map_in_data, name_in_data, names_in_data, pool_of, pool_with, program_of, all_stream_names, words_form, workers_in_data}
 use Rattle.stream_map.specs.Spelled.{Spelled, begins_grid, is_program}
 use Rattle.task_model.specs.declared.stream.Stream.{Stream}
 use Rattle.task_model.specs.declared.task.Task.{Task}
@@ -107,9 +107,9 @@ pool_named d s e =
     let parts = where_true (has_only is_pool_key d) _ s e in
     let streams =
     streams_of (option_and_then program_of (get (codes "run") d))
-    (workers_of (get (codes "workers") d)) (option_and_then names_of (get (codes "streams") d)) s parts.1 in
-    let value = and_then_some names_of (get (codes "streams") d) s.streams streams in
-    let names = and_then_some if_some (listed name_of value.0) s.streams value.2 in
+    (workers_in_data (get (codes "workers") d)) (option_and_then names_in_data (get (codes "streams") d)) s parts.1 in
+    let value = and_then_some names_in_data (get (codes "streams") d) s.streams streams in
+    let names = and_then_some if_some (listed name_in_data value.0) s.streams value.2 in
     some_named names.0 s.streams names.2
 
 module _ {A B : Type 0} (f : A → Option B) (P : B → Type 0) (each : (x : A) (y : B) → f x ≡ Some y → P y) where
@@ -132,7 +132,7 @@ module _ {A B : Type 0} (f : A → Option B) (P : B → Type 0) (each : (x : A) 
   each_holds (x ∷ xs) ys e =
       more_hold x (f x) (each_of f xs) ys refl (λ zs h. each_holds xs zs h) e
 
-map_named : (d : Data) (pools : List Spelled) → map_of d ≡ Some pools → AreNamed pools
+map_named : (d : Data) (pools : List Spelled) → map_in_data d ≡ Some pools → AreNamed pools
 map_named d pools e =
     let parts = where_true (has_only is_map_key d) _ pools e in
     let value = and_then_some (listed pool_of) (get (codes "pools") d) pools parts.1 in
@@ -152,7 +152,7 @@ words_named : (task : Task) (words : List (List ℕ)) (workers : ℕ) (pools : L
 words_named task words workers pools = first (length task.streams == 0) refl (length words == 0)
   where
     pool : Spelled
-    pool = record { run = words; workers = workers; streams = stream_names task }
+    pool = record { run = words; workers = workers; streams = all_stream_names task }
 
     first : (a : Bool) → (length task.streams == 0) ≡ a → (b : Bool)
         → cond a (Some []) (cond b (Some []) (cond (is_program words) (Some (pool ∷ [])) None)) ≡ Some pools
@@ -210,14 +210,14 @@ module _ (told : Option FileMap) (w : SolveWords) (task : Task) where
       → ((spelled : List Spelled) → form ≡ Some spelled → AreNamed spelled) → Accepted task form pools
       → ArePlain (map plain pools)
   accepted_plain form pools named a =
-      subst ArePlain (sym a.pools_are) (numbered_plain (stream_names task) a.spelled a.right (named a.spelled a.form_is))
+      subst ArePlain (sym a.pools_are) (numbered_plain (all_stream_names task) a.spelled a.right (named a.spelled a.form_is))
 
   meant_plain : (path : Option (List ℕ)) (pools : List Pool) → MeansBy path told w task pools
       → ArePlain (map plain pools)
   meant_plain None pools means =
       accepted_plain (words_form task w.program w.workers) pools (words_named task w.program w.workers) means
   meant_plain (Some path) pools means =
-      accepted_plain (map_of means.so.data_of) pools (map_named means.so.data_of) means.so.accepted
+      accepted_plain (map_in_data means.so.data_of) pools (map_named means.so.data_of) means.so.accepted
 
   placed_plain : (path : Option (List ℕ)) (meant pools : List Pool) → HaveText path told meant pools
       → ArePlain (map plain meant) → ArePlain (map plain pools)

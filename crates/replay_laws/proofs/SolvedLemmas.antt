@@ -7,7 +7,7 @@ use Rattle.command_line.specs.Ranges.{AreInRange}
 use Rattle.command_line.specs.Words.{SolveWords, TaskFiles, command_of, solve}
 use Rattle.pddlstream_app.proofs.HeadsLemmas.{head_runs}
 use Rattle.pddlstream_app.proofs.RunsLemmas.{whole_is}
-use Rattle.pddlstream_app.specs.Files.{Holds}
+use Rattle.pddlstream_app.specs.Files.{FileHolds}
 use Rattle.pddlstream_app.specs.Heads.{IsHeadOf}
 use Rattle.pddlstream_app.specs.Inputs.{IsTaskOf}
 use Rattle.pddlstream_app.specs.Replays.{kind_of_verdict, verdict_text}
@@ -80,8 +80,8 @@ solved_valid files later words others outside after status end text said asked m
     (λ w. IsHeadOf (files_of outside.files.told w) (words_of w) run.task run.head) work run.headed in
     let whole = whole_text run.task run.head run.entries solved.outcome in
     let judging = judged.report in
-    let held : Holds (Some later) judged.asked.report judging.bytes = subst
-    (λ told. Holds told judged.asked.report judging.bytes) second judging.has.held in
+    let held : FileHolds (Some later) judged.asked.report judging.bytes = subst
+    (λ told. FileHolds told judged.asked.report judging.bytes) second judging.has.held in
     let both : Some judging.bytes ≡ Some text = sym held ∙ report in
     let read : judging.bytes ≡ text = cc in
     let shows : text ≡ text_of_report (report_of run.task run.head run.entries solved.outcome) = subst

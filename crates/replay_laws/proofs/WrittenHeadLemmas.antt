@@ -7,7 +7,7 @@ use Rattle.std.proofs.lemmas.Option.{slice_get_within, slice_get-map}
 use Rattle.std.specs.List.{list_any, filter_map, flat_map}
 use Rattle.std.specs.Option.{option_map}
 use Rattle.std.proofs.lemmas.Map.Keys.{any_passes_from_place}
-use Rattle.replay_check.specs.Heads.{AreFitPoolLines, IsFitHead, are_new, is_fit_pool, limits_in, served_by, share_in, workers_in}
+use Rattle.replay_check.specs.Heads.{AreFitPoolLines, IsFitReportHead, are_new, is_fit_pool, reported_limits, served_by, share_in, workers_together}
 use Rattle.pools.proofs.PoolsLemmas.{server_is}
 use Rattle.pools.specs.Pools.{Workers, workers_of}
 use Rattle.task_model.proofs.KnownLemmas.{numbers_decided}
@@ -99,7 +99,7 @@ module _ (task : Task) (fit : IsFit task) where
   -- The report binds the transcript as the run's head does.
   pub limits_same : (head : Head) (entries : List Entry) (o : Outcome)
       → All (λ (p : Pool). AreStreams task p.streams) head.pools
-      → limits_in task (report_of task head entries o) ≡ limits_of head
+      → reported_limits task (report_of task head entries o) ≡ limits_of head
   limits_same head entries o are =
       λ i. record {
         version = head.version;
@@ -121,7 +121,7 @@ module _ (task : Task) (fit : IsFit task) where
       λ i. here i ++ rest i
 
   workers_same : (pools : List Pool)
-      → workers_in (map (shown_pool task) pools) ≡ sum_by (λ (p : Pool). p.workers) pools
+      → workers_together (map (shown_pool task) pools) ≡ sum_by (λ (p : Pool). p.workers) pools
   workers_same [] = refl
   workers_same (p ∷ pools) =
       let shown = sum_by-append (λ (q : PoolLine). q.workers) (shown_pool task p ∷ []) (map (shown_pool task) pools) in
@@ -200,10 +200,10 @@ module _ (task : Task) (fit : IsFit task) where
         (streams_of (drop (suc place) head.pools)) (subst AreDistinct lists can.pools.once) in
         let new = all_new (streams_of before) p.streams
         (All-contains (λ (q : Pool). AreStreams task q.streams) head.pools p are there) apart in
-        and_four (nat_le 1 p.workers) (nat_le p.workers 16) (nat_le (workers_in (map (shown_pool task) before) + p.workers) 17)
+        and_four (nat_le 1 p.workers) (nat_le p.workers 16) (nat_le (workers_together (map (shown_pool task) before) + p.workers) 17)
         (are_new task (served_by task (map (shown_pool task) before)) (map (stream_name task) p.streams))
         (le-leb 1 p.workers own) (le-leb p.workers 16 few)
-        (le-leb (workers_in (map (shown_pool task) before) + p.workers) 17 (omega (arith, sums, first, second, shown, sum)))
+        (le-leb (workers_together (map (shown_pool task) before) + p.workers) 17 (omega (arith, sums, first, second, shown, sum)))
         (subst (λ ss. are_new task ss (map (stream_name task) p.streams) ≡ true) (sym (served_same before taken)) new)
 
     pools_fit : AreFitPoolLines task (map (shown_pool task) head.pools)
@@ -237,7 +237,7 @@ module _ (task : Task) (fit : IsFit task) where
     six a b c d e f ea eb ec ed ee ef = rw (ea, eb, ec, ed, ee, ef) refl
 
     pub head_fits : (entries : List Entry) (o : Outcome)
-        → IsFitHead task (report_of task head entries o)
+        → IsFitReportHead task (report_of task head entries o)
     head_fits entries o = record {
       mode = can.mode;
       limits = six (nat_le 1 head.calls) (nat_le head.calls 100000) (nat_le 1 head.states) (nat_le head.states 200000)

@@ -9,7 +9,7 @@ use Rattle.transcript_model.specs.declared.outcome.Outcome.{Outcome}
 use Rattle.transcript_model.specs.declared.outcome.Outcome.TheVariants as outcome
 use Rattle.transcript_model.specs.declared.report.Report.{Report}
 use Rattle.report_text.proofs.PlacesPathLemmas.{path_then, entries_path}
-use Rattle.report_reader.specs.Body.{IsEnding, ending_line, ending_place, ending_of, IsBody, body_lines, outcome_rest, IsOutcomeOf, IsFirst, first_of, IsLimits, limits_line_of}
+use Rattle.report_reader.specs.Body.{IsEnding, ending_line, ending_place, ending_of, IsBody, body_lines, outcome_rest, IsOutcomeOf, IsFirstLine, first_of, IsLimits, limits_line_of}
 use Rattle.report_reader.specs.Finding.{TakesLine, TakesAll, shown_lines, Stops}
 use Rattle.report_reader.specs.Splits.{fields_of}
 use Rattle.report_reader.specs.declared.body_line.Ending.{Ending}
@@ -24,13 +24,13 @@ Rows = List (List (List ℕ))
 
 -- ---- where the head stops
 
-pub first_stop : (old new : Rows) → TakesLine IsFirst first_of None old new → Stops first old new
+pub first_stop : (old new : Rows) → TakesLine IsFirstLine first_of None old new → Stops first old new
 first_stop old new t =
     stops_at first old new t.0 (λ e. absurd (cc))
     (λ l rest to e step. t.1 (record { version = step.0; mode = step.1 }) rest step.2
     (ap (λ (m : Line). fields_of m ∷ rest) (sym step.3) ∙ e))
 
-pub limits_stop : (f : First) (old mid new : Rows) → TakesLine IsFirst first_of (Some f) old mid
+pub limits_stop : (f : First) (old mid new : Rows) → TakesLine IsFirstLine first_of (Some f) old mid
     → TakesLine IsLimits limits_line_of None mid new → Stops first old new
 limits_stop f old mid new t none =
     stops_behind first (limits f.version) (first_of f ∷ []) old mid new (limits f.version, (f.version, f.mode, t.0, refl, refl), refl) t.1
@@ -47,7 +47,7 @@ pools_front v (p ∷ ps) all = (pools v, inl (p, all 0 p (omega arith), refl, re
 pub record HasHead (f : First) (l : Limits) (ps : List PoolLine) (old new : Rows) : Type 0 where
   pub second : Rows
   pub third : Rows
-  pub first_line : TakesLine IsFirst first_of (Some f) old second
+  pub first_line : TakesLine IsFirstLine first_of (Some f) old second
   pub limits_line : TakesLine IsLimits limits_line_of (Some l) second third
   pub pool_lines : TakesAll IsFormedPool pool_line ps third new
 

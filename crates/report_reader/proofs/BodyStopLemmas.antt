@@ -13,7 +13,7 @@ use Rattle.transcript_model.specs.declared.entry.Entry.{Entry}
 use Rattle.transcript_model.specs.declared.entry.Entry.TheVariants as entry
 use Rattle.transcript_model.specs.declared.outcome.Origin.{Origin}
 use Rattle.report_text.proofs.PlacesPathLemmas.{path_then, entries_path}
-use Rattle.report_reader.specs.Body.{HasNoEnd, IsBodyLine, body_line, first_of_lines, IsDream, dream_lines, IsEnding, ending_line, IsReportFront}
+use Rattle.report_reader.specs.Body.{HasNoEnd, IsBodyLine, body_line, first_of_lines, IsDreamEntry, dream_lines, IsEnding, ending_line, IsReportFront}
 use Rattle.report_reader.specs.Finding.{HasNo, TakesLine, TakesAll, TakesMany, TakesFewer, Stops}
 use Rattle.report_reader.specs.Splits.{fields_of}
 use Rattle.report_reader.specs.declared.body_line.BodyLine.{BodyLine}
@@ -111,7 +111,7 @@ steps_stop v uses steps us old mid new many t =
         stops_at (dream v 0 (suc m)) new new refl
         (λ e. absurd (cc)) (λ l rest to e step. t.none step.0 rest step.1 (shown_so step_line step.0 l rest new step.2 e))
 
-pub dream_whole : (v uses steps : ℕ) (e : Entry) (old mid new : Rows) → IsDream v uses steps e
+pub dream_whole : (v uses steps : ℕ) (e : Entry) (old mid new : Rows) → IsDreamEntry v uses steps e
     → map fields_of (dream_lines e) ++ new ≡ mid
     → fields_of (dream_line uses steps) ∷ mid ≡ old → IsFormedEntry v e × (map fields_of (entry_lines e) ++ new ≡ old)
 dream_whole v uses steps (entry.Dream us ss) old mid new d is first_is =

@@ -13,7 +13,7 @@ use Rattle.transcript_model.specs.declared.report.Report.{Report}
 use Rattle.report_text.proofs.FormsLemmas.{report_lines}
 use Rattle.report_text.proofs.PlacesPathLemmas.{report_path}
 use Rattle.report_text.proofs.FaultsLemmas.{stops_fault, leftover_fault, lines_report}
-use Rattle.report_reader.specs.Finding.{IsHeld, Stops}
+use Rattle.report_reader.specs.Finding.{IsReadingStuck, Stops}
 use Rattle.report_reader.specs.Splits.{field_lines, fields_of}
 use Rattle.report_reader.proofs.SplitsLemmas.{cut_fields, joined_lines}
 use Rattle.report_reader.proofs.SplitsCutLemmas.{lines_count}
@@ -30,7 +30,7 @@ parts f (t ∷ texts) (x ∷ xs) ys e =
     (omega (arith, rest.0), (λ i. here i ∷ rest.1 i), rest.2)
 
 stuck_text : (at : Place) (texts : List (List ℕ)) (new : List (List (List ℕ)))
-    → map (slice_split is_space) texts ≡ new → IsHeld at new
+    → map (slice_split is_space) texts ≡ new → IsReadingStuck at new
     → IsStuck at texts
 stuck_text at [] new e held = held.last (sym e)
 stuck_text at (t ∷ texts) new e held =

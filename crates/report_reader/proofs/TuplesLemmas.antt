@@ -12,7 +12,7 @@ use Rattle.std.proofs.lemmas.List.Sums.{sum_by-append}
 use Rattle.gen_lines.specs.Reply.{is_value, is_value_byte}
 use Rattle.report_text.specs.Forms.{AreTuples}
 use Rattle.report_text.specs.Texts.{tuples_of, tuple_fields}
-use Rattle.report_reader.specs.Tuples.{is_bar, IsValue, HasTaken, HasTuples, TakesTuples, AreBars, HasShape, AreNoTuples}
+use Rattle.report_reader.specs.Tuples.{is_bar_field, IsValue, HasTaken, HasTuples, TakesTuples, AreBars, HasShape, AreNoTuples}
 
 -- ---- lists
 
@@ -132,7 +132,7 @@ more_tuples width (suc b) found before mid after given left fields taken some ba
 
 -- ---- the shape
 
-value_no_bar : (value : List ℕ) → is_value value ≡ true → is_bar value ≡ false
+value_no_bar : (value : List ℕ) → is_value value ≡ true → is_bar_field value ≡ false
 unfolding is_value
 value_no_bar [] e = absurd (cc)
 value_no_bar (b ∷ bs) e =
@@ -144,14 +144,19 @@ value_no_bar (b ∷ bs) e =
       | false ↦ λ _. refl
     ] refl
 
-no_bars : (values : List (List ℕ)) → All IsValue values → count_by is_bar values ≡ 0
+no_bars : (values : List (List ℕ)) → All IsValue values → count_by is_bar_field values ≡ 0
 no_bars [] all = refl
 no_bars (v ∷ values) all =
-    let one : count_by is_bar (v ∷ []) ≡ 0 = ap (λ b. 0 + cond b 1 0) (value_no_bar v (all 0 v (omega arith))) in
-    omega (arith, sum_by-append (λ y. cond (is_bar y) 1 0) (v ∷ []) values, one, no_bars values (λ k d within. all (suc k) d (omega arith)))
+    let one : count_by is_bar_field (v ∷ []) ≡ 0 = ap (λ b. 0 + cond b 1 0) (value_no_bar v (all 0 v (omega arith))) in
+    omega (
+      arith,
+      sum_by-append (λ y. cond (is_bar_field y) 1 0) (v ∷ []) values,
+      one,
+      no_bars values (λ k d within. all (suc k) d (omega arith)),
+    )
 
 counted : (width bars : ℕ) (values : List (List ℕ)) → All IsValue values
-    → (count_by is_bar (tuples_of width bars values) ≡ bars) × (length (tuples_of width bars values) ≡ length values + bars)
+    → (count_by is_bar_field (tuples_of width bars values) ≡ bars) × (length (tuples_of width bars values) ≡ length values + bars)
 counted width zero values all = (no_bars values all, omega arith)
 counted width (suc b) values all =
     let front = take width values in
@@ -159,16 +164,17 @@ counted width (suc b) values all =
     let later = tuples_of width b behind in
     let rest = counted width b behind (All-drop IsValue width values all) in
     let both : length (front ++ behind) ≡ length values = ap length (take-append-drop width values) in (
-      sums later (sum_by-append (λ y. cond (is_bar y) 1 0) front (codes "|" ∷ later))
-          (sum_by-append (λ y. cond (is_bar y) 1 0) (codes "|" ∷ []) later) (no_bars front (All-take IsValue width values all)) rest.0,
+      sums later (sum_by-append (λ y. cond (is_bar_field y) 1 0) front (codes "|" ∷ later))
+          (sum_by-append (λ y. cond (is_bar_field y) 1 0) (codes "|" ∷ []) later)
+          (no_bars front (All-take IsValue width values all)) rest.0,
       omega (arith, both, length-append front behind, length-append front (codes "|" ∷ later), rest.1),
     )
   where
     sums : (later : List (List ℕ))
-        → count_by is_bar (take width values ++ codes "|" ∷ later)
-        ≡ count_by is_bar (take width values) + count_by is_bar (codes "|" ∷ later)
-        → count_by is_bar (codes "|" ∷ later) ≡ 1 + count_by is_bar later → count_by is_bar (take width values) ≡ 0
-        → count_by is_bar later ≡ b → count_by is_bar (take width values ++ codes "|" ∷ later) ≡ suc b
+        → count_by is_bar_field (take width values ++ codes "|" ∷ later)
+        ≡ count_by is_bar_field (take width values) + count_by is_bar_field (codes "|" ∷ later)
+        → count_by is_bar_field (codes "|" ∷ later) ≡ 1 + count_by is_bar_field later → count_by is_bar_field (take width values) ≡ 0
+        → count_by is_bar_field later ≡ b → count_by is_bar_field (take width values ++ codes "|" ∷ later) ≡ suc b
     sums later whole one front rest = omega (arith, whole, one, front, rest)
 
 -- what tuples that may stand say of the numbers of bars and fields
@@ -187,7 +193,7 @@ fits version tuples bars values given t is b =
     let numbers = counted (length values / tuples) (tuples - 1) values t.each in
     let bars_is : bars ≡ tuples - 1 = elim (version == 1) as (λ c. (version == 1) ≡ c → bars ≡ tuples - 1) [
       | true ↦ λ e. let one = eqb-true version 1 e in omega (arith, b.none one, t.one one)
-      | false ↦ λ e. b.all (is_one version e) ∙ ap (count_by is_bar) (sym is) ∙ numbers.0
+      | false ↦ λ e. b.all (is_one version e) ∙ ap (count_by is_bar_field) (sym is) ∙ numbers.0
     ] refl in
     record { count = omega (arith, bars_is, t.some); size = ap length (sym is) ∙ numbers.1 ∙ ap (λ n. length values + n) (sym bars_is) }
 

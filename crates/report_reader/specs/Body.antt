@@ -106,10 +106,10 @@ IsBodyLineOf version w b = IsBodyLine version b × (word_of_line b ≡ w)
 -- ---- entries, and the line that ends them
 
 -- a dream of so many entries and steps
-abbrev pub IsDream : ℕ → ℕ → ℕ → Entry → Type 0
-IsDream version uses steps (entry.Dream us ss) =
+abbrev pub IsDreamEntry : ℕ → ℕ → ℕ → Entry → Type 0
+IsDreamEntry version uses steps (entry.Dream us ss) =
     IsFormedEntry version (entry.Dream us ss) × (length us ≡ uses) × (length ss ≡ steps)
-IsDream version uses steps e = ⊥
+IsDreamEntry version uses steps e = ⊥
 
 -- the lines behind its first one
 abbrev pub dream_lines : Entry → List Line
@@ -179,8 +179,8 @@ tuple_shown version tuple = if version == 1 then [] else decimal tuple ∷ []
 abbrev pub IsVersion : ℕ → Type 0
 IsVersion version = (version ≡ 1) ⊎ (version ≡ 2)
 
-abbrev pub IsFirst : First → Type 0
-IsFirst f = IsVersion f.version
+abbrev pub IsFirstLine : First → Type 0
+IsFirstLine f = IsVersion f.version
 
 abbrev pub first_of : First → Line
 first_of f = first_line f.version f.mode

@@ -67,7 +67,7 @@ TakesCounted IsFormed line_of count None old new = TakesFewer IsFormed line_of c
 -- ---- where a reader stops
 
 -- the next line may not stand at the place, or it is missing where one has to come
-pub record IsHeld (at : Place) (lines : List (List (List ℕ))) : Type 0 where
+pub record IsReadingStuck (at : Place) (lines : List (List (List ℕ))) : Type 0 where
   pub next : (l : Line) (rest : List (List (List ℕ))) (to : Place) → fields_of l ∷ rest ≡ lines
       → ¬ (IsLineStep at l to)
   pub last : lines ≡ [] → ¬ (at ≡ behind)
@@ -78,7 +78,7 @@ pub record Stops (from : Place) (old new : List (List (List ℕ))) : Type 0 wher
   pub at : Place
   pub path : IsPath from passed at
   pub lines : map fields_of passed ++ new ≡ old
-  pub held : IsHeld at new
+  pub held : IsReadingStuck at new
 
 -- an item of the form that was in these lines, or that a line may not stand where it is
 abbrev pub PartReads : {X : Type 0} → Place → (X → Type 0) → (X → List Line) → Option X

@@ -6,8 +6,8 @@ use Rattle.report_text.specs.Forms.{AreTuples}
 use Rattle.report_text.specs.Texts.{tuples_of, tuple_fields}
 use Rattle.report_reader.specs.declared.tuples.Shape.{Shape}
 
-abbrev pub is_bar : List ℕ → Bool
-is_bar field = bytes_eq field (codes "|")
+abbrev pub is_bar_field : List ℕ → Bool
+is_bar_field field = bytes_eq field (codes "|")
 
 abbrev pub IsValue : List ℕ → Type 0
 IsValue value = is_value value ≡ true
@@ -42,7 +42,7 @@ TakesTuples width bars false before values given =
 -- how many bars part tuples: none in version 1
 pub record AreBars (version bars : ℕ) (given : List (List ℕ)) : Type 0 where
   pub none : version ≡ 1 → bars ≡ 0
-  pub all : ¬ (version ≡ 1) → bars ≡ count_by is_bar given
+  pub all : ¬ (version ≡ 1) → bars ≡ count_by is_bar_field given
 
 -- the bars, and how many values each tuple has
 pub record HasShape (version bars width : ℕ) (given : List (List ℕ)) : Type 0 where

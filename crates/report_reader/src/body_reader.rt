@@ -3,7 +3,7 @@ ghost use Rattle.std.specs.Prelude.{ℕ, ◌∷◌, IfOk};
 ghost use Rattle.report_text.specs.Forms.{IsFormedUse, IsFormedCall, IsTerm};
 ghost use Rattle.report_text.specs.Places.{entries, dreaming};
 ghost use Rattle.report_text.specs.Texts.{use_line, use_line, call_fields, line};
-ghost use Rattle.report_reader.specs.Body.{IsBodyLine, body_line, IsBody, body_lines, IsReportPart, part_lines, IsDream, dream_lines};
+ghost use Rattle.report_reader.specs.Body.{IsBodyLine, body_line, IsBody, body_lines, IsReportPart, part_lines, IsDreamEntry, dream_lines};
 ghost use Rattle.report_reader.specs.Finding.{Finds, PartReads, TakesCounted, TakesLine};
 ghost use Rattle.report_reader.specs.Splits.{fields_of};
 
@@ -98,8 +98,8 @@ fn dream_in(
     lines: &mut Lines<'_>,
 ) -> Result<Option<Entry>, AllocError>
     ensures { IfOk result (λ found. (version : ℕ)
-        → PartReads (dreaming version uses steps) (IsDream version uses steps) dream_lines found
-        lines.old lines.new) }
+        → PartReads (dreaming version uses steps) (IsDreamEntry version uses steps) dream_lines
+        found lines.old lines.new) }
 {
     let Some(uses) = uses_in(alloc, uses, lines)? else {
         return Ok(None);

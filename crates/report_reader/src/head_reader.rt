@@ -4,7 +4,7 @@ ghost use Rattle.std.specs.Fmt.{decimal};
 ghost use Rattle.report_text.specs.Forms.{IsFormedPool};
 ghost use Rattle.report_text.specs.Texts.{mode_word, pool_line};
 ghost use Rattle.transcript_model.specs.declared.head.Mode.{Mode};
-ghost use Rattle.report_reader.specs.Body.{IsFirst, IsLimits, first_of, limits_line_of, IsVersion};
+ghost use Rattle.report_reader.specs.Body.{IsFirstLine, IsLimits, first_of, limits_line_of, IsVersion};
 ghost use Rattle.report_reader.specs.Finding.{Finds, TakesFields, TakesAll, TakesLine};
 ghost use Rattle.report_reader.specs.Splits.{fields_of};
 
@@ -32,7 +32,7 @@ pub(crate) struct Limits {
 
 /// What the next line says as the first one.
 pub(crate) fn next_first(lines: &mut Lines<'_>) -> Option<First>
-    ensures { TakesLine IsFirst first_of result lines.old lines.new }
+    ensures { TakesLine IsFirstLine first_of result lines.old lines.new }
 {
     let mut fields = lines.front()?;
     let first = first_in(&mut fields)?;
@@ -41,7 +41,7 @@ pub(crate) fn next_first(lines: &mut Lines<'_>) -> Option<First>
 }
 
 fn first_in(fields: &mut Fields<'_>) -> Option<First>
-    ensures { Finds IsFirst (λ f. fields_of (first_of f)) result fields.old }
+    ensures { Finds IsFirstLine (λ f. fields_of (first_of f)) result fields.old }
 {
     if !fields.begin_with(b"pddlstream") {
         return None;

@@ -16,4 +16,4 @@ mod reader;
 mod tuples;
 mod whole;
 
-pub use reader::read_report;
+pub use reader::{REPORT_BYTES, read_report};

@@ -1,21 +1,19 @@
 //! The names, values and objects that a report may show.
 ghost use Rattle.std.specs.Prelude.{◌≡◌, ◌↔◌, true, IfOk, position};
 ghost use Rattle.std.specs.List.{list_all};
-ghost use Rattle.gen_lines.specs.Reply.{is_value, is_value_byte};
+ghost use Rattle.gen_lines.specs.Reply.{is_value};
 ghost use Rattle.task_model.specs.Fit.{is_name, is_name_byte};
 ghost use Rattle.report_text.specs.Forms.{IsGenerated, IsObject, IsPlaceholder};
 ghost use Rattle.report_reader.specs.Objects.{AreTwoPlaces, IsArgument, IsPlaceNumber, is_dot};
 
 use crate::bytes::{before, behind};
 use crate::numbers::number_in;
+use gen_lines::is_value;
 use std::alloc::{AllocError, Global};
 use task_model::Name;
 
 /// The longest name, in bytes.
 const NAME_BYTES: usize = 255;
-
-/// The longest value, in bytes.
-const VALUE_BYTES: usize = 64;
 
 /// The largest number.
 const LARGEST: u64 = 4_294_967_295;
@@ -51,26 +49,6 @@ fn is_name_byte(b: u8) -> bool
     ensures { result ≡ is_name_byte b }
 {
     matches!(b, b'a'..=b'z' | b'0'..=b'9' | b'-' | b'_')
-}
-
-/// Whether this is a value of a generator.
-#[tactic(auto, unfolding(gen_lines::specs::Reply::is_value))]
-pub(crate) fn is_value(field: &[u8]) -> bool
-    ensures { result ≡ is_value field.now }
-{
-    !field.is_empty() && field.len() <= VALUE_BYTES && are_value_bytes(field)
-}
-
-fn are_value_bytes(field: &[u8]) -> bool
-    ensures { result ≡ list_all is_value_byte field.now }
-{
-    field.iter().all(|b| is_value_byte(*b))
-}
-
-fn is_value_byte(b: u8) -> bool
-    ensures { result ≡ is_value_byte b }
-{
-    matches!(b, b'!'..=b'~') && !matches!(b, b'(' | b')' | b';' | b'#' | b'@' | b'|')
 }
 
 /// Whether this is `#` and a value.

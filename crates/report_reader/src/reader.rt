@@ -11,6 +11,9 @@ use report_text::ReportFault;
 use std::alloc::Global;
 use transcript_model::Report;
 
+/// The longest report that a command takes, in bytes: 256 MiB (this project's).
+pub const REPORT_BYTES: usize = 268_435_456;
+
 /// The kind of a fault of the text.
 const TEXT: u8 = 1;
 

@@ -3,10 +3,11 @@ ghost use Rattle.std.specs.Prelude.{◌≡◌, ◌≤◌, IfOk, length, count_by
 ghost use Rattle.report_text.specs.Forms.{AreTuples};
 ghost use Rattle.report_text.specs.Texts.{tuple_fields};
 ghost use Rattle.report_reader.specs.Finding.{Finds};
-ghost use Rattle.report_reader.specs.Tuples.{is_bar, AreBars, IsShape, TakesValues, TakesTuples};
+ghost use Rattle.report_reader.specs.Tuples.{is_bar_field, AreBars, IsShape, TakesValues, TakesTuples};
 
 use crate::fields::Fields;
-use crate::objects::{copied, is_value};
+use crate::objects::copied;
+use gen_lines::is_value;
 use std::alloc::{AllocError, Global};
 use task_model::{Name, Seq};
 
@@ -82,7 +83,7 @@ fn bars_of(version: u8, fields: &Fields<'_>) -> usize
 
 /// How many fields are bars.
 fn bars_in(fields: &Fields<'_>) -> usize
-    ensures { result ≡ count_by is_bar fields.now }
+    ensures { result ≡ count_by is_bar_field fields.now }
 {
     let mut bars = 0;
     let mut rest = fields.again();

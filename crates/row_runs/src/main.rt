@@ -11,7 +11,7 @@ use std::io;
 use std::process::ExitCode;
 
 /// The files of rows, in the order in which they are run.
-const SUBJECTS: [&str; 11] = [
+const SUBJECTS: [&str; 12] = [
     "outcomes.rows",
     "limits.rows",
     "faults.rows",
@@ -23,6 +23,7 @@ const SUBJECTS: [&str; 11] = [
     "replays.rows",
     "made.rows",
     "walks.rows",
+    "searches.rows",
 ];
 
 /// The most bytes of a file of rows.

@@ -6,7 +6,7 @@ use Rattle.search_tests.specs.declared.outcome.Outcome.{Outcome}
 use Rattle.search_tests.specs.declared.outcome.Outcome.TheVariants.{Plan, Nothing, Limit}
 
 -- a plan's number of steps and its cost
-abbrev pub outcome_of : Found → Outcome
-outcome_of (found.Plan plan cost) = Plan (length plan.steps) cost
-outcome_of found.Nothing = Nothing
-outcome_of found.Limit = Limit
+abbrev pub search_outcome : Found → Outcome
+search_outcome (found.Plan plan cost) = Plan (length plan.steps) cost
+search_outcome found.Nothing = Nothing
+search_outcome found.Limit = Limit

@@ -20,11 +20,11 @@ pub enum Outcome {
 }
 
 impl Outcome {
-    ghost use Rattle.search_tests.specs.Outcomes.{outcome_of};
+    ghost use Rattle.search_tests.specs.Outcomes.{search_outcome};
 
     /// What the search came to.
     pub fn of(found: &Found) -> Outcome
-        ensures { result ≡ outcome_of found.now }
+        ensures { result ≡ search_outcome found.now }
     {
         match found {
             Found::Plan(plan, cost) => Outcome::Plan {

@@ -8,8 +8,8 @@ use Rattle.gen_lines.specs.Reply as reply
 use Rattle.gen_lines.specs.Reply.{Reply, reply_of}
 use Rattle.lemmas.specs.Lists.{AreDistinct}
 use Rattle.transcript_model.specs.declared.entry.Entry.{Entry}
-use Rattle.session_core.specs.Events.{Event, sends, says, change_by, after, IsPlayed, lines_of, IsFresh, own_answer, AnswersAreOwn, OrderDoesNotMatter, EachSaysOne}
-use Rattle.session_core.specs.Slots.{Slot, sent_slot, heard_slot, is_slot_of, slot_of, entry_of, fault_of, reply_to, answers_of}
+use Rattle.session_core.specs.Events.{Event, sends, says, change_by, after, IsPlayed, lines_said, IsFresh, own_answer, AnswersAreOwn, OrderDoesNotMatter, EachSaysOne}
+use Rattle.session_core.specs.Slots.{Slot, sent_slot, heard_slot, is_slot_of, slot_of, replied_entry, reply_fault, reply_to, answers_of}
 use Rattle.session_core.proofs.SlotsLemmas.{children_of, map_at, at_own, at_other, child_kept, children_kept, slot_of-map, own_slot, answered_at, slot_place}
 
 -- a slot after the events
@@ -34,15 +34,15 @@ after_each slots (e ∷ events) =
 
 -- what still comes to a slot: nothing if it is answered, and else its one line
 abbrev OutcomeBy : Option Entry → Bool → Slot → List Event → Type 0
-OutcomeBy (Some e) sent s events = (lines_of s.child events ≡ []) × (slot_after s events ≡ s)
+OutcomeBy (Some e) sent s events = (lines_said s.child events ≡ []) × (slot_after s events ≡ s)
 OutcomeBy None true s events =
-    (line : List ℕ) × (lines_of s.child events ≡ line ∷ [])
+    (line : List ℕ) × (lines_said s.child events ≡ line ∷ [])
     × (slot_after s events ≡ heard_slot line s)
 OutcomeBy None false s events =
-    (line : List ℕ) × (lines_of s.child events ≡ line ∷ []) × (slot_after s events ≡ heard_slot line (sent_slot s))
+    (line : List ℕ) × (lines_said s.child events ≡ line ∷ []) × (slot_after s events ≡ heard_slot line (sent_slot s))
 
 carry : (a : Option Entry) (b : Bool) (s : Slot) (es fs : List Event)
-    → lines_of s.child fs ≡ lines_of s.child es
+    → lines_said s.child fs ≡ lines_said s.child es
     → slot_after s fs ≡ slot_after s es → OutcomeBy a b s es → OutcomeBy a b s fs
 carry (Some e) b s es fs lines ends o = (lines ∙ o.0, ends ∙ o.1)
 carry None true s es fs lines ends o = (o.0, lines ∙ o.1, ends ∙ o.2)
@@ -52,7 +52,7 @@ answered_end : (a : Option Entry) (b : Bool) (s : Slot) → is_none a ≡ false 
 answered_end (Some e) b s some = (refl, refl)
 answered_end None b s some = absurd (cc)
 
-has_entry : (n : ℕ) (r : Reply) → fault_of r ≡ None → (e : Entry) × (entry_of n r ≡ Some e)
+has_entry : (n : ℕ) (r : Reply) → reply_fault r ≡ None → (e : Entry) × (replied_entry n r ≡ Some e)
 has_entry n (reply.yields tuples values) none = (_, refl)
 has_entry n (reply.number value) none = (_, refl)
 has_entry n reply.ends none = (_, refl)
@@ -71,14 +71,14 @@ module _ (s : Slot) where
 
   -- the slot's own line is heard
   heard_own : (line : List ℕ) (events : List Event) (e : Entry) → s.answer ≡ None → s.sent ≡ true
-      → entry_of s.number (reply_to line s) ≡ Some e → OutcomeBy (heard_slot line s).answer s.sent (heard_slot line s) events
+      → replied_entry s.number (reply_to line s) ≡ Some e → OutcomeBy (heard_slot line s).answer s.sent (heard_slot line s) events
       → OutcomeBy s.answer s.sent s (says s.child line ∷ events)
   heard_own line events e none sent is o =
       let r = subst (λ a. OutcomeBy a s.sent (heard_slot line s) events) is o in
       let same = eq-eqb s.child s.child refl in
       let own : change_by (says s.child line) s ≡ heard_slot line s = at_own s.child (heard_slot line) s same in
-      let lines : lines_of s.child (says s.child line ∷ events) ≡ line ∷ [] =
-      ap (λ b. cond b (line ∷ lines_of s.child events) (lines_of s.child events)) same ∙ ap (λ ls. line ∷ ls) r.0 in
+      let lines : lines_said s.child (says s.child line ∷ events) ≡ line ∷ [] =
+      ap (λ b. cond b (line ∷ lines_said s.child events) (lines_said s.child events)) same ∙ ap (λ ls. line ∷ ls) r.0 in
       subst (λ a. OutcomeBy a s.sent s (says s.child line ∷ events)) (sym none)
       (subst (λ b. OutcomeBy None b s (says s.child line ∷ events)) (sym sent) (line, lines, ap (λ t. slot_after t events) own ∙ r.1))
 
@@ -94,7 +94,7 @@ module _ (s : Slot) where
       → OutcomeBy s.answer s.sent s (says child line ∷ events)
   heard_other child line events apart o =
       carry s.answer s.sent s events (says child line ∷ events)
-      (ap (λ b. cond b (line ∷ lines_of s.child events) (lines_of s.child events)) apart)
+      (ap (λ b. cond b (line ∷ lines_said s.child events) (lines_said s.child events)) apart)
       (ap (λ t. slot_after t events) (at_other child (heard_slot line) s apart)) o
 
 -- the slot in the changed list
@@ -137,7 +137,7 @@ outcome slots (says child line ∷ events) d played s at =
           let same : u.slot ≡ s = same_some (slot_of slots child) u.slot s u.found (ap (slot_of slots) (sym here) ∙ at) in
           let none : s.answer ≡ None = ap (λ (t : Slot). t.answer) (sym same) ∙ u.open_still in
           let sent : s.sent ≡ true = ap (λ (t : Slot). t.sent) (sym same) ∙ u.sent in
-          let good = has_entry s.number (reply_to line s) (ap (λ t. fault_of (reply_to line t)) (sym same) ∙ played.0.2) in
+          let good = has_entry s.number (reply_to line s) (ap (λ t. reply_fault (reply_to line t)) (sym same) ∙ played.0.2) in
           subst (λ c. OutcomeBy s.answer s.sent s (says c line ∷ events)) here
           (heard_own s line events good.0 none sent good.1
           (next (heard_slot line s)
@@ -151,7 +151,7 @@ outcome slots (says child line ∷ events) d played s at =
 -- the one line of a slot's child, and the slot in the end
 record Plays (s : Slot) (events : List Event) : Type 0 where
   line : List ℕ
-  lines : lines_of s.child events ≡ line ∷ []
+  lines : lines_said s.child events ≡ line ∷ []
   ends : slot_after s events ≡ heard_slot line (sent_slot s)
 
 plays : (slots : List Slot) (events : List Event) → IsFresh slots → IsPlayed slots events
@@ -189,8 +189,8 @@ answers_are_own slots events fresh played =
     let p = plays slots events fresh played k s at in
     ap (λ (t : Slot). t.answer) p.ends ∙ sym (own_is events s p.line p.lines))
   where
-    own_is : (events : List Event) (s : Slot) (line : List ℕ) → lines_of s.child events ≡ line ∷ []
-        → own_answer events s ≡ entry_of s.number (reply_of line s.wanted)
+    own_is : (events : List Event) (s : Slot) (line : List ℕ) → lines_said s.child events ≡ line ∷ []
+        → own_answer events s ≡ replied_entry s.number (reply_of line s.wanted)
     own_is events s line e = rw e refl
 
 pub order_does_not_matter : OrderDoesNotMatter

@@ -1,15 +1,12 @@
 -- Asks that wait for their round stay due while others are answered.
-use Rattle.std.proofs.Common.{◌≡◌, ℕ, zero, suc, ◌+◌, ◌≤◌, Bool, true, false, ◌&&◌, ◌||◌, List, [], ◌∷◌, ◌++◌, length, take, drop, refl, sym, ap, subst, ◌∙◌, Option, Some, None, slice_get, arith, All, Contains, append_assoc, option_map, nat_lt}
+use Rattle.std.proofs.Common.{◌≡◌, ℕ, zero, suc, ◌+◌, ◌≤◌, true, false, ◌&&◌, ◌||◌, List, [], ◌∷◌, ◌++◌, length, take, drop, refl, sym, ap, subst, ◌∙◌, Option, Some, None, slice_get, arith, All, Contains, append_assoc, option_map, nat_lt}
 use Rattle.std.proofs.Math.ListN.{take-append-drop}
 use Rattle.std.proofs.Math.Seq.{take-length}
-use Rattle.std.proofs.lemmas.Bool.{ltb-true, ltb-false, and_from}
+use Rattle.std.proofs.lemmas.Bool.{and_from}
 use Rattle.std.proofs.lemmas.List.{append-nil, map-append}
 use Rattle.std.proofs.lemmas.List.Elements.{All-head, All-tail, All-take, All-drop, All-replicate, Contains-append_left, Contains-append_right, All-nil, All-cons}
-use Rattle.std.proofs.lemmas.Option.{slice_get_within, slice_get-map}
-use Rattle.std.specs.Cmp.{first_so, second_so, IsTotalOrder}
-use Rattle.std.specs.declared.cmp.Ordering.{Ordering}
-use Rattle.std.specs.declared.cmp.Ordering.TheVariants.{Less, Greater}
-use Rattle.std.specs.Ordering.{ordering_reverse}
+use Rattle.std.proofs.lemmas.Option.{slice_get-map}
+use Rattle.std.specs.Cmp.{first_so, second_so}
 use Rattle.std.specs.List.{flat_map, list_any, list_all, cons_option}
 use Rattle.std.proofs.lemmas.List.Concat.{flat_map-append}
 use Rattle.gen_lines.specs.Reply as reply
@@ -21,11 +18,11 @@ use Rattle.instance_queue.specs.declared.due.Due.{Due}
 use Rattle.instance_queue.specs.declared.queue.Tally.{Tally}
 use Rattle.task_model.proofs.KnownLemmas.{with_facts-is, fact_member}
 use Rattle.task_model.proofs.StreamsLemmas.{instances_apart, instances_total}
-use Rattle.lemmas.proofs.Members.{member_at, place_of, get_append, get_behind}
+use Rattle.lemmas.proofs.Members.{member_at, get_behind}
 use Rattle.lemmas.proofs.ListTests.{all_one}
-use Rattle.lemmas.proofs.Ascending.{contains_here, contains_later, less_greater}
+use Rattle.lemmas.proofs.Ascending.{contains_here, contains_later}
 use Rattle.task_model.specs.Known.{Known, is_fact, with_facts, type_fact}
-use Rattle.lemmas.specs.Lists.{AreDistinct, AreAscending}
+use Rattle.lemmas.specs.Lists.{AreDistinct}
 use Rattle.task_model.specs.Streams.{Note, Yielded, Ended, IsDue, is_reachable, is_end_of, is_yield_of, is_test, instance_cmp, yields_of, fact_of}
 use Rattle.task_model.specs.Truth.{have_types, has_type, slots_of}
 use Rattle.task_model.specs.declared.domain.Pattern.{Pattern}
@@ -40,29 +37,13 @@ use Rattle.transcript_model.specs.declared.entry.Entry.{Entry}
 use Rattle.transcript_model.specs.declared.entry.Entry.TheVariants as entry
 use Rattle.session_core.proofs.RoundCloseLemmas.{close_kept}
 use Rattle.transcript_model.specs.Legal.{answered_number}
-use Rattle.session_core.specs.Ready.{AreReady, IsNextRound}
+use Rattle.session_core.specs.Ready.{AreReady, IsNextRound, AreAskable}
 use Rattle.session_core.specs.Session.{IsSession, IsLearnt, AreSlotsFor, Asks, MayBeginRound}
-use Rattle.session_core.specs.Slots.{Slot, asks_from, entry_of, answers_of, all_answered}
+use Rattle.session_core.specs.Slots.{Slot, asks_from, replied_entry, answers_of, all_answered}
 use Rattle.session_core.specs.State.{State, after_close}
+use Rattle.lemmas.proofs.Distinct.{ascending_distinct, distinct_apart, distinct_left, distinct_right}
 
 -- ---- lists
-
-distinct_left : {A : Type 0} (xs ys : List A) → AreDistinct (xs ++ ys) → AreDistinct xs
-distinct_left xs ys distinct i j x at_i at_j =
-    distinct i j x (get_append xs ys i x at_i) (get_append xs ys j x at_j)
-
-distinct_right : {A : Type 0} (xs ys : List A) → AreDistinct (xs ++ ys) → AreDistinct ys
-distinct_right xs ys distinct i j x at_i at_j =
-    let same = distinct (length xs + i) (length xs + j) x (get_behind xs ys i x at_i) (get_behind xs ys j x at_j) in
-    omega (arith, same)
-
-distinct_apart : {A : Type 0} (xs ys : List A) (x : A) → AreDistinct (xs ++ ys) → Contains xs x
-    → Contains ys x → ⊥
-distinct_apart xs ys x distinct first second =
-    let a = place_of xs x first in
-    let b = place_of ys x second in
-    let same = distinct a.0 (length xs + b.0) x (get_append xs ys a.0 x a.1) (get_behind xs ys b.0 x b.1) in
-    omega (arith, same, slice_get_within xs a.0 x a.1)
 
 two_parts : (n : ℕ) (dues : List Due)
     → instances_of dues ≡ instances_of (take n dues) ++ instances_of (drop n dues)
@@ -71,20 +52,6 @@ two_parts n dues =
     ∙ map-append (λ (d : Due). d.instance) (take n dues) (drop n dues)
 
 -- ---- levels
-
-less_apart : {A : Type 0} (cmp : A → A → Ordering) → IsTotalOrder cmp → (x : A) → cmp x x ≡ Less → ⊥
-less_apart cmp total x less =
-    let turned : Less ≡ Greater = sym less ∙ total.antisymm x x ∙ ap ordering_reverse less in absurd (less_greater turned)
-
-ascending_distinct : {A : Type 0} (cmp : A → A → Ordering) → IsTotalOrder cmp → (xs : List A)
-    → AreAscending cmp xs → AreDistinct xs
-ascending_distinct cmp total xs ascends i j x at_i at_j = by (nat_lt i j) refl (nat_lt j i) refl
-  where
-    by : (a : Bool) → nat_lt i j ≡ a → (b : Bool) → nat_lt j i ≡ b → i ≡ j
-    by true lt b e = absurd (less_apart cmp total x (ascends i j x x (ltb-true i j lt) at_i at_j))
-    by false ge true lt =
-        absurd (less_apart cmp total x (ascends j i x x (ltb-true j i lt) at_j at_i))
-    by false ge false le = omega (arith, ltb-false i j ge, ltb-false j i le)
 
 pub level_ready : (task : Task) (entries : List Entry) (dues : List Due)
     → AreDueInTurn task (known_of task entries) (notes_of task entries) dues → AreReady task entries dues
@@ -108,14 +75,14 @@ may_begin task s dues count h works learnt ready next =
     let parts = two_parts count dues in
     record {
       ready = learnt;
-      due = λ i m.
-          subst (λ k. IsDue task k s.notes i) (sym known)
-          (subst (λ ns. IsDue task (known_of task s.entries) ns i) (sym notes)
-          (ready.due i
-          (subst (λ is. Contains is i) (sym parts) (Contains-append_left (instances_of front) (instances_of (drop count dues)) i m))));
-      turns = subst (λ ns. All (λ (d : Due). d.turn ≡ yields_of ns d.instance) front)
-          (sym notes) (All-take (λ (d : Due). d.turn ≡ yields_of (notes_of task s.entries) d.instance) count dues ready.turns);
-      distinct = distinct_left (instances_of front) (instances_of (drop count dues)) (subst AreDistinct parts ready.distinct);
+      askable = subst (λ k. AreAskable task k s.notes front) (sym known)
+          (subst (λ ns. AreAskable task (known_of task s.entries) ns front) (sym notes)
+          (record {
+            due = λ i m. ready.due i
+                (subst (λ is. Contains is i) (sym parts) (Contains-append_left (instances_of front) (instances_of (drop count dues)) i m));
+            turns = All-take (λ (d : Due). d.turn ≡ yields_of (notes_of task s.entries) d.instance) count dues ready.turns;
+            distinct = distinct_left (instances_of front) (instances_of (drop count dues)) (subst AreDistinct parts ready.distinct);
+          }));
       fit = next.fit;
       left = omega (arith, next.left, length-front);
     }
@@ -172,7 +139,7 @@ tally_apart notes (m ∷ ms) i all =
 
 -- ---- the answers of a round
 
-entry_number : (n : ℕ) (r : Reply) (e : Entry) → entry_of n r ≡ Some e → answered_number e ≡ Some n
+entry_number : (n : ℕ) (r : Reply) (e : Entry) → replied_entry n r ≡ Some e → answered_number e ≡ Some n
 entry_number n (reply.yields tuples values) e is =
     let same : entry.Got n tuples values ≡ e = cc in ap answered_number (sym same)
 entry_number n (reply.number value) e is =

@@ -7,25 +7,25 @@ use Rattle.instance_queue.specs.declared.due.Due.{Due}
 use Rattle.pools.specs.Pools.{IsLongestFront, shares_of}
 use Rattle.task_model.specs.declared.stream.Instance.{Instance}
 use Rattle.transcript_model.specs.Rounds.{IsFull, fits}
-use Rattle.session_core.specs.Ready.{IsNextRound, calls_left}
+use Rattle.session_core.specs.Ready.{IsNextRound, session_calls_left}
 use Rattle.session_core.specs.State.{State}
 
 -- the round of those for which calls are left
 pub next_is : (s : State) (dues : List Due) (most count : ℕ) → length s.asked ≤ s.calls
-    → most ≡ min (length dues) (calls_left s)
+    → most ≡ min (length dues) (session_calls_left s)
     → IsLongestFront (shares_of s.pools) (instances_of (take most dues)) count → IsNextRound s dues count
 next_is s dues most count few is longest =
     let name = λ (d : Due). d.instance in
     let pools = shares_of s.pools in
     let least : most ≤ length dues = omega (arith, is) in
-    let left : most ≤ calls_left s = omega (arith, is) in
+    let left : most ≤ session_calls_left s = omega (arith, is) in
     let within : count ≤ most =
     omega (arith, longest.within, length-map (take most dues) name, length-take most dues) in
     let front : take count (instances_of (take most dues)) ≡ instances_of (take count dues) =
     take-map name count (take most dues) ∙ ap instances_of (take-take count most dues within) in
-    let behind : drop count (instances_of (take most dues)) ≡ instances_of (drop count (take (calls_left s) dues)) =
+    let behind : drop count (instances_of (take most dues)) ≡ instances_of (drop count (take (session_calls_left s) dues)) =
     drop-map name count (take most dues)
-    ∙ ap (λ (us : List Due). instances_of (drop count us)) (as_far dues most (calls_left s) is) in
+    ∙ ap (λ (us : List Due). instances_of (drop count us)) (as_far dues most (session_calls_left s) is) in
     record {
       within = omega (arith, within, least);
       left = omega (arith, within, left, few);

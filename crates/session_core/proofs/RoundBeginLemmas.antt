@@ -12,9 +12,9 @@ use Rattle.instance_queue.specs.declared.due.Due.{Due}
 use Rattle.lemmas.proofs.Members.{member_at}
 use Rattle.pools.proofs.PoolsLemmas.{server_is, workers_fit}
 use Rattle.pools.specs.Pools.{AreFitPools, HasChild, Workers, child_for, has_stream, server, shares_of, streams_of}
-use Rattle.task_model.specs.Known.{Known, IsIn, IsCoherent}
+use Rattle.task_model.specs.Known.{Known, IsCoherent}
 use Rattle.lemmas.specs.Lists.{AreDistinct}
-use Rattle.task_model.specs.Streams.{IsDue, yields_of}
+use Rattle.task_model.specs.Streams.{IsDue}
 use Rattle.task_model.specs.declared.stream.Instance.{Instance}
 use Rattle.task_model.specs.declared.task.Task.{Task}
 use Rattle.transcript_model.proofs.CoherentLemmas.{coherent}
@@ -27,6 +27,8 @@ use Rattle.session_core.specs.Events.{IsFresh}
 use Rattle.session_core.specs.Session.{IsSession, AreSlotsFor, MayBeginRound, begun}
 use Rattle.session_core.specs.Slots.{Slot, ask_for, asks_from, slot_for, slots_from}
 use Rattle.session_core.specs.State.{State, IsSound}
+use Rattle.task_model.proofs.KnownLemmas.{below_names}
+use Rattle.session_core.specs.Ready.{AreAskable}
 
 -- ---- one due more
 
@@ -186,16 +188,11 @@ module _ (task : Task) (s : State) (dues : List Due) (works : s.failed ≡ false
 
   due_at : (k : ℕ) (d : Due) → slice_get dues k ≡ Some d → IsDue task s.known s.notes d.instance
   due_at k d at =
-      may.due d.instance (member_at (instances_of dues) k d.instance
+      may.askable.due d.instance (member_at (instances_of dues) k d.instance
       (slice_get-map (λ (u : Due). u.instance) dues k ∙ ap (option_map (λ (u : Due). u.instance)) at))
 
   known_coherent : IsCoherent s.known
   known_coherent = subst IsCoherent (sym known_is) (coherent s.version task s.entries h.fit h.legal)
-
-  below_names : (names : List (List ℕ)) (o : ℕ) → IsIn names o → o < length names
-  below_names [] o i = absurd (cc)
-  below_names (n ∷ ns) zero i = omega arith
-  below_names (n ∷ ns) (suc o) i = omega (arith, below_names ns o i)
 
   named_one : (d : Due) → IsDue task s.known s.notes d.instance
       → IsNamed task s.known.names d.instance
@@ -317,10 +314,8 @@ module _ (task : Task) (s : State) (dues : List Due) (works : s.failed ≡ false
         notes = h.notes;
         round = λ _. record {
           dues = dues;
-          due = λ i m. subst (λ ns. IsDue task (known_of task s.entries) ns i) notes_is
-              (subst (λ k. IsDue task k s.notes i) known_is (may.due i m));
-          turns = subst (λ ns. All (λ (d : Due). d.turn ≡ yields_of ns d.instance) dues) notes_is may.turns;
-          distinct = may.distinct;
+          ready = subst (λ ns. AreAskable task (known_of task s.entries) ns dues) notes_is
+              (subst (λ k. AreAskable task k s.notes dues) known_is may.askable);
           instances = refl;
           asks = ap (λ (k : Known). asks_from task k.names (length s.asked + 1) dues) known_is;
           slots = fresh_slots task s.known.names s.version s.pools (length s.asked + 1) [] dues;

@@ -36,8 +36,9 @@ use Rattle.transcript_model.specs.declared.entry.Entry.{Entry}
 use Rattle.transcript_model.specs.declared.entry.Entry.TheVariants as entry
 use Rattle.session_core.proofs.SessionLemmas.{count_joined, count_one}
 use Rattle.session_core.specs.Session.{IsSession, AreSlotsFor, Asks}
-use Rattle.session_core.specs.Slots.{Slot, wanted_of, wanted_at, ask_for, asks_from, entry_of, answers_of, all_answered}
+use Rattle.session_core.specs.Slots.{Slot, wanted_of, wanted_at, ask_for, asks_from, replied_entry, answers_of, all_answered}
 use Rattle.session_core.specs.State.{State, after_close}
+use Rattle.task_model.proofs.KnownLemmas.{below_names}
 
 no_both : {A : Type 0} (b : Bool) → b ≡ true → b ≡ false → A
 no_both b t f = absurd (not_both b t f)
@@ -54,17 +55,12 @@ module _ (version : ℕ) (task : Task) (fit : IsFit task) (entries : List Entry)
   distinct_names : AreDistinct (names_of task entries)
   distinct_names = names_of-distinct task entries fit.problem.objects.names.distinct
 
-  named_below : (names : List (List ℕ)) (o : ℕ) → IsIn names o → o < length names
-  named_below [] o h = absurd (cc)
-  named_below (n ∷ ns) zero h = omega arith
-  named_below (n ∷ ns) (suc o) h = omega (arith, named_below ns o h)
-
   -- an instance that is due is shown so that it is found again
   shown_again : (i : Instance) → IsDue task (known_of task entries) (notes_of task entries) i
       → instance_of task (names_of task entries) (call_of_instance task (names_of task entries) i) ≡ Some i
   shown_again i d =
       call_names_instance task (names_of task entries) i fit distinct_names (slice_get_within task.streams i.stream d.stream d.named)
-      (λ o m. named_below (names_of task entries) o
+      (λ o m. below_names (names_of task entries) o
       (All-contains (IsIn (names_of task entries)) i.inputs o
       (due_in task (known_of task entries) (notes_of task entries) (coherent version task entries fit legal) i d) m))
 
@@ -242,12 +238,12 @@ module _ (version : ℕ) (task : Task) (fit : IsFit task) where
   -- what a stream's line says may follow
   says_right : (before : List Entry) (n : ℕ) (s : Stream) (i : Instance) (line : List ℕ) (e : Entry)
       → is_open before n ≡ true
-      → asked task before n ≡ Some (record { stream = s; instance = i }) → entry_of n (reply_of line (wanted_of version s)) ≡ Some e
+      → asked task before n ≡ Some (record { stream = s; instance = i }) → replied_entry n (reply_of line (wanted_of version s)) ≡ Some e
       → MayFollow version task before e × (is_answer_to n e ≡ true) × (is_answer e ≡ true)
   says_right before n s i line e waiting request is =
       elim (is_none s.worth) as (λ b.
       is_none s.worth ≡ b
-      → entry_of n (reply_of line (cond b (wanted.Outputs (length s.outputs) (has_several version)) wanted.Number)) ≡ Some e
+      → replied_entry n (reply_of line (cond b (wanted.Outputs (length s.outputs) (has_several version)) wanted.Number)) ≡ Some e
       → MayFollow version task before e × (is_answer_to n e ≡ true) × (is_answer e ≡ true)) [
         | true ↦ λ none said. by_outputs none (reply_of line (wanted.Outputs (length s.outputs) (has_several version))) refl said
         | false ↦ λ some said. by_number some (reply_of line wanted.Number) refl said
@@ -258,7 +254,7 @@ module _ (version : ℕ) (task : Task) (fit : IsFit task) where
 
       by_outputs : is_none s.worth ≡ true → (r : Reply)
           → reply_of line (wanted.Outputs (length s.outputs) (has_several version)) ≡ r
-          → entry_of n r ≡ Some e → MayFollow version task before e × (is_answer_to n e ≡ true) × (is_answer e ≡ true)
+          → replied_entry n r ≡ Some e → MayFollow version task before e × (is_answer_to n e ≡ true) × (is_answer e ≡ true)
       by_outputs none (reply.yields t vs) says said =
           let same : entry.Got n t vs ≡ e = cc in
           subst (λ x. MayFollow version task before x × (is_answer_to n x ≡ true) × (is_answer x ≡ true)) same (
@@ -280,7 +276,7 @@ module _ (version : ℕ) (task : Task) (fit : IsFit task) where
       by_outputs none (reply.bad why) says said = absurd (cc)
 
       by_number : is_none s.worth ≡ false → (r : Reply) → reply_of line wanted.Number ≡ r
-          → entry_of n r ≡ Some e
+          → replied_entry n r ≡ Some e
           → MayFollow version task before e × (is_answer_to n e ≡ true) × (is_answer e ≡ true)
       by_number some (reply.yields t vs) says said =
           absurd (fields_no_yield (reply.fields line) t vs says)
@@ -353,8 +349,8 @@ module _ (version : ℕ) (task : Task) (fit : IsFit task) where
           let line = said.0 in
           let wants : s.wanted ≡ wanted_of version request.stream =
           slot.wanted ∙ wanted_is task version d.instance.stream request.stream request.streamed in
-          let replied : entry_of n (reply_of line (wanted_of version request.stream)) ≡ Some e =
-          (λ k. entry_of (sym slot.numbered k) (reply_of line (sym wants k))) ∙ said.1 in
+          let replied : replied_entry n (reply_of line (wanted_of version request.stream)) ≡ Some e =
+          (λ k. replied_entry (sym slot.numbered k) (reply_of line (sym wants k))) ∙ said.1 in
           let r = says_right before n request.stream d.instance line e waits.0 request.asks replied in
           let after = before ++ e ∷ [] in
           let adds = answer_adds version task before fit.problem.objects.names.distinct ok n _ request.asks e r.1 in
@@ -439,7 +435,7 @@ close_kept task s open_now answered h =
     let none : (m : ℕ) → is_open s.entries m ≡ true → ⊥ = λ m o. no_both (is_open s.entries m) o (h.none_open m) in
     let q = subst (λ xs. Requested s.version task h.fit s.entries h.legal s.entries (s.entries ++ xs) first r.dues) (sym r.asks)
     (requested s.version task h.fit s.entries h.legal r.dues s.entries first h.legal refl refl
-    (ap (λ k. k + 1) h.counted) r.due r.turns r.distinct (λ m a is o. absurd (none m o))) in
+    (ap (λ k. k + 1) h.counted) r.ready.due r.ready.turns r.ready.distinct (λ m a is o. absurd (none m o))) in
     let mid = s.entries ++ s.asks in
     let within : (m : ℕ) → is_open mid m ≡ true → (first ≤ m) × (m < first + length r.dues) =
     λ m o. elim (q.only m o) [ inl old ↦ absurd (none m old) | inr bounds ↦ bounds ] in

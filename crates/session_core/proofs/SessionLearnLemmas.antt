@@ -30,7 +30,7 @@ learnt_kept task s known notes learnt failed h within knows told =
       notes = told;
       round = λ e. let r = h.round e in
           record
-          { dues = r.dues; due = r.due; turns = r.turns; distinct = r.distinct; instances = r.instances; asks = r.asks; slots = r.slots };
+          { dues = r.dues; ready = r.ready; instances = r.instances; asks = r.asks; slots = r.slots };
     }
 
 pub all_learnt : (task : Task) (s : State) → IsSession task s → IsSession task (after_learn task s)

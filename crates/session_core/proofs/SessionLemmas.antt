@@ -77,9 +77,7 @@ round_with : (task : Task) (s : State) (f : Slot → Slot) (failed : Bool)
 round_with task s f failed keeps r =
     record {
       dues = r.dues;
-      due = r.due;
-      turns = r.turns;
-      distinct = r.distinct;
+      ready = r.ready;
       instances = r.instances;
       asks = r.asks;
       slots = slots_kept task s.version f keeps (length s.asked + 1) r.dues s.slots r.slots;
@@ -105,7 +103,7 @@ pub failure_kept : (task : Task) (s : State) → IsSession task s
 failure_kept task s h =
     session_with task s s.slots true h
     (λ e. let r = h.round e in
-    record { dues = r.dues; due = r.due; turns = r.turns; distinct = r.distinct; instances = r.instances; asks = r.asks; slots = r.slots })
+    record { dues = r.dues; ready = r.ready; instances = r.instances; asks = r.asks; slots = r.slots })
     (λ e. absurd (cc))
 
 -- ---- marks

@@ -7,7 +7,7 @@ use Rattle.gen_lines.specs.declared.answer.Why.{Why}
 use Rattle.lemmas.specs.Lists.{AreDistinct}
 use Rattle.session_core.proofs.SlotsLemmas.{children_of, child_kept, children_kept, slot_child, set_at_child}
 use Rattle.session_core.specs.Heard.{heard_at, heard_by, is_bad_at}
-use Rattle.session_core.specs.Slots.{Slot, at_child, slot_of, fault_of, reply_to}
+use Rattle.session_core.specs.Slots.{Slot, at_child, slot_of, reply_fault, reply_to}
 use Rattle.session_core.specs.State.{State, IsSound, with_slots}
 
 module _ (slots : List Slot) (child place : ℕ) (slot old : Slot) (found : slice_get slots place ≡ slot_of slots child)
@@ -23,12 +23,12 @@ module _ (slots : List Slot) (child place : ℕ) (slot old : Slot) (found : slic
 
 pub heard_is : (slots : List Slot) (child : ℕ) (line : List ℕ) (slot : Slot) (why : Option Why)
     → slot_of slots child ≡ Some slot
-    → why ≡ fault_of (reply_to line slot) → heard_at slots child line ≡ heard_by slot.number why
+    → why ≡ reply_fault (reply_to line slot) → heard_at slots child line ≡ heard_by slot.number why
 heard_is slots child line slot why at is = rw (at, is) refl
 
 pub bad_is : (slots : List Slot) (child : ℕ) (line : List ℕ) (slot : Slot) (why : Option Why)
     → slot_of slots child ≡ Some slot
-    → why ≡ fault_of (reply_to line slot) → is_bad_at slots child line ≡ is_some why
+    → why ≡ reply_fault (reply_to line slot) → is_bad_at slots child line ≡ is_some why
 bad_is slots child line slot why at is = rw (at, is) refl
 
 -- what holds of every session holds after the change

@@ -4,7 +4,7 @@ use Rattle.std.specs.List.{filter_map}
 use Rattle.gen_lines.specs.Reply.{reply_of}
 use Rattle.lemmas.specs.Lists.{AreDistinct}
 use Rattle.transcript_model.specs.declared.entry.Entry.{Entry}
-use Rattle.session_core.specs.Slots.{Slot, sent_slot, heard_slot, at_child, answers_of, all_answered, entry_of, reply_to, fault_of, IsUnsent, IsAwaited}
+use Rattle.session_core.specs.Slots.{Slot, sent_slot, heard_slot, at_child, answers_of, all_answered, replied_entry, reply_to, reply_fault, IsUnsent, IsAwaited}
 
 -- a request is written whole to a child, or a whole line is taken from it
 pub data Event : Type 0 where
@@ -24,7 +24,7 @@ after slots (e ∷ events) = after (map (change_by e) slots) events
 abbrev pub MayCome : List Slot → Event → Type 0
 MayCome slots (sends child) = IsUnsent slots child
 MayCome slots (says child line) =
-    (waits : IsAwaited slots child) × (length line ≤ 1024) × (fault_of (reply_to line waits.slot) ≡ None)
+    (waits : IsAwaited slots child) × (length line ≤ 1024) × (reply_fault (reply_to line waits.slot) ≡ None)
 
 -- Each event may come after those before it, and in the end each request has its answer.
 abbrev pub IsPlayed : List Slot → List Event → Type 0
@@ -32,11 +32,11 @@ IsPlayed slots [] = all_answered slots ≡ true
 IsPlayed slots (e ∷ events) = MayCome slots e × IsPlayed (map (change_by e) slots) events
 
 -- the lines of a child
-abbrev pub lines_of : ℕ → List Event → List (List ℕ)
-lines_of child [] = []
-lines_of child (sends other ∷ events) = lines_of child events
-lines_of child (says other line ∷ events) =
-    if child == other then line ∷ lines_of child events else lines_of child events
+abbrev pub lines_said : ℕ → List Event → List (List ℕ)
+lines_said child [] = []
+lines_said child (sends other ∷ events) = lines_said child events
+lines_said child (says other line ∷ events) =
+    if child == other then line ∷ lines_said child events else lines_said child events
 
 -- nothing was sent, and each slot has a child of its own
 pub record IsFresh (slots : List Slot) : Type 0 where
@@ -45,11 +45,11 @@ pub record IsFresh (slots : List Slot) : Type 0 where
 
 -- what the line of the slot's own child answers
 abbrev pub own_answer : List Event → Slot → Option Entry
-own_answer events slot = of (lines_of slot.child events)
+own_answer events slot = of (lines_said slot.child events)
   where
     of : List (List ℕ) → Option Entry
     of [] = None
-    of (line ∷ lines) = entry_of slot.number (reply_of line slot.wanted)
+    of (line ∷ lines) = replied_entry slot.number (reply_of line slot.wanted)
 
 -- In whatever order the events of a round come, its answers are those that each slot's own child gave in its one line.
 abbrev pub AnswersAreOwn : Type 0
@@ -61,10 +61,10 @@ AnswersAreOwn =
 abbrev pub OrderDoesNotMatter : Type 0
 OrderDoesNotMatter =
     (slots : List Slot) (first second : List Event) → IsFresh slots → IsPlayed slots first → IsPlayed slots second
-    → ((child : ℕ) → lines_of child first ≡ lines_of child second) → after slots first ≡ after slots second
+    → ((child : ℕ) → lines_said child first ≡ lines_said child second) → after slots first ≡ after slots second
 
 -- Each child of a round says one line.
 abbrev pub EachSaysOne : Type 0
 EachSaysOne =
     (slots : List Slot) (events : List Event) → IsFresh slots → IsPlayed slots events
-    → All (λ (s : Slot). length (lines_of s.child events) ≡ 1) slots
+    → All (λ (s : Slot). length (lines_said s.child events) ≡ 1) slots

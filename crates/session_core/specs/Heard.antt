@@ -1,7 +1,7 @@
 -- What a line is taken as.
 use Rattle.std.specs.Prelude.{ℕ, List, Bool, false, Option, None, Some, is_some}
 use Rattle.gen_lines.specs.declared.answer.Why.{Why}
-use Rattle.session_core.specs.Slots.{Slot, slot_of, reply_to, fault_of}
+use Rattle.session_core.specs.Slots.{Slot, slot_of, reply_to, reply_fault}
 use Rattle.session_core.specs.declared.fault.Heard.{Heard}
 use Rattle.session_core.specs.declared.fault.Heard.TheVariants as heard
 
@@ -15,14 +15,14 @@ module _ (slots : List Slot) (child : ℕ) (line : List ℕ) where
   heard_at = of (slot_of slots child)
     where
       of : Option Slot → Heard
-      of (Some slot) = heard_by slot.number (fault_of (reply_to line slot))
+      of (Some slot) = heard_by slot.number (reply_fault (reply_to line slot))
       of None = heard.Taken 0
 
   abbrev pub is_bad_at : Bool
   is_bad_at = of (slot_of slots child)
     where
       of : Option Slot → Bool
-      of (Some slot) = is_some (fault_of (reply_to line slot))
+      of (Some slot) = is_some (reply_fault (reply_to line slot))
       of None = false
 
 -- the number of the child's ask

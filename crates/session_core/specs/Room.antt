@@ -11,11 +11,11 @@ most_values (Outputs width several) = if several then 16 * width else width
 most_values Number = 0
 
 -- there is room for so many values, unless an answer was heard
-abbrev pub HasRoom : Option Entry → Wanted → Option ℕ → Type 0
-HasRoom (Some e) wanted room = Unit {0}
-HasRoom None wanted (Some n) = most_values wanted ≤ n
-HasRoom None wanted None = ⊥
+abbrev pub HasRoomForAnswer : Option Entry → Wanted → Option ℕ → Type 0
+HasRoomForAnswer (Some e) wanted room = Unit {0}
+HasRoomForAnswer None wanted (Some n) = most_values wanted ≤ n
+HasRoomForAnswer None wanted None = ⊥
 
 pub record IsReady (answer : Option Entry) (wanted : Wanted) (room : Option ℕ) : Type 0 where
   pub narrow : IsNarrow wanted
-  pub enough : HasRoom answer wanted room
+  pub enough : HasRoomForAnswer answer wanted room

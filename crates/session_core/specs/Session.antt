@@ -1,12 +1,10 @@
 -- What holds of a session of a task, and what its calls ask for.
-use Rattle.std.specs.Prelude.{◌≡◌, ℕ, ◌+◌, ◌≤◌, List, [], ◌∷◌, map, length, take, All, true, false, Some, slice_get, count_by, Contains}
+use Rattle.std.specs.Prelude.{◌≡◌, ℕ, ◌+◌, ◌≤◌, List, [], ◌∷◌, map, length, take, true, false, Some, slice_get, count_by}
 use Rattle.gen_lines.specs.Reply.{reply_of}
 use Rattle.instance_queue.specs.Level.{instances_of}
 use Rattle.instance_queue.specs.declared.due.Due.{Due}
 use Rattle.pools.specs.Pools.{AreFitPools, shares_of, workers_of}
 use Rattle.task_model.specs.Fit.{IsFit}
-use Rattle.lemmas.specs.Lists.{AreDistinct}
-use Rattle.task_model.specs.Streams.{IsDue, yields_of}
 use Rattle.task_model.specs.declared.stream.Instance.{Instance}
 use Rattle.task_model.specs.declared.stream.Stream.{Stream}
 use Rattle.task_model.specs.declared.task.Task.{Task}
@@ -16,7 +14,8 @@ use Rattle.transcript_model.specs.Transcript.{asked, names_of, known_of, notes_o
 use Rattle.transcript_model.specs.declared.entry.Entry.{Entry}
 use Rattle.transcript_model.specs.declared.head.Head.{Head}
 use Rattle.transcript_model.specs.declared.limits.TheConstants.{MOST_CALLS}
-use Rattle.session_core.specs.Slots.{Slot, wanted_at, asks_from, slots_from, entry_of}
+use Rattle.session_core.specs.Ready.{AreAskable, AreReady}
+use Rattle.session_core.specs.Slots.{Slot, wanted_at, asks_from, slots_from, replied_entry}
 use Rattle.session_core.specs.State.{State, with_round, with_learnt}
 use Rattle.session_core.specs.declared.fault.CoreFault.{CoreFault}
 use Rattle.session_core.specs.declared.fault.CoreFault.TheVariants.{Failed, Memory}
@@ -38,7 +37,7 @@ pub record IsSlotFor (task : Task) (version number : ℕ) (due : Due) (slot : Sl
   pub numbered : slot.number ≡ number
   pub wanted : slot.wanted ≡ wanted_at task version due.instance.stream
   pub right : (e : Entry) → slot.answer ≡ Some e
-      → (line : List ℕ) × (entry_of slot.number (reply_of line slot.wanted) ≡ Some e)
+      → (line : List ℕ) × (replied_entry slot.number (reply_of line slot.wanted) ≡ Some e)
 
 abbrev pub AreSlotsFor : Task → ℕ → ℕ → List Due → List Slot → Type 0
 AreSlotsFor task version number [] [] = Unit {0}
@@ -47,13 +46,10 @@ AreSlotsFor task version number (due ∷ dues) (slot ∷ slots) =
 AreSlotsFor task version number [] (slot ∷ slots) = ⊥
 AreSlotsFor task version number (due ∷ dues) [] = ⊥
 
--- The open round is one of asks that are due after the transcript, each with its turn, of different instances.
+-- The open round is one of asks that could be made after the transcript.
 pub record IsRoundOf (task : Task) (s : State) : Type 0 where
   pub dues : List Due
-  pub due : (i : Instance) → Contains (instances_of dues) i
-      → IsDue task (known_of task s.entries) (notes_of task s.entries) i
-  pub turns : All (λ (d : Due). d.turn ≡ yields_of (notes_of task s.entries) d.instance) dues
-  pub distinct : AreDistinct (instances_of dues)
+  pub ready : AreReady task s.entries dues
   pub instances : s.instances ≡ instances_of dues
   pub asks : s.asks ≡ asks_from task (names_of task s.entries) (length s.asked + 1) dues
   pub slots : AreSlotsFor task s.version (length s.asked + 1) dues s.slots
@@ -102,12 +98,10 @@ pub record IsLearnt (s : State) : Type 0 where
 
 -- ---- rounds
 
--- The asks are due, each with its turn, and of different instances; they fit the workers, and so many calls are left.
+-- The asks may be made, they fit the workers, and so many calls are left.
 pub record MayBeginRound (task : Task) (s : State) (dues : List Due) : Type 0 where
   pub ready : IsLearnt s
-  pub due : (i : Instance) → Contains (instances_of dues) i → IsDue task s.known s.notes i
-  pub turns : All (λ (d : Due). d.turn ≡ yields_of s.notes d.instance) dues
-  pub distinct : AreDistinct (instances_of dues)
+  pub askable : AreAskable task s.known s.notes dues
   pub fit : fits (shares_of s.pools) (instances_of dues) ≡ true
   pub left : length s.asked + length dues ≤ s.calls
 

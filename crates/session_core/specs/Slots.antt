@@ -75,18 +75,18 @@ AreFitChildren pools dues =
 -- ---- what was heard
 
 -- the reply to the request of this number, as an entry
-abbrev pub entry_of : ℕ → Reply → Option Entry
-entry_of n (reply.yields tuples values) = Some (entry.Got n tuples values)
-entry_of n (reply.number value) = Some (entry.Value n value)
-entry_of n reply.ends = Some (entry.End n)
-entry_of n (reply.bad why) = None
+abbrev pub replied_entry : ℕ → Reply → Option Entry
+replied_entry n (reply.yields tuples values) = Some (entry.Got n tuples values)
+replied_entry n (reply.number value) = Some (entry.Value n value)
+replied_entry n reply.ends = Some (entry.End n)
+replied_entry n (reply.bad why) = None
 
 -- why it is no reply
-abbrev pub fault_of : Reply → Option Why
-fault_of (reply.yields tuples values) = None
-fault_of (reply.number value) = None
-fault_of reply.ends = None
-fault_of (reply.bad why) = Some why
+abbrev pub reply_fault : Reply → Option Why
+reply_fault (reply.yields tuples values) = None
+reply_fault (reply.number value) = None
+reply_fault reply.ends = None
+reply_fault (reply.bad why) = Some why
 
 -- what the line answers to the slot's request
 abbrev pub reply_to : List ℕ → Slot → Reply
@@ -114,7 +114,7 @@ heard_slot line slot = record {
   request = slot.request;
   wanted = slot.wanted;
   sent = slot.sent;
-  answer = entry_of slot.number (reply_to line slot);
+  answer = replied_entry slot.number (reply_to line slot);
 }
 
 -- the slot of the child is changed so, and the others stay

@@ -4,7 +4,7 @@ ghost use Rattle.gen_lines.specs.Reply.{reply_of, yields};
 ghost use Rattle.gen_lines.specs.Told.{IsNarrow, SpansLieIn, texts};
 ghost use Rattle.gen_lines.specs.declared.answer.Answer.TheVariants as answer;
 ghost use Rattle.transcript_model.specs.declared.entry.Entry.TheVariants as entry;
-ghost use Rattle.session_core.specs.Room.{most_values, HasRoom};
+ghost use Rattle.session_core.specs.Room.{most_values, HasRoomForAnswer};
 
 use crate::room::Room;
 use gen_lines::{Answer, Spans, Wanted, Why, answer_of};
@@ -56,7 +56,7 @@ fn most(wanted: Wanted) -> usize
 
 /// The entry of a yield, whose values are put into the room that was kept for them.
 fn got(number: u32, wanted: Wanted, room: Option<Room>, line: &[u8], spans: &Spans) -> Entry
-    requires room { HasRoom None wanted room }
+    requires room { HasRoomForAnswer None wanted room }
     requires reply { reply_of line.now wanted ≡ yields spans.now.tuples (texts line.now spans.now) }
     requires spans { SpansLieIn line.now wanted (answer.Yield spans.now) }
     ensures { result ≡ entry.Got number spans.now.tuples (texts line.now spans.now) }
@@ -73,7 +73,7 @@ fn got(number: u32, wanted: Wanted, room: Option<Room>, line: &[u8], spans: &Spa
 
 impl Cell {
     ghost use Rattle.std.specs.Prelude.{IfOk, Some, not, is_none, option_copied};
-    ghost use Rattle.session_core.specs.Slots.{Slot, is_unsent_slot, is_awaited_slot, sent_slot, heard_slot, fault_of, reply_to};
+    ghost use Rattle.session_core.specs.Slots.{Slot, is_unsent_slot, is_awaited_slot, sent_slot, heard_slot, reply_fault, reply_to};
 
     /// The cell of a request that isn't sent yet, with memory for whatever it is answered.
     pub(crate) fn new(
@@ -160,7 +160,7 @@ impl Cell {
         requires open { self.old.answer ≡ None }
         requires line { length line.now ≤ 1024 }
         ensures slot { self.new ≡ heard_slot line.now self.old }
-        ensures fault { result ≡ fault_of (reply_to line.now self.old) }
+        ensures fault { result ≡ reply_fault (reply_to line.now self.old) }
     {
         let number = self.number;
         match answer_of(line, self.wanted) {

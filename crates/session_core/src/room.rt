@@ -4,13 +4,10 @@ ghost use Rattle.std.specs.List.{list_all};
 ghost use Rattle.gen_lines.specs.Reply.{is_value};
 ghost use Rattle.gen_lines.specs.Told.{LieIn, texts, value_count};
 
-use gen_lines::{Spans, Wanted};
+use gen_lines::{Spans, VALUE_BYTES, Wanted};
 use std::alloc::{AllocError, Global};
 use std::marker::Model;
 use task_model::{Name, Seq};
-
-/// The most bytes of a value.
-const VALUE_BYTES: usize = 64;
 
 /// A buffer for one value.
 #[derive(Drop)]

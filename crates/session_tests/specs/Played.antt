@@ -5,13 +5,13 @@ use Rattle.session_core.specs.State.{State}
 use Rattle.task_model.specs.declared.task.Task.{Task}
 
 -- no round is open, nothing failed, and all is learnt
-pub record Stands (task : Task) (s : State) : Type 0 where
+pub record IsWorkingSession (task : Task) (s : State) : Type 0 where
   pub session : IsSession task s
   pub works : s.failed ≡ false
   pub learnt : IsLearnt s
 
 -- the events of a round change nothing but its slots
-pub record IsSameRound (before after : State) : Type 0 where
+pub record IsRoundKept (before after : State) : Type 0 where
   pub works : after.failed ≡ false
   pub entries : after.entries ≡ before.entries
   pub instances : after.instances ≡ before.instances

@@ -3,7 +3,7 @@ ghost use Rattle.std.specs.Prelude.{◌≡◌, ◌≤◌, ◌<◌, length, drop,
 ghost use Rattle.session_core.specs.Ready.{AreReady};
 ghost use Rattle.session_core.specs.Slots.{all_answered};
 ghost use Rattle.task_model.specs.Fit.{IsFit};
-ghost use Rattle.session_tests.specs.Played.{Stands, IsSameRound};
+ghost use Rattle.session_tests.specs.Played.{IsWorkingSession, IsRoundKept};
 
 use crate::fault::Fault;
 use crate::head::head;
@@ -31,7 +31,7 @@ pub fn begin(
     workers: u8,
 ) -> Result<Box<Session>, Fault>
     requires { IsFit task.now }
-    ensures { IfOk result (λ session. Stands task.now session.value) }
+    ensures { IfOk result (λ session. IsWorkingSession task.now session.value) }
 {
     if version < 1 || version > 2 || calls < 1 || calls > 100_000 || workers < 1 || workers > 16 {
         return Err(Fault::Unfit);
@@ -46,7 +46,7 @@ pub fn begin(
 /// Lets an event come, if it may. Answers whether it might, and the session works still.
 pub fn happen(session: &mut Session, event: &Event<'_>) -> bool
     requires works { session.old.failed ≡ false }
-    ensures { result ≡ true → IsSameRound session.old session.new }
+    ensures { result ≡ true → IsRoundKept session.old session.new }
 {
     match event {
         Event::Sends(child) => {
@@ -68,7 +68,7 @@ pub fn happen(session: &mut Session, event: &Event<'_>) -> bool
 /// Lets events of a round come, and answers whether they all might, and the session works still.
 pub fn happen_all(session: &mut Session, events: &[Event<'_>]) -> bool
     requires works { session.old.failed ≡ false }
-    ensures { result ≡ true → IsSameRound session.old session.new }
+    ensures { result ≡ true → IsRoundKept session.old session.new }
 {
     for event in events {
         if !happen(session, event) {
@@ -81,7 +81,7 @@ pub fn happen_all(session: &mut Session, events: &[Event<'_>]) -> bool
 /// Lets the events of a round come, and answers whether they all might and each request is answered.
 pub fn play(session: &mut Session, events: &[Event<'_>]) -> bool
     requires works { session.old.failed ≡ false }
-    ensures same { result ≡ true → IsSameRound session.old session.new }
+    ensures same { result ≡ true → IsRoundKept session.old session.new }
     ensures answered { result ≡ true → all_answered session.new.slots ≡ true }
 {
     happen_all(session, events) && session.is_answered()
@@ -94,10 +94,10 @@ pub fn round(
     dues: &[Due],
     events: &[Event<'_>],
 ) -> Result<usize, Fault>
-    requires stands { Stands task.now session.old }
+    requires stands { IsWorkingSession task.now session.old }
     requires ready { AreReady task.now session.old.entries dues.now }
     ensures within { IfOk result (λ count. count ≤ length dues.now) }
-    ensures stands { IfOk result (λ count. Stands task.now session.new) }
+    ensures stands { IfOk result (λ count. IsWorkingSession task.now session.new) }
     ensures rest { IfOk result (λ count. AreReady task.now session.new.entries
         (drop count dues.now)) }
 {
@@ -113,8 +113,8 @@ pub fn round(
 
 /// Plays a level in rounds, one list of events for each.
 pub fn level(task: &Task, session: &mut Session, rounds: &[&[Event<'_>]]) -> Result<(), Fault>
-    requires stands { Stands task.now session.old }
-    ensures stands { IfOk result (λ done. Stands task.now session.new) }
+    requires stands { IsWorkingSession task.now session.old }
+    ensures stands { IfOk result (λ done. IsWorkingSession task.now session.new) }
 {
     let dues = session.due(task)?;
     let mut rest = dues.as_slice();
@@ -131,8 +131,8 @@ pub fn level(task: &Task, session: &mut Session, rounds: &[&[Event<'_>]]) -> Res
 
 /// Plays levels, each in one round with these events, or without requests where there are none.
 pub fn levels(task: &Task, session: &mut Session, levels: &[&[Event<'_>]]) -> Result<(), Fault>
-    requires stands { Stands task.now session.old }
-    ensures stands { IfOk result (λ done. Stands task.now session.new) }
+    requires stands { IsWorkingSession task.now session.old }
+    ensures stands { IfOk result (λ done. IsWorkingSession task.now session.new) }
 {
     for events in levels {
         let rounds = [*events];

@@ -30,7 +30,7 @@ use Rattle.transcript_model.specs.declared.entry.Entry.TheVariants as entry
 use Rattle.transcript_model.specs.declared.outcome.Origin.{Origin}
 use Rattle.shown_plan.proofs.NameListLemmas.{mapped_from, all_pass, with_names_from, in_table}
 use Rattle.shown_plan.specs.Shown.{AreNamedSteps}
-use Rattle.shown_plan.specs.Sources.{IsBest, IsEven, IsGiven, IsSource, is_among, is_generated, stands_in}
+use Rattle.shown_plan.specs.Sources.{IsBest, IsEven, IsGivenValue, IsSource, is_among, is_generated, stands_in}
 use Rattle.shown_plan.specs.declared.source.Source.{Source}
 
 numbers_equivalence : IsEquivalence same_numbers
@@ -77,7 +77,7 @@ no_hash : (value : List ℕ) → is_name (generated value) ≡ true → ⊥
 no_hash value e = cc
 
 given_by : (entries : List Entry) (e : Entry) (name : List ℕ) → Contains entries e
-    → Contains (objects_in e) name → IsGiven entries name
+    → Contains (objects_in e) name → IsGivenValue entries name
 given_by entries (entry.Got number tuples values) name there c =
     let v = mapped_from generated values name c in
     record {
@@ -100,7 +100,7 @@ given_by entries (entry.Retire number) name there c = absurd (omega (arith, c.1)
 
 given_in : (task : Task) (fit : IsFit task) (entries : List Entry) (name : List ℕ)
     → is_generated name ≡ true
-    → Contains (names_of task entries) name → IsGiven entries name
+    → Contains (names_of task entries) name → IsGivenValue entries name
 given_in task fit entries name hash c =
     elim (with_names_from (declared_names task) (flat_map objects_in entries) name c) [
       | inl old ↦
@@ -110,7 +110,7 @@ given_in task fit entries name hash c =
       | inr new ↦ let e = from_flat_map objects_in entries name new in given_by entries e.0 name e.1 e.2
     ]
 
-pub given_generated : (entries : List Entry) (name : List ℕ) → IsGiven entries name
+pub given_generated : (entries : List Entry) (name : List ℕ) → IsGivenValue entries name
     → is_generated name ≡ true
 given_generated entries name g = ap is_generated g.named
 
@@ -167,9 +167,9 @@ named_in task names steps name named s =
 pub given_names : (task : Task) (fit : IsFit task) (entries : List Entry) (steps : List GroundAction)
     (calls : List Call) (keys : List (List ℕ))
     → AreNamedSteps task (names_of task entries) steps → calls ≡ map (call_of_step task (names_of task entries)) steps
-    → ((name : List ℕ) → is_among keys name ≡ (is_generated name && stands_in calls name)) → All (IsGiven entries) keys
+    → ((name : List ℕ) → is_among keys name ≡ (is_generated name && stands_in calls name)) → All (IsGivenValue entries) keys
 given_names task fit entries steps calls keys named shown each =
-    All-from_any numbers_equivalence (IsGiven entries) keys (λ name among.
+    All-from_any numbers_equivalence (IsGivenValue entries) keys (λ name among.
     let parts = and_parts (is_generated name) (stands_in calls name) (sym (each name) ∙ among) in
     given_in task fit entries name parts.0
     (named_in task (names_of task entries) steps name named (subst (λ cs. Stands cs name) shown (stands calls name parts.1))))

@@ -30,7 +30,7 @@ IsEven (entry.Got number tuples values) =
 IsEven e = Unit {0}
 
 -- a yield has the value, and a request has it
-pub record IsGiven (entries : List Entry) (name : List ℕ) : Type 0 where
+pub record IsGivenValue (entries : List Entry) (name : List ℕ) : Type 0 where
   pub value : List ℕ
   pub named : name ≡ generated value
   pub number : ℕ

@@ -2,7 +2,7 @@
 ghost use Rattle.std.specs.Prelude.{◌≡◌, map, All, Contains, IfOk};
 ghost use Rattle.std.specs.Ordering.{nat_cmp};
 ghost use Rattle.std.specs.Cmp.Lexicographic.{slice_cmp};
-ghost use Rattle.shown_plan.specs.Sources.{IsEven, IsGiven};
+ghost use Rattle.shown_plan.specs.Sources.{IsEven, IsGivenValue};
 ghost use Rattle.lemmas.specs.Lists.{AreAscending};
 ghost use Rattle.transcript_model.specs.Outcomes.{IsOrigin};
 ghost use Rattle.transcript_model.specs.declared.outcome.Origin.{Origin};
@@ -44,7 +44,7 @@ pub(crate) fn origins_of(
     names: &BTreeSet<&[u8]>,
 ) -> Result<Seq<Origin>, AllocError>
     requires even { All IsEven entries.now }
-    requires given { All (IsGiven entries.now) (map (λ n. n.now) names.now.keys) }
+    requires given { All (IsGivenValue entries.now) (map (λ n. n.now) names.now.keys) }
     ensures objects { IfOk result (λ from. map (λ o. o.object) from
         ≡ map (λ n. n.now) names.now.keys) }
     ensures ascend { IfOk result (λ from. AreAscending (slice_cmp nat_cmp)

@@ -17,7 +17,7 @@ use Rattle.stream_map.specs.Children.{PlainPool, plain, numbered}
 use Rattle.stream_map.specs.Faults.{Refused, map_fault, have_wrong_workers, names_unknown, own_workers, place_of, all_places, places_of, served_fault}
 use Rattle.stream_map.specs.declared.fault.MapFault.{MapFault}
 use Rattle.stream_map.specs.declared.fault.MapFault.TheVariants.{Json, Shape, Workers, Unknown, Doubled, Unserved, Memory}
-use Rattle.stream_map.specs.Form.{each_of, stream_names}
+use Rattle.stream_map.specs.Form.{each_of, all_stream_names}
 use Rattle.stream_map.specs.Served.{streams_in}
 use Rattle.stream_map.specs.Spelled.{Spelled, shown}
 use Rattle.stream_map.specs.declared.pool_text.PoolText.{PoolText}
@@ -100,7 +100,7 @@ key_pushed f old new key names i same here apart grown =
 
 -- ---- the streams of a fit task
 
-pub few_names : (task : Task) → IsFit task → length (stream_names task) ≤ 8388608
+pub few_names : (task : Task) → IsFit task → length (all_stream_names task) ≤ 8388608
 few_names task fit = let few = few_streams task fit in omega (arith, few, length-map task.streams (λ (s : Stream). s.name))
 
 all_nil : {A : Type 0} (P : A → Type 0) → All P []

@@ -9,7 +9,7 @@ use Rattle.serde_json.specs.View.{view, items_of, items_view, members_view}
 use Rattle.serde_json.specs.declared.value.Value.{Value}
 use Rattle.serde_json.specs.Find.{as_array, as_object, get}
 use Rattle.stream_map.specs.Faults.{Only}
-use Rattle.stream_map.specs.Form.{all_keys, datas, each_of, has_only, if_some, is_map_key, listed, map_of, pool_of}
+use Rattle.stream_map.specs.Form.{all_keys, datas, each_of, has_only, if_some, is_map_key, listed, map_in_data, pool_of}
 use Rattle.stream_map.specs.declared.fault.MapFault.{MapFault}
 
 pub datas-items_of : (ds : List Data) → datas (items_of ds) ≡ ds
@@ -90,7 +90,7 @@ listed-array f d vs is =
 -- the pools of a map are read of the values of its list
 pub map_of-list : (d e : Data) (vs : List Value) → has_only is_map_key d ≡ true
     → get (codes "pools") d ≡ Some e → as_array e ≡ Some (items_view vs)
-    → map_of d ≡ each_of (λ v. pool_of (view v)) vs
+    → map_in_data d ≡ each_of (λ v. pool_of (view v)) vs
 map_of-list d e vs only got list =
     ap (λ b. cond b (option_and_then (listed pool_of) (get (codes "pools") d)) None) only ∙ ap (option_and_then (listed pool_of)) got
     ∙ listed-array pool_of e vs list

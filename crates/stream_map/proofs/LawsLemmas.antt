@@ -13,7 +13,7 @@ use Rattle.transcript_model.specs.declared.head.Pool.{Pool}
 use Rattle.stream_map.specs.Accepted.{Accepted}
 use Rattle.stream_map.specs.Children.{PlainPool, numbered, plain, with_second, with_text}
 use Rattle.stream_map.specs.Faults.{map_fault, have_wrong_workers, has_wrong_number, is_grid, names_unknown, own_workers, all_places, places_of}
-use Rattle.stream_map.specs.Form.{datas, each_of, has_only, if_program, is_map_key, is_pool_key, listed, map_of, names_of, pool_of, pool_with, program_of, stream_names, words_form, workers_of}
+use Rattle.stream_map.specs.Form.{datas, each_of, has_only, if_program, is_map_key, is_pool_key, listed, map_in_data, names_in_data, pool_of, pool_with, program_of, all_stream_names, words_form, workers_in_data}
 use Rattle.stream_map.specs.Laws.{AreWhole, PoolHasChild, AcceptedMapsAreWhole, AcceptedWordsAreWhole, TextsKeepPoolsWhole}
 use Rattle.stream_map.specs.Served.{has_repeat, has_missing, is_stream_among}
 use Rattle.stream_map.specs.Spelled.{Spelled, begins_grid, is_program}
@@ -95,9 +95,9 @@ spelled_at names next (s ∷ ss) zero p at =
     let is = sym (same_Some _ p at) in (s, refl, ap (λ (q : PlainPool). q.words) is, ap (λ (q : PlainPool). q.streams) is)
 spelled_at names next (s ∷ ss) (suc k) p at = spelled_at names (next + own_workers s) ss k p at
 
-module _ (task : Task) (pools : List Spelled) (none : NoFault (stream_names task) pools) (started : AreStarted pools) where
+module _ (task : Task) (pools : List Spelled) (none : NoFault (all_stream_names task) pools) (started : AreStarted pools) where
   abbrev names : List (List ℕ)
-  names = stream_names task
+  names = all_stream_names task
 
   abbrev plains : List PlainPool
   plains = numbered names 0 pools
@@ -155,7 +155,7 @@ pool_starts : (d : Data) (s : Spelled) → pool_of d ≡ Some s → 1 ≤ length
 pool_starts d s e =
     let parts = where_true (has_only is_pool_key d) _ s e in
     let run = run_of (option_and_then program_of (get (codes "run") d))
-    (workers_of (get (codes "workers") d)) (option_and_then names_of (get (codes "streams") d)) s parts.1 in
+    (workers_in_data (get (codes "workers") d)) (option_and_then names_in_data (get (codes "streams") d)) s parts.1 in
     let value = and_then_some program_of (get (codes "run") d) s.run run in
     let words = and_then_some if_program (listed as_str value.0) s.run value.2 in
     program_starts words.0 s.run words.2
@@ -186,7 +186,7 @@ module _ {A B : Type 0} (f : A → Option B) where
   each_at [] ys e = subst AreGivenAt (same_Some [] ys e) nothing_at
   each_at (x ∷ xs) ys e = more_at x (f x) (each_of f xs) ys refl (λ zs h. each_at xs zs h) e
 
-map_starts : (d : Data) (pools : List Spelled) → map_of d ≡ Some pools → AreStarted pools
+map_starts : (d : Data) (pools : List Spelled) → map_in_data d ≡ Some pools → AreStarted pools
 map_starts d pools e k s at =
     let parts = where_true (has_only is_map_key d) _ pools e in
     let value = and_then_some (listed pool_of) (get (codes "pools") d) pools parts.1 in
@@ -207,7 +207,7 @@ words_start : (task : Task) (words : List (List ℕ)) (workers : ℕ) (pools : L
 words_start task words workers pools = first (length task.streams == 0) (length words == 0)
   where
     pool : Spelled
-    pool = record { run = words; workers = workers; streams = stream_names task }
+    pool = record { run = words; workers = workers; streams = all_stream_names task }
 
     first : (a b : Bool)
         → cond a (Some []) (cond b (Some []) (cond (is_program words) (Some (pool ∷ [])) None)) ≡ Some pools
@@ -227,10 +227,10 @@ accepted_whole : (task : Task) (form : Option (List Spelled)) (pools : List Pool
 accepted_whole task form pools starts accepted =
     let P : List PlainPool → Type 0 = AreWhole task in
     subst P (sym accepted.pools_are) (whole task accepted.spelled
-    (no_fault (stream_names task) accepted.spelled accepted.right) (starts accepted.spelled accepted.form_is))
+    (no_fault (all_stream_names task) accepted.spelled accepted.right) (starts accepted.spelled accepted.form_is))
 
 pub accepted_maps : AcceptedMapsAreWhole
-accepted_maps task d pools accepted = accepted_whole task (map_of d) pools (map_starts d) accepted
+accepted_maps task d pools accepted = accepted_whole task (map_in_data d) pools (map_starts d) accepted
 
 pub accepted_words : AcceptedWordsAreWhole
 accepted_words task words workers pools accepted =

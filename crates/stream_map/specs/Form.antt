@@ -53,30 +53,30 @@ abbrev pub program_of : Data → Option (List (List ℕ))
 program_of d = option_and_then if_program (listed as_str d)
 
 -- a name in lower case
-abbrev pub name_of : Data → Option (List ℕ)
-name_of d = option_map (map to_ascii_lowercase) (as_str d)
+abbrev pub name_in_data : Data → Option (List ℕ)
+name_in_data d = option_map (map to_ascii_lowercase) (as_str d)
 
 abbrev pub if_some : {A : Type 0} → List A → Option (List A)
 if_some [] = None
 if_some (x ∷ xs) = Some (x ∷ xs)
 
 -- the names of streams, one at least
-abbrev pub names_of : Data → Option (List (List ℕ))
-names_of d = option_and_then if_some (listed name_of d)
+abbrev pub names_in_data : Data → Option (List (List ℕ))
+names_in_data d = option_and_then if_some (listed name_in_data d)
 
 -- an integer of 64 bits; a negative one counts as 0
-abbrev pub count_in : Num → Option ℕ
-count_in (unsigned n) = Some n
-count_in (negative z) = Some 0
-count_in (float x) = None
+abbrev pub count_in_number : Num → Option ℕ
+count_in_number (unsigned n) = Some n
+count_in_number (negative z) = Some 0
+count_in_number (float x) = None
 
 abbrev pub count_of : Data → Option ℕ
-count_of d = option_and_then count_in (as_number d)
+count_of d = option_and_then count_in_number (as_number d)
 
 -- the number of workers: 1 where none is given
-abbrev pub workers_of : Option Data → Option ℕ
-workers_of None = Some 1
-workers_of (Some d) = count_of d
+abbrev pub workers_in_data : Option Data → Option ℕ
+workers_in_data None = Some 1
+workers_in_data (Some d) = count_of d
 
 abbrev pub pool_with : Option (List (List ℕ)) → Option ℕ → Option (List (List ℕ)) → Option Spelled
 pool_with run workers streams =
@@ -87,23 +87,23 @@ abbrev pub pool_of : Data → Option Spelled
 pool_of d =
     if has_only is_pool_key d
     then pool_with (option_and_then program_of (get (codes "run") d))
-    (workers_of (get (codes "workers") d)) (option_and_then names_of (get (codes "streams") d))
+    (workers_in_data (get (codes "workers") d)) (option_and_then names_in_data (get (codes "streams") d))
     else None
 
 -- The pools of a map, or nothing where the data are no map.
-abbrev pub map_of : Data → Option (List Spelled)
-map_of d =
+abbrev pub map_in_data : Data → Option (List Spelled)
+map_in_data d =
     if has_only is_map_key d then option_and_then (listed pool_of) (get (codes "pools") d) else None
 
 -- ---- words in place of a map
 
-abbrev pub stream_names : Task → List (List ℕ)
-stream_names task = map (λ (s : Stream). s.name) task.streams
+abbrev pub all_stream_names : Task → List (List ℕ)
+all_stream_names task = map (λ (s : Stream). s.name) task.streams
 
 -- The pools of a program's words: none for a task without streams or without words, and else one of all streams.
 abbrev pub words_form : Task → List (List ℕ) → ℕ → Option (List Spelled)
 words_form task words workers =
     if length task.streams == 0 then Some [] else
     if length words == 0 then Some [] else
-    if is_program words then Some (record { run = words; workers = workers; streams = stream_names task } ∷ [])
+    if is_program words then Some (record { run = words; workers = workers; streams = all_stream_names task } ∷ [])
     else None

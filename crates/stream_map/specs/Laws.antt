@@ -3,7 +3,7 @@ use Rattle.std.specs.Prelude.{◌≡◌, ℕ, ◌+◌, ◌<◌, ◌≤◌, List,
 use Rattle.serde_json.specs.Data.{Data}
 use Rattle.task_model.specs.declared.task.Task.{Task}
 use Rattle.transcript_model.specs.declared.head.Pool.{Pool}
-use Rattle.stream_map.specs.Form.{map_of, words_form}
+use Rattle.stream_map.specs.Form.{map_in_data, words_form}
 use Rattle.stream_map.specs.Children.{PlainPool, plain, with_text}
 use Rattle.stream_map.specs.Accepted.{Accepted}
 use Rattle.io_world.specs.declared.host.TheConstants.{CHILDREN}
@@ -30,7 +30,7 @@ pub record AreWhole (task : Task) (pools : List PlainPool) : Type 0 where
 
 abbrev pub AcceptedMapsAreWhole : Type 0
 AcceptedMapsAreWhole =
-    (task : Task) (d : Data) (pools : List Pool) → Accepted task (map_of d) pools
+    (task : Task) (d : Data) (pools : List Pool) → Accepted task (map_in_data d) pools
     → AreWhole task (map plain pools)
 
 abbrev pub AcceptedWordsAreWhole : Type 0

@@ -4,7 +4,7 @@ ghost use Rattle.std.specs.BTreeMap.{keys};
 ghost use Rattle.std.specs.List.{list_all};
 ghost use Rattle.serde_json.specs.Find.{as_str, get};
 ghost use Rattle.serde_json.specs.View.{view};
-ghost use Rattle.stream_map.specs.Form.{has_only, is_map_key, is_pool_key, listed, program_of, name_of, names_of, count_of, workers_of, pool_of, map_of};
+ghost use Rattle.stream_map.specs.Form.{has_only, is_map_key, is_pool_key, listed, program_of, name_in_data, names_in_data, count_of, workers_in_data, pool_of, map_in_data};
 ghost use Rattle.stream_map.specs.Faults.{Only};
 ghost use Rattle.stream_map.specs.Spelled.{shown};
 ghost use Rattle.stream_map.specs.declared.fault.MapFault.TheVariants.{Shape};
@@ -113,8 +113,8 @@ fn program_of(alloc: Global, value: &Value) -> Result<Seq<String>, MapFault>
 
 /// A name in lower case.
 fn name_of(alloc: Global, value: &Value) -> Result<Name, MapFault>
-    ensures name { IfOk result (λ name. name_of (view value.now) ≡ Some name) }
-    ensures other { IfErr result (Only Shape (name_of (view value.now) ≡ None)) }
+    ensures name { IfOk result (λ name. name_in_data (view value.now) ≡ Some name) }
+    ensures other { IfErr result (Only Shape (name_in_data (view value.now) ≡ None)) }
 {
     let text = value.as_str().ok_or(MapFault::Shape)?;
     Ok(Name::new(text.as_bytes().to_ascii_lowercase(alloc)?))
@@ -122,8 +122,8 @@ fn name_of(alloc: Global, value: &Value) -> Result<Name, MapFault>
 
 /// The names of streams, one at least.
 fn names_of(alloc: Global, value: &Value) -> Result<Seq<Name>, MapFault>
-    ensures names { IfOk result (λ names. names_of (view value.now) ≡ Some names) }
-    ensures other { IfErr result (Only Shape (names_of (view value.now) ≡ None)) }
+    ensures names { IfOk result (λ names. names_in_data (view value.now) ≡ Some names) }
+    ensures other { IfErr result (Only Shape (names_in_data (view value.now) ≡ None)) }
 {
     let items = value.as_array().ok_or(MapFault::Shape)?;
     let mut names = Vec::new(alloc);
@@ -148,7 +148,7 @@ fn count_of(value: &Value) -> Option<u64>
 
 /// The number of workers: 1 where none is given.
 fn workers_of(value: &Value) -> Option<u64>
-    ensures { result ≡ workers_of (get (codes "workers") (view value.now)) }
+    ensures { result ≡ workers_in_data (get (codes "workers") (view value.now)) }
 {
     match value.get("workers") {
         Some(number) => count_of(number),
@@ -177,8 +177,8 @@ fn pool_of(alloc: Global, value: &Value) -> Result<PoolText, MapFault>
 /// The pools of a map.
 pub(crate) fn map_of(alloc: Global, value: &Value) -> Result<Vec<PoolText>, MapFault>
     ensures pools { IfOk result
-        (λ pools. map_of (view value.now) ≡ Some (map shown pools.items)) }
-    ensures other { IfErr result (Only Shape (map_of (view value.now) ≡ None)) }
+        (λ pools. map_in_data (view value.now) ≡ Some (map shown pools.items)) }
+    ensures other { IfErr result (Only Shape (map_in_data (view value.now) ≡ None)) }
 {
     if !is_map_object(value) {
         return Err(MapFault::Shape);

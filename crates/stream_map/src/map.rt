@@ -2,7 +2,7 @@
 ghost use Rattle.std.specs.Prelude.{◌≡◌, map, string_bytes, IfOk, IfErr};
 ghost use Rattle.stream_map.specs.Accepted.{Accepted, AcceptedMap, RefusesMap};
 ghost use Rattle.stream_map.specs.Faults.{Refused};
-ghost use Rattle.stream_map.specs.Form.{stream_names, words_form};
+ghost use Rattle.stream_map.specs.Form.{all_stream_names, words_form};
 ghost use Rattle.stream_map.specs.Spelled.{shown};
 ghost use Rattle.task_model.specs.Fit.{IsFit};
 
@@ -43,7 +43,7 @@ fn pool_of_all(
         ≡ record {
           run = map string_bytes argv.now;
           workers = workers;
-          streams = stream_names
+          streams = all_stream_names
               task.now;
         }) }
 {
@@ -73,7 +73,7 @@ pub fn one_pool(
     requires fit { IsFit task.now }
     ensures pools { IfOk result
         (Accepted task.now (words_form task.now (map string_bytes argv.now) workers)) }
-    ensures refused { IfErr result (Refused (stream_names task.now)
+    ensures refused { IfErr result (Refused (all_stream_names task.now)
         (words_form task.now (map string_bytes argv.now) workers)) }
 {
     let mut texts = Vec::new(alloc);

@@ -1,7 +1,7 @@
 //! The names of a task's streams.
 ghost use Rattle.std.specs.Prelude.{◌≡◌, length, IfOk};
 ghost use Rattle.stream_map.specs.Faults.{place_of};
-ghost use Rattle.stream_map.specs.Form.{stream_names};
+ghost use Rattle.stream_map.specs.Form.{all_stream_names};
 ghost use Rattle.task_model.specs.Fit.{IsFit};
 
 use indexmap::IndexSet;
@@ -27,7 +27,7 @@ impl StreamNames {
     /// The names of the task's streams. Fails only where memory is wanting.
     pub(crate) fn of(alloc: Global, task: &Task) -> Result<StreamNames, AllocError>
         requires { IsFit task.now }
-        ensures { IfOk result (λ names. names ≡ stream_names task.now) }
+        ensures { IfOk result (λ names. names ≡ all_stream_names task.now) }
     {
         let mut names = IndexSet::with_capacity(alloc, task.streams.len())?;
         for stream in task.streams.as_slice() {

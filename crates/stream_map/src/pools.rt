@@ -3,7 +3,7 @@ ghost use Rattle.std.specs.Prelude.{◌≡◌, ◌≤◌, ◌+◌, Some, None, m
 ghost use Rattle.std.specs.List.{list_any};
 ghost use Rattle.stream_map.specs.Children.{plain, numbered};
 ghost use Rattle.stream_map.specs.Faults.{Only, Refused, map_fault, have_wrong_workers, is_grid, names_unknown, place_of};
-ghost use Rattle.stream_map.specs.Form.{each_of, stream_names};
+ghost use Rattle.stream_map.specs.Form.{each_of, all_stream_names};
 ghost use Rattle.stream_map.specs.Spelled.{shown};
 ghost use Rattle.stream_map.specs.declared.fault.MapFault.TheVariants.{Unknown};
 ghost use Rattle.task_model.specs.Fit.{IsFit};
@@ -83,10 +83,12 @@ pub(crate) fn pools_of(
     texts: Vec<PoolText>,
 ) -> Result<Seq<Pool>, MapFault>
     requires fit { IsFit task.now }
-    ensures right { OnOk result (map_fault (stream_names task.now) (map shown texts.items) ≡ None) }
+    ensures right { OnOk result
+        (map_fault (all_stream_names task.now) (map shown texts.items) ≡ None) }
     ensures pools { IfOk result
-        (λ pools. map plain pools ≡ numbered (stream_names task.now) 0 (map shown texts.items)) }
-    ensures refused { IfErr result (Refused (stream_names task.now)
+        (λ pools. map plain pools
+        ≡ numbered (all_stream_names task.now) 0 (map shown texts.items)) }
+    ensures refused { IfErr result (Refused (all_stream_names task.now)
         (Some (map shown texts.items))) }
 {
     if have_wrong_workers(texts.as_slice()) {

@@ -16,7 +16,7 @@ use Rattle.name_tables.specs.Graphs.{HasWay}
 use Rattle.name_tables.specs.Graphs as graphs
 use Rattle.name_tables.specs.declared.vocabulary.Vocabulary.{Vocabulary}
 use Rattle.fit_check.specs.Edges.{streams_within}
-use Rattle.stream_reader.specs.Cycles.{candidates_of, edges_from, edges_of, is_there, next_of, next_one}
+use Rattle.stream_reader.specs.Cycles.{candidates_of, edges_from, edges_of, is_there, next_streams, next_one}
 use Rattle.name_tables.specs.Cycles.{CycleFaults, no_more, cyclic, free}
 use Rattle.stream_reader.specs.Streams.{item_streams, streams_of}
 use Rattle.stream_reader.specs.Tables.{kind_of}
@@ -70,22 +70,22 @@ number_there d s u number e =
 
 next_there : (d : Domain) (s u : stream.Stream) (number : ℕ) (ts : List stream.Stream) (k : ℕ)
     → slice_get ts k ≡ Some u → stream_leads d s u ≡ true
-    → has_number (next_of d s number ts) (number + k) ≡ true
+    → has_number (next_streams d s number ts) (number + k) ≡ true
 next_there d s u number [] k e h = absurd (cc)
 next_there d s u number (t ∷ ts) zero e h =
     let same : t ≡ u = cc in
     let zeros : number ≡ number + 0 = omega arith in
-    any_append_left (λ m. number + 0 == m) (next_one d s t number) (next_of d s (number + 1) ts)
+    any_append_left (λ m. number + 0 == m) (next_one d s t number) (next_streams d s (number + 1) ts)
     (subst (λ n. has_number (next_one d s t number) n ≡ true) zeros (number_there d s t number (ap (stream_leads d s) same ∙ h)))
 next_there d s u number (t ∷ ts) (suc k) e h =
     let up : number + 1 + k ≡ number + suc k = omega arith in
-    any_append_right (λ m. number + suc k == m) (next_one d s t number) (next_of d s (number + 1) ts)
-    (subst (λ n. has_number (next_of d s (number + 1) ts) n ≡ true) up (next_there d s u (number + 1) ts k e h))
+    any_append_right (λ m. number + suc k == m) (next_one d s t number) (next_streams d s (number + 1) ts)
+    (subst (λ n. has_number (next_streams d s (number + 1) ts) n ≡ true) up (next_there d s u (number + 1) ts k e h))
 
 edge_at : (d : Domain) (all ss : List stream.Stream) (k : ℕ) (s : stream.Stream)
-    → slice_get ss k ≡ Some s → slice_get (edges_from d all ss) k ≡ Some (next_of d s 0 all)
+    → slice_get ss k ≡ Some s → slice_get (edges_from d all ss) k ≡ Some (next_streams d s 0 all)
 edge_at d all [] k s e = absurd (cc)
-edge_at d all (t ∷ ss) zero s e = let same : t ≡ s = cc in ap (λ r. Some (next_of d r 0 all)) same
+edge_at d all (t ∷ ss) zero s e = let same : t ≡ s = cc in ap (λ r. Some (next_streams d r 0 all)) same
 edge_at d all (t ∷ ss) (suc k) s e = edge_at d all ss k s e
 
 module _ (task : Task) where
@@ -114,10 +114,10 @@ module _ (task : Task) where
       let first = get_there task.streams from within.0 in
       let second = get_there task.streams to within.1 in
       let zeros : 0 + to ≡ to = omega arith in
-      let row : graphs.next_of edges from ≡ next_of task.domain first.0 0 task.streams =
+      let row : graphs.next_of edges from ≡ next_streams task.domain first.0 0 task.streams =
       ap (λ o. unwrap_or o []) (edge_at task.domain task.streams task.streams from first.0 first.1) in
       ap (λ ns. has_number ns to) row
-      ∙ subst (λ n. has_number (next_of task.domain first.0 0 task.streams) n ≡ true) zeros
+      ∙ subst (λ n. has_number (next_streams task.domain first.0 0 task.streams) n ≡ true) zeros
       (next_there task.domain first.0 second.0 0 task.streams to second.1 (leads_there from to h first.0 second.0 first.1 second.1))
 
   way_there : (from : ℕ) (between : List ℕ) (to : ℕ) → LeadsAlong (leads task) from between to

@@ -15,7 +15,7 @@ use Rattle.name_tables.specs.declared.vocabulary.Vocabulary.{Vocabulary}
 use Rattle.name_tables.proofs.NoFaultLemmas.{some_fault}
 use Rattle.name_tables.proofs.Parted.{none_both}
 use Rattle.stream_reader.specs.declared.tables.Scopes.{Scopes}
-use Rattle.stream_reader.specs.Names.{keys_names, value_names}
+use Rattle.stream_reader.specs.Names.{stream_keys_names, stream_value_names}
 use Rattle.name_tables.specs.Texts.{value_at}
 
 -- a key that may stand somewhere
@@ -50,7 +50,7 @@ module _ (v : Vocabulary) (roles : List Role) (scopes : Scopes) (keyed : Keyed) 
     pub real : IsKey k
     pub place : ℕ
     pub formed : value_faults k place value ≡ []
-    pub named : value_names v roles scopes k place value ≡ []
+    pub named : stream_value_names v roles scopes k place value ≡ []
     pub small : size value ≤ most
 
   -- no such word is there, and no value
@@ -73,7 +73,7 @@ module _ (v : Vocabulary) (roles : List Role) (scopes : Scopes) (keyed : Keyed) 
   step :
       (b : Bool) (w : List ℕ) (k : Key) (text : List ℕ) (at : ℕ) (items : Trees) (at' : ℕ) (rest : Trees) (most : ℕ) →
       bytes_eq text w ≡ b → key_of keyed w ≡ k → IsKey (key_of keyed text) → value_faults (key_of keyed text) at' items ≡ []
-      → value_names v roles scopes (key_of keyed text) at' items ≡ [] → size items ≤ most → IsThere w k most rest
+      → stream_value_names v roles scopes (key_of keyed text) at' items ≡ [] → size items ≤ most → IsThere w k most rest
       → IsThere w k most (pair text at items at' rest)
   step true w k text at items at' rest most is key real formed named small more =
       let same : text ≡ w = (bytes_eq-Decides text w).0 is in
@@ -84,7 +84,7 @@ module _ (v : Vocabulary) (roles : List Role) (scopes : Scopes) (keyed : Keyed) 
         real = subst IsKey chosen real;
         place = at';
         formed = (λ i. value_faults (sym chosen i) at' (value i)) ∙ formed;
-        named = (λ i. value_names v roles scopes (sym chosen i) at' (value i)) ∙ named;
+        named = (λ i. stream_value_names v roles scopes (sym chosen i) at' (value i)) ∙ named;
         small = omega (arith, ap size value, small);
       })
   step false w k text at items at' rest most is key real formed named small more =
@@ -96,14 +96,14 @@ module _ (v : Vocabulary) (roles : List Role) (scopes : Scopes) (keyed : Keyed) 
               real = there.real;
               place = there.place;
               formed = ap (value_faults k there.place) value ∙ there.formed;
-              named = ap (value_names v roles scopes k there.place) value ∙ there.named;
+              named = ap (stream_value_names v roles scopes k there.place) value ∙ there.named;
               small = omega (arith, ap size value, there.small);
             })
       ]
 
   -- the value of a word's key, if the word is there
   pub find : (w : List ℕ) (k : Key) (before : Key) (place : ℕ) (keys : Trees) → key_of keyed w ≡ k
-      → keys_faults keyed place keys ≡ [] → keys_names v roles scopes keyed before keys ≡ []
+      → keys_faults keyed place keys ≡ [] → stream_keys_names v roles scopes keyed before keys ≡ []
       → IsThere w k (size keys) keys
   find w k before place nothing key e f = inl (record { none = refl; nothing = refl })
   find w k before place (list items at rest) key e f = absurd (some_fault (shape at) [] e)
@@ -115,8 +115,8 @@ module _ (v : Vocabulary) (roles : List Role) (scopes : Scopes) (keyed : Keyed) 
       let clean = key_clean (key_of keyed text) at (λ k. valued_faults keyed place k (list items at' rest)) e in
       let forms = none_both (value_faults (key_of keyed text) at' items) (keys_faults keyed place rest) clean.1 in
       let names =
-      none_both (value_names v roles scopes (key_of keyed text) at' items)
-      (keys_names v roles scopes keyed (key_of keyed text) rest) f in
+      none_both (stream_value_names v roles scopes (key_of keyed text) at' items)
+      (stream_keys_names v roles scopes keyed (key_of keyed text) rest) f in
       let most : ℕ = size (pair text at items at' rest) in
       step (bytes_eq text w) w k text at items at' rest most refl key clean.0 forms.0 names.0
       (omega arith) (less w k (size rest) most rest (omega arith) (find w k (key_of keyed text) place rest key forms.1 names.1))

@@ -26,7 +26,7 @@ use Rattle.name_tables.proofs.Parted.{none_both}
 use Rattle.name_tables.proofs.NamesUseLemmas.{IsUsable, place_some, usable}
 use Rattle.name_tables.proofs.VocabularyLemmas.{listed, role_at, used_inside}
 use Rattle.stream_reader.proofs.TablesDomainLemmas.{AreKnown}
-use Rattle.stream_reader.specs.Atoms.{atom_names, atom_rows_names, atoms_names, is_changing, patterns_of, role_at as role_found, row_patterns}
+use Rattle.stream_reader.specs.Atoms.{stream_atom_names, atom_rows_names, atoms_names, is_changing, patterns_of, role_at as role_found, row_patterns}
 
 -- ---- how many
 
@@ -95,7 +95,7 @@ module _ (d : Domain) (v : Vocabulary) (over : IsFitDomain d) (known : AreKnown 
 
   atom_good : (place : ℕ) (w : List ℕ) (at : ℕ) (rest : Trees)
       → application_faults Predicate Term place (word w at rest) ≡ []
-      → atom_names v d.roles scope place (word w at rest) ≡ []
+      → stream_atom_names v d.roles scope place (word w at rest) ≡ []
       → AreGood (pattern_of v scope (word w at rest) ∷ [])
   atom_good place w at rest e f =
       let parts =
@@ -115,7 +115,7 @@ module _ (d : Domain) (v : Vocabulary) (over : IsFitDomain d) (known : AreKnown 
 
   good_by : (b : Bool) (place : ℕ) (w : List ℕ) (at : ℕ) (rest : Trees)
       → cond b (atom_rows_faults rest) (application_faults Predicate Term place (word w at rest)) ≡ []
-      → cond b (atom_rows_names v d.roles scope rest) (atom_names v d.roles scope place (word w at rest)) ≡ []
+      → cond b (atom_rows_names v d.roles scope rest) (stream_atom_names v d.roles scope place (word w at rest)) ≡ []
       → (atom_rows_faults rest ≡ [] → atom_rows_names v d.roles scope rest ≡ [] → AreGood (row_patterns v scope rest))
       → AreGood (cond b (row_patterns v scope rest) (pattern_of v scope (word w at rest) ∷ []))
   good_by true place w at rest e f rows = rows e f

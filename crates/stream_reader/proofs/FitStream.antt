@@ -26,7 +26,7 @@ use Rattle.name_tables.proofs.NoFaultLemmas.{met}
 use Rattle.name_tables.proofs.Parted.{none_both}
 use Rattle.stream_reader.specs.declared.tables.Scopes.{Scopes}
 use Rattle.stream_reader.specs.Atoms.{atoms_names, patterns_of}
-use Rattle.stream_reader.specs.Names.{keys_names, ninth_names, variables_names}
+use Rattle.stream_reader.specs.Names.{stream_keys_names, ninth_names, stream_variables_names}
 use Rattle.stream_reader.specs.Streams.{stream_of}
 use Rattle.stream_reader.specs.Tables.{scopes_of}
 use Rattle.name_tables.specs.Texts.{value_at}
@@ -61,7 +61,7 @@ record AreFew (v : Vocabulary) (ts : Trees) : Type 0 where
   few : length (named_words Start ts) ≤ 8
   known : types_names v.sorts Start ts ≡ []
 
-few_from : (v : Vocabulary) (ts : Trees) → variables_names v ts ≡ [] → AreFew v ts
+few_from : (v : Vocabulary) (ts : Trees) → stream_variables_names v ts ≡ [] → AreFew v ts
 few_from v ts e =
     let parts = none_both (types_names v.sorts Start ts) (ninth_names 0 Start ts) e in
     record { few = omega (arith, few_words 0 Start ts (omega arith) parts.1); known = parts.0 }
@@ -192,7 +192,7 @@ module _ (d : Domain) (v : Vocabulary) (over : IsFitDomain d) (known : AreKnown 
     -- ---- streams and cost streams
 
     pub stream_fit : (name : List ℕ) (place : ℕ) → keys_faults keyed.Stream place keys ≡ []
-        → keys_names v d.roles scopes keyed.Stream key.NoKey keys ≡ []
+        → stream_keys_names v d.roles scopes keyed.Stream key.NoKey keys ≡ []
         → is_fit_stream d (stream_of v keyed.Stream name keys) ≡ true
     stream_fit name place e f =
         parts_fit keyed.Stream name (record {
@@ -222,7 +222,7 @@ module _ (d : Domain) (v : Vocabulary) (over : IsFitDomain d) (known : AreKnown 
 
     pub cost_fit : (name : List ℕ) (place : ℕ) → has_word (codes ":value") keys ≡ true
         → keys_faults keyed.CostStream place keys ≡ []
-        → keys_names v d.roles scopes keyed.CostStream key.NoKey keys ≡ []
+        → stream_keys_names v d.roles scopes keyed.CostStream key.NoKey keys ≡ []
         → is_fit_stream d (stream_of v keyed.CostStream name keys) ≡ true
     cost_fit name place has e f =
         let value =

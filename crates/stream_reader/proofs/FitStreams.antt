@@ -32,7 +32,7 @@ use Rattle.name_tables.proofs.Parted.{none_both}
 use Rattle.name_tables.proofs.TextsLemmas.{body_less}
 use Rattle.name_tables.proofs.TitleLemmas.{titled}
 use Rattle.stream_reader.specs.Fitness.{AreFitOver}
-use Rattle.stream_reader.specs.Names.{item_names, items_names, keys_names, second_streams, second_variables, stream_names}
+use Rattle.stream_reader.specs.Names.{item_names, stream_items_names, stream_keys_names, second_streams, second_variables, stream_item_names}
 use Rattle.stream_reader.specs.Reading.{AreRead, StreamsRead, spelled}
 use Rattle.stream_reader.specs.Streams.{item_streams, stream_of, streams_of}
 use Rattle.stream_reader.specs.Tables.{kind_of, scopes_of, stream_kind, stream_vocabulary}
@@ -96,11 +96,11 @@ module _ (d : Domain) (v : Vocabulary) (over : IsFitDomain d) (known : AreKnown 
   keyed_from kind place (word w at rest) e =
       let c = chosen (is_of Name w) (keys_faults kind place rest) (shape at) [] e in record { place = place; name = c.0; formed = c.1 }
 
-  keys_clean : (kind : Keyed) (keys : Trees) → stream_names v d.roles kind keys ≡ []
-      → keys_names v d.roles (scopes_of keys) kind key.NoKey keys ≡ []
+  keys_clean : (kind : Keyed) (keys : Trees) → stream_item_names v d.roles kind keys ≡ []
+      → stream_keys_names v d.roles (scopes_of keys) kind key.NoKey keys ≡ []
   keys_clean kind keys e =
       (none_both (repeated_names [] keys ++ second_variables kind [] key.NoKey keys)
-      (keys_names v d.roles (scopes_of keys) kind key.NoKey keys) e).1
+      (stream_keys_names v d.roles (scopes_of keys) kind key.NoKey keys) e).1
 
   -- the word `:value` is no name, so it is a key
   value_key : (rest : Trees) → is_name (head_of rest) ≡ true → has_word (codes ":value") rest ≡ true
@@ -149,12 +149,12 @@ module _ (d : Domain) (v : Vocabulary) (over : IsFitDomain d) (known : AreKnown 
       item_good (item_of text.Streams w) place at rest (omega arith) e f
 
   all_good : (body : Trees) → size body ≤ 8388607 → items_faults text.Streams body ≡ []
-      → items_names v d.roles body ≡ [] → AreGood (streams_of v body)
+      → stream_items_names v d.roles body ≡ [] → AreGood (streams_of v body)
   all_good nothing h e f = none_good
   all_good (word w at rest) h e f = absurd (some_fault (shape at) [] e)
   all_good (list items at rest) h e f =
       let forms = none_both (item_faults text.Streams at items) (items_faults text.Streams rest) e in
-      let names = none_both (item_names v d.roles (kind_of items) (tail_of (tail_of items))) (items_names v d.roles rest) f in
+      let names = none_both (item_names v d.roles (kind_of items) (tail_of (tail_of items))) (stream_items_names v d.roles rest) f in
       more_good (item_streams v (kind_of items) (tail_of items)) (streams_of v rest)
       (list_good at items (omega arith) forms.0 names.0) (all_good rest (omega arith) forms.1 names.1)
 
@@ -171,7 +171,7 @@ spelled_fit : (d : Domain) (t : Trees) (problem : Problem) → IsFitDomain d →
     → AreFitStreams (record { domain = d; problem = problem; streams = spelled d t })
 spelled_fit d t problem over bounded read =
     let v : Vocabulary = stream_vocabulary d in
-    let parts = none_both (items_names v d.roles (body_of t)) (second_streams [] (body_of t)) read.named.named in
+    let parts = none_both (stream_items_names v d.roles (body_of t)) (second_streams [] (body_of t)) read.named.named in
     let few : size (body_of t) ≤ 8388607 = omega (arith, body_less t, bounded.small) in
     let good = all_good d v over (names_are d over) (body_of t) few (formed_items t read.formed) parts.0 in
     record {

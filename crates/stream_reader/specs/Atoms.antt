@@ -26,8 +26,8 @@ role_at roles (Some place) = slice_get roles place
 
 module _ (v : Vocabulary) (roles : List Role) (scope : List (List ℕ)) where
   -- an atom, as the list at this place
-  abbrev pub atom_names : ℕ → Trees → List Fault
-  atom_names place items =
+  abbrev pub stream_atom_names : ℕ → Trees → List Fault
+  stream_atom_names place items =
       application_names v.predicates v.objects scope place items
       ++ unless (not (is_changing (role_at roles (place_of (head_of items) v.predicates.names)))) EffectOnStatic
       place
@@ -43,7 +43,7 @@ module _ (v : Vocabulary) (roles : List Role) (scope : List (List ℕ)) where
     pub atoms_names : ℕ → Trees → List Fault
     atoms_names place nothing = []
     atoms_names place (word text at rest) =
-        if bytes_eq text (codes "and") then atom_rows_names rest else atom_names place (word text at rest)
+        if bytes_eq text (codes "and") then atom_rows_names rest else stream_atom_names place (word text at rest)
     atoms_names place (list items at rest) = []
 
 module _ (v : Vocabulary) (scope : List (List ℕ)) where

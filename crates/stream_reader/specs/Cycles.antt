@@ -15,14 +15,14 @@ abbrev pub next_one : Domain → stream.Stream → stream.Stream → ℕ → Lis
 next_one d s t number = if stream_leads d s t then number ∷ [] else []
 
 -- the numbers of those of these streams to which a stream leads in one step; the first of them has this number
-abbrev pub next_of : Domain → stream.Stream → ℕ → List stream.Stream → List ℕ
-next_of d s number [] = []
-next_of d s number (t ∷ ts) = next_one d s t number ++ next_of d s (number + 1) ts
+abbrev pub next_streams : Domain → stream.Stream → ℕ → List stream.Stream → List ℕ
+next_streams d s number [] = []
+next_streams d s number (t ∷ ts) = next_one d s t number ++ next_streams d s (number + 1) ts
 
 -- of each of some streams, where these are all
 abbrev pub edges_from : Domain → List stream.Stream → List stream.Stream → List (List ℕ)
 edges_from d all [] = []
-edges_from d all (s ∷ ss) = next_of d s 0 all ∷ edges_from d all ss
+edges_from d all (s ∷ ss) = next_streams d s 0 all ∷ edges_from d all ss
 
 -- to which streams each stream leads in one step, all by their numbers
 abbrev pub edges_of : Domain → List stream.Stream → List (List ℕ)

@@ -31,30 +31,30 @@ ninth_names before spot (word text at rest) =
 ninth_names before spot (list items at rest) = []
 
 -- a list of inputs or outputs: of types that are there, and at most 8
-abbrev pub variables_names : Vocabulary → Trees → List Fault
-variables_names v items = types_names v.sorts Start items ++ ninth_names 0 Start items
+abbrev pub stream_variables_names : Vocabulary → Trees → List Fault
+stream_variables_names v items = types_names v.sorts Start items ++ ninth_names 0 Start items
 
 -- The value of a key, which is the list at this place. Outputs are in scope in `:certified` alone.
-abbrev pub value_names : Vocabulary → List Role → Scopes → Key → ℕ → Trees → List Fault
-value_names v roles scopes key.Inputs place items = variables_names v items
-value_names v roles scopes key.Outputs place items = variables_names v items
-value_names v roles scopes key.Domain place items = atoms_names v roles scopes.inputs place items
-value_names v roles scopes key.Certified place items = atoms_names v roles scopes.all place items
-value_names v roles scopes key.Value place items =
+abbrev pub stream_value_names : Vocabulary → List Role → Scopes → Key → ℕ → Trees → List Fault
+stream_value_names v roles scopes key.Inputs place items = stream_variables_names v items
+stream_value_names v roles scopes key.Outputs place items = stream_variables_names v items
+stream_value_names v roles scopes key.Domain place items = atoms_names v roles scopes.inputs place items
+stream_value_names v roles scopes key.Certified place items = atoms_names v roles scopes.all place items
+stream_value_names v roles scopes key.Value place items =
     application_names v.functions v.objects scopes.inputs place items
-value_names v roles scopes key.Parameters place items = []
-value_names v roles scopes key.Precondition place items = []
-value_names v roles scopes key.Effect place items = []
-value_names v roles scopes key.Unknown place items = []
-value_names v roles scopes key.NoKey place items = []
+stream_value_names v roles scopes key.Parameters place items = []
+stream_value_names v roles scopes key.Precondition place items = []
+stream_value_names v roles scopes key.Effect place items = []
+stream_value_names v roles scopes key.Unknown place items = []
+stream_value_names v roles scopes key.NoKey place items = []
 
 -- keys and their values; the key before a value is the word before it
-abbrev pub keys_names : Vocabulary → List Role → Scopes → Keyed → Key → Trees → List Fault
-keys_names v roles scopes keyed k nothing = []
-keys_names v roles scopes keyed k (word text at rest) =
-    keys_names v roles scopes keyed (key_of keyed text) rest
-keys_names v roles scopes keyed k (list items at rest) =
-    value_names v roles scopes k at items ++ keys_names v roles scopes keyed k rest
+abbrev pub stream_keys_names : Vocabulary → List Role → Scopes → Keyed → Key → Trees → List Fault
+stream_keys_names v roles scopes keyed k nothing = []
+stream_keys_names v roles scopes keyed k (word text at rest) =
+    stream_keys_names v roles scopes keyed (key_of keyed text) rest
+stream_keys_names v roles scopes keyed k (list items at rest) =
+    stream_value_names v roles scopes k at items ++ stream_keys_names v roles scopes keyed k rest
 
 -- the key of inputs or of outputs
 abbrev pub has_variables : Key → Bool
@@ -74,21 +74,21 @@ second_variables keyed seen k (list items at rest) =
 -- ---- streams
 
 -- the keys of a stream
-abbrev pub stream_names : Vocabulary → List Role → Keyed → Trees → List Fault
-stream_names v roles keyed keys =
+abbrev pub stream_item_names : Vocabulary → List Role → Keyed → Trees → List Fault
+stream_item_names v roles keyed keys =
     repeated_names [] keys ++ second_variables keyed [] key.NoKey keys
-    ++ keys_names v roles (scopes_of keys) keyed key.NoKey keys
+    ++ stream_keys_names v roles (scopes_of keys) keyed key.NoKey keys
 
 -- a list of a stream file, if it is a stream
 abbrev pub item_names : Vocabulary → List Role → Option Keyed → Trees → List Fault
 item_names v roles None keys = []
-item_names v roles (Some keyed) keys = stream_names v roles keyed keys
+item_names v roles (Some keyed) keys = stream_item_names v roles keyed keys
 
-abbrev pub items_names : Vocabulary → List Role → Trees → List Fault
-items_names v roles nothing = []
-items_names v roles (word text at rest) = items_names v roles rest
-items_names v roles (list items at rest) =
-    item_names v roles (kind_of items) (keys_of items) ++ items_names v roles rest
+abbrev pub stream_items_names : Vocabulary → List Role → Trees → List Fault
+stream_items_names v roles nothing = []
+stream_items_names v roles (word text at rest) = stream_items_names v roles rest
+stream_items_names v roles (list items at rest) =
+    item_names v roles (kind_of items) (keys_of items) ++ stream_items_names v roles rest
 
 -- no two streams have one name, where these were seen before; streams and cost streams share their names
 abbrev pub second_streams : List (List ℕ) → Trees → List Fault
@@ -99,5 +99,5 @@ second_streams seen (list items at rest) =
     ++ second_streams (with_name seen (head_of (tail_of items))) rest
 
 -- all name faults but for those of streams that lead to themselves
-abbrev pub plain_names : Vocabulary → List Role → Trees → List Fault
-plain_names v roles body = items_names v roles body ++ second_streams [] body
+abbrev pub stream_plain_names : Vocabulary → List Role → Trees → List Fault
+stream_plain_names v roles body = stream_items_names v roles body ++ second_streams [] body

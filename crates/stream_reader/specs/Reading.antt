@@ -12,7 +12,7 @@ use Rattle.form_reader.specs.Faults.{least_fault}
 use Rattle.form_reader.specs.Texts.{form_faults}
 use Rattle.stream_reader.specs.Cycles.{candidates_of, edges_of}
 use Rattle.name_tables.specs.Cycles.{CycleFaults, AnswersCycles}
-use Rattle.stream_reader.specs.Names.{plain_names}
+use Rattle.stream_reader.specs.Names.{stream_plain_names}
 use Rattle.stream_reader.specs.Streams.{streams_of}
 use Rattle.stream_reader.specs.Tables.{stream_vocabulary}
 use Rattle.name_tables.specs.Texts.{body_of}
@@ -21,7 +21,7 @@ use Rattle.name_tables.specs.Texts.{body_of}
 
 -- the name faults but for those of cycles
 abbrev pub stream_file_names : Domain → Trees → List Fault
-stream_file_names d t = plain_names (stream_vocabulary d) d.roles (body_of t)
+stream_file_names d t = stream_plain_names (stream_vocabulary d) d.roles (body_of t)
 
 -- the streams that the text spells
 abbrev pub spelled : Domain → Trees → List stream.Stream
@@ -39,15 +39,15 @@ pub data IsNameFault (d : Domain) (t : Trees) (f : Fault) : Type 0 where
       → least_fault faults ≡ Some f → IsNameFault d t f
 
 -- there is no name fault, and these are the streams
-pub record AreNamed (d : Domain) (t : Trees) (ss : List stream.Stream) : Type 0 where
+pub record AreStreamsNamed (d : Domain) (t : Trees) (ss : List stream.Stream) : Type 0 where
   pub named : stream_file_names d t ≡ []
   pub acyclic : AreCycleFaults d t []
   pub streams : ss ≡ spelled d t
 
 -- of a text without form faults
-abbrev pub ReadsNamed : Domain → Trees → Result (List stream.Stream) Fault → Type 0
-ReadsNamed d t (Ok ss) = AreNamed d t ss
-ReadsNamed d t (Err f) = IsNameFault d t f
+abbrev pub StreamsReadNamed : Domain → Trees → Result (List stream.Stream) Fault → Type 0
+StreamsReadNamed d t (Ok ss) = AreStreamsNamed d t ss
+StreamsReadNamed d t (Err f) = IsNameFault d t f
 
 -- The fault is answered: of form faults the least, and where there is none, the name fault.
 pub data AreStreamsAnswered (d : Domain) (t : Trees) (f : Fault) : Type 0 where
@@ -57,7 +57,7 @@ pub data AreStreamsAnswered (d : Domain) (t : Trees) (f : Fault) : Type 0 where
 -- there is no fault, and these are the streams
 pub record AreRead (d : Domain) (t : Trees) (ss : List stream.Stream) : Type 0 where
   pub formed : form_faults Streams t ≡ []
-  pub named : AreNamed d t ss
+  pub named : AreStreamsNamed d t ss
 
 -- Streams are read where there is no fault, and a fault is the answered one. Memory is free.
 abbrev pub StreamsRead : Domain → Trees → Result (List stream.Stream) InputFault → Type 0

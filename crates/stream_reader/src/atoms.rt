@@ -42,7 +42,7 @@ fn check_atom(
     so_far: Option<Fault>,
 ) -> Result<Option<Fault>, AllocError>
     ensures { IfOk result (λ f. f ≡ first so_far
-        (specs.atom_names names.now roles.now scope.now place (trees items.now))) }
+        (specs.stream_atom_names names.now roles.now scope.now place (trees items.now))) }
 {
     let found = check_application(
         &names.predicates,

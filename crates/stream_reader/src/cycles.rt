@@ -36,7 +36,7 @@ fn next_of(
     first: &Stream,
     all: &[Stream],
 ) -> Result<Seq<u32>, AllocError>
-    ensures { IfOk result (λ numbers. numbers ≡ specs.next_of domain.now first.now 0 all.now) }
+    ensures { IfOk result (λ numbers. numbers ≡ specs.next_streams domain.now first.now 0 all.now) }
 {
     let mut numbers = Vec::new(alloc);
     for (place, second) in all.iter().enumerate() {

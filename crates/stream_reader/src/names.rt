@@ -50,7 +50,7 @@ fn check_variables(
     so_far: Option<Fault>,
 ) -> Result<Option<Fault>, AllocError>
     ensures { IfOk result (λ f. f ≡ first so_far
-        (specs.variables_names names.now (trees items.now))) }
+        (specs.stream_variables_names names.now (trees items.now))) }
 {
     let typed = check_types(&names.sorts, items, so_far);
     check_ninth(items, typed)
@@ -67,7 +67,7 @@ fn check_value(
     so_far: Option<Fault>,
 ) -> Result<Option<Fault>, AllocError>
     ensures { IfOk result (λ f. f ≡ first so_far
-        (specs.value_names names.now roles.now scopes.now key place (trees items.now))) }
+        (specs.stream_value_names names.now roles.now scopes.now key place (trees items.now))) }
 {
     match key {
         Key::Inputs | Key::Outputs => check_variables(names, items, so_far),
@@ -95,7 +95,7 @@ fn check_keys(
     so_far: Option<Fault>,
 ) -> Result<Option<Fault>, AllocError>
     ensures { IfOk result (λ f. f ≡ first so_far
-        (specs.keys_names names.now roles.now scopes.now keyed NoKey (trees items.now))) }
+        (specs.stream_keys_names names.now roles.now scopes.now keyed NoKey (trees items.now))) }
 {
     let mut left = items;
     let mut found = so_far;
@@ -163,7 +163,7 @@ fn check_stream(
     so_far: Option<Fault>,
 ) -> Result<Option<Fault>, AllocError>
     ensures { IfOk result (λ f. f ≡ first so_far
-        (specs.stream_names names.now roles.now keyed (trees keys.now))) }
+        (specs.stream_item_names names.now roles.now keyed (trees keys.now))) }
 {
     let mut seen = NameTable::new(alloc);
     let once = check_repeated(&mut seen, keys, so_far)?;
@@ -199,7 +199,7 @@ fn check_items(
     so_far: Option<Fault>,
 ) -> Result<Option<Fault>, AllocError>
     ensures { IfOk result (λ f. f ≡ first so_far
-        (specs.items_names names.now roles.now (trees items.now))) }
+        (specs.stream_items_names names.now roles.now (trees items.now))) }
 {
     let mut left = items;
     let mut found = so_far;
@@ -248,7 +248,7 @@ pub(crate) fn check_plain(
     body: &[Tree],
 ) -> Result<Option<Fault>, AllocError>
     ensures { IfOk result (λ f. f ≡ least_fault
-        (specs.plain_names names.now roles.now (trees body.now))) }
+        (specs.stream_plain_names names.now roles.now (trees body.now))) }
 {
     let used = check_items(alloc, names, roles, body, None)?;
     check_second_streams(alloc, body, used)

@@ -22,7 +22,7 @@ fn read_named(
     domain: &Domain,
     text: &Tree,
 ) -> Result<Result<Seq<Stream>, Fault>, AllocError>
-    ensures { IfOk result (λ r. specs.ReadsNamed domain.now (tree text.now) r) }
+    ensures { IfOk result (λ r. specs.StreamsReadNamed domain.now (tree text.now) r) }
 {
     let body = body_of(text);
     let names = stream_vocabulary(alloc, domain)?;

@@ -140,6 +140,11 @@ values_equivalence = decided same_value value_decided
 pub object_itself : (sort object : ℕ) → object_with sort (type_fact sort object) ≡ Some object
 object_itself sort object = ap (λ b. cond b (Some object) None) (eq-eqb sort sort refl)
 
+pub below_names : (names : List (List ℕ)) (object : ℕ) → IsIn names object → object < length names
+below_names [] object named = absurd (cc)
+below_names (n ∷ names) zero named = omega arith
+below_names (n ∷ names) (suc object) named = omega (arith, below_names names object named)
+
 pub in_names : (names : List (List ℕ)) (object : ℕ) → object < length names → IsIn names object
 in_names [] object lt = absurd (omega arith)
 in_names (n ∷ ns) zero lt = refl

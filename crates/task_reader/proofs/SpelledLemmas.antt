@@ -103,7 +103,7 @@ read_problem : (d : Domain) (t : Trees) (p : Problem) (f : Fault) → problems.I
 read_problem d t p f r (problems.of_form e) = no_least _ f r.formed e
 read_problem d t p f r (problems.of_names formed e) = no_least _ f r.named e
 
-read_names : (d : Domain) (t : Trees) (ss : List Stream) (f : Fault) → streams.AreNamed d t ss
+read_names : (d : Domain) (t : Trees) (ss : List Stream) (f : Fault) → streams.AreStreamsNamed d t ss
     → streams.IsNameFault d t f → ⊥
 read_names d t ss f n (streams.of_names e) = no_least _ f n.named e
 read_names d t ss f n (streams.of_cycles {faults} named are e) =

@@ -5,10 +5,11 @@ use Rattle.task_model.specs.declared.domain.Domain.{Domain}
 use Rattle.task_model.specs.declared.task.Task.{Task}
 use Rattle.task_reader.specs.Tasks.{Spells}
 use Rattle.task_reader.specs.Texts.{SpellsDomain}
+use Rattle.task_reader.specs.declared.texts.TheConstants.{TEXT_BYTES}
 
 -- at most 4 MiB
 abbrev pub IsShort : List ℕ → Type 0
-IsShort bytes = length bytes ≤ 4194304
+IsShort bytes = length bytes ≤ TEXT_BYTES
 
 -- A text of at most 4 MiB spells the domain.
 pub record HasShortText (d : Domain) : Type 0 where

@@ -9,4 +9,4 @@ mod refusal;
 mod texts;
 
 pub use refusal::{FaultKind, InputRefusal};
-pub use texts::{domain_in, problem_in, streams_in};
+pub use texts::{TEXT_BYTES, domain_in, problem_in, streams_in};

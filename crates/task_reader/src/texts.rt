@@ -15,6 +15,9 @@ use std::alloc::Global;
 use stream_reader::read_streams;
 use task_model::{Domain, Problem, Seq, Stream};
 
+/// The longest text of a task, in bytes: 4 MiB (this project's).
+pub const TEXT_BYTES: usize = 4_194_304;
+
 /// The domain of a text.
 ///
 /// The text is one list of this project's profile of PDDL 2.1, with derived predicates (PDDL 2.2) and the total cost

@@ -57,7 +57,7 @@ joined xs ys x = sym (append_assoc xs (x ∷ []) ys)
 
 -- ---- notes
 
-yields_more : (xs ys : List Note) (i : Instance)
+pub yields_more : (xs ys : List Note) (i : Instance)
     → yields_of (xs ++ ys) i ≡ yields_of xs i + yields_of ys i
 yields_more xs ys i = sum_by-append (λ n. cond (is_yield_of i n) 1 0) xs ys
 

@@ -8,10 +8,7 @@ ghost use Rattle.task_reader.specs.Fitness.{HasShortText, IsShort};
 use std::alloc::{AllocError, Global};
 use std::test::Fail;
 use task_model::{Domain, Problem, Seq, Stream, Task};
-use task_reader::{domain_in, problem_in, streams_in};
-
-/// The most bytes of a text: 4 MiB.
-const TEXT_BYTES: usize = 4_194_304;
+use task_reader::{TEXT_BYTES, domain_in, problem_in, streams_in};
 
 /// The texts of a task.
 #[derive(Clone, Copy)]

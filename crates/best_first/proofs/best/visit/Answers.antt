@@ -1,7 +1,7 @@
 use Rattle.std.proofs.Common.{sym, subst}
 use Rattle.best_first.proofs.ExploredLemmas.{on_ok}
 use Rattle.best_first.proofs.TreesLemmas.{grows_leads}
-use Rattle.best_first.specs.Explored.{Grows, Leads}
+use Rattle.best_first.specs.Explored.{Grows, LeadsToState}
 use Rattle.best_first.proofs.best.visit.Goals as goal
 
 pub widen-requires-clause-widened : goal.widen-requires-clause-widened
@@ -29,7 +29,7 @@ returns-in-Some-clause-leads g c =
     let old = c.args.frontier.now.tree in
     let new = c.grow.new.tree in
     on_ok c.widen.result
-    (subst (Leads scene.task.now known old.store c.args.state.now c.args.step.now) (sym c.widen.ensures.same)
+    (subst (LeadsToState scene.task.now known old.store c.args.state.now c.args.step.now) (sym c.widen.ensures.same)
     (grows_leads scene.task.now known old.store old.links.items c.args.from.place c.args.state.now c.args.step.now new.store
     new.links.items c.in_ok-place.field-0 c.in_ok-place.ensures))
 

@@ -10,7 +10,8 @@ loop-pattern-preserved c =
     let row : c.objects_at-row.result ≡ objects_at (slots_of c.args.args.now) c.pattern-item.result.args =
     c.objects_at-row.ensures ∙ (λ i. objects_at (c.new-env.ensures i) (c.as_slice.ensures i)) in
     c.in_ok-push.ensures.items
-    ∙ mapped_more (fact_of (slots_of c.args.args.now)) c.args.patterns.now c.loop-pattern.pattern-index c.pattern-item.result c.pattern-item.result
+    ∙ mapped_more (fact_of (slots_of c.args.args.now)) c.args.patterns.now c.loop-pattern.pattern-index c.pattern-item.result
+    c.pattern-item.result
     c.args.facts.now.items c.loop-pattern.facts.items (atom_fact c.pattern-item.result.pred c.objects_at-row.result)
     c.loop-pattern-test.true c.pattern-item.is
     (ap (atom_fact c.pattern-item.result.pred) row) c.loop-pattern.invariant

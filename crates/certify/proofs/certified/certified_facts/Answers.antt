@@ -13,7 +13,15 @@ add_atoms-requires-clause-few c =
     let args : c.as_slice-3.result.now ≡ c.args.inputs.now ++ c.args.outputs.now =
     c.as_slice-3.ensures.value ∙ c.in_ok-extend_from_slice.ensures.items ∙ ap (λ xs. xs ++ c.args.outputs.now) c.in_ok-args.ensures.items in
     let long : length c.as_slice-3.result.now ≡ length (c.args.inputs.now ++ c.args.outputs.now) = ap length args in
-    omega (arith, long, length-append c.args.inputs.now c.args.outputs.now, c.requires.inputs, c.requires.outputs, parts.inputs, parts.outputs)
+    omega (
+      arith,
+      long,
+      length-append c.args.inputs.now c.args.outputs.now,
+      c.requires.inputs,
+      c.requires.outputs,
+      parts.inputs,
+      parts.outputs,
+    )
 
 pub add_atoms-requires-clause-short : goal.add_atoms-requires-clause-short
 add_atoms-requires-clause-short c =

@@ -7,6 +7,7 @@ use Rattle.task_model.proofs.KnownLemmas.{facts_then}
 use Rattle.task_model.specs.Known.{IsIn, with_facts, with_names}
 use Rattle.task_model.specs.Streams.{output_types, fact_of}
 use Rattle.task_model.specs.Truth.{slots_of}
+use Rattle.certify.specs.Outputs.{AreNamed}
 
 pub learn_types-requires-clause-named : goal.learn_types-requires-clause-named
 learn_types-requires-clause-named c =
@@ -66,8 +67,8 @@ learn_atoms-requires-clause-readable c = (plain c).readable
 pub learn_atoms-requires-clause-named : goal.learn_atoms-requires-clause-named
 learn_atoms-requires-clause-named c = (plain c).named
 
-pub returns-clause-facts : goal.returns-clause-facts
-returns-clause-facts c =
+pub returns : goal.returns
+returns c =
     let args : c.as_slice-5.result.now ≡ c.args.inputs.now ++ c.in_ok-outputs.outputs =
     c.as_slice-5.ensures.value ∙ c.in_ok-extend_from_slice.ensures.items
     ∙ (λ i. c.in_ok-args.ensures.items i ++ c.as_slice-3.ensures i) in
@@ -76,6 +77,14 @@ returns-clause-facts c =
     c.in_ok-learn_types.ensures.facts
     ∙ (λ i. with_facts (c.in_ok-outputs.ensures.facts i)
     (output_types c.args.domain.now (c.as_slice.ensures i) (c.as_slice-2.ensures i))) in
-    c.in_ok-learn_atoms.ensures.facts ∙ (λ i. with_facts (before i) (map (fact_of (slots_of (args i))) (c.as_slice-4.ensures i)))
-    ∙ sym (facts_then c.args.facts.now.known.facts (output_types c.args.domain.now c.args.stream.now.outputs c.in_ok-outputs.outputs)
-    (map (fact_of (slots_of (c.args.inputs.now ++ c.in_ok-outputs.outputs))) c.args.stream.now.certified))
+    record {
+      names = c.in_ok-learn_atoms.ensures.names ∙ c.in_ok-learn_types.ensures.names ∙ c.in_ok-outputs.ensures.names;
+      outputs_named = subst (λ ns. AreNamed ns c.in_ok-outputs.outputs c.args.values.now)
+          (sym (c.in_ok-learn_atoms.ensures.names ∙ c.in_ok-learn_types.ensures.names)) c.in_ok-outputs.ensures.objects;
+      facts = c.in_ok-learn_atoms.ensures.facts
+          ∙ (λ i. with_facts (before i) (map (fact_of (slots_of (args i))) (c.as_slice-4.ensures i)))
+          ∙ sym (facts_then c.args.facts.now.known.facts
+          (output_types c.args.domain.now c.args.stream.now.outputs c.in_ok-outputs.outputs)
+          (map (fact_of (slots_of (c.args.inputs.now ++ c.in_ok-outputs.outputs))) c.args.stream.now.certified));
+      values = c.in_ok-learn_atoms.ensures.values ∙ c.in_ok-learn_types.ensures.values ∙ c.in_ok-outputs.ensures.values;
+    }

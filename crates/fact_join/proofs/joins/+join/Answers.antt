@@ -9,7 +9,7 @@ use Rattle.fact_join.proofs.AnswerLemmas.{IsAnswerAt, at_object, by_objects, at_
 use Rattle.fact_join.proofs.FactLemmas.{objects_distinct, distinct_filter}
 use Rattle.fact_join.proofs.FrontLemmas.{answer_settled, answer_left, left_shorter, left_fits, slot_left}
 use Rattle.fact_join.specs.Adding.{Adds, ComesOf}
-use Rattle.fact_join.specs.Answers.{IsAnswer, IsAnswerBy, is_atom_of}
+use Rattle.fact_join.specs.Answers.{IsAnswer, IsAnswerBy, is_atom_over}
 use Rattle.fact_join.specs.Fronts.{IsFront}
 use Rattle.fact_join.specs.Partials.{Agrees}
 use Rattle.fact_join.proofs.joins.+join.Goals as goal
@@ -267,7 +267,7 @@ join-returns-in-Free-clause-fault g t c =
 pub join_left-lead_of-requires : goal.join_left-lead_of-requires
 join_left-lead_of-requires g t c =
     let width = length c.args.query.now.sorts.now in
-    let slots = ap (list_all (is_atom_of width)) (sym c.in-Some.ensures.cases.0) ∙ c.requires.query.slots in
+    let slots = ap (list_all (is_atom_over width)) (sym c.in-Some.ensures.cases.0) ∙ c.requires.query.slots in
     readable_terms width c.in-Some.atom.now.terms.now c.requires.query.narrow (atom_terms width c.in-Some.atom.now c.in-Some.rest.now slots)
 
 pub join_fact-fit-requires : goal.join_fact-fit-requires

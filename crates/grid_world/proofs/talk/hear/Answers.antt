@@ -11,8 +11,8 @@ loop-byte-preserved c written e =
     let i = c.loop-byte.byte-index in
     let old = c.loop-byte.heard in
     let new = c.hear_byte.new.heard in
-    let hears : SessionHearsByte grid (get_or bytes i 0) old.open.items old.answers.items new.open.items new.answers.items =
+    let hears : SessionHearsByte grid (get_or bytes i 0) old.begun.items old.answers.items new.begun.items new.answers.items =
     c.in_ok-hear_byte.ensures in
-    subst (λ (front : List ℕ). SessionGoesOn grid written front new.open.items new.answers.items) (sym (take_more bytes i 0 (omega arith)))
-    (goes_more grid written (take i bytes) old.open.items old.answers.items new.open.items new.answers.items
+    subst (λ (front : List ℕ). SessionGoesOn grid written front new.begun.items new.answers.items) (sym (take_more bytes i 0 (omega arith)))
+    (goes_more grid written (take i bytes) old.begun.items old.answers.items new.begun.items new.answers.items
     (get_or bytes i 0) (c.loop-byte.invariant written e) hears)

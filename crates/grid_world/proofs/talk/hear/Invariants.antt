@@ -6,4 +6,4 @@ use Rattle.grid_world.proofs.talk.hear.Given as goal
 abbrev pub invariant-loop-byte : goal.invariant-loop-byte
 invariant-loop-byte l =
     (written : List ℕ) → unfinished written ≡ l.left
-    → SessionGoesOn l.grid written (take l.byte-index l.bytes) l.heard.open.items l.heard.answers.items
+    → SessionGoesOn l.grid written (take l.byte-index l.bytes) l.heard.begun.items l.heard.answers.items

@@ -9,7 +9,7 @@ use Rattle.grid_world.proofs.talk.hear_byte.Goals as goal
 pub returns-in_ok-extend_from_slice : goal.returns-in_ok-extend_from_slice
 returns-in_ok-extend_from_slice c =
     let grid = c.args.grid.now in
-    let left = c.args.heard.now.open.items in
+    let left = c.args.heard.now.begun.items in
     let line : c.without_return.result.now ≡ strip_last 13 left = c.without_return.ensures ∙ ap (strip_last 13) c.deref.ensures.value in
     let bytes : c.as_bytes.result.now ≡ answer_to_line grid (strip_last 13 left) =
     c.as_bytes.ensures.value ∙ c.as_str.ensures.value ∙ c.answer_line-line.ensures.line

@@ -10,7 +10,7 @@ use Rattle.task_model.specs.View.{view_of}
 use Rattle.task_model.specs.declared.domain.Role.TheVariants as role
 use Rattle.fact_join.specs.declared.query.QueryAtom.{QueryAtom}
 use Rattle.grounder.proofs.PartsLemmas.{needed_atom}
-use Rattle.grounder.specs.Parts.{IsNeeded, is_static}
+use Rattle.grounder.specs.Parts.{IsNeeded, is_static_part}
 use Rattle.grounder.proofs.atoms.static_atom.Goals as goal
 use borrow.Author.Tests.{ltb-true}
 
@@ -54,4 +54,4 @@ returns-in-Fluent c =
     ltb-true pred (length domain.predicates) (first_so (nat_lt pred (length domain.predicates)) (nat_le (length args) 8) front) in
     let role = sym (role_kept domain c.requires.fit pred role.Static below)
     ∙ sym (ap (λ rs. get_or rs pred role.Static) c.as_slice.ensures) in
-    ap (is_static domain) is ∙ elim c.in-Fluent.is [ inl e ↦ ap is_static_role (role ∙ e) | inr e ↦ ap is_static_role (role ∙ e) ]
+    ap (is_static_part domain) is ∙ elim c.in-Fluent.is [ inl e ↦ ap is_static_role (role ∙ e) | inr e ↦ ap is_static_role (role ∙ e) ]

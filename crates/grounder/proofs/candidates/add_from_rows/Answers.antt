@@ -38,8 +38,11 @@ returns g c =
     let rows = c.args.rows.now in
     let whole = take_all c.loop-args.args-index rows c.loop-args-test.false in (
       map (step_with scene.number) (filter (goes task known state action) rows),
-      c.loop-args.invariant
+      c.loop-args.invariant.0
           ∙ ap (λ xs. c.args.steps.now.items ++ map (step_with scene.number) (filter (goes task known state action) xs)) whole,
       steps_of_action task known state scene.number action c.requires.named
           (filter (goes task known state action) rows) (going_rows task known state action rows c.requires.rows),
     )
+
+pub can_go-requires-clause-stands : goal.can_go-requires-clause-stands
+can_go-requires-clause-stands g c = c.loop-args.invariant.1

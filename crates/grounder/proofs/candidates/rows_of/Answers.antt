@@ -2,10 +2,10 @@ use Rattle.std.proofs.Common.{[], true, List, ℕ, Bool, length, ap, sym, ◌∙
 use Rattle.std.specs.List.{list_all}
 use Rattle.plan_check.proofs.ReadableLemmas.{readable_action}
 use Rattle.fact_join.specs.Adding.{Adds}
-use Rattle.fact_join.specs.Answers.{IsAnswer, is_atom_of}
+use Rattle.fact_join.specs.Answers.{IsAnswer, is_atom_over}
 use Rattle.grounder.proofs.CandidatesLemmas.{sorted_rows}
 use Rattle.grounder.proofs.PartsLemmas.{sound_action}
-use Rattle.grounder.specs.Candidates.{AreRows}
+use Rattle.grounder.specs.Candidates.{AreCandidateRows}
 use Rattle.grounder.proofs.candidates.rows_of.Goals as goal
 
 pub static_atoms-requires-clause-readable : goal.static_atoms-requires-clause-readable
@@ -22,8 +22,8 @@ join-requires g c =
       (
         record {
           narrow = omega (arith, params, ap length c.as_slice.ensures);
-          slots = ap (λ n. list_all (is_atom_of n) c.as_slice-2.result.now) (ap length c.as_slice.ensures)
-              ∙ ap (list_all (is_atom_of (length action.params))) c.as_slice-2.ensures.value ∙ slots;
+          slots = ap (λ n. list_all (is_atom_over n) c.as_slice-2.result.now) (ap length c.as_slice.ensures)
+              ∙ ap (list_all (is_atom_over (length action.params))) c.as_slice-2.ensures.value ∙ slots;
           judged = λ tuple long. tt;
         },
         omega (arith, ap length c.new-rows.ensures.items),
@@ -45,6 +45,6 @@ returns-in-Ok g c =
     c.in-Ok.ensures.found in
     let these = subst (λ xs. Adds (IsAnswer known c.as_slice.result.now all partial xs) [] found) c.as_slice-2.ensures.value empty in
     let answers = subst (λ sorts. Adds (IsAnswer known sorts all partial atoms) [] found) c.as_slice.ensures these in
-    subst (AreRows domain known action) (sym c.from_vec.ensures)
+    subst (AreCandidateRows domain known action) (sym c.from_vec.ensures)
     (sorted_rows domain known action partial atoms found rows c.new.ensures c.in_ok-atoms.ensures answers
     c.sort_unstable.ensures.permutation c.sort_unstable.ensures.sorted)

@@ -2,7 +2,7 @@ use Rattle.std.proofs.Common.{[], length, ap, ◌∙◌, arith, subst}
 use Rattle.std.specs.List.{list_all}
 use Rattle.plan_check.proofs.ReadableLemmas.{readable_action}
 use Rattle.fact_join.specs.Adding.{Adds}
-use Rattle.fact_join.specs.Answers.{IsAnswer, is_atom_of}
+use Rattle.fact_join.specs.Answers.{IsAnswer, is_atom_over}
 use Rattle.grounder.proofs.ListingLemmas.{sorted_arguments, on_ok_then}
 use Rattle.grounder.proofs.PartsLemmas.{sound_action}
 use Rattle.grounder.specs.Listing.{can_take}
@@ -40,8 +40,8 @@ join-requires g c =
       (
         record {
           narrow = omega (arith, params, ap length c.as_slice.ensures);
-          slots = ap (λ n. list_all (is_atom_of n) c.as_slice-2.result.now) (ap length c.as_slice.ensures)
-              ∙ ap (list_all (is_atom_of (length action.params))) c.as_slice-2.ensures.value ∙ slots;
+          slots = ap (λ n. list_all (is_atom_over n) c.as_slice-2.result.now) (ap length c.as_slice.ensures)
+              ∙ ap (list_all (is_atom_over (length action.params))) c.as_slice-2.ensures.value ∙ slots;
           judged = λ tuple long. (c.requires.fit, c.requires.action, omega (arith, long, params, ap length c.as_slice.ensures));
         },
         omega (arith, ap length c.new-rows.ensures.items),

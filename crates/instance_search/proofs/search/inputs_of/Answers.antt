@@ -2,7 +2,7 @@ use Rattle.std.proofs.Common.{◌≡◌, ◌≤◌, List, ℕ, [], length, ap, s
 use Rattle.std.proofs.lemmas.Result.{err_from_is_err_and}
 use Rattle.std.specs.List.{list_all}
 use Rattle.fact_join.specs.Adding.{Adds, ComesOf}
-use Rattle.fact_join.specs.Answers.{IsAnswer, IsAskable, is_atom_of}
+use Rattle.fact_join.specs.Answers.{IsAnswer, IsAskable, is_atom_over}
 use Rattle.instance_search.proofs.FoundLemmas.{atoms_fit, joined_rows, joined_fault}
 use Rattle.instance_search.specs.Found.{instance_at}
 use Rattle.instance_search.proofs.search.inputs_of.Goals as goal
@@ -15,7 +15,7 @@ join-requires g c =
     let none : length c.new-rows.result.items ≡ 0 = ap length c.new-rows.ensures.items in
     let askable : IsAskable c.as_slice.result.now (λ (inputs : List ℕ). length inputs ≤ 8) c.as_slice-2.result.now = record {
       narrow = omega (arith, c.requires.narrow, long);
-      slots = (λ i. list_all (is_atom_of (long i)) (c.as_slice-2.ensures.value i)) ∙ fit;
+      slots = (λ i. list_all (is_atom_over (long i)) (c.as_slice-2.ensures.value i)) ∙ fit;
       judged = λ tuple same. omega (arith, same, long, c.requires.narrow);
     } in
     (omega arith, (askable, omega (arith, none)))

@@ -1,5 +1,6 @@
 use Rattle.std.proofs.Common.{◌≡◌, [], length, ap, sym, ◌∙◌, ◌==◌, ◌<◌}
-use Rattle.level_run.proofs.TurnsOutcomeLemmas.{calls_settled, empty_of, filled_of, first_of, no_plan_settled, none_due}
+use Rattle.level_run.proofs.TurnsOutcomeLemmas.{calls_settled, none_due}
+use Rattle.round_run.proofs.BatchLemmas.{empty_of, filled_of, first_of}
 use Rattle.transcript_model.specs.Transcript.{known_of, notes_of}
 use Rattle.level_run.proofs.decide.decide_dues.Goals as goal
 
@@ -10,7 +11,7 @@ returns-then-asks-head-clause-decided c =
     (ap (λ ds. length ds == 0) (sym c.as_slice.ensures.value) ∙ sym c.is_empty.ensures ∙ c.if-is_empty.false) in
     let first = first_of c.args.task.now c.args.session.now.entries c.in-Ok.dues.items c.in-Ok.ensures.ready some in
     calls_settled c.args.task.now c.args.session.now c.requires.working c.requires.learnt c.requires.session c.args.head.now c.requires.head
-    c.requires.unsolvable (sym c.asks.ensures ∙ c.if-asks-head.true) c.in-Ok.dues.items c.in-Ok.ensures.due first.0 first.1
+    c.requires.needed (sym c.asks.ensures ∙ c.if-asks-head.true) c.in-Ok.dues.items c.in-Ok.ensures.due first.0 first.1
 
 pub returns-then-is_empty-clause-decided : goal.returns-then-is_empty-clause-decided
 returns-then-is_empty-clause-decided c =
@@ -19,6 +20,5 @@ returns-then-is_empty-clause-decided c =
     let empty : c.in-Ok.dues.items ≡ [] =
     empty_of c.in-Ok.dues.items (ap (λ ds. length ds == 0) (sym c.as_slice.ensures.value) ∙ sym c.is_empty.ensures ∙ c.if-is_empty.true)
     in
-    no_plan_settled task s c.requires.working c.requires.learnt c.requires.session c.args.head.now c.requires.head c.requires.unsolvable
-    c.requires.few
+    c.requires.last
     (none_due task (known_of task s.entries) (notes_of task s.entries) c.in-Ok.dues.items c.in-Ok.ensures.due empty)

@@ -1,9 +1,9 @@
 use Rattle.std.proofs.Common.{◌≡◌, true, false, inl, inr, sym, ap, ◌∙◌, subst, refl, Result, Ok, Err, IfErr}
-use Rattle.level_run.specs.declared.fault.RunFault.TheVariants as fault
+use Rattle.round_run.specs.declared.fault.RunFault.TheVariants as fault
 use Rattle.pddlstream_app.specs.declared.stop.Stop.TheVariants as stop
 use Rattle.io_world.proofs.TalksLemmas.{extends_more}
-use Rattle.level_run.proofs.CallsRunLemmas.{stops_none}
-use Rattle.level_run.proofs.StoppedLemmas.{handed}
+use Rattle.round_run.proofs.CallsRunLemmas.{stops_none}
+use Rattle.round_run.proofs.StoppedLemmas.{handed}
 use Rattle.pddlstream_app.proofs.AskedLemmas.{asked_if_ok, asked_reading, asked_said}
 use Rattle.pddlstream_app.proofs.InputsLemmas.{ends_at_report, no_cause}
 use Rattle.pddlstream_app.proofs.PoolsLemmas.{ends_in, read_in, spelled_in}
@@ -16,7 +16,7 @@ use Rattle.pddlstream_app.specs.declared.status.Status.{Status}
 use Rattle.pddlstream_app.specs.declared.stop.FileRole.TheVariants as role
 use Rattle.pddlstream_app.specs.declared.stop.Stop.{Stop}
 use Rattle.replay_check.specs.declared.verdict.Verdict.{Verdict}
-use Rattle.pddlstream_app.specs.Runs.{IsSaid}
+use Rattle.pddlstream_app.specs.Runs.{IsVerdictSaid}
 use Rattle.command_line.specs.Held.{held_replay}
 use Rattle.command_line.specs.Words.{replay}
 use Rattle.replay_check.specs.Verdicts.{IsVerdict}
@@ -82,7 +82,7 @@ returns-clause-completed g c line spoken log meant =
     (subst (λ told. HasBytes told (file_of role.Report
     (held_replay c.args.words.now).report) c.in_ok-report.report.items) c.read_task.ensures.same c.in_ok-report.ensures.bytes) _
     c.judge_bytes.result
-    (subst (λ bytes. IsSaid (IsVerdict c.args.words.now.states c.in_ok-task.task bytes)
+    (subst (λ bytes. IsVerdictSaid (IsVerdict c.args.words.now.states c.in_ok-task.task bytes)
     (written_of g.O.Sink.taken c.args.out.now c.judge_bytes.new.out) c.judge_bytes.result) c.as_slice.ensures.value
     c.judge_bytes.ensures.said)
 
@@ -93,7 +93,7 @@ returns-clause-stopped g c line spoken log meant =
     (subst (λ told. HasBytes told (file_of role.Report
     (held_replay c.args.words.now).report) c.in_ok-report.report.items) c.read_task.ensures.same c.in_ok-report.ensures.bytes) _
     (stops_none log) c.judge_bytes.result
-    (subst (λ bytes. IsSaid (IsVerdict c.args.words.now.states c.in_ok-task.task bytes)
+    (subst (λ bytes. IsVerdictSaid (IsVerdict c.args.words.now.states c.in_ok-task.task bytes)
     (written_of g.O.Sink.taken c.args.out.now c.judge_bytes.new.out) c.judge_bytes.result) c.as_slice.ensures.value
     c.judge_bytes.ensures.said)
 
@@ -128,7 +128,7 @@ returns-clause-asked_before g c line meant =
     })
 
 -- neither want of memory nor a fault of the sink is a fault of the generator
-not_generator : (So : Verdict → Type 0) (written : Written) (r : Result Status Stop) → IsSaid So written r
+not_generator : (So : Verdict → Type 0) (written : Written) (r : Result Status Stop) → IsVerdictSaid So written r
     → IfErr r (λ why. ¬ (why ≡ stop.Run fault.Generator))
 not_generator So written (Ok status) said = tt
 not_generator So written (Err why) (inl m) = λ e. subst IsOfInput (sym m.0 ∙ e) tt

@@ -1,5 +1,5 @@
 use Rattle.std.proofs.Common.{sym, subst, [], ◌∷◌}
-use Rattle.level_run.proofs.StoppedLemmas.{handed}
+use Rattle.round_run.proofs.StoppedLemmas.{handed}
 use Rattle.pddlstream_app.proofs.PoolsLemmas.{map_refused}
 use Rattle.pddlstream_app.specs.Inputs.{EndsHere}
 use Rattle.stream_map.specs.Accepted.{RefusesMap}

@@ -1,9 +1,9 @@
 use Rattle.std.proofs.Common.{◌∙◌, inl, inr, refl}
-use Rattle.level_run.proofs.CallsRunLemmas.{stops_none}
-use Rattle.level_run.proofs.StoppedLemmas.{handed}
+use Rattle.round_run.proofs.CallsRunLemmas.{stops_none}
+use Rattle.round_run.proofs.StoppedLemmas.{handed}
 use Rattle.pddlstream_app.proofs.HeadsLemmas.{head_runs}
 use Rattle.pddlstream_app.proofs.InputsLemmas.{later_on, no_cause}
-use Rattle.level_run.specs.declared.fault.RunFault.TheVariants as fault
+use Rattle.round_run.specs.declared.fault.RunFault.TheVariants as fault
 use Rattle.pddlstream_app.specs.declared.stop.Stop.TheVariants as stop
 use Rattle.pddlstream_app.proofs.PoolsLemmas.{asks_all, ends_at_grid, ends_at_pools, ends_in, ends_named, means_in, pools_served, read_in, reads_more, spelled_in}
 use Rattle.command_line.specs.Held.{held_solve}

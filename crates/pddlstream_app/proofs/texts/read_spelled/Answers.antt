@@ -1,6 +1,6 @@
 use Rattle.std.proofs.Common.{◌∙◌, [], ◌∷◌, rules, subst}
 use Rattle.io_world.proofs.TalksLemmas.{extends_more}
-use Rattle.level_run.proofs.StoppedLemmas.{handed}
+use Rattle.round_run.proofs.StoppedLemmas.{handed}
 use Rattle.task_reader.specs.Texts.{SpellsDomain, SpellsProblem}
 use Rattle.pddlstream_app.proofs.InputsLemmas.{ends_behind, ends_first, later_on, refused_first, refused_second, refused_third}
 use Rattle.pddlstream_app.specs.Files.{HasBytes, file_of}

@@ -19,15 +19,15 @@ new-requires g c =
     let params : length c.as_slice.result.now ≡ length c.in-Some.action.now.params = ap length c.as_slice.ensures in
     omega (arith, action.params)
 
-pub holds-requires-clause-readable : goal.holds-requires-clause-readable
-holds-requires-clause-readable g c =
+pub holds_once-requires-clause-readable : goal.holds_once-requires-clause-readable
+holds_once-requires-clause-readable g c =
     let task = c.args.task.now in
     let named : Names task c.args.step.now c.in-Some.action.now = sym c.action_of.ensures ∙ ap option_copied c.in-Some.is in
     (readable_action task.domain c.requires.domain c.in-Some.action.now
     (fit_action task.domain c.requires.domain c.args.step.now.action c.in-Some.action.now named)).condition
 
-pub returns-then-not-holds-clause-err : goal.returns-then-not-holds-clause-err
-returns-then-not-holds-clause-err g c =
+pub returns-then-not-holds_once-clause-err : goal.returns-then-not-holds_once-clause-err
+returns-then-not-holds_once-clause-err g c =
     let task = c.args.task.now in
     let known = g.L.Look.known c.args.look.now in
     let named : Names task c.args.step.now c.in-Some.action.now = sym c.action_of.ensures ∙ ap option_copied c.in-Some.is in
@@ -36,8 +36,8 @@ returns-then-not-holds-clause-err g c =
     ∙ c.if-not-have_types.false in
     let slots : c.new.result ≡ slots_of c.args.step.now.args = c.new.ensures ∙ ap slots_of c.as_slice-args.ensures in
     let unmet : is_true task.domain known c.args.state.now c.in-Some.action.now.condition (slots_of c.args.step.now.args) ≡ false =
-    ap (is_true task.domain known c.args.state.now c.in-Some.action.now.condition) (sym slots) ∙ sym c.holds.ensures.value
-    ∙ c.if-not-holds.true in
+    ap (is_true task.domain known c.args.state.now c.in-Some.action.now.condition) (sym slots) ∙ sym c.holds_once.ensures.value
+    ∙ c.if-not-holds_once.true in
     (c.in-Some.action.now, named, typed, unmet)
 
 pub cost-requires-clause-action : goal.cost-requires-clause-action
@@ -55,8 +55,8 @@ returns-in-None-clause-err g c =
     ∙ c.if-not-have_types.false in
     let slots : c.new.result ≡ slots_of c.args.step.now.args = c.new.ensures ∙ ap slots_of c.as_slice-args.ensures in
     let met : is_true task.domain known c.args.state.now c.in-Some.action.now.condition (slots_of c.args.step.now.args) ≡ true =
-    ap (is_true task.domain known c.args.state.now c.in-Some.action.now.condition) (sym slots) ∙ sym c.holds.ensures.value
-    ∙ c.if-not-holds.false in
+    ap (is_true task.domain known c.args.state.now c.in-Some.action.now.condition) (sym slots) ∙ sym c.holds_once.ensures.value
+    ∙ c.if-not-holds_once.false in
     let none : cost_of task known c.in-Some.action.now c.args.step.now.args ≡ None =
     ap (cost_of task known c.in-Some.action.now) (sym c.as_slice-args.ensures) ∙ sym c.cost.ensures.value ∙ c.in-None.is in
     (c.in-Some.action.now, named, typed, met, none)
@@ -81,7 +81,7 @@ returns-in-Some-cost-clause-ok g c =
           ∙ sym c.have_types.ensures ∙ c.if-not-have_types.false;
       condition =
           ap (is_true task.domain known c.args.state.now action.condition) (sym slots)
-          ∙ sym c.holds.ensures.value ∙ c.if-not-holds.false;
+          ∙ sym c.holds_once.ensures.value ∙ c.if-not-holds_once.false;
       costs =
           ap (cost_of task known action) (sym c.as_slice-args.ensures) ∙ sym c.cost.ensures.value
           ∙ c.in-Some-cost.is;

@@ -2,7 +2,22 @@ use Rattle.std.proofs.Common.{arith}
 use Rattle.formula_eval.proofs.ReadableLemmas.{fit_readable}
 use Rattle.planning_tests.proofs.generated.is_true.Goals as goal
 
-pub holds-requires-clause-readable : goal.holds-requires-clause-readable
-holds-requires-clause-readable c =
+pub holds_memo-requires-clause-readable : goal.holds_memo-requires-clause-readable
+holds_memo-requires-clause-readable c =
+    let task = c.args.task.now in
+    fit_readable task.domain c.requires.domain _ 0 (omega arith) task.problem.goal c.requires.problem.goal
+
+pub holds_memo-requires-2-clause-readable : goal.holds_memo-requires-2-clause-readable
+holds_memo-requires-2-clause-readable c =
+    let task = c.args.task.now in
+    fit_readable task.domain c.requires.domain _ 0 (omega arith) task.problem.goal c.requires.problem.goal
+
+pub holds-plain-requires-clause-readable : goal.holds-plain-requires-clause-readable
+holds-plain-requires-clause-readable c =
+    let task = c.args.task.now in
+    fit_readable task.domain c.requires.domain _ 0 (omega arith) task.problem.goal c.requires.problem.goal
+
+pub holds_once-requires-clause-readable : goal.holds_once-requires-clause-readable
+holds_once-requires-clause-readable c =
     let task = c.args.task.now in
     fit_readable task.domain c.requires.domain _ 0 (omega arith) task.problem.goal c.requires.problem.goal

@@ -1,4 +1,4 @@
-use Rattle.std.proofs.Common.{◌≡◌, ◌<◌, length, arith, subst, sym, true, false}
+use Rattle.std.proofs.Common.{◌≡◌, ◌∙◌, ◌<◌, ◌==◌, length, ap, arith, subst, sym, true, false, eqb-true}
 use Rattle.std.proofs.lemmas.Grind.{common_steps}
 use Rattle.task_model.specs.Known.{Known}
 use Rattle.task_model.specs.Plans.{IsReached, IsSolvable, MoreThan}
@@ -29,7 +29,10 @@ returns-then-branch c = λ entries h closed.
     let version = c.args.bounds.now.version in
     let task = c.args.bounds.now.task.now in
     let turn = rw c.in-Some.is at c.in_ok-dues.ensures.some in
-    let empty : length c.in-Some.dues.items ≡ 0 = grind (arith, common_steps) in (
+    let empty : length c.in-Some.dues.items ≡ 0 =
+    eqb-true (length c.in-Some.dues.items) 0
+    (ap (λ ds. length ds == 0) (sym c.as_slice.ensures.value) ∙ sym c.is_empty.ensures
+    ∙ c.if-not-is_empty.false) in (
       none_due_at version task entries c.args.ledger.now h c.in-Some.dues.items empty turn,
       subst (λ (k : Known). MoreThan c.args.limit (IsReached task k)) h.known (c.in_ok-exceeds-in-Plan.ensures.0 c.if-branch.true),
     )
@@ -39,7 +42,10 @@ returns-in-Nothing c = λ entries h closed.
     let version = c.args.bounds.now.version in
     let task = c.args.bounds.now.task.now in
     let turn = rw c.in-Some.is at c.in_ok-dues.ensures.some in
-    let empty : length c.in-Some.dues.items ≡ 0 = grind (arith, common_steps) in
+    let empty : length c.in-Some.dues.items ≡ 0 =
+    eqb-true (length c.in-Some.dues.items) 0
+    (ap (λ ds. length ds == 0) (sym c.as_slice.ensures.value) ∙ sym c.is_empty.ensures
+    ∙ c.if-not-is_empty.false) in
     let none = (rw c.in-Nothing.is at c.in_ok-search.ensures.nothing).0 tt in (
       record {
         closed = record {
@@ -57,7 +63,10 @@ returns-in-Limit c = λ entries h closed.
     let version = c.args.bounds.now.version in
     let task = c.args.bounds.now.task.now in
     let turn = rw c.in-Some.is at c.in_ok-dues.ensures.some in
-    let empty : length c.in-Some.dues.items ≡ 0 = grind (arith, common_steps) in
+    let empty : length c.in-Some.dues.items ≡ 0 =
+    eqb-true (length c.in-Some.dues.items) 0
+    (ap (λ ds. length ds == 0) (sym c.as_slice.ensures.value) ∙ sym c.is_empty.ensures
+    ∙ c.if-not-is_empty.false) in
     let far = (rw c.in-Limit.is at c.in_ok-search.ensures.limit) tt in (
       none_due_at version task entries c.args.ledger.now h c.in-Some.dues.items empty turn,
       subst (λ (k : Known). MoreThan c.args.limit (IsReached task k)) h.known far.reached,

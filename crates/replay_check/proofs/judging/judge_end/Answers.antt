@@ -1,7 +1,7 @@
 use Rattle.std.proofs.Common.{◌≡◌, ◌∙◌, ◌+◌, ◌<◌, ◌^◌, List, length, sym, ap, subst, arith}
 use Rattle.transcript_model.specs.declared.entry.Entry.{Entry}
 use Rattle.replay_check.proofs.VerdictsLemmas.{end_line_few, open_end, outcome_at, right_end, wrong_end}
-use Rattle.replay_check.specs.Findings.{IsFound}
+use Rattle.replay_check.specs.Findings.{IsRightFinding}
 use Rattle.replay_check.specs.Lines.{outcome_line}
 use Rattle.replay_check.specs.Standings.{limits_by}
 use Rattle.replay_check.specs.Verdicts.{IsReportVerdict}
@@ -15,10 +15,10 @@ returns-in-Holds c =
     let b = c.args.bounds.now in
     let r = c.args.report.now in
     let found =
-    subst (IsFound (limits_by b) c.args.limit b.task.now c.as_slice-entries.result.now r.outcome) c.in-Holds.is
+    subst (IsRightFinding (limits_by b) c.args.limit b.task.now c.as_slice-entries.result.now r.outcome) c.in-Holds.is
     c.in_ok-judge_outcome.ensures in
     right_end b r c.args.limit c.requires.bounds c.requires.head c.requires.limits c.args.standing.now c.requires.standing
-    (subst (λ (es : List Entry). IsFound (limits_by b) c.args.limit b.task.now es r.outcome finding.Holds) c.as_slice-entries.ensures
+    (subst (λ (es : List Entry). IsRightFinding (limits_by b) c.args.limit b.task.now es r.outcome finding.Holds) c.as_slice-entries.ensures
     found)
 
 pub returns-in-Open : goal.returns-in-Open
@@ -26,22 +26,23 @@ returns-in-Open c =
     let b = c.args.bounds.now in
     let r = c.args.report.now in
     let found =
-    subst (IsFound (limits_by b) c.args.limit b.task.now c.as_slice-entries.result.now r.outcome) c.in-Open.is
+    subst (IsRightFinding (limits_by b) c.args.limit b.task.now c.as_slice-entries.result.now r.outcome) c.in-Open.is
     c.in_ok-judge_outcome.ensures in
     open_end b r c.args.limit c.requires.bounds c.requires.head c.requires.limits c.args.standing.now c.requires.standing
-    (subst (λ (es : List Entry). IsFound (limits_by b) c.args.limit b.task.now es r.outcome finding.Open) c.as_slice-entries.ensures
+    (subst (λ (es : List Entry). IsRightFinding (limits_by b) c.args.limit b.task.now es r.outcome finding.Open) c.as_slice-entries.ensures
     found)
 
 module _ (c : In-Breaks) where
-  found : IsFound (limits_by c.args.bounds.now) c.args.limit c.args.bounds.now.task.now c.args.report.now.entries c.args.report.now.outcome
+  found : IsRightFinding (limits_by c.args.bounds.now) c.args.limit c.args.bounds.now.task.now c.args.report.now.entries
+      c.args.report.now.outcome
       (finding.Breaks c.in-Breaks.line c.in-Breaks.kind)
   found =
       let b = c.args.bounds.now in
       let r = c.args.report.now in
-      let here = subst (IsFound (limits_by b) c.args.limit b.task.now c.as_slice-entries.result.now r.outcome) c.in-Breaks.is
+      let here = subst (IsRightFinding (limits_by b) c.args.limit b.task.now c.as_slice-entries.result.now r.outcome) c.in-Breaks.is
       c.in_ok-judge_outcome.ensures in
       subst (λ (es : List Entry).
-      IsFound (limits_by b) c.args.limit b.task.now es r.outcome (finding.Breaks c.in-Breaks.line c.in-Breaks.kind))
+      IsRightFinding (limits_by b) c.args.limit b.task.now es r.outcome (finding.Breaks c.in-Breaks.line c.in-Breaks.kind))
       c.as_slice-entries.ensures here
 
   long : length c.as_slice-entries.result.now ≡ length c.args.report.now.entries

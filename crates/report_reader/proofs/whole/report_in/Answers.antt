@@ -2,7 +2,7 @@ use Rattle.std.proofs.Common.{None, Some, refl, subst}
 use Rattle.report_text.specs.Forms.{IsFormedPool}
 use Rattle.report_text.specs.Places.{entries}
 use Rattle.report_text.specs.Texts.{pool_line}
-use Rattle.report_reader.specs.Body.{IsFirst, first_of, IsLimits, limits_line_of, IsBody, body_lines, ending_place, IsOutcomeOf, outcome_rest}
+use Rattle.report_reader.specs.Body.{IsFirstLine, first_of, IsLimits, limits_line_of, IsBody, body_lines, ending_place, IsOutcomeOf, outcome_rest}
 use Rattle.report_reader.specs.Finding.{PartReads, Stops, TakesAll, TakesLine}
 use Rattle.report_reader.proofs.BodyLemmas.{first_stop, limits_stop, HasHead, head_then, body_then, report_whole}
 use Rattle.report_reader.proofs.whole.report_in.Goals as goal
@@ -12,7 +12,7 @@ returns-in_default c = first_stop c.args.lines.now c.next_first.new.lines c.in_d
 
 pub returns-in_default-next_limits : goal.returns-in_default-next_limits
 returns-in_default-next_limits c =
-    let taken : TakesLine IsFirst first_of (Some c.in-Some.field-0) c.args.lines.now c.next_first.new.lines = c.in-Some.ensures in
+    let taken : TakesLine IsFirstLine first_of (Some c.in-Some.field-0) c.args.lines.now c.next_first.new.lines = c.in-Some.ensures in
     let none : TakesLine IsLimits limits_line_of None c.next_first.new.lines c.next_limits.new.lines = c.in_default-next_limits.ensures in
     limits_stop c.in-Some.field-0 c.args.lines.now c.next_first.new.lines c.next_limits.new.lines taken none
 
@@ -20,7 +20,7 @@ pub returns-in_default-2 : goal.returns-in_default-2
 returns-in_default-2 c =
     let f = c.in-Some.field-0 in
     let l = c.in-Some-next_limits.field-0 in
-    let first_taken : TakesLine IsFirst first_of (Some f) c.args.lines.now c.next_first.new.lines = c.in-Some.ensures in
+    let first_taken : TakesLine IsFirstLine first_of (Some f) c.args.lines.now c.next_first.new.lines = c.in-Some.ensures in
     let limits_taken : TakesLine IsLimits limits_line_of (Some l) c.next_first.new.lines c.next_limits.new.lines =
     c.in-Some-next_limits.ensures in
     let pools_taken : TakesAll IsFormedPool pool_line c.in_ok-pools.pools c.next_limits.new.lines c.pools_in.new.lines =
@@ -42,7 +42,7 @@ returns-in_default-3 c =
     let f = c.in-Some.field-0 in
     let l = c.in-Some-next_limits.field-0 in
     let b = c.in-Some-2.field-0 in
-    let first_taken : TakesLine IsFirst first_of (Some f) c.args.lines.now c.next_first.new.lines = c.in-Some.ensures in
+    let first_taken : TakesLine IsFirstLine first_of (Some f) c.args.lines.now c.next_first.new.lines = c.in-Some.ensures in
     let limits_taken : TakesLine IsLimits limits_line_of (Some l) c.next_first.new.lines c.next_limits.new.lines =
     c.in-Some-next_limits.ensures in
     let pools_taken : TakesAll IsFormedPool pool_line c.in_ok-pools.pools c.next_limits.new.lines c.pools_in.new.lines =
@@ -68,7 +68,7 @@ returns c =
     let f = c.in-Some.field-0 in
     let l = c.in-Some-next_limits.field-0 in
     let b = c.in-Some-2.field-0 in
-    let first_taken : TakesLine IsFirst first_of (Some f) c.args.lines.now c.next_first.new.lines = c.in-Some.ensures in
+    let first_taken : TakesLine IsFirstLine first_of (Some f) c.args.lines.now c.next_first.new.lines = c.in-Some.ensures in
     let limits_taken : TakesLine IsLimits limits_line_of (Some l) c.next_first.new.lines c.next_limits.new.lines =
     c.in-Some-next_limits.ensures in
     let pools_taken : TakesAll IsFormedPool pool_line c.in_ok-pools.pools c.next_limits.new.lines c.pools_in.new.lines =

@@ -34,7 +34,7 @@ loop-preserved c =
     let names : after.names ≡ with_names known.names (map generated (take width rest)) =
     c.in_ok-learn_tuple.ensures.names ∙ ap (λ vs. with_names known.names (map generated vs)) front in
     let named : AreNamed after.names outputs (take width rest) =
-    subst (AreNamed after.names outputs) front c.in_ok-learn_tuple.ensures.outputs in
+    subst (AreNamed after.names outputs) front c.in_ok-learn_tuple.ensures.outputs_named in
     let facts : after.facts ≡ with_facts known.facts (certified_by task.domain a.stream a.instance.inputs outputs) =
     c.in_ok-learn_tuple.ensures.facts
     ∙ ap (λ is. with_facts known.facts (certified_by task.domain a.stream is outputs)) c.as_slice.ensures in

@@ -9,7 +9,7 @@ use Rattle.shown_plan.proofs.SourcesOrderLemmas.{ascending}
 use Rattle.shown_plan.proofs.SourcesYieldLemmas.{among_here, given_generated, has_source, objects_next, origin_is}
 use Rattle.shown_plan.proofs.origins.origins_of.Goals as goal
 use Rattle.shown_plan.proofs.origins.origins_of.Goals.{After-source_of}
-use Rattle.shown_plan.specs.Sources.{IsBest, IsGiven, IsSource}
+use Rattle.shown_plan.specs.Sources.{IsBest, IsGivenValue, IsSource}
 
 module _ (c : After-source_of) where
   objects : map (λ (o : Origin). o.object) c.loop-name.from.items
@@ -19,12 +19,12 @@ module _ (c : After-source_of) where
       map (λ (o : Origin). o.object) c.loop-name.from.items ++ map (λ (n : Bor (List ℕ)). n.now) ks
       ≡ map (λ (n : Bor (List ℕ)). n.now) c.args.names.now.keys) c.in-Some.ensures.steps c.loop-name.invariant.objects
 
-  left : All (IsGiven c.args.entries.now) (c.in-Some.name.now.now ∷ map (λ (n : Bor (List ℕ)). n.now) c.next.new.self)
-  left = subst (λ (ks : List (Bor (List ℕ))). All (IsGiven c.args.entries.now) (map (λ (n : Bor (List ℕ)). n.now) ks))
+  left : All (IsGivenValue c.args.entries.now) (c.in-Some.name.now.now ∷ map (λ (n : Bor (List ℕ)). n.now) c.next.new.self)
+  left = subst (λ (ks : List (Bor (List ℕ))). All (IsGivenValue c.args.entries.now) (map (λ (n : Bor (List ℕ)). n.now) ks))
       c.in-Some.ensures.steps c.loop-name.invariant.given
 
-  given : IsGiven c.args.entries.now c.in-Some.name.now.now
-  given = All-head (IsGiven c.args.entries.now) c.in-Some.name.now.now (map (λ (n : Bor (List ℕ)). n.now) c.next.new.self) left
+  given : IsGivenValue c.args.entries.now c.in-Some.name.now.now
+  given = All-head (IsGivenValue c.args.entries.now) c.in-Some.name.now.now (map (λ (n : Bor (List ℕ)). n.now) c.next.new.self) left
 
   best : IsBest c.args.entries.now given.value c.source_of.result
   best =
@@ -40,8 +40,8 @@ sources_of-requires-clause-names c = λ k d lt. given_generated c.args.entries.n
 pub source_of-requires : goal.source_of-requires
 source_of-requires c =
     given_generated c.args.entries.now c.in-Some.name.now.now
-    (All-head (IsGiven c.args.entries.now) c.in-Some.name.now.now (map (λ (n : Bor (List ℕ)). n.now) c.next.new.self)
-    (subst (λ (ks : List (Bor (List ℕ))). All (IsGiven c.args.entries.now) (map (λ (n : Bor (List ℕ)). n.now) ks))
+    (All-head (IsGivenValue c.args.entries.now) c.in-Some.name.now.now (map (λ (n : Bor (List ℕ)). n.now) c.next.new.self)
+    (subst (λ (ks : List (Bor (List ℕ))). All (IsGivenValue c.args.entries.now) (map (λ (n : Bor (List ℕ)). n.now) ks))
     c.in-Some.ensures.steps c.loop-name.invariant.given))
 
 pub unreachable-requires : goal.unreachable-requires
@@ -64,7 +64,7 @@ loop-name-preserved c =
           ap (λ os. map (λ (o : Origin). o.object) os ++ map (λ (n : Bor (List ℕ)). n.now) c.next.new.self) pushed
           ∙ objects_next (λ (n : Bor (List ℕ)). n.now) c.loop-name.from.items origin name c.next.new.self
           (map (λ (n : Bor (List ℕ)). n.now) c.args.names.now.keys) e.object (objects at);
-      given = All-tail (IsGiven c.args.entries.now) name.now (map (λ (n : Bor (List ℕ)). n.now) c.next.new.self) (left at);
+      given = All-tail (IsGivenValue c.args.entries.now) name.now (map (λ (n : Bor (List ℕ)). n.now) c.next.new.self) (left at);
       origins = subst (All (IsOrigin c.args.version c.args.entries.now)) (sym pushed)
           (All-push (IsOrigin c.args.version c.args.entries.now) c.loop-name.from.items origin c.loop-name.invariant.origins
           (origin_is c.args.version c.args.entries.now origin g.value c.in-Some-source_of.source

@@ -1,7 +1,7 @@
 use Rattle.std.proofs.Common.{◌≡◌, Some}
 use Rattle.serde_json.specs.Find.{as_array}
 use Rattle.serde_json.specs.View.{items_view, view}
-use Rattle.stream_map.specs.Form.{name_of}
+use Rattle.stream_map.specs.Form.{name_in_data}
 use Rattle.stream_map.proofs.FormLemmas.{Reads}
 use Rattle.stream_map.proofs.form.names_of.Given as goal
 
@@ -9,5 +9,5 @@ use Rattle.stream_map.proofs.form.names_of.Given as goal
 abbrev pub invariant-loop-item : goal.invariant-loop-item
 invariant-loop-item l = record {
   list : as_array (view l.fn.value) ≡ Some (items_view l.item-items);
-  reads : Reads (λ v. name_of (view v)) l.item-items l.item-index l.names.items;
+  reads : Reads (λ v. name_in_data (view v)) l.item-items l.item-index l.names.items;
 }

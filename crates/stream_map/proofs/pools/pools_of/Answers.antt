@@ -1,6 +1,6 @@
 use Rattle.std.proofs.Common.{◌≡◌, ◌<◌, ◌∙◌, sym, ap, subst, length, map, false, Some, None, All, ℕ, List, rules, arith}
 use Rattle.stream_map.specs.Faults.{map_fault, have_wrong_workers, served_fault, all_places}
-use Rattle.stream_map.specs.Form.{stream_names}
+use Rattle.stream_map.specs.Form.{all_stream_names}
 use Rattle.stream_map.specs.Served.{streams_in}
 use Rattle.stream_map.specs.Spelled.{shown}
 use Rattle.stream_map.proofs.FaultsLemmas.{all_below, fault_is, refused_from, streams_numbered}
@@ -25,7 +25,8 @@ returns-in-Some-clause-refused c =
     let told : Some c.in-Some.fault ≡ served_fault (length n) (all_places n texts) =
     sym c.in-Some.is ∙ c.in_ok-fault.ensures ∙ (λ i. served_fault (count i) ((ap streams_in c.as_slice-2.ensures.value ∙ flat) i)) in
     let fault = fault_is n texts (Some c.in-Some.fault) right c.in_ok-pools.ensures.known told in
-    refused_from (stream_names c.args.task.now) texts c.in-Some.fault (ap (λ ns. map_fault ns texts) (sym c.in_ok-names.ensures) ∙ fault)
+    refused_from (all_stream_names c.args.task.now) texts c.in-Some.fault
+    (ap (λ ns. map_fault ns texts) (sym c.in_ok-names.ensures) ∙ fault)
 
 pub returns-clause-right : goal.returns-clause-right
 returns-clause-right c =

@@ -1,7 +1,7 @@
-use Rattle.std.proofs.Common.{◌≡◌, ◌<◌, IfSome, Some, length, get_or, slice_get, sym, ap, subst, ◌∙◌, arith}
+use Rattle.std.proofs.Common.{◌<◌, IfSome, length, get_or, slice_get, sym, ap, subst, ◌∙◌, arith}
 use Rattle.lemmas.proofs.ListTests.{get_some}
 use Rattle.plan_check.proofs.ReadableLemmas.{fit_action}
-use Rattle.grounder.specs.Candidates.{AreRows}
+use Rattle.grounder.specs.Candidates.{AreCandidateRows}
 use Rattle.best_first.proofs.relaxed.RelaxedTask.add_steps.Goals as goal
 
 pub add_rows-requires-clause-action : goal.add_rows-requires-clause-action
@@ -29,6 +29,6 @@ add_rows-requires-clause-rows g c =
     let named =
     get_some domain.actions number action inside
     (c.action-item.is ∙ ap (λ xs. get_or xs number action) c.as_slice-action-items.ensures) in
-    let rows = subst (λ o. IfSome o (AreRows domain known action)) c.in-Some.is
+    let rows = subst (λ o. IfSome o (AreCandidateRows domain known action)) c.in-Some.is
     (c.in_ok-candidates.ensures.each number action kept named at) in
-    subst (AreRows domain known action) (sym c.as_slice-in-loop-number.ensures) rows
+    subst (AreCandidateRows domain known action) (sym c.as_slice-in-loop-number.ensures) rows

@@ -1,7 +1,8 @@
 use Rattle.std.proofs.Common.{◌-◌, ◌∙◌, refl, sym, ap, arith, length, slice_get}
 use Rattle.task_model.specs.Known.{matches_of}
-use Rattle.fact_layer.proofs.LaidLemmas.{matches-append, get_before, get_after, counted, nothing_past}
+use Rattle.fact_layer.proofs.LaidLemmas.{matches-append, get_before, get_after, counted}
 use Rattle.fact_layer.proofs.more.More.matched.Goals as goal
+use Rattle.lemmas.proofs.Members.{some_within}
 
 pub returns-then-number-before : goal.returns-then-number-before
 returns-then-number-before c =
@@ -18,7 +19,8 @@ unreachable-requires c =
     let more = matches_of c.args.self.now.facts c.args.pred c.args.place c.args.object in
     let both = counted base more _ (length base) (length more) refl refl
     (matches-append c.args.pred c.args.place c.args.object c.args.base.now.known.facts c.args.self.now.facts) in
-    nothing_past more (c.args.number - c.matches-before.result) (omega (arith, both, c.requires, c.matches-before.ensures, c.if-number-before.false))
+    some_within more (c.args.number - c.matches-before.result)
+    (omega (arith, both, c.requires, c.matches-before.ensures, c.if-number-before.false))
     (sym c.in-None.ensures)
 
 pub returns : goal.returns

@@ -2,7 +2,7 @@ use Rattle.std.proofs.Common.{◌+◌, ◌<◌, IfSome, length, get_or, slice_ge
 use Rattle.std.specs.Vec.{vec_items}
 use Rattle.lemmas.proofs.ListTests.{get_some}
 use Rattle.grounder.proofs.ListingLemmas.{AreListed, listed_none, listed_next, all_listed}
-use Rattle.grounder.specs.Candidates.{AreRows}
+use Rattle.grounder.specs.Candidates.{AreCandidateRows}
 use Rattle.grounder.proofs.candidates.Candidates.applicable.Goals.{in-Some+in_ok-add_from_rows-in-Some, in-None+in_ok-add_steps-in-None}
 use Rattle.grounder.proofs.candidates.Candidates.applicable.Goals as goal
 
@@ -33,9 +33,9 @@ add_from_rows-requires-clause-rows g c =
     let named =
     get_some actions number c.action-item.result inside
     (c.action-item.is ∙ ap (λ xs. get_or xs number c.action-item.result) c.as_slice-action-items.ensures) in
-    let rows = subst (λ o. IfSome o (AreRows c.args.task.now.domain known action)) c.in-Some.is
+    let rows = subst (λ o. IfSome o (AreCandidateRows c.args.task.now.domain known action)) c.in-Some.is
     (c.requires.candidates.each number action kept named at) in
-    subst (AreRows c.args.task.now.domain known action) (sym c.as_slice-in-Some.ensures) rows
+    subst (AreCandidateRows c.args.task.now.domain known action) (sym c.as_slice-in-Some.ensures) rows
 
 pub add_steps-requires-clause-named : goal.add_steps-requires-clause-named
 add_steps-requires-clause-named g c =

@@ -3,7 +3,7 @@ use Rattle.std.proofs.lemmas.Option.{same_Some}
 use Rattle.lemmas.proofs.ListTests.{get_some}
 use Rattle.lemmas.proofs.Members.{push_cases}
 use Rattle.plan_check.proofs.ReadableLemmas.{fit_action}
-use Rattle.grounder.specs.Candidates.{AreRows}
+use Rattle.grounder.specs.Candidates.{AreCandidateRows}
 use Rattle.grounder.proofs.candidates.Candidates.new.Goals as goal
 
 pub rows_of-requires-clause-action : goal.rows_of-requires-clause-action
@@ -35,7 +35,7 @@ loop-action-preserved g c =
             | inr (last, is) ↦
                 let same = same_Some here action
                 (sym named_here ∙ ap (slice_get domain.actions) (sym (last ∙ c.loop-action.invariant.0)) ∙ named) in
-                subst (λ o. IfSome o (AreRows domain known action))
-                (sym is) (subst (λ a. IfSome added (AreRows domain known a)) same c.in_ok-rows.ensures)
+                subst (λ o. IfSome o (AreCandidateRows domain known action))
+                (sym is) (subst (λ a. IfSome added (AreCandidateRows domain known a)) same c.in_ok-rows.ensures)
           ],
     )

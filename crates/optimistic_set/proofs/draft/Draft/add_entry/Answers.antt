@@ -57,13 +57,16 @@ returns-clause-draft c =
     let s = c.in-Some.stream.now in
     let same : s ≡ p.stream = same_Some s p.stream (c.in-Some.ensures ∙ p.named) in
     let q : IsPlainInstance task (known.names ++ c.args.self.now.names.items) c.args.instance.now =
-    record { stream = s; named = sym c.in-Some.ensures; inputs = p.inputs ∙ ap (λ (t : Stream). length t.inputs) (sym same); given = p.given } in
+    record
+    { stream = s; named = sym c.in-Some.ensures; inputs = p.inputs ∙ ap (λ (t : Stream). length t.inputs) (sym same); given = p.given }
+    in
     let long : c.len.result ≡ length c.args.self.now.names.items = omega (arith, c.len.ensures, c.args.self.now.names.ok.0) in
     let number : c.len-3.result ≡ length c.args.self.now.entries.items = omega (arith, c.len-3.ensures, c.args.self.now.entries.ok.0) in
     let outputs = c.in_ok-outputs.outputs in
     let fresh : outputs ≡ numbers_from (length known.names + length c.args.self.now.names.items) (length s.outputs) =
     c.in_ok-outputs.ensures ∙ (λ k. numbers_from (c.name_count.ensures.count k + long k) (c.len-2.ensures k)) in
-    let names = c.in_ok-add_placeholders.ensures ∙ (λ k. c.args.self.now.names.items ++ placeholders (number k + 1) 1 (c.len-4.ensures k)) in
+    let names =
+    c.in_ok-add_placeholders.ensures ∙ (λ k. c.args.self.now.names.items ++ placeholders (number k + 1) 1 (c.len-4.ensures k)) in
     let facts = c.in_ok-add_certified.ensures.facts
     ∙ (λ k. with_facts (known.facts ++ c.args.self.now.more.facts)
     (certified_by task.domain s (c.as_slice.ensures k) (c.as_slice-2.ensures k))) in
@@ -92,13 +95,16 @@ returns-clause-pushed c =
     let s = c.in-Some.stream.now in
     let same : s ≡ p.stream = same_Some s p.stream (c.in-Some.ensures ∙ p.named) in
     let q : IsPlainInstance task (known.names ++ c.args.self.now.names.items) c.args.instance.now =
-    record { stream = s; named = sym c.in-Some.ensures; inputs = p.inputs ∙ ap (λ (t : Stream). length t.inputs) (sym same); given = p.given } in
+    record
+    { stream = s; named = sym c.in-Some.ensures; inputs = p.inputs ∙ ap (λ (t : Stream). length t.inputs) (sym same); given = p.given }
+    in
     let long : c.len.result ≡ length c.args.self.now.names.items = omega (arith, c.len.ensures, c.args.self.now.names.ok.0) in
     let number : c.len-3.result ≡ length c.args.self.now.entries.items = omega (arith, c.len-3.ensures, c.args.self.now.entries.ok.0) in
     let outputs = c.in_ok-outputs.outputs in
     let fresh : outputs ≡ numbers_from (length known.names + length c.args.self.now.names.items) (length s.outputs) =
     c.in_ok-outputs.ensures ∙ (λ k. numbers_from (c.name_count.ensures.count k + long k) (c.len-2.ensures k)) in
-    let names = c.in_ok-add_placeholders.ensures ∙ (λ k. c.args.self.now.names.items ++ placeholders (number k + 1) 1 (c.len-4.ensures k)) in
+    let names =
+    c.in_ok-add_placeholders.ensures ∙ (λ k. c.args.self.now.names.items ++ placeholders (number k + 1) 1 (c.len-4.ensures k)) in
     let facts = c.in_ok-add_certified.ensures.facts
     ∙ (λ k. with_facts (known.facts ++ c.args.self.now.more.facts)
     (certified_by task.domain s (c.as_slice.ensures k) (c.as_slice-2.ensures k))) in

@@ -17,7 +17,8 @@ new-look-requires c =
 pub returns-clause-found : goal.returns-clause-found
 returns-clause-found c =
     let known = c.args.self.now.facts.now.known in
-    let is = c.new-look.ensures ∙ ap (λ ns. laid_over known ns c.args.self.now.more.facts c.args.self.now.more.values) c.as_slice.ensures.value
+    let is = c.new-look.ensures
+    ∙ ap (λ ns. laid_over known ns c.args.self.now.more.facts c.args.self.now.more.values) c.as_slice.ensures.value
     ∙ draft_known c.args.task.now known c.requires.base c.args.self.now c.requires.draft in
     subst (λ (k : Known). IfOk c.found_instances.result (λ instances.
     AreFound c.args.task.now k (seeks_new c.args.queue.now c.args.tried.now c.args.self.now.asked) instances.items)) is
@@ -26,7 +27,8 @@ returns-clause-found c =
 pub returns-clause-fault : goal.returns-clause-fault
 returns-clause-fault c =
     let known = c.args.self.now.facts.now.known in
-    let is = c.new-look.ensures ∙ ap (λ ns. laid_over known ns c.args.self.now.more.facts c.args.self.now.more.values) c.as_slice.ensures.value
+    let is = c.new-look.ensures
+    ∙ ap (λ ns. laid_over known ns c.args.self.now.more.facts c.args.self.now.more.values) c.as_slice.ensures.value
     ∙ draft_known c.args.task.now known c.requires.base c.args.self.now c.requires.draft in
     let long : c.len-most.result ≡ length c.args.self.now.entries.items =
     omega (arith, c.len-most.ensures, c.args.self.now.entries.ok.0) in

@@ -2,7 +2,7 @@ use Rattle.std.proofs.Common.{◌≡◌, rules, sym, subst}
 use Rattle.transcript_model.specs.declared.outcome.LimitKind.TheVariants.{Calls, Instances, States}
 use Rattle.transcript_model.specs.declared.outcome.Outcome.TheVariants as said
 use Rattle.replay_check.specs.Claims.{IsJudged}
-use Rattle.replay_check.specs.Findings.{IsFound, IsPlaced}
+use Rattle.replay_check.specs.Findings.{IsRightFinding, IsPlaced}
 use Rattle.replay_check.specs.Runs.{IsPlanned}
 use Rattle.replay_check.specs.Standings.{limits_by}
 use Rattle.replay_check.proofs.entries.Standing.judge_said.Goals.{in-NoPlan+in_ok-claim-in-NoPlan, in-Limit-Calls+in_ok-claim-in-Limit-Calls, in-Limit-States+in_ok-claim-in-Limit-States, in-Limit-Instances+in_ok-claim-in-Limit-Instances}
@@ -24,7 +24,7 @@ returns-in-Plan c =
     let found =
     c.planned.ensures (limits_by b) c.args.limit task entries p.steps p.cost p.from
     (sym c.len.ensures) c.requires.standing.ledger.legal placed over_calls in
-    subst (λ o. IsFound (limits_by b) c.args.limit task entries o c.planned.result) (sym p.is) found
+    subst (λ o. IsRightFinding (limits_by b) c.args.limit task entries o c.planned.result) (sym p.is) found
 
 pub returns : goal.returns
 returns c =
@@ -40,7 +40,7 @@ returns c =
           let found =
           c.claimed.ensures (limits_by b) limit task entries said.NoPlan tt placed
           (subst (IsJudged (limits_by b) limit task entries said.NoPlan) (sym w.claim-is) judged) in
-          subst (λ o. IsFound (limits_by b) limit task entries o c.claimed.result) (sym w.in-NoPlan.is) found
+          subst (λ o. IsRightFinding (limits_by b) limit task entries o c.claimed.result) (sym w.in-NoPlan.is) found
       | in-Limit-Calls+in_ok-claim-in-Limit-Calls w ↦
           let is : c.args.outcome.now ≡ said.Limit Calls = search rules in
           let judged = w.in_ok-claim-in-Limit-Calls.ensures limit entries ledger in
@@ -48,7 +48,7 @@ returns c =
           let found =
           c.claimed.ensures (limits_by b) limit task entries (said.Limit Calls) tt placed
           (subst (IsJudged (limits_by b) limit task entries (said.Limit Calls)) (sym w.claim-is) judged) in
-          subst (λ o. IsFound (limits_by b) limit task entries o c.claimed.result) (sym is) found
+          subst (λ o. IsRightFinding (limits_by b) limit task entries o c.claimed.result) (sym is) found
       | in-Limit-States+in_ok-claim-in-Limit-States w ↦
           let is : c.args.outcome.now ≡ said.Limit States = search rules in
           let judged = w.in_ok-claim-in-Limit-States.ensures entries ledger in
@@ -56,7 +56,7 @@ returns c =
           let found =
           c.claimed.ensures (limits_by b) limit task entries (said.Limit States) tt placed
           (subst (IsJudged (limits_by b) limit task entries (said.Limit States)) (sym w.claim-is) judged) in
-          subst (λ o. IsFound (limits_by b) limit task entries o c.claimed.result) (sym is) found
+          subst (λ o. IsRightFinding (limits_by b) limit task entries o c.claimed.result) (sym is) found
       | in-Limit-Instances+in_ok-claim-in-Limit-Instances w ↦
           let is : c.args.outcome.now ≡ said.Limit Instances = search rules in
           let judged = w.in_ok-claim-in-Limit-Instances.ensures limit entries ledger in
@@ -64,5 +64,5 @@ returns c =
           let found =
           c.claimed.ensures (limits_by b) limit task entries (said.Limit Instances) tt placed
           (subst (IsJudged (limits_by b) limit task entries (said.Limit Instances)) (sym w.claim-is) judged) in
-          subst (λ o. IsFound (limits_by b) limit task entries o c.claimed.result) (sym is) found
+          subst (λ o. IsRightFinding (limits_by b) limit task entries o c.claimed.result) (sym is) found
     ]

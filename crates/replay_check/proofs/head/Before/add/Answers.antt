@@ -2,7 +2,7 @@ use Rattle.std.proofs.Common.{◌≡◌, ◌+◌, ◌≤◌, ◌++◌, List, [],
 use Rattle.std.specs.List.{filter_map}
 use Rattle.transcript_model.specs.Names.{stream_named}
 use Rattle.pools.specs.Pools.{Workers, share_of}
-use Rattle.replay_check.specs.Heads.{are_new, share_in, streams_in}
+use Rattle.replay_check.specs.Heads.{are_new, share_in, pool_line_streams}
 use Rattle.replay_check.proofs.HeadsPoolLemmas.{pool_fits, pool_passed}
 use Rattle.replay_check.proofs.head.Before.add.Goals as goal
 
@@ -13,7 +13,7 @@ returns c = λ before h.
     let b = c.args.self.now in
     let found = rw c.in-Some.is at c.in_ok-streams.ensures.some in
     let names : c.as_slice-names.result.now ≡ pool.streams = c.as_slice-names.ensures in
-    let streams : c.in-Some.streams.items ≡ streams_in task pool = found.1 ∙ ap (filter_map (stream_named task)) names in
+    let streams : c.in-Some.streams.items ≡ pool_line_streams task pool = found.1 ∙ ap (filter_map (stream_named task)) names in
     let together : b.workers + pool.workers ≤ 17 = omega arith in
     let fits = pool_fits task before pool b h (omega arith) (omega arith) together
     (ap (are_new task b.served.items) (sym names) ∙ found.0) in

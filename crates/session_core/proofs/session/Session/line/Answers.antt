@@ -4,7 +4,7 @@ use Rattle.session_core.proofs.StateLemmas.{slots_are, sound_changed, read_slot,
 use Rattle.session_core.specs.Heard.{is_bad_at}
 use Rattle.session_core.specs.Session.{IsSession}
 use Rattle.session_core.specs.Shown.{shown}
-use Rattle.session_core.specs.Slots.{Slot, heard_slot, slot_of, fault_of, reply_to}
+use Rattle.session_core.specs.Slots.{Slot, heard_slot, slot_of, reply_fault, reply_to}
 use Rattle.session_core.specs.State.{State, IsSound, with_slots, after_line}
 use Rattle.session_core.specs.declared.fault.Heard.TheVariants.{Taken, Bad}
 use Rattle.session_core.proofs.session.Session.line.Goals as goal
@@ -53,7 +53,7 @@ returns-in-None-clause-heard c =
     let old = read_slot s.slots child c.in-Some.place slot c.index_mut-cell.result.now found waits c.index_mut-cell.ensures.value in
     ap Taken (c.number-number.ensures ∙ ap (λ (t : Slot). t.number) old)
     ∙ sym (heard_is c.args.self.now.slots child line slot None c.requires.awaited.found
-    (c.in-None.ensures.fault ∙ ap (λ t. fault_of (reply_to line t)) old))
+    (c.in-None.ensures.fault ∙ ap (λ t. reply_fault (reply_to line t)) old))
 
 pub returns-in-None-clause-after : goal.returns-in-None-clause-after
 returns-in-None-clause-after c =
@@ -71,7 +71,7 @@ returns-in-None-clause-after c =
     let good : s.failed ≡ is_bad_at c.args.self.now.slots child line =
     ap (λ (t : State). t.failed) c.self.view_is ∙ c.requires.working
     ∙ sym (bad_is c.args.self.now.slots child line slot None c.requires.awaited.found
-    (c.in-None.ensures.fault ∙ ap (λ t. fault_of (reply_to line t)) old)) in
+    (c.in-None.ensures.fault ∙ ap (λ t. reply_fault (reply_to line t)) old)) in
     (λ k. with_slots s (same k) (good k))
     ∙ ap (λ (t : State). after_line t child line (is_bad_at c.args.self.now.slots child line)) c.self.view_is
 
@@ -104,7 +104,7 @@ returns-in-Some-hear-clause-heard c =
     let old = read_slot s.slots child c.in-Some.place slot c.index_mut-cell.result.now found waits c.index_mut-cell.ensures.value in
     ap (λ n. Bad n c.in-Some-hear.why) (c.number-number.ensures ∙ ap (λ (t : Slot). t.number) old)
     ∙ sym (heard_is c.args.self.now.slots child line slot
-    (Some c.in-Some-hear.why) c.requires.awaited.found (c.in-Some-hear.ensures.fault ∙ ap (λ t. fault_of (reply_to line t)) old))
+    (Some c.in-Some-hear.why) c.requires.awaited.found (c.in-Some-hear.ensures.fault ∙ ap (λ t. reply_fault (reply_to line t)) old))
 
 pub returns-in-Some-hear-clause-after : goal.returns-in-Some-hear-clause-after
 returns-in-Some-hear-clause-after c =
@@ -121,7 +121,7 @@ returns-in-Some-hear-clause-after c =
     (heard_slot line) c.hear.new.self c.self.invariant.apart c.hear.ensures.slot in
     let bad : true ≡ is_bad_at c.args.self.now.slots child line =
     sym (bad_is c.args.self.now.slots child line slot
-    (Some c.in-Some-hear.why) c.requires.awaited.found (c.in-Some-hear.ensures.fault ∙ ap (λ t. fault_of (reply_to line t)) old)) in
+    (Some c.in-Some-hear.why) c.requires.awaited.found (c.in-Some-hear.ensures.fault ∙ ap (λ t. reply_fault (reply_to line t)) old)) in
     (λ k. with_slots s (same k) (bad k))
     ∙ ap (λ (t : State). after_line t child line (is_bad_at c.args.self.now.slots child line)) c.self.view_is
 

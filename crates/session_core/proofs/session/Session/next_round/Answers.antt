@@ -6,7 +6,7 @@ use Rattle.pools.proofs.PoolsLemmas.{have_workers}
 use Rattle.pools.specs.Pools.{IsLongestFront, shares_of}
 use Rattle.session_core.proofs.ReadyRoundLemmas.{next_is}
 use Rattle.session_core.proofs.ReadyLemmas.{may_begin}
-use Rattle.session_core.specs.Ready.{IsNextRound, calls_left}
+use Rattle.session_core.specs.Ready.{IsNextRound, session_calls_left}
 use Rattle.session_core.specs.Session.{IsSession}
 use Rattle.session_core.specs.Shown.{shown}
 use Rattle.session_core.specs.State.{State}
@@ -17,7 +17,7 @@ returns-clause-cut c =
     let s = shown c.self.inside in
     let dues = c.args.dues.now in
     let asked : c.len.result ≡ length s.asked = c.len.ensures ∙ c.self.inside.asked.ok.0 in
-    let most : c.min-most.result ≡ min (length dues) (calls_left s) =
+    let most : c.min-most.result ≡ min (length dues) (session_calls_left s) =
     c.min-most.ensures ∙ ap (λ n. min (length dues) (s.calls - n)) asked in
     let longest : IsLongestFront (shares_of s.pools) (instances_of (take c.min-most.result dues)) c.longest_front.result =
     subst (λ ps. IsLongestFront (shares_of ps) (instances_of (take c.min-most.result dues)) c.longest_front.result) c.as_slice.ensures.value
@@ -31,7 +31,7 @@ returns-clause-some c = λ task h there left.
     let dues = c.args.dues.now in
     let was = subst (IsSession task) (sym c.self.view_is) h in
     let asked : c.len.result ≡ length s.asked = c.len.ensures ∙ c.self.inside.asked.ok.0 in
-    let most : c.min-most.result ≡ min (length dues) (calls_left s) =
+    let most : c.min-most.result ≡ min (length dues) (session_calls_left s) =
     c.min-most.ensures ∙ ap (λ n. min (length dues) (s.calls - n)) asked in
     let longest : IsLongestFront (shares_of s.pools) (instances_of (take c.min-most.result dues)) c.longest_front.result =
     subst (λ ps. IsLongestFront (shares_of ps) (instances_of (take c.min-most.result dues)) c.longest_front.result) c.as_slice.ensures.value

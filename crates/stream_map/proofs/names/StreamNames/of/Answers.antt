@@ -1,11 +1,11 @@
 use Rattle.std.proofs.Common.{◌≡◌, ◌∙◌, sym, ap, Some, slice_get, arith}
-use Rattle.stream_map.specs.Form.{stream_names}
+use Rattle.stream_map.specs.Form.{all_stream_names}
 use Rattle.stream_map.proofs.FaultsLemmas.{key_pushed, name_at}
 use Rattle.stream_map.proofs.names.StreamNames.of.Goals as goal
 
 pub loop-stream-preserved : goal.loop-stream-preserved
 loop-stream-preserved c =
-    let names = stream_names c.args.task.now in
+    let names = all_stream_names c.args.task.now in
     let i = c.loop-stream.stream-index in
     let key : c.in_ok-from_slice.field-0.items ≡ c.stream-item.result.name = c.in_ok-from_slice.ensures.items ∙ c.bytes.ensures in
     let here : slice_get names i ≡ Some c.in_ok-from_slice.field-0.items =

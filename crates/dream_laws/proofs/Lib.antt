@@ -1,0 +1,4 @@
+pub mod NamesFreeLemmas
+pub mod SupportLemmas
+pub mod ListLemmas
+pub mod DreamLemmas

@@ -1,0 +1,256 @@
+use Rattle.std.proofs.Common.{rules, tests, ◌≡◌, ◌+◌, ◌||◌, length, true, false, ℕ, suc, IfOk, slice_set, sym, ap, ◌∙◌, subst, arith, drop, get_or, add-one, eq-eqb}
+use Rattle.std.specs.List.{list_any}
+use Rattle.task_model.proofs.TruthLemmas.{have_types-length}
+use Rattle.task_model.specs.Condition.{Atom, All as every, Any, Not, Exists, parts_of}
+use Rattle.task_model.specs.Known.{objects_of}
+use Rattle.task_model.specs.Roles.{role_of}
+use Rattle.task_model.specs.View.{view_of}
+use Rattle.task_model.specs.declared.domain.Role.TheVariants as role
+use Rattle.formula_eval.specs.Judged.{some_at, derived_at}
+use Rattle.formula_eval.proofs.ConditionPartLemmas.{readable_part, set_back, set_twice}
+use Rattle.formula_eval.proofs.ReadableLemmas.{roles_length, role_kept, static_at, fluent_at, fit_item, item_params, item_readable}
+use Rattle.formula_eval.proofs.ListTestLemmas.{list_any-drop}
+use Rattle.formula_eval.proofs.WeightLemmas.{part_lighter, body_lighter, items_weight}
+use Rattle.formula_memo.proofs.DepthLemmas.{not_derived, body_rests, part_rests, atom_rests, all_rest, any_rest, not_rests, exists_rests, derived_truth, deeper_heavier}
+use Rattle.formula_memo.specs.Remembered.{truth_of}
+use Rattle.formula_memo.specs.Rests.{AllRest, PartsRest, RestsWithin}
+use Rattle.formula_memo.proofs.judge.+truth.Goals as goal
+
+pub truth-atom-requires : goal.truth-atom-requires
+truth-atom-requires g t c κs within =
+    let domain = c.args.scene.now.task.now.domain in
+    let is : c.args.formula.now ≡ Atom c.in-Atom.pred c.in-Atom.args = sym c.formula.view_is ∙ ap view_of c.in-Atom.is in
+    let rests : RestsWithin domain c.args.depth c.in-Atom.pred =
+    atom_rests domain c.args.depth c.in-Atom.pred c.in-Atom.args (subst (AllRest domain c.args.depth) is c.requires.rests) in
+    search rules
+
+pub truth-all_true-requires : goal.truth-all_true-requires
+truth-all_true-requires g t c κs within =
+    let domain = c.args.scene.now.task.now.domain in
+    let is : c.args.formula.now ≡ every (parts_of c.in-All.parts.items) = sym c.formula.view_is ∙ ap view_of c.in-All.is in
+    let rests : PartsRest domain c.args.depth (parts_of c.in-All.parts.items) =
+    all_rest domain c.args.depth (parts_of c.in-All.parts.items) (subst (AllRest domain c.args.depth) is c.requires.rests) in
+    search rules
+
+pub truth-any_true-requires : goal.truth-any_true-requires
+truth-any_true-requires g t c κs within =
+    let domain = c.args.scene.now.task.now.domain in
+    let is : c.args.formula.now ≡ Any (parts_of c.in-Any.parts.items) = sym c.formula.view_is ∙ ap view_of c.in-Any.is in
+    let rests : PartsRest domain c.args.depth (parts_of c.in-Any.parts.items) =
+    any_rest domain c.args.depth (parts_of c.in-Any.parts.items) (subst (AllRest domain c.args.depth) is c.requires.rests) in
+    search rules
+
+pub truth-truth-requires : goal.truth-truth-requires
+truth-truth-requires g t c κs within =
+    let domain = c.args.scene.now.task.now.domain in
+    let is : c.args.formula.now ≡ Not c.in-Not.part.value = sym c.formula.view_is ∙ ap view_of c.in-Not.is in
+    let rests : AllRest domain c.args.depth c.in-Not.part.value =
+    not_rests domain c.args.depth c.in-Not.part.value (subst (AllRest domain c.args.depth) is c.requires.rests) in
+    search rules
+
+pub truth-some_tuple-requires : goal.truth-some_tuple-requires
+truth-some_tuple-requires g t c κs within =
+    let domain = c.args.scene.now.task.now.domain in
+    let is : c.args.formula.now ≡ Exists c.in-Exists.first c.in-Exists.sorts c.in-Exists.body.value =
+    sym c.formula.view_is ∙ ap view_of c.in-Exists.is in
+    let rests : AllRest domain c.args.depth c.in-Exists.body.value =
+    exists_rests domain c.args.depth c.in-Exists.first c.in-Exists.sorts c.in-Exists.body.value
+    (subst (AllRest domain c.args.depth) is c.requires.rests) in
+    search rules
+
+pub all_true-truth-requires : goal.all_true-truth-requires
+all_true-truth-requires g t c κs within =
+    let domain = c.args.scene.now.task.now.domain in
+    let lighter = part_lighter c.args.parts.now c.loop-part.part-index c.part-item.result c.loop-part-test.true c.part-item.is in
+    let readable =
+    readable_part domain c.args.parts.now c.loop-part.part-index c.part-item.result c.requires.readable
+    c.loop-part-test.true c.part-item.is in
+    let rests =
+    part_rests domain c.args.depth c.args.parts.now c.loop-part.part-index c.part-item.result c.requires.rests
+    c.loop-part-test.true c.part-item.is in
+    let stands = c.loop-part.invariant.2 in
+    search rules
+
+pub any_true-truth-requires : goal.any_true-truth-requires
+any_true-truth-requires g t c κs within =
+    let domain = c.args.scene.now.task.now.domain in
+    let lighter = part_lighter c.args.parts.now c.loop-part.part-index c.part-item.result c.loop-part-test.true c.part-item.is in
+    let readable =
+    readable_part domain c.args.parts.now c.loop-part.part-index c.part-item.result c.requires.readable
+    c.loop-part-test.true c.part-item.is in
+    let rests =
+    part_rests domain c.args.depth c.args.parts.now c.loop-part.part-index c.part-item.result c.requires.rests
+    c.loop-part-test.true c.part-item.is in
+    let stands = c.loop-part.invariant.2 in
+    search rules
+
+pub atom-bounds : goal.atom-bounds
+atom-bounds g t c =
+    let long : length c.as_slice.result.now ≡ length c.args.scene.now.task.now.domain.predicates =
+    ap length c.as_slice.ensures ∙ roles_length c.args.scene.now.task.now.domain c.requires.fit.domain in
+    omega (arith, c.requires.predicate)
+
+pub atom-returns-in-Static-clause-value : goal.atom-returns-in-Static-clause-value
+atom-returns-in-Static-clause-value g t c =
+    let domain = c.args.scene.now.task.now.domain in
+    let is : role_of domain c.args.pred ≡ role.Static =
+    sym (role_kept domain c.requires.fit.domain c.args.pred role.Static c.requires.predicate)
+    ∙ sym (ap (λ rs. get_or rs c.args.pred role.Static) c.as_slice.ensures) ∙ c.in-Static.is in
+    c.has.ensures
+    ∙ sym
+    (static_at domain (g.L.Look.known c.args.scene.now.look.now) c.args.scene.now.state.now c.args.pred c.args.args
+    (length domain.derived) is)
+
+pub atom-returns-in-Fluent-clause-value : goal.atom-returns-in-Fluent-clause-value
+atom-returns-in-Fluent-clause-value g t c =
+    let domain = c.args.scene.now.task.now.domain in
+    let is : role_of domain c.args.pred ≡ role.Fluent =
+    sym (role_kept domain c.requires.fit.domain c.args.pred role.Static c.requires.predicate)
+    ∙ sym (ap (λ rs. get_or rs c.args.pred role.Static) c.as_slice.ensures) ∙ c.in-Fluent.is in
+    c.has-in-Fluent.ensures
+    ∙ sym
+    (fluent_at domain (g.L.Look.known c.args.scene.now.look.now) c.args.scene.now.state.now c.args.pred c.args.args
+    (length domain.derived) is)
+
+pub atom-derived_atom-requires : goal.atom-derived_atom-requires
+atom-derived_atom-requires g t c κs within =
+    let domain = c.args.scene.now.task.now.domain in
+    let is : role_of domain c.args.pred ≡ role.Derived =
+    sym (role_kept domain c.requires.fit.domain c.args.pred role.Static c.requires.predicate)
+    ∙ sym (ap (λ rs. get_or rs c.args.pred role.Static) c.as_slice.ensures) ∙ c.in-Derived.is in
+    search rules
+
+pub derived_atom-derived-requires : goal.derived_atom-derived-requires
+derived_atom-derived-requires g t c κs within =
+    let domain = c.args.scene.now.task.now.domain in
+    let above : c.args.depth ≡ suc c.in-Some-checked_sub.below = omega (arith, c.in-Some-checked_sub.ensures.0, c.in-Some-checked_sub.ensures.1) in
+    let heavier = deeper_heavier c.args.depth c.in-Some-checked_sub.below (items_weight domain.derived) above in
+    let rests : RestsWithin domain (suc c.in-Some-checked_sub.below) c.args.atom.pred =
+    subst (λ d. RestsWithin domain d c.args.atom.pred) above c.requires.rests in
+    search rules
+
+pub follows_by-new-env-requires : goal.follows_by-new-env-requires
+follows_by-new-env-requires g t c =
+    let domain = c.args.scene.now.task.now.domain in
+    let there = c.requires.there in
+    let params = item_params domain c.args.item.now (fit_item domain c.requires.fit.domain there.0 c.args.item.now there.1 (sym there.2)) in
+    let typed : c.have_types.result ≡ true = search (rules, tests) in
+    let long = have_types-length (g.L.Look.known c.args.scene.now.look.now) c.args.args.now c.as_slice.result.now
+    (sym c.have_types.ensures ∙ typed) in
+    let same : length c.as_slice.result.now ≡ length c.args.item.now.params = ap length c.as_slice.ensures in
+    omega arith
+
+pub follows_by-truth-requires : goal.follows_by-truth-requires
+follows_by-truth-requires g t c κs within =
+    let domain = c.args.scene.now.task.now.domain in
+    let there = c.requires.there in
+    let item = c.args.item.now in
+    let lighter = body_lighter domain.derived there.0 item there.1 (sym there.2) in
+    let readable = item_readable domain c.requires.fit.domain item (fit_item domain c.requires.fit.domain there.0 item there.1 (sym there.2)) in
+    let same : item.pred ≡ c.args.pred = search (rules, tests) in
+    let rests = body_rests domain c.args.depth c.args.pred item c.requires.rests there (eq-eqb item.pred c.args.pred same) in
+    search rules
+
+pub some_tuple-some_object-found-requires : goal.some_tuple-some_object-found-requires
+some_tuple-some_object-found-requires g t c κs within =
+    let long = ap length c.in-Some.ensures.cases.0 in
+    search rules
+
+pub some_tuple-returns-clause-value : goal.some_tuple-returns-clause-value
+some_tuple-returns-clause-value g t c =
+    let scene = c.args.scene.now in
+    let domain = scene.task.now.domain in
+    subst (λ ss. IfOk c.some_object-found.result (λ value. value
+    ≡ some_at domain (g.L.Look.known scene.look.now) scene.state.now (length domain.derived) c.args.first ss c.args.body.now c.args.env.now))
+    (sym c.in-Some.ensures.cases.0) c.some_object-found.ensures.value
+
+pub some_tuple-returns-clause-same : goal.some_tuple-returns-clause-same
+some_tuple-returns-clause-same g t c =
+    c.set.ensures ∙ c.some_object-found.ensures.same c.get-kept.result
+    ∙ ap (slice_set c.args.env.now c.args.first) c.get-kept.ensures ∙ set_back c.args.env.now c.args.first
+
+pub some_object-some_tuple-requires : goal.some_object-some_tuple-requires
+some_object-some_tuple-requires g t c κs within =
+    let stands = c.loop-place.invariant.2 in
+    search rules
+
+pub some_object-returns-then-found-clause-value : goal.some_object-returns-then-found-clause-value
+some_object-returns-then-found-clause-value g t c =
+    let domain = c.args.scene.now.task.now.domain in
+    let known = g.L.Look.known c.args.scene.now.look.now in
+    let state = c.args.scene.now.state.now in
+    let depth = length domain.derived in
+    let objects = objects_of known.facts c.args.sort in
+    let test = λ (o : ℕ).
+    some_at domain known state depth (c.args.first + 1) c.args.rest.now c.args.body.now (slice_set c.args.env.now c.args.first o) in
+    let here : test c.object.result ≡ true =
+    ap (some_at domain known state depth (c.args.first + 1) c.args.rest.now c.args.body.now)
+    (sym (c.loop-place.invariant.1 c.object.result) ∙ sym c.set.ensures)
+    ∙ sym c.in_ok-found.ensures.value ∙ c.if-found.true in
+    let left : list_any test (drop c.loop-place.place objects) ≡ true =
+    list_any-drop test objects c.loop-place.place c.object.result c.object.ensures
+    ∙ ap (λ b. b || list_any test (drop (suc c.loop-place.place) objects)) here in
+    sym (sym c.loop-place.invariant.0 ∙ left)
+
+pub some_object-returns-then-found-clause-same : goal.some_object-returns-then-found-clause-same
+some_object-returns-then-found-clause-same g t c o =
+    ap (λ s. slice_set s c.args.first o) (c.in_ok-found.ensures.same ∙ c.set.ensures)
+    ∙ set_twice c.loop-place.env c.args.first c.object.result o ∙ c.loop-place.invariant.1 o
+
+pub some_object-returns-in_err-found-clause-same : goal.some_object-returns-in_err-found-clause-same
+some_object-returns-in_err-found-clause-same g t c o =
+    ap (λ s. slice_set s c.args.first o) (c.in_err-found.ensures.same ∙ c.set.ensures)
+    ∙ set_twice c.loop-place.env c.args.first c.object.result o ∙ c.loop-place.invariant.1 o
+
+pub some_object-loop-place-preserved : goal.some_object-loop-place-preserved
+some_object-loop-place-preserved g t c =
+    let domain = c.args.scene.now.task.now.domain in
+    let known = g.L.Look.known c.args.scene.now.look.now in
+    let state = c.args.scene.now.state.now in
+    let depth = length domain.derived in
+    let objects = objects_of known.facts c.args.sort in
+    let test = λ (o : ℕ).
+    some_at domain known state depth (c.args.first + 1) c.args.rest.now c.args.body.now (slice_set c.args.env.now c.args.first o) in
+    let here : test c.object.result ≡ false =
+    ap (some_at domain known state depth (c.args.first + 1) c.args.rest.now c.args.body.now)
+    (sym (c.loop-place.invariant.1 c.object.result) ∙ sym c.set.ensures)
+    ∙ sym c.in_ok-found.ensures.value ∙ c.if-found.false in
+    let left : list_any test (drop c.loop-place.place objects) ≡ list_any test (drop (suc c.loop-place.place) objects) =
+    list_any-drop test objects c.loop-place.place c.object.result c.object.ensures
+    ∙ ap (λ b. b || list_any test (drop (suc c.loop-place.place) objects)) here in (
+      ap (λ n. list_any test (drop n objects)) (add-one c.loop-place.place) ∙ sym left ∙ c.loop-place.invariant.0,
+      λ o. ap (λ s. slice_set s c.args.first o) (c.in_ok-found.ensures.same ∙ c.set.ensures)
+          ∙ set_twice c.loop-place.env c.args.first c.object.result o ∙ c.loop-place.invariant.1 o,
+      c.in_ok-found.ensures.stands,
+    )
+
+pub derived_atom-unreachable-requires : goal.derived_atom-unreachable-requires
+derived_atom-unreachable-requires g t c =
+    let domain = c.args.scene.now.task.now.domain in
+    let none : c.args.depth ≡ 0 = omega (arith, c.in_default.ensures) in
+    not_derived domain c.args.atom.pred (subst (λ d. RestsWithin domain d c.args.atom.pred) none c.requires.rests) c.requires.role
+
+pub derived_atom-returns-in_err-note-clause-stands : goal.derived_atom-returns-in_err-note-clause-stands
+derived_atom-returns-in_err-note-clause-stands g t c =
+    let domain = c.args.scene.now.task.now.domain in let known = g.L.Look.known c.args.scene.now.look.now in
+    let state = c.args.scene.now.state.now in let atom = c.args.atom in
+    let right : c.in_ok-value.value ≡ truth_of domain known state atom =
+    c.in_ok-value.ensures.value ∙ ap (derived_at domain known state (length domain.derived) atom.pred) c.as_slice.ensures
+    ∙ derived_truth domain c.requires.fit.domain known state atom.pred atom.args c.requires.role in
+    c.note.ensures domain known state c.in_ok-value.ensures.stands right
+
+pub derived_atom-returns-clause-stands : goal.derived_atom-returns-clause-stands
+derived_atom-returns-clause-stands g t c =
+    let domain = c.args.scene.now.task.now.domain in let known = g.L.Look.known c.args.scene.now.look.now in
+    let state = c.args.scene.now.state.now in let atom = c.args.atom in
+    let right : c.in_ok-value.value ≡ truth_of domain known state atom =
+    c.in_ok-value.ensures.value ∙ ap (derived_at domain known state (length domain.derived) atom.pred) c.as_slice.ensures
+    ∙ derived_truth domain c.requires.fit.domain known state atom.pred atom.args c.requires.role in
+    c.note.ensures domain known state c.in_ok-value.ensures.stands right
+
+pub derived_atom-returns-clause-value : goal.derived_atom-returns-clause-value
+derived_atom-returns-clause-value g t c =
+    let domain = c.args.scene.now.task.now.domain in let known = g.L.Look.known c.args.scene.now.look.now in
+    let state = c.args.scene.now.state.now in let atom = c.args.atom in
+    c.in_ok-value.ensures.value ∙ ap (derived_at domain known state (length domain.derived) atom.pred) c.as_slice.ensures
+    ∙ derived_truth domain c.requires.fit.domain known state atom.pred atom.args c.requires.role

@@ -1,0 +1,310 @@
+-- The calls of a run that stops: with its starts.
+use Rattle.std.proofs.Common.{◌≡◌, true, ℕ, zero, suc, ◌+◌, ◌<◌, arith, List, [], ◌∷◌, ◌++◌, take, Option, Some, None, Err, refl, sym, subst, ap, ◌∙◌, append_assoc, inl, inr, ◌⊎◌}
+use Rattle.std.proofs.lemmas.List.{append-nil, append_cancel_left}
+use Rattle.io_world.specs.Faults.{Extends}
+use Rattle.io_world.specs.Talks.{Event, started}
+use Rattle.session_core.proofs.SessionLemmas.{count_joined}
+use Rattle.task_model.specs.declared.task.Task.{Task}
+use Rattle.transcript_model.specs.Legal.{HasNoneOpen, asks_of, is_ask, is_mark}
+use Rattle.transcript_model.specs.declared.entry.Entry.{Entry}
+use Rattle.transcript_model.specs.declared.entry.Entry.TheVariants as entry
+use Rattle.transcript_model.specs.declared.head.Head.{Head}
+use Rattle.transcript_model.specs.declared.head.Pool.{Pool}
+use Rattle.round_run.proofs.BreakingLemmas.{breaks_join, tells_map, tells_of}
+use Rattle.round_run.proofs.CallsRunLemmas.{unasked}
+use Rattle.round_run.proofs.DialogueMarkLemmas.{asks_behind, follows_marked, mark_no_ask, mark_waits}
+use Rattle.std.proofs.lemmas.List.Elements.{All-append}
+use Rattle.io_world.proofs.TalksLemmas.{extends_more}
+use Rattle.round_run.specs.Breaking.{Breaks, LogBreaks, LogBroken, RunBreaks, Tells, Unstarted, WereStarts, starts_after}
+use Rattle.round_run.specs.Calls.{Follows, IsStop, LogRuns, LogStartsPart, LogStops, Runs, starts_before, starts_of}
+use Rattle.round_run.specs.Dialogue.{workers_in}
+use Rattle.round_run.specs.declared.fault.RunFault.{RunFault}
+use Rattle.transcript_model.proofs.LegalNumberLemmas.{asks_marked}
+
+-- the starts that came before a batch of some asks
+pub same_after : (pools : List Pool) (asked many : ℕ) → 0 < many
+    → starts_before pools asked many ≡ starts_after pools asked
+same_after pools zero zero some = absurd (omega (arith, some))
+same_after pools zero (suc many) some = refl
+same_after pools (suc asked) many some = refl
+
+pub some_after : (pools : List Pool) (asked : ℕ) → 0 < asked → starts_after pools asked ≡ []
+some_after pools zero some = absurd (omega (arith, some))
+some_after pools (suc asked) some = refl
+
+none_after : (pools : List Pool) (asked : ℕ) → asked ≡ 0
+    → starts_after pools asked ≡ starts_of pools
+none_after pools zero none = refl
+none_after pools (suc asked) none = absurd (omega (arith, none))
+
+-- ---- batches
+
+-- a start was refused
+pub start_refused : (task : Task) (head : Head) (before : List Entry) (fault : RunFault) (old new : Option (List Event))
+    → asks_of before ≡ 0 → LogStartsPart (starts_of head.pools) fault old new → RunBreaks task head before fault old new []
+start_refused task head before fault old None first log = tt
+start_refused task head before fault old (Some after) first (n, child, words, cause, at, is, (past, was, came)) = (
+  past,
+  take n (starts_of head.pools) ++ started child words (Err cause) ∷ [],
+  was,
+  came,
+  inl (record {
+    first = first;
+    none = refl;
+    were = inr (
+      n,
+      child,
+      words,
+      cause,
+      at,
+      refl,
+      tells_of (HasNoneOpen (before ++ [])) cause fault (started child words (Err cause)) is refl,
+    );
+  }),
+)
+
+-- all workers run, and the rounds broke off
+pub rounds_broken : (task : Task) (head : Head) (before : List Entry) (starts : List Event)
+    (fault : RunFault) (old mid new : Option (List Event))
+    → starts ≡ starts_after head.pools (asks_of before) → Extends old mid starts → (more : List Entry)
+    → LogBreaks task head.version (workers_in head) before fault mid new more → RunBreaks task head before fault old new more
+rounds_broken task head before starts fault old mid None is first more broken = tt
+rounds_broken task head before starts fault old None (Some after) is first more (reached, events, was, came, b) =
+    absurd (cc)
+rounds_broken task head before starts fault old (Some now) (Some after) is (past, was, came) more (reached, events, told, grown, b) =
+    let both : now ≡ reached = cc in
+    let here : reached ≡ past ++ starts_after head.pools (asks_of before) = sym both ∙ came ∙ ap (λ es. past ++ es) is in (
+      past,
+      starts_after head.pools (asks_of before) ++ events,
+      was,
+      grown ∙ ap (λ es. es ++ events) here ∙ append_assoc past (starts_after head.pools (asks_of before)) events,
+      inr (events, refl, subst (λ p. Breaks task head.version (workers_in head) p before more fault events) here b),
+    )
+
+-- ---- marks
+
+-- a mark opens no request
+none_marked : (e : Entry) → is_mark e ≡ true → (before more : List Entry) → (more ≡ []) ⊎ (more ≡ e ∷ [])
+    → HasNoneOpen before → HasNoneOpen (before ++ more)
+none_marked e mark before more (inl is) none =
+    subst (λ es. HasNoneOpen (before ++ es)) (sym is) (subst HasNoneOpen (sym (append-nil before)) none)
+none_marked e mark before more (inr is) none =
+    subst (λ es. HasNoneOpen (before ++ es)) (sym is) (λ n. mark_waits before e mark n ∙ none n)
+
+-- no call was made
+pub quiet_breaks : (task : Task) (head : Head) (e : Entry) → is_mark e ≡ true → (before : List Entry) (fault : RunFault)
+    (log : Option (List Event))
+    → Tells (HasNoneOpen before) fault [] → (more : List Entry) → (more ≡ []) ⊎ (more ≡ e ∷ [])
+    → RunBreaks task head before fault log log more
+quiet_breaks task head e mark before fault None tells more is = tt
+quiet_breaks task head e mark before fault (Some log) tells more is =
+    (log, [], refl, sym (append-nil log), by (asks_of before) refl)
+  where
+    still : Tells (HasNoneOpen (before ++ more)) fault []
+    still = tells_map (HasNoneOpen before) (HasNoneOpen (before ++ more)) fault [] (none_marked e mark before more is) tells
+
+    none : (es : List Entry) → (es ≡ []) ⊎ (es ≡ e ∷ []) → asks_of es ≡ 0
+    none es (inl same) = ap asks_of same
+    none es (inr same) = ap asks_of same ∙ asks_behind e [] mark
+
+    follows : (past : List Event) (es : List Entry) → (es ≡ []) ⊎ (es ≡ e ∷ [])
+        → Follows task (workers_in head) past before es []
+    follows past es (inl same) =
+        subst (λ xs. Follows task (workers_in head) past before xs []) (sym same) refl
+    follows past es (inr same) =
+        subst (λ xs. Follows task (workers_in head) past before xs []) (sym same)
+        (follows_marked task (workers_in head) e mark past before)
+
+    by : (n : ℕ) → asks_of before ≡ n
+        → Unstarted head before more fault []
+        ⊎ ((later : List Event) × ([] ≡ starts_after head.pools (asks_of before) ++ later)
+        × Breaks task head.version (workers_in head) (log ++ starts_after head.pools (asks_of before)) before more fault later)
+    by zero none_asked = inl (record { first = none_asked; none = none more is; were = inl (refl, still) })
+    by (suc n) some =
+        let no : starts_after head.pools (asks_of before) ≡ [] = some_after head.pools (asks_of before) (omega (arith, some)) in
+        inr (
+          [],
+          sym (append-nil (starts_after head.pools (asks_of before)) ∙ no),
+          record {
+            done = [];
+            calls = [];
+            refused = [];
+            cut = refl;
+            follows = follows (log ++ starts_after head.pools (asks_of before)) more is;
+            begun = inl (refl, refl);
+            told = still;
+          },
+        )
+
+-- the same where no entry came
+pub still_breaks : (task : Task) (head : Head) (before : List Entry) (fault : RunFault) (log : Option (List Event))
+    → Tells (HasNoneOpen before) fault [] → RunBreaks task head before fault log log []
+still_breaks task head before fault log tells =
+    quiet_breaks task head entry.Level refl before fault log tells [] (inl refl)
+
+-- a mark stands before
+pub marked_breaks : (task : Task) (head : Head) (e : Entry) → is_mark e ≡ true
+    → (before mid front : List Entry) (fault : RunFault) (old new : Option (List Event))
+    → mid ≡ before ++ e ∷ [] → mid ≡ before ++ front → (more : List Entry) → RunBreaks task head mid fault old new more
+    → RunBreaks task head before fault old new (front ++ more)
+marked_breaks task head e mark before mid front fault old new marked pushed more broken =
+    subst (λ xs. RunBreaks task head before fault old new (xs ++ more)) same
+    (by new (subst (λ es. RunBreaks task head es fault old new more) marked broken))
+  where
+    same : e ∷ [] ≡ front
+    same = append_cancel_left before (e ∷ []) front (sym marked ∙ pushed)
+
+    starts : starts_after head.pools (asks_of (before ++ e ∷ [])) ≡ starts_after head.pools (asks_of before)
+    starts = ap (starts_after head.pools) (asks_marked before e (mark_no_ask e mark))
+
+    joined : (past later : List Event)
+        → Breaks task head.version (workers_in head) past (before ++ e ∷ []) more fault later
+        → Breaks task head.version (workers_in head) past before (e ∷ more) fault later
+    joined past later b =
+        breaks_join task head.version (workers_in head) past before
+        (e ∷ []) more [] later fault (follows_marked task (workers_in head) e mark past before)
+        (subst (λ p. Breaks task head.version (workers_in head) p (before ++ e ∷ []) more fault later)
+        (sym (append-nil past)) b)
+
+    told : (events : List Event)
+        → WereStarts head ((before ++ e ∷ []) ++ more) fault events
+        → WereStarts head (before ++ e ∷ more) fault events
+    told events were = subst (λ es. WereStarts head es fault events) (append_assoc before (e ∷ []) more) were
+
+    by : (log : Option (List Event))
+        → RunBreaks task head (before ++ e ∷ []) fault old log more
+        → RunBreaks task head before fault old log (e ∷ more)
+    by None x = tt
+    by (Some after) (past, events, was, came, inl u) = (
+      past,
+      events,
+      was,
+      came,
+      inl (record {
+        first = sym (asks_marked before e (mark_no_ask e mark)) ∙ u.first;
+        none = asks_behind e more mark ∙ u.none;
+        were = told events u.were;
+      }),
+    )
+    by (Some after) (past, events, was, came, inr (later, cut, b)) = (
+      past,
+      events,
+      was,
+      came,
+      inr (
+        later,
+        cut ∙ ap (λ es. es ++ later) starts,
+        joined (past ++ starts_after head.pools (asks_of before)) later
+            (subst (λ es. Breaks task head.version (workers_in head) (past ++ es) (before ++ e ∷ []) more fault later)
+            starts b),
+      ),
+    )
+
+-- whole levels stand before
+pub levels_broken : (task : Task) (head : Head) (a front : List Entry) (fault : RunFault) (old mid new : Option (List Event))
+    → Runs task head [] a old mid → a ≡ front → (more : List Entry) → RunBreaks task head a fault mid new more
+    → RunBreaks task head [] fault old new (front ++ more)
+levels_broken task head a front fault old mid new runs pushed more broken =
+    by mid new (subst (λ es. LogRuns task head [] es old mid) (sym runs.pushed ∙ pushed) runs.log)
+    (subst (λ es. RunBreaks task head es fault mid new more) pushed broken)
+  where
+    pools : List Pool
+    pools = head.pools
+
+    version : ℕ
+    version = head.version
+
+    all : asks_of (front ++ more) ≡ asks_of front + asks_of more
+    all = count_joined is_ask front more
+
+    by : (middle log : Option (List Event)) → LogRuns task head [] front old middle
+        → RunBreaks task head front fault middle log more
+        → RunBreaks task head [] fault old log (front ++ more)
+    by middle None f x = tt
+    by None (Some after) f (reached, events, was, came, x) = absurd (cc)
+    by (Some now) (Some after) (past, es, was, came, follows) (reached, events, told, grown, x) =
+        let both : now ≡ reached = cc in
+        of (asks_of front) refl follows (sym both ∙ came) x
+      where
+        of : (n : ℕ) → asks_of front ≡ n
+            → Follows task (workers_in head) (past ++ starts_before head.pools 0 n) [] front es
+            → reached ≡ past ++ starts_before head.pools 0 n ++ es
+            → Unstarted head front more fault events
+            ⊎ ((later : List Event) × (events ≡ starts_after head.pools (asks_of front) ++ later)
+            × Breaks task head.version (workers_in head)
+            (reached ++ starts_after head.pools (asks_of front)) front more fault later)
+            → RunBreaks task head [] fault old (Some after) (front ++ more)
+        of zero n f here (inl u) =
+            let quiet = unasked task (workers_in head) (past ++ []) [] front es refl n f in
+            let still : reached ≡ past = here ∙ ap (λ xs. past ++ [] ++ xs) quiet.0 ∙ append-nil (past ++ []) ∙ append-nil past in (
+              past,
+              events,
+              was,
+              grown ∙ ap (λ xs. xs ++ events) still,
+              inl (record { first = refl; none = omega (arith, all, n, u.none); were = u.were }),
+            )
+        of (suc k) n f here (inl u) = absurd (omega (arith, n, u.first))
+        of zero n f here (inr (later, cut, b)) =
+            let quiet = unasked task (workers_in head) (past ++ []) [] front es refl n f in
+            let still : reached ≡ past = here ∙ ap (λ xs. past ++ [] ++ xs) quiet.0 ∙ append-nil (past ++ []) ∙ append-nil past in
+            let starts : starts_after head.pools (asks_of front) ≡ starts_of head.pools = none_after head.pools (asks_of front) n in
+            let front_b = subst (λ xs. Breaks task head.version (workers_in head) (reached ++ xs) front more fault later) starts b in
+            let here_b =
+            subst (λ p. Breaks task head.version (workers_in head) (p ++ starts_of head.pools) front more fault later) still front_b in (
+              past,
+              events,
+              was,
+              grown ∙ ap (λ xs. xs ++ events) still,
+              inr (
+                later,
+                cut ∙ ap (λ xs. xs ++ later) starts,
+                breaks_join task head.version (workers_in head) (past ++ starts_of head.pools) [] front more [] later fault
+                    (quiet.1 (past ++ starts_of head.pools))
+                    (subst (λ p. Breaks task head.version (workers_in head) p front more fault later)
+                    (sym (append-nil (past ++ starts_of head.pools))) here_b),
+              ),
+            )
+        of (suc k) n f here (inr (later, cut, b)) =
+            let none : starts_after head.pools (asks_of front) ≡ [] = some_after head.pools (asks_of front) (omega (arith, n)) in
+            let events_are : events ≡ later = cut ∙ ap (λ xs. xs ++ later) none in
+            let front_b = subst (λ xs. Breaks task head.version (workers_in head) (reached ++ xs) front more fault later) none b in
+            let here_b =
+            subst (λ p. Breaks task head.version (workers_in head) p front more fault later) (append-nil reached ∙ here) front_b in (
+              past,
+              starts_of head.pools ++ (es ++ later),
+              was,
+              grown ∙ ap (λ xs. xs ++ events) here ∙ ap (λ xs. past ++ starts_of head.pools ++ es ++ xs) events_are
+                  ∙ append_assoc (past ++ starts_of head.pools) es later ∙ append_assoc past (starts_of head.pools) (es ++ later),
+              inr (
+                es ++ later,
+                refl,
+                breaks_join task head.version (workers_in head) (past ++ starts_of head.pools) [] front more es later fault f here_b,
+              ),
+            )
+
+-- ---- with stops
+
+pub broken_of : (task : Task) (head : Head) (entries : List Entry) (fault : RunFault) (old new : Option (List Event))
+    → RunBreaks task head [] fault old new entries → LogBroken task head entries fault old new
+broken_of task head entries fault old None b = tt
+broken_of task head entries fault old (Some after) b =
+    (after, [], sym (append-nil after), λ k d below. absurd (omega (arith, below)), b)
+
+pub broken_more : (task : Task) (head : Head) (entries : List Entry) (fault : RunFault) (old mid new : Option (List Event))
+    → LogBroken task head entries fault old mid → LogStops mid new → LogBroken task head entries fault old new
+broken_more task head entries fault old mid None b stops = tt
+broken_more task head entries fault old None (Some after) b (more, each, (before, is, grown)) =
+    absurd (cc)
+broken_more task head entries fault old (Some now) (Some after) (events, stops, cut, all, b) (more, each, (before, is, grown)) =
+    let same : now ≡ before = cc in (
+      events,
+      stops ++ more,
+      grown ∙ ap (λ es. es ++ more) (sym same ∙ cut) ∙ append_assoc events stops more,
+      All-append IsStop stops more all each,
+      b,
+    )
+
+pub stops_then_stops : (old mid new : Option (List Event)) → LogStops old mid → LogStops mid new
+    → LogStops old new
+stops_then_stops old mid new (first, all, grown) (second, each, grows) =
+    (first ++ second, All-append IsStop first second all each, extends_more old mid new first second grown grows)

@@ -1,0 +1,58 @@
+-- The calls of a round that stops.
+use Rattle.std.proofs.Common.{◌≡◌, ℕ, ◌<◌, List, [], ◌++◌, length, take, Option, Some, subst, ◌∙◌, slice_get, Bool, true}
+use Rattle.io_world.specs.Talks.{Talk, Event, LogsTakenPart, Spells}
+use Rattle.io_world.specs.declared.host.HostFault.{HostFault}
+use Rattle.session_core.specs.Session.{IsSession}
+use Rattle.session_core.specs.Slots.{Slot}
+use Rattle.session_core.specs.State.{State}
+use Rattle.task_model.specs.declared.task.Task.{Task}
+use Rattle.transcript_model.specs.declared.entry.Entry.{Entry}
+use Rattle.round_run.proofs.BreakingLemmas.{breaks_hearing, breaks_writing}
+use Rattle.round_run.proofs.CallsRoundLemmas.{sent_next}
+use Rattle.round_run.proofs.TalkingRoundLemmas.{front_each, next_is, next_legal, replies_heard, request_at, requests_heard, round_asks, round_replies, talks_at_heard}
+use Rattle.round_run.specs.Breaking.{LogBreaks, LogHears}
+use Rattle.round_run.specs.Dialogue.{replies_of, requests_of, text_of_request}
+use Rattle.round_run.specs.Rolling.{IsHostFault, IsRolling, finished}
+use Rattle.round_run.specs.Talking.{IsTalking}
+use Rattle.round_run.specs.declared.fault.RunFault.{RunFault}
+
+module _ (task : Task) (s : State) (place : ℕ) (kept : ℕ → List ℕ) (spoken : ℕ → Option Talk) (t : Slot)
+    (at : slice_get s.slots place ≡ Some t) (e : Entry) (at_e : slice_get s.asks place ≡ Some e) (opened : s.is_open ≡ true)
+    (h : IsSession task s) (k : IsTalking task s place 0 kept spoken) where
+  -- the request at this place was written in part
+  pub sent_part : (child : ℕ) (request : List ℕ) (fault : RunFault) (was now : Option (List Event))
+      → child ≡ t.child → request ≡ t.request
+      → (cause : HostFault) × IsHostFault cause fault × LogsTakenPart child request cause was now
+      → LogBreaks task s.version s.pools (s.entries ++ take place s.asks) fault was now []
+  sent_part child request fault was now own same log =
+      let r = request_at task s place kept spoken spoken t at k.slots in
+      breaks_writing task s.version s.pools (s.entries ++ take place s.asks) e r.0 fault was now
+      (next_legal task s place kept spoken spoken t at e at_e opened h k) (sent_next task s place kept spoken t at e at_e opened h k r)
+      (subst (λ c. (cause : HostFault) × IsHostFault cause fault × LogsTakenPart c (text_of_request r.0) cause was now) (own ∙ r.2.child)
+      (subst (λ bytes. (cause : HostFault) × IsHostFault cause fault × LogsTakenPart child bytes cause was now) (same ∙ r.2.text) log))
+
+module _ (task : Task) (s : State) (running : ℕ → Bool) (place : ℕ) (rolling : IsRolling s running (length s.slots) place)
+    (within : place < length s.slots) (t : Slot) (at : slice_get s.slots place ≡ Some t) (kept : ℕ → List ℕ) (old : ℕ → Option Talk)
+    (h : IsSession task s) (k : IsTalking task s (length s.slots) place kept old) where
+  next_asked : slice_get (requests_of task s.pools (s.entries ++ s.asks ++ take place (finished s.slots)))
+      (length (replies_of (s.entries ++ s.asks ++ take place (finished s.slots))))
+      ≡ Some (request_at task s place kept old old t at k.slots).0
+  next_asked =
+      let asks = round_asks task s rolling.begun h in
+      let each = front_each (finished s.slots) place (round_replies task s rolling.begun h) in
+      let q = request_at task s place kept old old t at k.slots in
+      (λ i. slice_get (requests_heard task s.pools s.entries s.asks k.closed asks (take place (finished s.slots)) each i)
+      (length (replies_heard task s.pools s.entries s.asks k.closed asks (take place (finished s.slots)) each i)))
+      ∙ next_is task s running place rolling within t at (requests_of task s.pools s.entries) (replies_of s.entries) q.0 k.even q.1
+
+  -- no answer was taken
+  pub heard_off : (child : ℕ) (fault : RunFault) (was now : Option (List Event)) → child ≡ t.child
+      → Spells was child (old child)
+      → LogHears child (kept child) fault was now
+      → LogBreaks task s.version s.pools (s.entries ++ s.asks ++ take place (finished s.slots)) fault was now []
+  heard_off child fault was now own spells log =
+      let r = request_at task s place kept old old t at k.slots in
+      let same = own ∙ r.2.child in
+      breaks_hearing task s.version s.pools (s.entries ++ s.asks ++ take place (finished s.slots)) r.0 next_asked r.2.one kept old
+      (talks_at_heard task s place kept old rolling.begun h k) was now
+      (subst (λ c. Spells was c (old c)) same spells) fault (subst (λ c. LogHears c (kept c) fault was now) same log)

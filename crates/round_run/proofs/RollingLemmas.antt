@@ -1,0 +1,466 @@
+-- An open round: one request more is sent, one answer more is heard.
+use Rattle.std.proofs.Common.{◌≡◌, ℕ, zero, suc, ◌+◌, ◌<◌, ◌≤◌, arith, Bool, true, false, not, ◌&&◌, List, [], ◌∷◌, ◌++◌, map, length, take, Option, Some, None, refl, sym, subst, ap, ◌∙◌, append_assoc, ◌⊎◌, inl, inr, slice_get, option_map, is_none, nat_lt, unwrap_or, eqb-true, eq-eqb}
+use Rattle.std.proofs.lemmas.Bool.{lt-ltb, le-ltb, ltb-true, ltb-false}
+use Rattle.std.proofs.lemmas.List.{take-map, length-map, length-take}
+use Rattle.std.proofs.lemmas.Simd.{map-map}
+use Rattle.std.proofs.lemmas.Option.{slice_get-map, slice_get_within}
+use Rattle.std.specs.Option.{is_some}
+use Rattle.std.specs.List.{cons_option}
+use Rattle.lemmas.proofs.Options.{same_some}
+use Rattle.gen_lines.specs.Reply as reply
+use Rattle.gen_lines.specs.Reply.{Reply}
+use Rattle.instance_queue.specs.Level.{instances_of}
+use Rattle.instance_queue.specs.declared.due.Due.{Due}
+use Rattle.lemmas.specs.Lists.{AreDistinct}
+use Rattle.task_model.specs.declared.task.Task.{Task}
+use Rattle.transcript_model.specs.Legal.{IsLegal, is_open}
+use Rattle.transcript_model.specs.Rounds.{IsRound}
+use Rattle.transcript_model.specs.declared.entry.Entry.{Entry}
+use Rattle.transcript_model.specs.declared.entry.Entry.TheVariants as entry
+use Rattle.session_core.proofs.LearningLemmas.{front_at}
+use Rattle.session_core.proofs.RoundBeginLemmas.{child_served, children_distinct}
+use Rattle.session_core.proofs.StateLemmas.{bad_is}
+use Rattle.session_core.proofs.SlotsLemmas.{children_of, children_kept, child_kept, map_at, own_slot, at_own, at_other}
+use Rattle.session_core.specs.Heard.{is_bad_at, number_at}
+use Rattle.pools.specs.Pools.{HasChild, Workers}
+use Rattle.session_core.specs.Session.{IsSession, MayBeginRound, begun}
+use Rattle.session_core.specs.Slots.{Slot, IsUnsent, IsAwaited, sent_slot, heard_slot, at_child, is_slot_of, slot_of, reply_to, reply_fault, replied_entry, answers_of, all_answered, asks_from, slot_for, slots_from}
+use Rattle.session_core.specs.State.{State, with_slots, after_sent, after_line}
+use Rattle.round_run.proofs.RollingPrintLemmas.{round_legal, answers_legal, one_more, open_there, round_is, front_answers}
+use Rattle.round_run.proofs.StoppedLemmas.{goes_then}
+use Rattle.io_world.specs.Talks.{Talk}
+use Rattle.round_run.specs.Rolling.{Goes, IsFrontPart, IsRolling, IsSameRound, finished}
+use Rattle.round_run.specs.Talking.{TakesAnswer}
+use Rattle.round_run.specs.Batches.{AllRun}
+
+-- ---- options
+
+pub was_none : {A : Type 0} (o : Option A) → is_none o ≡ true → o ≡ None
+was_none None e = refl
+was_none (Some x) e = absurd (cc)
+
+none_or : {A : Type 0} (o : Option A) (d : A) → is_none o ≡ true → unwrap_or o d ≡ d
+none_or None d e = refl
+none_or (Some x) d e = absurd (cc)
+
+-- ---- one slot is changed
+
+-- after the slot at a place is changed, the slot there is that, and the others are as they were
+pub changed_at : (slots : List Slot) (place : ℕ) (t : Slot) (f : Slot → Slot)
+    → AreDistinct (children_of slots)
+    → slice_get slots place ≡ Some t → (k : ℕ) (u : Slot) → slice_get (map (at_child t.child f) slots) k ≡ Some u
+    → ((k ≡ place) × (u ≡ f t)) ⊎ ((k ≡ place → ⊥) × (slice_get slots k ≡ Some u))
+changed_at slots place t f apart at k u changed =
+    by (slice_get slots k) refl (sym (slice_get-map (at_child t.child f) slots k) ∙ changed)
+  where
+    child_at : (j : ℕ) (s : Slot) → slice_get slots j ≡ Some s
+        → slice_get (children_of slots) j ≡ Some s.child
+    child_at j s is =
+        slice_get-map (λ (v : Slot). v.child) slots j ∙ ap (option_map (λ (v : Slot). v.child)) is
+
+    by_same : (s : Slot) (b : Bool) → is_slot_of t.child s ≡ b → slice_get slots k ≡ Some s
+        → at_child t.child f s ≡ u
+        → ((k ≡ place) × (u ≡ f t)) ⊎ ((k ≡ place → ⊥) × (slice_get slots k ≡ Some u))
+    by_same s true own is here =
+        let here_too : k ≡ place = apart k place t.child (child_at k s is ∙ ap Some (eqb-true s.child t.child own)) (child_at place t at) in
+        let same : s ≡ t = same_some (slice_get slots place) s t (ap (slice_get slots) (sym here_too) ∙ is) at in
+        inl (here_too, sym here ∙ at_own t.child f s own ∙ ap f same)
+    by_same s false other is here =
+        let stays : s ≡ u = sym (at_other t.child f s other) ∙ here in
+        inr (
+          (λ e.
+              let same : s ≡ t = same_some (slice_get slots place) s t (ap (slice_get slots) (sym e) ∙ is) at in
+              let own : is_slot_of t.child s ≡ true = eq-eqb s.child t.child (ap (λ (v : Slot). v.child) same) in
+              let both : true ≡ false = sym own ∙ other in absurd (cc)),
+          is ∙ ap Some stays,
+        )
+
+    by : (o : Option Slot) → slice_get slots k ≡ o → option_map (at_child t.child f) o ≡ Some u
+        → ((k ≡ place) × (u ≡ f t)) ⊎ ((k ≡ place → ⊥) × (slice_get slots k ≡ Some u))
+    by None is e = absurd (cc)
+    by (Some s) is e =
+        by_same s (is_slot_of t.child s) refl is (let same : at_child t.child f s ≡ u = cc in same)
+
+less_more : (k place : ℕ) → (k ≡ place → ⊥) → nat_lt k place ≡ nat_lt k (place + 1)
+less_more k place other = by (nat_lt k place) refl
+  where
+    by : (b : Bool) → nat_lt k place ≡ b → nat_lt k place ≡ nat_lt k (place + 1)
+    by true e = e ∙ sym (lt-ltb k (place + 1) (omega (arith, ltb-true k place e)))
+    by false e = e ∙ sym (le-ltb k (place + 1) (past (ltb-false k place e)))
+      where
+        past : place ≤ k → place + 1 ≤ k
+        past le = elim (more place k le) [ inl same ↦ absurd (other (sym same)) | inr more ↦ more ]
+          where
+            more : (m n : ℕ) → m ≤ n → (m ≡ n) ⊎ (m + 1 ≤ n)
+            more zero zero le = inl refl
+            more zero (suc n) le = inr (omega arith)
+            more (suc m) zero le = absurd (omega (arith, le))
+            more (suc m) (suc n) le = elim (more m n (omega (arith, le))) [ inl e ↦ inl (ap suc e) | inr l ↦ inr (omega (arith, l)) ]
+
+less_here : (place : ℕ) → nat_lt place (place + 1) ≡ true
+less_here place = lt-ltb place (place + 1) (omega arith)
+
+not_less_here : (place : ℕ) → nat_lt place place ≡ false
+not_less_here place = le-ltb place place (omega arith)
+
+-- ---- requests
+
+module _ (s : State) (running : ℕ → Bool) (place : ℕ) (r : IsRolling s running place 0)
+    (t : Slot) (at : slice_get s.slots place ≡ Some t) where
+  pub unsent_there : IsUnsent s.slots t.child
+  unsent_there = record {
+    slot = t;
+    found = own_slot s.slots place t r.apart at;
+    unsent = r.each_sent place t at ∙ not_less_here place;
+    open_still = was_none t.answer (r.each_open place t at ∙ ap not (le-ltb place 0 (omega arith)));
+  }
+
+  pub rolling_sent : IsRolling (after_sent s t.child) running (place + 1) 0
+  rolling_sent = record {
+    working = r.working;
+    begun = r.begun;
+    asks = r.asks ∙ sym (length-map s.slots (at_child t.child sent_slot));
+    apart = subst AreDistinct (sym (children_kept (at_child t.child sent_slot) (child_kept t.child sent_slot (λ u. refl)) s.slots)) r.apart;
+    each_sent = λ k u is. elim (changed_at s.slots place t sent_slot r.apart at k u is) [
+      | inl here ↦ ap (λ (v : Slot). v.sent) here.1 ∙ sym (less_here place) ∙ ap (λ n. nat_lt n (place + 1)) (sym here.0)
+      | inr there ↦ r.each_sent k u there.1 ∙ less_more k place there.0
+    ];
+    each_open = λ k u is. elim (changed_at s.slots place t sent_slot r.apart at k u is) [
+      | inl here ↦ ap (λ (v : Slot). is_none v.answer) here.1 ∙ r.each_open place t at ∙ ap (λ n. not (nat_lt n 0)) (sym here.0)
+      | inr there ↦ r.each_open k u there.1
+    ];
+    low = λ k u is. elim (changed_at s.slots place t sent_slot r.apart at k u is) [
+      | inl here ↦ subst (λ (v : Slot). v.child ≤ 16) (sym here.1) (r.low place t at)
+      | inr there ↦ r.low k u there.1
+    ];
+    runs = λ k u is. elim (changed_at s.slots place t sent_slot r.apart at k u is) [
+      | inl here ↦ ap (λ (v : Slot). running v.child) here.1 ∙ r.runs place t at
+      | inr there ↦ r.runs k u there.1
+    ];
+  }
+
+-- the same children run
+pub rolling_same : (s : State) (running now : ℕ → Bool) (sent answered : ℕ)
+    → ((k : ℕ) → now k ≡ running k)
+    → IsRolling s running sent answered → IsRolling s now sent answered
+rolling_same s running now sent answered same r = record {
+  working = r.working;
+  begun = r.begun;
+  asks = r.asks;
+  apart = r.apart;
+  each_sent = r.each_sent;
+  each_open = r.each_open;
+  low = r.low;
+  runs = λ k t at. same t.child ∙ r.runs k t at;
+}
+
+-- ---- answers
+
+reply_good : (n : ℕ) (r : Reply) → is_some (reply_fault r) ≡ false → is_none (replied_entry n r) ≡ false
+reply_good n (reply.yields tuples values) e = refl
+reply_good n (reply.number value) e = refl
+reply_good n reply.ends e = refl
+reply_good n (reply.bad why) e = absurd (cc)
+
+pub number_is : (slots : List Slot) (child : ℕ) (t : Slot) → slot_of slots child ≡ Some t
+    → number_at slots child ≡ t.number
+number_is slots child t e = rw e refl
+
+-- what is printed at a place
+pub printed_there : (slots : List Slot) (k : ℕ) (t : Slot) (e : Entry) → slice_get slots k ≡ Some t
+    → t.answer ≡ Some e
+    → slice_get (finished slots) k ≡ Some e
+printed_there slots k t e at is =
+    slice_get-map (λ (v : Slot). unwrap_or v.answer (entry.End v.number)) slots k
+    ∙ ap (option_map (λ (v : Slot). unwrap_or v.answer (entry.End v.number))) at ∙ ap (λ o. Some (unwrap_or o (entry.End t.number))) is
+
+pub unprinted_there : (slots : List Slot) (k : ℕ) (t : Slot) → slice_get slots k ≡ Some t
+    → t.answer ≡ None
+    → slice_get (finished slots) k ≡ Some (entry.End t.number)
+unprinted_there slots k t at is =
+    slice_get-map (λ (v : Slot). unwrap_or v.answer (entry.End v.number)) slots k
+    ∙ ap (option_map (λ (v : Slot). unwrap_or v.answer (entry.End v.number))) at ∙ ap (λ o. Some (unwrap_or o (entry.End t.number))) is
+
+module _ (s : State) (running : ℕ → Bool) (sent place : ℕ) (r : IsRolling s running sent place) (below : place < sent)
+    (t : Slot) (at : slice_get s.slots place ≡ Some t) where
+  pub open_now : t.answer ≡ None
+  open_now = was_none t.answer (r.each_open place t at ∙ ap not (not_less_here place))
+
+  pub awaited_there : IsAwaited s.slots t.child
+  awaited_there = record {
+    slot = t;
+    found = own_slot s.slots place t r.apart at;
+    sent = r.each_sent place t at ∙ lt-ltb place sent below;
+    open_still = open_now;
+  }
+
+  pub blamed_there : (version : ℕ) (task : Task)
+      → IsLegal version task (s.entries ++ s.asks ++ finished s.slots)
+      → is_open (s.entries ++ s.asks ++ take place (finished s.slots)) (number_at s.slots t.child) ≡ true
+  blamed_there version task legal =
+      ap (is_open (s.entries ++ s.asks ++ take place (finished s.slots)))
+      (number_is s.slots t.child t (own_slot s.slots place t r.apart at))
+      ∙ open_there version task s.entries s.asks (finished s.slots) place t.number legal (unprinted_there s.slots place t at open_now)
+
+  module _ (line : List ℕ) (good : is_bad_at s.slots t.child line ≡ false) where
+    pub answered_now : is_none (heard_slot line t).answer ≡ false
+    answered_now =
+        reply_good t.number (reply_to line t)
+        (sym (bad_is s.slots t.child line t (reply_fault (reply_to line t)) (own_slot s.slots place t r.apart at) refl) ∙ good)
+
+    pub rolling_heard : IsRolling (after_line s t.child line false) running sent (place + 1)
+    rolling_heard = record {
+      working = refl;
+      begun = r.begun;
+      asks = r.asks ∙ sym (length-map s.slots (at_child t.child (heard_slot line)));
+      apart = subst AreDistinct
+          (sym (children_kept (at_child t.child (heard_slot line)) (child_kept t.child (heard_slot line) (λ u. refl)) s.slots)) r.apart;
+      each_sent = λ k u is. elim (changed_at s.slots place t (heard_slot line) r.apart at k u is) [
+        | inl here ↦ ap (λ (v : Slot). v.sent) here.1 ∙ r.each_sent place t at ∙ ap (λ n. nat_lt n sent) (sym here.0)
+        | inr there ↦ r.each_sent k u there.1
+      ];
+      each_open = λ k u is. elim (changed_at s.slots place t (heard_slot line) r.apart at k u is) [
+        | inl here ↦
+            ap (λ (v : Slot). is_none v.answer) here.1 ∙ answered_now ∙ sym (ap not (less_here place))
+            ∙ ap (λ n. not (nat_lt n (place + 1))) (sym here.0)
+        | inr there ↦ r.each_open k u there.1 ∙ ap not (less_more k place there.0)
+      ];
+      low = λ k u is. elim (changed_at s.slots place t (heard_slot line) r.apart at k u is) [
+        | inl here ↦ subst (λ (v : Slot). v.child ≤ 16) (sym here.1) (r.low place t at)
+        | inr there ↦ r.low k u there.1
+      ];
+      runs = λ k u is. elim (changed_at s.slots place t (heard_slot line) r.apart at k u is) [
+        | inl here ↦ ap (λ (v : Slot). running v.child) here.1 ∙ r.runs place t at
+        | inr there ↦ r.runs k u there.1
+      ];
+    }
+
+    pub front_same : take place (finished (map (at_child t.child (heard_slot line)) s.slots)) ≡ take place (finished s.slots)
+    front_same =
+        take-map printed place (map g s.slots) ∙ ap (map printed) (take-map g place s.slots) ∙ map-map printed g (take place s.slots)
+        ∙ map_at (λ u. printed (g u)) printed (take place s.slots)
+        (λ k u is. ap printed (at_other t.child (heard_slot line) u (elsewhere k u is)))
+        ∙ sym (take-map printed place s.slots)
+      where
+        g : Slot → Slot
+        g = at_child t.child (heard_slot line)
+
+        printed : Slot → Entry
+        printed = λ (v : Slot). unwrap_or v.answer (entry.End v.number)
+
+        child_at : (j : ℕ) (u : Slot) → slice_get s.slots j ≡ Some u
+            → slice_get (children_of s.slots) j ≡ Some u.child
+        child_at j u is =
+            slice_get-map (λ (v : Slot). v.child) s.slots j
+            ∙ ap (option_map (λ (v : Slot). v.child)) is
+
+        elsewhere : (k : ℕ) (u : Slot) → slice_get (take place s.slots) k ≡ Some u
+            → is_slot_of t.child u ≡ false
+        elsewhere k u is = by (is_slot_of t.child u) refl
+          where
+            by : (b : Bool) → is_slot_of t.child u ≡ b → is_slot_of t.child u ≡ false
+            by false e = e
+            by true e =
+                let same : k ≡ place =
+                r.apart k place t.child (child_at k u (front_at s.slots place k u is) ∙ ap Some (eqb-true u.child t.child e))
+                (child_at place t at) in
+                absurd (omega (arith, same, slice_get_within (take place s.slots) k u is, length-take place s.slots))
+
+-- ---- after a line was taken
+
+pub was_some : {A : Type 0} (o : Option A) → is_none o ≡ false → (x : A) × (o ≡ Some x)
+was_some None e = absurd (cc)
+was_some (Some x) e = (x, refl)
+
+-- one answer more is heard
+pub record HeardMore (s : State) (running : ℕ → Bool) (place : ℕ) (new : State) : Type 0 where
+  pub slot : Slot
+  pub entry : Entry
+  pub at : slice_get new.slots place ≡ Some slot
+  pub said : slot.answer ≡ Some entry
+  pub rolling : IsRolling new running (length new.slots) (place + 1)
+  pub front : take place (finished new.slots) ≡ take place (finished s.slots)
+  pub legal : (task : Task) → IsSession task new
+      → IsLegal s.version task ((s.entries ++ s.asks ++ take place (finished s.slots)) ++ entry ∷ [])
+  pub part : (task : Task) → IsSession task new
+      → IsFrontPart s.entries (IsRound task s.entries s.instances) ((s.entries ++ s.asks ++ take place (finished s.slots)) ++ entry ∷ [])
+  pub more : s.entries ++ s.asks ++ take (place + 1) (finished new.slots)
+      ≡ (s.entries ++ s.asks ++ take place (finished new.slots)) ++ entry ∷ []
+
+pub heard_more : (s : State) (running : ℕ → Bool) (place child : ℕ) (new : State) (kept left : List ℕ) (before after : ℕ → Option Talk)
+    → IsRolling s running (length s.slots) place → place < length s.slots → (t : Slot) → slice_get s.slots place ≡ Some t → child ≡ t.child
+    → TakesAnswer s child new kept left before after → HeardMore s running place new
+heard_more s running place child new kept left before after r within t at own takes =
+    subst (HeardMore s running place) (sym (takes.after ∙ ap (λ k. after_line s k takes.line false) own)) here
+  where
+    good : is_bad_at s.slots t.child takes.line ≡ false
+    good = ap (λ k. is_bad_at s.slots k takes.line) (sym own) ∙ takes.good
+
+    said_one : (e : Entry) × ((heard_slot takes.line t).answer ≡ Some e)
+    said_one = was_some (heard_slot takes.line t).answer (answered_now s running (length s.slots) place r within t at takes.line good)
+
+    place_is : slice_get (map (at_child t.child (heard_slot takes.line)) s.slots) place ≡ Some (heard_slot takes.line t)
+    place_is =
+        slice_get-map (at_child t.child (heard_slot takes.line)) s.slots place
+        ∙ ap (option_map (at_child t.child (heard_slot takes.line))) at
+        ∙ ap Some (at_own t.child (heard_slot takes.line) t (eq-eqb t.child t.child refl))
+
+    printed : slice_get (finished (map (at_child t.child (heard_slot takes.line)) s.slots)) place ≡ Some said_one.0
+    printed = printed_there (map (at_child t.child (heard_slot takes.line)) s.slots) place
+        (heard_slot takes.line t) said_one.0 place_is said_one.1
+
+    front_is : take place (finished (map (at_child t.child (heard_slot takes.line)) s.slots)) ≡ take place (finished s.slots)
+    front_is = front_same s running (length s.slots) place r within t at takes.line good
+
+    more_is : s.entries ++ s.asks ++ take (place + 1) (finished (map (at_child t.child (heard_slot takes.line)) s.slots))
+        ≡ (s.entries ++ s.asks ++ take place (finished (map (at_child t.child (heard_slot takes.line)) s.slots))) ++ said_one.0 ∷ []
+    more_is = one_more (s.entries ++ s.asks) (finished (map (at_child t.child (heard_slot takes.line)) s.slots)) place said_one.0 printed
+
+    here : HeardMore s running place (after_line s t.child takes.line false)
+    here = record {
+      slot = heard_slot takes.line t;
+      entry = said_one.0;
+      at = place_is;
+      said = said_one.1;
+      rolling = subst (λ n. IsRolling (after_line s t.child takes.line false) running n (place + 1))
+          (sym (length-map s.slots (at_child t.child (heard_slot takes.line))))
+          (rolling_heard s running (length s.slots) place r within t at takes.line good);
+      front = front_is;
+      legal = λ task h. subst (λ es. IsLegal s.version task ((s.entries ++ s.asks ++ es) ++ said_one.0 ∷ [])) front_is
+          (subst (IsLegal s.version task) more_is
+          (answers_legal s.version task s.entries s.asks (finished (map (at_child t.child (heard_slot takes.line)) s.slots))
+          (place + 1) (round_legal task (after_line s t.child takes.line false) r.begun h)));
+      part = λ task h. subst
+          (λ es. IsFrontPart s.entries (IsRound task s.entries s.instances) ((s.entries ++ s.asks ++ es) ++ said_one.0 ∷ []))
+          front_is
+          (subst (IsFrontPart s.entries (IsRound task s.entries s.instances)) more_is
+          (front_answers task (after_line s t.child takes.line false) (place + 1) r.begun h));
+      more = more_is;
+    }
+
+-- a child that was started has a place
+pub started_within : (started : List Bool) (child : ℕ)
+    → unwrap_or (slice_get started child) false ≡ true → child < length started
+started_within [] child e = absurd (cc)
+started_within (b ∷ bs) zero e = omega arith
+started_within (b ∷ bs) (suc child) e = omega (arith, started_within bs child e)
+
+-- ---- a round that is answered
+
+with_answer : (t : Slot) (ts : List Slot) (o : Option Entry) → t.answer ≡ o
+    → is_none t.answer ≡ false
+    → (all_answered ts ≡ true) × (finished ts ≡ answers_of ts) → (all_answered (t ∷ ts) ≡ true) × (finished (t ∷ ts) ≡ answers_of (t ∷ ts))
+with_answer t ts None is some rest =
+    absurd (let bad : true ≡ false = sym (ap is_none is) ∙ some in cc)
+with_answer t ts (Some e) is some rest = (
+  ap (λ o. not (is_none o) && all_answered ts) is ∙ rest.0,
+  (λ i. unwrap_or (is i) (entry.End t.number) ∷ rest.1 i) ∙ ap (λ o. cons_option o (answers_of ts)) (sym is),
+)
+
+all_by : (slots : List Slot)
+    → ((k : ℕ) (t : Slot) → slice_get slots k ≡ Some t → is_none t.answer ≡ false)
+    → (all_answered slots ≡ true) × (finished slots ≡ answers_of slots)
+all_by [] each = (refl, refl)
+all_by (t ∷ ts) each =
+    with_answer t ts t.answer refl (each 0 t refl) (all_by ts (λ k u at. each (suc k) u at))
+
+pub all_heard : (s : State) (running : ℕ → Bool) (count : ℕ) → count ≡ length s.slots
+    → IsRolling s running count count
+    → (all_answered s.slots ≡ true) × (finished s.slots ≡ answers_of s.slots)
+all_heard s running count is r =
+    all_by s.slots (λ k t at. r.each_open k t at ∙ ap not (lt-ltb k count (omega (arith, is, slice_get_within s.slots k t at))))
+
+-- ---- a round that was begun
+
+fresh_at : (task : Task) (names : List (List ℕ)) (version : ℕ) (pools : List Workers) (n : ℕ) (before : List ℕ) (dues : List Due)
+    (k : ℕ) (t : Slot)
+    → slice_get (slots_from task names version pools n before dues) k ≡ Some t → (t.sent ≡ false) × (t.answer ≡ None)
+fresh_at task names version pools n before [] k t at = absurd (cc)
+fresh_at task names version pools n before (d ∷ ds) zero t at =
+    let same : slot_for task names version pools n before d ≡ t = cc in
+    (ap (λ (v : Slot). v.sent) (sym same), ap (λ (v : Slot). v.answer) (sym same))
+fresh_at task names version pools n before (d ∷ ds) (suc k) t at =
+    fresh_at task names version pools (n + 1) (before ++ d.instance.stream ∷ []) ds k t at
+
+pub as_long : (task : Task) (names : List (List ℕ)) (version : ℕ) (pools : List Workers) (n : ℕ) (before : List ℕ) (dues : List Due)
+    → length (asks_from task names n dues) ≡ length (slots_from task names version pools n before dues)
+as_long task names version pools n before [] = refl
+as_long task names version pools n before (d ∷ ds) =
+    ap suc (as_long task names version pools (n + 1) (before ++ d.instance.stream ∷ []) ds)
+
+pub slots_long : (task : Task) (names : List (List ℕ)) (version : ℕ) (pools : List Workers) (n : ℕ) (before : List ℕ) (dues : List Due)
+    → length (slots_from task names version pools n before dues) ≡ length dues
+slots_long task names version pools n before [] = refl
+slots_long task names version pools n before (d ∷ ds) =
+    ap suc (slots_long task names version pools (n + 1) (before ++ d.instance.stream ∷ []) ds)
+
+pub rolling_begun : (task : Task) (s : State) (dues : List Due) (running : ℕ → Bool)
+    → s.failed ≡ false → MayBeginRound task s dues
+    → IsSession task s → AllRun s.pools running → IsRolling (begun task s dues) running 0 0
+rolling_begun task s dues running works may h all = record {
+  working = works;
+  begun = refl;
+  asks = as_long task s.known.names s.version s.pools (length s.asked + 1) [] dues;
+  apart = children_distinct task s dues works may h s.known.names s.version (length s.asked + 1);
+  each_sent =
+      λ k t at. (fresh_at task s.known.names s.version s.pools (length s.asked + 1) [] dues k t at).0 ∙ sym (le-ltb k 0 (omega arith));
+  each_open =
+      λ k t at. ap is_none (fresh_at task s.known.names s.version s.pools (length s.asked + 1) [] dues k t at).1
+      ∙ sym (ap not (le-ltb k 0 (omega arith)));
+  low = λ k t at. let p = served k t at in omega (arith, h.pools.few p.0 p.1 p.2, p.3.to);
+  runs = λ k t at. let p = served k t at in all p.0 t.child p.1 p.2 p.3;
+}
+  where
+    served : (k : ℕ) (t : Slot)
+        → slice_get (slots_from task s.known.names s.version s.pools (length s.asked + 1) [] dues) k ≡ Some t
+        → (j : ℕ) × (p : Workers) × (slice_get s.pools j ≡ Some p) × HasChild p t.child
+    served k t at =
+        child_served task s dues works may h s.known.names s.version (length s.asked + 1) k t.child
+        (slice_get-map (λ (v : Slot). v.child) (slots_from task s.known.names s.version s.pools (length s.asked + 1) [] dues) k
+        ∙ ap (option_map (λ (v : Slot). v.child)) at)
+
+-- ---- a round that ends
+
+-- what a round leaves, once it is closed
+pub record RoundEnd (task : Task) (s x : State) (dues : List Due) (old new : Option (List ℕ)) : Type 0 where
+  pub version : x.version ≡ s.version
+  pub pools : x.pools ≡ s.pools
+  pub more : List Entry
+  pub entries : x.entries ++ x.asks ++ answers_of x.slots ≡ s.entries ++ more
+  pub round : IsRound task s.entries (instances_of dues) more
+  pub goes : Goes s.entries (x.entries ++ x.asks ++ answers_of x.slots) old new
+
+pub round_end : (task : Task) (s b m x : State) (dues : List Due) (old mid new : Option (List ℕ))
+    → b ≡ begun task s dues → IsSameRound b m
+    → IsSameRound m x → x.is_open ≡ true → IsSession task x → finished x.slots ≡ answers_of x.slots
+    → Goes b.entries (b.entries ++ b.asks) old mid → Goes (m.entries ++ m.asks) (m.entries ++ m.asks ++ finished x.slots) mid new
+    → RoundEnd task s x dues old new
+round_end task s b m x dues old mid new starts first second is_open_now h all goes later = record {
+  version = ap (λ (y : State). y.version) x_is;
+  pools = ap (λ (y : State). y.pools) x_is;
+  more = (begun task s dues).asks ++ finished x.slots;
+  entries = entries_are ∙ append_assoc s.entries (begun task s dues).asks (finished x.slots);
+  round = subst (λ (y : State). IsRound task y.entries y.instances (y.asks ++ finished x.slots)) x_is (round_is task x is_open_now h);
+  goes = subst (λ es. Goes s.entries es old new) (sym entries_are)
+      (goes_then s.entries (s.entries ++ (begun task s dues).asks) (s.entries ++ (begun task s dues).asks ++ finished x.slots) old mid new
+      (subst (λ (y : State). Goes y.entries (y.entries ++ y.asks) old mid) starts goes)
+      (subst (λ (y : State). Goes (y.entries ++ y.asks) (y.entries ++ y.asks ++ finished x.slots) mid new) m_is later));
+}
+  where
+    m_is : m ≡ with_slots (begun task s dues) m.slots m.failed
+    m_is = first ∙ ap (λ (y : State). with_slots y m.slots m.failed) starts
+
+    x_is : x ≡ with_slots (begun task s dues) x.slots x.failed
+    x_is = second ∙ ap (λ (y : State). with_slots y x.slots x.failed) m_is
+
+    entries_are : x.entries ++ x.asks ++ answers_of x.slots ≡ s.entries ++ (begun task s dues).asks ++ finished x.slots
+    entries_are =
+        ap (λ es. x.entries ++ x.asks ++ es) (sym all)
+        ∙ ap (λ (y : State). y.entries ++ y.asks ++ finished x.slots) x_is
+
+-- a round has as many slots as asks
+pub count_is : (task : Task) (s b : State) (dues : List Due) (count : ℕ) → count ≡ length dues
+    → b ≡ begun task s dues
+    → count ≡ length b.slots
+count_is task s b dues count is starts =
+    is ∙ sym (ap (λ (x : State). length x.slots) starts ∙ slots_long task s.known.names s.version s.pools (length s.asked + 1) [] dues)

@@ -1,0 +1,209 @@
+use Rattle.std.proofs.Common.{◌≡◌, ◌+◌, ◌++◌, ◌∷◌, [], ap, sym, subst, ◌∙◌, Some, IfSome, take, arith, length, rules}
+use Rattle.std.specs.Option.{option_copied}
+use Rattle.std.proofs.lemmas.Result.{IfErr-weaker}
+use Rattle.lemmas.proofs.ListTests.{get_there}
+use Rattle.session_core.specs.Slots.{IsAwaited}
+use Rattle.transcript_model.specs.Legal.{HasNoneOpen, IsLegal}
+use Rattle.transcript_model.specs.Rounds.{IsRound}
+use Rattle.round_run.proofs.BreakingLemmas.{breaks_done, tells_write}
+use Rattle.round_run.proofs.CallsRoundLemmas.{heard_calls}
+use Rattle.round_run.proofs.CallsBrokenLemmas.{heard_off}
+use Rattle.round_run.specs.Breaking.{LogBreaks}
+use Rattle.round_run.proofs.CallsLemmas.{calls_one}
+use Rattle.round_run.proofs.RollingPrintLemmas.{answers_legal, front_answers, round_legal}
+use Rattle.round_run.proofs.RollingLemmas.{awaited_there, heard_more, printed_there, rolling_same, started_within}
+use Rattle.round_run.proofs.StoppedLemmas.{goes_one, handed, ok_map, on_ok, stopped_at, stopped_blamed}
+use Rattle.round_run.proofs.TalkingRoundLemmas.{broken_answered, broken_hearing, may_blame, talking_heard}
+use Rattle.round_run.proofs.PiecesLemmas.{printed_all, printed_part}
+use Rattle.round_run.specs.Calls.{LogFollows}
+use Rattle.round_run.specs.Resting.{Rolled}
+use Rattle.round_run.specs.Rolling.{IsFrontPart, finished}
+use Rattle.round_run.specs.Talking.{Misheard, held_of}
+use Rattle.round_run.proofs.round.hear_one.Goals as goal
+
+pub hear_child-requires-clause-up : goal.hear_child-requires-clause-up
+hear_child-requires-clause-up g c =
+    let s = c.args.session.now in
+    let there = get_there s.slots c.args.place c.requires.within in
+    let is = subst (λ o. IfSome o (λ slot. (c.request-child.result.0 ≡ slot.child) × (c.request-child.result.1.now ≡ slot.request))) there.1
+    c.request-child.ensures in
+    let runs = ap (g.H.Host.running c.args.host.now) is.0 ∙ c.requires.rolling.runs c.args.place there.0 there.1 in
+    record {
+      number = omega (arith, is.0, c.requires.rolling.low c.args.place there.0 there.1);
+      there = started_within c.args.lines.now.started c.request-child.result.0
+          (c.requires.state c.request-child.result.0 ∙ runs);
+      runs = runs;
+    }
+
+pub hear_child-requires-clause-awaits : goal.hear_child-requires-clause-awaits
+hear_child-requires-clause-awaits g c =
+    let s = c.args.session.now in
+    let there = get_there s.slots c.args.place c.requires.within in
+    let is = subst (λ o. IfSome o (λ slot. (c.request-child.result.0 ≡ slot.child) × (c.request-child.result.1.now ≡ slot.request))) there.1
+    c.request-child.ensures in
+    record {
+      working = c.requires.rolling.working;
+      awaited = subst (IsAwaited s.slots) (sym is.0) (awaited_there s (g.H.Host.running c.args.host.now)
+          (length s.slots) c.args.place c.requires.rolling c.requires.within there.0 there.1);
+    }
+
+pub returns-in_err-hear_child-clause-stopped : goal.returns-in_err-hear_child-clause-stopped
+returns-in_err-hear_child-clause-stopped g c = λ task h talking.
+    let s = c.args.session.now in
+    let there = get_there s.slots c.args.place c.requires.within in
+    let is = subst (λ o. IfSome o (λ slot. (c.request-child.result.0 ≡ slot.child) × (c.request-child.result.1.now ≡ slot.request))) there.1
+    c.request-child.ensures in
+    let legal = round_legal task s c.requires.rolling.begun h in
+    let before = s.entries ++ s.asks ++ take c.args.place (finished s.slots) in
+    let kept = held_of c.args.lines.now in
+    let old = g.H.Host.spoken c.args.host.now in
+    let now = g.H.Host.spoken c.hear_child.new.host in
+    let fault = c.in_err-hear_child.field-0.0 in
+    let misheard = subst (λ d. Misheard s.slots d (kept d) old now fault) is.0 c.in_err-hear_child.ensures.misheard in
+    let front = answers_legal s.version task s.entries s.asks (finished s.slots) c.args.place legal in
+    handed c.from_residual.result fault _ c.from_residual.ensures.1
+    (stopped_blamed s.version task s.pools now (IsFrontPart s.entries (IsRound task s.entries s.instances)) before fault
+    (g.O.Sink.taken c.args.out.now)
+    (LogBreaks task s.version s.pools before fault (g.H.Host.log c.args.host.now) (g.H.Host.log c.hear_child.new.host)) front
+    (front_answers task s c.args.place c.requires.rolling.begun h)
+    (broken_hearing task s (g.H.Host.running c.args.host.now) c.args.place c.requires.rolling c.requires.within there.0 there.1 kept old now
+    there.0.child misheard.more c.requires.rolling.begun h front talking misheard.heard)
+    (heard_off task s (g.H.Host.running c.args.host.now) c.args.place c.requires.rolling c.requires.within there.0 there.1 kept old h
+    talking c.request-child.result.0 fault (g.H.Host.log c.args.host.now) (g.H.Host.log c.hear_child.new.host) is.0
+    (g.met.H.Host.spells c.args.host.now c.request-child.result.0
+    (ap (g.H.Host.running c.args.host.now) is.0 ∙ c.requires.rolling.runs c.args.place there.0 there.1))
+    c.in_err-hear_child.ensures.refused)
+    (may_blame task s (g.H.Host.running c.args.host.now) c.args.place c.requires.rolling c.requires.within there.0 there.1 kept old now
+    fault c.requires.rolling.begun h legal talking misheard))
+
+pub unreachable-requires : goal.unreachable-requires
+unreachable-requires g c =
+    let s = c.args.session.now in
+    let there = get_there s.slots c.args.place c.requires.within in
+    let is = subst (λ o. IfSome o (λ slot. (c.request-child.result.0 ≡ slot.child) × (c.request-child.result.1.now ≡ slot.request))) there.1
+    c.request-child.ensures in
+    let more = heard_more s (g.H.Host.running c.args.host.now) c.args.place c.request-child.result.0 c.hear_child.new.session _ _ _ _
+    c.requires.rolling c.requires.within there.0 there.1 is.0 c.in_ok-hear_child.ensures.taken in
+    let copied = subst (λ o. IfSome o (λ slot. option_copied c.answer.result ≡ slot.answer)) more.at c.answer.ensures in
+    let bad : option_copied c.answer.result ≡ Some more.entry = copied ∙ more.said in
+    let none = ap option_copied c.in-None.is in
+    let both = sym none ∙ bad in cc
+
+pub returns-clause-rolled : goal.returns-clause-rolled
+returns-clause-rolled g c =
+    let s = c.args.session.now in
+    let there = get_there s.slots c.args.place c.requires.within in
+    let is = subst (λ o. IfSome o (λ slot. (c.request-child.result.0 ≡ slot.child) × (c.request-child.result.1.now ≡ slot.request))) there.1
+    c.request-child.ensures in
+    let more = heard_more s (g.H.Host.running c.args.host.now) c.args.place c.request-child.result.0 c.hear_child.new.session _ _ _ _
+    c.requires.rolling c.requires.within there.0 there.1 is.0 c.in_ok-hear_child.ensures.taken in
+    let rolled : Rolled s c.hear_child.new.session (g.H.Host.running c.hear_child.new.host) (length c.hear_child.new.session.slots)
+    (c.args.place + 1) = record {
+      same = search rules;
+      rolling = rolling_same c.hear_child.new.session (g.H.Host.running c.args.host.now)
+          (g.H.Host.running c.hear_child.new.host) (length c.hear_child.new.session.slots) (c.args.place + 1)
+          c.in_ok-hear_child.ensures.running more.rolling;
+      many = search rules;
+    } in
+    on_ok c.print_entry.result _ rolled
+
+pub returns-clause-goes : goal.returns-clause-goes
+returns-clause-goes g c =
+    let s = c.args.session.now in
+    let there = get_there s.slots c.args.place c.requires.within in
+    let is = subst (λ o. IfSome o (λ slot. (c.request-child.result.0 ≡ slot.child) × (c.request-child.result.1.now ≡ slot.request))) there.1
+    c.request-child.ensures in
+    let more = heard_more s (g.H.Host.running c.args.host.now) c.args.place c.request-child.result.0 c.hear_child.new.session _ _ _ _
+    c.requires.rolling c.requires.within there.0 there.1 is.0 c.in_ok-hear_child.ensures.taken in
+    let copied = subst (λ o. IfSome o (λ slot. option_copied c.answer.result ≡ slot.answer)) more.at c.answer.ensures in
+    let is_it : c.in-Some.answer.now ≡ more.entry = let both = sym (ap option_copied c.in-Some.is) ∙ copied ∙ more.said in cc in
+    ok_map c.print_entry.result _ _ (λ told. (
+      more.front,
+      goes_one (s.entries ++ s.asks ++ take c.args.place (finished c.hear_child.new.session.slots))
+          (s.entries ++ s.asks ++ take (c.args.place + 1) (finished c.hear_child.new.session.slots)) c.in-Some.answer.now
+          (g.O.Sink.taken c.args.out.now) (g.O.Sink.taken c.print_entry.new.out)
+          (more.more
+          ∙ ap (λ e. (s.entries ++ s.asks ++ take c.args.place (finished c.hear_child.new.session.slots)) ++ e ∷ []) (sym is_it))
+          told,
+    )) (printed_all c.print_entry.result _ _ _ c.print_entry.ensures.told)
+
+pub returns-clause-stopped : goal.returns-clause-stopped
+returns-clause-stopped g c = λ task h talking.
+    let s = c.args.session.now in
+    let there = get_there s.slots c.args.place c.requires.within in
+    let is = subst (λ o. IfSome o (λ slot. (c.request-child.result.0 ≡ slot.child) × (c.request-child.result.1.now ≡ slot.request))) there.1
+    c.request-child.ensures in
+    let running = g.H.Host.running c.args.host.now in
+    let old = g.H.Host.spoken c.args.host.now in
+    let now = g.H.Host.spoken c.hear_child.new.host in
+    let new = c.hear_child.new.session in
+    let takes = c.in_ok-hear_child.ensures.taken in
+    let more = heard_more s running c.args.place c.request-child.result.0 new _ _ _ _ c.requires.rolling c.requires.within there.0 there.1
+    is.0 takes in
+    let copied = subst (λ o. IfSome o (λ slot. option_copied c.answer.result ≡ slot.answer)) more.at c.answer.ensures in
+    let is_it : c.in-Some.answer.now ≡ more.entry = let both = sym (ap option_copied c.in-Some.is) ∙ copied ∙ more.said in cc in
+    let before = s.entries ++ s.asks ++ take c.args.place (finished s.slots) in
+    let legal =
+    subst (λ e. IsLegal s.version task (before ++ e ∷ [])) (sym is_it) (more.legal task (c.in_ok-hear_child.ensures.kept task h)) in
+    let front =
+    subst (λ e. IsFrontPart s.entries (IsRound task s.entries s.instances) (before ++ e ∷ []))
+    (sym is_it) (more.part task (c.in_ok-hear_child.ensures.kept task h)) in
+    let later =
+    talking_heard task s running c.args.place c.requires.rolling c.requires.within there.0 there.1 c.request-child.result.0 new
+    (held_of c.args.lines.now) (held_of c.hear_child.new.lines) old now is.0 takes c.hear_child.ensures.keeps.others talking in
+    let child = c.request-child.result.0 in
+    let was = g.H.Host.log c.args.host.now in
+    let came = g.H.Host.log c.hear_child.new.host in
+    let runs = ap running is.0 ∙ c.requires.rolling.runs c.args.place there.0 there.1 in
+    let spells = g.met.H.Host.spells c.args.host.now child runs in
+    let follows =
+    heard_calls task s running c.args.place c.requires.rolling c.requires.within there.0 there.1 new _ _ (held_of c.args.lines.now)
+    (held_of c.hear_child.new.lines) old now more.entry child was came takes.after h (c.in_ok-hear_child.ensures.kept task h)
+    talking later (printed_there new.slots c.args.place more.slot more.entry more.at more.said) more.front is.0
+    spells (g.met.H.Host.spells c.hear_child.new.host child (c.in_ok-hear_child.ensures.running child ∙ runs))
+    c.in_ok-hear_child.ensures.log in
+    IfErr-weaker c.print_entry.result _ _ (λ fault misses.
+    stopped_at s.version task s.pools now (IsFrontPart s.entries (IsRound task s.entries s.instances)) before c.in-Some.answer.now fault
+    (g.O.Sink.taken c.args.out.now) (g.O.Sink.taken c.print_entry.new.out) (LogBreaks task s.version s.pools before fault was came)
+    legal front
+    (broken_answered task s new c.args.place (held_of c.hear_child.new.lines) now c.in-Some.answer.now c.requires.rolling.begun
+    (c.in_ok-hear_child.ensures.kept task h) _ _ takes.after
+    (more.more ∙ ap (λ es. (s.entries ++ s.asks ++ es) ++ more.entry ∷ []) more.front ∙ ap (λ e. before ++ e ∷ []) (sym is_it)) legal later)
+    (λ is_write. breaks_done task s.version s.pools before (c.in-Some.answer.now ∷ []) fault was came
+    (tells_write (HasNoneOpen (before ++ c.in-Some.answer.now ∷ [])) fault is_write)
+    (subst (λ e. LogFollows task s.pools before (e ∷ []) was came) (sym is_it) follows))
+    misses) (printed_part c.print_entry.result _ _ _ c.print_entry.ensures.told)
+
+pub returns-clause-said : goal.returns-clause-said
+returns-clause-said g c = λ task h talking.
+    let s = c.args.session.now in
+    let there = get_there s.slots c.args.place c.requires.within in
+    let is = subst (λ o. IfSome o (λ slot. (c.request-child.result.0 ≡ slot.child) × (c.request-child.result.1.now ≡ slot.request))) there.1
+    c.request-child.ensures in
+    let running = g.H.Host.running c.args.host.now in
+    let child = c.request-child.result.0 in
+    let new = c.hear_child.new.session in
+    let kept = held_of c.args.lines.now in
+    let left = held_of c.hear_child.new.lines in
+    let old = g.H.Host.spoken c.args.host.now in
+    let now = g.H.Host.spoken c.hear_child.new.host in
+    let was = g.H.Host.log c.args.host.now in
+    let came = g.H.Host.log c.hear_child.new.host in
+    let takes = c.in_ok-hear_child.ensures.taken in
+    let more = heard_more s running c.args.place child new _ _ _ _ c.requires.rolling c.requires.within there.0 there.1 is.0 takes in
+    let runs = ap running is.0 ∙ c.requires.rolling.runs c.args.place there.0 there.1 in
+    let later =
+    talking_heard task s running c.args.place c.requires.rolling c.requires.within there.0 there.1 child new kept left old now is.0
+    takes c.hear_child.ensures.keeps.others talking in
+    let log = heard_calls task s running c.args.place c.requires.rolling c.requires.within there.0 there.1 new _ _ kept left old now
+    more.entry child was came takes.after h (c.in_ok-hear_child.ensures.kept task h) talking later
+    (printed_there new.slots c.args.place more.slot more.entry more.at more.said) more.front is.0
+    (g.met.H.Host.spells c.args.host.now child runs)
+    (g.met.H.Host.spells c.hear_child.new.host child (c.in_ok-hear_child.ensures.running child ∙ runs)) c.in_ok-hear_child.ensures.log
+    in
+    on_ok c.print_entry.result _ (
+      later,
+      calls_one task s.pools (s.entries ++ s.asks ++ take c.args.place (finished new.slots))
+          (s.entries ++ s.asks ++ take (c.args.place + 1) (finished new.slots)) more.entry was came more.more
+          (subst (λ es. LogFollows task s.pools (s.entries ++ s.asks ++ es) (more.entry ∷ []) was came) (sym more.front) log),
+    )

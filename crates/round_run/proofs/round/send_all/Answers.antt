@@ -1,0 +1,84 @@
+use Rattle.std.proofs.Common.{◌≡◌, ◌+◌, ◌++◌, ◌∙◌, ap, arith, subst, take}
+use Rattle.session_core.specs.State.{State, with_slots}
+use Rattle.transcript_model.specs.Rounds.{IsRound}
+use Rattle.std.proofs.lemmas.List.{take_all}
+use Rattle.round_run.proofs.BreakingLemmas.{breaks_then}
+use Rattle.round_run.specs.Breaking.{LogBreaks}
+use Rattle.round_run.proofs.CallsLemmas.{calls_then}
+use Rattle.round_run.proofs.StoppedLemmas.{goes_then, handed, stopped_then}
+use Rattle.round_run.specs.Calls.{Calls}
+use Rattle.round_run.specs.Rolling.{Goes, IsFrontPart, Stopped}
+use Rattle.round_run.specs.Talking.{IsTalking}
+use Rattle.round_run.proofs.round.send_all.Goals as goal
+
+pub returns-in_err-send_one-clause-stopped : goal.returns-in_err-send_one-clause-stopped
+returns-in_err-send_one-clause-stopped g c = λ task kept h talking.
+    let s = c.args.session.now in
+    let fault = c.in_err-send_one.field-0.0 in
+    let spoken = g.H.Host.spoken c.send_one.new.host in
+    let was = g.H.Host.log c.args.host.now in
+    let mid = g.H.Host.log c.loop-place.host in
+    let log = g.H.Host.log c.send_one.new.host in
+    let stopped =
+    subst (λ (x : State).
+    Stopped x.version task x.pools (IsFrontPart x.entries (IsRound task x.entries x.instances))
+    (x.entries ++ take c.loop-place.place x.asks) fault (g.O.Sink.taken c.loop-place.out) (g.O.Sink.taken c.send_one.new.out)
+    spoken (LogBreaks task x.version x.pools (x.entries ++ take c.loop-place.place x.asks) fault mid log))
+    c.loop-place.invariant.rolled.same (c.in_err-send_one.ensures.stopped task kept
+    (c.loop-place.invariant.kept task h) (c.loop-place.invariant.said task kept h talking).0) in
+    let goes = c.loop-place.invariant.goes in
+    handed c.from_residual.result fault _ c.from_residual.ensures.1
+    (stopped_then s.version task s.pools spoken (IsFrontPart s.entries (IsRound task s.entries s.instances)) s.entries
+    (s.entries ++ take c.loop-place.place s.asks) fault (g.O.Sink.taken c.args.out.now) (g.O.Sink.taken c.loop-place.out)
+    (g.O.Sink.taken c.send_one.new.out)
+    (LogBreaks task s.version s.pools s.entries fault was log)
+    (LogBreaks task s.version s.pools (s.entries ++ take c.loop-place.place s.asks) fault mid log) goes
+    (breaks_then task s.version s.pools s.entries (s.entries ++ take c.loop-place.place s.asks) fault was mid log
+    (c.loop-place.invariant.said task kept h talking).1 goes.more goes.pushed) stopped)
+
+pub loop-place-preserved : goal.loop-place-preserved
+loop-place-preserved g c =
+    let i = c.loop-place.invariant in
+    let e = c.in_ok-send_one.ensures in
+    let new = c.send_one.new.session in
+    let s = c.args.session.now in
+    let place = c.loop-place.place in
+    let more = subst (λ (x : State).
+    Goes (x.entries ++ take place x.asks) (x.entries ++ take (place + 1) x.asks)
+    (g.O.Sink.taken c.loop-place.out) (g.O.Sink.taken c.send_one.new.out)) i.rolled.same e.goes in
+    record {
+      rolled = record {
+        same = e.rolled.same ∙ ap (λ (x : State). with_slots x new.slots new.failed) i.rolled.same;
+        rolling = e.rolled.rolling;
+        many = e.rolled.many ∙ i.rolled.many;
+      };
+      goes = goes_then s.entries (s.entries ++ take place s.asks) (s.entries ++ take (place + 1) s.asks)
+          (g.O.Sink.taken c.args.out.now) (g.O.Sink.taken c.loop-place.out) (g.O.Sink.taken c.send_one.new.out) i.goes more;
+      said = λ task kept h t.
+          let before = i.said task kept h t in
+          let later = e.said task kept (i.kept task h) before.0 in (
+            later.0,
+            calls_then task s.pools s.entries (s.entries ++ take place s.asks) (s.entries ++ take (place + 1) s.asks)
+                (g.H.Host.log c.args.host.now) (g.H.Host.log c.loop-place.host) (g.H.Host.log c.send_one.new.host) before.1
+                (subst (λ (x : State).
+                Calls task x.pools (x.entries ++ take place x.asks) (x.entries ++ take (place + 1) x.asks)
+                (g.H.Host.log c.loop-place.host) (g.H.Host.log c.send_one.new.host)) i.rolled.same later.1),
+          );
+      kept = λ task h. e.kept task (i.kept task h);
+      running = λ k. e.running k ∙ i.running k;
+      host = omega (arith, e.causes.host.later, i.host);
+      sink = omega (arith, e.causes.sink.later, i.sink);
+    }
+
+pub returns-clause-said : goal.returns-clause-said
+returns-clause-said g c = λ task kept h t.
+    let s = c.args.session.now in
+    let said = c.loop-place.invariant.said task kept h t in
+    let all : c.loop-place.place ≡ c.args.count = omega (arith, c.loop-place.auto.place-end, c.loop-place-test.false) in
+    let asks : take c.loop-place.place s.asks ≡ s.asks =
+    take_all c.loop-place.place s.asks
+    (omega (arith, c.loop-place.auto.place-end, c.loop-place-test.false, c.requires.count, c.requires.rolling.asks)) in (
+      subst (λ n. IsTalking task c.loop-place.session n 0 kept (g.H.Host.spoken c.loop-place.host)) all said.0,
+      subst (λ es. Calls task s.pools s.entries (s.entries ++ es) (g.H.Host.log c.args.host.now) (g.H.Host.log c.loop-place.host)) asks
+          said.1,
+    )

@@ -1,0 +1,11 @@
+pub mod Batches
+pub mod Breaking
+pub mod Calls
+pub mod Dialogue
+pub mod Held
+pub mod Pieces
+pub mod Resting
+pub mod Rolling
+pub mod Starts
+pub mod Stops
+pub mod Talking

@@ -1,0 +1,16 @@
+//! Rounds over several children: all requests of a round are written before its first answer is heard.
+#![tactic(auto)]
+
+mod batches;
+mod child;
+mod ending;
+mod entry_line;
+mod fault;
+mod lines;
+mod round;
+
+pub use batches::batch;
+pub use ending::Batch;
+pub use entry_line::print_entry;
+pub use fault::RunFault;
+pub use lines::Lines;
