@@ -51,7 +51,8 @@ pushed_from from entry queue now p other c =
       | inl same ↦ contains_later entry (from ∷ queue) other (subst (Contains (from ∷ queue)) same (contains_here from queue))
       | inr rest ↦
           elim
-          (contains_cases entry queue other (Contains-permutation now (entry ∷ queue) other (IsPermutation-sym (entry ∷ queue) now p) rest)) [
+          (contains_cases entry queue other
+          (Contains-permutation now (entry ∷ queue) other (IsPermutation-sym (entry ∷ queue) now p) rest)) [
             | inl same ↦ subst (Contains (entry ∷ from ∷ queue)) same (contains_here entry (from ∷ queue))
             | inr k ↦ contains_later entry (from ∷ queue) other (contains_later from queue other k)
           ]
@@ -65,7 +66,8 @@ module _ (task : Task) (known : Known) where
       (added : IsAdded task known before earlier from source step states links id cost) where
     pub added_place : id ≡ length before
     added_place =
-        elim (push_cases before added.after id added.after (subst (λ ss. slice_get ss id ≡ Some added.after) added.states_are added.place)) [
+        elim (push_cases before added.after id added.after
+        (subst (λ ss. slice_get ss id ≡ Some added.after) added.states_are added.place)) [
           | inl h ↦ absurd (added.fresh (member_at before id added.after h))
           | inr k ↦ k.0
         ]

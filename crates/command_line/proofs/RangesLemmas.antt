@@ -5,11 +5,11 @@ use Rattle.std.specs.Cmp.{first_so, second_so}
 use Rattle.std.specs.Str.Parse.{digits_value}
 use Rattle.transcript_model.proofs.NamesLemmas.{map_some}
 use Rattle.transcript_model.specs.declared.head.Mode.{Mode}
-use Rattle.transcript_model.specs.declared.head.Mode.TheVariants.{Incremental}
+use Rattle.transcript_model.specs.declared.head.Mode.TheVariants.{Incremental, Focused}
 use Rattle.clap.specs.Words.{App, Row, Text, first_of, matches_of}
 use Rattle.command_line.specs.Apps.{generate_app, is_taken, replay_app, solve_app}
 use Rattle.command_line.specs.Numbers.{are_few_digits, count_in, count_of, count_or, is_count}
-use Rattle.command_line.specs.Ranges.{AreInRange, IsBetween, IsInRange}
+use Rattle.command_line.specs.Ranges.{AreInRange, IsBetween, IsBuilt, IsInRange}
 use Rattle.command_line.specs.Words.{Command, GivenLimits, ReplayWords, SolveWords, are_apart, command_of, files_in, generate, generate_in, generate_of, limits_in, mode_or, path_in, program_in, read_by, replay, replay_in, replay_of, solve, solve_in, solve_of}
 use Rattle.lemmas.proofs.Options.{and_then_some, where_true}
 use Rattle.std.proofs.lemmas.Option.{same_Some}
@@ -51,11 +51,14 @@ limits_between rows l e =
       or_between 8 3 (omega arith, omega arith) (first_of (codes "depth") rows) depth.0 depth.1,
     )
 
-mode_built : (name : Option Text) (mode : Mode) → mode_or name ≡ Some mode → mode ≡ Incremental
-mode_built None mode e = cc
-mode_built (Some name) mode e =
-    let found = where_true (bytes_eq name (codes "incremental")) (Some Incremental) mode e in
-    rw (same_Some Incremental mode found.1) refl
+mode_built : (name : Option Text) (mode : Mode) → mode_or name ≡ Some mode → IsBuilt mode
+mode_built None mode e = subst IsBuilt (same_Some Incremental mode e) tt
+mode_built (Some name) mode e = by (bytes_eq name (codes "incremental")) (bytes_eq name (codes "focused")) e
+  where
+    by : (a b : Bool) → (if a then Some Incremental else if b then Some Focused else None) ≡ Some mode → IsBuilt mode
+    by true b e = subst IsBuilt (same_Some Incremental mode e) tt
+    by false true e = subst IsBuilt (same_Some Focused mode e) tt
+    by false false e = absurd (cc)
 
 -- where a map stands there is no program
 alone_from : (path workers : Option Text) (program : List Text)

@@ -18,7 +18,7 @@ pub struct SolveConfig {
     pub program: Seq<String>,
     /// How many workers run the program, 1 to 16: `--workers`, and 1 without it, as beside a map.
     pub workers: u8,
-    /// How the planner goes about it: `--algorithm`. Incremental is the one mode that is built, and the default.
+    /// How the planner goes about it: `--algorithm`. Incremental and focused mode are built, and the first is the default.
     pub mode: Mode,
     /// The most calls of a run, 1 to 100,000: `--calls`, and 10,000 without it.
     pub calls: u32,

@@ -55,6 +55,8 @@ fn mode_or(name: Option<&str>) -> Option<Mode>
         None => Some(Mode::Incremental),
         Some(name) => if name == "incremental" {
             Some(Mode::Incremental)
+        } else if name == "focused" {
+            Some(Mode::Focused)
         } else {
             None
         },

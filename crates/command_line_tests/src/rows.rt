@@ -75,6 +75,7 @@ fn push_word(text: &mut String, word: &str) -> Result<(), Fail> {
 fn mode_word(mode: Mode) -> &'static str {
     match mode {
         Mode::Incremental => "incremental",
+        Mode::Focused => "focused",
         _ => "another",
     }
 }

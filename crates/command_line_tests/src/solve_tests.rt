@@ -183,8 +183,8 @@ const MAPS: [Row; 18] = [
     ("solve --workers=2 d p s --map m", "usage"),
 ];
 
-/// Modes, of which one is built, and asking for help.
-const MODES: [Row; 14] = [
+/// Modes, of which two are built, and asking for help.
+const MODES: [Row; 15] = [
     (
         "solve --algorithm incremental d p s",
         "solve d p s 10000 100000 3 1 incremental",
@@ -193,7 +193,11 @@ const MODES: [Row; 14] = [
         "solve d p s --algorithm=incremental --map m",
         "solve d p s 10000 100000 3 1 incremental map m",
     ),
-    ("solve --algorithm focused d p s", "usage"),
+    (
+        "solve --algorithm focused d p s",
+        "solve d p s 10000 100000 3 1 focused",
+    ),
+    ("solve --algorithm Focused d p s", "usage"),
     ("solve --algorithm binding d p s", "usage"),
     ("solve --algorithm adaptive d p s", "usage"),
     ("solve --algorithm Incremental d p s", "usage"),
@@ -226,6 +230,6 @@ fn a_map_stands_alone(rt: HostRuntime) -> Result<(), Fail> {
 }
 
 #[test]
-fn one_mode_is_built(rt: HostRuntime) -> Result<(), Fail> {
+fn two_modes_are_built(rt: HostRuntime) -> Result<(), Fail> {
     check_rows(&rt, rt.alloc(), &MODES)
 }

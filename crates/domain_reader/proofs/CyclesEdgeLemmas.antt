@@ -3,7 +3,8 @@ use Rattle.std.proofs.Common.{◌≡◌, ℕ, zero, suc, ◌+◌, ◌<◌, ◌�
 use Rattle.std.proofs.lemmas.List.{drop_all, append-nil}
 use Rattle.task_model.specs.declared.domain.Sort as sort
 use Rattle.name_tables.proofs.DeclarationsLemmas.{name_step}
-use Rattle.name_tables.specs.Names.{name_at}
+use Rattle.task_model.specs.Streams.{name_at}
+use Rattle.name_tables.specs.Graphs.{ascending}
 use Rattle.domain_reader.specs.Cycles.{AreSorts, no_sorts, more_sorts, IsAbove, first_edge, first_edges, no_edges, under_object}
 
 -- what types are under, from the type of a number on
@@ -18,6 +19,11 @@ from_step : (k : ℕ) (n : List ℕ) (ns : List (List ℕ))
     → edges_from k (n ∷ ns) ≡ first_edge k ∷ edges_from (k + 1) ns
 from_step zero n ns = refl
 from_step (suc k) n ns = ap (λ es. (0 ∷ []) ∷ es) (sym (from_next (suc k) ns))
+
+-- one number, or none, is in order
+pub first_ordered : (k : ℕ) → ascending [] (first_edge k) ≡ first_edge k
+first_ordered zero = refl
+first_ordered (suc k) = refl
 
 pub edges_more : (ns edges new : List (List ℕ)) (k : ℕ) (own : List ℕ)
     → first_edges ns ≡ edges ++ edges_from k (drop k ns) → k < length ns → own ≡ first_edge k

@@ -179,7 +179,9 @@ counted_few predicates names (list items at rest) few n =
         → (has_name name names || not (length names == 64)) ≡ true
         → length (with_name names name) ≤ 64
     grown names name few room =
-        elim (has_name name names) as (λ b. (b || not (length names == 64)) ≡ true → length (if b then names else names ++ name ∷ []) ≤ 64) [
+        elim (has_name name names) as
+        (λ b. (b || not (length names == 64)) ≡ true
+        → length (if b then names else names ++ name ∷ []) ≤ 64) [
           | true ↦ λ _. few
           | false ↦ λ r. omega (arith, few, length-append names (name ∷ []), eqb-false (length names) 64 (not-true (length names == 64) r))
         ] room

@@ -8,7 +8,7 @@ ghost use Rattle.domain_reader.specs.Cycles as specs;
 use crate::tables::{headed, is_derived};
 use form_reader::{Item, Spot, TextKind, head_of, tail_of};
 use name_tables::{
-    Candidate, NameTable, Signatures, ascending, is_named, named_sorts, number, put_number,
+    Candidate, NameTable, NumberLists, Signatures, ascending, is_named, named_sorts, number,
     reached_from, sort_of,
 };
 use sexpr_text::{Front, Tree, front_of};
@@ -23,22 +23,22 @@ fn is_types(item: Item) -> bool
 }
 
 /// What the type at a place is under before `:types` is read.
-fn first_edge(alloc: Global, place: usize) -> Result<Seq<u32>, AllocError>
-    ensures { IfOk result (λ above. above ≡ specs.first_edge place) }
+fn first_edge(alloc: Global, place: usize) -> Result<Vec<u32>, AllocError>
+    ensures { IfOk result (λ above. above.items ≡ specs.first_edge place) }
 {
     let mut above = Vec::new(alloc);
-    if place == 0 {
-        return Ok(Seq::from_vec(above));
+    if place != 0 {
+        above.push(0)?;
     }
-    above.push(0)?;
-    Ok(Seq::from_vec(above))
+    Ok(above)
 }
 
-/// What each type is under before `:types` is read: `object`, which is the first, under nothing, and the others under it.
-fn first_edges(alloc: Global, sorts: &NameTable) -> Result<Vec<Seq<u32>>, AllocError>
-    ensures { IfOk result (λ edges. edges.items ≡ specs.first_edges sorts.now) }
+/// What each type is under before `:types` is read: `object`, which is the first, under nothing,
+/// and the others under it.
+fn first_edges(alloc: Global, sorts: &NameTable) -> Result<NumberLists, AllocError>
+    ensures { IfOk result (λ edges. edges ≡ specs.first_edges sorts.now) }
 {
-    let mut edges = Vec::new(alloc);
+    let mut edges = NumberLists::new(alloc);
     for place in 0..sorts.len() {
         edges.push(first_edge(alloc, place)?)?;
     }
@@ -46,29 +46,24 @@ fn first_edges(alloc: Global, sorts: &NameTable) -> Result<Vec<Seq<u32>>, AllocE
 }
 
 /// Puts one type under another, except `object` under itself.
-fn put_edge(
-    alloc: Global,
-    edges: &mut Vec<Seq<u32>>,
-    below: u32,
-    above: u32,
-) -> Result<(), AllocError>
-    ensures { OnOk result (edges.new.items ≡ specs.edge_put edges.old.items below above) }
+fn put_edge(edges: &mut NumberLists, below: u32, above: u32) -> Result<(), AllocError>
+    ensures { OnOk result (edges.new ≡ specs.edge_put edges.old below above) }
 {
     if below == 0 && above == 0 {
         return Ok(());
     }
-    put_number(alloc, edges, below as usize, above)
+    edges.add(below as usize, above)
 }
 
 /// Puts each listed type of a row under the type beside it.
 fn add_row(
     alloc: Global,
-    edges: &mut Vec<Seq<u32>>,
+    edges: &mut NumberLists,
     sorts: &NameTable,
     items: &[Tree],
 ) -> Result<(), AllocError>
-    ensures { OnOk result (edges.new.items
-        ≡ specs.edges_each sorts.now edges.old.items (named_words Start (trees items.now))
+    ensures { OnOk result (edges.new
+        ≡ specs.edges_each sorts.now edges.old (named_words Start (trees items.now))
         (sorts_in sorts.now Start 0 (trees items.now))) }
 {
     let types = named_sorts(alloc, sorts, items)?;
@@ -83,7 +78,7 @@ fn add_row(
             let [above, more @ ..] = waiting else {
                 return Ok(());
             };
-            put_edge(alloc, edges, sort_of(sorts, text)?, *above)?;
+            put_edge(edges, sort_of(sorts, text)?, *above)?;
             waiting = more;
         }
         spot = spot.after_word(text);
@@ -94,12 +89,12 @@ fn add_row(
 /// Puts the types of `:types` items under the types beside them.
 fn add_types(
     alloc: Global,
-    edges: &mut Vec<Seq<u32>>,
+    edges: &mut NumberLists,
     sorts: &NameTable,
     items: &[Tree],
 ) -> Result<(), AllocError>
-    ensures { OnOk result (edges.new.items
-        ≡ specs.edges_in sorts.now edges.old.items (trees items.now)) }
+    ensures { OnOk result (edges.new
+        ≡ specs.edges_in sorts.now edges.old (trees items.now)) }
 {
     let mut left = items;
     'items: loop {
@@ -126,7 +121,7 @@ pub(crate) fn type_edges(
 {
     let mut edges = first_edges(alloc, sorts)?;
     add_types(alloc, &mut edges, sorts, body)?;
-    Ok(edges)
+    edges.to_lists()
 }
 
 /// Adds the first listings of a row. What is seen grows by the row.
@@ -198,7 +193,7 @@ pub(crate) fn sorts_of(
 {
     let mut list = Vec::new(alloc);
     for place in 0..sorts.len() {
-        let name = Name::new(Vec::from_slice(alloc, sorts.name_at(place))?);
+        let name = Name::from_slice(alloc, sorts.name_at(place))?;
         let above = supertypes(alloc, edges, number(place)?)?;
         list.push(Sort { name, above })?;
     }
@@ -206,30 +201,24 @@ pub(crate) fn sorts_of(
 }
 
 /// A predicate depends on one of this name, if that is there.
-fn put_mention(
-    alloc: Global,
-    edges: &mut Vec<Seq<u32>>,
-    from: usize,
-    place: Option<usize>,
-) -> Result<(), AllocError>
-    ensures { OnOk result (edges.new.items ≡ specs.mention_put edges.old.items from place) }
+fn put_mention(edges: &mut NumberLists, from: usize, place: Option<usize>) -> Result<(), AllocError>
+    ensures { OnOk result (edges.new ≡ specs.mention_put edges.old from place) }
 {
     match place {
         None => Ok(()),
-        Some(pred) => put_number(alloc, edges, from, number(pred)?),
+        Some(pred) => edges.add(from, number(pred)?),
     }
 }
 
 /// A predicate depends on those that head lists of these trees, however deep.
 fn add_mentions(
-    alloc: Global,
     predicates: &Signatures,
-    edges: &mut Vec<Seq<u32>>,
+    edges: &mut NumberLists,
     from: usize,
     items: &[Tree],
 ) -> Result<(), AllocError>
-    ensures { OnOk result (edges.new.items
-        ≡ specs.mentions_in predicates.now.names edges.old.items from (trees items.now)) }
+    ensures { OnOk result (edges.new
+        ≡ specs.mentions_in predicates.now.names edges.old from (trees items.now)) }
 {
     let mut left = items;
     'trees: loop {
@@ -237,28 +226,21 @@ fn add_mentions(
             Front::End => return Ok(()),
             Front::Word { rest, .. } => left = rest,
             Front::List { items, rest, .. } => {
-                put_mention(alloc, edges, from, predicates.place_of(head_of(items)))?;
-                add_mentions(alloc, predicates, edges, from, items)?;
+                put_mention(edges, from, predicates.place_of(head_of(items)))?;
+                add_mentions(predicates, edges, from, items)?;
                 left = rest;
             }
         }
     }
 }
 
-/// The predicate at a place depends on none.
-fn no_edge(alloc: Global, _place: usize) -> Seq<u32>
-    ensures { result ≡ [] }
-{
-    Seq::from_vec(Vec::new(alloc))
-}
-
 /// No predicate depends on any.
-fn no_edges(alloc: Global, predicates: &Signatures) -> Result<Vec<Seq<u32>>, AllocError>
-    ensures { IfOk result (λ edges. edges.items ≡ specs.no_edges predicates.now.names) }
+fn no_edges(alloc: Global, predicates: &Signatures) -> Result<NumberLists, AllocError>
+    ensures { IfOk result (λ edges. edges ≡ specs.no_edges predicates.now.names) }
 {
-    let mut edges = Vec::new(alloc);
-    for place in 0..predicates.len() {
-        edges.push(no_edge(alloc, place))?;
+    let mut edges = NumberLists::new(alloc);
+    for _place in 0..predicates.len() {
+        edges.push(Vec::new(alloc))?;
     }
     Ok(edges)
 }
@@ -276,18 +258,17 @@ fn derived_place(predicates: &Signatures, items: &[Tree]) -> Option<usize>
 
 /// A predicate depends on those of a body, if there is one.
 fn put_body(
-    alloc: Global,
     predicates: &Signatures,
-    edges: &mut Vec<Seq<u32>>,
+    edges: &mut NumberLists,
     place: Option<usize>,
     body: &[Tree],
 ) -> Result<(), AllocError>
-    ensures { OnOk result (edges.new.items
-        ≡ specs.body_put predicates.now.names edges.old.items place (trees body.now)) }
+    ensures { OnOk result (edges.new
+        ≡ specs.body_put predicates.now.names edges.old place (trees body.now)) }
 {
     match place {
         None => Ok(()),
-        Some(pred) => add_mentions(alloc, predicates, edges, pred, body),
+        Some(pred) => add_mentions(predicates, edges, pred, body),
     }
 }
 
@@ -304,17 +285,11 @@ pub(crate) fn derived_edges(
     let mut left = body;
     'items: loop {
         match front_of(left) {
-            Front::End => return Ok(edges),
+            Front::End => return edges.to_lists(),
             Front::Word { rest, .. } => left = rest,
             Front::List { items, rest, .. } => {
                 let place = derived_place(predicates, items);
-                put_body(
-                    alloc,
-                    predicates,
-                    &mut edges,
-                    place,
-                    tail_of(tail_of(items)),
-                )?;
+                put_body(predicates, &mut edges, place, tail_of(tail_of(items)))?;
                 left = rest;
             }
         }

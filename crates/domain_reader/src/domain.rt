@@ -93,7 +93,7 @@ fn done_by(
 fn action_of(alloc: Global, names: &Vocabulary, items: &[Tree]) -> Result<Action, AllocError>
     ensures { IfOk result (λ action. action ≡ specs.action_of names.now (trees items.now)) }
 {
-    let name = Name::new(Vec::from_slice(alloc, head_of(items))?);
+    let name = Name::from_slice(alloc, head_of(items))?;
     let keys = tail_of(items);
     let vars = parameters_of(keys);
     let params = Seq::from_vec(named_sorts(alloc, &names.sorts, vars)?);
@@ -193,7 +193,7 @@ fn parts_of(alloc: Global, names: &Vocabulary, text: &Tree) -> Result<Domain, Al
     let derived = rules_of(alloc, names, body)?;
     let actions = actions_of(alloc, names, body)?;
     Ok(Domain {
-        name: Name::new(Vec::from_slice(alloc, name_of(text))?),
+        name: Name::from_slice(alloc, name_of(text))?,
         sorts: Seq::from_vec(sorts),
         predicates: Seq::from_vec(predicates),
         functions: Seq::from_vec(functions),

@@ -159,8 +159,8 @@ pub(crate) fn parameters_of<'a>(keys: &'a [Tree]) -> &'a [Tree]
     value_at(b":parameters", keys)
 }
 
-/// The value of a key, which is the list at this place. Fails only where memory is wanting, and else leaves the scope as
-/// it was.
+/// The value of a key, which is the list at this place. Fails only where memory is wanting, and
+/// else leaves the scope as it was.
 fn check_value(
     alloc: Global,
     names: &Vocabulary,

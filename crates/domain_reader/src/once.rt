@@ -57,8 +57,8 @@ fn is_single(item: Item) -> bool
     }
 }
 
-/// Adds a `Duplicate` to a fault so far where a list at this place has a name that was seen before, if the list counts;
-/// what is seen grows by the name then. Fails only where memory is wanting.
+/// Adds a `Duplicate` to a fault so far where a list at this place has a name that was seen before,
+/// if the list counts; what is seen grows by the name then. Fails only where memory is wanting.
 fn check_once(
     counts: bool,
     name: &[u8],
@@ -77,8 +77,8 @@ fn check_once(
     }
 }
 
-/// Adds to a fault so far those of second items of a kind of which a text may have one: `Duplicate` at the item's list.
-/// Fails only where memory is wanting.
+/// Adds to a fault so far those of second items of a kind of which a text may have one: `Duplicate`
+/// at the item's list. Fails only where memory is wanting.
 pub fn check_second_items(
     alloc: Global,
     text: TextKind,

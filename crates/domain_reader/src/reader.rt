@@ -13,7 +13,8 @@ use sexpr_text::Tree;
 use std::alloc::{AllocError, Global};
 use task_model::Domain;
 
-/// The name fault that is answered of a domain with these items, if it has one. Fails only where memory is wanting.
+/// The name fault that is answered of a domain with these items, if it has one. Fails only where
+/// memory is wanting.
 fn check_names(
     alloc: Global,
     names: &Vocabulary,
@@ -57,14 +58,14 @@ fn read(alloc: Global, text: &Tree) -> Result<Domain, InputFault>
 
 /// Reads a domain from its tree.
 ///
-/// The forms are those of this project's profile of PDDL 2.1, with derived predicates (PDDL 2.2) and the total cost
-/// (IPC 2008).
+/// The forms are those of this project's profile of PDDL 2.1, with derived predicates (PDDL 2.2)
+/// and the total cost (IPC 2008).
 ///
 /// # Errors
 ///
-/// - `At`: the text has a fault. Of its form faults the one with the least place is answered, and at one place `Shape`
-///   last; where it has none, of its name faults the one with the least place, and at one place the one of the smallest
-///   number.
+/// - `At`: the text has a fault. Of its form faults the one with the least place is answered, and at
+///   one place `Shape` last; where it has none, of its name faults the one with the least place, and
+///   at one place the one of the smallest number.
 /// - `Memory`: memory ran out, which says nothing of the text.
 pub fn read_domain(alloc: Global, text: &Tree) -> Result<Domain, InputFault>
     ensures reads { specs.DomainReads (tree text.now) result }

@@ -1,25 +1,26 @@
 -- What a dream uses determines its entries, and the first of them may be asked.
-use Rattle.std.proofs.Common.{◌≡◌, ℕ, zero, suc, ◌+◌, ◌<◌, arith, true, false, not, ◌&&◌, cond, List, [], ◌∷◌, ◌++◌, length, map, refl, sym, ap, subst, ◌∙◌, Option, Some, None, slice_get, All}
+use Rattle.std.proofs.Common.{◌≡◌, ℕ, ◌+◌, ◌<◌, arith, true, not, ◌&&◌, List, [], ◌∷◌, ◌++◌, length, map, refl, sym, ap, subst, ◌∙◌, Some, None, slice_get, All}
 use Rattle.std.proofs.lemmas.Bool.{and_from, lt-ltb}
 use Rattle.std.proofs.lemmas.List.Elements.{All-head, All-tail}
-use Rattle.std.proofs.lemmas.Option.{same_Some, slice_get_within}
+use Rattle.std.proofs.lemmas.Option.{same_Some}
 use Rattle.std.specs.List.{list_any}
 use Rattle.std.specs.Option.{option_and_then, option_map, option_map_or}
-use Rattle.std.specs.Prelude.{nat_lt, if◌then◌else◌}
+use Rattle.std.specs.Prelude.{if◌then◌else◌}
 use Rattle.instance_search.proofs.InstanceOrderLemmas.{reachable_in}
 use Rattle.lemmas.proofs.Options.{same_some}
-use Rattle.task_model.proofs.StreamsLemmas.{named_at, due_passes}
+use Rattle.task_model.proofs.KnownLemmas.{below_names}
+use Rattle.task_model.proofs.StreamsLemmas.{due_passes}
 use Rattle.task_model.specs.Dreams as dreams
 use Rattle.task_model.specs.Dreams.{supposing, is_supported}
 use Rattle.task_model.specs.Fit.{IsFit}
 use Rattle.task_model.specs.Known.{Known, IsIn}
-use Rattle.task_model.specs.Streams.{IsDue, is_due, is_reachable, name_at, same_instance}
+use Rattle.task_model.specs.Streams.{IsDue, is_due, is_reachable, same_instance}
 use Rattle.task_model.specs.declared.stream.Instance.{Instance}
 use Rattle.task_model.specs.declared.stream.Stream.{Stream}
 use Rattle.task_model.specs.declared.task.Task.{Task}
 use Rattle.transcript_model.proofs.CoherentLemmas.{coherent}
 use Rattle.transcript_model.proofs.LegalStepLemmas.{mark_adds}
-use Rattle.transcript_model.specs.Dreaming.{IsDreamAfter, Sent, replaced, all_replaced, become, ready, next_sent}
+use Rattle.transcript_model.specs.Dreaming.{IsDreamAfter, replaced, all_replaced, become, ready, next_sent}
 use Rattle.transcript_model.specs.Laws.{AddsMark}
 use Rattle.transcript_model.specs.Legal.{IsLegal}
 use Rattle.transcript_model.specs.Rounds.{Limits}
@@ -30,7 +31,7 @@ use Rattle.transcript_model.specs.declared.entry.Entry.{Entry}
 use Rattle.transcript_model.specs.declared.entry.Entry.TheVariants as entry
 use Rattle.dream_laws.proofs.ListLemmas.{IsOfList, supposed_once, each_is_of}
 use Rattle.dream_laws.proofs.NamesFreeLemmas.{reachable_same}
-use Rattle.dream_laws.proofs.SupportLemmas.{HasStream, stream_of}
+use Rattle.dream_laws.proofs.SupportLemmas.{stream_of}
 
 -- ---- places
 
@@ -60,12 +61,9 @@ first_chosen list (p ∷ ps) e es at = (p, cc)
 
 -- ---- what is real
 
-in_length : (names : List (List ℕ)) (o : ℕ) → IsIn names o → o < length names
-in_length names o known = slice_get_within names o (name_at names o) (named_at names o known)
-
 module _ (task : Task) (now : List Entry) (names : List (List ℕ)) where
   real_stays : (o : ℕ) → IsIn names o → replaced task now (length names) [] o ≡ Some o
-  real_stays o known = ap (λ b. if b then Some o else None) (lt-ltb o (length names) (in_length names o known))
+  real_stays o known = ap (λ b. if b then Some o else None) (lt-ltb o (length names) (below_names names o known))
 
   all_real : (objects : List ℕ) → All (IsIn names) objects → all_replaced task now (length names) [] objects ≡ Some objects
   all_real [] known = refl

@@ -1,6 +1,7 @@
 -- Lists of supposed entries: there is one after so many passes, and each of its entries has support.
-use Rattle.std.proofs.Common.{◌≡◌, ℕ, zero, suc, ◌+◌, ◌<◌, ◌≤◌, ◌⊎◌, inl, inr, arith, true, false, List, [], ◌∷◌, ◌++◌, length, map, take, sum_by, refl, sym, ap, subst, ◌∙◌, Some, slice_get, Contains, append_assoc}
+use Rattle.std.proofs.Common.{◌≡◌, ℕ, zero, suc, ◌+◌, ◌<◌, ◌≤◌, inl, inr, arith, true, false, List, [], ◌∷◌, ◌++◌, length, take, sum_by, refl, sym, ap, subst, ◌∙◌, Some, slice_get, Contains, append_assoc}
 use Rattle.std.proofs.Math.Nat.{le-suc_iff}
+use Rattle.std.proofs.Math.Seq.{take-append-add}
 use Rattle.std.proofs.lemmas.List.{append-nil, length-append, length-map, take-append-le}
 use Rattle.std.proofs.lemmas.Option.{slice_get_within}
 use Rattle.lemmas.proofs.Ascending.{same_list}
@@ -17,7 +18,7 @@ use Rattle.task_model.specs.declared.task.Task.{Task}
 use Rattle.transcript_model.specs.Dreaming.{MoreAreSupposed}
 use Rattle.lemmas.specs.Lists.{numbers_from}
 use Rattle.std.specs.List.{list_any}
-use Rattle.dream_laws.proofs.SupportLemmas.{append_cases, take_behind, supported_later, support_stays}
+use Rattle.dream_laws.proofs.SupportLemmas.{append_cases, supported_later, support_stays}
 
 module _ (task : Task) (known : Known) where
   abbrev AreFresh : List Entry → List Entry → Type 0
@@ -37,8 +38,8 @@ module _ (task : Task) (known : Known) where
   same_entry old x y same first second =
       let outputs : x.outputs ≡ y.outputs =
       first
-      ∙ ap (λ (i : Instance). at_stream task i.stream [] (λ stream. numbers_from (length known.names + sum_by (λ (e : Entry). length e.outputs) old)
-      (length stream.outputs))) same
+      ∙ ap (λ (i : Instance). at_stream task i.stream [] (λ stream.
+      numbers_from (length known.names + sum_by (λ (e : Entry). length e.outputs) old) (length stream.outputs))) same
       ∙ sym second in
       λ i. record { instance = same i; outputs = outputs i }
 
@@ -84,7 +85,12 @@ module _ (task : Task) (known : Known) where
         → HasFront passes list
     front_after zero passes list few so =
         let none : 0 ≡ passes = omega (arith, few) in
-        record { front = list; supposed = subst (λ n. AreSupposed task known notes tried n list) none so; rest = []; added = sym (append-nil list) }
+        record {
+          front = list;
+          supposed = subst (λ n. AreSupposed task known notes tried n list) none so;
+          rest = [];
+          added = sym (append-nil list);
+        }
     front_after (suc depth) passes list few (old, so_far, pass) =
         elim (le-suc_iff.0 few) [
           | inl fewer ↦
@@ -174,7 +180,7 @@ module _ (task : Task) (known : Known) where
             }
           where
             behind : (j : ℕ) → k ≡ length old + j → take k list ≡ old ++ take j pass.more
-            behind j is = ap (λ es. take k es) pass.added ∙ ap (λ n. take n (old ++ pass.more)) is ∙ take_behind old pass.more j
+            behind j is = ap (λ es. take k es) pass.added ∙ ap (λ n. take n (old ++ pass.more)) is ∙ take-append-add old pass.more j
 
     pub list_supported : (depth : ℕ) (list : List Entry) → AreSupposed task known notes tried depth list
         → HaveSupport task known list list

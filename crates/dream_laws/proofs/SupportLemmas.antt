@@ -1,5 +1,5 @@
 -- What has support has it still where more is supposed.
-use Rattle.std.proofs.Common.{◌≡◌, ℕ, zero, suc, ◌+◌, ◌<◌, ◌≤◌, ◌⊎◌, inl, inr, arith, true, false, cond, List, [], ◌∷◌, ◌++◌, length, take, refl, sym, ap, subst, ◌∙◌, Option, None, Some, slice_get}
+use Rattle.std.proofs.Common.{◌≡◌, ℕ, zero, suc, ◌+◌, ◌<◌, ◌⊎◌, inl, inr, arith, true, false, cond, List, [], ◌∷◌, ◌++◌, length, take, refl, sym, ap, subst, ◌∙◌, Option, None, Some, slice_get}
 use Rattle.std.proofs.lemmas.Bool.{and_from}
 use Rattle.std.proofs.lemmas.Grind.{flat_map-append}
 use Rattle.std.proofs.lemmas.List.{take-append-le, take_all, take-take}
@@ -11,14 +11,13 @@ use Rattle.lemmas.proofs.Members.{push_cases}
 use Rattle.task_model.proofs.KnownLemmas.{fact_member, with_facts-is, facts_then}
 use Rattle.task_model.specs.Dreams.{Entry, entry_facts, supposing, is_supported, HaveSupport, supported_after}
 use Rattle.task_model.specs.Known.{Known, is_fact, type_fact, with_facts}
-use Rattle.task_model.specs.Streams.{at_stream, fact_of, is_reachable}
+use Rattle.task_model.specs.Streams.{fact_of, is_reachable}
 use Rattle.task_model.specs.Truth.{slots_of, has_type, have_types}
 use Rattle.task_model.specs.declared.domain.Pattern.{Pattern}
 use Rattle.task_model.specs.declared.fact.Fact.{Fact}
 use Rattle.task_model.specs.declared.stream.Instance.{Instance}
 use Rattle.task_model.specs.declared.stream.Stream.{Stream}
 use Rattle.task_model.specs.declared.task.Task.{Task}
-use Rattle.dream_laws.proofs.NamesFreeLemmas.{reachable_same}
 
 -- ---- lists put together
 
@@ -29,12 +28,6 @@ append_cases [] ys k x at = inr (k, omega arith, at)
 append_cases (z ∷ zs) ys zero x at = inl at
 append_cases (z ∷ zs) ys (suc k) x at =
     elim (append_cases zs ys k x at) [ inl h ↦ inl h | inr h ↦ inr (h.0, omega (arith, h.1), h.2) ]
-
-pub take_behind : {A : Type 0} (xs ys : List A) (j : ℕ) → take (length xs + j) (xs ++ ys) ≡ xs ++ take j ys
-take_behind [] ys j = let same : 0 + j ≡ j = omega arith in ap (λ n. take n ys) same
-take_behind (x ∷ xs) ys j =
-    let same : suc (length xs) + j ≡ suc (length xs + j) = omega arith in
-    ap (λ n. take n (x ∷ xs ++ ys)) same ∙ ap (λ zs. x ∷ zs) (take_behind xs ys j)
 
 -- what stands in a front of a list
 pub from_take : {A : Type 0} (xs : List A) (n k : ℕ) (x : A) → slice_get (take n xs) k ≡ Some x → (k < n) × (slice_get xs k ≡ Some x)
@@ -123,16 +116,13 @@ module _ (task : Task) (known : Known) where
       elim (push_cases entries e k x at) [
         | inl before ↦
             subst (λ es. is_supported task known list es x ≡ true)
-            (sym (take-append-le k entries (e ∷ []) (within entries k x before))) (each k x before)
+            (sym (take-append-le k entries (e ∷ []) (omega (arith, slice_get_within entries k x before)))) (each k x before)
         | inr last ↦
             subst (λ y. is_supported task known list (take k (entries ++ e ∷ [])) y ≡ true) (sym last.1)
             (subst (λ es. is_supported task known list es e ≡ true) (sym (take-append-le k entries (e ∷ []) (omega (arith, last.0))))
             (whole k last.0))
       ]
     where
-      within : (xs : List Entry) (k : ℕ) (x : Entry) → slice_get xs k ≡ Some x → k ≤ length xs
-      within xs k x at = omega (arith, slice_get_within xs k x at)
-
       whole : (k : ℕ) → k ≡ length entries → is_supported task known list (take k entries) e ≡ true
       whole k same = subst (λ es. is_supported task known list es e ≡ true) (sym (take_all k entries (omega (arith, same)))) here
 

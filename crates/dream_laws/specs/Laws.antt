@@ -1,8 +1,8 @@
--- Laws of lists of supposed entries and of dreams. Each is the contract of a public function of `laws.rt`, and so is proved.
+-- Laws of lists of supposed entries and of dreams. Each is the contract of a public function of `laws.rt`.
 use Rattle.std.specs.Prelude.{◌≡◌, ℕ, ◌<◌, List, [], ◌∷◌, ◌++◌, length}
 use Rattle.task_model.specs.Dreams as dreams
 use Rattle.task_model.specs.Dreams.{AreSupposed, HaveSupport}
-use Rattle.task_model.specs.Known.{Known, IsCoherent}
+use Rattle.task_model.specs.Known.{Known}
 use Rattle.task_model.specs.Plans.{IsValid}
 use Rattle.task_model.specs.Streams.{Note}
 use Rattle.task_model.specs.declared.stream.Instance.{Instance}

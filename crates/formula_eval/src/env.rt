@@ -12,11 +12,13 @@ pub struct Env {
 }
 
 impl Model for Env {
-    ghost use Rattle.std.specs.Prelude.{ℕ, List};
+    ghost use Rattle.std.specs.Prelude.{◌≡◌, ℕ, List, length};
 
     ghost Value = { List ℕ };
 
     ghost view = { λ e. e.slots };
+
+    ghost invariant = { λ e. length e.slots ≡ 16 };
 }
 
 impl Env {

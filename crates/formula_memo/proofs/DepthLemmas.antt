@@ -89,7 +89,8 @@ derived_head : (domain : Domain) (pred : ℕ) → role_of domain pred ≡ role.D
     → is_derived domain pred ≡ true
 unfolding role_of
 derived_head domain pred e =
-    elim (is_derived domain pred) as (λ b. cond b role.Derived (cond (is_changed domain pred) role.Fluent role.Static) ≡ role.Derived → b ≡ true) [
+    elim (is_derived domain pred) as
+    (λ b. cond b role.Derived (cond (is_changed domain pred) role.Fluent role.Static) ≡ role.Derived → b ≡ true) [
       | true ↦ λ _. refl
       | false ↦ λ d.
           elim (is_changed domain pred) as (λ b. cond b role.Fluent role.Static ≡ role.Derived → false ≡ true) [
@@ -126,13 +127,16 @@ module _ (domain : Domain) (known : Known) (state : Atoms) where
       body : ℕ → Derived → Bool
       body n item =
           have_types known args item.params
-          && truth (λ p objects. atom_as domain known state n (role_of domain p) p objects) (objects_of known.facts) item.body (slots_of args)
+          && truth (λ p objects. atom_as domain known state n (role_of domain p) p objects)
+          (objects_of known.facts) item.body (slots_of args)
 
       by : (item : Derived) → Contains domain.derived item → (b : Bool) → (item.pred == pred) ≡ b
           → (b && have_types known args item.params
-          && truth (λ p objects. atom_as domain known state d (role_of domain p) p objects) (objects_of known.facts) item.body (slots_of args))
+          && truth (λ p objects. atom_as domain known state d (role_of domain p) p objects)
+          (objects_of known.facts) item.body (slots_of args))
           ≡ (b && have_types known args item.params
-          && truth (λ p objects. atom_as domain known state e (role_of domain p) p objects) (objects_of known.facts) item.body (slots_of args))
+          && truth (λ p objects. atom_as domain known state e (role_of domain p) p objects)
+          (objects_of known.facts) item.body (slots_of args))
       by item there true heads =
           ap (λ b. have_types known args item.params && b)
           (same_truth _ _ (objects_of known.facts) item.body

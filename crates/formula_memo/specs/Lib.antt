@@ -1,3 +1,4 @@
 pub mod Laws
 pub mod Remembered
 pub mod Rests
+pub mod Tries

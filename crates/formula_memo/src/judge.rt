@@ -9,21 +9,16 @@ ghost use Rattle.formula_eval.specs.Judged.{all_at, any_at, some_at, derived_at,
 ghost use Rattle.formula_eval.specs.Readable.{is_readable, are_readable};
 ghost use Rattle.formula_memo.specs.Remembered.{StandsFor, truth_of};
 ghost use Rattle.formula_memo.specs.Rests.{AllRest, PartsRest, RestsWithin};
+ghost use Rattle.formula_memo.specs.Tries.{is_passed};
 
 use crate::memo::Memo;
+use crate::scene::Scene;
+use crate::tries::{lead_for, places, tried_object};
 use formula_eval::{Env, have_types, holds, object_of, objects_at};
 use std::alloc::AllocError;
 use task_model::{
     Atom, Derived, Fact, Formula, FormulaNode, Kind, Look, Obj, Role, Row, State, Task,
 };
-
-/// What truth is judged over.
-#[derive(Drop)]
-pub(crate) struct Scene<'a, L: Look> {
-    pub(crate) task: &'a Task,
-    pub(crate) look: &'a L,
-    pub(crate) state: &'a State,
-}
 
 /// Whether the condition is true, whose predicates rest on derived predicates at most `depth` deep.
 #[cycle(truth)]
@@ -156,8 +151,8 @@ fn some_tuple<L: Look>(
     found
 }
 
-/// Whether some object of this type, put into the slot `first`, and objects of the other types, put into those
-/// behind it, make the body true. The slot may have another object afterwards.
+/// Whether some object of this type, put into the slot `first`, and objects of the other types, put
+/// into those behind it, make the body true. The slot may have another object afterwards.
 #[cycle(truth)]
 fn some_object<L: Look>(
     scene: &Scene<'_, L>,
@@ -182,15 +177,49 @@ fn some_object<L: Look>(
     ensures stands { StandsFor scene.now.task.now.domain (L.known scene.now.look.now)
         scene.now.state.now memo.new }
 {
-    let count = scene.look.count(sort);
-    for place in 0..count {
-        env.set(first, scene.look.object(sort, place));
-        let found = some_tuple(scene, memo, depth, first + 1, rest, body, env)?;
+    let lead = lead_for(scene, sort, first, body, env);
+    for place in 0..places(scene, sort, lead) {
+        let tried = tried_object(scene, sort, first, lead, place, env);
+        let found = passes(scene, memo, depth, first, tried, rest, body, env)?;
         if found {
             return Ok(true);
         }
     }
     Ok(false)
+}
+
+/// Whether there is an object that, put into the slot `first`, with objects of the types behind it
+/// makes the body true. The slot may have another object afterwards.
+#[cycle(truth)]
+fn passes<L: Look>(
+    scene: &Scene<'_, L>,
+    memo: &mut Memo,
+    depth: usize,
+    first: u8,
+    tried: Option<Obj>,
+    rest: &[u32],
+    body: &Formula,
+    env: &mut Env,
+) -> Result<bool, AllocError>
+    requires fit { IsFit scene.now.task.now }
+    requires slots { suc (first + length rest.now) ≤ 16 }
+    requires readable { is_readable scene.now.task.now.domain body.now ≡ true }
+    requires rests { AllRest scene.now.task.now.domain depth body.now }
+    requires stands { StandsFor scene.now.task.now.domain (L.known scene.now.look.now)
+        scene.now.state.now memo.old }
+    ensures value { IfOk result (λ found. found ≡ is_passed
+        (λ o. some_at scene.now.task.now.domain (L.known scene.now.look.now) scene.now.state.now
+        (length scene.now.task.now.domain.derived) (first + 1) rest.now body.now
+        (slice_set env.old first o)) tried) }
+    ensures same { (o : ℕ) → slice_set env.new first o ≡ slice_set env.old first o }
+    ensures stands { StandsFor scene.now.task.now.domain (L.known scene.now.look.now)
+        scene.now.state.now memo.new }
+{
+    let Some(object) = tried else {
+        return Ok(false);
+    };
+    env.set(first, object);
+    Ok(some_tuple(scene, memo, depth, first + 1, rest, body, env)?)
 }
 
 /// Whether the atom is true.
@@ -257,7 +286,8 @@ fn derived_atom<L: Look>(
     Ok(value)
 }
 
-/// Whether the derived atom follows by an item, whose body rests on derived predicates at most `depth` deep.
+/// Whether the derived atom follows by an item, whose body rests on derived predicates at most
+/// `depth` deep.
 #[cycle(truth)]
 fn derived<L: Look>(
     scene: &Scene<'_, L>,
@@ -314,11 +344,12 @@ fn follows_by<L: Look>(
     Ok(truth(scene, memo, depth, &item.body, &mut env)?)
 }
 
-/// Whether the condition is true of the task, what is known and the state (PDDL 2.1, and PDDL 2.2 for
-/// derived predicates), the variables having their objects in the slots. The slots are unchanged afterwards.
+/// Whether the condition is true of the task, what is known and the state (PDDL 2.1, and PDDL 2.2
+/// for derived predicates), the variables having their objects in the slots. The slots are
+/// unchanged afterwards.
 ///
-/// What the memo remembers of derived atoms isn't judged again, and what is judged of them is remembered.
-/// Fails only where memory is wanting.
+/// What the memo remembers of derived atoms isn't judged again, and what is judged of them is
+/// remembered. Fails only where memory is wanting.
 pub fn holds_memo<L: Look>(
     task: &Task,
     look: &L,
@@ -339,8 +370,8 @@ pub fn holds_memo<L: Look>(
     truth(&scene, memo, task.domain.derived.len(), formula, env)
 }
 
-/// Whether the condition is true, as `holds_memo` says. Where memory is wanting, what is judged isn't remembered, and
-/// this takes the longer.
+/// Whether the condition is true, as `holds_memo` says. Where memory is wanting, what is judged
+/// isn't remembered, and this takes the longer.
 pub fn holds_with<L: Look>(
     task: &Task,
     look: &L,
@@ -363,8 +394,8 @@ pub fn holds_with<L: Look>(
     }
 }
 
-/// Whether the condition is true, as `holds` of `formula_eval` says: each derived atom is judged once. Where memory is
-/// wanting, it is judged anew wherever it stands, and this takes the longer.
+/// Whether the condition is true, as `holds` of `formula_eval` says: each derived atom is judged
+/// once. Where memory is wanting, it is judged anew wherever it stands, and this takes the longer.
 pub fn holds_once<L: Look>(
     task: &Task,
     look: &L,

@@ -10,8 +10,9 @@ use std::alloc::{AllocError, Global};
 use std::marker::Model;
 use task_model::Atom;
 
-/// Which derived atoms are true, as far as they were judged: each of them is judged once for a task, what is known
-/// of it and a state. It is seen as the list of these atoms, each with whether it is true.
+/// Which derived atoms are true, as far as they were judged: each of them is judged once for a
+/// task, what is known of it and a state. It is seen as the list of these atoms, each with whether
+/// it is true.
 #[derive(Drop)]
 pub struct Memo {
     truths: IndexMap<Atom, bool>,
@@ -27,8 +28,8 @@ impl Model for Memo {
 }
 
 impl Memo {
-    /// The memo in which nothing is remembered: it stands for every task, all that is known of it and every state. It
-    /// takes no memory before something is remembered.
+    /// The memo in which nothing is remembered: it stands for every task, all that is known of it
+    /// and every state. It takes no memory before something is remembered.
     pub fn empty(alloc: Global) -> Memo
         ensures empty { result ≡ [] }
         ensures stands { StandsForAll result }

@@ -1,5 +1,5 @@
 pub mod FilesLemmas
-pub mod FirstFields
+pub mod LinesFieldLemmas
 pub mod GridsLemmas
 pub mod LinesLemmas
 pub mod NumbersLemmas

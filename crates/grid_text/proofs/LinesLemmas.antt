@@ -8,7 +8,7 @@ use Rattle.gen_lines.specs.Lines.{is_feed, open_part, unfinished}
 use Rattle.gen_lines.proofs.LinesLemmas.{lines_none, lines_some}
 use Rattle.lemmas.proofs.Positions.{found_at, not_found, split_whole}
 use Rattle.grid_text.specs.Lines.{lines_in, is_bare, is_passed}
-use Rattle.grid_text.proofs.FirstFields.{behind}
+use Rattle.grid_text.proofs.LinesFieldLemmas.{behind}
 use Rattle.gen_lines.proofs.CuttingLemmas.{open_cons}
 
 rest_some : (bytes : List ℕ) (n : ℕ) → position is_feed bytes ≡ Some n

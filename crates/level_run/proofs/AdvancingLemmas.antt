@@ -6,7 +6,7 @@ use Rattle.lemmas.proofs.Members.{get_append}
 use Rattle.session_core.specs.State.{State}
 use Rattle.task_model.specs.declared.task.Task.{Task}
 use Rattle.transcript_model.proofs.LegalNumberLemmas.{asks_more}
-use Rattle.transcript_model.specs.Legal.{HasNoneOpen, asks_of, is_level, is_mark}
+use Rattle.transcript_model.specs.Legal.{HasNoneOpen, IsLegal, asks_of, is_level, is_mark}
 use Rattle.transcript_model.specs.declared.entry.Entry.{Entry}
 use Rattle.transcript_model.specs.declared.entry.Entry.TheVariants as entry
 use Rattle.transcript_model.specs.declared.head.Head.{Head}
@@ -16,7 +16,7 @@ use Rattle.transcript_model.specs.declared.outcome.Outcome.{Outcome}
 use Rattle.level_run.specs.Advancing.{Advances, Falls, RanTurns, TurnBreaks}
 use Rattle.level_run.specs.Reports.{IsRun}
 use Rattle.level_run.specs.Turns.{HasTurnLine, opens_requests}
-use Rattle.round_run.proofs.BreakingRunLemmas.{levels_broken, marked_breaks, quiet_breaks, stops_then_stops}
+use Rattle.round_run.proofs.BreakingRunLemmas.{levels_broken, marked_breaks, quiet_breaks, run_breaks_as, stops_then_stops}
 use Rattle.round_run.proofs.CallsRunLemmas.{runs_mark, runs_marked, runs_none, runs_then, stops_none}
 use Rattle.round_run.proofs.StoppedLemmas.{goes_then}
 use Rattle.round_run.proofs.TalkingLemmas.{dialogue_told, told_of}
@@ -170,41 +170,42 @@ measure_falls calls asked idle asked_now idle_now (inr (same, less)) within few 
 -- ---- what broke off
 
 -- no call was made
-pub quiet_turn : (task : Task) (head : Head) (e : Entry) → is_mark e ≡ true → (before : List Entry) (fault : RunFault)
-    (log : Option (List Event))
+pub quiet_turn : (task : Task) (head : Head) (Front : List Entry → Type 0) (e : Entry) → is_mark e ≡ true
+    → (before : List Entry) (fault : RunFault) (log : Option (List Event))
     → Tells (HasNoneOpen before) fault [] → (more : List Entry) → (more ≡ []) ⊎ (more ≡ e ∷ [])
-    → TurnBreaks task head before fault log log more
-quiet_turn task head e mark before fault log tells more is =
-    (quiet_breaks task head e mark before fault log tells more is, inl refl)
+    → TurnBreaks task head before fault log log Front more
+quiet_turn task head Front e mark before fault log tells more is =
+    (quiet_breaks task head Front e mark before fault log tells more is, inl refl)
 
 -- behind a mark
-pub marked_turn_breaks : (task : Task) (head : Head) (e : Entry) → is_mark e ≡ true
+pub marked_turn_breaks : (task : Task) (head : Head) (Front : List Entry → Type 0) (e : Entry) → is_mark e ≡ true
     → (before mid front : List Entry) (fault : RunFault) (old new : Option (List Event))
-    → mid ≡ before ++ e ∷ [] → mid ≡ before ++ front → (more : List Entry) → TurnBreaks task head mid fault old new more
-    → TurnBreaks task head before fault old new (front ++ more)
-marked_turn_breaks task head e mark before mid front fault old new marked pushed more (broken, needed) =
-    (marked_breaks task head e mark before mid front fault old new marked pushed more broken, by needed)
+    → mid ≡ before ++ e ∷ [] → mid ≡ before ++ front → (more : List Entry) → TurnBreaks task head mid fault old new Front more
+    → TurnBreaks task head before fault old new Front (front ++ more)
+marked_turn_breaks task head Front e mark before mid front fault old new marked pushed more (broken, needed) =
+    (marked_breaks task head Front e mark before mid front fault old new marked pushed more broken, by needed)
   where
     by : (new ≡ old) ⊎ HasTurnLine head.mode more → (new ≡ old) ⊎ HasTurnLine head.mode (front ++ more)
     by (inl still) = inl still
     by (inr there) = inr (line_behind head.mode front more there)
 
 -- behind a line that requests stand behind
-pub line_breaks : (task : Task) (head : Head) (e : Entry) → is_mark e ≡ true → opens_requests head.mode e ≡ true
-    → (before mid front : List Entry) (fault : RunFault) (old new : Option (List Event))
-    → mid ≡ before ++ e ∷ [] → mid ≡ before ++ front → (more : List Entry) → RunBreaks task head mid fault old new more
-    → TurnBreaks task head before fault old new (front ++ more)
-line_breaks task head e mark opens before mid front fault old new marked pushed more broken = (
-  marked_breaks task head e mark before mid front fault old new marked pushed more broken,
+pub line_breaks : (task : Task) (head : Head) (Front : List Entry → Type 0) (e : Entry) → is_mark e ≡ true
+    → opens_requests head.mode e ≡ true → (before mid front : List Entry) (fault : RunFault) (old new : Option (List Event))
+    → mid ≡ before ++ e ∷ [] → mid ≡ before ++ front → (more : List Entry) → RunBreaks task head mid fault old new Front more
+    → TurnBreaks task head before fault old new Front (front ++ more)
+line_breaks task head Front e mark opens before mid front fault old new marked pushed more broken = (
+  marked_breaks task head Front e mark before mid front fault old new marked pushed more broken,
   inr (line_put head.mode e opens before front more (sym marked ∙ pushed)),
 )
 
 -- behind whole turns
-pub turns_break : (task : Task) (head : Head) (a front : List Entry) (fault : RunFault) (old mid new : Option (List Event))
-    → Advances task head [] a old mid → a ≡ front → (more : List Entry) → TurnBreaks task head a fault mid new more
-    → TurnBreaks task head [] fault old new (front ++ more)
-turns_break task head a front fault old mid new first pushed more (broken, needed) =
-    (levels_broken task head a front fault old mid new first.runs pushed more broken, by first.needed needed)
+pub turns_break : (task : Task) (head : Head) (Front : List Entry → Type 0) (a front : List Entry) (fault : RunFault)
+    (old mid new : Option (List Event))
+    → Advances task head [] a old mid → a ≡ front → (more : List Entry) → TurnBreaks task head a fault mid new Front more
+    → TurnBreaks task head [] fault old new Front (front ++ more)
+turns_break task head Front a front fault old mid new first pushed more (broken, needed) =
+    (levels_broken task head Front a front fault old mid new first.runs pushed more broken, by first.needed needed)
   where
     by : (mid ≡ old) ⊎ HasTurnLine head.mode first.runs.more → (new ≡ mid) ⊎ HasTurnLine head.mode more
         → (new ≡ old) ⊎ HasTurnLine head.mode (front ++ more)
@@ -212,6 +213,14 @@ turns_break task head a front fault old mid new first pushed more (broken, neede
     by (inr there) w =
         inr (line_front head.mode front more (subst (HasTurnLine head.mode) (sym first.runs.pushed ∙ pushed) there))
     by (inl same) (inr there) = inr (line_behind head.mode front more there)
+
+-- the front of one is the front of another
+pub turn_breaks_as : (task : Task) (head : Head) (Other Front : List Entry → Type 0)
+    → ((es : List Entry) → IsLegal head.version task es → Other es → Front es)
+    → (before : List Entry) (fault : RunFault) (old new : Option (List Event)) (more : List Entry)
+    → TurnBreaks task head before fault old new Other more → TurnBreaks task head before fault old new Front more
+turn_breaks_as task head Other Front wider before fault old new more (broken, needed) =
+    (run_breaks_as task head Other Front wider before fault old new more broken, needed)
 
 -- ---- with stops
 

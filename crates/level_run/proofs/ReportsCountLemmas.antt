@@ -11,6 +11,7 @@ use Rattle.transcript_model.specs.Transcript.{names_of, notes_of}
 use Rattle.transcript_model.specs.declared.entry.Entry.{Entry}
 use Rattle.transcript_model.specs.declared.entry.Entry.TheVariants as entry
 use Rattle.transcript_model.specs.declared.head.Head.{Head}
+use Rattle.level_run.specs.Asking.{IsAskedBehind}
 use Rattle.level_run.specs.Turns.{RunsLevel}
 use Rattle.round_run.specs.declared.ending.Batch.{Batch}
 
@@ -72,3 +73,9 @@ level_counts head task before after b (now, pushed, level) =
     let one = ap (count_by is_level) level.is ∙ count_head entry.Level level.rest
     ∙ ap (λ n. 1 + n) (rounds_none task _ level.batch.rounds level.rest level.batch.run) in
     ap (count_by is_level) pushed ∙ count_joined is_level before now ∙ ap (λ n. count_by is_level before + n) one
+
+-- behind a line that is no level's no level stands among its requests and their answers
+pub asked_counts : (head : Head) (task : Task) (before : List Entry) (e : Entry) (list : List Instance) (now : List Entry)
+    → is_level e ≡ false → IsAskedBehind head task before e list now → count_by is_level now ≡ 0
+asked_counts head task before e list now other asked =
+    ap (count_by is_level) asked.is ∙ none_more e asked.rest other (rounds_none task _ asked.batch.rounds asked.rest asked.batch.run)

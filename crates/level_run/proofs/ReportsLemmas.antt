@@ -1,10 +1,14 @@
 -- What a run over a task writes.
-use Rattle.std.proofs.Common.{◌≡◌, ℕ, ◌<◌, ◌≤◌, arith, List, [], count_by, length, Option, refl, sym, subst, ◌⊎◌, inl, inr, IfSome}
-use Rattle.std.proofs.lemmas.List.{append-nil}
+use Rattle.std.proofs.Common.{◌≡◌, ℕ, ◌≤◌, arith, List, [], count_by, length, Option, refl, sym, subst, ◌⊎◌, inl, inr, IfSome, ◌∷◌, ◌+◌, take, ap, ◌∙◌, ◌++◌, append_assoc}
+use Rattle.std.proofs.lemmas.List.{append-nil, length-append}
 use Rattle.std.specs.Io.KnownBytes.{Appends}
+use Rattle.std.specs.List.{flat_map}
+use Rattle.std.proofs.Math.Seq.{take-append-add}
+use Rattle.std.proofs.lemmas.Grind.{flat_map-append}
 use Rattle.task_model.specs.declared.task.Task.{Task}
+use Rattle.lemmas.proofs.Members.{take_append}
 use Rattle.transcript_model.specs.Legal.{IsLegal, asks_of, is_level}
-use Rattle.report_text.specs.Texts.{text_of_head}
+use Rattle.report_text.specs.Texts.{text_of_head, text_of_entry, done_line, line_text, text_of_outcome, text_of_report}
 use Rattle.transcript_model.specs.declared.entry.Entry.{Entry}
 use Rattle.transcript_model.specs.declared.head.Head.{Head}
 use Rattle.transcript_model.specs.declared.outcome.Outcome.{Outcome}
@@ -14,7 +18,7 @@ use Rattle.mode_turns.proofs.CountsLemmas.{turn_keeps, turns_keep}
 use Rattle.mode_turns.proofs.ModesLemmas.{as_family}
 use Rattle.mode_turns.specs.Modes.{TurnOf, nothing_kept}
 use Rattle.transcript_model.specs.Rounds.{limits_of}
-use Rattle.round_run.proofs.StoppedLemmas.{appends_none, appends_then, stops_then}
+use Rattle.round_run.proofs.StoppedLemmas.{appends_none, appends_then, lines_of_one, off_none}
 use Rattle.io_world.specs.Talks.{Event, Same, Talk}
 use Rattle.level_run.proofs.AdvancingLemmas.{needed_more, needed_stops}
 use Rattle.level_run.specs.Advancing.{TurnBreaks}
@@ -22,15 +26,20 @@ use Rattle.round_run.proofs.BreakingRunLemmas.{broken_more, broken_of, levels_br
 use Rattle.round_run.proofs.CallsRunLemmas.{ran_of, ran_stopped, stops_none}
 use Rattle.round_run.specs.Breaking.{LogBroken, RunBreaks}
 use Rattle.round_run.specs.Calls.{LogRan, LogStops, Runs}
-use Rattle.round_run.proofs.TalkingLemmas.{broken_unasked}
+use Rattle.round_run.proofs.TalkingLemmas.{dialogue_unasked}
 use Rattle.round_run.specs.Dialogue.{BrokenOff, Dialogue, IsSaid, replies_of, requests_of, workers_in}
-use Rattle.level_run.specs.Reports.{IsBroken, IsReported, IsRun, WasToWrite, text_of_end, text_so_far, whole_text}
+use Rattle.level_run.specs.Reports.{IsBroken, IsReported, IsRun, WasToWrite, text_of_end, text_so_far, whole_text, TookTo, begins_last, last_begins, report_of}
 use Rattle.round_run.specs.Rolling.{Goes, Stopped}
-use Rattle.round_run.specs.Stops.{Misses}
+use Rattle.round_run.specs.Stops.{Misses, StopsAt}
 use Rattle.level_run.specs.Turns.{HasTurnLine, IsFrontOfRun}
 use Rattle.round_run.specs.declared.fault.RunFault.{RunFault}
 use Rattle.round_run.specs.declared.fault.RunFault.TheVariants.{Answer, Generator, Write, Memory}
 use Rattle.level_run.specs.declared.mode_run.Ran.{Ran}
+
+-- a whole report is the text of one
+pub whole_is : (task : Task) (head : Head) (entries : List Entry) (o : Outcome)
+    → whole_text task head entries o ≡ text_of_report (report_of task head entries o)
+whole_is task head entries o = sym (append_assoc (text_so_far task head entries) (text_of_outcome head.version o) (line_text done_line))
 
 -- no more requests are made than the head's calls
 pub run_calls : (task : Task) (head : Head) (entries : List Entry) (o : Outcome) → IsRun task head entries o
@@ -47,20 +56,13 @@ module _ (task : Task) (head : Head) (spoken : ℕ → Option Talk) where
   front_nil : IsFrontOfRun head task []
   front_nil = run_between head task nothing_kept [] (standing_first head task) legal_nil
 
-  talks_nil : BrokenOff task head.version (workers_in head) [] spoken
-  talks_nil = broken_unasked task head.version (workers_in head) [] spoken refl legal_nil
+  abbrev Front : List Entry → Type 0
+  Front = IsFrontOfRun head task
 
-  -- what was said is the dialogue of the whole transcript
-  talks_whole : (entries : List Entry) → IsLegal head.version task entries
-      → Dialogue task head.version (workers_in head) entries spoken
-      → BrokenOff task head.version (workers_in head) entries spoken
-  talks_whole entries legal talks = record {
-    next = [];
-    few = omega arith;
-    legal = subst (IsLegal head.version task) (sym (append-nil entries)) legal;
-    count = 0;
-    said = λ child one some. talks child one (subst (λ es. 0 < length (requests_of task (workers_in head) es)) (append-nil entries) some);
-  }
+  talks_nil : (fault : RunFault) → BrokenOff task head.version (workers_in head) Front fault [] spoken
+  talks_nil fault =
+      off_none head.version task (workers_in head) Front fault [] spoken legal_nil front_nil
+      (dialogue_unasked task head.version (workers_in head) [] spoken refl)
 
   -- the head alone
   only_head : text_of_head task head ≡ text_so_far task head []
@@ -87,12 +89,12 @@ module _ (task : Task) (head : Head) (spoken : ℕ → Option Talk) where
       entries = [];
       front = front_nil;
       blamed = tt;
-      talks = talks_nil;
-      calls = broken_of task head [] Write log log (still_breaks task head [] Write log refl);
+      talks = talks_nil Write;
+      calls = broken_of task head Front [] Write log log (still_breaks task head Front [] Write log refl);
       needed = inl (stops_none log);
       is = only_head;
     }));
-    told = misses;
+    told = (misses.0, omega arith, misses.1, misses.2);
   }
 
   -- the head was written, and then no memory was there
@@ -105,13 +107,47 @@ module _ (task : Task) (head : Head) (spoken : ℕ → Option Talk) where
           entries = [];
           front = front_nil;
           blamed = tt;
-          talks = talks_nil;
-          calls = broken_of task head [] Memory log log (still_breaks task head [] Memory log (inl (refl, λ n. refl)));
+          talks = talks_nil Memory;
+          calls = broken_of task head Front [] Memory log log (still_breaks task head Front [] Memory log (inl (refl, λ n. refl)));
           needed = inl (stops_none log);
           is = only_head;
         }));
         told = told;
       })
+
+  -- the last entry's lines begin behind those of the others
+  last_at : (entries done : List Entry) (last : Entry) → entries ≡ done ++ last ∷ []
+      → last_begins task head entries ≤ length (text_so_far task head done)
+  last_at [] done last is = omega arith
+  last_at (e ∷ es) done last is =
+      let long : length es ≡ length done = omega (arith, ap length is, length-append done (last ∷ [])) in
+      let front : take (length es) (e ∷ es) ≡ done = (λ i. take (long i) (is i)) ∙ take_append done (last ∷ []) in
+      omega (arith, ap (λ xs. length (text_so_far task head xs)) front)
+
+  took_turns : (fault : RunFault) (more : List Entry) (old mid new : Option (List ℕ))
+      → Appends old mid (text_of_head task head) → StopsAt fault mid new more
+      → TookTo (last_begins task head more) fault old new (text_so_far task head more)
+  took_turns Generator more old mid new first told = appends_then old mid new _ _ first told
+  took_turns Memory more old mid new first told = appends_then old mid new _ _ first told
+  took_turns (Answer number why) more old mid new first told = appends_then old mid new _ _ first told
+  took_turns Write more old mid new first c =
+      let begun = text_so_far task head c.done in
+      let cut = text_of_entry c.last in
+      let parts : text_so_far task head more ≡ begun ++ cut =
+      ap (text_so_far task head) c.is
+      ∙ ap (λ bytes. text_of_head task head ++ bytes)
+      (flat_map-append text_of_entry c.done (c.last ∷ [])
+      ∙ ap (λ bytes. flat_map text_of_entry c.done ++ bytes) (lines_of_one c.last))
+      ∙ sym (append_assoc (text_of_head task head) (flat_map text_of_entry c.done) cut) in
+      let taken : text_of_head task head ++ (flat_map text_of_entry c.done ++ take c.count cut)
+      ≡ take (length begun + c.count) (text_so_far task head more) =
+      sym (append_assoc (text_of_head task head) (flat_map text_of_entry c.done) (take c.count cut))
+      ∙ sym (take-append-add begun cut c.count) ∙ ap (take (length begun + c.count)) (sym parts) in (
+        length begun + c.count,
+        omega (arith, last_at more c.done c.last c.is),
+        omega (arith, c.less, ap length parts, length-append begun cut),
+        subst (Appends old new) taken (appends_then old mid new _ _ first c.took),
+      )
 
   -- the head was written, and the turns stopped
   pub broken_turns : (fault : RunFault) (was now : Option (List Event)) (old mid new : Option (List ℕ))
@@ -126,11 +162,11 @@ module _ (task : Task) (head : Head) (spoken : ℕ → Option Talk) where
       front = stopped.front;
       blamed = stopped.blamed;
       talks = stopped.talks;
-      calls = broken_of task head stopped.more fault was now stopped.logged.0;
+      calls = broken_of task head Front stopped.more fault was now stopped.logged.0;
       needed = needed_stops head.mode stopped.more was now stopped.logged.1;
       is = refl;
     }));
-    told = stops_then fault old mid new _ _ first stopped.told;
+    told = took_turns fault stopped.more old mid new first stopped.told;
   }
 
   -- the lines of the head and of the entries were written
@@ -154,9 +190,9 @@ module _ (task : Task) (head : Head) (spoken : ℕ → Option Talk) where
         text = text_so_far task head entries;
         form = inr (inl (record {
           entries = entries;
-          front = record { stage = run.stage; turns = record { legal = run.legal; turns = run.turns }; lazy = run.lazy };
+          front = front;
           blamed = tt;
-          talks = talks_whole entries run.legal talks;
+          talks = off_none head.version task (workers_in head) Front Memory entries spoken run.legal front talks;
           calls = ended;
           needed = needed_stops head.mode entries was now needed;
           is = refl;
@@ -165,10 +201,13 @@ module _ (task : Task) (head : Head) (spoken : ℕ → Option Talk) where
             (appends_then old mid new (text_so_far task head entries) [] first misses);
       }
     where
-      ended : LogBroken task head entries Memory was now
-      ended = broken_of task head entries Memory was now (subst (RunBreaks task head [] Memory was now) (append-nil entries)
-          (levels_broken task head entries entries Memory was now now runs refl []
-          (still_breaks task head entries Memory now (inl (refl, run.closed)))))
+      front : Front entries
+      front = record { stage = run.stage; turns = record { legal = run.legal; turns = run.turns }; lazy = run.lazy }
+
+      ended : LogBroken task head Front entries Memory was now
+      ended = broken_of task head Front entries Memory was now (subst (RunBreaks task head [] Memory was now Front) (append-nil entries)
+          (levels_broken task head Front entries entries Memory was now now runs refl []
+          (still_breaks task head Front entries Memory now (inl (refl, run.closed)))))
   broken_end entries o Write was now old mid new run talks runs needed first misses =
       record {
         text = whole_text task head entries o;
@@ -183,7 +222,13 @@ module _ (task : Task) (head : Head) (spoken : ℕ → Option Talk) where
             is = refl;
           },
         ));
-        told = stops_then Write old mid new (text_so_far task head entries) (text_of_end head.version o) first misses;
+        told = (
+          length (text_so_far task head entries) + misses.0,
+          omega arith,
+          omega (arith, misses.1, length-append (text_so_far task head entries) (text_of_end head.version o)),
+          subst (Appends old new) (sym (take-append-add (text_so_far task head entries) (text_of_end head.version o) misses.0))
+              (appends_then old mid new _ _ first misses.2),
+        );
       }
 
   pub reported : (entries : List Entry) (o : Outcome) (levels asks : ℕ) (was now : Option (List Event)) (old mid new : Option (List ℕ))
@@ -224,34 +269,38 @@ pub broken_stopped : (task : Task) (head : Head) (spoken later : ℕ → Option 
     (was now after : Option (List Event)) (old new : Option (List ℕ)) (fault : RunFault)
     → Same spoken later → LogStops now after → IsBroken task head spoken was now old new fault
     → IsBroken task head later was after old new fault
-broken_stopped task head spoken later was now after old new fault same stops b = record {
-  text = b.text;
-  form = subst (λ s. WasToWrite task head fault s was after b.text) (λ i. λ k. sym (same k) i) (of b.form);
-  told = b.told;
-}
+broken_stopped task head spoken later was now after old new fault same stops b =
+    subst (λ s. IsBroken task head s was after old new fault) (λ i. λ k. sym (same k) i) (by b.form b.told)
   where
-    of : {text : List ℕ} → WasToWrite task head fault spoken was now text
-        → WasToWrite task head fault spoken was after text
-    of (inl (is, none, before)) = inl (is, none, stops_then_stops was now after before stops)
-    of (inr (inl p)) =
-        inr (inl (record {
-          entries = p.entries;
-          front = p.front;
-          blamed = p.blamed;
-          talks = p.talks;
-          calls = broken_more task head p.entries fault was now after p.calls stops;
-          needed = needed_more head.mode p.entries was now after p.needed stops;
-          is = p.is;
-        }))
-    of (inr (inr (is, w))) =
-        inr (inr (
-          is,
-          record {
-            entries = w.entries;
-            outcome = w.outcome;
-            run = w.run;
-            talks = w.talks;
-            calls = ran_stopped task head w.entries was now after w.calls stops;
-            is = w.is;
-          },
-        ))
+    by : (form : WasToWrite task head fault spoken was now b.text) → TookTo (begins_last form) fault old new b.text
+        → IsBroken task head spoken was after old new fault
+    by (inl (is, none, before)) told =
+        record { text = b.text; form = inl (is, none, stops_then_stops was now after before stops); told = told }
+    by (inr (inl p)) told = record {
+      text = b.text;
+      form = inr (inl (record {
+        entries = p.entries;
+        front = p.front;
+        blamed = p.blamed;
+        talks = p.talks;
+        calls = broken_more task head (IsFrontOfRun head task) p.entries fault was now after p.calls stops;
+        needed = needed_more head.mode p.entries was now after p.needed stops;
+        is = p.is;
+      }));
+      told = told;
+    }
+    by (inr (inr (is, w))) told = record {
+      text = b.text;
+      form = inr (inr (
+        is,
+        record {
+          entries = w.entries;
+          outcome = w.outcome;
+          run = w.run;
+          talks = w.talks;
+          calls = ran_stopped task head w.entries was now after w.calls stops;
+          is = w.is;
+        },
+      ));
+      told = told;
+    }

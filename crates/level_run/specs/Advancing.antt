@@ -34,10 +34,10 @@ pub record Advances (task : Task) (head : Head) (before after : List Entry)
 
 -- The same where it broke off: a call was made only where such a line stands.
 abbrev pub TurnBreaks : Task → Head → List Entry → RunFault → Option (List Event)
-    → Option (List Event) → List Entry
+    → Option (List Event) → (List Entry → Type 0) → List Entry
     → Type 0
-TurnBreaks task head before fault old new more =
-    RunBreaks task head before fault old new more × ((new ≡ old) ⊎ HasTurnLine head.mode more)
+TurnBreaks task head before fault old new Front more =
+    RunBreaks task head before fault old new Front more × ((new ≡ old) ⊎ HasTurnLine head.mode more)
 
 -- ---- one turn
 

@@ -1,16 +1,28 @@
 -- Requests behind a line that may have some behind it.
-use Rattle.std.specs.Prelude.{◌≡◌, ◌<◌, List, [], ◌∷◌, ◌++◌, length}
+use Rattle.std.specs.Prelude.{◌≡◌, ◌<◌, List, [], ◌∷◌, ◌++◌, length, true}
 use Rattle.instance_queue.specs.Level.{instances_of}
 use Rattle.instance_queue.specs.declared.due.Due.{Due}
+use Rattle.level_run.specs.Turns.{opens_requests}
 use Rattle.round_run.specs.Batches.{EndsBatch}
 use Rattle.round_run.specs.Rolling.{IsFrontPart}
 use Rattle.round_run.specs.declared.ending.Batch.{Batch}
+use Rattle.session_core.specs.Ready.{AreReady}
 use Rattle.session_core.specs.State.{State}
 use Rattle.task_model.specs.declared.stream.Instance.{Instance}
 use Rattle.task_model.specs.declared.task.Task.{Task}
+use Rattle.transcript_model.specs.Legal.{is_mark}
 use Rattle.transcript_model.specs.Rounds.{IsBatch, limits_of}
 use Rattle.transcript_model.specs.declared.entry.Entry.{Entry}
 use Rattle.transcript_model.specs.declared.head.Head.{Head}
+
+-- Requests may stand behind this entry, which is neither a request nor an answer; these instances are due, one at least,
+-- and a call is left.
+pub record MayAskBehind (task : Task) (head : Head) (entry : Entry) (dues : List Due) (s : State) : Type 0 where
+  pub mark : is_mark entry ≡ true
+  pub opens : opens_requests head.mode entry ≡ true
+  pub ready : AreReady task s.entries dues
+  pub some : 0 < length dues
+  pub left : length s.asked < head.calls
 
 -- This entry, and behind it a batch of these instances.
 pub record IsAskedBehind (head : Head) (task : Task) (before : List Entry) (entry : Entry) (list : List Instance)

@@ -1,5 +1,6 @@
 -- What a run over a task writes.
-use Rattle.std.specs.Prelude.{◌≡◌, ◌⊎◌, ℕ, ◌<◌, List, [], ◌++◌, length, All, Option, count_by}
+use Rattle.std.specs.Prelude.{◌≡◌, ◌⊎◌, ℕ, ◌<◌, ◌≤◌, List, [], ◌∷◌, ◌++◌, length, map, take, All, Option, count_by}
+use Rattle.std.proofs.Common.{inl, inr}
 use Rattle.std.specs.Io.KnownBytes.{Appends}
 use Rattle.std.specs.List.{flat_map}
 use Rattle.mode_turns.specs.Lazy.{IsFewDue, IsLazy, IsLazyEnd}
@@ -7,21 +8,21 @@ use Rattle.task_model.specs.declared.task.Task.{Task}
 use Rattle.transcript_model.specs.Legal.{HasNoneOpen, IsLegal, asks_of, is_level}
 use Rattle.transcript_model.specs.Outcomes.{MayStand}
 use Rattle.transcript_model.specs.Rounds.{limits_of}
-use Rattle.report_text.specs.Texts.{done_line, line_text, text_of_entry, text_of_head, text_of_outcome}
+use Rattle.report_text.specs.Texts.{done_line, line_text, shown_pool, text_of_entry, text_of_head, text_of_outcome}
 use Rattle.transcript_model.specs.Turns.{AreTurnsOf, Stage}
 use Rattle.transcript_model.specs.declared.entry.Entry.{Entry}
 use Rattle.transcript_model.specs.declared.head.Head.{Head}
 use Rattle.transcript_model.specs.declared.head.Pool.{Pool}
 use Rattle.transcript_model.specs.declared.outcome.Outcome.{Outcome}
+use Rattle.transcript_model.specs.declared.report.Report.{Report}
 use Rattle.io_world.specs.Talks.{Event, Talk}
 use Rattle.round_run.specs.Breaking.{LogBroken}
 use Rattle.round_run.specs.Calls.{LogRan, LogStops}
 use Rattle.round_run.specs.Dialogue.{BrokenOff, Dialogue, workers_in}
 use Rattle.round_run.specs.Rolling.{Blames}
-use Rattle.round_run.specs.Stops.{StopsAt}
 use Rattle.level_run.specs.Turns.{HasTurnLine, IsFrontOfRun, IsSure}
 use Rattle.round_run.specs.declared.fault.RunFault.{RunFault}
-use Rattle.round_run.specs.declared.fault.RunFault.TheVariants.{Write, Memory}
+use Rattle.round_run.specs.declared.fault.RunFault.TheVariants.{Answer, Generator, Write, Memory}
 use Rattle.level_run.specs.declared.mode_run.Ran.{Ran}
 
 -- the streams of the head's pools are the task's
@@ -42,6 +43,20 @@ text_so_far task head entries = text_of_head task head ++ flat_map text_of_entry
 -- a whole report
 abbrev pub whole_text : Task → Head → List Entry → Outcome → List ℕ
 whole_text task head entries o = text_so_far task head entries ++ text_of_end head.version o
+
+-- a run's report, if this is its outcome
+abbrev pub report_of : Task → Head → List Entry → Outcome → Report
+report_of task head entries o =
+    record {
+      version = head.version;
+      mode = head.mode;
+      calls = head.calls;
+      states = head.states;
+      depth = head.depth;
+      pools = map (shown_pool task) head.pools;
+      entries = entries;
+      outcome = o;
+    }
 
 -- ---- what was written
 
@@ -73,15 +88,15 @@ pub record IsReported (task : Task) (head : Head) (spoken : ℕ → Option Talk)
 
 -- The lines of the head and of a legal transcript of whole turns, the last of which may stop at any entry. In it the
 -- request that is blamed is open, if one is; the dialogue was this, and the calls were those of the entries, up to
--- where the run broke off. Where no line stands that may have
+-- where the run broke off: a request more, if one was begun, is the next of the run. Where no line stands that may have
 -- requests behind it no child was started.
 pub record IsPart (task : Task) (head : Head) (fault : RunFault)
     (spoken : ℕ → Option Talk) (was now : Option (List Event)) (text : List ℕ) : Type 0 where
   pub entries : List Entry
   pub front : IsFrontOfRun head task entries
   pub blamed : Blames head.version task (workers_in head) spoken fault entries
-  pub talks : BrokenOff task head.version (workers_in head) entries spoken
-  pub calls : LogBroken task head entries fault was now
+  pub talks : BrokenOff task head.version (workers_in head) (IsFrontOfRun head task) fault entries spoken
+  pub calls : LogBroken task head (IsFrontOfRun head task) entries fault was now
   pub needed : LogStops was now ⊎ HasTurnLine head.mode entries
   pub is : text ≡ text_so_far task head entries
 
@@ -103,9 +118,30 @@ WasToWrite task head fault spoken was now text =
     ((fault ≡ Memory) × (text ≡ []) × LogStops was now) ⊎ IsPart task head fault spoken was now text
     ⊎ ((fault ≡ Write) × IsWholeReport task head spoken was now text)
 
--- A run had no outcome. All that was to be written was written; but a fault of the sink left some of it out at the end.
+-- where the lines of the last entry begin, among those of the head and of the entries; and those of the head, where
+-- there is no entry
+abbrev pub last_begins : Task → Head → List Entry → ℕ
+last_begins task head [] = 0
+last_begins task head (e ∷ es) = length (text_so_far task head (take (length es) (e ∷ es)))
+
+-- where the lines begin that were to be written last: those of the last entry, or of the outcome
+abbrev pub begins_last : {task : Task} {head : Head} {fault : RunFault} {spoken : ℕ → Option Talk}
+    {was now : Option (List Event)} {text : List ℕ} → WasToWrite task head fault spoken was now text → ℕ
+begins_last (inl nothing) = 0
+begins_last {task} {head} (inr (inl part)) = last_begins task head part.entries
+begins_last {task} {head} (inr (inr (failed, whole))) = length (text_so_far task head whole.entries)
+
+-- The sink took the text; but a fault of the sink left out some of it behind this place.
+abbrev pub TookTo : ℕ → RunFault → Option (List ℕ) → Option (List ℕ) → List ℕ → Type 0
+TookTo place Write old new text = (n : ℕ) × (place ≤ n) × (n < length text) × Appends old new (take n text)
+TookTo place Generator old new text = Appends old new text
+TookTo place Memory old new text = Appends old new text
+TookTo place (Answer number why) old new text = Appends old new text
+
+-- A run had no outcome. All that was to be written was written; but a fault of the sink left out the end of the last
+-- lines, and nothing was to be written behind them.
 pub record IsBroken (task : Task) (head : Head) (spoken : ℕ → Option Talk)
     (was now : Option (List Event)) (old new : Option (List ℕ)) (fault : RunFault) : Type 0 where
   pub text : List ℕ
   pub form : WasToWrite task head fault spoken was now text
-  pub told : StopsAt fault old new text
+  pub told : TookTo (begins_last form) fault old new text

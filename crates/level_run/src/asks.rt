@@ -1,17 +1,14 @@
 //! Requests behind a line that may have some behind it.
-ghost use Rattle.std.specs.Prelude.{◌≡◌, ◌<◌, true, length, IfOk, IfErr, OnOk};
+ghost use Rattle.std.specs.Prelude.{IfOk, IfErr, OnOk};
 ghost use Rattle.instance_queue.specs.Level.{instances_of};
 ghost use Rattle.io_world.specs.Talks.{Same};
 ghost use Rattle.level_run.specs.Advancing.{Advances, TurnBreaks};
-ghost use Rattle.level_run.specs.Asking.{IsFrontBehind, RanBehind};
-ghost use Rattle.level_run.specs.Turns.{opens_requests};
+ghost use Rattle.level_run.specs.Asking.{IsFrontBehind, MayAskBehind, RanBehind};
 ghost use Rattle.round_run.specs.Batches.{IsRunnable};
 ghost use Rattle.round_run.specs.Dialogue.{workers_in};
 ghost use Rattle.round_run.specs.Held.{is_child_running};
 ghost use Rattle.round_run.specs.Resting.{AreCaused, GoesInOrder, Rests};
 ghost use Rattle.round_run.specs.Rolling.{Stopped};
-ghost use Rattle.session_core.specs.Ready.{AreReady};
-ghost use Rattle.transcript_model.specs.Legal.{is_mark};
 
 use crate::marks::mark;
 use instance_queue::Due;
@@ -21,12 +18,13 @@ use session_core::Session;
 use task_model::Task;
 use transcript_model::{Entry, Head};
 
-/// Puts an entry behind the transcript that requests may follow, a `level` or a dream, and asks these instances behind it, which
-/// are due, one at least, as long as calls are left.
+/// Puts an entry behind the transcript that requests may follow, a `level` or a dream, and asks
+/// these instances behind it, which are due, one at least, as long as calls are left.
 ///
 /// # Errors
-/// `Answer` where the line that answers a request is no answer; `Generator` and `Write` only where the host's or the sink's
-/// count of faults rose in this call; `Memory`. Afterwards the session may only be looked at.
+/// `Answer` where the line that answers a request is no answer; `Generator` and `Write` only where
+/// the host's or the sink's count of faults rose in this call; `Memory`. Afterwards the session may
+/// only be looked at.
 pub fn ask_behind<H: Host, O: Sink>(
     task: &Task,
     head: &Head,
@@ -40,9 +38,7 @@ pub fn ask_behind<H: Host, O: Sink>(
     requires runnable { IsRunnable task.now head.now }
     requires rests { Rests task.now head.now session.old lines.old (H.running host.old)
         (H.spoken host.old) }
-    requires line { (is_mark entry ≡ true) × (opens_requests head.now.mode entry ≡ true) }
-    requires ready { AreReady task.now session.old.entries dues.now }
-    requires asks { (0 < length dues.now) × (length session.old.asked < head.now.calls) }
+    requires may { MayAskBehind task.now head.now entry dues.now session.old }
     ensures rests { OnOk result (Rests task.now head.now session.new lines.new (H.running host.new)
         (H.spoken host.new)) }
     ensures ran { IfOk result (RanBehind task.now head.now entry dues.now session.old session.new) }

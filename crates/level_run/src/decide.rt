@@ -28,7 +28,8 @@ pub enum Decision {
     Asks(Vec<Due>),
 }
 
-/// What is to be done next: a plan, a limit or that there is no plan ends the run; else what is due is asked.
+/// What is to be done next: a plan, a limit or that there is no plan ends the run; else what is due
+/// is asked.
 pub(crate) fn decide(
     alloc: Global,
     task: &Task,
@@ -57,7 +58,8 @@ pub(crate) fn decide(
     }
 }
 
-/// What is to be done where each plan is past the limit of states: in incremental mode the run ends.
+/// What is to be done where each plan is past the limit of states: in incremental mode the run
+/// ends.
 fn decide_far(task: &Task, head: &Head, session: &Session) -> Result<Decision, RunFault>
     requires runnable { IsRunnable task.now head.now }
     requires session { IsSession task.now session.now }

@@ -50,12 +50,14 @@ impl Turns for Levels {
     }
 }
 
-/// Solves a task in incremental mode and writes the report: while no plan exists over what is known, all that is due is asked,
-/// level by level. No child runs before, and none afterwards; that a child fails to stop changes nothing.
+/// Solves a task in incremental mode and writes the report: while no plan exists over what is
+/// known, all that is due is asked, level by level. No child runs before, and none afterwards; that
+/// a child fails to stop changes nothing.
 ///
 /// # Errors
-/// `Answer` where the line that answers a request is no answer, with the request's number; `Generator` and `Write` only where
-/// the host's or the sink's count of faults rose in this call; `Memory`. The lines that were written stay.
+/// `Answer` where the line that answers a request is no answer, with the request's number;
+/// `Generator` and `Write` only where the host's or the sink's count of faults rose in this call;
+/// `Memory`. The lines that were written stay.
 pub fn incremental<H: Host, O: Sink>(
     alloc: Global,
     task: &Task,

@@ -52,12 +52,13 @@ pub(crate) fn run_level<H: Host, O: Sink>(
     ask_behind(task, head, session, lines, host, out, Entry::Level, dues)
 }
 
-/// Goes on behind a `none`, which was printed: where something was tried (`is_tried`), that is forgotten, and else a whole level is
-/// asked, of these instances, which are due.
+/// Goes on behind a `none`, which was printed: where something was tried (`is_tried`), that is
+/// forgotten, and else a whole level is asked, of these instances, which are due.
 ///
 /// # Errors
-/// `Answer` where the line that answers a request is no answer; `Generator` and `Write` only where the host's or the sink's
-/// count of faults rose in this call; `Memory`. Afterwards the session may only be looked at.
+/// `Answer` where the line that answers a request is no answer; `Generator` and `Write` only where
+/// the host's or the sink's count of faults rose in this call; `Memory`. Afterwards the session may
+/// only be looked at.
 pub fn fall_back<H: Host, O: Sink>(
     task: &Task,
     head: &Head,

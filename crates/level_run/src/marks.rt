@@ -17,11 +17,12 @@ use round_run::{RunFault, print_entry};
 use session_core::Session;
 use transcript_model::Entry;
 
-/// Puts an entry behind the transcript that is neither a request nor an answer, and writes its lines. Memory is taken before
-/// the first of them is written.
+/// Puts an entry behind the transcript that is neither a request nor an answer, and writes its
+/// lines. Memory is taken before the first of them is written.
 ///
 /// # Errors
-/// `Write` only where the sink's count of faults rose in this call; `Memory`, and then nothing was written.
+/// `Write` only where the sink's count of faults rose in this call; `Memory`, and then nothing was
+/// written.
 pub fn mark<O: Sink>(session: &mut Session, out: &mut O, entry: Entry) -> Result<(), RunFault>
     requires mark { is_mark entry ≡ true }
     requires working { session.old.failed ≡ false }
@@ -37,7 +38,7 @@ pub fn mark<O: Sink>(session: &mut Session, out: &mut O, entry: Entry) -> Result
         → IfErr result (λ fault. Stopped session.old.version task session.old.pools
         (λ es. (es ≡ session.old.entries) ⊎ (es ≡ session.old.entries ++ entry ∷ []))
         session.old.entries fault (O.taken out.old) (O.taken out.new) spoken
-        (λ more. (more ≡ []) ⊎ (more ≡ entry ∷ []))) }
+        (λ Front more. (more ≡ []) ⊎ (more ≡ entry ∷ []))) }
     ensures only { IfErr result MayWrite }
     ensures cause { HasCause Write last_count (O.faults out.old) (O.faults out.new) result }
 {

@@ -90,12 +90,13 @@ fn report<M: Turns, H: Host, O: Sink>(
     })
 }
 
-/// Solves a task in the mode, which is fresh, and writes the report. No child runs before, and none afterwards; that a child
-/// fails to stop changes nothing.
+/// Solves a task in the mode, which is fresh, and writes the report. No child runs before, and none
+/// afterwards; that a child fails to stop changes nothing.
 ///
 /// # Errors
-/// `Answer` where the line that answers a request is no answer, with the request's number; `Generator` and `Write` only where
-/// the host's or the sink's count of faults rose in this call; `Memory`. The lines that were written stay.
+/// `Answer` where the line that answers a request is no answer, with the request's number;
+/// `Generator` and `Write` only where the host's or the sink's count of faults rose in this call;
+/// `Memory`. The lines that were written stay.
 pub fn run_mode<M: Turns, H: Host, O: Sink>(
     alloc: Global,
     task: &Task,

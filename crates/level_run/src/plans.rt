@@ -11,8 +11,8 @@ use std::alloc::{AllocError, Global};
 use task_model::{Plan, Task};
 use transcript_model::{Head, Outcome};
 
-/// The outcome of a run that ends with this plan, which is valid by what is known at this cost and has at most as many steps as
-/// a search may have states. Fails only where memory is wanting.
+/// The outcome of a run that ends with this plan, which is valid by what is known at this cost and
+/// has at most as many steps as a search may have states. Fails only where memory is wanting.
 pub fn known_plan(
     alloc: Global,
     task: &Task,

@@ -3,7 +3,7 @@ ghost use Rattle.std.specs.Prelude.{◌≡◌, ◌<◌, IfErr, OnOk};
 ghost use Rattle.std.specs.Io.KnownBytes.{Appends};
 ghost use Rattle.io_world.specs.Faults.{last_count, HasCause};
 ghost use Rattle.level_run.specs.Reports.{AreStreamsOf, text_of_end};
-ghost use Rattle.round_run.specs.Stops.{StopsAt, Misses, MayWrite};
+ghost use Rattle.round_run.specs.Stops.{MayWrite, Misses};
 ghost use Rattle.round_run.specs.declared.fault.RunFault.TheVariants.{Write};
 ghost use Rattle.report_text.specs.Texts.{text_of_head};
 
@@ -17,7 +17,7 @@ use transcript_model::{Head, Outcome};
 /// Writes these bytes to the sink.
 fn print<O: Sink>(out: &mut O, bytes: &[u8]) -> Result<(), RunFault>
     ensures all { OnOk result (Appends (O.taken out.old) (O.taken out.new) bytes.now) }
-    ensures part { IfErr result (λ fault. StopsAt fault (O.taken out.old) (O.taken out.new)
+    ensures part { IfErr result (λ fault. Misses fault (O.taken out.old) (O.taken out.new)
         bytes.now) }
     ensures only { IfErr result (λ fault. fault ≡ Write) }
     ensures cause { HasCause Write last_count (O.faults out.old) (O.faults out.new) result }

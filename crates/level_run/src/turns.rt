@@ -42,8 +42,9 @@ pub trait Turns {
     /// Does a turn, where these instances are due.
     ///
     /// # Errors
-    /// `Answer` where the line that answers a request is no answer; `Generator` and `Write` only where the host's or the sink's
-    /// count of faults rose in this call; `Memory`. Afterwards the session may only be looked at.
+    /// `Answer` where the line that answers a request is no answer; `Generator` and `Write` only
+    /// where the host's or the sink's count of faults rose in this call; `Memory`. Afterwards the
+    /// session may only be looked at.
     fn turn<H: Host, O: Sink>(
         &mut self,
         alloc: Global,

@@ -5,7 +5,7 @@ use Rattle.std.proofs.lemmas.Option.{slice_get_within, slice_get_cases, get_or_f
 use Rattle.task_model.specs.declared.domain.Declared as declared
 use Rattle.task_model.specs.declared.domain.Signature.{Signature}
 use Rattle.name_tables.specs.Declarations.{declared_list, signature_list}
-use Rattle.name_tables.specs.Names.{name_at}
+use Rattle.task_model.specs.Streams.{name_at}
 
 drop_step : {A : Type 0} (xs : List A) (i : ℕ) (x : A) → slice_get xs i ≡ Some x
     → drop i xs ≡ x ∷ drop (i + 1) xs

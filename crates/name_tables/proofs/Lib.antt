@@ -17,6 +17,8 @@ pub mod FitGroups
 pub mod FitTerms
 pub mod FitConditions
 pub mod GraphsOrderLemmas
+pub mod GraphsSortLemmas
+pub mod DeclarationsPutLemmas
 pub mod FitDeclared
 pub mod FitVocabulary
 pub mod OneTreeLemmas

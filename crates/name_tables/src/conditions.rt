@@ -14,8 +14,8 @@ use form_reader::{ConditionHead, Fault, condition_head_of};
 use sexpr_text::{Front, Tree, front_of};
 use std::alloc::{AllocError, Global};
 
-/// The condition that the list at this place is, with these variables in scope. Fails only where memory is wanting, and
-/// else leaves the scope as it was.
+/// The condition that the list at this place is, with these variables in scope. Fails only where
+/// memory is wanting, and else leaves the scope as it was.
 #[cycle(names)]
 pub fn check_condition(
     alloc: Global,

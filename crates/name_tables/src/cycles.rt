@@ -44,7 +44,8 @@ fn check_cycle(
     ))
 }
 
-/// Adds a fault of this kind for each candidate that is on a cycle. Fails only where memory is wanting.
+/// Adds a fault of this kind for each candidate that is on a cycle. Fails only where memory is
+/// wanting.
 pub fn check_cycles(
     alloc: Global,
     kind: InputKind,

@@ -6,38 +6,20 @@ ghost use Rattle.name_tables.specs.Declarations as specs;
 ghost use Rattle.name_tables.specs.Declarations.{declare_each};
 ghost use Rattle.name_tables.specs.Variables.{named_sorts as sorts_in, named_words};
 
-use crate::graph::add_ascending;
 use crate::names::NameTable;
+use crate::number_lists::NumberLists;
 use crate::variables::{is_named, named_sorts};
 use form_reader::Spot;
 use sexpr_text::{Front, Tree, front_of};
 use std::alloc::{AllocError, Global};
 use std::marker::Model;
-use task_model::{Declared, Name, Seq};
-
-/// Adds a number to the list at this place, if there is one. Fails only where memory is wanting.
-pub fn put_number(
-    alloc: Global,
-    lists: &mut Vec<Seq<u32>>,
-    place: usize,
-    number: u32,
-) -> Result<(), AllocError>
-    ensures { OnOk result (lists.new.items ≡ specs.number_put lists.old.items place number) }
-{
-    let Some(old) = lists.get(place) else {
-        return Ok(());
-    };
-    let mut list = Vec::from_slice(alloc, old.as_slice())?;
-    add_ascending(&mut list, number)?;
-    lists[place] = Seq::from_vec(list);
-    Ok(())
-}
+use task_model::{Declared, Name};
 
 /// Distinct names in the order in which they came, each with its types.
 #[derive(Drop)]
 pub struct TypedNames {
     names: NameTable,
-    sorts: Vec<Seq<u32>>,
+    sorts: NumberLists,
     alloc: Global,
 }
 
@@ -46,7 +28,7 @@ impl Model for TypedNames {
 
     ghost Value = { Typed };
 
-    ghost view = { λ t. record { names = t.names; sorts = t.sorts.items } };
+    ghost view = { λ t. record { names = t.names; sorts = t.sorts } };
 }
 
 impl TypedNames {
@@ -56,23 +38,23 @@ impl TypedNames {
     {
         TypedNames {
             names: NameTable::new(alloc),
-            sorts: Vec::new(alloc),
+            sorts: NumberLists::new(alloc),
             alloc,
         }
     }
 
-    /// Declares a name with a type. A name that is declared again has both types. Fails only where memory is wanting.
+    /// Declares a name with a type. A name that is declared again has both types. Fails only where
+    /// memory is wanting.
     pub fn declare(&mut self, name: &[u8], sort: u32) -> Result<(), AllocError>
         ensures { OnOk result (self.new ≡ specs.declare self.old name.now sort) }
     {
         match self.names.place_of(name) {
-            Some(place) => put_number(self.alloc, &mut self.sorts, place, sort),
+            Some(place) => self.sorts.add(place, sort),
             None => {
                 let mut sorts = Vec::new(self.alloc);
                 sorts.push(sort)?;
                 let _new = self.names.add(name)?;
-                self.sorts.push(Seq::from_vec(sorts))?;
-                Ok(())
+                self.sorts.push(sorts)
             }
         }
     }
@@ -84,11 +66,10 @@ impl TypedNames {
     {
         let mut list = Vec::new(self.alloc);
         for place in 0..self.names.len() {
-            let Some(sorts) = self.sorts.get(place) else {
+            let Some(sorts) = self.sorts.list_at(place)? else {
                 return Ok(list);
             };
-            let name = Name::new(Vec::from_slice(self.alloc, self.names.name_at(place))?);
-            let sorts = Seq::from_vec(Vec::from_slice(self.alloc, sorts.as_slice())?);
+            let name = Name::from_slice(self.alloc, self.names.name_at(place))?;
             list.push(Declared { name, sorts })?;
         }
         Ok(list)

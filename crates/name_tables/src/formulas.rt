@@ -39,8 +39,8 @@ fn equality(alloc: Global, terms: &[Term]) -> Formula
     }
 }
 
-/// The condition that a list of these trees is, with these variables in scope. Fails only where memory is wanting, and
-/// else leaves the scope as it was.
+/// The condition that a list of these trees is, with these variables in scope. Fails only where
+/// memory is wanting, and else leaves the scope as it was.
 #[cycle(formulas)]
 pub fn condition_of(
     alloc: Global,

@@ -26,8 +26,9 @@ fn next_of<'a>(edges: &'a [Seq<u32>], number: u32) -> &'a [u32]
     }
 }
 
-/// The numbers to which there is a way from this one, in one step or more, in no order that matters. Each number leads
-/// to those in the list at its place. Fails only where memory is wanting.
+/// The numbers to which there is a way from this one, in one step or more, in no order that
+/// matters. Each number leads to those in the list at its place. Fails only where memory is
+/// wanting.
 pub fn reached_from(
     alloc: Global,
     edges: &[Seq<u32>],
@@ -46,33 +47,18 @@ pub fn reached_from(
     Err(AllocError)
 }
 
-/// Puts a number among ascending ones, unless it is there. Fails only where memory is wanting.
-pub fn add_ascending(list: &mut Vec<u32>, number: u32) -> Result<(), AllocError>
-    ensures { OnOk result (list.new.items ≡ specs.ascending_with list.old.items number) }
-{
-    let mut at = 0;
-    while at < list.len() && list[at] < number {
-        at += 1;
-    }
-    if at < list.len() && list[at] == number {
-        return Ok(());
-    }
-    list.insert(at, number)?;
-    Ok(())
-}
-
 /// The numbers of a list, ascending, each once. Fails only where memory is wanting.
 pub fn ascending(alloc: Global, numbers: &[u32]) -> Result<Vec<u32>, AllocError>
     ensures { IfOk result (λ list. list.items ≡ specs.ascending [] numbers.now) }
 {
-    let mut list = Vec::new(alloc);
-    for number in numbers {
-        add_ascending(&mut list, *number)?;
-    }
+    let mut list = Vec::from_slice(alloc, numbers)?;
+    list.sort_unstable();
+    list.dedup();
     Ok(list)
 }
 
-/// Whether there is a way from a number back to itself, in one step or more. Fails only where memory is wanting.
+/// Whether there is a way from a number back to itself, in one step or more. Fails only where
+/// memory is wanting.
 pub fn is_cyclic(alloc: Global, edges: &[Seq<u32>], number: u32) -> Result<bool, AllocError>
     ensures { IfOk result (λ cyclic. specs.IsCyclic edges.now number cyclic) }
 {

@@ -7,6 +7,7 @@ mod declarations;
 mod formulas;
 mod graph;
 mod names;
+mod number_lists;
 mod scope;
 mod signatures;
 mod terms;
@@ -16,10 +17,11 @@ mod vocabulary;
 
 pub use conditions::{check_condition, check_conditions};
 pub use cycles::{Candidate, check_cycles};
-pub use declarations::{TypedNames, declare_groups, put_number};
+pub use declarations::{TypedNames, declare_groups};
 pub use formulas::{condition_of, single_of};
-pub use graph::{add_ascending, ascending, is_cyclic, reached_from};
+pub use graph::{ascending, is_cyclic, reached_from};
 pub use names::NameTable;
+pub use number_lists::NumberLists;
 pub use scope::Scope;
 pub use signatures::Signatures;
 pub use terms::{

@@ -1,12 +1,14 @@
 //! Tables of names.
 ghost use Rattle.std.specs.Prelude.{◌≡◌, [], not, length, IfOk, OnOk};
 ghost use Rattle.name_tables.specs.Names as specs;
+ghost use Rattle.task_model.specs.Streams.{name_at};
 
 use indexmap::IndexSet;
 use std::alloc::{AllocError, Global};
 use std::marker::Model;
 
-/// Distinct names in the order in which they came, each of which is found without going through the others.
+/// Distinct names in the order in which they came, each of which is found without going through the
+/// others.
 #[derive(Drop)]
 pub struct NameTable {
     names: IndexSet<Vec<u8>>,
@@ -48,7 +50,7 @@ impl NameTable {
 
     /// The name at a place, or no letters where there is none.
     pub fn name_at(&self, place: usize) -> &[u8]
-        ensures { result.now ≡ specs.name_at self.now place }
+        ensures { result.now ≡ name_at self.now place }
     {
         match self.names.get_index(place) {
             Some(name) => name.as_slice(),
@@ -63,8 +65,8 @@ impl NameTable {
         self.names.contains(name)
     }
 
-    /// Puts the name behind the others, where it is new, and answers whether it was new. Fails only where memory is
-    /// wanting.
+    /// Puts the name behind the others, where it is new, and answers whether it was new. Fails only
+    /// where memory is wanting.
     pub fn add(&mut self, name: &[u8]) -> Result<bool, AllocError>
         ensures names { OnOk result (self.new ≡ specs.with_name self.old name.now) }
         ensures fresh { IfOk result (λ fresh. fresh ≡ not (specs.has_name name.now self.old)) }

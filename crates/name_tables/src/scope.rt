@@ -6,7 +6,8 @@ use std::alloc::{AllocError, Global};
 use std::marker::Model;
 use task_model::Name;
 
-/// Variables from outside to inside, each in the slot of its place. An inner one hides an outer one of its name.
+/// Variables from outside to inside, each in the slot of its place. An inner one hides an outer one
+/// of its name.
 #[derive(Drop)]
 pub struct Scope {
     names: Vec<Name>,

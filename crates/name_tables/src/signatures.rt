@@ -10,7 +10,8 @@ use std::alloc::{AllocError, Global};
 use std::marker::Model;
 use task_model::{Name, Signature};
 
-/// Declared predicates or functions, each with its number of arguments. The first declaration of a name counts.
+/// Declared predicates or functions, each with its number of arguments. The first declaration of a
+/// name counts.
 #[derive(Drop)]
 pub struct Signatures {
     names: NameTable,
@@ -38,7 +39,8 @@ impl Signatures {
         }
     }
 
-    /// Declares the name with so many arguments, unless it is there. Fails only where memory is wanting.
+    /// Declares the name with so many arguments, unless it is there. Fails only where memory is
+    /// wanting.
     pub fn declare(&mut self, name: &[u8], arity: usize) -> Result<(), AllocError>
         ensures { OnOk result (self.new ≡ with_signature self.old name.now arity) }
     {
@@ -79,7 +81,8 @@ impl Signatures {
         }
     }
 
-    /// The declarations as a task has them. Fails only where memory is wanting or an arity is past 255.
+    /// The declarations as a task has them. Fails only where memory is wanting or an arity is past
+    /// 255.
     pub fn to_signatures(&self) -> Result<Vec<Signature>, AllocError>
         ensures { IfOk result (λ list. list.items
             ≡ signature_list self.now.names self.now.arities) }
@@ -89,7 +92,7 @@ impl Signatures {
             let Some(arity) = self.arities.get(place) else {
                 return Ok(list);
             };
-            let name = Name::new(Vec::from_slice(self.alloc, self.names.name_at(place))?);
+            let name = Name::from_slice(self.alloc, self.names.name_at(place))?;
             let arity = small_number(*arity)?;
             list.push(Signature { name, arity })?;
         }

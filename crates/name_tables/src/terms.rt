@@ -73,7 +73,8 @@ pub fn check_use(
     }
 }
 
-/// An atom or a function term, as the list at this place. Fails only where its arguments can't be counted.
+/// An atom or a function term, as the list at this place. Fails only where its arguments can't be
+/// counted.
 pub fn check_application(
     declared: &Signatures,
     objects: &NameTable,
@@ -99,7 +100,8 @@ pub fn check_application(
     }
 }
 
-/// The number as one of 8 bits. A greater one is as want of memory: there are no more than 16 slots.
+/// The number as one of 8 bits. A greater one is as want of memory: there are no more than 16
+/// slots.
 pub fn small_number(n: usize) -> Result<u8, AllocError>
     ensures { IfOk result (λ m. m ≡ n) }
 {
@@ -109,8 +111,8 @@ pub fn small_number(n: usize) -> Result<u8, AllocError>
     }
 }
 
-/// The term that a word is: the slot of the innermost variable of this name, or else the object. Fails only where its
-/// number is too great.
+/// The term that a word is: the slot of the innermost variable of this name, or else the object.
+/// Fails only where its number is too great.
 pub fn term_of(objects: &NameTable, scope: &Scope, word: &[u8]) -> Result<Term, AllocError>
     ensures { IfOk result (λ term. term ≡ specs.term_of objects.now scope.now word.now) }
 {
@@ -144,7 +146,8 @@ pub fn terms_of(
     }
 }
 
-/// The place of a declared name, or 0 where it isn't declared. Fails only where the place is past `u32`.
+/// The place of a declared name, or 0 where it isn't declared. Fails only where the place is past
+/// `u32`.
 pub fn declared_place(declared: &Signatures, word: &[u8]) -> Result<u32, AllocError>
     ensures { IfOk result (λ place. place ≡ specs.declared_place declared.now word.now) }
 {

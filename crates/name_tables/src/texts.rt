@@ -49,8 +49,8 @@ pub fn value_at<'a>(key: &[u8], keys: &'a [Tree]) -> &'a [Tree]
     }
 }
 
-/// Adds to a fault so far a `Duplicate` for each word of a row that was seen before, in the row or before it. Fails only
-/// where memory is wanting.
+/// Adds to a fault so far a `Duplicate` for each word of a row that was seen before, in the row or
+/// before it. Fails only where memory is wanting.
 pub fn check_repeated(
     seen: &mut NameTable,
     items: &[Tree],

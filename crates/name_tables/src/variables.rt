@@ -100,7 +100,8 @@ fn check_type(
     }
 }
 
-/// No variable stands twice among these, and none stands in what was seen before. What is seen grows by them.
+/// No variable stands twice among these, and none stands in what was seen before. What is seen
+/// grows by them.
 pub fn check_doubles(
     seen: &mut NameTable,
     items: &[Tree],
@@ -125,8 +126,8 @@ pub fn check_doubles(
     }
 }
 
-/// None of these is the 17th variable in scope, where so many are in scope around them. Fails only where they can't be
-/// counted.
+/// None of these is the 17th variable in scope, where so many are in scope around them. Fails only
+/// where they can't be counted.
 pub fn check_scope(
     size: usize,
     items: &[Tree],

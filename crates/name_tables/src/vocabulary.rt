@@ -7,8 +7,8 @@ use crate::signatures::Signatures;
 use std::alloc::{AllocError, Global};
 use task_model::{Declared, Domain, Signature, Sort};
 
-/// The types, predicates, functions and objects by name. The objects are a domain's constants, and for a problem the
-/// objects behind them.
+/// The types, predicates, functions and objects by name. The objects are a domain's constants, and
+/// for a problem the objects behind them.
 #[derive(Drop)]
 pub struct Vocabulary {
     /// The types; the first is `object`.
@@ -22,8 +22,8 @@ pub struct Vocabulary {
 }
 
 impl Vocabulary {
-    /// The names of a domain, in its order: its types, its predicates and functions with their numbers of arguments, and
-    /// its constants. Fails only where memory is wanting.
+    /// The names of a domain, in its order: its types, its predicates and functions with their
+    /// numbers of arguments, and its constants. Fails only where memory is wanting.
     pub fn of(alloc: Global, domain: &Domain) -> Result<Vocabulary, AllocError>
         ensures known { IfOk result (λ names. names ≡ specs.vocabulary_of domain.now) }
     {

@@ -22,8 +22,8 @@ pub record IsPlainEntry (task : Task) (names : List (List ℕ)) (e : Entry) : Ty
   pub given : All (IsIn names) e.instance.inputs
   pub fresh : All (IsIn names) e.outputs
 
--- At most 20,000 entries of streams of the task, over what is known without them; with the placeholders of them all their
--- objects have names.
+-- At most 20,000 entries of streams of the task, over what is known without them; with the placeholders of them all
+-- their objects have names.
 pub record ArePlainEntries (task : Task) (known : Known) (list : List Entry) : Type 0 where
   pub base : IsBase task known
   pub few : length list ≤ 20000

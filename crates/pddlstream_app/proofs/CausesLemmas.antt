@@ -9,6 +9,7 @@ use Rattle.pddlstream_app.specs.Runs.{Caused, ClosesRun, HasOutcome, HasVerdict,
 use Rattle.replay_check.specs.declared.verdict.Verdict.{Verdict}
 use Rattle.replay_check.specs.declared.verdict.Verdict.TheVariants as verdict
 use Rattle.pddlstream_app.specs.Stop.{IsOfInput, is_write, is_write_fault, status_at}
+use Rattle.round_run.proofs.StoppedLemmas.{same_err}
 use Rattle.round_run.specs.declared.fault.RunFault.TheVariants as fault
 use Rattle.pddlstream_app.specs.declared.status.Status.{Status}
 use Rattle.pddlstream_app.specs.declared.status.Status.TheVariants.{GeneratorFault, WriteFault, Memory}
@@ -148,13 +149,10 @@ lined_generator kind line written (Err why) (inr w) = λ e.
 -- so it counts none
 pub spared : {T : Type 0} (r : Result T Stop) (why : Stop) (count : ℕ) → r ≡ Err why → ¬ (why ≡ stop.Run fault.Write)
     → HasCause (stop.Run fault.Write) last_count count count r
-spared {T} r why count is not = record {
+spared r why count is not = record {
   later = omega arith;
   cause = λ failed. absurd (not (same_err (sym is ∙ failed)));
 }
-  where
-    same_err : {x y : Stop} → (let e : Result T Stop = Err x in e) ≡ Err y → x ≡ y
-    same_err e = cc
 
 pub host_of_lined : (kind : Status) (line : List ℕ) (written : Written) (r : Result Status Stop) → IsLined kind line written r
     → (last before now : ℕ) → before ≤ now → HasCause (stop.Run fault.Generator) last before now r
@@ -163,9 +161,6 @@ host_of_lined kind line written r said last before now later = record {
   cause = λ failed. absurd (of r said failed);
 }
   where
-    same_err : {x y : Stop} → (let e : Result Status Stop = Err x in e) ≡ Err y → x ≡ y
-    same_err e = cc
-
     of : (r : Result Status Stop) → IsLined kind line written r → r ≡ Err (stop.Run fault.Generator) → ⊥
     of (Ok status) said failed = absurd (cc)
     of (Err why) said failed = lined_generator kind line written (Err why) said (same_err failed)

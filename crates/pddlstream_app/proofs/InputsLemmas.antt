@@ -3,7 +3,7 @@ use Rattle.std.proofs.Common.{◌≡◌, ℕ, ◌≤◌, arith, List, [], ◌∷
 use Rattle.io_world.proofs.TalksLemmas.{extends_more}
 use Rattle.io_world.specs.FileMap.{Asked, FileMap}
 use Rattle.io_world.specs.Faults.{Extends, HasCause}
-use Rattle.round_run.proofs.StoppedLemmas.{handed_err}
+use Rattle.round_run.proofs.StoppedLemmas.{handed_err, same_err}
 use Rattle.task_model.specs.Fit.{IsFit}
 use Rattle.task_model.specs.declared.domain.Domain as domains
 use Rattle.task_model.specs.declared.task.Problem as problems
@@ -166,13 +166,10 @@ made_nothing words files made number meant nothing are w is why cause = record {
 -- a run that ends so has no fault of the host, nor of the sink
 pub no_cause : {T : Type 0} (r : Result T Stop) (why bad : Stop) (last count : ℕ) → IsErrAnd r (λ e. e ≡ why)
     → IsOfInput why → (IsOfInput bad → ⊥) → HasCause bad last count count r
-no_cause {T} r why bad last count is input not = record {
+no_cause r why bad last count is input not = record {
   later = omega arith;
   cause = λ failed. absurd (not (subst IsOfInput (same_err (sym (handed_err r why is) ∙ failed)) input));
 }
-  where
-    same_err : {x y : Stop} → (let e : Result T Stop = Err x in e) ≡ Err y → x ≡ y
-    same_err e = cc
 
 -- ---- the task
 

@@ -26,7 +26,7 @@ made_in_range w is = subst AreInRange (sym is) (record {
   states = (omega arith, omega arith);
   depth = (omega arith, omega arith);
   workers = (omega arith, omega arith);
-  built = refl;
+  built = tt;
   alone = λ path e. absurd (cc);
 })
 
@@ -49,7 +49,7 @@ module _ (words : List (List ℕ)) (outside : Outside) (number : ℕ) (meant : c
     line_is : line ≡ shown_text (making number) s.task s.head s.reported.entries ran.outcome
     line_is = λ i. made_line number ran.outcome (s.reported.levels i) (s.reported.asks i)
 
-    has_line : HasOutcome words outside (outcome_status ran.outcome) line
+    abbrev has_line : HasOutcome words outside (outcome_status ran.outcome) line
     has_line =
         let r = s.reported in
         outcome_with words outside (making number) meant s.task s.head
@@ -79,6 +79,7 @@ module _ (words : List (List ℕ)) (outside : Outside) (number : ℕ) (meant : c
       text = line;
       was = inl (outcome_status ran.outcome, inl has_line);
       count = n;
+      whole = omega arith;
       less = less;
       took = app;
     })

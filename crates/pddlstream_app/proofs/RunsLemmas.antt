@@ -1,18 +1,18 @@
 -- How runs end.
-use Rattle.std.proofs.Common.{◌≡◌, ℕ, ◌+◌, arith, List, [], ◌++◌, length, take, true, false, MatchBool, Option, None, Some, refl, sym, subst, ap, ◌∙◌, append_assoc, ◌⊎◌, inl, inr, Result, Ok, Err, IfOk, IfErr}
+use Rattle.std.proofs.Common.{◌≡◌, ℕ, ◌+◌, arith, List, [], ◌++◌, length, take, true, false, MatchBool, Option, None, Some, refl, sym, subst, ap, ◌∙◌, ◌⊎◌, inl, inr, Result, Ok, Err, IfOk, IfErr}
 use Rattle.std.proofs.Math.Seq.{take-append-add}
 use Rattle.std.proofs.lemmas.List.{length-append}
 use Rattle.std.specs.Io.KnownBytes.{Appends}
 use Rattle.round_run.proofs.StoppedLemmas.{appends_none, appends_then}
 use Rattle.round_run.specs.Calls.{LogRan, LogStops}
 use Rattle.round_run.specs.Dialogue.{Dialogue, workers_in}
+use Rattle.level_run.proofs.ReportsLemmas.{whole_is}
 use Rattle.level_run.specs.Reports as reports
-use Rattle.level_run.specs.Reports.{IsBroken, IsPart, IsReported, WasToWrite, text_so_far, whole_text}
+use Rattle.level_run.specs.Reports.{IsBroken, IsPart, IsReported, WasToWrite, TookTo, begins_last}
 use Rattle.level_run.specs.declared.mode_run.Ran.{Ran}
 use Rattle.task_model.specs.Fit.{IsFit}
 use Rattle.task_model.specs.declared.task.Task.{Task}
 use Rattle.transcript_model.specs.Legal.{IsLegal}
-use Rattle.report_text.specs.Texts.{done_line, line_text, text_of_outcome, text_of_report}
 use Rattle.transcript_model.specs.declared.entry.Entry.{Entry}
 use Rattle.transcript_model.specs.declared.head.Head.{Head}
 use Rattle.transcript_model.specs.declared.outcome.Outcome.{Outcome}
@@ -22,7 +22,7 @@ use Rattle.pddlstream_app.specs.Files.{HasBytes, file_of}
 use Rattle.pddlstream_app.specs.Inputs.{HasNoInput, IsTaskOf}
 use Rattle.pddlstream_app.specs.Outside.{IsUntouched, Outside, Written}
 use Rattle.pddlstream_app.specs.Replays.{kind_of_verdict, verdict_text}
-use Rattle.pddlstream_app.specs.Runs.{ClosesRun, Ends, RunHasFault, HasOutcome, HasVerdict, IsBefore, IsBeforeLast, IsCompleted, IsPartOfRun, IsVerdictSaid, IsStopped, IsUnneeded, LeavesReplays, ProgramRun, RunWrites, TellsStatus, TookAll, TookPart, outcome_status, report_of, shown_so_far, shown_text}
+use Rattle.pddlstream_app.specs.Runs.{ClosesRun, Ends, RunHasFault, HasOutcome, HasVerdict, IsBefore, IsBeforeLast, IsCompleted, IsPartOfRun, IsVerdictSaid, IsStopped, IsUnneeded, LeavesReplays, ProgramRun, TellsStatus, TookAll, TookPart, outcome_status, shown_so_far, shown_text}
 use Rattle.replay_check.specs.Verdicts.{IsVerdict}
 use Rattle.replay_check.specs.declared.verdict.Verdict.{Verdict}
 use Rattle.replay_check.specs.declared.verdict.Verdict.TheVariants as verdict
@@ -97,10 +97,6 @@ module _ (words : List (List ℕ)) (outside : Outside) (written : Written) where
           (record { text = c.text; writes = inr (inl h); unneeded = tt; took = c.took })
 
 -- ---- reports
-
-pub whole_is : (task : Task) (head : Head) (entries : List Entry) (o : Outcome)
-    → whole_text task head entries o ≡ text_of_report (report_of task head entries o)
-whole_is task head entries o = sym (append_assoc (text_so_far task head entries) (text_of_outcome head.version o) (line_text done_line))
 
 module _ (words : List (List ℕ)) (outside : Outside) where
   abbrev pub unwritten : Option (List ℕ) → Written
@@ -185,6 +181,7 @@ module _ (words : List (List ℕ)) (outside : Outside) where
           was = inl
               (kind_of_verdict v, inr (inl (has_verdict v is)));
           count = n;
+          whole = omega arith;
           less = less;
           took = app;
         })
@@ -206,7 +203,7 @@ module _ (words : List (List ℕ)) (outside : Outside) where
       legal = legal;
     }
 
-    pub outcome_with : (text : List ℕ) (entries : List Entry) (o : Outcome)
+    abbrev pub outcome_with : (text : List ℕ) (entries : List Entry) (o : Outcome)
         → reports.IsRun task head entries o
         → Dialogue task head.version (workers_in head) entries outside.spoken → LogRan task head entries outside.was outside.now
         → text ≡ shown_text work task head entries o → HasOutcome words outside (outcome_status o) text
@@ -226,7 +223,6 @@ module _ (words : List (List ℕ)) (outside : Outside) where
         → (ran.asks ≡ 0 → IsUntouched outside)
         → Appends written.before written.after (shown_text work task head r.entries ran.outcome)
         → IsCompleted words outside written (outcome_status ran.outcome)
-    unfolding outcome_with
     completed_with written ran r none took = record {
       text = shown_text work task head r.entries ran.outcome;
       has = inl (outcome_with (shown_text work task head r.entries ran.outcome) r.entries ran.outcome r.run r.talks r.calls refl);
@@ -234,7 +230,7 @@ module _ (words : List (List ℕ)) (outside : Outside) where
       took = took;
     }
 
-    part_with : (text shows : List ℕ) (f : RunFault) (p : IsPart task head f outside.spoken outside.was outside.now text)
+    abbrev part_with : (text shows : List ℕ) (f : RunFault) (p : IsPart task head f outside.spoken outside.was outside.now text)
         → shows ≡ shown_so_far work task head p.entries
         → IsPartOfRun words outside f shows
     part_with text shows f p is = record {
@@ -297,9 +293,6 @@ module _ (words : List (List ℕ)) (outside : Outside) where
         (completed_with (solving asked) meant s.task s.head s.posed written ran r s.unneeded
         (subst (Appends written.before written.after) (whole_is s.task s.head r.entries ran.outcome) r.told))
 
-    abbrev Part : RunFault → List ℕ → Type 0
-    Part f text = ((other : Status) × RunWrites words outside other text) ⊎ IsPartOfRun words outside f text
-
     -- the run over the task has no outcome
     stopped_running : (written : Written) (f : RunFault) (task : Task) (head : Head)
         → IsPosed outside.files.told asked task head
@@ -314,21 +307,32 @@ module _ (words : List (List ℕ)) (outside : Outside) where
     stopped_running written (fault.Answer number why) task head posed b =
         stopped_with (solving asked) meant task head posed written (fault.Answer number why) b.text b.text b.form (λ p. p.is) (λ e. e)
         (λ e. absurd (cc)) b.told
-    stopped_running written fault.Write task head posed b =
-        record { text = b.text; was = of b.form; count = b.told.0; less = b.told.1; took = b.told.2 }
+    stopped_running written fault.Write task head posed b = of b.form b.told
       where
-        of : {text : List ℕ} → WasToWrite task head fault.Write outside.spoken outside.was outside.now text
-            → Part fault.Write text
-        of (inl x) = absurd (let e = x.0 in cc)
-        of {text} (inr (inl p)) = inr (part_with (solving asked) meant task head posed text text fault.Write p p.is)
-        of {text} (inr (inr x)) =
-            let w = x.1 in
-            inl (
-              outcome_status w.outcome,
-              inl (outcome_with
-                  (solving asked) meant task head posed text w.entries w.outcome w.run w.talks w.calls
-                  (w.is ∙ whole_is task head w.entries w.outcome)),
-            )
+        of : (form : WasToWrite task head fault.Write outside.spoken outside.was outside.now b.text)
+            → TookTo (begins_last form) fault.Write written.before written.after b.text → TookPart words outside written
+        of (inl x) told = absurd (let e = x.0 in cc)
+        of (inr (inl p)) (n, begun, less, app) = record {
+          text = b.text;
+          was = inr (part_with (solving asked) meant task head posed b.text b.text fault.Write p p.is);
+          count = n;
+          whole = begun;
+          less = less;
+          took = app;
+        }
+        of (inr (inr (failed, w))) (n, begun, less, app) = record {
+          text = b.text;
+          was = inl (
+            outcome_status w.outcome,
+            inl (outcome_with
+                (solving asked) meant task head posed b.text w.entries w.outcome w.run w.talks w.calls
+                (w.is ∙ whole_is task head w.entries w.outcome)),
+          );
+          count = n;
+          whole = begun;
+          less = less;
+          took = app;
+        }
 
     -- the task has no report
     pub stopped_solving : (written : Written) (why : Stop) → HasNoReport asked outside written why
@@ -360,7 +364,7 @@ module _ (words : List (List ℕ)) (outside : Outside) where
     ended = record { before = old; after = new }
 
     module _ (why : Stop) (b : IsBeforeLast words outside (record { before = old; after = mid }) why) where
-      faulty : RunHasFault words outside (status_at why) (b.text ++ last_text why)
+      abbrev faulty : RunHasFault words outside (status_at why) (b.text ++ last_text why)
       faulty = record { stop = why; kind = refl; before = b.text; cause = b.cause; is = refl }
 
       ends_told : (status : Status) → is_write why ≡ false
@@ -377,6 +381,7 @@ module _ (words : List (List ℕ)) (outside : Outside) where
         text = b.text ++ last_text why;
         was = inl (status_at why, inr (inr faulty));
         count = length b.text + n;
+        whole = omega arith;
         less = omega (arith, less, length-append b.text (last_text why));
         took = subst (Appends old new) (sym (take-append-add b.text (last_text why) n))
             (appends_then old mid new b.text (take n (last_text why)) b.took app);

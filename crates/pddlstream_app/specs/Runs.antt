@@ -1,5 +1,5 @@
 -- What a run of the program is, what it writes, and how it ends.
-use Rattle.std.specs.Prelude.{◌≡◌, ◌⊎◌, ℕ, ◌<◌, ◌≤◌, List, [], ◌++◌, map, length, take, true, MatchBool, Option, None, Some, Result, Ok, Err, ⊤, count_by}
+use Rattle.std.specs.Prelude.{◌≡◌, ◌⊎◌, ℕ, ◌<◌, ◌≤◌, List, [], ◌++◌, length, take, true, MatchBool, Option, None, Some, Result, Ok, Err, ⊤, count_by}
 use Rattle.std.proofs.Common.{inl, inr}
 use Rattle.std.specs.Io.KnownBytes.{Appends}
 use Rattle.io_world.specs.FileMap.{FileMap}
@@ -9,18 +9,17 @@ use Rattle.round_run.specs.Breaking.{LogBroken}
 use Rattle.round_run.specs.Calls.{LogRan, LogStops}
 use Rattle.round_run.specs.Dialogue.{BrokenOff, Dialogue, HasBadLine, workers_in}
 use Rattle.level_run.specs.Reports as reports
-use Rattle.level_run.specs.Reports.{text_so_far}
+use Rattle.level_run.specs.Reports.{text_so_far, last_begins, report_of}
 use Rattle.round_run.specs.Rolling.{Blames}
 use Rattle.level_run.specs.Turns.{HasTurnLine, IsFrontOfRun}
 use Rattle.task_model.specs.Fit.{IsFit}
 use Rattle.task_model.specs.declared.task.Task.{Task}
 use Rattle.transcript_model.specs.Legal.{IsLegal, asks_of, is_level, is_open}
-use Rattle.report_text.specs.Texts.{shown_pool, text_of_report}
+use Rattle.report_text.specs.Texts.{text_of_report}
 use Rattle.transcript_model.specs.declared.entry.Entry.{Entry}
 use Rattle.transcript_model.specs.declared.head.Head.{Head}
 use Rattle.transcript_model.specs.declared.outcome.Outcome.{Outcome}
 use Rattle.transcript_model.specs.declared.outcome.Outcome.TheVariants as outcome
-use Rattle.transcript_model.specs.declared.report.Report.{Report}
 use Rattle.command_line.specs.Words.{ReplayWords, command_of, generate, replay}
 use Rattle.pddlstream_app.specs.Heads.{IsHeadOf}
 use Rattle.pddlstream_app.specs.Files.{HoldsFile, file_of}
@@ -55,20 +54,6 @@ pub record ProgramRun (words : List (List ℕ)) (told : Option FileMap) : Type 0
   pub entries : List Entry
   pub legal : IsLegal head.version task entries
 
--- a run's report, if this is its outcome
-abbrev pub report_of : Task → Head → List Entry → Outcome → Report
-report_of task head entries o =
-    record {
-      version = head.version;
-      mode = head.mode;
-      calls = head.calls;
-      states = head.states;
-      depth = head.depth;
-      pools = map (shown_pool task) head.pools;
-      entries = entries;
-      outcome = o;
-    }
-
 -- what is shown of a run before its outcome: the lines of its head and of its transcript, and nothing of `generate`
 abbrev pub shown_so_far : Work → Task → Head → List Entry → List ℕ
 shown_so_far (solving w) task head entries = text_so_far task head entries
@@ -88,10 +73,10 @@ outcome_status outcome.NoPlan = NoPlan
 outcome_status (outcome.Limit kind) = Limit
 
 -- The text is all that is shown of a run with an outcome of the status's kind. The run's transcript is a list of whole
--- turns of incremental mode, or one after a batch that was cut, each of which begins where no plan exists; the outcome
--- may stand there and is sure, and a limit that a plan would have avoided stands only where there is none. What was
--- said with the children is the transcript's dialogue, and the calls that came to the log are its calls, in order, and
--- then stops.
+-- turns of its mode, or one after a batch that was cut, each of which begins where one is needed; the outcome may
+-- stand there and is sure, and a limit that a plan would have avoided stands only where a turn would be needed. What
+-- was said with the children is the transcript's dialogue, and the calls that came to the log are its calls, in order,
+-- and then stops.
 pub record HasOutcome (words : List (List ℕ)) (outside : Outside) (status : Status) (text : List ℕ) : Type 0 where
   pub run : ProgramRun words outside.files.told
   pub outcome : Outcome
@@ -121,25 +106,28 @@ pub record HasVerdict (words : List (List ℕ)) (outside : Outside) (status : St
 -- The text is what is shown of a run that stopped with this fault. The transcript is one of
 -- whole turns, the last of which may stop at any entry; each begins where no plan exists. If a request is blamed, it is
 -- open, and what its child said next is no answer. What was said with the children is the transcript's dialogue, broken
--- off behind it; the calls that came to the log are the transcript's, up to where it broke off, and then stops. Where
--- no line stands that may have requests behind it only stops came.
+-- off behind it; the calls that came to the log are the transcript's, up to where it broke off, and then stops. A
+-- request more, if one was begun, is the next of the run; none was where an answer is bad, and where the sink failed no
+-- call was made behind those of the entries. Where no line stands that may have requests behind it only stops came.
 pub record IsPartOfRun (words : List (List ℕ)) (outside : Outside) (f : RunFault) (text : List ℕ) : Type 0 where
   pub run : ProgramRun words outside.files.told
   pub front : IsFrontOfRun run.head run.task run.entries
   pub blamed : Blames run.head.version run.task (workers_in run.head) outside.spoken f run.entries
-  pub talks : BrokenOff run.task run.head.version (workers_in run.head) run.entries outside.spoken
-  pub calls : LogBroken run.task run.head run.entries f outside.was outside.now
+  pub talks : BrokenOff run.task run.head.version (workers_in run.head) (IsFrontOfRun run.head run.task) f run.entries
+      outside.spoken
+  pub calls : LogBroken run.task run.head (IsFrontOfRun run.head run.task) run.entries f outside.was outside.now
   pub needed : LogStops outside.was outside.now ⊎ HasTurnLine run.head.mode run.entries
   pub is : text ≡ shown_so_far run.work run.task run.head run.entries
 
 -- The transcript is a front of a run, the request that is blamed is open, all before it are answered, and what its
--- child said next is no answer, for this cause.
+-- child said next is no answer, for this cause. What was written to the children are its requests, and no other.
 pub record HasBadAnswer {words : List (List ℕ)} (outside : Outside) (run : ProgramRun words outside.files.told)
     (number : ℕ) (why : Why) : Type 0 where
   pub front : IsFrontOfRun run.head run.task run.entries
   pub waiting : is_open run.entries number ≡ true
   pub line : HasBadLine run.task run.head.version (workers_in run.head) run.entries outside.spoken number why
-  pub talks : BrokenOff run.task run.head.version (workers_in run.head) run.entries outside.spoken
+  pub talks : BrokenOff run.task run.head.version (workers_in run.head) (IsFrontOfRun run.head run.task)
+      (fault.Answer number why) run.entries outside.spoken
 
 -- nothing was written yet, and no child was started
 abbrev pub IsEarly : Outside → List ℕ → Type 0
@@ -192,12 +180,31 @@ pub record TookAll (words : List (List ℕ)) (outside : Outside) (written : Writ
   pub unneeded : IsUnneeded writes
   pub took : Appends written.before written.after text
 
--- The sink took a part, and not all, of what was to be written: all that a run writes that ends in another way, or what
--- is shown of a run before its outcome.
+-- what was to be written where the sink failed: all that a run writes that ends in another way, or what is shown of a
+-- run before its outcome
+abbrev pub WasShown : List (List ℕ) → Outside → List ℕ → Type 0
+WasShown words outside text =
+    ((other : Status) × RunWrites words outside other text) ⊎ IsPartOfRun words outside fault.Write text
+
+-- where the last entry's lines begin in what is shown
+abbrev pub shows_last : Work → Task → Head → List Entry → ℕ
+shows_last (solving w) task head entries = last_begins task head entries
+shows_last (making n) task head entries = 0
+
+-- where the lines begin that were to be written last: those of the outcome, the verdict, the fault or the last entry
+abbrev pub ends_shown : {words : List (List ℕ)} {outside : Outside} {text : List ℕ} → WasShown words outside text → ℕ
+ends_shown (inl (other, inl h)) = length (shown_so_far h.run.work h.run.task h.run.head h.run.entries)
+ends_shown (inl (other, inr (inl v))) = 0
+ends_shown (inl (other, inr (inr f))) = length f.before
+ends_shown (inr p) = shows_last p.run.work p.run.task p.run.head p.run.entries
+
+-- The sink took a part, and not all, of what was to be written: the lines that were to be written last are cut off, and
+-- those before them are whole.
 pub record TookPart (words : List (List ℕ)) (outside : Outside) (written : Written) : Type 0 where
   pub text : List ℕ
-  pub was : ((other : Status) × RunWrites words outside other text) ⊎ IsPartOfRun words outside fault.Write text
+  pub was : WasShown words outside text
   pub count : ℕ
+  pub whole : ends_shown was ≤ count
   pub less : count < length text
   pub took : Appends written.before written.after (take count text)
 

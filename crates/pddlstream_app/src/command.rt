@@ -87,21 +87,28 @@ fn attempt<F: Files, H: Host, O: Sink>(
 
 /// Does what the words ask for.
 ///
-/// `solve DOMAIN PROBLEM STREAMS [OPTIONS] [-- PROGRAM WORDS]` reads the domain's file and the domain, then the problem's and
-/// the problem, then the streams' and the streams. By `--map FILE` the map says which program answers which stream; without
-/// it, PROGRAM answers all, by `--workers N` children (1). A pool of `@grid FILE` has the generator of the grid, whose file is
-/// read last. Where something is to be asked, the children of all pools are started. It works level by level, in rounds of as
-/// many requests as the pools have workers for, and writes a report: its head, each request and answer, and the outcome.
-/// The other options are `--algorithm`, `--calls`, `--states` and `--depth` (`command_line`).
+/// `solve DOMAIN PROBLEM STREAMS [OPTIONS] [-- PROGRAM WORDS]` reads the domain's file and the
+/// domain, then the problem's and the problem, then the streams' and the streams. By `--map FILE`
+/// the map says which program answers which stream; without it, PROGRAM answers all, by
+/// `--workers N` children (1). A pool of `@grid FILE` has the generator of the grid, whose file is
+/// read last. Where something is to be asked, the children of all pools are started. `--algorithm`
+/// says what is asked, all that is due, level by level, or what a dream needs; it is asked in rounds
+/// of as many requests as the pools have workers for. The report has a head, each request and
+/// answer, and the outcome. The other options are `--calls`, `--states` and `--depth`
+/// (`command_line`).
 ///
-/// `replay DOMAIN PROBLEM STREAMS REPORT [--states N]` reads the three texts so, then the report's file, and writes `valid`,
-/// `invalid LINE KIND`, or `limit states` where a claim of the report can't be decided within N states.
+/// `replay DOMAIN PROBLEM STREAMS REPORT [--states N]` reads the three texts so, then the report's
+/// file, and writes `valid`, `invalid LINE KIND`, or `limit states` where a claim of the report
+/// can't be decided within N states. Reports of incremental mode are judged; a head of another mode
+/// is its first wrong line.
 ///
-/// `generate N` makes the grid's task of that number, solves it as `solve` does by `@grid`, without a report, and writes one
-/// line, `generate N OUTCOME levels L asks A`: how many levels and requests the run had. It reads no file.
+/// `generate N` makes the grid's task of that number, solves it as `solve` does by `@grid`, without
+/// a report, and writes one line, `generate N OUTCOME levels L asks A`: how many levels and
+/// requests the run had. It reads no file.
 ///
-/// A fault's line is the last: for a refused text it names the text, the kind of the fault and its place, in bytes from the
-/// text's beginning; for a map the kind, and for a grid the kind and the line.
+/// A fault's line is the last: for a refused text it names the text, the kind of the fault and its
+/// place, in bytes from the text's beginning; for a map the kind, and for a grid the kind and the
+/// line.
 pub fn run<F: Files, H: Host, O: Sink>(
     alloc: Global,
     words: &[String],
@@ -112,19 +119,22 @@ pub fn run<F: Files, H: Host, O: Sink>(
     // No child runs before and after it.
     requires idle { (k : ℕ) → H.running host.old k ≡ false }
     ensures idle { (k : ℕ) → H.running host.new k ≡ false }
-    // The headline. A printed plan is executable over what the problem and the printed answers say, reaches the goal and has the
-    // printed cost; `no plan` stands only where each reachable instance has finished and no plan exists.
+    // The headline. A printed plan is executable over what the problem and the printed answers say,
+    // reaches the goal and has the printed cost; `no plan` stands only where each reachable
+    // instance has finished and no plan exists.
     ensures plan { result ≡ Plan
         → PrintsPlan (map string_bytes words.now) (F.told files.old)
         (written_of O.taken out.old out.new) }
     ensures no_plan { result ≡ NoPlan
         → PrintsNoPlan (map string_bytes words.now) (F.told files.old)
         (written_of O.taken out.old out.new) }
-    // What the sink took is what a run writes that ends so, or a part of it where the sink failed. Where the host tells what was said
-    // with the children, that is the dialogue of the run's transcript. Where the host's log is told, its calls are those of the
-    // transcript, in order, and then stops: the starts of all workers, the writes of each request and the reads of each answer. A run
-    // without an outcome has them up to where it broke off; a fault of the generator has a call that failed, and where no line of a
-    // level stands only stops came. Where nothing was asked in a run with an outcome, no call was made on a child.
+    // What the sink took is what a run writes that ends so, or a part of it where the sink failed.
+    // Where the host tells what was said with the children, that is the dialogue of the run's
+    // transcript. Where the host's log is told, its calls are those of the transcript, in order,
+    // and then stops: the starts of all workers, the writes of each request and the reads of each
+    // answer. A run without an outcome has them up to where it broke off; a fault of the generator
+    // has a call that failed, and where no line of a level stands only stops came. Where nothing
+    // was asked in a run with an outcome, no call was made on a child.
     ensures ends { Ends (map string_bytes words.now)
         (outside_of (seen_of F.told F.faults F.asked files.old files.new) H.spoken H.log host.old
         host.new) (written_of O.taken out.old out.new) result }
@@ -135,15 +145,16 @@ pub fn run<F: Files, H: Host, O: Sink>(
     // A fault of the generator or of the sink is answered only where its count rose.
     ensures host { Caused (result ≡ GeneratorFault) H.last (H.faults host.old) (H.faults host.new) }
     ensures sink { Caused (result ≡ WriteFault) last_count (O.faults out.old) (O.faults out.new) }
-    // Where the words mean that a task is to be solved, the files are told and spell one, no count of faults rose and only answers were
-    // heard, the run has an outcome, or memory is wanting.
+    // Where the words mean that a task is to be solved, the files are told and spell one, no count
+    // of faults rose and only answers were heard, the run has an outcome, or memory is wanting.
     ensures complete { GoesWell (map string_bytes words.now)
         (outside_of (seen_of F.told F.faults F.asked files.old files.new) H.spoken H.log host.old
         host.new) (Rose H.last (H.faults host.old) (H.faults host.new))
         (Rose last_count (O.faults out.old) (O.faults out.new)) → EndsWell result }
-    // Where the files tell which paths were asked for, those of this call are the command's files, each once and in their order: none where
-    // the words are no command, those up to the text that the last line names where it was refused or not read, and else all. Where
-    // memory is wanting or the sink failed, they are a front of these.
+    // Where the files tell which paths were asked for, those of this call are the command's files,
+    // each once and in their order: none where the words are no command, those up to the text that
+    // the last line names where it was refused or not read, and else all. Where memory is wanting
+    // or the sink failed, they are a front of these.
     ensures asked { AsksFiles (map string_bytes words.now)
         (seen_of F.told F.faults F.asked files.old files.new) (written_of O.taken out.old out.new)
         result }

@@ -6,6 +6,7 @@ mod head;
 mod judge;
 mod make;
 mod maps;
+mod modes;
 mod solve;
 mod status;
 mod stop;

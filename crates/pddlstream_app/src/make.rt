@@ -24,8 +24,8 @@ use std::alloc::{AllocError, Global};
 use task_model::Seq;
 use transcript_model::{LimitKind, Mode, Outcome};
 
-/// The words with which the task is solved: the grid's generator answers all streams, within the limits that stand where
-/// words name none. Fails only where memory is wanting.
+/// The words with which the task is solved: the grid's generator answers all streams, within the
+/// limits that stand where words name none. Fails only where memory is wanting.
 fn made_words(alloc: Global) -> Result<SolveConfig, AllocError>
     ensures { IfOk result (λ words. held_solve words ≡ works.made_words) }
 {

@@ -92,7 +92,8 @@ fn map_pools<F: Files>(
     }
 }
 
-/// The pools that the words mean: those of the map's file, or, where they name none, that of their program.
+/// The pools that the words mean: those of the map's file, or, where they name none, that of their
+/// program.
 pub(crate) fn meant_pools<F: Files>(
     alloc: Global,
     files: &mut F,
@@ -142,7 +143,8 @@ fn read_grid_text<F: Files>(alloc: Global, files: &mut F, path: &str) -> Result<
     }
 }
 
-/// These pools, with the text of the grid's file in the place of its path where one of them names it.
+/// These pools, with the text of the grid's file in the place of its path where one of them names
+/// it.
 pub(crate) fn place_grid<F: Files>(
     alloc: Global,
     files: &mut F,

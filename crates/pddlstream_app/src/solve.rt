@@ -14,12 +14,13 @@ ghost use Rattle.pddlstream_app.specs.declared.stop.Stop.TheVariants.{Run};
 
 use crate::head::head_of;
 use crate::maps::{meant_pools, place_grid};
+use crate::modes::run_in_mode;
 use crate::status::Status;
 use crate::stop::Stop;
 use crate::texts::{TaskPaths, read_task};
 use command_line::SolveConfig;
 use io_world::{Files, Host, Sink};
-use level_run::{Ran, incremental};
+use level_run::Ran;
 use std::alloc::Global;
 use transcript_model::Outcome;
 
@@ -72,7 +73,7 @@ pub(crate) fn report<F: Files, H: Host, O: Sink>(
     let meant = meant_pools(alloc, files, words, &task)?;
     let pools = place_grid(alloc, files, meant)?;
     let head = head_of(words, pools);
-    match incremental(alloc, &task, &head, host, out) {
+    match run_in_mode(alloc, &task, &head, host, out) {
         Ok(ran) => Ok(ran),
         Err(fault) => Err(Stop::Run(fault)),
     }

@@ -32,7 +32,8 @@ pub enum Status {
 }
 
 impl Status {
-    /// The program's exit status: 0 for `Plan` and `Done`, then 1 to 10 in the order of the other variants.
+    /// The program's exit status: 0 for `Plan` and `Done`, then 1 to 10 in the order of the other
+    /// variants.
     pub fn code(&self) -> u8
         ensures { result ≡ code_of self.now }
     {

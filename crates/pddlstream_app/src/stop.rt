@@ -52,7 +52,8 @@ pub(crate) enum Stop {
         kind: FaultKind,
         place: usize,
     },
-    /// The map, or the program's words in its place, was refused for this fault, which is not want of memory.
+    /// The map, or the program's words in its place, was refused for this fault, which is not want
+    /// of memory.
     Map(MapFault),
     /// The grid was refused for this fault of this line, counted from 1.
     Grid {
@@ -98,8 +99,8 @@ impl Stop {
         }
     }
 
-    /// The last line of a run that stops so, with the usage text where the words are no command. Fails only where memory
-    /// is wanting.
+    /// The last line of a run that stops so, with the usage text where the words are no command.
+    /// Fails only where memory is wanting.
     pub(crate) fn last_text(&self, alloc: Global) -> Result<Vec<u8>, AllocError>
         ensures { IfOk result (λ text. text.items ≡ last_text self.now) }
     {

@@ -19,7 +19,8 @@ use std::alloc::Global;
 use task_model::Task;
 use task_reader::{InputRefusal, domain_in, problem_in, streams_in};
 
-/// Reads the file of this path. Where it isn't read, the run ends at it, whatever texts stand before it.
+/// Reads the file of this path. Where it isn't read, the run ends at it, whatever texts stand
+/// before it.
 pub(crate) fn read_file<F: Files>(
     files: &mut F,
     role: FileRole,
@@ -96,7 +97,8 @@ fn read_as<F: Files, T, P: FnOnce(&[u8]) -> Result<T, InputRefusal>>(
     }
 }
 
-/// Reads the task that the files spell. A file is read only after the texts before it were accepted.
+/// Reads the task that the files spell. A file is read only after the texts before it were
+/// accepted.
 fn read_spelled<F: Files>(alloc: Global, files: &mut F, paths: &TaskPaths<'_>) -> Result<Task, Stop>
     ensures task { IfOk result (IsTaskOf (F.told files.old) (held_files paths.now)) }
     ensures asked { IfOk result (λ _. Extends (F.asked files.old) (F.asked files.new)

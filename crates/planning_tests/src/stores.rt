@@ -15,17 +15,22 @@ fn state(alloc: Global, places: &[u32]) -> Result<State, AllocError> {
     Ok(state)
 }
 
-/// Where the store keeps the state of these places, and whether it is new there; None where the store is full.
+/// Where the store keeps the state, and whether it is new there; None where the store is full.
+fn put(store: &mut StateStore, state: State) -> Result<Option<(u32, bool)>, AllocError> {
+    if store.len() > 200_000 {
+        return Ok(None);
+    }
+    Ok(Some(store.intern(state)?))
+}
+
+/// Where the store keeps the state of these places, and whether it is new there; None where the
+/// store is full.
 fn kept(
     alloc: Global,
     store: &mut StateStore,
     places: &[u32],
 ) -> Result<Option<(u32, bool)>, AllocError> {
-    if store.len() > 200_000 {
-        return Ok(None);
-    }
-    let kept = store.intern(state(alloc, places)?)?;
-    Ok(Some(kept))
+    put(store, state(alloc, places)?)
 }
 
 #[test]
@@ -52,5 +57,38 @@ fn a_place_gives_its_state(rt: HostRuntime) -> Result<(), Fail> {
     let state = store.get(id)?;
     assert_eq!(rt; state.len(), 2);
     assert_eq!(rt; state.atom(1).args.as_slice(), [Obj::new(9)].as_slice());
+    Ok(())
+}
+
+/// The state of 18 switches, which are up or down as the number's bits say.
+fn switches(alloc: Global, number: u32) -> Result<State, AllocError> {
+    let mut atoms = Vec::with_capacity(alloc, 18)?;
+    for switch in 0..18_u32 {
+        let mut args = Row::empty(alloc);
+        args.push(Obj::new(number >> switch & 1))?;
+        atoms.push(Atom { pred: switch, args })?;
+    }
+    Ok(State::from_atoms(atoms))
+}
+
+/// Whether each of 200,000 states has its number as it is put in, and is new there or not, as is
+/// said.
+fn are_put(alloc: Global, store: &mut StateStore, fresh: bool) -> Result<bool, AllocError> {
+    for number in 0..200_000_u32 {
+        if put(store, switches(alloc, number)?)? != Some((number, fresh)) {
+            return Ok(false);
+        }
+    }
+    Ok(true)
+}
+
+#[test]
+fn states_put_in_four_times_keep_their_200_000_numbers(rt: HostRuntime) -> Result<(), Fail> {
+    let mut store = Box::new(rt.alloc(), StateStore::new(rt.alloc())?)?;
+    assert!(rt; are_put(rt.alloc(), &mut store, true)?);
+    for _ in 0..3 {
+        assert!(rt; are_put(rt.alloc(), &mut store, false)?);
+    }
+    assert_eq!(rt; store.len(), 200_000);
     Ok(())
 }

@@ -163,7 +163,7 @@ pub(crate) fn problem_of(
 {
     let body = body_of(text);
     let init = init_of(body);
-    let name = Name::new(Vec::from_slice(alloc, name_of(text))?);
+    let name = Name::from_slice(alloc, name_of(text))?;
     let objects = objects_of(alloc, domain, &names.sorts, body)?;
     let facts = facts_of(alloc, names, init)?;
     let values = valueds_of(alloc, names, init)?;

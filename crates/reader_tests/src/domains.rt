@@ -30,8 +30,8 @@ fn domains_have_the_marked_fault(rt: HostRuntime) -> Result<(), Fail> {
     Ok(())
 }
 
-/// A domain with 66 predicates of which each but the last is derived, the first by two items, and the place of the item
-/// of the 65th.
+/// A domain with 66 predicates of which each but the last is derived, the first by two items, and
+/// the place of the item of the 65th.
 fn crowded_domain(alloc: Global) -> Result<(String, usize), AllocError> {
     let mut text = String::new(alloc);
     write!(text, "(define (domain crowded) (:predicates")?;
@@ -191,10 +191,11 @@ fn domains_are_read_whole(rt: HostRuntime) -> Result<(), Fail> {
     Ok(())
 }
 
-/// A domain with this many predicates and this many actions.
+/// A domain with a predicate that nothing changes, this many others, and for each of these an
+/// action that deletes an atom of it.
 fn large_domain(alloc: Global, count: usize) -> Result<String, AllocError> {
     let mut text = String::new(alloc);
-    write!(text, "(define (domain large) (:predicates")?;
+    write!(text, "(define (domain large) (:predicates (still)")?;
     for number in 0..count {
         write!(text, " (p{number} ?x ?y)")?;
     }
@@ -210,11 +211,55 @@ fn large_domain(alloc: Global, count: usize) -> Result<String, AllocError> {
 }
 
 #[test]
-fn a_large_domain_is_read(rt: HostRuntime) -> Result<(), Fail> {
-    let text = large_domain(rt.alloc(), 2000)?;
+fn a_domain_of_20_000_predicates_and_actions_is_read(rt: HostRuntime) -> Result<(), Fail> {
+    let text = large_domain(rt.alloc(), 20_000)?;
     let tree = read_tree(rt.alloc(), text.as_bytes())?;
     let domain = read_domain(rt.alloc(), &tree)?;
-    assert_eq!(rt; domain.predicates.len(), 2000);
-    assert_eq!(rt; domain.actions.len(), 2000);
+    assert_eq!(rt; domain.predicates.len(), 20_001);
+    assert_eq!(rt; domain.actions.len(), 20_000);
+    assert_eq!(rt; domain.roles.len(), 20_001);
+    if let [still, others @ ..] = domain.roles.as_slice() {
+        assert_eq!(rt; *still, Role::Static);
+        for role in others {
+            assert_eq!(rt; *role, Role::Fluent);
+        }
+    }
+    Ok(())
+}
+
+/// A domain of this many types, each under the one that is listed behind it, and the last under
+/// `object`.
+fn chain_of_types(alloc: Global, count: usize) -> Result<String, AllocError> {
+    let mut text = String::new(alloc);
+    write!(text, "(define (domain chain) (:types t0")?;
+    for number in 1..count {
+        write!(text, " - t{number} t{number}")?;
+    }
+    write!(text, " - object))")?;
+    Ok(text)
+}
+
+/// The types that the one at a place is under.
+fn above(domain: &Domain, place: usize) -> &[u32] {
+    match domain.sorts.as_slice().get(place) {
+        Some(sort) => sort.above.as_slice(),
+        None => &[],
+    }
+}
+
+#[test]
+fn a_chain_of_4_000_types_listed_from_the_bottom_up_is_read(rt: HostRuntime) -> Result<(), Fail> {
+    let text = chain_of_types(rt.alloc(), 4000)?;
+    let tree = read_tree(rt.alloc(), text.as_bytes())?;
+    let domain = read_domain(rt.alloc(), &tree)?;
+    assert_eq!(rt; domain.sorts.len(), 4001);
+    let mut wanted = Vec::new(rt.alloc());
+    wanted.push(0_u32)?;
+    for number in 2..4001 {
+        wanted.push(number)?;
+    }
+    assert_eq!(rt; above(&domain, 1), wanted.as_slice());
+    assert_eq!(rt; above(&domain, 3999), [0, 4000].as_slice());
+    assert_eq!(rt; above(&domain, 4000), [0].as_slice());
     Ok(())
 }

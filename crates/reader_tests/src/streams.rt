@@ -11,8 +11,8 @@ use std::test::Fail;
 use stream_reader::read_streams;
 use task_model::{Domain, Stream};
 
-/// A domain with four types, a constant `k`, static predicates `p`, `q`, `r` and `at`, a fluent `hold`, a derived
-/// `busy`, and functions.
+/// A domain with four types, a constant `k`, static predicates `p`, `q`, `r` and `at`, a fluent
+/// `hold`, a derived `busy`, and functions.
 const DOMAIN: &[u8] = b"(define (domain d) (:types block - thing pose) (:constants k)
   (:predicates (p) (q ?x) (r ?x ?y) (at ?x ?y) (hold ?x) (busy ?x)) (:functions (f) (g ?x))
   (:derived (busy ?x) (hold ?x)) (:action lift :parameters (?x) :effect (hold ?x)))";
@@ -96,6 +96,38 @@ fn stream_files_are_read_whole(rt: HostRuntime) -> Result<(), Fail> {
         for stream in streams.as_slice() {
             write_stream(&mut out, stream)?;
         }
+        assert_eq!(rt; out.as_str(), wanted);
+    }
+    Ok(())
+}
+
+/// A stream file of this many streams.
+fn large_file(alloc: Global, count: usize) -> Result<String, AllocError> {
+    let mut text = String::new(alloc);
+    write!(text, "(define (stream large)")?;
+    for number in 0..count {
+        write!(
+            text,
+            " (:stream s{number} :inputs (?x) :domain (q ?x) :outputs (?y) :certified (r ?x ?y))"
+        )?;
+    }
+    write!(text, ")")?;
+    Ok(text)
+}
+
+#[test]
+fn a_file_of_2_000_streams_is_read(rt: HostRuntime) -> Result<(), Fail> {
+    let domain = domain(rt.alloc())?;
+    let text = large_file(rt.alloc(), 2000)?;
+    let tree = read_tree(rt.alloc(), text.as_bytes())?;
+    let streams = read_streams(rt.alloc(), &domain, &tree)?;
+    assert_eq!(rt; streams.len(), 2000);
+    if let [first, .., last] = streams.as_slice() {
+        let mut out = String::new(rt.alloc());
+        write_stream(&mut out, first)?;
+        write_stream(&mut out, last)?;
+        let wanted = "stream s0: 0 -> 0 if [1 ?0] then [2 ?0 ?1]
+stream s1999: 0 -> 0 if [1 ?0] then [2 ?0 ?1]\n";
         assert_eq!(rt; out.as_str(), wanted);
     }
     Ok(())

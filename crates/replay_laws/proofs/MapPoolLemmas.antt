@@ -27,7 +27,7 @@ use Rattle.task_model.specs.declared.task.Task.{Task}
 use Rattle.transcript_model.specs.declared.head.Pool.{Pool}
 use Rattle.pddlstream_app.proofs.HeadsLemmas.{all_before}
 use Rattle.pddlstream_app.specs.Heads.{AreServed, HaveText, MeansBy}
-use Rattle.replay_laws.specs.Written.{ArePoolsOfReports}
+use Rattle.run_laws.specs.Reports.{ArePoolsOfReports}
 
 -- Each pool has at most 16 workers, and one stream at least; no stream is in two places.
 record ArePlain (pools : List PlainPool) : Type 0 where

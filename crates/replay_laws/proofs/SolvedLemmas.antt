@@ -6,12 +6,13 @@ use Rattle.command_line.proofs.RangesLemmas.{in_range}
 use Rattle.command_line.specs.Ranges.{AreInRange}
 use Rattle.command_line.specs.Words.{SolveWords, TaskFiles, command_of, solve}
 use Rattle.pddlstream_app.proofs.HeadsLemmas.{head_runs}
-use Rattle.pddlstream_app.proofs.RunsLemmas.{whole_is}
+use Rattle.level_run.proofs.ReportsLemmas.{whole_is}
 use Rattle.pddlstream_app.specs.Files.{FileHolds}
 use Rattle.pddlstream_app.specs.Heads.{IsHeadOf}
 use Rattle.pddlstream_app.specs.Inputs.{IsTaskOf}
 use Rattle.pddlstream_app.specs.Replays.{kind_of_verdict, verdict_text}
-use Rattle.pddlstream_app.specs.Runs.{report_of, shown_text}
+use Rattle.level_run.specs.Reports.{report_of}
+use Rattle.pddlstream_app.specs.Runs.{shown_text}
 use Rattle.pddlstream_app.specs.Works.{Work, command_for, files_of, making, solving, words_of}
 use Rattle.report_text.specs.Texts.{text_of_report}
 use Rattle.task_reader.proofs.SpelledLemmas.{one_task}
@@ -23,7 +24,7 @@ use Rattle.transcript_model.specs.declared.head.Head.{Head}
 use Rattle.replay_laws.proofs.MapPoolLemmas.{served_shown}
 use Rattle.replay_laws.proofs.WrittenLemmas.{written_valid}
 use Rattle.replay_laws.specs.Solved.{AreSameTexts, SolvedReportsAreValid}
-use Rattle.replay_laws.specs.Written.{IsHeadOfReports}
+use Rattle.run_laws.specs.Reports.{IsHeadOfReports}
 
 -- ---- the head of a run
 
@@ -31,7 +32,6 @@ shown_head : (told : Option FileMap) (task : Task) (w : SolveWords) (head : Head
     → AreInRange w → IsHeadOfReports task head
 shown_head told task w head headed within = record {
   runnable = head_runs task told w head headed within;
-  mode = headed.mode ∙ within.built;
   some_depth = omega (arith, headed.depth, within.depth.0);
   depth = omega (arith, headed.depth, within.depth.1);
   pools = served_shown told w task head.pools headed.pools;
@@ -71,7 +71,7 @@ same_work words asked (solving w) one two = let both = sym one ∙ two in ap sol
 same_work words asked (making n) one two = let both = sym one ∙ two in absurd (cc)
 
 pub solved_valid : SolvedReportsAreValid
-solved_valid files later words others outside after status end text said asked meant solved judged first second same report le =
+solved_valid files later words others outside after status end text said asked meant solved judged first second same report le mode =
     let run = solved.run in
     let work : run.work ≡ solving asked = same_work words asked run.work run.meant meant in
     let spelled : IsTaskOf outside.files.told asked.files run.task = subst
@@ -98,6 +98,7 @@ solved_valid files later words others outside after status end text said asked m
     let most = judging.has.short in
     let short : length whole < 2 ^ 31 = omega (arith, most, ap length wrote) in
     let states : run.head.states ≤ judged.asked.states = omega (arith, le, headed.states) in
-    let valid : judged.verdict ≡ Valid = written_valid run.task run.head run.entries solved.outcome run.fit can solved.turns
+    let valid : judged.verdict ≡ Valid = written_valid run.task run.head run.entries solved.outcome run.fit can
+    (headed.mode ∙ mode) solved.turns
     judged.asked.states judged.verdict short states verdict in
     (sym judged.kind ∙ ap kind_of_verdict valid, judged.is ∙ ap verdict_text valid)

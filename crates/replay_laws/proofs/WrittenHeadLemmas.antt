@@ -1,5 +1,5 @@
 -- The head of a report that a run wrote: it binds the transcript as the run's head does, and fits the task.
-use Rattle.std.proofs.Common.{◌≡◌, ℕ, zero, suc, ◌+◌, ◌<◌, ◌≤◌, ◌==◌, ◌&&◌, not, nat_le, Bool, true, false, List, [], ◌∷◌, ◌++◌, map, length, take, drop, sum_by, All, Contains, refl, sym, ap, subst, ◌∙◌, Some, slice_get, arith, append_assoc, le-leb, eqb-true}
+use Rattle.std.proofs.Common.{◌≡◌, ℕ, zero, suc, ◌+◌, ◌<◌, ◌≤◌, ◌==◌, ◌&&◌, not, nat_le, Bool, true, false, List, [], ◌∷◌, ◌++◌, map, length, take, drop, sum_by, All, refl, sym, ap, subst, ◌∙◌, Some, slice_get, arith, append_assoc, le-leb, eqb-true}
 use Rattle.std.proofs.lemmas.List.Concat.{flat_map-append}
 use Rattle.std.proofs.lemmas.List.Elements.{All-head, All-tail, All-take, All-contains}
 use Rattle.std.proofs.lemmas.List.Sums.{sum_by-append}
@@ -14,15 +14,12 @@ use Rattle.task_model.proofs.KnownLemmas.{numbers_decided}
 use Rattle.lemmas.proofs.Members.{member_at, get_append}
 use Rattle.lemmas.proofs.Bools.{and_four}
 use Rattle.lemmas.proofs.ListTests.{all_from, any_found}
-use Rattle.task_model.specs.Fit.{IsFit, is_name}
+use Rattle.task_model.specs.Fit.{IsFit}
 use Rattle.task_model.specs.Known.{same_numbers}
 use Rattle.lemmas.specs.Lists.{AreDistinct}
-use Rattle.task_model.specs.declared.stream.Instance.{Instance}
 use Rattle.task_model.specs.declared.stream.Stream.{Stream}
 use Rattle.task_model.specs.declared.task.Task.{Task}
-use Rattle.transcript_model.proofs.CallNameLemmas.{call_names_instance}
-use Rattle.transcript_model.proofs.NamedObjectLemmas.{passes_all}
-use Rattle.transcript_model.proofs.NamesLemmas.{map_some, position_at}
+use Rattle.transcript_model.proofs.NamesLemmas.{map_some}
 use Rattle.transcript_model.proofs.LegalOnceLemmas.{cut_at}
 use Rattle.transcript_model.specs.Names.{stream_named}
 use Rattle.transcript_model.specs.Rounds.{limits_of, share_of}
@@ -30,13 +27,14 @@ use Rattle.report_text.specs.Texts.{shown_pool}
 use Rattle.gen_lines.specs.Request.{stream_name}
 use Rattle.transcript_model.specs.declared.entry.Entry.{Entry}
 use Rattle.transcript_model.specs.declared.head.Head.{Head}
+use Rattle.transcript_model.specs.declared.head.Mode.TheVariants.{Incremental}
 use Rattle.transcript_model.specs.declared.head.Pool.{Pool}
 use Rattle.transcript_model.specs.declared.head.PoolLine.{PoolLine}
 use Rattle.transcript_model.specs.declared.outcome.Outcome.{Outcome}
 use Rattle.replay_laws.proofs.PoolSumLemmas.{together}
-use Rattle.replay_laws.specs.Written.{IsHeadOfReports}
-use Rattle.lemmas.proofs.Options.{and_then_some}
-use Rattle.pddlstream_app.specs.Runs.{report_of}
+use Rattle.run_laws.proofs.StreamNameLemmas.{stream_found}
+use Rattle.run_laws.specs.Reports.{IsHeadOfReports}
+use Rattle.level_run.specs.Reports.{report_of}
 
 -- the streams are the task's
 abbrev AreStreams : Task → List ℕ → Type 0
@@ -48,41 +46,12 @@ streams_of pools = flat_map (λ (p : Pool). p.streams) pools
 -- ---- streams by their names
 
 module _ (task : Task) (fit : IsFit task) where
-  stream_found : (k : ℕ) → k < length task.streams → stream_named task (stream_name task k) ≡ Some k
-  stream_found k below =
-      let i : Instance = record { stream = k; inputs = [] } in
-      let whole =
-      call_names_instance task [] i fit (λ a b x at_a at_b. absurd (nothing a x at_a)) below (λ o there. absurd (none o there)) in
-      let first =
-      and_then_some (λ stream. option_map (λ inputs. record { stream = stream; inputs = inputs }) (Some []))
-      (stream_named task (stream_name task k)) i whole in
-      let second = map_some (λ inputs. record { stream = first.0; inputs = inputs }) (Some []) i first.2 in
-      let same : first.0 ≡ k = ap (λ (j : Instance). j.stream) second.2 in
-      first.1 ∙ ap Some same
-    where
-      nothing : (a : ℕ) (x : List ℕ) → slice_get [] a ≡ Some x → ⊥
-      nothing a x at = absurd (cc)
-
-      none : (o : ℕ) → Contains [] o → ⊥
-      none o there = omega (arith, there.1)
-
-  -- a stream of the task has a name
-  pub name_there : (k : ℕ) → k < length task.streams → is_name (stream_name task k) ≡ true
-  name_there k below =
-      let place = position_at (λ (s : Stream). same_numbers (stream_name task k) s.name) task.streams k (stream_found k below) in
-      let same = (numbers_decided (stream_name task k) place.0.name).0 place.2 in
-      let there = slice_get-map (λ (s : Stream). s.name) task.streams k ∙ ap (option_map (λ (s : Stream). s.name)) place.1 in
-      ap is_name same
-      ∙ All-contains (λ name. is_name name ≡ true) (map (λ (s : Stream). s.name) task.streams) place.0.name
-      (passes_all is_name (λ name. is_name name ≡ true) (map (λ (s : Stream). s.name) task.streams)
-      (λ name e. e) fit.streams.names.each) (member_at (map (λ (s : Stream). s.name) task.streams) k place.0.name there)
-
   all_found : (streams : List ℕ) → AreStreams task streams
       → filter_map (stream_named task) (map (stream_name task) streams) ≡ streams
   all_found [] are = refl
   all_found (s ∷ streams) are =
       let rest = all_found streams (All-tail (λ stream. stream < length task.streams) s streams are) in
-      rw (stream_found s (All-head (λ stream. stream < length task.streams) s streams are), rest) refl
+      rw (stream_found task fit s (All-head (λ stream. stream < length task.streams) s streams are), rest) refl
 
   share_same : (p : Pool) → AreStreams task p.streams
       → share_in task (shown_pool task p) ≡ share_of p
@@ -150,7 +119,7 @@ module _ (task : Task) (fit : IsFit task) where
       → are_new task before (map (stream_name task) streams) ≡ true
   all_new before [] are distinct = refl
   all_new before (s ∷ streams) are distinct =
-      let found = stream_found s (All-head (λ stream. stream < length task.streams) s streams are) in
+      let found = stream_found task fit s (All-head (λ stream. stream < length task.streams) s streams are) in
       let rest = all_new (before ++ s ∷ []) streams (All-tail (λ stream. stream < length task.streams) s streams are)
       (subst AreDistinct (sym (append_assoc before (s ∷ []) streams)) distinct) in
       rw (found, fresh before s streams distinct, rest) refl
@@ -236,10 +205,10 @@ module _ (task : Task) (fit : IsFit task) where
         → (a && b && c && d && e && f) ≡ true
     six a b c d e f ea eb ec ed ee ef = rw (ea, eb, ec, ed, ee, ef) refl
 
-    pub head_fits : (entries : List Entry) (o : Outcome)
+    pub head_fits : head.mode ≡ Incremental → (entries : List Entry) (o : Outcome)
         → IsFitReportHead task (report_of task head entries o)
-    head_fits entries o = record {
-      mode = can.mode;
+    head_fits mode entries o = record {
+      mode = mode;
       limits = six (nat_le 1 head.calls) (nat_le head.calls 100000) (nat_le 1 head.states) (nat_le head.states 200000)
           (nat_le 1 head.depth) (nat_le head.depth 8)
           (le-leb 1 head.calls can.runnable.fit.some_calls) (le-leb head.calls 100000 can.runnable.fit.calls)

@@ -7,7 +7,8 @@ use Rattle.lemmas.proofs.ListTests.{all_one}
 use Rattle.lemmas.specs.Lists.{AreDistinct, numbers_from}
 use Rattle.task_model.specs.declared.task.Task.{Task}
 use Rattle.transcript_model.specs.declared.head.Pool.{Pool}
-use Rattle.replay_laws.specs.Written.{ArePoolsOfReports, IsOnePool}
+use Rattle.replay_laws.specs.Written.{IsOnePool}
+use Rattle.run_laws.specs.Reports.{ArePoolsOfReports}
 
 number_at : (first n k x : ℕ) → slice_get (numbers_from first n) k ≡ Some x → x ≡ first + k
 number_at first zero k x at = absurd (cc)

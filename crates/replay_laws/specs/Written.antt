@@ -1,27 +1,20 @@
 -- What a run of incremental mode writes is valid. Each law is the contract of a public function of `lib.rt`, and so is
 -- proved.
-use Rattle.std.specs.Prelude.{◌≡◌, ◌⊎◌, ℕ, ◌^◌, ◌<◌, ◌≤◌, List, [], ◌∷◌, length, All}
-use Rattle.std.specs.List.{flat_map}
+use Rattle.std.specs.Prelude.{◌≡◌, ◌⊎◌, ℕ, ◌^◌, ◌<◌, ◌≤◌, List, [], ◌∷◌, length}
 use Rattle.level_run.specs.Reports.{IsRun, whole_text}
-use Rattle.round_run.specs.Batches.{IsRunnable}
 use Rattle.replay_check.specs.Verdicts.{IsVerdict}
 use Rattle.replay_check.specs.declared.verdict.Verdict.{Verdict}
 use Rattle.replay_check.specs.declared.verdict.Verdict.TheVariants.{Valid}
 use Rattle.task_model.specs.Fit.{IsFit}
-use Rattle.lemmas.specs.Lists.{AreDistinct, numbers_from}
+use Rattle.run_laws.specs.Reports.{ArePoolsOfReports, IsHeadOfReports}
+use Rattle.lemmas.specs.Lists.{numbers_from}
 use Rattle.task_model.specs.declared.task.Task.{Task}
 use Rattle.transcript_model.specs.declared.entry.Entry.{Entry}
 use Rattle.transcript_model.specs.declared.head.Head.{Head}
 use Rattle.transcript_model.specs.declared.head.Mode.TheVariants.{Incremental}
 use Rattle.transcript_model.specs.declared.head.Pool.{Pool}
-use Rattle.transcript_model.specs.declared.limits.TheConstants.{MOST_DEPTH, WORKERS}
+use Rattle.transcript_model.specs.declared.limits.TheConstants.{WORKERS}
 use Rattle.transcript_model.specs.declared.outcome.Outcome.{Outcome}
-
--- Each pool has at most 16 workers, and one stream at least; no stream is in two places.
-pub record ArePoolsOfReports (pools : List Pool) : Type 0 where
-  pub few : All (λ (p : Pool). p.workers ≤ WORKERS) pools
-  pub some : All (λ (p : Pool). 0 < length p.streams) pools
-  pub once : AreDistinct (flat_map (λ (p : Pool). p.streams) pools)
 
 -- One pool serves all streams, in their order, if there are any; and else there is none.
 abbrev pub IsOnePool : Task → List Pool → Type 0
@@ -35,18 +28,11 @@ abbrev pub OnePoolIsOfReports : Type 0
 OnePoolIsOfReports =
     (task : Task) (pools : List Pool) → IsOnePool task pools → ArePoolsOfReports pools
 
--- The head may be run, in incremental mode; its depth is from 1 to 8, and its pools are such as a report shows.
-pub record IsHeadOfReports (task : Task) (head : Head) : Type 0 where
-  pub runnable : IsRunnable task head
-  pub mode : head.mode ≡ Incremental
-  pub some_depth : 1 ≤ head.depth
-  pub depth : head.depth ≤ MOST_DEPTH
-  pub pools : ArePoolsOfReports head.pools
-
--- Of a whole report that a run wrote, of fewer than 2^31 bytes, a replay with a limit of at least the run's says
--- nothing but that it is valid.
+-- Of a whole report that a run of incremental mode wrote, of fewer than 2^31 bytes, a replay with a limit of at least
+-- the run's says nothing but that it is valid.
 abbrev pub WrittenReportsAreValid : Type 0
 WrittenReportsAreValid =
     (limit : ℕ) (task : Task) (head : Head) (entries : List Entry) (o : Outcome) (v : Verdict) → IsFit task
-    → IsHeadOfReports task head → IsRun task head entries o → length (whole_text task head entries o) < 2 ^ 31
+    → IsHeadOfReports task head → head.mode ≡ Incremental
+    → IsRun task head entries o → length (whole_text task head entries o) < 2 ^ 31
     → head.states ≤ limit → IsVerdict limit task (whole_text task head entries o) v → v ≡ Valid

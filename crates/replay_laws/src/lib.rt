@@ -1,22 +1,25 @@
-//! What a run writes, a replay finds valid. These are laws, each the contract of a function that does nothing.
+//! What a run writes, a replay finds valid. These are laws, each the contract of a function that
+//! does nothing.
 #![tactic(auto)]
 
 ghost use Rattle.replay_laws.specs.Solved.{SolvedReportsAreValid};
 ghost use Rattle.replay_laws.specs.Written.{OnePoolIsOfReports, WrittenReportsAreValid};
 
-/// What the program writes of a run with an outcome, it finds valid where it judges it with the same three texts and with a limit of
-/// at least the run's states.
+/// What the program writes of a run of incremental mode with an outcome, it finds valid where it
+/// judges it with the same three texts and with a limit of at least the run's states.
 pub fn solved_reports_are_valid()
     ensures { SolvedReportsAreValid }
 {}
 
-/// Of a whole report that a run of incremental mode wrote, a replay with the same task, and with a limit of at least the run's
-/// states, says nothing but that it is valid, where the report has fewer than 2^31 bytes.
+/// Of a whole report that a run of incremental mode wrote, a replay with the same task, and with a
+/// limit of at least the run's states, says nothing but that it is valid, where the report has
+/// fewer than 2^31 bytes.
 pub fn written_reports_are_valid()
     ensures { WrittenReportsAreValid }
 {}
 
-/// The one pool of a run without a map, which serves all streams of the task, is such as that law asks for.
+/// The one pool of a run without a map, which serves all streams of the task, is such as that law
+/// asks for.
 pub fn one_pool_is_of_reports()
     ensures { OnePoolIsOfReports }
 {}

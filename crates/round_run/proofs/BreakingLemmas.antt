@@ -19,7 +19,7 @@ use Rattle.round_run.specs.Breaking.{Breaks, IsBegun, LogBreaks, LogHears, Tells
 use Rattle.round_run.specs.Calls.{Calls, Follows, LogFollows}
 use Rattle.round_run.specs.Dialogue.{IsOneOf, Request, replies_of, requests_of, text_of_request}
 use Rattle.round_run.specs.Rolling.{IsHostFault}
-use Rattle.round_run.specs.Stops.{MayWrite}
+use Rattle.round_run.specs.Stops.{MayHear, MayListen, MayWrite}
 use Rattle.round_run.specs.Talking.{IsAnswerRefused, Talks}
 use Rattle.round_run.specs.declared.fault.RunFault.{RunFault}
 use Rattle.round_run.specs.declared.fault.RunFault.TheVariants.{Answer, Generator, Write, Memory}
@@ -108,11 +108,11 @@ hears_refused child kept fault old new none (cause, is, (events, bytes, room, gi
 
 -- ---- behind the calls of the entries
 
-module _ (task : Task) (version : ℕ) (pools : List Workers) where
+module _ (task : Task) (version : ℕ) (pools : List Workers) (Front : List Entry → Type 0) where
   -- the calls of the entries alone
   pub breaks_done : (before more : List Entry) (fault : RunFault) (old new : Option (List Event))
       → Tells (HasNoneOpen (before ++ more)) fault [] → LogFollows task pools before more old new
-      → LogBreaks task version pools before fault old new more
+      → LogBreaks task version pools before fault old new Front more
   breaks_done before more fault old None tells follows = tt
   breaks_done before more fault old (Some after) tells (past, events, was, came, follows) = (
     past,
@@ -132,8 +132,8 @@ module _ (task : Task) (version : ℕ) (pools : List Workers) where
 
   breaks_begun : (before : List Entry) (fault : RunFault) (old new : Option (List Event)) (calls refused : List Event)
       → Tells (HasNoneOpen before) fault refused → Extends old new (calls ++ refused)
-      → ((past : List Event) → old ≡ Some past → IsBegun task version pools past before calls refused)
-      → LogBreaks task version pools before fault old new []
+      → ((past : List Event) → old ≡ Some past → IsBegun task version pools past before fault calls refused Front)
+      → LogBreaks task version pools before fault old new Front []
   breaks_begun before fault old None calls refused tells grows begun = tt
   breaks_begun before fault old (Some after) calls refused tells (past, was, came) begun = (
     past,
@@ -146,27 +146,39 @@ module _ (task : Task) (version : ℕ) (pools : List Workers) where
       refused = refused;
       cut = refl;
       follows = refl;
-      begun = subst (λ p. IsBegun task version pools p (before ++ []) calls refused) (sym (append-nil past))
-          (subst (λ es. IsBegun task version pools past es calls refused) (sym (append-nil before)) (begun past was));
+      begun = subst (λ p. IsBegun task version pools p (before ++ []) fault calls refused Front) (sym (append-nil past))
+          (subst (λ es. IsBegun task version pools past es fault calls refused Front) (sym (append-nil before)) (begun past was));
       told = subst (λ es. Tells (HasNoneOpen es) fault refused) (sym (append-nil before)) tells;
     },
   )
 
   pub breaks_none : (before : List Entry) (fault : RunFault) (log : Option (List Event))
       → Tells (HasNoneOpen before) fault []
-      → LogBreaks task version pools before fault log log []
+      → LogBreaks task version pools before fault log log Front []
   breaks_none before fault log tells = breaks_begun before fault log log [] [] tells (extends_none log) (λ past was. inl (refl, refl))
 
   -- a request was written in part
   pub breaks_writing : (before : List Entry) (e : Entry) (r : Request) (fault : RunFault) (old new : Option (List Event))
-      → IsLegal version task (before ++ e ∷ []) → requests_of task pools (before ++ e ∷ []) ≡ requests_of task pools before ++ r ∷ []
+      → MayHear fault → IsLegal version task (before ++ e ∷ []) → Front (before ++ e ∷ [])
+      → requests_of task pools (before ++ e ∷ []) ≡ requests_of task pools before ++ r ∷ []
       → (cause : HostFault) × IsHostFault cause fault × LogsTakenPart r.child (text_of_request r) cause old new
-      → LogBreaks task version pools before fault old new []
-  breaks_writing before e r fault old new legal next (cause, is, (events, n, takes, grows)) =
+      → LogBreaks task version pools before fault old new Front []
+  breaks_writing before e r fault old new may legal front next (cause, is, (events, n, takes, grows)) =
       breaks_begun before fault old new events (wrote r.child (drop n (text_of_request r)) (Err cause) ∷ [])
       (tells_of (HasNoneOpen before) cause fault (wrote r.child (drop n (text_of_request r)) (Err cause)) is refl) grows
-      (λ past was. inr
-      (inl (record { entry = e; legal = legal; request = r; next = next; count = n; taken = takes; last = inr (cause, refl) })))
+      (λ past was. inr (inl (
+        may,
+        record {
+          entry = e;
+          legal = legal;
+          front = front;
+          request = r;
+          next = next;
+          count = n;
+          taken = takes;
+          last = inr (cause, refl);
+        },
+      )))
 
   -- ---- an answer that wasn't taken
 
@@ -174,42 +186,45 @@ module _ (task : Task) (version : ℕ) (pools : List Workers) where
       (one : IsOneOf pools r.child) (kept : ℕ → List ℕ) (spoken : ℕ → Option Talk)
       (talks : Talks task version pools (requests_of task pools before) (replies_of before) kept spoken) (old new : Option (List Event))
       (spells : Spells old r.child (spoken r.child)) where
-    pub breaks_hearing : (fault : RunFault) → LogHears r.child (kept r.child) fault old new
-        → LogBreaks task version pools before fault old new []
-    breaks_hearing fault (events, refused, each, early, last, tells, grows) =
+    pub breaks_hearing : (fault : RunFault) → MayListen fault → LogHears r.child (kept r.child) fault old new
+        → LogBreaks task version pools before fault old new Front []
+    breaks_hearing fault may (events, refused, each, early, last, tells, grows) =
         breaks_begun before fault old new events refused
         (tells_map ⊥ (HasNoneOpen before) fault refused (λ never. absurd never) tells) grows (λ past was.
         let talk = told_talk (spoken r.child) past (subst (λ o. Spells o r.child (spoken r.child)) was spells) (talks.each r.child one) in
-        inr (inr (record {
-          request = r;
-          next = next;
-          reads = record {
-            each = each;
-            early = reads_early task version pools (requests_of task pools before) (replies_of before) r next
-                (kept r.child) (kept r.child) past events talk each early;
-          };
-          last = elim last as (λ w.
-              (refused ≡ [])
-              ⊎ ((cause : HostFault) × (room : ℕ) × (refused ≡ heard r.child room (Err cause) ∷ [])
-              × (Rattle.round_run.specs.Calls.lines_read r.child (past ++ events)
-              ≤ Rattle.round_run.specs.Calls.answers_by task pools before r.child))) [
-                | inl none ↦ inl none
-                | inr x ↦ inr (
-                  x.0,
-                  x.1,
-                  x.2,
-                  reads_quiet task version pools (requests_of task pools before) (replies_of before) r next
-                      (kept r.child) (kept r.child) past events talk each x.3,
-                )
-              ];
-        })))
+        inr (inr (
+          may,
+          record {
+            request = r;
+            next = next;
+            reads = record {
+              each = each;
+              early = reads_early task version pools (requests_of task pools before) (replies_of before) r next
+                  (kept r.child) (kept r.child) past events talk each early;
+            };
+            last = elim last as (λ w.
+                (refused ≡ [])
+                ⊎ ((cause : HostFault) × (room : ℕ) × (refused ≡ heard r.child room (Err cause) ∷ [])
+                × (Rattle.round_run.specs.Calls.lines_read r.child (past ++ events)
+                ≤ Rattle.round_run.specs.Calls.answers_by task pools before r.child))) [
+                  | inl none ↦ inl none
+                  | inr x ↦ inr (
+                    x.0,
+                    x.1,
+                    x.2,
+                    reads_quiet task version pools (requests_of task pools before) (replies_of before) r next
+                        (kept r.child) (kept r.child) past events talk each x.3,
+                  )
+                ];
+          },
+        )))
 
   -- ---- entries before
 
   -- the calls of entries, and then of a list that broke off
   pub breaks_join : (past : List Event) (a front more : List Entry) (es events : List Event) (fault : RunFault)
-      → Follows task pools past a front es → Breaks task version pools (past ++ es) (a ++ front) more fault events
-      → Breaks task version pools past a (front ++ more) fault (es ++ events)
+      → Follows task pools past a front es → Breaks task version pools (past ++ es) (a ++ front) more fault events Front
+      → Breaks task version pools past a (front ++ more) fault (es ++ events) Front
   breaks_join past a front more es events fault follows b = record {
     done = es ++ b.done;
     calls = b.calls;
@@ -218,24 +233,26 @@ module _ (task : Task) (version : ℕ) (pools : List Workers) where
         ap (λ xs. es ++ xs) b.cut ∙ sym (append_assoc es (b.done ++ b.calls) b.refused)
         ∙ ap (λ xs. xs ++ b.refused) (sym (append_assoc es b.done b.calls));
     follows = follows_join task pools past a front more es b.done follows b.follows;
-    begun = subst (λ p. IsBegun task version pools p (a ++ (front ++ more)) b.calls b.refused) (append_assoc past es b.done)
-        (subst (λ xs. IsBegun task version pools ((past ++ es) ++ b.done) xs b.calls b.refused) (append_assoc a front more) b.begun);
+    begun = subst (λ p. IsBegun task version pools p (a ++ (front ++ more)) fault b.calls b.refused Front) (append_assoc past es b.done)
+        (subst (λ xs. IsBegun task version pools ((past ++ es) ++ b.done) xs fault b.calls b.refused Front)
+        (append_assoc a front more) b.begun);
     told = subst (λ es. Tells (HasNoneOpen es) fault b.refused) (append_assoc a front more) b.told;
   }
 
   pub breaks_then : (a b : List Entry) (fault : RunFault) (old mid new : Option (List Event))
       → (calls : Calls task pools a b old mid)
-      → (front : List Entry) → b ≡ a ++ front → (more : List Entry) → LogBreaks task version pools b fault mid new more
-      → LogBreaks task version pools a fault old new (front ++ more)
+      → (front : List Entry) → b ≡ a ++ front → (more : List Entry) → LogBreaks task version pools b fault mid new Front more
+      → LogBreaks task version pools a fault old new Front (front ++ more)
   breaks_then a b fault old mid new calls front is more broken =
       by mid new (subst (λ es. LogFollows task pools a es old mid) same calls.log)
-      (subst (λ es. LogBreaks task version pools es fault mid new more) is broken)
+      (subst (λ es. LogBreaks task version pools es fault mid new Front more) is broken)
     where
       same : calls.more ≡ front
       same = append_cancel_left a calls.more front (sym calls.pushed ∙ is)
 
       by : (middle log : Option (List Event)) → LogFollows task pools a front old middle
-          → LogBreaks task version pools (a ++ front) fault middle log more → LogBreaks task version pools a fault old log (front ++ more)
+          → LogBreaks task version pools (a ++ front) fault middle log Front more
+          → LogBreaks task version pools a fault old log Front (front ++ more)
       by middle None f x = tt
       by None (Some after) f (reached, events, was, came, x) = absurd (cc)
       by (Some now) (Some after) (past, es, was, came, follows) (reached, events, told, grown, x) =
@@ -246,5 +263,48 @@ module _ (task : Task) (version : ℕ) (pools : List Workers) where
             was,
             grown ∙ ap (λ xs. xs ++ events) here ∙ append_assoc past es events,
             breaks_join past a front more es events fault follows
-                (subst (λ p. Breaks task version pools p (a ++ front) more fault events) here x),
+                (subst (λ p. Breaks task version pools p (a ++ front) more fault events Front) here x),
           )
+
+-- ---- the front of one is the front of another
+
+module _ (task : Task) (version : ℕ) (pools : List Workers) (Other Front : List Entry → Type 0)
+    (wider : (es : List Entry) → IsLegal version task es → Other es → Front es) where
+  begun_as : (past : List Event) (before : List Entry) (fault : RunFault) (calls refused : List Event)
+      → IsBegun task version pools past before fault calls refused Other
+      → IsBegun task version pools past before fault calls refused Front
+  begun_as past before fault calls refused (inl none) = inl none
+  begun_as past before fault calls refused (inr (inr l)) = inr (inr l)
+  begun_as past before fault calls refused (inr (inl (may, w))) = inr (inl (
+    may,
+    record {
+      entry = w.entry;
+      legal = w.legal;
+      front = wider (before ++ w.entry ∷ []) w.legal w.front;
+      request = w.request;
+      next = w.next;
+      count = w.count;
+      taken = w.taken;
+      last = w.last;
+    },
+  ))
+
+  pub breaks_wider : (past : List Event) (before more : List Entry) (fault : RunFault) (events : List Event)
+      → Breaks task version pools past before more fault events Other
+      → Breaks task version pools past before more fault events Front
+  breaks_wider past before more fault events b = record {
+    done = b.done;
+    calls = b.calls;
+    refused = b.refused;
+    cut = b.cut;
+    follows = b.follows;
+    begun = begun_as (past ++ b.done) (before ++ more) fault b.calls b.refused b.begun;
+    told = b.told;
+  }
+
+  pub breaks_as : (before : List Entry) (fault : RunFault) (old new : Option (List Event)) (more : List Entry)
+      → LogBreaks task version pools before fault old new Other more
+      → LogBreaks task version pools before fault old new Front more
+  breaks_as before fault old None more b = tt
+  breaks_as before fault old (Some after) more (past, events, was, came, b) =
+      (past, events, was, came, breaks_wider past before more fault events b)

@@ -5,21 +5,22 @@ use Rattle.io_world.specs.Faults.{Extends}
 use Rattle.io_world.specs.Talks.{Event, started}
 use Rattle.session_core.proofs.SessionLemmas.{count_joined}
 use Rattle.task_model.specs.declared.task.Task.{Task}
-use Rattle.transcript_model.specs.Legal.{HasNoneOpen, asks_of, is_ask, is_mark}
+use Rattle.transcript_model.specs.Legal.{HasNoneOpen, IsLegal, asks_of, is_ask, is_mark}
 use Rattle.transcript_model.specs.declared.entry.Entry.{Entry}
 use Rattle.transcript_model.specs.declared.entry.Entry.TheVariants as entry
 use Rattle.transcript_model.specs.declared.head.Head.{Head}
 use Rattle.transcript_model.specs.declared.head.Pool.{Pool}
-use Rattle.round_run.proofs.BreakingLemmas.{breaks_join, tells_map, tells_of}
+use Rattle.round_run.proofs.BreakingLemmas.{breaks_join, breaks_wider, tells_map, tells_of}
 use Rattle.round_run.proofs.CallsRunLemmas.{unasked}
 use Rattle.round_run.proofs.DialogueMarkLemmas.{asks_behind, follows_marked, mark_no_ask, mark_waits}
 use Rattle.std.proofs.lemmas.List.Elements.{All-append}
 use Rattle.io_world.proofs.TalksLemmas.{extends_more}
-use Rattle.round_run.specs.Breaking.{Breaks, LogBreaks, LogBroken, RunBreaks, Tells, Unstarted, WereStarts, starts_after}
+use Rattle.round_run.specs.Breaking.{Breaks, LogBreaks, LogBroken, RunBreaks, Tells, Underway, Unstarted, WereStarts, starts_after}
 use Rattle.round_run.specs.Calls.{Follows, IsStop, LogRuns, LogStartsPart, LogStops, Runs, starts_before, starts_of}
 use Rattle.round_run.specs.Dialogue.{workers_in}
 use Rattle.round_run.specs.declared.fault.RunFault.{RunFault}
-use Rattle.transcript_model.proofs.LegalNumberLemmas.{asks_marked}
+use Rattle.round_run.specs.declared.fault.RunFault.TheVariants.{Write}
+use Rattle.transcript_model.proofs.LegalNumberLemmas.{asks_marked, asks_more}
 
 -- the starts that came before a batch of some asks
 pub same_after : (pools : List Pool) (asked many : ℕ) → 0 < many
@@ -40,10 +41,11 @@ none_after pools (suc asked) none = absurd (omega (arith, none))
 -- ---- batches
 
 -- a start was refused
-pub start_refused : (task : Task) (head : Head) (before : List Entry) (fault : RunFault) (old new : Option (List Event))
-    → asks_of before ≡ 0 → LogStartsPart (starts_of head.pools) fault old new → RunBreaks task head before fault old new []
-start_refused task head before fault old None first log = tt
-start_refused task head before fault old (Some after) first (n, child, words, cause, at, is, (past, was, came)) = (
+pub start_refused : (task : Task) (head : Head) (Front : List Entry → Type 0) (before : List Entry) (fault : RunFault)
+    (old new : Option (List Event))
+    → asks_of before ≡ 0 → LogStartsPart (starts_of head.pools) fault old new → RunBreaks task head before fault old new Front []
+start_refused task head Front before fault old None first log = tt
+start_refused task head Front before fault old (Some after) first (n, child, words, cause, at, is, (past, was, came)) = (
   past,
   take n (starts_of head.pools) ++ started child words (Err cause) ∷ [],
   was,
@@ -64,21 +66,29 @@ start_refused task head before fault old (Some after) first (n, child, words, ca
 )
 
 -- all workers run, and the rounds broke off
-pub rounds_broken : (task : Task) (head : Head) (before : List Entry) (starts : List Event)
+pub rounds_broken : (task : Task) (head : Head) (Front : List Entry → Type 0) (before : List Entry) (starts : List Event)
     (fault : RunFault) (old mid new : Option (List Event))
     → starts ≡ starts_after head.pools (asks_of before) → Extends old mid starts → (more : List Entry)
-    → LogBreaks task head.version (workers_in head) before fault mid new more → RunBreaks task head before fault old new more
-rounds_broken task head before starts fault old mid None is first more broken = tt
-rounds_broken task head before starts fault old None (Some after) is first more (reached, events, was, came, b) =
+    → (fault ≡ Write → 0 < asks_of (before ++ more))
+    → LogBreaks task head.version (workers_in head) before fault mid new Front more
+    → RunBreaks task head before fault old new Front more
+rounds_broken task head Front before starts fault old mid None is first more needed broken = tt
+rounds_broken task head Front before starts fault old None (Some after) is first more needed (reached, events, was, came, b) =
     absurd (cc)
-rounds_broken task head before starts fault old (Some now) (Some after) is (past, was, came) more (reached, events, told, grown, b) =
+rounds_broken task head Front before starts fault old (Some now) (Some after) is (past, was, came) more needed
+    (reached, events, told, grown, b) =
     let both : now ≡ reached = cc in
     let here : reached ≡ past ++ starts_after head.pools (asks_of before) = sym both ∙ came ∙ ap (λ es. past ++ es) is in (
       past,
       starts_after head.pools (asks_of before) ++ events,
       was,
       grown ∙ ap (λ es. es ++ events) here ∙ append_assoc past (starts_after head.pools (asks_of before)) events,
-      inr (events, refl, subst (λ p. Breaks task head.version (workers_in head) p before more fault events) here b),
+      inr (record {
+        later = events;
+        cut = refl;
+        needed = needed;
+        breaks = subst (λ p. Breaks task head.version (workers_in head) p before more fault events Front) here b;
+      }),
     )
 
 -- ---- marks
@@ -92,12 +102,12 @@ none_marked e mark before more (inr is) none =
     subst (λ es. HasNoneOpen (before ++ es)) (sym is) (λ n. mark_waits before e mark n ∙ none n)
 
 -- no call was made
-pub quiet_breaks : (task : Task) (head : Head) (e : Entry) → is_mark e ≡ true → (before : List Entry) (fault : RunFault)
-    (log : Option (List Event))
+pub quiet_breaks : (task : Task) (head : Head) (Front : List Entry → Type 0) (e : Entry) → is_mark e ≡ true
+    → (before : List Entry) (fault : RunFault) (log : Option (List Event))
     → Tells (HasNoneOpen before) fault [] → (more : List Entry) → (more ≡ []) ⊎ (more ≡ e ∷ [])
-    → RunBreaks task head before fault log log more
-quiet_breaks task head e mark before fault None tells more is = tt
-quiet_breaks task head e mark before fault (Some log) tells more is =
+    → RunBreaks task head before fault log log Front more
+quiet_breaks task head Front e mark before fault None tells more is = tt
+quiet_breaks task head Front e mark before fault (Some log) tells more is =
     (log, [], refl, sym (append-nil log), by (asks_of before) refl)
   where
     still : Tells (HasNoneOpen (before ++ more)) fault []
@@ -116,16 +126,15 @@ quiet_breaks task head e mark before fault (Some log) tells more is =
         (follows_marked task (workers_in head) e mark past before)
 
     by : (n : ℕ) → asks_of before ≡ n
-        → Unstarted head before more fault []
-        ⊎ ((later : List Event) × ([] ≡ starts_after head.pools (asks_of before) ++ later)
-        × Breaks task head.version (workers_in head) (log ++ starts_after head.pools (asks_of before)) before more fault later)
+        → Unstarted head before more fault [] ⊎ Underway task head log before more fault [] Front
     by zero none_asked = inl (record { first = none_asked; none = none more is; were = inl (refl, still) })
     by (suc n) some =
         let no : starts_after head.pools (asks_of before) ≡ [] = some_after head.pools (asks_of before) (omega (arith, some)) in
-        inr (
-          [],
-          sym (append-nil (starts_after head.pools (asks_of before)) ∙ no),
-          record {
+        inr (record {
+          later = [];
+          cut = sym (append-nil (starts_after head.pools (asks_of before)) ∙ no);
+          needed = λ failed. omega (arith, some, asks_more before more);
+          breaks = record {
             done = [];
             calls = [];
             refused = [];
@@ -133,23 +142,24 @@ quiet_breaks task head e mark before fault (Some log) tells more is =
             follows = follows (log ++ starts_after head.pools (asks_of before)) more is;
             begun = inl (refl, refl);
             told = still;
-          },
-        )
+          };
+        })
 
 -- the same where no entry came
-pub still_breaks : (task : Task) (head : Head) (before : List Entry) (fault : RunFault) (log : Option (List Event))
-    → Tells (HasNoneOpen before) fault [] → RunBreaks task head before fault log log []
-still_breaks task head before fault log tells =
-    quiet_breaks task head entry.Level refl before fault log tells [] (inl refl)
+pub still_breaks : (task : Task) (head : Head) (Front : List Entry → Type 0) (before : List Entry) (fault : RunFault)
+    (log : Option (List Event))
+    → Tells (HasNoneOpen before) fault [] → RunBreaks task head before fault log log Front []
+still_breaks task head Front before fault log tells =
+    quiet_breaks task head Front entry.Level refl before fault log tells [] (inl refl)
 
 -- a mark stands before
-pub marked_breaks : (task : Task) (head : Head) (e : Entry) → is_mark e ≡ true
+pub marked_breaks : (task : Task) (head : Head) (Front : List Entry → Type 0) (e : Entry) → is_mark e ≡ true
     → (before mid front : List Entry) (fault : RunFault) (old new : Option (List Event))
-    → mid ≡ before ++ e ∷ [] → mid ≡ before ++ front → (more : List Entry) → RunBreaks task head mid fault old new more
-    → RunBreaks task head before fault old new (front ++ more)
-marked_breaks task head e mark before mid front fault old new marked pushed more broken =
-    subst (λ xs. RunBreaks task head before fault old new (xs ++ more)) same
-    (by new (subst (λ es. RunBreaks task head es fault old new more) marked broken))
+    → mid ≡ before ++ e ∷ [] → mid ≡ before ++ front → (more : List Entry) → RunBreaks task head mid fault old new Front more
+    → RunBreaks task head before fault old new Front (front ++ more)
+marked_breaks task head Front e mark before mid front fault old new marked pushed more broken =
+    subst (λ xs. RunBreaks task head before fault old new Front (xs ++ more)) same
+    (by new (subst (λ es. RunBreaks task head es fault old new Front more) marked broken))
   where
     same : e ∷ [] ≡ front
     same = append_cancel_left before (e ∷ []) front (sym marked ∙ pushed)
@@ -158,12 +168,12 @@ marked_breaks task head e mark before mid front fault old new marked pushed more
     starts = ap (starts_after head.pools) (asks_marked before e (mark_no_ask e mark))
 
     joined : (past later : List Event)
-        → Breaks task head.version (workers_in head) past (before ++ e ∷ []) more fault later
-        → Breaks task head.version (workers_in head) past before (e ∷ more) fault later
+        → Breaks task head.version (workers_in head) past (before ++ e ∷ []) more fault later Front
+        → Breaks task head.version (workers_in head) past before (e ∷ more) fault later Front
     joined past later b =
-        breaks_join task head.version (workers_in head) past before
+        breaks_join task head.version (workers_in head) Front past before
         (e ∷ []) more [] later fault (follows_marked task (workers_in head) e mark past before)
-        (subst (λ p. Breaks task head.version (workers_in head) p (before ++ e ∷ []) more fault later)
+        (subst (λ p. Breaks task head.version (workers_in head) p (before ++ e ∷ []) more fault later Front)
         (sym (append-nil past)) b)
 
     told : (events : List Event)
@@ -172,8 +182,8 @@ marked_breaks task head e mark before mid front fault old new marked pushed more
     told events were = subst (λ es. WereStarts head es fault events) (append_assoc before (e ∷ []) more) were
 
     by : (log : Option (List Event))
-        → RunBreaks task head (before ++ e ∷ []) fault old log more
-        → RunBreaks task head before fault old log (e ∷ more)
+        → RunBreaks task head (before ++ e ∷ []) fault old log Front more
+        → RunBreaks task head before fault old log Front (e ∷ more)
     by None x = tt
     by (Some after) (past, events, was, came, inl u) = (
       past,
@@ -186,40 +196,36 @@ marked_breaks task head e mark before mid front fault old new marked pushed more
         were = told events u.were;
       }),
     )
-    by (Some after) (past, events, was, came, inr (later, cut, b)) = (
+    by (Some after) (past, events, was, came, inr u) = (
       past,
       events,
       was,
       came,
-      inr (
-        later,
-        cut ∙ ap (λ es. es ++ later) starts,
-        joined (past ++ starts_after head.pools (asks_of before)) later
-            (subst (λ es. Breaks task head.version (workers_in head) (past ++ es) (before ++ e ∷ []) more fault later)
-            starts b),
-      ),
+      inr (record {
+        later = u.later;
+        cut = u.cut ∙ ap (λ es. es ++ u.later) starts;
+        needed = λ failed. subst (λ es. 0 < asks_of es) (append_assoc before (e ∷ []) more) (u.needed failed);
+        breaks = joined (past ++ starts_after head.pools (asks_of before)) u.later
+            (subst (λ es. Breaks task head.version (workers_in head) (past ++ es) (before ++ e ∷ []) more fault u.later Front)
+            starts u.breaks);
+      }),
     )
 
 -- whole levels stand before
-pub levels_broken : (task : Task) (head : Head) (a front : List Entry) (fault : RunFault) (old mid new : Option (List Event))
-    → Runs task head [] a old mid → a ≡ front → (more : List Entry) → RunBreaks task head a fault mid new more
-    → RunBreaks task head [] fault old new (front ++ more)
-levels_broken task head a front fault old mid new runs pushed more broken =
+pub levels_broken : (task : Task) (head : Head) (Front : List Entry → Type 0) (a front : List Entry) (fault : RunFault)
+    (old mid new : Option (List Event))
+    → Runs task head [] a old mid → a ≡ front → (more : List Entry) → RunBreaks task head a fault mid new Front more
+    → RunBreaks task head [] fault old new Front (front ++ more)
+levels_broken task head Front a front fault old mid new runs pushed more broken =
     by mid new (subst (λ es. LogRuns task head [] es old mid) (sym runs.pushed ∙ pushed) runs.log)
-    (subst (λ es. RunBreaks task head es fault mid new more) pushed broken)
+    (subst (λ es. RunBreaks task head es fault mid new Front more) pushed broken)
   where
-    pools : List Pool
-    pools = head.pools
-
-    version : ℕ
-    version = head.version
-
     all : asks_of (front ++ more) ≡ asks_of front + asks_of more
     all = count_joined is_ask front more
 
     by : (middle log : Option (List Event)) → LogRuns task head [] front old middle
-        → RunBreaks task head front fault middle log more
-        → RunBreaks task head [] fault old log (front ++ more)
+        → RunBreaks task head front fault middle log Front more
+        → RunBreaks task head [] fault old log Front (front ++ more)
     by middle None f x = tt
     by None (Some after) f (reached, events, was, came, x) = absurd (cc)
     by (Some now) (Some after) (past, es, was, came, follows) (reached, events, told, grown, x) =
@@ -229,11 +235,8 @@ levels_broken task head a front fault old mid new runs pushed more broken =
         of : (n : ℕ) → asks_of front ≡ n
             → Follows task (workers_in head) (past ++ starts_before head.pools 0 n) [] front es
             → reached ≡ past ++ starts_before head.pools 0 n ++ es
-            → Unstarted head front more fault events
-            ⊎ ((later : List Event) × (events ≡ starts_after head.pools (asks_of front) ++ later)
-            × Breaks task head.version (workers_in head)
-            (reached ++ starts_after head.pools (asks_of front)) front more fault later)
-            → RunBreaks task head [] fault old (Some after) (front ++ more)
+            → Unstarted head front more fault events ⊎ Underway task head reached front more fault events Front
+            → RunBreaks task head [] fault old (Some after) Front (front ++ more)
         of zero n f here (inl u) =
             let quiet = unasked task (workers_in head) (past ++ []) [] front es refl n f in
             let still : reached ≡ past = here ∙ ap (λ xs. past ++ [] ++ xs) quiet.0 ∙ append-nil (past ++ []) ∙ append-nil past in (
@@ -244,58 +247,90 @@ levels_broken task head a front fault old mid new runs pushed more broken =
               inl (record { first = refl; none = omega (arith, all, n, u.none); were = u.were }),
             )
         of (suc k) n f here (inl u) = absurd (omega (arith, n, u.first))
-        of zero n f here (inr (later, cut, b)) =
+        of zero n f here (inr u) =
             let quiet = unasked task (workers_in head) (past ++ []) [] front es refl n f in
             let still : reached ≡ past = here ∙ ap (λ xs. past ++ [] ++ xs) quiet.0 ∙ append-nil (past ++ []) ∙ append-nil past in
             let starts : starts_after head.pools (asks_of front) ≡ starts_of head.pools = none_after head.pools (asks_of front) n in
-            let front_b = subst (λ xs. Breaks task head.version (workers_in head) (reached ++ xs) front more fault later) starts b in
+            let front_b = subst (λ xs. Breaks task head.version (workers_in head) (reached ++ xs) front more fault u.later Front)
+            starts u.breaks in
             let here_b =
-            subst (λ p. Breaks task head.version (workers_in head) (p ++ starts_of head.pools) front more fault later) still front_b in (
+            subst (λ p. Breaks task head.version (workers_in head) (p ++ starts_of head.pools) front more fault u.later Front)
+            still front_b in (
               past,
               events,
               was,
               grown ∙ ap (λ xs. xs ++ events) still,
-              inr (
-                later,
-                cut ∙ ap (λ xs. xs ++ later) starts,
-                breaks_join task head.version (workers_in head) (past ++ starts_of head.pools) [] front more [] later fault
+              inr (record {
+                later = u.later;
+                cut = u.cut ∙ ap (λ xs. xs ++ u.later) starts;
+                needed = u.needed;
+                breaks = breaks_join task head.version (workers_in head) Front
+                    (past ++ starts_of head.pools) [] front more [] u.later fault
                     (quiet.1 (past ++ starts_of head.pools))
-                    (subst (λ p. Breaks task head.version (workers_in head) p front more fault later)
-                    (sym (append-nil (past ++ starts_of head.pools))) here_b),
-              ),
+                    (subst (λ p. Breaks task head.version (workers_in head) p front more fault u.later Front)
+                    (sym (append-nil (past ++ starts_of head.pools))) here_b);
+              }),
             )
-        of (suc k) n f here (inr (later, cut, b)) =
+        of (suc k) n f here (inr u) =
             let none : starts_after head.pools (asks_of front) ≡ [] = some_after head.pools (asks_of front) (omega (arith, n)) in
-            let events_are : events ≡ later = cut ∙ ap (λ xs. xs ++ later) none in
-            let front_b = subst (λ xs. Breaks task head.version (workers_in head) (reached ++ xs) front more fault later) none b in
+            let events_are : events ≡ u.later = u.cut ∙ ap (λ xs. xs ++ u.later) none in
+            let front_b = subst (λ xs. Breaks task head.version (workers_in head) (reached ++ xs) front more fault u.later Front)
+            none u.breaks in
             let here_b =
-            subst (λ p. Breaks task head.version (workers_in head) p front more fault later) (append-nil reached ∙ here) front_b in (
+            subst (λ p. Breaks task head.version (workers_in head) p front more fault u.later Front)
+            (append-nil reached ∙ here) front_b in (
               past,
-              starts_of head.pools ++ (es ++ later),
+              starts_of head.pools ++ (es ++ u.later),
               was,
               grown ∙ ap (λ xs. xs ++ events) here ∙ ap (λ xs. past ++ starts_of head.pools ++ es ++ xs) events_are
-                  ∙ append_assoc (past ++ starts_of head.pools) es later ∙ append_assoc past (starts_of head.pools) (es ++ later),
-              inr (
-                es ++ later,
-                refl,
-                breaks_join task head.version (workers_in head) (past ++ starts_of head.pools) [] front more es later fault f here_b,
-              ),
+                  ∙ append_assoc (past ++ starts_of head.pools) es u.later ∙ append_assoc past (starts_of head.pools) (es ++ u.later),
+              inr (record {
+                later = es ++ u.later;
+                cut = refl;
+                needed = u.needed;
+                breaks = breaks_join task head.version (workers_in head) Front
+                    (past ++ starts_of head.pools) [] front more es u.later fault f here_b;
+              }),
             )
+
+-- the front of one is the front of another
+pub run_breaks_as : (task : Task) (head : Head) (Other Front : List Entry → Type 0)
+    → ((es : List Entry) → IsLegal head.version task es → Other es → Front es)
+    → (before : List Entry) (fault : RunFault) (old new : Option (List Event)) (more : List Entry)
+    → RunBreaks task head before fault old new Other more → RunBreaks task head before fault old new Front more
+run_breaks_as task head Other Front wider before fault old None more b = tt
+run_breaks_as task head Other Front wider before fault old (Some after) more (past, events, was, came, inl u) =
+    (past, events, was, came, inl u)
+run_breaks_as task head Other Front wider before fault old (Some after) more (past, events, was, came, inr u) = (
+  past,
+  events,
+  was,
+  came,
+  inr (record {
+    later = u.later;
+    cut = u.cut;
+    needed = u.needed;
+    breaks = breaks_wider task head.version (workers_in head) Other Front wider
+        (past ++ starts_after head.pools (asks_of before)) before more fault u.later u.breaks;
+  }),
+)
 
 -- ---- with stops
 
-pub broken_of : (task : Task) (head : Head) (entries : List Entry) (fault : RunFault) (old new : Option (List Event))
-    → RunBreaks task head [] fault old new entries → LogBroken task head entries fault old new
-broken_of task head entries fault old None b = tt
-broken_of task head entries fault old (Some after) b =
+pub broken_of : (task : Task) (head : Head) (Front : List Entry → Type 0) (entries : List Entry) (fault : RunFault)
+    (old new : Option (List Event))
+    → RunBreaks task head [] fault old new Front entries → LogBroken task head Front entries fault old new
+broken_of task head Front entries fault old None b = tt
+broken_of task head Front entries fault old (Some after) b =
     (after, [], sym (append-nil after), λ k d below. absurd (omega (arith, below)), b)
 
-pub broken_more : (task : Task) (head : Head) (entries : List Entry) (fault : RunFault) (old mid new : Option (List Event))
-    → LogBroken task head entries fault old mid → LogStops mid new → LogBroken task head entries fault old new
-broken_more task head entries fault old mid None b stops = tt
-broken_more task head entries fault old None (Some after) b (more, each, (before, is, grown)) =
+pub broken_more : (task : Task) (head : Head) (Front : List Entry → Type 0) (entries : List Entry) (fault : RunFault)
+    (old mid new : Option (List Event))
+    → LogBroken task head Front entries fault old mid → LogStops mid new → LogBroken task head Front entries fault old new
+broken_more task head Front entries fault old mid None b stops = tt
+broken_more task head Front entries fault old None (Some after) b (more, each, (before, is, grown)) =
     absurd (cc)
-broken_more task head entries fault old (Some now) (Some after) (events, stops, cut, all, b) (more, each, (before, is, grown)) =
+broken_more task head Front entries fault old (Some now) (Some after) (events, stops, cut, all, b) (more, each, (before, is, grown)) =
     let same : now ≡ before = cc in (
       events,
       stops ++ more,

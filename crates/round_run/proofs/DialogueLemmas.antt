@@ -21,7 +21,9 @@ use Rattle.task_model.specs.declared.task.Task.{Task}
 use Rattle.transcript_model.specs.Legal.{IsLegal}
 use Rattle.transcript_model.specs.declared.entry.Entry.{Entry}
 use Rattle.round_run.specs.Dialogue.{AreSaid, BrokenOff, Dialogue, HasBadLine, IsBadLine, IsOneOf, IsSaid, Request, bytes_to, count_to, further_requests, is_to, replies_of, requests_of, text_of_request, wanted_by}
+use Rattle.round_run.specs.Stops.{MayHear}
 use Rattle.round_run.specs.Talking.{IsTalk, Talks}
+use Rattle.round_run.specs.declared.fault.RunFault.{RunFault}
 
 -- ---- what is told
 
@@ -330,31 +332,20 @@ module _ (task : Task) (version : ℕ) (pools : List Workers) (entries : List En
     answered = talk_said task version (requests_of task pools entries) (replies_of entries) child (kept child) talk w;
   }) (t.each child is)
 
-  -- no request more was written
-  pub broken_none : IsLegal version task entries
-      → Talks task version pools (requests_of task pools entries) (replies_of entries) kept spoken
-      → BrokenOff task version pools entries spoken
-  broken_none legal t = record {
-    next = [];
-    few = omega arith;
-    legal = subst (IsLegal version task) (sym (append-nil entries)) legal;
-    count = 0;
-    said = λ child is some. told_map _ _ (spoken child) (λ talk w. record {
-      written = w.written ∙ sym (append-nil (bytes_to child (requests_of task pools entries)));
-      answered = talk_said task version (requests_of task pools entries) (replies_of entries) child (kept child) talk w;
-    }) (t.each child is);
-  }
-
 -- a request more was written, in whole or in part
-pub broken_one : (task : Task) (version : ℕ) (pools : List Workers) (entries : List Entry) (e : Entry) (r : Request)
-    (n : ℕ) (kept : ℕ → List ℕ) (old new : ℕ → Option Talk)
-    → IsLegal version task (entries ++ e ∷ []) → requests_of task pools (entries ++ e ∷ []) ≡ requests_of task pools entries ++ r ∷ []
+pub broken_one : (task : Task) (version : ℕ) (pools : List Workers) (Front : List Entry → Type 0) (fault : RunFault)
+    (entries : List Entry) (e : Entry) (r : Request) (n : ℕ) (kept : ℕ → List ℕ) (old new : ℕ → Option Talk)
+    → MayHear fault → IsLegal version task (entries ++ e ∷ []) → Front (entries ++ e ∷ [])
+    → requests_of task pools (entries ++ e ∷ []) ≡ requests_of task pools entries ++ r ∷ []
     → Writes r.child (take n (text_of_request r)) old new
-    → Talks task version pools (requests_of task pools entries) (replies_of entries) kept old → BrokenOff task version pools entries new
-broken_one task version pools entries e r n kept old new legal grown w t = record {
+    → Talks task version pools (requests_of task pools entries) (replies_of entries) kept old
+    → BrokenOff task version pools Front fault entries new
+broken_one task version pools Front fault entries e r n kept old new may legal front grown w t = record {
   next = e ∷ [];
   few = omega arith;
+  only = inr may;
   legal = legal;
+  front = front;
   count = n;
   said = λ child is some. by child is (is_same child r.child);
 }

@@ -9,7 +9,7 @@ use Rattle.session_core.proofs.SessionLemmas.{count_joined, count_one}
 use Rattle.pools.specs.Pools.{Workers}
 use Rattle.task_model.specs.declared.task.Task.{Task}
 use Rattle.transcript_model.proofs.LegalLemmas.{grows}
-use Rattle.transcript_model.specs.Legal.{IsLegal, MayFollow, asks_of, is_answer, is_answer_to, is_ask, is_ask_of, is_mark, is_open}
+use Rattle.transcript_model.specs.Legal.{IsLegal, MayFollow, asks_of, is_answer_to, is_ask, is_ask_of, is_mark, is_open}
 use Rattle.transcript_model.specs.declared.entry.Entry.{Entry}
 use Rattle.transcript_model.specs.declared.entry.Entry.TheVariants as entry
 use Rattle.round_run.proofs.DialogueRequestLemmas.{last_join, replies_join, requests_join}
@@ -19,12 +19,6 @@ use Rattle.round_run.specs.Dialogue.{last_round, replies_of, requests_after, req
 pub mark_no_ask : (e : Entry) → is_mark e ≡ true → is_ask e ≡ false
 mark_no_ask (entry.Ask number turn call) m = absurd (cc)
 mark_no_ask e m = refl
-
-mark_no_answer : (e : Entry) → is_mark e ≡ true → is_answer e ≡ false
-mark_no_answer (entry.Got number tuples values) m = absurd (cc)
-mark_no_answer (entry.Value number value) m = absurd (cc)
-mark_no_answer (entry.End number) m = absurd (cc)
-mark_no_answer e m = refl
 
 -- it may follow any legal transcript
 pub mark_legal : (version : ℕ) (task : Task) (before : List Entry) (e : Entry) → is_mark e ≡ true

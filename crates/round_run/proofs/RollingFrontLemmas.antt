@@ -1,7 +1,7 @@
 -- Fronts of rounds and batches: what was written could have gone on.
-use Rattle.std.proofs.Common.{◌≡◌, ℕ, suc, ◌+◌, ◌<◌, ◌≤◌, All, List, [], ◌∷◌, ◌++◌, map, length, take, drop, Some, slice_get, refl, sym, subst, ap, ◌∙◌, append_assoc}
+use Rattle.std.proofs.Common.{◌≡◌, ℕ, suc, ◌+◌, ◌<◌, ◌≤◌, All, List, [], ◌∷◌, ◌++◌, map, length, take, drop, Some, slice_get, refl, sym, subst, ap, ◌∙◌, append_assoc, arith}
 use Rattle.std.proofs.lemmas.List.Elements.{All-nil, All-cons}
-use Rattle.std.proofs.lemmas.List.{append-nil, length-map, length-take-le}
+use Rattle.std.proofs.lemmas.List.{append-nil, append_cancel_left, length-map, length-take-le}
 use Rattle.lemmas.proofs.Numbers.{plus_zero}
 use Rattle.instance_queue.specs.Level.{instances_of}
 use Rattle.instance_queue.specs.declared.due.Due.{Due}
@@ -15,7 +15,7 @@ use Rattle.task_model.specs.declared.task.Task.{Task}
 use Rattle.transcript_model.proofs.LegalNumberLemmas.{asks_more}
 use Rattle.transcript_model.proofs.RoundsLemmas.{requests_asks, answers_asks}
 use Rattle.transcript_model.specs.Legal.{asks_of}
-use Rattle.transcript_model.specs.Rounds.{IsBatch, IsRound, Share, limits_of, requests, share_of}
+use Rattle.transcript_model.specs.Rounds.{AreRounds, AreRoundsRun, IsBatch, IsRound, Limits, Share, calls_left, limits_of, requests, share_of}
 use Rattle.transcript_model.specs.declared.entry.Entry.{Entry}
 use Rattle.transcript_model.specs.declared.head.Head.{Head}
 use Rattle.transcript_model.specs.declared.head.Pool.{Pool}
@@ -59,6 +59,30 @@ round_asks task before now round (answers, is, are) =
     ∙ plus_zero (length round))
 
 -- ---- batches
+
+-- a batch begins with a request
+batch_first : (limits : Limits) (task : Task) (before : List Entry) (list : List Instance) (e : Entry) (rest : List Entry)
+    → IsBatch limits task before list (e ∷ rest) → asks_of (e ∷ []) ≡ 1
+batch_first limits task before list e rest b = by b.rounds b.cut b.run
+  where
+    by : (rounds : List (List Instance)) → AreRounds limits.pools (take (calls_left limits before) list) rounds
+        → AreRoundsRun task before rounds (e ∷ rest) → asks_of (e ∷ []) ≡ 1
+    by [] cut run = absurd (cc)
+    by ([] ∷ rounds) (more, parts, some, fit, full, later) run = absurd (omega (arith, some))
+    by ((i ∷ is) ∷ rounds) cut (now, later, all, (answers, these, are), run) =
+        let first : e ∷ rest ≡ (requests task before (i ∷ is) ++ answers) ++ later = all ∙ ap (λ es. es ++ later) these in
+        ap (λ es. asks_of (take 1 es)) first
+
+-- where some of it is there, a request is
+pub front_asks_some : (head : Head) (task : Task) (before : List Entry) (list : List Instance) (more : List Entry)
+    → IsFrontPart before (IsBatch (limits_of head) task before list) (before ++ more)
+    → (e : Entry) × (rest : List Entry) × (more ≡ e ∷ rest) → 0 < asks_of (before ++ more)
+front_asks_some head task before list more f (e, rest, is) =
+    let part : more ≡ f.part = append_cancel_left before more f.part f.is in
+    let whole : f.part ++ f.rest ≡ e ∷ (rest ++ f.rest) = ap (λ es. es ++ f.rest) (sym part ∙ is) in
+    let first =
+    batch_first (limits_of head) task before list e (rest ++ f.rest) (subst (IsBatch (limits_of head) task before list) whole f.whole) in
+    omega (arith, first, asks_more before more, ap asks_of is, asks_more (e ∷ []) rest)
 
 -- a front of a batch's next round is one of the batch
 pub so_far_front : (head : Head) (task : Task) (first : List Entry) (list : List Instance) (s : State) (dues : List Due)

@@ -8,13 +8,13 @@ use Rattle.session_core.specs.State.{State}
 use Rattle.pools.specs.Pools.{Workers}
 use Rattle.task_model.specs.declared.task.Task.{Task}
 use Rattle.transcript_model.proofs.LegalNumberLemmas.{asks_marked}
-use Rattle.transcript_model.specs.Legal.{IsLegal, asks_of, is_mark}
+use Rattle.transcript_model.specs.Legal.{asks_of, is_mark}
 use Rattle.transcript_model.specs.declared.entry.Entry.{Entry}
 use Rattle.transcript_model.specs.declared.head.Head.{Head}
 use Rattle.round_run.proofs.DialogueMarkLemmas.{last_marked, mark_no_ask, replies_marked, requests_marked}
 use Rattle.round_run.proofs.DialogueRequestLemmas.{requests_counted}
 use Rattle.round_run.proofs.DialogueLemmas.{talk_said, told_map}
-use Rattle.round_run.specs.Dialogue.{BrokenOff, Dialogue, bytes_to, replies_of, requests_of, workers_in}
+use Rattle.round_run.specs.Dialogue.{Dialogue, bytes_to, replies_of, requests_of, workers_in}
 use Rattle.round_run.specs.Talking.{AreSilent, IsTalk, IsTold}
 use Rattle.round_run.specs.Batches.{AllRun, AreStarted}
 
@@ -59,37 +59,21 @@ module _ (task : Task) (version : ℕ) (pools : List Workers) where
           answered = talk_said task version (requests_of task pools entries) (replies_of entries) child (kept child) talk w;
         }) (t.each child one (started.all asked one.place child one.pool one.at one.has))
 
-    pub broken_told : IsLegal version task entries → BrokenOff task version pools entries spoken
-    broken_told legal = record {
-      next = [];
-      few = omega arith;
-      legal = subst (IsLegal version task) (sym (append-nil entries)) legal;
-      count = 0;
-      said = λ child one some. dialogue_told child one (subst (λ es. 0 < length (requests_of task pools es)) (append-nil entries) some);
-    }
-
   -- where all workers run
-  pub broken_run : (entries : List Entry) (running : ℕ → Bool) (kept : ℕ → List ℕ) (spoken : ℕ → Option Talk)
+  pub dialogue_run : (entries : List Entry) (running : ℕ → Bool) (kept : ℕ → List ℕ) (spoken : ℕ → Option Talk)
       → AllRun pools running
-      → IsLegal version task entries → IsTold task version pools entries running kept spoken → BrokenOff task version pools entries spoken
-  broken_run entries running kept spoken all legal t = record {
-    next = [];
-    few = omega arith;
-    legal = subst (IsLegal version task) (sym (append-nil entries)) legal;
-    count = 0;
-    said = λ child one some. told_map _ _ (spoken child) (λ talk w. record {
-      written = w.written ∙ sym (append-nil (bytes_to child (requests_of task pools entries)));
-      answered = talk_said task version (requests_of task pools entries) (replies_of entries) child (kept child) talk w;
-    }) (t.each child one (all one.place child one.pool one.at one.has));
-  }
+      → IsTold task version pools entries running kept spoken → Dialogue task version pools entries spoken
+  dialogue_run entries running kept spoken all t = λ child one some. told_map _ _ (spoken child) (λ talk w. record {
+    written = w.written ∙ sym (append-nil (bytes_to child (requests_of task pools entries)));
+    answered = talk_said task version (requests_of task pools entries) (replies_of entries) child (kept child) talk w;
+  }) (t.each child one (all one.place child one.pool one.at one.has))
 
-  pub broken_marked : (e : Entry) → is_mark e ≡ true → (entries : List Entry) (asks : ℕ) (running : ℕ → Bool)
+  pub dialogue_marked : (e : Entry) → is_mark e ≡ true → (entries : List Entry) (asks : ℕ) (running : ℕ → Bool)
       (kept : ℕ → List ℕ) (spoken : ℕ → Option Talk)
       → asks ≡ asks_of entries → AreStarted pools asks running → IsTold task version pools entries running kept spoken
-      → IsLegal version task (entries ++ e ∷ []) → BrokenOff task version pools (entries ++ e ∷ []) spoken
-  broken_marked e mark entries asks running kept spoken counted started t legal =
-      broken_told (entries ++ e ∷ []) asks running kept spoken same started (told_marked e mark entries running kept spoken t)
-      legal
+      → Dialogue task version pools (entries ++ e ∷ []) spoken
+  dialogue_marked e mark entries asks running kept spoken counted started t =
+      dialogue_told (entries ++ e ∷ []) asks running kept spoken same started (told_marked e mark entries running kept spoken t)
     where
       same : asks ≡ asks_of (entries ++ e ∷ [])
       same = counted ∙ sym (asks_marked entries e (mark_no_ask e mark))
@@ -100,16 +84,10 @@ module _ (task : Task) (version : ℕ) (pools : List Workers) where
       → requests_of task pools entries ≡ []
   none_asked entries none = nil_from_length (requests_of task pools entries) (requests_counted task pools [] entries ∙ none)
 
-  pub broken_unasked : (entries : List Entry) (spoken : ℕ → Option Talk) → asks_of entries ≡ 0
-      → IsLegal version task entries
-      → BrokenOff task version pools entries spoken
-  broken_unasked entries spoken none legal = record {
-    next = [];
-    few = omega arith;
-    legal = subst (IsLegal version task) (sym (append-nil entries)) legal;
-    count = 0;
-    said = λ child one some. absurd (omega (arith, some, ap length (none_asked (entries ++ []) (ap asks_of (append-nil entries) ∙ none))));
-  }
+  pub dialogue_unasked : (entries : List Entry) (spoken : ℕ → Option Talk) → asks_of entries ≡ 0
+      → Dialogue task version pools entries spoken
+  dialogue_unasked entries spoken none =
+      λ child one some. absurd (omega (arith, some, ap length (none_asked entries none)))
 
   -- children were started
   pub told_started : (entries : List Entry) (old now : ℕ → Bool) (kept left : ℕ → List ℕ) (before spoken : ℕ → Option Talk)

@@ -25,15 +25,17 @@ use Rattle.lemmas.proofs.Members.{member_at, get_behind, next_taken}
 use Rattle.lemmas.proofs.ListTests.{get_there}
 use Rattle.task_model.specs.declared.task.Task.{Task}
 use Rattle.transcript_model.specs.Legal.{IsLegal, is_open, is_answer}
+use Rattle.transcript_model.specs.Rounds.{IsRound}
 use Rattle.transcript_model.specs.declared.entry.Entry.{Entry}
 use Rattle.transcript_model.specs.declared.entry.Entry.TheVariants as entry
 use Rattle.round_run.proofs.DialogueRequestLemmas.{AreAsks, AreReplies, all_replies, asks_are, closed_by, last_join, no_replies, no_requests, replies_join, requests_front, requests_join, requests_long, slots_ask}
-use Rattle.round_run.proofs.RollingPrintLemmas.{asks_legal, one_more, round_legal}
+use Rattle.round_run.proofs.RollingPrintLemmas.{asks_legal, front_asks as asks_front, one_more, round_legal}
 use Rattle.round_run.proofs.RollingLemmas.{answered_now, as_long, blamed_there, front_same, number_is, printed_there, was_some}
-use Rattle.round_run.proofs.DialogueLemmas.{bad_line, broken_none, broken_one, talks_heard, talks_more, talks_sent, with_more}
+use Rattle.round_run.proofs.DialogueLemmas.{bad_line, broken_one, dialogue_of, talks_heard, talks_more, talks_sent, with_more}
 use Rattle.round_run.proofs.StoppedLemmas.{MayBlame}
-use Rattle.round_run.specs.Dialogue.{BrokenOff, HasBadLine, IsOneOf, Request, last_round, replies_of, requests_after, requests_of, text_of_request, wanted_by}
-use Rattle.round_run.specs.Rolling.{IsRolling, finished}
+use Rattle.round_run.specs.Dialogue.{BrokenOff, Dialogue, HasBadLine, IsOneOf, Request, last_round, replies_of, requests_after, requests_of, text_of_request, wanted_by}
+use Rattle.round_run.specs.Rolling.{IsFrontPart, IsRolling, finished}
+use Rattle.round_run.specs.Stops.{MayHear}
 use Rattle.round_run.specs.Talking.{AreSlotsOf, IsBadFirst, IsBlamed, IsSlotOf, IsTalk, IsTalking, IsTold, Misheard, TakesAnswer, Talks}
 use Rattle.round_run.specs.Batches.{AllRun}
 use Rattle.round_run.specs.declared.fault.RunFault.{RunFault}
@@ -266,17 +268,18 @@ module _ (task : Task) (s : State) (place : ℕ) (kept : ℕ → List ℕ) (old 
       }
 
   -- the request was written in part, or is not printed
-  pub broken_sending : (e : Entry) (n : ℕ) → s.is_open ≡ true → IsSession task s
-      → slice_get s.asks place ≡ Some e
-      → IsLegal s.version task ((s.entries ++ take place s.asks) ++ e ∷ []) → IsTalking task s place 0 kept old
-      → Writes t.child (take n t.request) old new → BrokenOff task s.version s.pools (s.entries ++ take place s.asks) new
-  broken_sending e n opened h at_e legal k w =
+  pub broken_sending : (Front : List Entry → Type 0) (fault : RunFault) (e : Entry) (n : ℕ) → MayHear fault → s.is_open ≡ true
+      → IsSession task s → slice_get s.asks place ≡ Some e
+      → IsLegal s.version task ((s.entries ++ take place s.asks) ++ e ∷ []) → Front ((s.entries ++ take place s.asks) ++ e ∷ [])
+      → IsTalking task s place 0 kept old → Writes t.child (take n t.request) old new
+      → BrokenOff task s.version s.pools Front fault (s.entries ++ take place s.asks) new
+  broken_sending Front fault e n may opened h at_e legal front k w =
       let r = request_at k.slots in
       let asks = round_asks task s opened h in
       let writes : Writes r.0.child (take n (text_of_request r.0)) old new =
       subst (λ c. Writes c (take n (text_of_request r.0)) old new) r.2.child
       (subst (λ bytes. Writes t.child (take n bytes) old new) r.2.text w) in
-      broken_one task s.version s.pools (s.entries ++ take place s.asks) e r.0 n kept old new legal
+      broken_one task s.version s.pools Front fault (s.entries ++ take place s.asks) e r.0 n kept old new may legal front
       (grown r asks) writes (talks_at_sent task s place kept old opened h k)
     where
       grown : (r : (r : Request) × (slice_get (requests_of task s.pools s.asks) place ≡ Some r) × IsSlotOf task s.version s.pools r t)
@@ -443,12 +446,11 @@ module _ (task : Task) (s : State) (running : ℕ → Bool) (place : ℕ) (r : I
                 subst (λ d. length (kept d ++ m.more) ≡ 1025) i.child long,
               )
 
-  pub broken_hearing : (kept : ℕ → List ℕ) (old new : ℕ → Option Talk) (child : ℕ) (more : List ℕ)
-      → s.is_open ≡ true → IsSession task s
-      → IsLegal s.version task (s.entries ++ s.asks ++ take place (finished s.slots)) → IsTalking task s (length s.slots) place kept old
-      → Hears child more old new → BrokenOff task s.version s.pools (s.entries ++ s.asks ++ take place (finished s.slots)) new
-  broken_hearing kept old new child more opened h legal k hears =
-      broken_none task s.version s.pools (s.entries ++ s.asks ++ take place (finished s.slots)) new (with_more kept child more) legal
+  pub dialogue_hearing : (kept : ℕ → List ℕ) (old new : ℕ → Option Talk) (child : ℕ) (more : List ℕ)
+      → s.is_open ≡ true → IsSession task s → IsTalking task s (length s.slots) place kept old
+      → Hears child more old new → Dialogue task s.version s.pools (s.entries ++ s.asks ++ take place (finished s.slots)) new
+  dialogue_hearing kept old new child more opened h k hears =
+      dialogue_of task s.version s.pools (s.entries ++ s.asks ++ take place (finished s.slots)) new (with_more kept child more)
       (talks_more task s.version s.pools (requests_of task s.pools (s.entries ++ s.asks ++ take place (finished s.slots)))
       (replies_of (s.entries ++ s.asks ++ take place (finished s.slots))) old new kept child more hears
       (talks_at_heard task s place kept old opened h k))
@@ -518,18 +520,26 @@ module _ (task : Task) (s : State) (place : ℕ) (kept : ℕ → List ℕ) (old 
       subst (IsLegal s.version task) (one_more s.entries s.asks place e at_e)
       (asks_legal s.version task s.entries s.asks (finished s.slots) (place + 1) (round_legal task s opened h))
 
-  pub broken_part : (child : ℕ) (request : List ℕ) (n : ℕ) → child ≡ t.child → request ≡ t.request
-      → Writes child (take n request) old new
-      → BrokenOff task s.version s.pools (s.entries ++ take place s.asks) new
-  broken_part child request n own same w =
-      broken_sending task s place kept old new t at e n opened h at_e next_legal k
+  -- with it they are a front of the round
+  pub next_front : IsFrontPart s.entries (IsRound task s.entries s.instances) ((s.entries ++ take place s.asks) ++ e ∷ [])
+  next_front =
+      subst (IsFrontPart s.entries (IsRound task s.entries s.instances)) (one_more s.entries s.asks place e at_e)
+      (asks_front task s (place + 1) opened h)
+
+  pub broken_part : (fault : RunFault) (child : ℕ) (request : List ℕ) (n : ℕ) → MayHear fault → child ≡ t.child
+      → request ≡ t.request → Writes child (take n request) old new
+      → BrokenOff task s.version s.pools (IsFrontPart s.entries (IsRound task s.entries s.instances)) fault
+      (s.entries ++ take place s.asks) new
+  broken_part fault child request n may own same w =
+      broken_sending task s place kept old new t at (IsFrontPart s.entries (IsRound task s.entries s.instances)) fault e n may opened h
+      at_e next_legal next_front k
       (subst (λ c. Writes c (take n t.request) old new) own (subst (λ bytes. Writes child (take n bytes) old new) same w))
 
-  pub broken_after : (child : ℕ) (request : List ℕ) → child ≡ t.child → request ≡ t.request
+  pub dialogue_after : (child : ℕ) (request : List ℕ) → child ≡ t.child → request ≡ t.request
       → Writes child request old new
-      → IsSession task (after_sent s t.child) → BrokenOff task s.version s.pools ((s.entries ++ take place s.asks) ++ e ∷ []) new
-  broken_after child request own same w h_after =
-      broken_none task s.version s.pools ((s.entries ++ take place s.asks) ++ e ∷ []) new kept next_legal
+      → IsSession task (after_sent s t.child) → Dialogue task s.version s.pools ((s.entries ++ take place s.asks) ++ e ∷ []) new
+  dialogue_after child request own same w h_after =
+      dialogue_of task s.version s.pools ((s.entries ++ take place s.asks) ++ e ∷ []) new kept
       (subst (λ es. Talks task s.version s.pools (requests_of task s.pools es) (replies_of es) kept new)
       (one_more s.entries s.asks place e at_e)
       (talks_at_sent task (after_sent s t.child)
@@ -537,13 +547,12 @@ module _ (task : Task) (s : State) (place : ℕ) (kept : ℕ → List ℕ) (old 
 
 -- ---- one answer, as its function has it
 
-pub broken_answered : (task : Task) (s now : State) (place : ℕ) (kept : ℕ → List ℕ) (spoken : ℕ → Option Talk) (e : Entry)
+pub dialogue_answered : (task : Task) (s now : State) (place : ℕ) (kept : ℕ → List ℕ) (spoken : ℕ → Option Talk) (e : Entry)
     → s.is_open ≡ true → IsSession task now → (slots : List Slot) (failed : Bool) → now ≡ with_slots s slots failed
     → s.entries ++ s.asks ++ take (place + 1) (finished now.slots) ≡ (s.entries ++ s.asks ++ take place (finished s.slots)) ++ e ∷ []
-    → IsLegal s.version task ((s.entries ++ s.asks ++ take place (finished s.slots)) ++ e ∷ [])
     → IsTalking task now (length now.slots) (place + 1) kept spoken
-    → BrokenOff task s.version s.pools ((s.entries ++ s.asks ++ take place (finished s.slots)) ++ e ∷ []) spoken
-broken_answered task s now place kept spoken e opened h slots failed is printed legal k =
+    → Dialogue task s.version s.pools ((s.entries ++ s.asks ++ take place (finished s.slots)) ++ e ∷ []) spoken
+dialogue_answered task s now place kept spoken e opened h slots failed is printed k =
     let open_now : now.is_open ≡ true = ap (λ (x : State). x.is_open) is ∙ opened in
     let talks : Talks task now.version now.pools
     (requests_of task now.pools (now.entries ++ now.asks ++ take (place + 1) (finished now.slots)))
@@ -554,7 +563,7 @@ broken_answered task s now place kept spoken e opened h slots failed is printed 
     subst (λ (x : State).
     Talks task x.version x.pools (requests_of task x.pools (x.entries ++ x.asks ++ take (place + 1) (finished now.slots)))
     (replies_of (x.entries ++ x.asks ++ take (place + 1) (finished now.slots))) kept spoken) is talks in
-    broken_none task s.version s.pools ((s.entries ++ s.asks ++ take place (finished s.slots)) ++ e ∷ []) spoken kept legal
+    dialogue_of task s.version s.pools ((s.entries ++ s.asks ++ take place (finished s.slots)) ++ e ∷ []) spoken kept
     (subst (λ es. Talks task s.version s.pools (requests_of task s.pools es) (replies_of es) kept spoken) printed moved)
 
 -- ---- a whole round

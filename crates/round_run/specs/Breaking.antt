@@ -14,6 +14,7 @@ use Rattle.transcript_model.specs.declared.head.Head.{Head}
 use Rattle.transcript_model.specs.declared.head.Pool.{Pool}
 use Rattle.round_run.specs.Calls.{Follows, IsStop, Reads, answers_by, lines_read, starts_of}
 use Rattle.round_run.specs.Dialogue.{Request, replies_of, requests_of, text_of_request, workers_in}
+use Rattle.round_run.specs.Stops.{MayListen, MayHear}
 use Rattle.round_run.specs.declared.fault.RunFault.{RunFault}
 use Rattle.round_run.specs.declared.fault.RunFault.TheVariants.{Answer, Generator, Write, Memory}
 
@@ -34,12 +35,13 @@ Tells free Memory refused =
 Tells free Write refused = refused ≡ []
 Tells free (Answer number why) refused = refused ≡ []
 
--- Writes of a request that may come next: they took the first bytes of its text, or all; if one was refused, it was of
--- the others.
+-- Writes of the next request, with which the transcript is such a front: they took the first bytes of its text, or all;
+-- if one was refused, it was of the others.
 pub record Writing (task : Task) (version : ℕ) (pools : List Workers) (before : List Entry)
-    (calls refused : List Event) : Type 0 where
+    (calls refused : List Event) (Front : List Entry → Type 0) : Type 0 where
   pub entry : Entry
   pub legal : IsLegal version task (before ++ entry ∷ [])
+  pub front : Front (before ++ entry ∷ [])
   pub request : Request
   pub next : requests_of task pools (before ++ entry ∷ []) ≡ requests_of task pools before ++ request ∷ []
   pub count : ℕ
@@ -58,33 +60,35 @@ pub record Listening (task : Task) (pools : List Workers) (past : List Event)
       ⊎ ((cause : HostFault) × (room : ℕ) × (refused ≡ heard request.child room (Err cause) ∷ [])
       × (lines_read request.child (past ++ calls) ≤ answers_by task pools before request.child))
 
--- the calls, behind those of the entries, of one entry that doesn't stand in the transcript
-abbrev pub IsBegun : Task → ℕ → List Workers → List Event → List Entry → List Event → List Event
-    → Type 0
-IsBegun task version pools past before calls refused =
-    ((calls ≡ []) × (refused ≡ [])) ⊎ Writing task version pools before calls refused
-    ⊎ Listening task pools past before calls refused
+-- The calls, behind those of the entries, of one entry that doesn't stand in the transcript: none, where the sink
+-- failed; and reads alone, where an answer is bad.
+abbrev pub IsBegun : Task → ℕ → List Workers → List Event → List Entry → RunFault → List Event → List Event
+    → (List Entry → Type 0) → Type 0
+IsBegun task version pools past before fault calls refused Front =
+    ((calls ≡ []) × (refused ≡ []))
+    ⊎ (MayHear fault × Writing task version pools before calls refused Front)
+    ⊎ (MayListen fault × Listening task pools past before calls refused)
 
 -- The events are the calls of these entries; then calls of one entry more, in part or whole; and then at most one that
 -- was refused, as the fault tells. Where memory is wanting and no call was refused for it, no request is open.
 pub record Breaks (task : Task) (version : ℕ) (pools : List Workers) (past : List Event)
-    (before more : List Entry) (fault : RunFault) (events : List Event) : Type 0 where
+    (before more : List Entry) (fault : RunFault) (events : List Event) (Front : List Entry → Type 0) : Type 0 where
   pub done : List Event
   pub calls : List Event
   pub refused : List Event
   pub cut : events ≡ done ++ calls ++ refused
   pub follows : Follows task pools past before more done
-  pub begun : IsBegun task version pools (past ++ done) (before ++ more) calls refused
+  pub begun : IsBegun task version pools (past ++ done) (before ++ more) fault calls refused Front
   pub told : Tells (HasNoneOpen (before ++ more)) fault refused
 
 -- the same of the calls that came to a log that is told
 abbrev pub LogBreaks : Task → ℕ → List Workers → List Entry → RunFault → Option (List Event)
-    → Option (List Event)
+    → Option (List Event) → (List Entry → Type 0)
     → List Entry → Type 0
-LogBreaks task version pools before fault old None more = ⊤
-LogBreaks task version pools before fault old (Some after) more =
+LogBreaks task version pools before fault old None Front more = ⊤
+LogBreaks task version pools before fault old (Some after) Front more =
     (past : List Event) × (events : List Event) × (old ≡ Some past) × (after ≡ past ++ events)
-    × Breaks task version pools past before more fault events
+    × Breaks task version pools past before more fault events Front
 
 -- ---- with the starts
 
@@ -108,26 +112,33 @@ pub record Unstarted (head : Head) (before more : List Entry) (fault : RunFault)
   pub none : asks_of more ≡ 0
   pub were : WereStarts head (before ++ more) fault events
 
+-- All workers were started, if none ran before, and then came the calls of the entries, up to where the run broke off.
+-- Where the sink failed they were started only for a request that stands.
+pub record Underway (task : Task) (head : Head) (past : List Event) (before more : List Entry) (fault : RunFault)
+    (events : List Event) (Front : List Entry → Type 0) : Type 0 where
+  pub later : List Event
+  pub cut : events ≡ starts_after head.pools (asks_of before) ++ later
+  pub needed : fault ≡ Write → 0 < asks_of (before ++ more)
+  pub breaks : Breaks task head.version (workers_in head)
+      (past ++ starts_after head.pools (asks_of before)) before more fault later Front
+
 -- The calls that came to the log, where it is told, are the starts of all workers, if none ran before, and then those
 -- of the entries, up to where the run broke off; or it broke off before the first request was written.
 abbrev pub RunBreaks : Task → Head → List Entry → RunFault → Option (List Event)
-    → Option (List Event) → List Entry
+    → Option (List Event) → (List Entry → Type 0) → List Entry
     → Type 0
-RunBreaks task head before fault old None more = ⊤
-RunBreaks task head before fault old (Some after) more =
+RunBreaks task head before fault old None Front more = ⊤
+RunBreaks task head before fault old (Some after) Front more =
     (past : List Event) × (events : List Event) × (old ≡ Some past) × (after ≡ past ++ events)
-    × (Unstarted head before more fault events
-    ⊎ ((later : List Event) × (events ≡ starts_after head.pools (asks_of before) ++ later)
-    × Breaks task head.version (workers_in head)
-    (past ++ starts_after head.pools (asks_of before)) before more fault later))
+    × (Unstarted head before more fault events ⊎ Underway task head past before more fault events Front)
 
 -- The same of a whole run, and then stops.
-abbrev pub LogBroken : Task → Head → List Entry → RunFault → Option (List Event)
+abbrev pub LogBroken : Task → Head → (List Entry → Type 0) → List Entry → RunFault → Option (List Event)
     → Option (List Event) → Type 0
-LogBroken task head entries fault old None = ⊤
-LogBroken task head entries fault old (Some after) =
+LogBroken task head Front entries fault old None = ⊤
+LogBroken task head Front entries fault old (Some after) =
     (events : List Event) × (stops : List Event) × (after ≡ events ++ stops) × All IsStop stops
-    × RunBreaks task head [] fault old (Some events) entries
+    × RunBreaks task head [] fault old (Some events) Front entries
 
 -- ---- one child
 

@@ -17,6 +17,8 @@ use Rattle.transcript_model.specs.declared.entry.Call.{Call}
 use Rattle.transcript_model.specs.declared.entry.Entry.{Entry}
 use Rattle.transcript_model.specs.declared.entry.Entry.TheVariants as entry
 use Rattle.transcript_model.specs.declared.head.Head.{Head}
+use Rattle.round_run.specs.Stops.{MayHear}
+use Rattle.round_run.specs.declared.fault.RunFault.{RunFault}
 
 -- ---- who is asked what
 
@@ -118,13 +120,15 @@ abbrev pub further_requests : Task → List Workers → List Entry → List Entr
 further_requests task pools entries next =
     drop (length (requests_of task pools entries)) (requests_of task pools (entries ++ next))
 
--- At most one request more was written, in whole or in part: one that may come next. Lines may have been read whose
--- answers don't stand in the transcript.
-pub record BrokenOff (task : Task) (version : ℕ) (pools : List Workers)
-    (entries : List Entry) (spoken : ℕ → Option Talk) : Type 0 where
+-- At most one request more was written, in whole or in part: the next, with which the transcript is such a front; and
+-- none where an answer is bad or the sink failed. Lines may have been read whose answers don't stand in the transcript.
+pub record BrokenOff (task : Task) (version : ℕ) (pools : List Workers) (Front : List Entry → Type 0)
+    (fault : RunFault) (entries : List Entry) (spoken : ℕ → Option Talk) : Type 0 where
   pub next : List Entry
   pub few : length next ≤ 1
+  pub only : (next ≡ []) ⊎ MayHear fault
   pub legal : IsLegal version task (entries ++ next)
+  pub front : Front (entries ++ next)
   pub count : ℕ
   pub said : (child : ℕ) → IsOneOf pools child
       → 0 < length (requests_of task pools (entries ++ next))

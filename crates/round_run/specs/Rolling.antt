@@ -76,11 +76,11 @@ pub record IsFrontPart (before : List Entry) (Whole : List Entry → Type 0) (en
 -- the request that is blamed, if one is, what was said with the children, and what the log tells of the calls.
 pub record Stopped (version : ℕ) (task : Task) (pools : List Workers) (Front : List Entry → Type 0)
     (before : List Entry) (fault : RunFault) (old new : Option (List ℕ)) (spoken : ℕ → Option Talk)
-    (log : List Entry → Type 0) : Type 0 where
+    (log : (List Entry → Type 0) → List Entry → Type 0) : Type 0 where
   pub more : List Entry
   pub legal : IsLegal version task (before ++ more)
   pub front : Front (before ++ more)
-  pub told : StopsAt fault old new (flat_map text_of_entry more)
+  pub told : StopsAt fault old new more
   pub blamed : Blames version task pools spoken fault (before ++ more)
-  pub talks : BrokenOff task version pools (before ++ more) spoken
-  pub logged : log more
+  pub talks : BrokenOff task version pools Front fault (before ++ more) spoken
+  pub logged : log Front more

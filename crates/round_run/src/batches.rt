@@ -103,13 +103,15 @@ fn start_workers<H: Host>(
     Ok(())
 }
 
-/// Cuts the asks into rounds and runs them, as far as calls are left: all requests of a round are written before its first
-/// answer is heard, and answers are heard, written and learnt in the order of the requests. The asks are due and stand in the
-/// list once each. Where nothing was asked before it starts all workers of all pools first, in the order of their numbers.
+/// Cuts the asks into rounds and runs them, as far as calls are left: all requests of a round are
+/// written before its first answer is heard, and answers are heard, written and learnt in the order
+/// of the requests. The asks are due and stand in the list once each. Where nothing was asked
+/// before it starts all workers of all pools first, in the order of their numbers.
 ///
 /// # Errors
-/// `Answer` where the line that answers a request is no answer; `Generator` and `Write` only where the host's or the sink's
-/// count of faults rose in this call; `Memory`. Afterwards the session may only be looked at.
+/// `Answer` where the line that answers a request is no answer; `Generator` and `Write` only where
+/// the host's or the sink's count of faults rose in this call; `Memory`. Afterwards the session may
+/// only be looked at.
 pub fn batch<H: Host, O: Sink>(
     task: &Task,
     head: &Head,

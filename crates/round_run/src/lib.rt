@@ -1,4 +1,5 @@
-//! Rounds over several children: all requests of a round are written before its first answer is heard.
+//! Rounds over several children: all requests of a round are written before its first answer is
+//! heard.
 #![tactic(auto)]
 
 mod batches;

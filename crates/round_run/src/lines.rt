@@ -28,8 +28,8 @@ fn pool_with(pools: &[Pool], child: u8) -> Option<&Pool>
     pools.iter().find(|pool| pool.first <= child && child - pool.first < pool.workers)
 }
 
-/// For each child the bytes that were read and not yet taken as lines, and whether it was started. All batches of a session
-/// take the same lines.
+/// For each child the bytes that were read and not yet taken as lines, and whether it was started.
+/// All batches of a session take the same lines.
 #[derive(Drop)]
 pub struct Lines {
     pub(crate) buffers: Vec<LineBuf>,

@@ -1,4 +1,5 @@
-//! One round: all its requests are written, and then its answers are heard, in the order of the requests.
+//! One round: all its requests are written, and then its answers are heard, in the order of the
+//! requests.
 ghost use Rattle.std.specs.Prelude.{◌≡◌, ◌<◌, ◌+◌, ◌++◌, ℕ, List, length, take, IfErr, OnOk};
 ghost use Rattle.instance_queue.specs.Level.{instances_of};
 ghost use Rattle.io_world.specs.Faults.{HasCause};

@@ -11,7 +11,7 @@ use std::io;
 use std::process::ExitCode;
 
 /// The files of rows, in the order in which they are run.
-const SUBJECTS: [&str; 12] = [
+const SUBJECTS: [&str; 13] = [
     "outcomes.rows",
     "limits.rows",
     "faults.rows",
@@ -24,6 +24,7 @@ const SUBJECTS: [&str; 12] = [
     "made.rows",
     "walks.rows",
     "searches.rows",
+    "focused.rows",
 ];
 
 /// The most bytes of a file of rows.

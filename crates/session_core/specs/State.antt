@@ -31,21 +31,7 @@ pub record State : Type 0 where
 
 abbrev pub with_slots : State → List Slot → Bool → State
 with_slots s slots failed =
-    record {
-      version = s.version;
-      calls = s.calls;
-      pools = s.pools;
-      entries = s.entries;
-      asked = s.asked;
-      known = s.known;
-      notes = s.notes;
-      learnt = s.learnt;
-      is_open = s.is_open;
-      asks = s.asks;
-      instances = s.instances;
-      slots = slots;
-      failed = failed;
-    }
+    record s { slots = slots; failed = failed }
 
 -- the child's request is written
 abbrev pub after_sent : State → ℕ → State
@@ -62,78 +48,29 @@ after_failure s = with_slots s s.slots true
 
 abbrev pub with_round : State → Bool → List Entry → List Instance → List Slot → State
 with_round s is_open asks instances slots =
-    record {
-      version = s.version;
-      calls = s.calls;
-      pools = s.pools;
-      entries = s.entries;
-      asked = s.asked;
-      known = s.known;
-      notes = s.notes;
-      learnt = s.learnt;
-      is_open = is_open;
-      asks = asks;
-      instances = instances;
-      slots = slots;
-      failed = s.failed;
-    }
+    record s { is_open = is_open; asks = asks; instances = instances; slots = slots }
 
 -- the round's requests, and then its answers in the same order, are put behind the transcript
 abbrev pub after_close : State → State
 after_close s =
-    record {
-      version = s.version;
-      calls = s.calls;
-      pools = s.pools;
+    record s {
       entries = s.entries ++ s.asks ++ answers_of s.slots;
       asked = s.asked ++ s.instances;
-      known = s.known;
-      notes = s.notes;
-      learnt = s.learnt;
       is_open = false;
       asks = [];
       instances = [];
       slots = [];
-      failed = s.failed;
     }
 
 -- the entry is put behind the transcript; where all was learnt, all still is
 abbrev pub after_mark : State → Entry → ℕ → State
 after_mark s e learnt =
-    record {
-      version = s.version;
-      calls = s.calls;
-      pools = s.pools;
-      entries = s.entries ++ e ∷ [];
-      asked = s.asked;
-      known = s.known;
-      notes = s.notes;
-      learnt = learnt;
-      is_open = s.is_open;
-      asks = s.asks;
-      instances = s.instances;
-      slots = s.slots;
-      failed = s.failed;
-    }
+    record s { entries = s.entries ++ e ∷ []; learnt = learnt }
 
 -- this is known and noted, of so many entries
 abbrev pub with_learnt : State → Known → List Note → ℕ → Bool → State
 with_learnt s known notes learnt failed =
-    record {
-      version = s.version;
-      calls = s.calls;
-      pools = s.pools;
-      entries = s.entries;
-      asked = s.asked;
-      known = known;
-      notes = notes;
-      learnt = learnt;
-      is_open = s.is_open;
-      asks = s.asks;
-      instances = s.instances;
-      slots = s.slots;
-      failed = failed;
-    }
+    record s { known = known; notes = notes; learnt = learnt; failed = failed }
 
 -- what holds of every session
 pub record IsSound (s : State) (entries_room asked_room : ℕ) : Type 0 where

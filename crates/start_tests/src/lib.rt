@@ -1,4 +1,5 @@
-//! Tests of `run`: which children are started, in which order, and what becomes of a run where one does not start.
+//! Tests of `run`: which children are started, in which order, and which calls are made on them
+//! where a run stops.
 #![tactic(auto)]
 
 #[cfg(test)]

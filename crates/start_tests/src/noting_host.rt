@@ -1,4 +1,4 @@
-//! A host that writes down which children were started, by which words, and how often one was stopped.
+//! A host that writes down which children were started, by which words, and counts the other calls.
 ghost use Rattle.std.specs.Prelude.{◌≡◌, ℕ};
 
 use io_world::{Host, HostFault};
@@ -53,11 +53,13 @@ impl Notes {
     }
 }
 
-/// A host that answers as another one does, writes down the starts and counts the stops.
+/// A host that answers as another one does, writes down the starts and counts the other calls.
 #[derive(Drop)]
 pub struct NotingHost<H> {
     host: H,
     notes: Notes,
+    writes: usize,
+    reads: usize,
     stops: usize,
 }
 
@@ -69,6 +71,8 @@ impl<H: Host> NotingHost<H> {
         NotingHost {
             host,
             notes: Notes::new(),
+            writes: 0,
+            reads: 0,
             stops: 0,
         }
     }
@@ -78,9 +82,9 @@ impl<H: Host> NotingHost<H> {
         Vec::from_slice(alloc, self.notes.text())
     }
 
-    /// How often a child was stopped.
-    pub fn stops(&self) -> usize {
-        self.stops
+    /// How often a child was written to, read from and stopped.
+    pub fn counts(&self) -> [usize; 3] {
+        [self.writes, self.reads, self.stops]
     }
 }
 
@@ -105,10 +109,12 @@ impl<H: Host> Host for NotingHost<H> {
     }
 
     fn write(&mut self, child: u8, bytes: &[u8]) -> Result<usize, HostFault> {
+        self.writes = self.writes.saturating_add(1);
         self.host.write(child, bytes)
     }
 
     fn read(&mut self, child: u8, room: &mut [u8]) -> Result<usize, HostFault> {
+        self.reads = self.reads.saturating_add(1);
         self.host.read(child, room)
     }
 

@@ -1,4 +1,4 @@
-//! Which children are started, in which order, and what becomes of a run where one does not start.
+//! Which children are started, in which order, and which calls are made on them where a run stops.
 
 use crate::noting_host::NotingHost;
 use pddlstream_app::Status;
@@ -85,12 +85,72 @@ level
 fault generator
 ";
 
-/// What is given, the text of the run, its starts, how many children are stopped, and how it ends.
-type Row = (Given<'static>, &'static str, &'static str, usize, Status);
+/// The run of `THREE` where the sink fails in the line of the level.
+const CUT_LEVEL: &str = "pddlstream 1 incremental
+limits 10000 100000 3
+pool 2 one
+pool 1 two
+pool 1 three
+level";
+
+/// The same where it fails in the line of the first request.
+const CUT_ASK: &str = "pddlstream 1 incremental
+limits 10000 100000 3
+pool 2 one
+pool 1 two
+pool 1 three
+level
+ask 1 0 ";
+
+/// The same where it fails in the line of the first answer.
+const CUT_GOT: &str = "pddlstream 1 incremental
+limits 10000 100000 3
+pool 2 one
+pool 1 two
+pool 1 three
+level
+ask 1 0 one cup
+ask 2 0 two cup
+ask 3 0 three cup
+got ";
+
+/// The same where the second request can't be written.
+const UNASKED: &str = "pddlstream 1 incremental
+limits 10000 100000 3
+pool 2 one
+pool 1 two
+pool 1 three
+level
+ask 1 0 one cup
+fault generator
+";
+
+/// The same where the first answer is none.
+const BAD: &str = "pddlstream 1 incremental
+limits 10000 100000 3
+pool 2 one
+pool 1 two
+pool 1 three
+level
+ask 1 0 one cup
+ask 2 0 two cup
+ask 3 0 three cup
+fault answer 1 word
+";
+
+/// What is given, the text of the run, its starts, how many writes, reads and stops there are, and
+/// how it ends.
+type Row = (
+    Given<'static>,
+    &'static str,
+    &'static str,
+    [usize; 3],
+    Status,
+);
 
 const ROWS: [Row; 7] = [
-    (THREE, PLAN, ALL, 4, Status::Plan),
-    (GRID_FIRST, PLAN_GRID_FIRST, ALL, 4, Status::Plan),
+    (THREE, PLAN, ALL, [3, 3, 4], Status::Plan),
+    (GRID_FIRST, PLAN_GRID_FIRST, ALL, [3, 3, 4], Status::Plan),
     (
         Given {
             host_fails: &[0],
@@ -98,7 +158,7 @@ const ROWS: [Row; 7] = [
         },
         FAULT,
         "0 g\n",
-        0,
+        [0, 0, 0],
         Status::GeneratorFault,
     ),
     (
@@ -108,7 +168,7 @@ const ROWS: [Row; 7] = [
         },
         FAULT,
         "0 g\n1 g\n",
-        1,
+        [0, 0, 1],
         Status::GeneratorFault,
     ),
     (
@@ -118,7 +178,7 @@ const ROWS: [Row; 7] = [
         },
         FAULT,
         "0 g\n1 g\n2 h x\n",
-        2,
+        [0, 0, 2],
         Status::GeneratorFault,
     ),
     (
@@ -128,7 +188,7 @@ const ROWS: [Row; 7] = [
         },
         FAULT,
         ALL,
-        3,
+        [0, 0, 3],
         Status::GeneratorFault,
     ),
     // The calls behind four starts, three writes and three reads are the stops.
@@ -139,14 +199,74 @@ const ROWS: [Row; 7] = [
         },
         PLAN,
         ALL,
-        4,
+        [3, 3, 4],
         Status::Plan,
     ),
 ];
 
-/// Asserts that the run has its text and its starts, and ends so.
+/// The sink takes seven bytes a call: the head in twelve calls, and then each word, space and line
+/// feed in one.
+const STOPPED: [Row; 5] = [
+    // No child is started for a level whose line is cut.
+    (
+        Given {
+            sink_fails: &[13],
+            ..THREE
+        },
+        CUT_LEVEL,
+        "",
+        [0, 0, 0],
+        Status::WriteFault,
+    ),
+    // Behind a request whose line is cut the next isn't written.
+    (
+        Given {
+            sink_fails: &[20],
+            ..THREE
+        },
+        CUT_ASK,
+        ALL,
+        [1, 0, 4],
+        Status::WriteFault,
+    ),
+    // Behind an answer whose line is cut the next isn't read.
+    (
+        Given {
+            sink_fails: &[46],
+            ..THREE
+        },
+        CUT_GOT,
+        ALL,
+        [3, 1, 4],
+        Status::WriteFault,
+    ),
+    // The one request more is the next of the round, which was to be written.
+    (
+        Given {
+            host_fails: &[5],
+            ..THREE
+        },
+        UNASKED,
+        ALL,
+        [2, 0, 4],
+        Status::GeneratorFault,
+    ),
+    // Behind a bad answer nothing more is written.
+    (
+        Given {
+            answers: "what\n",
+            ..THREE
+        },
+        BAD,
+        ALL,
+        [3, 1, 4],
+        Status::BadAnswer,
+    ),
+];
+
+/// Asserts that the run has its text, its starts and so many other calls, and ends so.
 fn check(rt: &impl Abort, alloc: Global, place: usize, row: &Row) -> Result<(), Fail> {
-    let (given, want, starts, stops, ends) = row;
+    let (given, want, starts, calls, ends) = row;
     let mut host = NotingHost::new(host_of(alloc, given)?);
     let (text, status) = ran_over(alloc, given, &mut host)?;
     assert_eq!(rt; text.as_slice(), want.as_bytes(), "row {place}");
@@ -155,7 +275,7 @@ fn check(rt: &impl Abort, alloc: Global, place: usize, row: &Row) -> Result<(), 
         starts.as_bytes(),
         "row {place}"
     );
-    assert_eq!(rt; host.stops(), *stops, "row {place}");
+    assert_eq!(rt; host.counts(), *calls, "row {place}");
     assert_eq!(rt; status, *ends, "row {place}");
     Ok(())
 }
@@ -163,6 +283,14 @@ fn check(rt: &impl Abort, alloc: Global, place: usize, row: &Row) -> Result<(), 
 #[test]
 fn workers_start_in_the_order_of_their_numbers(rt: HostRuntime) -> Result<(), Fail> {
     for (place, row) in ROWS.iter().enumerate() {
+        check(&rt, rt.alloc(), place, row)?;
+    }
+    Ok(())
+}
+
+#[test]
+fn nothing_is_asked_or_heard_behind_a_fault(rt: HostRuntime) -> Result<(), Fail> {
+    for (place, row) in STOPPED.iter().enumerate() {
         check(&rt, rt.alloc(), place, row)?;
     }
     Ok(())

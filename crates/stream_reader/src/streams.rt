@@ -59,7 +59,7 @@ fn stream_of(
         value_at(b":value", keys),
     )?;
     Ok(Stream {
-        name: Name::new(Vec::from_slice(alloc, name)?),
+        name: Name::from_slice(alloc, name)?,
         inputs: Seq::from_vec(inputs),
         outputs: Seq::from_vec(outputs),
         domain: Seq::from_vec(domain),

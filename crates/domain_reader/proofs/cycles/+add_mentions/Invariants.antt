@@ -9,8 +9,8 @@ decreases-add_mentions l = count (trees l.items.now)
 
 abbrev pub invariant-trees : goal.invariant-trees
 invariant-trees l = record {
-  edges : mentions_in l.predicates.names l.fn.edges.items l.from (trees l.items)
-      ≡ mentions_in l.predicates.names l.edges.items l.from (trees l.left);
+  edges : mentions_in l.predicates.names l.fn.edges l.from (trees l.items)
+      ≡ mentions_in l.predicates.names l.edges l.from (trees l.left);
   smaller : count (trees l.left) ≤ count (trees l.items);
 }
 

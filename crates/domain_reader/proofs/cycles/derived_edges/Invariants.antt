@@ -7,7 +7,7 @@ use Rattle.domain_reader.proofs.cycles.derived_edges.Given as goal
 abbrev pub invariant-items : goal.invariant-items
 invariant-items l =
     derived_edges l.predicates.names (trees l.body)
-    ≡ bodies_in l.predicates.names l.edges.items (trees l.left)
+    ≡ bodies_in l.predicates.names l.edges (trees l.left)
 
 abbrev pub decreases-items : goal.decreases-items
 decreases-items l = count (trees l.left)

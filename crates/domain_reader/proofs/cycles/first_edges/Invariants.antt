@@ -5,4 +5,4 @@ use Rattle.domain_reader.proofs.cycles.first_edges.Given as goal
 
 abbrev pub invariant-loop-place : goal.invariant-loop-place
 invariant-loop-place l =
-    first_edges l.sorts ≡ l.edges.items ++ edges_from l.place (drop l.place l.sorts)
+    first_edges l.sorts ≡ l.edges ++ edges_from l.place (drop l.place l.sorts)

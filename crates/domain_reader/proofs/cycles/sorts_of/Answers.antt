@@ -6,9 +6,9 @@ use Rattle.domain_reader.proofs.cycles.sorts_of.Goals as goal
 pub loop-place-preserved : goal.loop-place-preserved
 loop-place-preserved c =
     let lt : c.loop-place.place < length c.args.sorts.now = omega (arith, c.loop-place-test.true, c.len-place-end.ensures) in
-    sorts_more c.args.edges.now c.args.sorts.now c.loop-place.list.items c.push.new.self.items c.loop-place.place c.new-name.result
+    sorts_more c.args.edges.now c.args.sorts.now c.loop-place.list.items c.push.new.self.items c.loop-place.place c.in_ok-name.name
     c.in_ok-above.above c.loop-place.invariant lt
-    (c.new-name.ensures ∙ c.in_ok-from_slice.ensures.items ∙ c.name_at.ensures)
+    (c.in_ok-name.ensures.name ∙ c.name_at.ensures)
     (subst (λ k. IsAbove c.args.edges.now k c.in_ok-above.above) c.in_ok-number.ensures c.in_ok-above.ensures)
     c.in_ok-push.ensures.items
 

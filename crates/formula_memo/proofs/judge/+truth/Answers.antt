@@ -1,4 +1,4 @@
-use Rattle.std.proofs.Common.{rules, tests, ◌≡◌, ◌+◌, ◌||◌, length, true, false, ℕ, suc, IfOk, slice_set, sym, ap, ◌∙◌, subst, arith, drop, get_or, add-one, eq-eqb}
+use Rattle.std.proofs.Common.{rules, tests, ◌≡◌, ◌+◌, length, true, false, ℕ, suc, List, IfOk, slice_set, sym, ap, ◌∙◌, subst, arith, get_or, eq-eqb}
 use Rattle.std.specs.List.{list_any}
 use Rattle.task_model.proofs.TruthLemmas.{have_types-length}
 use Rattle.task_model.specs.Condition.{Atom, All as every, Any, Not, Exists, parts_of}
@@ -9,11 +9,12 @@ use Rattle.task_model.specs.declared.domain.Role.TheVariants as role
 use Rattle.formula_eval.specs.Judged.{some_at, derived_at}
 use Rattle.formula_eval.proofs.ConditionPartLemmas.{readable_part, set_back, set_twice}
 use Rattle.formula_eval.proofs.ReadableLemmas.{roles_length, role_kept, static_at, fluent_at, fit_item, item_params, item_readable}
-use Rattle.formula_eval.proofs.ListTestLemmas.{list_any-drop}
 use Rattle.formula_eval.proofs.WeightLemmas.{part_lighter, body_lighter, items_weight}
 use Rattle.formula_memo.proofs.DepthLemmas.{not_derived, body_rests, part_rests, atom_rests, all_rest, any_rest, not_rests, exists_rests, derived_truth, deeper_heavier}
+use Rattle.formula_memo.proofs.TriesLemmas.{below_same, none_passes, one_tried, passed_there, placed_lead}
 use Rattle.formula_memo.specs.Remembered.{truth_of}
 use Rattle.formula_memo.specs.Rests.{AllRest, PartsRest, RestsWithin}
+use Rattle.formula_memo.specs.Tries.{is_passed}
 use Rattle.formula_memo.proofs.judge.+truth.Goals as goal
 
 pub truth-atom-requires : goal.truth-atom-requires
@@ -123,7 +124,8 @@ atom-derived_atom-requires g t c κs within =
 pub derived_atom-derived-requires : goal.derived_atom-derived-requires
 derived_atom-derived-requires g t c κs within =
     let domain = c.args.scene.now.task.now.domain in
-    let above : c.args.depth ≡ suc c.in-Some-checked_sub.below = omega (arith, c.in-Some-checked_sub.ensures.0, c.in-Some-checked_sub.ensures.1) in
+    let above : c.args.depth ≡ suc c.in-Some-checked_sub.below =
+    omega (arith, c.in-Some-checked_sub.ensures.0, c.in-Some-checked_sub.ensures.1) in
     let heavier = deeper_heavier c.args.depth c.in-Some-checked_sub.below (items_weight domain.derived) above in
     let rests : RestsWithin domain (suc c.in-Some-checked_sub.below) c.args.atom.pred =
     subst (λ d. RestsWithin domain d c.args.atom.pred) above c.requires.rests in
@@ -146,7 +148,9 @@ follows_by-truth-requires g t c κs within =
     let there = c.requires.there in
     let item = c.args.item.now in
     let lighter = body_lighter domain.derived there.0 item there.1 (sym there.2) in
-    let readable = item_readable domain c.requires.fit.domain item (fit_item domain c.requires.fit.domain there.0 item there.1 (sym there.2)) in
+    let readable =
+    item_readable domain c.requires.fit.domain item
+    (fit_item domain c.requires.fit.domain there.0 item there.1 (sym there.2)) in
     let same : item.pred ≡ c.args.pred = search (rules, tests) in
     let rests = body_rests domain c.args.depth c.args.pred item c.requires.rests there (eq-eqb item.pred c.args.pred same) in
     search rules
@@ -161,7 +165,8 @@ some_tuple-returns-clause-value g t c =
     let scene = c.args.scene.now in
     let domain = scene.task.now.domain in
     subst (λ ss. IfOk c.some_object-found.result (λ value. value
-    ≡ some_at domain (g.L.Look.known scene.look.now) scene.state.now (length domain.derived) c.args.first ss c.args.body.now c.args.env.now))
+    ≡ some_at domain (g.L.Look.known scene.look.now) scene.state.now
+    (length domain.derived) c.args.first ss c.args.body.now c.args.env.now))
     (sym c.in-Some.ensures.cases.0) c.some_object-found.ensures.value
 
 pub some_tuple-returns-clause-same : goal.some_tuple-returns-clause-same
@@ -169,38 +174,37 @@ some_tuple-returns-clause-same g t c =
     c.set.ensures ∙ c.some_object-found.ensures.same c.get-kept.result
     ∙ ap (slice_set c.args.env.now c.args.first) c.get-kept.ensures ∙ set_back c.args.env.now c.args.first
 
-pub some_object-some_tuple-requires : goal.some_object-some_tuple-requires
-some_object-some_tuple-requires g t c κs within =
+pub some_object-passes-requires : goal.some_object-passes-requires
+some_object-passes-requires g t c κs within =
     let stands = c.loop-place.invariant.2 in
     search rules
+
+pub some_object-tried_object-tried-requires-clause-placed : goal.some_object-tried_object-tried-requires-clause-placed
+some_object-tried_object-tried-requires-clause-placed g t c =
+    placed_lead c.args.scene.now.task.now.domain c.args.body.now c.args.first c.lead_for-lead.result c.lead_for-lead.ensures.lead
 
 pub some_object-returns-then-found-clause-value : goal.some_object-returns-then-found-clause-value
 some_object-returns-then-found-clause-value g t c =
     let domain = c.args.scene.now.task.now.domain in
     let known = g.L.Look.known c.args.scene.now.look.now in
     let state = c.args.scene.now.state.now in
-    let depth = length domain.derived in
     let objects = objects_of known.facts c.args.sort in
-    let test = λ (o : ℕ).
-    some_at domain known state depth (c.args.first + 1) c.args.rest.now c.args.body.now (slice_set c.args.env.now c.args.first o) in
-    let here : test c.object.result ≡ true =
-    ap (some_at domain known state depth (c.args.first + 1) c.args.rest.now c.args.body.now)
-    (sym (c.loop-place.invariant.1 c.object.result) ∙ sym c.set.ensures)
+    let depth = length domain.derived in
+    let passes = λ (slots : List ℕ). some_at domain known state depth (c.args.first + 1) c.args.rest.now c.args.body.now slots in
+    let test = λ (o : ℕ). passes (slice_set c.args.env.now c.args.first o) in
+    let passed : is_passed test c.tried_object-tried.result ≡ true =
+    ap (λ f. is_passed f c.tried_object-tried.result)
+    (λ i o. passes (sym (c.loop-place.invariant.1 o ∙ c.lead_for-lead.ensures.same o) i))
     ∙ sym c.in_ok-found.ensures.value ∙ c.if-found.true in
-    let left : list_any test (drop c.loop-place.place objects) ≡ true =
-    list_any-drop test objects c.loop-place.place c.object.result c.object.ensures
-    ∙ ap (λ b. b || list_any test (drop (suc c.loop-place.place) objects)) here in
-    sym (sym c.loop-place.invariant.0 ∙ left)
+    sym (passed_there test objects c.tried_object-tried.result c.tried_object-tried.ensures.typed passed)
 
 pub some_object-returns-then-found-clause-same : goal.some_object-returns-then-found-clause-same
 some_object-returns-then-found-clause-same g t c o =
-    ap (λ s. slice_set s c.args.first o) (c.in_ok-found.ensures.same ∙ c.set.ensures)
-    ∙ set_twice c.loop-place.env c.args.first c.object.result o ∙ c.loop-place.invariant.1 o
+    c.in_ok-found.ensures.same o ∙ c.loop-place.invariant.1 o ∙ c.lead_for-lead.ensures.same o
 
 pub some_object-returns-in_err-found-clause-same : goal.some_object-returns-in_err-found-clause-same
 some_object-returns-in_err-found-clause-same g t c o =
-    ap (λ s. slice_set s c.args.first o) (c.in_err-found.ensures.same ∙ c.set.ensures)
-    ∙ set_twice c.loop-place.env c.args.first c.object.result o ∙ c.loop-place.invariant.1 o
+    c.in_err-found.ensures.same o ∙ c.loop-place.invariant.1 o ∙ c.lead_for-lead.ensures.same o
 
 pub some_object-loop-place-preserved : goal.some_object-loop-place-preserved
 some_object-loop-place-preserved g t c =
@@ -208,26 +212,54 @@ some_object-loop-place-preserved g t c =
     let known = g.L.Look.known c.args.scene.now.look.now in
     let state = c.args.scene.now.state.now in
     let depth = length domain.derived in
-    let objects = objects_of known.facts c.args.sort in
-    let test = λ (o : ℕ).
-    some_at domain known state depth (c.args.first + 1) c.args.rest.now c.args.body.now (slice_set c.args.env.now c.args.first o) in
-    let here : test c.object.result ≡ false =
-    ap (some_at domain known state depth (c.args.first + 1) c.args.rest.now c.args.body.now)
-    (sym (c.loop-place.invariant.1 c.object.result) ∙ sym c.set.ensures)
-    ∙ sym c.in_ok-found.ensures.value ∙ c.if-found.false in
-    let left : list_any test (drop c.loop-place.place objects) ≡ list_any test (drop (suc c.loop-place.place) objects) =
-    list_any-drop test objects c.loop-place.place c.object.result c.object.ensures
-    ∙ ap (λ b. b || list_any test (drop (suc c.loop-place.place) objects)) here in (
-      ap (λ n. list_any test (drop n objects)) (add-one c.loop-place.place) ∙ sym left ∙ c.loop-place.invariant.0,
-      λ o. ap (λ s. slice_set s c.args.first o) (c.in_ok-found.ensures.same ∙ c.set.ensures)
-          ∙ set_twice c.loop-place.env c.args.first c.object.result o ∙ c.loop-place.invariant.1 o,
+    let slots = c.lead_for-lead.new.env in
+    let passes = λ (slots : List ℕ). some_at domain known state depth (c.args.first + 1) c.args.rest.now c.args.body.now slots in
+    let test = λ (o : ℕ). passes (slice_set slots c.args.first o) in
+    let untrue : is_passed test c.tried_object-tried.result ≡ false =
+    ap (λ f. is_passed f c.tried_object-tried.result) (λ i o. passes (sym (c.loop-place.invariant.1 o) i))
+    ∙ sym c.in_ok-found.ensures.value ∙ c.if-found.false in (
+      one_tried domain known state depth c.args.sort c.args.first c.args.rest.now c.args.body.now slots c.lead_for-lead.result
+          c.loop-place.place c.loop-place.env c.tried_object-tried.result
+          (below_same c.loop-place.env slots c.args.first (c.loop-place.invariant.1 0))
+          c.tried_object-tried.ensures.comes
+          untrue c.loop-place.invariant.0,
+      λ o. c.in_ok-found.ensures.same o ∙ c.loop-place.invariant.1 o,
       c.in_ok-found.ensures.stands,
     )
+
+pub some_object-returns-clause-value : goal.some_object-returns-clause-value
+some_object-returns-clause-value g t c =
+    let domain = c.args.scene.now.task.now.domain in
+    let known = g.L.Look.known c.args.scene.now.look.now in
+    let state = c.args.scene.now.state.now in
+    let depth = length domain.derived in
+    let objects = objects_of known.facts c.args.sort in
+    let passes = λ (slots : List ℕ). some_at domain known state depth (c.args.first + 1) c.args.rest.now c.args.body.now slots in
+    let none = none_passes domain known state depth c.args.sort c.args.first c.args.rest.now c.args.body.now
+    c.lead_for-lead.new.env c.lead_for-lead.result c.loop-place.place c.lead_for-lead.ensures.lead
+    c.lead_for-lead.ensures.inside (omega arith) c.loop-place.invariant.0 in
+    sym none ∙ ap (λ f. list_any f objects) (λ i o. passes (c.lead_for-lead.ensures.same o i))
+
+pub some_object-returns-clause-same : goal.some_object-returns-clause-same
+some_object-returns-clause-same g t c o = c.loop-place.invariant.1 o ∙ c.lead_for-lead.ensures.same o
+
+pub passes-returns-clause-value : goal.passes-returns-clause-value
+passes-returns-clause-value g t c = search rules
+
+pub passes-returns-clause-same : goal.passes-returns-clause-same
+passes-returns-clause-same g t c o =
+    ap (λ s. slice_set s c.args.first o) (c.in_ok-some_tuple.ensures.same ∙ c.set.ensures)
+    ∙ set_twice c.args.env.now c.args.first c.in-Some.object o
+
+pub passes-returns-in_err-some_tuple-clause-same : goal.passes-returns-in_err-some_tuple-clause-same
+passes-returns-in_err-some_tuple-clause-same g t c o =
+    ap (λ s. slice_set s c.args.first o) (c.in_err-some_tuple.ensures.same ∙ c.set.ensures)
+    ∙ set_twice c.args.env.now c.args.first c.in-Some.object o
 
 pub derived_atom-unreachable-requires : goal.derived_atom-unreachable-requires
 derived_atom-unreachable-requires g t c =
     let domain = c.args.scene.now.task.now.domain in
-    let none : c.args.depth ≡ 0 = omega (arith, c.in_default.ensures) in
+    let none : c.args.depth ≡ 0 = omega arith in
     not_derived domain c.args.atom.pred (subst (λ d. RestsWithin domain d c.args.atom.pred) none c.requires.rests) c.requires.role
 
 pub derived_atom-returns-in_err-note-clause-stands : goal.derived_atom-returns-in_err-note-clause-stands

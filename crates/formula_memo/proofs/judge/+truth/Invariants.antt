@@ -1,9 +1,9 @@
 use Rattle.std.proofs.Common.{◌≡◌, ◌+◌, ◌*◌, ℕ, length, drop, slice_set}
 use Rattle.std.specs.List.{list_any}
 use Rattle.task_model.specs.Condition.{parts_of}
-use Rattle.task_model.specs.Known.{objects_of}
-use Rattle.formula_eval.specs.Judged.{all_at, any_at, some_at, is_item_true}
+use Rattle.formula_eval.specs.Judged.{all_at, any_at, is_item_true}
 use Rattle.formula_eval.proofs.WeightLemmas.{weight, weights, items_weight}
+use Rattle.formula_memo.proofs.TriesLemmas.{TriedBefore}
 use Rattle.formula_memo.specs.Remembered.{StandsFor}
 use Rattle.formula_memo.proofs.judge.+truth.Given as goal
 
@@ -20,16 +20,22 @@ abbrev pub decreases-derived_atom : goal.decreases-derived_atom
 decreases-derived_atom g l = 4 * (l.depth * items_weight l.scene.now.task.now.domain.derived) + 2
 
 abbrev pub decreases-derived : goal.decreases-derived
-decreases-derived g l = 4 * (l.depth * items_weight l.scene.now.task.now.domain.derived + items_weight l.scene.now.task.now.domain.derived) + 1
+decreases-derived g l =
+    4 * (l.depth * items_weight l.scene.now.task.now.domain.derived + items_weight l.scene.now.task.now.domain.derived)
+    + 1
 
 abbrev pub decreases-follows_by : goal.decreases-follows_by
-decreases-follows_by g l = 4 * (l.depth * items_weight l.scene.now.task.now.domain.derived + items_weight l.scene.now.task.now.domain.derived)
+decreases-follows_by g l =
+    4 * (l.depth * items_weight l.scene.now.task.now.domain.derived + items_weight l.scene.now.task.now.domain.derived)
 
 abbrev pub decreases-some_tuple : goal.decreases-some_tuple
 decreases-some_tuple g l = 4 * (l.depth * items_weight l.scene.now.task.now.domain.derived + (weight l.body.now + length l.sorts.now)) + 1
 
 abbrev pub decreases-some_object : goal.decreases-some_object
-decreases-some_object g l = 4 * (l.depth * items_weight l.scene.now.task.now.domain.derived + (weight l.body.now + length l.rest.now)) + 2
+decreases-some_object g l = 4 * (l.depth * items_weight l.scene.now.task.now.domain.derived + (weight l.body.now + length l.rest.now)) + 3
+
+abbrev pub decreases-passes : goal.decreases-passes
+decreases-passes g l = 4 * (l.depth * items_weight l.scene.now.task.now.domain.derived + (weight l.body.now + length l.rest.now)) + 2
 
 abbrev pub decreases-truth : goal.decreases-truth
 decreases-truth g l =
@@ -59,12 +65,10 @@ invariant-derived-loop-item g l =
     (list_any test (drop l.item-index domain.derived) ≡ list_any test domain.derived)
     × StandsFor domain known l.scene.state.now l.memo
 
--- what is left to see decides, only the slot changes, and what is remembered is true
+-- what was tried doesn't pass, only the slot changes, and what is remembered is true
 abbrev pub invariant-some_object-loop-place : goal.invariant-some_object-loop-place
 invariant-some_object-loop-place g l =
     let domain = l.scene.task.now.domain in let known = g.L.Look.known l.scene.look.now in
-    let objects = objects_of known.facts l.sort in
-    let test = λ (o : ℕ). some_at domain known l.scene.state.now (length domain.derived) (l.first + 1) l.rest l.body (slice_set l.initial.env l.first o) in
-    (list_any test (drop l.place objects) ≡ list_any test objects)
+    TriedBefore domain known l.scene.state.now (length domain.derived) l.sort l.first l.rest l.body l.initial.env l.lead l.place
     × ((o : ℕ) → slice_set l.env l.first o ≡ slice_set l.initial.env l.first o)
     × StandsFor domain known l.scene.state.now l.memo

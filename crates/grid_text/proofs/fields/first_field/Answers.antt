@@ -1,6 +1,6 @@
 use Rattle.std.proofs.Common.{rules, ◌≡◌, ◌-◌, position, drop, take, length, Some, None, List, ℕ}
 use Rattle.gen_lines.proofs.FieldLemmas.{other, fields_none}
-use Rattle.grid_text.proofs.FirstFields.{behind, first_of}
+use Rattle.grid_text.proofs.LinesFieldLemmas.{behind, first_of}
 use Rattle.grid_text.proofs.fields.first_field.Goals as goal
 
 pub returns : goal.returns

@@ -1,9 +1,9 @@
 use Rattle.std.proofs.Common.{◌≡◌, ◌⊎◌, ◌++◌, ◌∷◌, [], List, true, false, sym, subst, ◌∙◌, refl}
 use Rattle.std.proofs.lemmas.Result.{IfErr-weaker, IfOk-weaker}
-use Rattle.transcript_model.specs.Legal.{HasNoneOpen}
+use Rattle.transcript_model.specs.Legal.{HasNoneOpen, IsLegal}
 use Rattle.transcript_model.specs.declared.entry.Entry.{Entry}
 use Rattle.transcript_model.specs.declared.entry.Entry.TheVariants as entry
-use Rattle.level_run.proofs.AdvancingLemmas.{mark_advances, quiet_turn}
+use Rattle.level_run.proofs.AdvancingLemmas.{mark_advances, quiet_turn, turn_breaks_as}
 use Rattle.level_run.proofs.TurnsFrontLemmas.{falls_level, falls_reset, front_fallback, front_reset}
 use Rattle.level_run.proofs.TurnsLevelLemmas.{rests_marked}
 use Rattle.level_run.specs.Advancing.{TurnBreaks}
@@ -55,15 +55,15 @@ returns-in_err-mark-clause-stopped g c =
     rests.works.listens.session rests.works.listens.told rests.started in
     let at = (λ (es : List Entry). (es ≡ s.entries) ⊎ (es ≡ s.entries ++ entry.Reset ∷ [])) in
     let fallback = IsFrontOfFallback head task c.args.is_tried s.entries in
-    let marked = λ (more : List Entry). (more ≡ []) ⊎ (more ≡ entry.Reset ∷ []) in
+    let marked = λ (Front : List Entry → Type 0) (more : List Entry). (more ≡ []) ⊎ (more ≡ entry.Reset ∷ []) in
     let was = g.H.Host.log c.args.host.now in
     handed c.from_residual.result fault _ c.from_residual.ensures.1
     (stopped_as head.version task (workers_in head) spoken fallback at s.entries fault
     (g.O.Sink.taken c.args.out.now) (g.O.Sink.taken c.mark.new.out) marked (TurnBreaks task head s.entries fault was was)
     (λ es legal there. subst (λ b. IsFrontOfFallback head task b s.entries es) (sym c.if-is_tried.true)
     (front_reset head task s.entries es there))
-    (quiet_turn task head entry.Reset refl s.entries fault was
-    (tells_written (HasNoneOpen s.entries) fault rests.works.listens.session.none_open c.in_err-mark.ensures.only))
+    (λ more told there. quiet_turn task head fallback entry.Reset refl s.entries fault was
+    (tells_written (HasNoneOpen s.entries) fault rests.works.listens.session.none_open c.in_err-mark.ensures.only) more)
     (subst (λ v. Stopped v task (workers_in head) at s.entries fault (g.O.Sink.taken c.args.out.now)
     (g.O.Sink.taken c.mark.new.out) spoken marked) rests.works.of.version
     (subst (λ ps. Stopped s.version task ps at s.entries fault (g.O.Sink.taken c.args.out.now)
@@ -90,11 +90,14 @@ returns-clause-stopped g c =
     let task = c.args.task.now in
     let was = g.H.Host.log c.args.host.now in
     let log = g.H.Host.log c.run_level.new.host in
+    let level = IsFrontPart s.entries (IsSomeLevel head task s.entries) in
+    let fallback = IsFrontOfFallback head task c.args.is_tried s.entries in
+    let wider : (es : List Entry) → IsLegal head.version task es → level es → fallback es =
+    λ es legal f. subst (λ t. IsFrontOfFallback head task t s.entries es) (sym c.if-is_tried.false)
+    (front_fallback head task s.entries es f) in
     IfErr-weaker c.run_level.result _ _ (λ fault stopped.
-    stopped_as head.version task (workers_in head) (g.H.Host.spoken c.run_level.new.host)
-    (IsFrontOfFallback head task c.args.is_tried s.entries) (IsFrontPart s.entries (IsSomeLevel head task s.entries)) s.entries fault
+    stopped_as head.version task (workers_in head) (g.H.Host.spoken c.run_level.new.host) fallback level s.entries fault
     (g.O.Sink.taken c.args.out.now) (g.O.Sink.taken c.run_level.new.out)
-    (TurnBreaks task head s.entries fault was log) (TurnBreaks task head s.entries fault was log)
-    (λ es legal f. subst (λ t. IsFrontOfFallback head task t s.entries es) (sym c.if-is_tried.false)
-    (front_fallback head task s.entries es f)) (λ more l. l) stopped)
+    (TurnBreaks task head s.entries fault was log) (TurnBreaks task head s.entries fault was log) wider
+    (λ more told there. turn_breaks_as task head level fallback wider s.entries fault was log more) stopped)
     c.run_level.ensures.stopped

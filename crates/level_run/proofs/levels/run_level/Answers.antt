@@ -1,8 +1,10 @@
-use Rattle.std.proofs.Common.{length, refl}
+use Rattle.std.proofs.Common.{List, length, refl}
 use Rattle.std.proofs.lemmas.Result.{IfErr-weaker, IfOk-weaker}
 use Rattle.instance_queue.specs.Level.{instances_of}
+use Rattle.transcript_model.specs.Legal.{IsLegal}
+use Rattle.transcript_model.specs.declared.entry.Entry.{Entry}
 use Rattle.transcript_model.specs.declared.entry.Entry.TheVariants as entry
-use Rattle.level_run.proofs.AdvancingLemmas.{opens_level}
+use Rattle.level_run.proofs.AdvancingLemmas.{opens_level, turn_breaks_as}
 use Rattle.level_run.proofs.TurnsFrontLemmas.{front_level}
 use Rattle.level_run.proofs.TurnsLevelLemmas.{level_of}
 use Rattle.level_run.specs.Advancing.{TurnBreaks}
@@ -13,14 +15,14 @@ use Rattle.round_run.specs.Dialogue.{workers_in}
 use Rattle.round_run.specs.Rolling.{IsFrontPart}
 use Rattle.level_run.proofs.levels.run_level.Goals as goal
 
-pub ask_behind-requires-clause-line : goal.ask_behind-requires-clause-line
-ask_behind-requires-clause-line g c = (refl, opens_level c.args.head.now.mode)
-
-pub ask_behind-requires-clause-ready : goal.ask_behind-requires-clause-ready
-ask_behind-requires-clause-ready g c = c.requires.turn.ready
-
-pub ask_behind-requires-clause-asks : goal.ask_behind-requires-clause-asks
-ask_behind-requires-clause-asks g c = (c.requires.turn.some, c.requires.turn.left)
+pub ask_behind-requires-clause-may : goal.ask_behind-requires-clause-may
+ask_behind-requires-clause-may g c = record {
+  mark = refl;
+  opens = opens_level c.args.head.now.mode;
+  ready = c.requires.turn.ready;
+  some = c.requires.turn.some;
+  left = c.requires.turn.left;
+}
 
 pub returns-clause-ran : goal.returns-clause-ran
 returns-clause-ran g c =
@@ -44,11 +46,13 @@ returns-clause-stopped g c =
     let task = c.args.task.now in
     let was = g.H.Host.log c.args.host.now in
     let log = g.H.Host.log c.ask_behind.new.host in
+    let level = IsFrontPart s.entries (IsSomeLevel head task s.entries) in
+    let behind = IsFrontBehind head task s.entries entry.Level (instances_of c.args.dues.now) in
+    let wider : (es : List Entry) → IsLegal head.version task es → behind es → level es =
+    λ es legal f. front_level head task s.entries (length s.asked) c.args.dues.now c.requires.turn es f in
     IfErr-weaker c.ask_behind.result _ _ (λ fault stopped.
-    stopped_as head.version task (workers_in head) (g.H.Host.spoken c.ask_behind.new.host)
-    (IsFrontPart s.entries (IsSomeLevel head task s.entries))
-    (IsFrontBehind head task s.entries entry.Level (instances_of c.args.dues.now)) s.entries fault
+    stopped_as head.version task (workers_in head) (g.H.Host.spoken c.ask_behind.new.host) level behind s.entries fault
     (g.O.Sink.taken c.args.out.now) (g.O.Sink.taken c.ask_behind.new.out)
-    (TurnBreaks task head s.entries fault was log) (TurnBreaks task head s.entries fault was log)
-    (λ es legal f. front_level head task s.entries (length s.asked) c.args.dues.now c.requires.turn es f) (λ more l. l) stopped)
+    (TurnBreaks task head s.entries fault was log) (TurnBreaks task head s.entries fault was log) wider
+    (λ more told there. turn_breaks_as task head behind level wider s.entries fault was log more) stopped)
     c.ask_behind.ensures.stopped

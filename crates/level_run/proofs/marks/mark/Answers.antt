@@ -7,7 +7,7 @@ use Rattle.level_run.proofs.TurnsLevelLemmas.{mark_last, marked}
 use Rattle.round_run.proofs.DialogueMarkLemmas.{mark_legal}
 use Rattle.round_run.proofs.PiecesLemmas.{printed_part}
 use Rattle.round_run.proofs.StoppedLemmas.{handed, stopped_at, stopped_memory}
-use Rattle.round_run.proofs.TalkingLemmas.{broken_marked, broken_told}
+use Rattle.round_run.proofs.TalkingLemmas.{dialogue_marked, dialogue_told}
 use Rattle.round_run.specs.declared.fault.RunFault.TheVariants.{Memory, Write}
 use Rattle.level_run.proofs.marks.mark.Goals as goal
 
@@ -17,8 +17,8 @@ returns-in_err-mark-clause-stopped g c = λ task running kept spoken h told star
     let e = c.args.entry in
     handed c.from_residual.result Memory _ c.from_residual.ensures.1
     (stopped_memory s.version task s.pools spoken (λ es. (es ≡ s.entries) ⊎ (es ≡ s.entries ++ e ∷ [])) s.entries Memory
-    (g.O.Sink.taken c.args.out.now) (λ more. (more ≡ []) ⊎ (more ≡ e ∷ [])) h.legal (inl refl)
-    (broken_told task s.version s.pools s.entries (length s.asked) running kept spoken h.counted started told h.legal) (inl refl) refl)
+    (g.O.Sink.taken c.args.out.now) (λ Front more. (more ≡ []) ⊎ (more ≡ e ∷ [])) h.legal (inl refl)
+    (dialogue_told task s.version s.pools s.entries (length s.asked) running kept spoken h.counted started told) (inl refl) refl)
 
 pub returns-clause-stopped : goal.returns-clause-stopped
 returns-clause-stopped g c = λ task running kept spoken h told started.
@@ -31,9 +31,9 @@ returns-clause-stopped g c = λ task running kept spoken h told started.
     let legal = mark_legal s.version task s.entries e c.requires.mark h.legal in
     IfErr-weaker c.print_entry.result _ _ (λ fault misses.
     stopped_at s.version task s.pools spoken (λ es. (es ≡ s.entries) ⊎ (es ≡ s.entries ++ e ∷ [])) s.entries e fault
-    (g.O.Sink.taken c.args.out.now) (g.O.Sink.taken c.print_entry.new.out) (λ more. (more ≡ []) ⊎ (more ≡ e ∷ [])) legal
+    (g.O.Sink.taken c.args.out.now) (g.O.Sink.taken c.print_entry.new.out) (λ Front more. (more ≡ []) ⊎ (more ≡ e ∷ [])) legal
     (inr refl)
-    (broken_marked task s.version s.pools e c.requires.mark s.entries (length s.asked) running kept spoken h.counted started told legal)
+    (dialogue_marked task s.version s.pools e c.requires.mark s.entries (length s.asked) running kept spoken h.counted started told)
     (λ is_write. inr refl)
     (subst (λ x. (fault ≡ Write) × CutOff (g.O.Sink.taken c.args.out.now) (g.O.Sink.taken c.print_entry.new.out) (text_of_entry x)) is
     misses)) (printed_part c.print_entry.result _ _ _ c.print_entry.ensures.told)

@@ -1,11 +1,12 @@
-use Rattle.std.proofs.Common.{◌≡◌, [], length, sym, subst, ap, refl, inl, ◌∙◌, arith, count_by, false}
+use Rattle.std.proofs.Common.{◌≡◌, [], length, sym, subst, ap, refl, inl, ◌∙◌, arith, count_by, false, List}
 use Rattle.mode_turns.proofs.CountsLemmas.{turn_keeps}
 use Rattle.transcript_model.specs.Rounds.{limits_of}
 use Rattle.transcript_model.specs.Legal.{HasNoneOpen, IsLegal, asks_of, is_level}
+use Rattle.transcript_model.specs.declared.entry.Entry.{Entry}
 use Rattle.transcript_model.specs.declared.entry.Entry.TheVariants as entry
 use Rattle.transcript_model.specs.declared.outcome.LimitKind.TheVariants.{Calls}
 use Rattle.transcript_model.specs.declared.outcome.Outcome.TheVariants as outcome
-use Rattle.level_run.proofs.AdvancingLemmas.{adds_then, advances_none, measure_falls, quiet_turn, ran_turns, turns_break}
+use Rattle.level_run.proofs.AdvancingLemmas.{adds_then, advances_none, measure_falls, quiet_turn, ran_turns, turn_breaks_as, turns_break}
 use Rattle.level_run.proofs.TurnsFrontLemmas.{run_between, run_inside}
 use Rattle.level_run.proofs.TurnsLemmas.{Standing, run_at, run_cut, standing_first, standing_next}
 use Rattle.level_run.proofs.TurnsLevelLemmas.{may_begin}
@@ -14,7 +15,7 @@ use Rattle.level_run.specs.Advancing.{HasTurned, IsFrontOfTurn, TurnBreaks}
 use Rattle.level_run.specs.Turns.{IsFrontOfRun, IsSettledEnd, IsTurn}
 use Rattle.round_run.proofs.BreakingLemmas.{tells_memory}
 use Rattle.round_run.proofs.StoppedLemmas.{goes_none, handed, stopped_as, stopped_memory, stopped_then}
-use Rattle.round_run.proofs.TalkingLemmas.{broken_told, told_of}
+use Rattle.round_run.proofs.TalkingLemmas.{dialogue_told, told_of}
 use Rattle.round_run.specs.Batches.{AreStarted}
 use Rattle.round_run.specs.Dialogue.{workers_in}
 use Rattle.round_run.specs.Rolling.{Goes}
@@ -62,17 +63,17 @@ returns-in_err-decision-clause-stopped g c =
     let session = i.rests.works.listens.session in
     let legal = subst (λ v. IsLegal v task s.entries) i.rests.works.of.version session.legal in
     let broken =
-    broken_told task head.version (workers_in head) s.entries (length s.asked) running (held_of c.turns.lines) spoken session.counted
+    dialogue_told task head.version (workers_in head) s.entries (length s.asked) running (held_of c.turns.lines) spoken session.counted
     (subst (λ ps. AreStarted ps (length s.asked) running) i.rests.works.of.pools i.rests.started)
-    (told_of head s i.rests.works.of task s.entries running (held_of c.turns.lines) spoken i.rests.works.listens.told) legal in
+    (told_of head s i.rests.works.of task s.entries running (held_of c.turns.lines) spoken i.rests.works.listens.told) in
     handed c.from_residual.result fault _ c.from_residual.ensures.1
     (stopped_then head.version task (workers_in head) spoken (IsFrontOfRun head task) [] s.entries fault
     (g.O.Sink.taken c.args.out.now) (g.O.Sink.taken c.turns.out) (g.O.Sink.taken c.turns.out)
     (TurnBreaks task head [] fault first log) (TurnBreaks task head s.entries fault log log) i.adds.goes
-    (turns_break task head s.entries i.adds.goes.more fault first log log i.adds.order i.adds.goes.pushed)
+    (turns_break task head (IsFrontOfRun head task) s.entries i.adds.goes.more fault first log log i.adds.order i.adds.goes.pushed)
     (stopped_memory head.version task (workers_in head) spoken (IsFrontOfRun head task) s.entries fault (g.O.Sink.taken c.turns.out)
     (TurnBreaks task head s.entries fault log log) legal (run_between head task _ s.entries i.standing legal) broken
-    (quiet_turn task head entry.Level refl s.entries fault log
+    (quiet_turn task head (IsFrontOfRun head task) entry.Level refl s.entries fault log
     (tells_memory (HasNoneOpen s.entries) fault session.none_open c.in_err-decision.ensures.only) [] (inl refl))
     c.in_err-decision.ensures.only))
 
@@ -97,18 +98,20 @@ returns-in_err-turn-clause-stopped g c =
     let log = g.H.Host.log c.turn.new.host in
     let turn = decided_dues head task s.entries
     (length s.asked) c.in_ok-decision.decision c.in-Asks.dues c.in-Asks.is c.in_ok-decision.ensures.decided in
+    let wider : (es : List Entry) → IsLegal head.version task es → IsFrontOfTurn task head kept s.entries es → IsFrontOfRun head task es =
+    λ es legal f. run_inside head task kept s.entries es
+    (may_begin head task s.entries (length s.asked) c.in-Asks.dues.items i.rests.works.listens.session.counted turn) turn.needed
+    i.standing legal f in
     handed c.from_residual-in_err-turn.result fault _ c.from_residual-in_err-turn.ensures.1
     (stopped_then head.version task (workers_in head) spoken (IsFrontOfRun head task) [] s.entries fault
     (g.O.Sink.taken c.args.out.now) (g.O.Sink.taken c.turns.out) (g.O.Sink.taken c.turn.new.out)
     (TurnBreaks task head [] fault first log) (TurnBreaks task head s.entries fault was log) i.adds.goes
-    (turns_break task head s.entries i.adds.goes.more fault first was log i.adds.order i.adds.goes.pushed)
+    (turns_break task head (IsFrontOfRun head task) s.entries i.adds.goes.more fault first was log i.adds.order i.adds.goes.pushed)
     (stopped_as head.version task (workers_in head) spoken (IsFrontOfRun head task) (IsFrontOfTurn task head kept s.entries)
     s.entries fault (g.O.Sink.taken c.turns.out) (g.O.Sink.taken c.turn.new.out)
-    (TurnBreaks task head s.entries fault was log) (TurnBreaks task head s.entries fault was log)
-    (λ es legal f. run_inside head task kept s.entries es
-    (may_begin head task s.entries (length s.asked) c.in-Asks.dues.items i.rests.works.listens.session.counted turn) turn.needed
-    i.standing legal f) (λ more l. l)
-    c.in_err-turn.ensures.stopped))
+    (TurnBreaks task head s.entries fault was log) (TurnBreaks task head s.entries fault was log) wider
+    (λ more told there. turn_breaks_as task head (IsFrontOfTurn task head kept s.entries) (IsFrontOfRun head task) wider
+    s.entries fault was log more) c.in_err-turn.ensures.stopped))
 
 pub returns-in-Ends-clause-ran : goal.returns-in-Ends-clause-ran
 returns-in-Ends-clause-ran g c =

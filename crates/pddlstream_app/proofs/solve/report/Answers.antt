@@ -1,4 +1,4 @@
-use Rattle.std.proofs.Common.{◌∙◌, inl, inr, refl}
+use Rattle.std.proofs.Common.{◌∙◌, inl, inr, refl, subst, sym}
 use Rattle.round_run.proofs.CallsRunLemmas.{stops_none}
 use Rattle.round_run.proofs.StoppedLemmas.{handed}
 use Rattle.pddlstream_app.proofs.HeadsLemmas.{head_runs}
@@ -7,6 +7,7 @@ use Rattle.round_run.specs.declared.fault.RunFault.TheVariants as fault
 use Rattle.pddlstream_app.specs.declared.stop.Stop.TheVariants as stop
 use Rattle.pddlstream_app.proofs.PoolsLemmas.{asks_all, ends_at_grid, ends_at_pools, ends_in, ends_named, means_in, pools_served, read_in, reads_more, spelled_in}
 use Rattle.command_line.specs.Held.{held_solve}
+use Rattle.command_line.specs.Ranges.{IsBuilt}
 use Rattle.pddlstream_app.specs.Inputs.{file_at, task_files}
 use Rattle.pddlstream_app.specs.declared.stop.FileRole.TheVariants as role
 use Rattle.pddlstream_app.proofs.solve.report.Goals as goal
@@ -50,20 +51,20 @@ returns-in_err-pools-clause-failed g c =
       nothing = refl;
     }))
 
-pub incremental-requires-clause-runnable : goal.incremental-requires-clause-runnable
-incremental-requires-clause-runnable g c =
+pub run_in_mode-requires-clause-runnable : goal.run_in_mode-requires-clause-runnable
+run_in_mode-requires-clause-runnable g c =
     let served = pools_served (g.F.Files.told c.args.files.now) _ _ c.read_task.ensures.same c.meant_pools.ensures.same
     (held_solve c.args.words.now) c.in_ok-task.task c.in_ok-meant.meant c.in_ok-pools.pools c.in_ok-meant.ensures.pools
     c.in_ok-pools.ensures.text in
     head_runs c.in_ok-task.task (g.F.Files.told c.args.files.now) (held_solve c.args.words.now) c.head_of-head.result
     (c.head_of-head.ensures _ _ served) c.requires.within
 
-pub incremental-requires-clause-mode : goal.incremental-requires-clause-mode
-incremental-requires-clause-mode g c =
+pub run_in_mode-requires-clause-built : goal.run_in_mode-requires-clause-built
+run_in_mode-requires-clause-built g c =
     let served = pools_served (g.F.Files.told c.args.files.now) _ _ c.read_task.ensures.same c.meant_pools.ensures.same
     (held_solve c.args.words.now) c.in_ok-task.task c.in_ok-meant.meant c.in_ok-pools.pools c.in_ok-meant.ensures.pools
     c.in_ok-pools.ensures.text in
-    (c.head_of-head.ensures _ _ served).mode ∙ c.requires.within.built
+    subst IsBuilt (sym (c.head_of-head.ensures _ _ served).mode) c.requires.within.built
 
 pub returns-in-Ok-clause-solved : goal.returns-in-Ok-clause-solved
 returns-in-Ok-clause-solved g c =

@@ -25,7 +25,9 @@ returns-then-not-holds_once-clause-said c =
     let run : IsRunOf task p.entries.now p.calls.now c.in-Ends.run' =
     rw c.in-Ends.is at (c.in_ok-place.ensures p.entries.now c.requires.ledger.known) in
     let over : c.holds_once.result ≡ false = search (rules, tests) in
-    let value = ap (is_true task.domain known c.in-Ends.run'.state task.problem.goal) (sym c.new-env.ensures) ∙ sym c.holds_once.ensures.value in
+    let value =
+    ap (is_true task.domain known c.in-Ends.run'.state task.problem.goal) (sym c.new-env.ensures)
+    ∙ sym c.holds_once.ensures.value in
     goal_missed c.args.bounds.now.version task c.requires.bounds.fit p.entries.now coherent p.calls.now p.from.now c.in-Ends.run' run p.cost
     (λ reached.
     let is = subst (λ (k : Known). IsGoal task k c.in-Ends.run'.state) (sym c.requires.ledger.known) reached in

@@ -1,19 +1,20 @@
 use Rattle.std.proofs.Common.{◌∙◌, sym, length, ap, subst}
 use Rattle.std.proofs.lemmas.Result.{IfErr-weaker}
 use Rattle.instance_queue.specs.Level.{instances_of}
-use Rattle.round_run.proofs.RollingFrontLemmas.{all_work, front_first}
+use Rattle.round_run.proofs.RollingFrontLemmas.{all_work, front_asks_some, front_first}
 use Rattle.transcript_model.proofs.RoundsFrontLemmas.{batch_exists}
 use Rattle.round_run.proofs.CallsRunLemmas.{batch_runs}
 use Rattle.round_run.proofs.StartsLemmas.{level_ok, startable, started_after}
 use Rattle.transcript_model.specs.Legal.{IsLegal}
 use Rattle.transcript_model.specs.Rounds.{IsBatch, limits_of}
 use Rattle.round_run.proofs.BreakingRunLemmas.{rounds_broken, same_after, start_refused}
-use Rattle.round_run.proofs.StoppedLemmas.{handed, stopped_hearing, stopped_map}
+use Rattle.round_run.proofs.StoppedLemmas.{handed, stopped_hearing, stopped_map, stops_some}
 use Rattle.round_run.specs.Breaking.{LogBreaks, RunBreaks, starts_after}
 use Rattle.round_run.specs.Calls.{starts_before}
-use Rattle.round_run.proofs.TalkingLemmas.{broken_unasked}
+use Rattle.round_run.proofs.TalkingLemmas.{dialogue_unasked}
 use Rattle.round_run.specs.Dialogue.{workers_in}
 use Rattle.round_run.specs.Resting.{IsFrontOfBatch}
+use Rattle.round_run.specs.Stops.{StopsAt}
 use Rattle.round_run.proofs.batches.batch.Goals as goal
 
 pub start_workers-requires-clause-pools : goal.start_workers-requires-clause-pools
@@ -52,8 +53,9 @@ returns-in_err-start_workers-clause-stopped g c =
     (g.O.Sink.taken c.args.out.now)
     (RunBreaks task head s.entries fault (g.H.Host.log c.args.host.now) (g.H.Host.log c.start_workers.new.host)) legal
     (front_first s.entries batch.0 (IsBatch (limits_of head) task s.entries (instances_of c.args.dues.now)) batch.1)
-    (broken_unasked task head.version (workers_in head) s.entries spoken first legal)
-    (start_refused task head s.entries fault (g.H.Host.log c.args.host.now) (g.H.Host.log c.start_workers.new.host) first refused.2)
+    (dialogue_unasked task head.version (workers_in head) s.entries spoken first)
+    (start_refused task head (IsFrontOfBatch task head s.entries c.args.dues.now) s.entries fault
+    (g.H.Host.log c.args.host.now) (g.H.Host.log c.start_workers.new.host) first refused.2)
     refused.1)
 
 pub returns-clause-stopped : goal.returns-clause-stopped
@@ -69,10 +71,14 @@ returns-clause-stopped g c =
     (IsFrontOfBatch task head s.entries c.args.dues.now) s.entries fault
     (g.O.Sink.taken c.args.out.now) (g.O.Sink.taken c.run_rounds.new.out)
     (LogBreaks task head.version (workers_in head) s.entries fault mid log) (RunBreaks task head s.entries fault was log)
-    (rounds_broken task head s.entries (starts_before head.pools (length s.asked) (length c.args.dues.now)) fault was mid log
+    (λ es told front. rounds_broken task head (IsFrontOfBatch task head s.entries c.args.dues.now) s.entries
+    (starts_before head.pools (length s.asked) (length c.args.dues.now)) fault was mid log
     (same_after head.pools (length s.asked) (length c.args.dues.now) more.0
     ∙ ap (starts_after head.pools) c.requires.rests.works.listens.session.counted)
-    c.in_ok-start_workers.ensures.started.log) more.1)
+    c.in_ok-start_workers.ensures.started.log es
+    (λ failed. front_asks_some head task s.entries (instances_of c.args.dues.now) es front
+    (stops_some (g.O.Sink.taken c.args.out.now) (g.O.Sink.taken c.run_rounds.new.out) es
+    (subst (λ f. StopsAt f (g.O.Sink.taken c.args.out.now) (g.O.Sink.taken c.run_rounds.new.out) es) failed told)))) more.1)
     c.run_rounds.ensures.stopped
 
 pub returns-clause-adds : goal.returns-clause-adds

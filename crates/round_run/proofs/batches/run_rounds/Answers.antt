@@ -3,11 +3,11 @@ use Rattle.std.proofs.lemmas.List.{length-take-le, length-drop}
 use Rattle.instance_queue.specs.Level.{instances_of}
 use Rattle.session_core.specs.Ready.{AreReady}
 use Rattle.pools.specs.Pools.{Workers}
-use Rattle.transcript_model.specs.Legal.{asks_of}
+use Rattle.transcript_model.specs.Legal.{IsLegal, asks_of}
 use Rattle.transcript_model.specs.Rounds.{IsBatch, IsRound, limits_of}
 use Rattle.transcript_model.specs.declared.entry.Entry.{Entry}
 use Rattle.round_run.proofs.BatchLemmas.{SoFar, none_of_none, none_left, so_far_end, so_far_none, so_far_step, spent}
-use Rattle.round_run.proofs.BreakingLemmas.{breaks_then}
+use Rattle.round_run.proofs.BreakingLemmas.{breaks_as, breaks_then}
 use Rattle.round_run.specs.Breaking.{LogBreaks}
 use Rattle.round_run.proofs.CallsLemmas.{calls_none, calls_then}
 use Rattle.round_run.proofs.BatchLemmas.{empty_of, filled_of, first_of}
@@ -97,15 +97,16 @@ returns-in_err-run_round-clause-stopped g c =
     (subst (λ (ps : List Workers). (k : ℕ) (p : Workers) → slice_get ps k ≡ Some p → 1 ≤ p.workers) i.works.of.pools
     i.works.listens.session.pools.some)
     in
+    let wider : (es : List Entry) → IsLegal head.version task es → round es → batch es =
+    λ es legal f. so_far_front head task s.entries list now rest count es i.works.of i.works.listens.session c.next_round-count.ensures.cut
+    (omega (arith, c.if-count-eq0.false)) work i.so_far
+    (subst (λ ds. IsFrontPart now.entries (IsRound task now.entries (instances_of ds)) es) c.split_at.ensures.front f) in
     let stopped =
     stopped_as head.version task (workers_in head) spoken batch round now.entries fault
     (g.O.Sink.taken c.rounds.out) (g.O.Sink.taken c.run_round.new.out)
     (LogBreaks task head.version (workers_in head) now.entries fault mid log)
-    (LogBreaks task head.version (workers_in head) now.entries fault mid log)
-    (λ es legal f. so_far_front head task s.entries list now rest count es i.works.of i.works.listens.session c.next_round-count.ensures.cut
-    (omega (arith, c.if-count-eq0.false)) work i.so_far
-    (subst (λ ds. IsFrontPart now.entries (IsRound task now.entries (instances_of ds)) es) c.split_at.ensures.front f))
-    (λ more l. l) second in
+    (LogBreaks task head.version (workers_in head) now.entries fault mid log) wider
+    (λ more told front. breaks_as task head.version (workers_in head) round batch wider now.entries fault mid log more) second in
     let some : 0 < length c.args.dues.now =
     omega (arith, i.counts, i.grows, filled_of rest (sym c.is_empty.ensures ∙ c.if-is_empty.false)) in
     handed c.from_residual.result fault _ c.from_residual.ensures.1 (
@@ -114,7 +115,7 @@ returns-in_err-run_round-clause-stopped g c =
           (g.O.Sink.taken c.args.out.now) (g.O.Sink.taken c.rounds.out) (g.O.Sink.taken c.run_round.new.out)
           (LogBreaks task head.version (workers_in head) s.entries fault was log)
           (LogBreaks task head.version (workers_in head) now.entries fault mid log) i.goes
-          (breaks_then task head.version (workers_in head) s.entries now.entries fault was mid log i.order i.goes.more i.goes.pushed)
+          (breaks_then task head.version (workers_in head) batch s.entries now.entries fault was mid log i.order i.goes.more i.goes.pushed)
           stopped,
     )
 

@@ -32,7 +32,8 @@ returns-in_err-hear_one-clause-stopped g c = λ task h talking.
     (stopped_then s.version task s.pools spoken (IsFrontPart s.entries (IsRound task s.entries s.instances))
     (s.entries ++ s.asks) b fault (g.O.Sink.taken c.args.out.now) (g.O.Sink.taken c.loop-place.out) (g.O.Sink.taken c.hear_one.new.out)
     (LogBreaks task s.version s.pools (s.entries ++ s.asks) fault was log) (LogBreaks task s.version s.pools b fault mid log) goes
-    (breaks_then task s.version s.pools (s.entries ++ s.asks) b fault was mid log
+    (breaks_then task s.version s.pools (IsFrontPart s.entries (IsRound task s.entries s.instances))
+    (s.entries ++ s.asks) b fault was mid log
     (c.loop-place.invariant.said task h talking).1 goes.more goes.pushed) stopped)
 
 pub loop-place-preserved : goal.loop-place-preserved

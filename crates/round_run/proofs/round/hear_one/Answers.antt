@@ -12,8 +12,8 @@ use Rattle.round_run.specs.Breaking.{LogBreaks}
 use Rattle.round_run.proofs.CallsLemmas.{calls_one}
 use Rattle.round_run.proofs.RollingPrintLemmas.{answers_legal, front_answers, round_legal}
 use Rattle.round_run.proofs.RollingLemmas.{awaited_there, heard_more, printed_there, rolling_same, started_within}
-use Rattle.round_run.proofs.StoppedLemmas.{goes_one, handed, ok_map, on_ok, stopped_at, stopped_blamed}
-use Rattle.round_run.proofs.TalkingRoundLemmas.{broken_answered, broken_hearing, may_blame, talking_heard}
+use Rattle.round_run.proofs.StoppedLemmas.{blamed_listens, goes_one, handed, ok_map, on_ok, stopped_at, stopped_blamed}
+use Rattle.round_run.proofs.TalkingRoundLemmas.{dialogue_answered, dialogue_hearing, may_blame, talking_heard}
 use Rattle.round_run.proofs.PiecesLemmas.{printed_all, printed_part}
 use Rattle.round_run.specs.Calls.{LogFollows}
 use Rattle.round_run.specs.Resting.{Rolled}
@@ -60,16 +60,19 @@ returns-in_err-hear_child-clause-stopped g c = λ task h talking.
     let now = g.H.Host.spoken c.hear_child.new.host in
     let fault = c.in_err-hear_child.field-0.0 in
     let misheard = subst (λ d. Misheard s.slots d (kept d) old now fault) is.0 c.in_err-hear_child.ensures.misheard in
-    let front = answers_legal s.version task s.entries s.asks (finished s.slots) c.args.place legal in
+    let front = IsFrontPart s.entries (IsRound task s.entries s.instances) in
     handed c.from_residual.result fault _ c.from_residual.ensures.1
-    (stopped_blamed s.version task s.pools now (IsFrontPart s.entries (IsRound task s.entries s.instances)) before fault
+    (stopped_blamed s.version task s.pools now front before fault
     (g.O.Sink.taken c.args.out.now)
-    (LogBreaks task s.version s.pools before fault (g.H.Host.log c.args.host.now) (g.H.Host.log c.hear_child.new.host)) front
+    (LogBreaks task s.version s.pools before fault (g.H.Host.log c.args.host.now) (g.H.Host.log c.hear_child.new.host))
+    (answers_legal s.version task s.entries s.asks (finished s.slots) c.args.place legal)
     (front_answers task s c.args.place c.requires.rolling.begun h)
-    (broken_hearing task s (g.H.Host.running c.args.host.now) c.args.place c.requires.rolling c.requires.within there.0 there.1 kept old now
-    there.0.child misheard.more c.requires.rolling.begun h front talking misheard.heard)
+    (dialogue_hearing task s (g.H.Host.running c.args.host.now) c.args.place c.requires.rolling c.requires.within there.0 there.1 kept old
+    now
+    there.0.child misheard.more c.requires.rolling.begun h talking misheard.heard)
     (heard_off task s (g.H.Host.running c.args.host.now) c.args.place c.requires.rolling c.requires.within there.0 there.1 kept old h
-    talking c.request-child.result.0 fault (g.H.Host.log c.args.host.now) (g.H.Host.log c.hear_child.new.host) is.0
+    talking front c.request-child.result.0 fault (g.H.Host.log c.args.host.now) (g.H.Host.log c.hear_child.new.host)
+    (blamed_listens s.slots there.0.child (kept there.0.child ++ misheard.more) fault misheard.blamed) is.0
     (g.met.H.Host.spells c.args.host.now c.request-child.result.0
     (ap (g.H.Host.running c.args.host.now) is.0 ∙ c.requires.rolling.runs c.args.place there.0 there.1))
     c.in_err-hear_child.ensures.refused)
@@ -166,10 +169,11 @@ returns-clause-stopped g c = λ task h talking.
     stopped_at s.version task s.pools now (IsFrontPart s.entries (IsRound task s.entries s.instances)) before c.in-Some.answer.now fault
     (g.O.Sink.taken c.args.out.now) (g.O.Sink.taken c.print_entry.new.out) (LogBreaks task s.version s.pools before fault was came)
     legal front
-    (broken_answered task s new c.args.place (held_of c.hear_child.new.lines) now c.in-Some.answer.now c.requires.rolling.begun
+    (dialogue_answered task s new c.args.place (held_of c.hear_child.new.lines) now c.in-Some.answer.now c.requires.rolling.begun
     (c.in_ok-hear_child.ensures.kept task h) _ _ takes.after
-    (more.more ∙ ap (λ es. (s.entries ++ s.asks ++ es) ++ more.entry ∷ []) more.front ∙ ap (λ e. before ++ e ∷ []) (sym is_it)) legal later)
-    (λ is_write. breaks_done task s.version s.pools before (c.in-Some.answer.now ∷ []) fault was came
+    (more.more ∙ ap (λ es. (s.entries ++ s.asks ++ es) ++ more.entry ∷ []) more.front ∙ ap (λ e. before ++ e ∷ []) (sym is_it)) later)
+    (λ is_write. breaks_done task s.version s.pools (IsFrontPart s.entries (IsRound task s.entries s.instances))
+    before (c.in-Some.answer.now ∷ []) fault was came
     (tells_write (HasNoneOpen (before ++ c.in-Some.answer.now ∷ [])) fault is_write)
     (subst (λ e. LogFollows task s.pools before (e ∷ []) was came) (sym is_it) follows))
     misses) (printed_part c.print_entry.result _ _ _ c.print_entry.ensures.told)

@@ -15,7 +15,7 @@ use Rattle.transcript_model.proofs.RoundsFrontLemmas.{round_exists}
 use Rattle.round_run.proofs.RollingLemmas.{all_heard, count_is, rolling_begun, round_end}
 use Rattle.round_run.proofs.StoppedLemmas.{handed, stopped_memory, stopped_then}
 use Rattle.round_run.proofs.TalkingRoundLemmas.{round_told, talking_begun}
-use Rattle.round_run.proofs.TalkingLemmas.{broken_run}
+use Rattle.round_run.proofs.TalkingLemmas.{dialogue_run}
 use Rattle.round_run.specs.Calls.{Calls}
 use Rattle.round_run.specs.Rolling.{Goes, IsFrontPart, IsRolling, Stopped}
 use Rattle.round_run.specs.Talking.{IsTalking, IsTold, held_of}
@@ -95,7 +95,8 @@ returns-in_err-hear_all-clause-stopped g c =
     (stopped_then s.version task s.pools spoken (IsFrontPart s.entries (IsRound task s.entries (instances_of c.args.dues.now))) s.entries
     (x.entries ++ x.asks) fault (g.O.Sink.taken c.args.out.now) (g.O.Sink.taken c.send_all.new.out) (g.O.Sink.taken c.hear_all.new.out)
     (LogBreaks task s.version s.pools s.entries fault was log) (LogBreaks task s.version s.pools (x.entries ++ x.asks) fault mid log) goes
-    (breaks_then task s.version s.pools s.entries (x.entries ++ x.asks) fault was mid log calls goes.more goes.pushed) second)
+    (breaks_then task s.version s.pools (IsFrontPart s.entries (IsRound task s.entries (instances_of c.args.dues.now)))
+    s.entries (x.entries ++ x.asks) fault was mid log calls goes.more goes.pushed) second)
 
 pub close_round-requires-clause-answered : goal.close_round-requires-clause-answered
 close_round-requires-clause-answered g c =
@@ -235,8 +236,8 @@ returns-in-Err-learn-clause-stopped g c =
     front_whole s.entries closed.entries end.more (IsRound task s.entries (instances_of c.args.dues.now))
     (ap (λ (y : State). y.entries) c.close_round.ensures.after ∙ end.entries) end.round in
     let broken =
-    broken_run task s.version s.pools closed.entries (g.H.Host.running c.hear_all.new.host)
-    (held_of c.hear_all.new.lines) spoken (λ k child p at is. ran child ∙ c.requires.all_run k child p at is) legal here in
+    dialogue_run task s.version s.pools closed.entries (g.H.Host.running c.hear_all.new.host)
+    (held_of c.hear_all.new.lines) spoken (λ k child p at is. ran child ∙ c.requires.all_run k child p at is) here in
     let was = g.H.Host.log c.args.host.now in
     let mid = g.H.Host.log c.send_all.new.host in
     let log = g.H.Host.log c.hear_all.new.host in
@@ -252,11 +253,13 @@ returns-in-Err-learn-clause-stopped g c =
     stopped_then s.version task s.pools spoken (IsFrontPart s.entries (IsRound task s.entries (instances_of c.args.dues.now))) s.entries
     closed.entries fault (g.O.Sink.taken c.args.out.now) (g.O.Sink.taken c.hear_all.new.out) (g.O.Sink.taken c.hear_all.new.out)
     (LogBreaks task s.version s.pools s.entries fault was log) (LogBreaks task s.version s.pools closed.entries fault log log) goes
-    (breaks_then task s.version s.pools s.entries closed.entries fault was log log calls goes.more goes.pushed)
+    (breaks_then task s.version s.pools (IsFrontPart s.entries (IsRound task s.entries (instances_of c.args.dues.now)))
+    s.entries closed.entries fault was log log calls goes.more goes.pushed)
     (stopped_memory s.version task s.pools spoken
     (IsFrontPart s.entries (IsRound task s.entries (instances_of c.args.dues.now))) closed.entries
     fault (g.O.Sink.taken c.hear_all.new.out) (LogBreaks task s.version s.pools closed.entries fault log log) legal front broken
-    (breaks_none task s.version s.pools closed.entries fault log
+    (breaks_none task s.version s.pools (IsFrontPart s.entries (IsRound task s.entries (instances_of c.args.dues.now))) closed.entries fault
+    log
     (tells_memory (HasNoneOpen closed.entries) fault (c.close_round.ensures.kept task kept).none_open c.fault_of-in-Err-learn.ensures))
     c.fault_of-in-Err-learn.ensures)
 
@@ -271,10 +274,10 @@ returns-in-Err-clause-stopped g c =
     (LogBreaks task s.version s.pools s.entries c.fault_of.result (g.H.Host.log c.args.host.now) (g.H.Host.log c.args.host.now))
     c.requires.listens.session.legal
     (front_first s.entries round.0 (IsRound task s.entries (instances_of c.args.dues.now)) round.1)
-    (broken_run task s.version s.pools s.entries (g.H.Host.running c.args.host.now)
-    (held_of c.args.lines.now) (g.H.Host.spoken c.args.host.now) c.requires.all_run c.requires.listens.session.legal
-    c.requires.listens.told)
-    (breaks_none task s.version s.pools s.entries c.fault_of.result (g.H.Host.log c.args.host.now)
+    (dialogue_run task s.version s.pools s.entries (g.H.Host.running c.args.host.now)
+    (held_of c.args.lines.now) (g.H.Host.spoken c.args.host.now) c.requires.all_run c.requires.listens.told)
+    (breaks_none task s.version s.pools (IsFrontPart s.entries (IsRound task s.entries (instances_of c.args.dues.now)))
+    s.entries c.fault_of.result (g.H.Host.log c.args.host.now)
     (tells_memory (HasNoneOpen s.entries) c.fault_of.result c.requires.listens.session.none_open c.fault_of.ensures))
     c.fault_of.ensures
 

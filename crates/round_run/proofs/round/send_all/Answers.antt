@@ -33,7 +33,8 @@ returns-in_err-send_one-clause-stopped g c = λ task kept h talking.
     (g.O.Sink.taken c.send_one.new.out)
     (LogBreaks task s.version s.pools s.entries fault was log)
     (LogBreaks task s.version s.pools (s.entries ++ take c.loop-place.place s.asks) fault mid log) goes
-    (breaks_then task s.version s.pools s.entries (s.entries ++ take c.loop-place.place s.asks) fault was mid log
+    (breaks_then task s.version s.pools (IsFrontPart s.entries (IsRound task s.entries s.instances)) s.entries
+    (s.entries ++ take c.loop-place.place s.asks) fault was mid log
     (c.loop-place.invariant.said task kept h talking).1 goes.more goes.pushed) stopped)
 
 pub loop-place-preserved : goal.loop-place-preserved

@@ -14,8 +14,8 @@ use Rattle.transcript_model.specs.Legal.{HasNoneOpen}
 use Rattle.round_run.proofs.CallsLemmas.{calls_one}
 use Rattle.round_run.proofs.RollingPrintLemmas.{asks_legal, front_asks, one_more, round_legal}
 use Rattle.round_run.proofs.RollingLemmas.{rolling_same, rolling_sent, unsent_there}
-use Rattle.round_run.proofs.StoppedLemmas.{goes_one, handed, ok_map, on_ok, stopped_at, stopped_hearing}
-use Rattle.round_run.proofs.TalkingRoundLemmas.{broken_after, broken_part, next_legal, talking_sent_by}
+use Rattle.round_run.proofs.StoppedLemmas.{goes_one, handed, ok_map, on_ok, stopped_at, stopped_sending}
+use Rattle.round_run.proofs.TalkingRoundLemmas.{broken_part, dialogue_after, next_front, next_legal, talking_sent_by}
 use Rattle.round_run.proofs.PiecesLemmas.{printed_all, printed_part}
 use Rattle.round_run.specs.Resting.{Rolled}
 use Rattle.round_run.specs.Rolling.{IsFrontPart, IsRolling, finished}
@@ -39,18 +39,19 @@ returns-in_err-send-clause-stopped g c = λ task kept h talking.
     let ask = get_there s.asks c.args.place (omega (arith, c.requires.within, c.requires.rolling.asks)) in
     let opened = c.requires.rolling.begun in
     let part = c.in_err-send.ensures.part in
-    handed c.from_residual.result c.in_err-send.field-0.0 _ c.from_residual.ensures.1
-    (stopped_hearing s.version task s.pools (g.H.Host.spoken c.send.new.host) (IsFrontPart s.entries (IsRound task s.entries s.instances))
-    (s.entries ++ take c.args.place s.asks) c.in_err-send.field-0.0 (g.O.Sink.taken c.args.out.now)
-    (LogBreaks task s.version s.pools (s.entries ++ take c.args.place s.asks) c.in_err-send.field-0.0
+    let fault = c.in_err-send.field-0.0 in
+    handed c.from_residual.result fault _ c.from_residual.ensures.1
+    (stopped_sending s.version task s.pools (g.H.Host.spoken c.send.new.host) (IsFrontPart s.entries (IsRound task s.entries s.instances))
+    (s.entries ++ take c.args.place s.asks) fault (g.O.Sink.taken c.args.out.now)
+    (LogBreaks task s.version s.pools (s.entries ++ take c.args.place s.asks) fault
     (g.H.Host.log c.args.host.now) (g.H.Host.log c.send.new.host))
     (asks_legal s.version task s.entries s.asks (finished s.slots) c.args.place (round_legal task s opened h))
     (front_asks task s c.args.place opened h)
     (broken_part task s c.args.place kept (g.H.Host.spoken c.args.host.now) (g.H.Host.spoken c.send.new.host) there.0 there.1 ask.0 ask.1
-    opened h talking c.request-child.result.0 c.request-child.result.1.now part.0 is.0 is.1 part.1)
+    opened h talking fault c.request-child.result.0 c.request-child.result.1.now part.0 c.in_err-send.ensures.only is.0 is.1 part.1)
     (sent_part task s c.args.place kept (g.H.Host.spoken c.args.host.now) there.0 there.1 ask.0 ask.1 opened h talking
-    c.request-child.result.0 c.request-child.result.1.now c.in_err-send.field-0.0 (g.H.Host.log c.args.host.now)
-    (g.H.Host.log c.send.new.host) is.0 is.1 c.in_err-send.ensures.refused)
+    c.request-child.result.0 c.request-child.result.1.now fault (g.H.Host.log c.args.host.now)
+    (g.H.Host.log c.send.new.host) c.in_err-send.ensures.only is.0 is.1 c.in_err-send.ensures.refused)
     c.in_err-send.ensures.only)
 
 pub returns-clause-rolled : goal.returns-clause-rolled
@@ -99,11 +100,11 @@ returns-clause-stopped g c = λ task kept h talking.
     (s.entries ++ take c.args.place s.asks) c.ask.result.now fault (g.O.Sink.taken c.args.out.now)
     (g.O.Sink.taken c.print_entry.new.out) (LogBreaks task s.version s.pools (s.entries ++ take c.args.place s.asks) fault was log)
     (next_legal task s c.args.place kept before now there.0 there.1 c.ask.result.now at opened h talking)
-    (subst (IsFrontPart s.entries (IsRound task s.entries s.instances))
-    (one_more s.entries s.asks c.args.place c.ask.result.now at) (front_asks task s (c.args.place + 1) opened h))
-    (broken_after task s c.args.place kept before now there.0 there.1 c.ask.result.now at opened h talking c.request-child.result.0
+    (next_front task s c.args.place kept before now there.0 there.1 c.ask.result.now at opened h talking)
+    (dialogue_after task s c.args.place kept before now there.0 there.1 c.ask.result.now at opened h talking c.request-child.result.0
     c.request-child.result.1.now is.0 is.1 c.in_ok-send.ensures.all h_after)
-    (λ is_write. breaks_done task s.version s.pools (s.entries ++ take c.args.place s.asks) (c.ask.result.now ∷ []) fault was log
+    (λ is_write. breaks_done task s.version s.pools (IsFrontPart s.entries (IsRound task s.entries s.instances))
+    (s.entries ++ take c.args.place s.asks) (c.ask.result.now ∷ []) fault was log
     (tells_write (HasNoneOpen ((s.entries ++ take c.args.place s.asks) ++ c.ask.result.now ∷ [])) fault is_write)
     (sent_calls task s c.args.place kept before there.0 there.1 c.ask.result.now at opened h talking c.request-child.result.0
     c.request-child.result.1.now was log is.0 is.1 c.in_ok-send.ensures.log))

@@ -1,7 +1,7 @@
 use Rattle.std.proofs.Common.{ap, sym, subst, map, length, refl}
 use Rattle.pools.specs.Pools.{AreFitPools, Workers, workers_of}
 use Rattle.lemmas.specs.Lists.{numbers_from}
-use Rattle.session_tests.proofs.Pools.{one_pool}
+use Rattle.session_tests.proofs.PoolsLemmas.{one_pool}
 use Rattle.session_tests.proofs.head.head.Goals as goal
 
 pub returns : goal.returns

@@ -1,4 +1,5 @@
-use Rattle.std.proofs.Common.{◌+◌, length, inl, inr, subst, ◌++◌, arith}
+use Rattle.std.proofs.Common.{length, inl, inr, subst, ◌++◌, arith, List}
+use Rattle.level_run.proofs.AdvancingLemmas.{turn_breaks_as}
 use Rattle.level_run.proofs.ReportsCountLemmas.{level_counts}
 use Rattle.level_run.proofs.TurnsLemmas.{level_turn}
 use Rattle.level_run.proofs.TurnsLevelLemmas.{batch_asks}
@@ -6,6 +7,8 @@ use Rattle.level_run.proofs.TurnsOutcomeLemmas.{spent_sure}
 use Rattle.level_run.specs.Advancing.{IsFrontOfTurn, TurnBreaks}
 use Rattle.level_run.specs.Turns.{IsSomeLevel, RanLevel}
 use Rattle.mode_turns.specs.Modes.{nothing_kept}
+use Rattle.transcript_model.specs.Legal.{IsLegal}
+use Rattle.transcript_model.specs.declared.entry.Entry.{Entry}
 use Rattle.round_run.proofs.StoppedLemmas.{handed, stopped_as}
 use Rattle.round_run.specs.Dialogue.{workers_in}
 use Rattle.round_run.specs.Rolling.{IsFrontPart}
@@ -18,16 +21,20 @@ returns-in_err-run_level-clause-stopped g c =
     let s = c.args.session.now in
     let fault = c.in_err-run_level.field-0.0 in
     let breaks = TurnBreaks task head s.entries fault (g.H.Host.log c.args.host.now) (g.H.Host.log c.run_level.new.host) in
-    handed c.from_residual.result fault _ c.from_residual.ensures.1
-    (stopped_as head.version task (workers_in head) (g.H.Host.spoken c.run_level.new.host)
-    (IsFrontOfTurn task head nothing_kept s.entries) (IsFrontPart s.entries (IsSomeLevel head task s.entries)) s.entries fault
-    (g.O.Sink.taken c.args.out.now) (g.O.Sink.taken c.run_level.new.out) breaks breaks
-    (λ es legal f. inr (record {
+    let level = IsFrontPart s.entries (IsSomeLevel head task s.entries) in
+    let turn = IsFrontOfTurn task head nothing_kept s.entries in
+    let wider : (es : List Entry) → IsLegal head.version task es → level es → turn es =
+    λ es legal f. inr (record {
       part = f.part;
       rest = f.rest;
       is = f.is;
       whole = (nothing_kept, f.whole.0, level_turn head task s.entries (f.part ++ f.rest) f.whole.0 c.requires.runnable.is f.whole.1);
-    })) (λ more l. l) c.in_err-run_level.ensures.stopped)
+    }) in
+    handed c.from_residual.result fault _ c.from_residual.ensures.1
+    (stopped_as head.version task (workers_in head) (g.H.Host.spoken c.run_level.new.host) turn level s.entries fault
+    (g.O.Sink.taken c.args.out.now) (g.O.Sink.taken c.run_level.new.out) breaks breaks wider
+    (λ more told there. turn_breaks_as task head level turn wider s.entries fault
+    (g.H.Host.log c.args.host.now) (g.H.Host.log c.run_level.new.host) more) c.in_err-run_level.ensures.stopped)
 
 pub returns-in-Done-clause-ran : goal.returns-in-Done-clause-ran
 returns-in-Done-clause-ran g c =

@@ -1,0 +1,6 @@
+mod PlacesLemmas
+mod PartLemmas
+mod FailsLemmas
+mod KeptLemmas
+mod ThinLemmas
+mod AfterLemmas

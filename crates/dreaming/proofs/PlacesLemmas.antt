@@ -1,0 +1,172 @@
+-- Entries at places of a list.
+use Rattle.std.proofs.Common.{◌≡◌, ℕ, zero, suc, ◌+◌, ◌-◌, ◌<◌, ◌≤◌, inl, inr, arith, List, [], ◌∷◌, ◌++◌, length, map, take, drop, get_or, refl, sym, ap, subst, ◌∙◌, Option, Some, None, slice_get, All, append_assoc}
+use Rattle.std.proofs.lemmas.List.{length-append, length-drop, length-map, take_all, take_more, take-map, drop-map}
+use Rattle.std.proofs.lemmas.List.Elements.{All-head, All-tail, filter_map-append}
+use Rattle.std.proofs.lemmas.Option.{slice_get_within, get_or_from_slice_get, same_Some}
+use Rattle.std.specs.Cmp.{nat_cmp_is}
+use Rattle.std.specs.List.{cons_option}
+use Rattle.std.specs.Ordering.{nat_cmp}
+use Rattle.std.specs.declared.cmp.Ordering.TheVariants.{Less}
+use Rattle.dream_laws.proofs.DreamLemmas.{somes_same}
+use Rattle.dream_laws.proofs.SupportLemmas.{from_take}
+use Rattle.lemmas.proofs.ListTests.{get_there, all_by_place}
+use Rattle.lemmas.proofs.Members.{push_cases, get_behind}
+use Rattle.lemmas.specs.Lists.{AreAscending, numbers_from}
+use Rattle.task_model.specs.Dreams.{Entry}
+use Rattle.dreaming.specs.Parts.{entries_at}
+
+-- the places are places of the list
+abbrev pub AreBelow : List Entry → List ℕ → Type 0
+AreBelow list places = All (λ place. place < length list) places
+
+-- ---- which entries stand there
+
+pub chosen_at : (list : List Entry) (places : List ℕ) → AreBelow list places
+    → map (slice_get list) places ≡ map Some (entries_at list places)
+chosen_at list [] below = refl
+chosen_at list (p ∷ ps) below =
+    let there = get_there list p (All-head (λ place. place < length list) p ps below) in
+    let rest = chosen_at list ps (All-tail (λ place. place < length list) p ps below) in
+    (λ i. there.1 i ∷ rest i) ∙ sym (ap (λ o. map Some (cons_option o (entries_at list ps))) there.1)
+
+pub length-entries_at : (list : List Entry) (places : List ℕ) → AreBelow list places → length (entries_at list places) ≡ length places
+length-entries_at list places below =
+    sym (length-map (entries_at list places) Some) ∙ sym (ap length (chosen_at list places below)) ∙ length-map places (slice_get list)
+
+pub entry_of_list : (list : List Entry) (places : List ℕ) (k : ℕ) (e : Entry) → slice_get (entries_at list places) k ≡ Some e
+    → (q : ℕ) × (slice_get list q ≡ Some e)
+entry_of_list list [] k e at = absurd (cc)
+entry_of_list list (p ∷ ps) k e at = by (λ j there. entry_of_list list ps j e there) (slice_get list p) refl k at
+  where
+    by : ((j : ℕ) → slice_get (entries_at list ps) j ≡ Some e → (q : ℕ) × (slice_get list q ≡ Some e))
+        → (o : Option Entry) → slice_get list p ≡ o → (k : ℕ) → slice_get (cons_option o (entries_at list ps)) k ≡ Some e
+        → (q : ℕ) × (slice_get list q ≡ Some e)
+    by later None is k there = later k there
+    by later (Some x) is zero there = (p, is ∙ there)
+    by later (Some x) is (suc k) there = later k there
+
+pub entries_pushed : (list : List Entry) (places : List ℕ) (place : ℕ) (e : Entry) → slice_get list place ≡ Some e
+    → entries_at list (places ++ place ∷ []) ≡ entries_at list places ++ e ∷ []
+entries_pushed list places place e at =
+    filter_map-append (slice_get list) places (place ∷ []) ∙ ap (λ o. entries_at list places ++ cons_option o []) at
+
+pub entries_more : (list : List Entry) (places : List ℕ) (i : ℕ) (e : Entry) → i < length places
+    → slice_get list (get_or places i 0) ≡ Some e
+    → entries_at list (take (i + 1) places) ≡ entries_at list (take i places) ++ e ∷ []
+entries_more list places i e lt at =
+    ap (entries_at list) (take_more places i 0 lt) ∙ entries_pushed list (take i places) (get_or places i 0) e at
+
+-- ---- fronts and rests
+
+pub rest_whole : {A : Type 0} (xs : List A) (n : ℕ) → take (length xs - n) (drop n xs) ≡ drop n xs
+rest_whole xs n = take_all (length xs - n) (drop n xs) (omega (arith, length-drop n xs))
+
+pub at_place : (list : List Entry) (places : List ℕ) → AreBelow list places → (k p : ℕ) → slice_get places k ≡ Some p → p < length list
+at_place list places below k p at =
+    subst (λ q. q < length list) (get_or_from_slice_get places k p p at) (below k p (slice_get_within places k p at))
+
+pub below_front : (list : List Entry) (places : List ℕ) (n : ℕ) → AreBelow list places → AreBelow list (take n places)
+below_front list places n below =
+    all_by_place (λ place. place < length list) (take n places)
+    (λ k p at. let there = from_take places n k p at in at_place list places below k p there.1)
+
+from_drop : {A : Type 0} (n : ℕ) (xs : List A) (k : ℕ) (x : A) → slice_get (drop n xs) k ≡ Some x → slice_get xs (n + k) ≡ Some x
+from_drop zero xs k x at = let same : 0 + k ≡ k = omega arith in ap (slice_get xs) same ∙ at
+from_drop (suc n) [] k x at = absurd (cc)
+from_drop (suc n) (y ∷ ys) k x at =
+    let same : suc n + k ≡ suc (n + k) = omega arith in ap (slice_get (y ∷ ys)) same ∙ from_drop n ys k x at
+
+pub below_rest : (list : List Entry) (places : List ℕ) (n : ℕ) → AreBelow list places → AreBelow list (drop n places)
+below_rest list places n below =
+    all_by_place (λ place. place < length list) (drop n places)
+    (λ k p at. at_place list places below (n + k) p (from_drop n places k p at))
+
+pub entries_front : (list : List Entry) (places : List ℕ) (n : ℕ) → AreBelow list places
+    → entries_at list (take n places) ≡ take n (entries_at list places)
+entries_front list places n below =
+    somes_same (entries_at list (take n places)) (take n (entries_at list places))
+    (sym (chosen_at list (take n places) (below_front list places n below)) ∙ sym (take-map (slice_get list) n places)
+    ∙ ap (take n) (chosen_at list places below) ∙ take-map Some n (entries_at list places))
+
+pub entries_rest : (list : List Entry) (places : List ℕ) (n : ℕ) → AreBelow list places
+    → entries_at list (drop n places) ≡ drop n (entries_at list places)
+entries_rest list places n below =
+    somes_same (entries_at list (drop n places)) (drop n (entries_at list places))
+    (sym (chosen_at list (drop n places) (below_rest list places n below)) ∙ sym (drop-map (slice_get list) n places)
+    ∙ ap (drop n) (chosen_at list places below) ∙ drop-map Some n (entries_at list places))
+
+-- ---- all places of a list
+
+-- what stands in a row of numbers
+number_at : (first n k p : ℕ) → slice_get (numbers_from first n) k ≡ Some p → (p ≡ first + k) × (k < n)
+number_at first zero k p at = absurd (cc)
+number_at first (suc n) zero p at =
+    let same : first ≡ p = same_Some first p at in (omega (arith, same), omega arith)
+number_at first (suc n) (suc k) p at =
+    let later = number_at (first + 1) n k p at in (omega (arith, later.0), omega (arith, later.1))
+
+pub all_below : (list : List Entry) → AreBelow list (numbers_from 0 (length list))
+all_below list =
+    all_by_place (λ place. place < length list) (numbers_from 0 (length list))
+    (λ k p at. let there = number_at 0 (length list) k p at in omega (arith, there.0, there.1))
+
+pub all_entries : (list : List Entry) → entries_at list (numbers_from 0 (length list)) ≡ list
+all_entries list = from [] list
+  where
+    from : (before rest : List Entry) → entries_at (before ++ rest) (numbers_from (length before) (length rest)) ≡ rest
+    from before [] = refl
+    from before (x ∷ xs) =
+        let place : length before ≡ length before + 0 = omega arith in
+        let here : slice_get (before ++ x ∷ xs) (length before) ≡ Some x =
+        ap (slice_get (before ++ x ∷ xs)) place ∙ get_behind before (x ∷ xs) 0 x refl in
+        let next : length before + 1 ≡ length (before ++ x ∷ []) = sym (length-append before (x ∷ [])) in
+        let moved : entries_at (before ++ x ∷ xs) (numbers_from (length before + 1) (length xs))
+        ≡ entries_at ((before ++ x ∷ []) ++ xs) (numbers_from (length (before ++ x ∷ [])) (length xs)) =
+        ap (λ es. entries_at es (numbers_from (length before + 1) (length xs))) (sym (append_assoc before (x ∷ []) xs))
+        ∙ ap (λ n. entries_at ((before ++ x ∷ []) ++ xs) (numbers_from n (length xs))) next in
+        ap (λ o. cons_option o (entries_at (before ++ x ∷ xs) (numbers_from (length before + 1) (length xs)))) here
+        ∙ ap (λ es. x ∷ es) (moved ∙ from (before ++ x ∷ []) xs)
+
+less : (a b : ℕ) → a < b → nat_cmp a b ≡ Less
+less a b lt = sym (nat_cmp_is a b Less lt)
+
+pub all_ascend : (n : ℕ) → AreAscending nat_cmp (numbers_from 0 n)
+all_ascend n i j a b lt at_i at_j =
+    let first = number_at 0 n i a at_i in
+    let second = number_at 0 n j b at_j in
+    less a b (omega (arith, lt, first.0, second.0))
+
+-- ---- ascending places
+
+-- each of these is less than each of those
+abbrev pub AreBefore : List ℕ → List ℕ → Type 0
+AreBefore xs ys = (i j a b : ℕ) → slice_get xs i ≡ Some a → slice_get ys j ≡ Some b → nat_cmp a b ≡ Less
+
+pub ascend_push : (xs : List ℕ) (p : ℕ) → AreAscending nat_cmp xs → AreBefore xs (p ∷ []) → AreAscending nat_cmp (xs ++ p ∷ [])
+ascend_push xs p ascend before i j a b lt at_i at_j =
+    elim (push_cases xs p j b at_j) [
+      | inl later ↦
+          elim (push_cases xs p i a at_i) [
+            | inl early ↦ ascend i j a b lt early later
+            | inr last ↦ absurd (omega (arith, lt, last.0, slice_get_within xs j b later))
+          ]
+      | inr end ↦
+          elim (push_cases xs p i a at_i) [
+            | inl early ↦ before i 0 a b early (ap Some (sym end.1))
+            | inr last ↦ absurd (omega (arith, lt, last.0, end.0))
+          ]
+    ]
+
+pub ascend_front : (places : List ℕ) (n : ℕ) → AreAscending nat_cmp places → AreAscending nat_cmp (take n places)
+ascend_front places n ascend i j a b lt at_i at_j =
+    ascend i j a b lt (from_take places n i a at_i).1 (from_take places n j b at_j).1
+
+pub ascend_rest : (places : List ℕ) (n : ℕ) → AreAscending nat_cmp places → AreAscending nat_cmp (drop n places)
+ascend_rest places n ascend i j a b lt at_i at_j =
+    ascend (n + i) (n + j) a b (omega (arith, lt)) (from_drop n places i a at_i) (from_drop n places j b at_j)
+
+pub front_before : (places : List ℕ) (from to : ℕ) → from ≤ to → AreAscending nat_cmp places
+    → AreBefore (take from places) (drop to places)
+front_before places from to few ascend i j a b at_i at_j =
+    let front = from_take places from i a at_i in
+    ascend i (to + j) a b (omega (arith, few, front.0)) front.1 (from_drop to places j b at_j)

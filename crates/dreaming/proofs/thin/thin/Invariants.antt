@@ -1,0 +1,12 @@
+use Rattle.std.proofs.Common.{◌+◌, ◌≤◌, length}
+use Rattle.dreaming.specs.Thinning.{IsKept}
+use Rattle.dreaming.proofs.thin.thin.Given as goal
+
+abbrev pub invariant-sizes : goal.invariant-sizes
+invariant-sizes l = record {
+  kept : IsKept l.trial l.kept;
+  some : 1 ≤ l.size;
+}
+
+abbrev pub decreases-sizes : goal.decreases-sizes
+decreases-sizes l = length l.kept.places.items + l.size

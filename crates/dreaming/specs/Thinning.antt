@@ -1,0 +1,87 @@
+-- Leaving out entries that a plan doesn't need.
+use Rattle.std.specs.Prelude.{◌≡◌, ℕ, ◌+◌, ◌<◌, ◌^◌, List, [], ◌∷◌, ◌++◌, length, take, drop, Bool, false, All, Option, None, Some, slice_get, if◌then◌else◌}
+use Rattle.std.specs.Ordering.{nat_cmp}
+use Rattle.lemmas.specs.Lists.{AreAscending}
+use Rattle.optimistic_set.specs.Dreamable.{Dreamable}
+use Rattle.task_model.specs.Dreams.{Entry, is_supported, supposing, HaveSupport}
+use Rattle.task_model.specs.Known.{Known}
+use Rattle.task_model.specs.Plans.{IsValid}
+use Rattle.task_model.specs.declared.task.GroundAction.{GroundAction}
+use Rattle.task_model.specs.declared.task.Task.{Task}
+use Rattle.dreaming.specs.Parts.{Portion, IsListed, IsPart, entries_at}
+use Rattle.dreaming.specs.declared.trial.Kept.{Kept}
+use Rattle.dreaming.specs.declared.trial.Trial.{Trial}
+
+-- ---- places
+
+module _ (task : Task) (known : Known) (list : List Entry) where
+  -- the entry at this place has support behind those at these places
+  abbrev pub has_support : List ℕ → ℕ → Bool
+  has_support places place = of (slice_get list place)
+    where
+      of : Option Entry → Bool
+      of (Some e) = is_supported task known list (entries_at list places) e
+      of None = false
+
+  -- these places, and behind them those of the others that still have support
+  abbrev pub supported_places : List ℕ → List ℕ → List ℕ
+  supported_places kept [] = kept
+  supported_places kept (place ∷ rest) =
+      if has_support kept place then supported_places (kept ++ place ∷ []) rest else supported_places kept rest
+
+  -- the places without those from here up to there, and without those that lack support then
+  abbrev pub places_without : List ℕ → ℕ → ℕ → List ℕ
+  places_without places from to = supported_places (take from places) (drop to places)
+
+-- a part of the list that has the entries at these places
+pub record IsPartAt (task : Task) (d : Dreamable) (places : List ℕ) (p : Portion) : Type 0 where
+  pub part : IsPart task p
+  pub base : p.base ≡ d.base
+  pub list : p.list ≡ d.list
+  pub places_are : p.places ≡ places
+
+-- ---- a plan
+
+-- the plan with the entries at these places is valid at this cost
+abbrev pub IsValidWith : Task → Dreamable → List GroundAction → List ℕ → ℕ → Type 0
+IsValidWith task d steps places cost =
+    IsValid task (supposing task d.base d.list (entries_at d.list places)) steps cost
+
+module _ (task : Task) (d : Dreamable) (steps : List GroundAction) where
+  -- Places of the list in its order, whose entries have support each by those before it, and with which the plan is
+  -- valid.
+  pub record IsKeptOf (k : Kept) : Type 0 where
+    pub below : All (λ place. place < length d.list) k.places.items
+    pub ascend : AreAscending nat_cmp k.places.items
+    pub support : HaveSupport task d.base d.list (entries_at d.list k.places.items)
+    pub valid : IsValidWith task d steps k.places.items k.cost
+
+  -- without those from here up to there the plan isn't valid
+  abbrev pub AreNeededOf : List ℕ → ℕ → ℕ → Type 0
+  AreNeededOf places from to =
+      (cost : ℕ) → ¬ (IsValidWith task d steps (places_without task d.base d.list places from to) cost)
+
+  -- and none can be left out
+  pub record IsThinOf (k : Kept) : Type 0 where
+    pub kept : IsKeptOf k
+    pub needed : (place : ℕ) → place < length k.places.items → AreNeededOf k.places.items place (place + 1)
+
+-- ---- a trial
+
+-- the list is one of what is supposed, and the plan is short enough to be checked
+pub record IsTrial (t : Trial) : Type 0 where
+  pub listed : IsListed t.task.now t.supposed.now
+  pub few : length t.plan.now.steps < 2 ^ 26
+
+abbrev pub IsKept : Trial → Kept → Type 0
+IsKept t k = IsKeptOf t.task.now t.supposed.now t.plan.now.steps k
+
+abbrev pub AreNeeded : Trial → List ℕ → ℕ → ℕ → Type 0
+AreNeeded t places from to = AreNeededOf t.task.now t.supposed.now t.plan.now.steps places from to
+
+-- each of them is needed
+abbrev pub AreSingleNeeded : Trial → List ℕ → Type 0
+AreSingleNeeded t places = (place : ℕ) → place < length places → AreNeeded t places place (place + 1)
+
+abbrev pub IsThin : Trial → Kept → Type 0
+IsThin t k = IsThinOf t.task.now t.supposed.now t.plan.now.steps k

@@ -1,0 +1,4 @@
+pub mod DreamlessLemmas
+pub mod DreamtLemmas
+pub mod EntriesLemmas
+pub mod FocusingLemmas

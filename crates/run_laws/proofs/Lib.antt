@@ -1,0 +1,11 @@
+pub mod FormedCallLemmas
+pub mod FormedDreamLemmas
+pub mod FormedEntryLemmas
+pub mod FormedOutcomeLemmas
+pub mod FormedReportLemmas
+pub mod PlainEntryLemmas
+pub mod ShortTextLemmas
+pub mod SkeletonLemmas
+pub mod StreamNameLemmas
+pub mod SupposedLemmas
+pub mod TurnMarkLemmas

@@ -1,0 +1,20 @@
+//! Laws of whole runs, each the contract of a function that does nothing.
+ghost use Rattle.run_laws.specs.Reports.{ReportsOfRunsAreFormed, ShortReportsCountSteps};
+ghost use Rattle.run_laws.specs.Reports.{TextsNameRuns};
+
+/// The report of a run of any mode has the forms of a report, where the steps of its dreams are
+/// counted.
+pub fn reports_of_runs_are_formed()
+    ensures { ReportsOfRunsAreFormed }
+{}
+
+/// What a run of any mode writes names its transcript and its outcome, where the steps of its
+/// dreams are counted.
+pub fn texts_name_runs()
+    ensures { TextsNameRuns }
+{}
+
+/// In a report of fewer than 2^32 bytes the steps of each dream are counted.
+pub fn short_reports_count_steps()
+    ensures { ShortReportsCountSteps }
+{}

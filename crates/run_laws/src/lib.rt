@@ -1,0 +1,6 @@
+//! Laws of whole runs.
+#![tactic(auto)]
+
+mod laws;
+
+pub use laws::{reports_of_runs_are_formed, short_reports_count_steps, texts_name_runs};
