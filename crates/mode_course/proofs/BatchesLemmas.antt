@@ -1,0 +1,164 @@
+-- A batch by itself: where the entries lead until nothing of it is open, and that they run its list.
+use Rattle.std.proofs.Common.{◌≡◌, ℕ, zero, suc, ◌<◌, ◌≤◌, inl, inr, All, Bool, List, [], ◌∷◌, ◌++◌, refl, sym, ap, subst, ◌∙◌, arith, append_assoc}
+use Rattle.std.proofs.lemmas.List.{append-nil}
+use Rattle.level_course.proofs.CoursesTurnLemmas.{IsTidy, Walks, done, walk, within}
+use Rattle.level_course.specs.Courses.{Course, IsBehind, Leads, Opens}
+use Rattle.mode_course.proofs.OpensLemmas.{AreRun, opened_cut, opened_run, opened_tidy}
+use Rattle.mode_course.proofs.StepsLemmas.{batch_open}
+use Rattle.mode_course.specs.Places.{IsBatchStep, LeadsOn, Place, begins_level, falls_back, goes_on, resets, tells_dream, tells_none, with_batch}
+use Rattle.task_model.specs.declared.stream.Instance.{Instance}
+use Rattle.task_model.specs.declared.task.Task.{Task}
+use Rattle.transcript_model.specs.Legal.{asks_of}
+use Rattle.transcript_model.specs.Rounds.{Limits, Share}
+use Rattle.transcript_model.specs.declared.entry.Entry.{Entry}
+
+-- ---- limits under which no level begins
+
+-- With no calls a level's course is its batch alone.
+abbrev pub only_batches : Limits → Limits
+only_batches limits = record {
+  version = limits.version;
+  mode = limits.mode;
+  calls = 0;
+  states = limits.states;
+  depth = limits.depth;
+  pools = limits.pools;
+}
+
+module _ (limits : Limits) (task : Task) where
+  opens_only : (before : List Entry) (list : List Instance) (cut : Bool) (c : Course)
+      → Opens limits task before list cut c → Opens (only_batches limits) task before list cut c
+  opens_only before list cut c o =
+      record { round = o.round; rest = o.rest; parts = o.parts; fit = o.fit; full = o.full; some = o.some; is = o.is }
+
+  pub opens_back : (before : List Entry) (list : List Instance) (cut : Bool) (c : Course)
+      → Opens (only_batches limits) task before list cut c → Opens limits task before list cut c
+  opens_back before list cut c o =
+      record { round = o.round; rest = o.rest; parts = o.parts; fit = o.fit; full = o.full; some = o.some; is = o.is }
+
+  behind_only : (before : List Entry) (c : Course) (left : ℕ) (d : Course)
+      → IsBehind limits task before c left d → IsBehind (only_batches limits) task before c left d
+  behind_only before c zero d opens = opens_only before c.later c.is_cut d opens
+  behind_only before c (suc left) d is = is
+
+  behind_back : (before : List Entry) (c : Course) (left : ℕ) (d : Course)
+      → IsBehind (only_batches limits) task before c left d → IsBehind limits task before c left d
+  behind_back before c zero d opens = opens_back before c.later c.is_cut d opens
+  behind_back before c (suc left) d is = is
+
+  step_only : (before : List Entry) (c : Course) (e : Entry) (d : Course)
+      → IsBatchStep limits task before c e d → IsBatchStep (only_batches limits) task before c e d
+  step_only before c e d (inl m) = inl m
+  step_only before c e d (inr a) = inr (record {
+    asked = a.asked;
+    left = a.left;
+    answers = a.answers;
+    to = a.to;
+    behind = behind_only (before ++ e ∷ []) c a.left d a.behind;
+  })
+
+  step_back : (before : List Entry) (c : Course) (e : Entry) (d : Course)
+      → IsBatchStep (only_batches limits) task before c e d → IsBatchStep limits task before c e d
+  step_back before c e d (inl m) = inl m
+  step_back before c e d (inr a) = inr (record {
+    asked = a.asked;
+    left = a.left;
+    answers = a.answers;
+    to = a.to;
+    behind = behind_back (before ++ e ∷ []) c a.left d a.behind;
+  })
+
+  -- the entries of the batch lead on in the turn
+  pub batch_leads : (p : Place) (before es : List Entry) (d : Course) → Leads (only_batches limits) task p.batch before es d
+      → LeadsOn limits task p before es (with_batch p d)
+  batch_leads p before [] d leads = λ i. with_batch p (leads i)
+  batch_leads p before (e ∷ es) d (m, inl b, more) = absurd (let left : asks_of before < 0 = b.may.left in omega (arith, left))
+  batch_leads p before (e ∷ es) d (m, inr step, more) = (
+    with_batch p m,
+    goes_on m (step_back before p.batch e m step) refl,
+    batch_leads (with_batch p m) (before ++ e ∷ []) es d more,
+  )
+
+  -- where nothing is open, nothing comes
+  stuck : (c d : Course) (before rest : List Entry) → c.answers ≡ 0
+      → Leads (only_batches limits) task c before rest d → (rest ≡ []) × (c ≡ d)
+  stuck c d before [] none leads = (refl, leads)
+  stuck c d before (e ∷ es) none (m, inl b, more) = absurd (let left : asks_of before < 0 = b.may.left in omega (arith, left))
+  stuck c d before (e ∷ es) none (m, inr step, more) =
+      let some = batch_open (only_batches limits) task before c e m step in absurd (omega (arith, none, some))
+
+  -- ---- up to where nothing of the batch is open, or to where the entries stop in it
+
+  pub data Parts (p : Place) (before es : List Entry) (q : Place) : Type 0 where
+    over : (now rest : List Entry) (m : Course) → es ≡ now ++ rest → Leads (only_batches limits) task p.batch before now m
+        → m.answers ≡ 0 → LeadsOn limits task (with_batch p m) (before ++ now) rest q → Parts p before es q
+    still : Leads (only_batches limits) task p.batch before es q.batch → 0 < q.batch.answers → Parts p before es q
+
+  -- one entry more in front
+  longer : (p q : Place) (before es : List Entry) (e : Entry) (c : Course) → IsBatchStep limits task before p.batch e c
+      → Parts (with_batch p c) (before ++ e ∷ []) es q → Parts p before (e ∷ es) q
+  longer p q before es e c step (over now rest m is leads none later) =
+      over (e ∷ now) rest m (ap (λ xs. e ∷ xs) is) (c, inr (step_only before p.batch e c step), leads) none
+      (subst (λ xs. LeadsOn limits task (with_batch p m) xs rest q) (append_assoc before (e ∷ []) now) later)
+  longer p q before es e c step (still leads some) =
+      still (c, inr (step_only before p.batch e c step), leads) some
+
+  pub parts : (p : Place) (before es : List Entry) (q : Place) (n : ℕ) → p.batch.answers ≡ n
+      → LeadsOn limits task p before es q → Parts p before es q
+  parts p before es q zero none leads =
+      over [] es p.batch refl refl none (subst (λ xs. LeadsOn limits task p xs es q) (sym (append-nil before)) leads)
+  parts p before [] q (suc n) count leads =
+      let same : p.batch ≡ q.batch = ap (λ (x : Place). x.batch) leads in
+      let answers = ap (λ (x : Place). x.batch.answers) leads in
+      still same (omega (arith, count, answers))
+  parts p before (e ∷ es) q (suc n) count (m, goes_on c step m_is, more) =
+      longer p q before es e c step (parts (with_batch p c) (before ++ e ∷ []) es q c.answers refl
+      (subst (λ (x : Place). LeadsOn limits task x (before ++ e ∷ []) es q) m_is more))
+  parts p before (e ∷ es) q (suc n) count (m, begins_level s, more) =
+      let none = s.awaits.answered in absurd (omega (arith, none, count))
+  parts p before (e ∷ es) q (suc n) count (m, tells_dream s, more) =
+      let none = s.may.awaits.answered in absurd (omega (arith, none, count))
+  parts p before (e ∷ es) q (suc n) count (m, tells_none s, more) =
+      let none = s.may.awaits.answered in absurd (omega (arith, none, count))
+  parts p before (e ∷ es) q (suc n) count (m, resets s, more) =
+      let none = s.awaits.answered in absurd (omega (arith, none, count))
+  parts p before (e ∷ es) q (suc n) count (m, falls_back s, more) =
+      let none = s.awaits.answered in absurd (omega (arith, none, count))
+
+  -- ---- a batch that opened
+
+  module _ (workers : All (λ (s : Share). 1 ≤ s.workers) limits.pools)
+      (before : List Entry) (list : List Instance) (cut : Bool) (c : Course) (o : Opens limits task before list cut c) where
+    only : Opens (only_batches limits) task before list cut c
+    only = opens_only before list cut c o
+
+    tidy : IsTidy c
+    tidy = opened_tidy (only_batches limits) task before list cut c only
+
+    -- where it is over, its list was run
+    pub over_run : (now : List Entry) (m : Course) → Leads (only_batches limits) task c before now m → m.answers ≡ 0
+        → AreRun limits task before list now × (m.is_cut ≡ cut)
+    over_run now m leads none = by (walk (only_batches limits) task c before now m c.answers refl tidy workers leads)
+      where
+        by : Walks (only_batches limits) task c before now m → AreRun limits task before list now × (m.is_cut ≡ cut)
+        by (within more finishes some) = absurd (omega (arith, none, some))
+        by (done front rest k is finishes zero_now same tidy_now later) =
+            let last = stuck k m (before ++ front) rest zero_now later in
+            let all : front ≡ now = sym (is ∙ ap (λ xs. front ++ xs) last.0 ∙ append-nil front) in (
+              subst (AreRun limits task before list) all
+                  (opened_run (only_batches limits) task before list cut c only front finishes),
+              sym (ap (λ (x : Course). x.is_cut) last.1) ∙ same ∙ opened_cut limits task before list cut c o,
+            )
+
+    -- where it is still open, its list can be run so
+    pub still_run : (es : List Entry) (d : Course) → Leads (only_batches limits) task c before es d → 0 < d.answers
+        → (more : List Entry) × AreRun limits task before list (es ++ more)
+    still_run es d leads some = by (walk (only_batches limits) task c before es d c.answers refl tidy workers leads)
+      where
+        by : Walks (only_batches limits) task c before es d → (more : List Entry) × AreRun limits task before list (es ++ more)
+        by (within more finishes open_yet) =
+            (more, opened_run (only_batches limits) task before list cut c only (es ++ more) finishes)
+        by (done front rest k is finishes zero_now same tidy_now later) =
+            let last = stuck k d (before ++ front) rest zero_now later in
+            let answers = ap (λ (x : Course). x.answers) last.1 in
+            absurd (omega (arith, zero_now, some, answers))

@@ -1,0 +1,9 @@
+pub mod AgendasLemmas
+pub mod BatchesLemmas
+pub mod MadeLemmas
+pub mod NoneLemmas
+pub mod OpensLemmas
+pub mod StepsLemmas
+pub mod TurnedLemmas
+pub mod TurnsLemmas
+pub mod WholeLemmas

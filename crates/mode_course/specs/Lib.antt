@@ -1,0 +1,3 @@
+pub mod Agendas
+pub mod Laws
+pub mod Places

@@ -1,0 +1,23 @@
+//! Laws of the definitions in `specs/`, each the contract of a function that does nothing.
+ghost use Rattle.mode_course.specs.Laws.{CoursesAreOne, CoursesAreTurns, LeftIsOne, TurnsAreCourses};
+
+/// Entries that may come one after another are turns of the mode, the last of which may stop at any
+/// entry.
+pub fn courses_are_turns()
+    ensures { CoursesAreTurns }
+{}
+
+/// The entries of such turns may come one after another.
+pub fn turns_are_courses()
+    ensures { TurnsAreCourses }
+{}
+
+/// The same entries lead to one place.
+pub fn courses_are_one()
+    ensures { CoursesAreOne }
+{}
+
+/// What is carried behind whole turns is what the place keeps where they lead.
+pub fn left_is_one()
+    ensures { LeftIsOne }
+{}
