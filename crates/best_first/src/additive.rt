@@ -8,10 +8,10 @@ use crate::relaxed::RelaxedTask;
 use std::alloc::{AllocError, Global};
 use task_model::{Look, State, Task};
 
-/// The additive estimate (Bonet and Geffner 2001): what the fluent atoms at the top of the goal cost together, where
-/// deletes are ignored. An atom of the state costs nothing, and any other atom the least that a step costs which adds
-/// it, together with the fluent atoms at the top of its condition. It can be more than that where a chain of more than
-/// 100 steps is needed.
+/// The additive estimate (Bonet and Geffner 2001): what the fluent atoms at the top of the goal
+/// cost together, where deletes are ignored. An atom of the state costs nothing, and any other atom
+/// the least that a step costs which adds it, together with the fluent atoms at the top of its
+/// condition. It can be more than that where a chain of more than 100 steps is needed.
 #[derive(Drop)]
 pub struct Additive {
     relaxed: RelaxedTask,
@@ -19,8 +19,9 @@ pub struct Additive {
 }
 
 impl Additive {
-    /// The estimate for a task and what is known of it. It takes all its room here: there is room for 1,000 fluent
-    /// atoms and 10,000 steps, and where a task has more, each estimate is 0. Fails only where memory is wanting.
+    /// The estimate for a task and what is known of it. It takes all its room here: there is room
+    /// for 1,000 fluent atoms and 10,000 steps, and where a task has more, each estimate is 0.
+    /// Fails only where memory is wanting.
     pub fn new<L: Look>(alloc: Global, task: &Task, look: &L) -> Result<Additive, AllocError>
         requires { IsFit task.now }
         ensures { IfOk result (λ estimate. HasRoom estimate.relaxed) }

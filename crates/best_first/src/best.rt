@@ -19,8 +19,8 @@ use std::cmp::Reverse;
 use std::collections::BinaryHeap;
 use task_model::{GroundAction, Look, State};
 
-/// A state that is open: it was reached, and not expanded yet. The least rank is expanded first, and of equal
-/// ones the oldest.
+/// A state that is open: it was reached, and not expanded yet. The least rank is expanded first,
+/// and of equal ones the oldest.
 #[derive(Clone, Copy, PartialEq, Eq, PartialOrd, Ord, Debug)]
 struct Open {
     /// What it costs to come to the state, and the estimate from there.
@@ -38,8 +38,8 @@ struct Frontier {
     queue: BinaryHeap<Reverse<Open>>,
 }
 
-/// How it goes on after the state at this place was added, by a step from the one that is expanded: it is open,
-/// unless it ends the search.
+/// How it goes on after the state at this place was added, by a step from the one that is expanded:
+/// it is open, unless it ends the search.
 fn widen<L: Look, E: Estimate>(
     scene: &Scene<'_, L>,
     estimate: &mut E,
@@ -71,7 +71,8 @@ fn widen<L: Look, E: Estimate>(
     Ok(Turn::On)
 }
 
-/// Takes a step from the state that is expanded, and adds the state to which it leads, if that is new.
+/// Takes a step from the state that is expanded, and adds the state to which it leads, if that is
+/// new.
 fn visit<L: Look, E: Estimate>(
     scene: &Scene<'_, L>,
     estimate: &mut E,
@@ -100,8 +101,8 @@ fn visit<L: Look, E: Estimate>(
     }
 }
 
-/// Takes all the steps from the state that is expanded, as long as nothing ends it. They are all that can be
-/// taken.
+/// Takes all the steps from the state that is expanded, as long as nothing ends it. They are all
+/// that can be taken.
 fn visit_all<L: Look, E: Estimate>(
     scene: &Scene<'_, L>,
     estimate: &mut E,
@@ -133,8 +134,8 @@ fn visit_all<L: Look, E: Estimate>(
     Ok(Turn::On)
 }
 
-/// Takes all steps from an open state, which was taken out, and adds the states to which they lead, as long
-/// as nothing ends it. Fails only where memory is wanting.
+/// Takes all steps from an open state, which was taken out, and adds the states to which they lead,
+/// as long as nothing ends it. Fails only where memory is wanting.
 fn expand<L: Look, E: Estimate>(
     alloc: Global,
     scene: &Scene<'_, L>,
@@ -160,9 +161,9 @@ fn expand<L: Look, E: Estimate>(
     visit_all(scene, estimate, frontier, from, &state, steps.as_slice())
 }
 
-/// Goes through the states that are reached, the one with the least sum of the cost so far and the estimate
-/// first, until one meets the goal, or there are more than the limit allows, or all were seen. Fails only
-/// where memory is wanting.
+/// Goes through the states that are reached, the one with the least sum of the cost so far and the
+/// estimate first, until one meets the goal, or there are more than the limit allows, or all were
+/// seen. Fails only where memory is wanting.
 pub(crate) fn explore_best<L: Look, E: Estimate>(
     alloc: Global,
     scene: &Scene<'_, L>,

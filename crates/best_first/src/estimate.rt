@@ -7,8 +7,8 @@ use formula_eval::Env;
 use grounder::tops;
 use task_model::{Look, State, Task};
 
-/// An estimate of what it costs to come from a state to the goal. It may order a search, and never prunes:
-/// whatever it answers, a search finds a plan or rules one out as it promises.
+/// An estimate of what it costs to come from a state to the goal. It may order a search, and never
+/// prunes: whatever it answers, a search finds a plan or rules one out as it promises.
 pub trait Estimate {
     /// The estimate for the state.
     fn estimate<L: Look>(&mut self, task: &Task, look: &L, state: &State) -> u64
@@ -28,8 +28,8 @@ impl Estimate for Blind {
     }
 }
 
-/// The estimate that counts the fluent atoms at the top of the goal that are not in the state: the goal itself, or
-/// those among the parts that all have to be true.
+/// The estimate that counts the fluent atoms at the top of the goal that are not in the state: the
+/// goal itself, or those among the parts that all have to be true.
 #[derive(Clone, Copy, Default, Debug)]
 pub struct GoalCount;
 

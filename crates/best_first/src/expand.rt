@@ -4,7 +4,7 @@ ghost use Rattle.grounder.specs.Applicable.{IsApplicable, AreApplicable};
 ghost use Rattle.grounder.specs.Candidates.{AreCandidates};
 ghost use Rattle.task_model.specs.Fit.{IsFit};
 ghost use Rattle.task_model.specs.Plans.{IsGoal};
-ghost use Rattle.task_model.specs.State.{Atoms};
+ghost use Rattle.task_model.specs.State.{Atoms, with_atoms, without_atoms};
 ghost use Rattle.task_model.specs.Steps.{IsStep};
 ghost use Rattle.task_model.specs.declared.limits.TheConstants.{MOST_STATES};
 ghost use Rattle.best_first.specs.Explored.{ExploringEnds, Grows, IsExplored, IsGrown, LeadsToState, Comes};
@@ -13,12 +13,13 @@ use crate::tree::{Link, Tree};
 use formula_eval::Env;
 use formula_memo::holds_once;
 use grounder::Candidates;
-use plan_check::{Applied, after, step_cost};
+use plan_check::{Changes, changes_of, step_cost};
 use state_store::StateStore;
 use std::alloc::{AllocError, Global};
 use task_model::{GroundAction, Look, State, Task};
 
-/// What is explored: a task, up to a number of states, and whether a state that meets the goal ends it.
+/// What is explored: a task, up to a number of states, and whether a state that meets the goal ends
+/// it.
 #[derive(Drop)]
 pub(crate) struct Scene<'a, L: Look> {
     pub(crate) task: &'a Task,
@@ -67,29 +68,38 @@ pub(crate) fn ends<L: Look>(
     Ok(scene.seeks_goal && meets_goal(scene, &store.get(id)?))
 }
 
+/// What a step that can be taken does to a state, and what it costs.
+#[derive(Drop)]
+struct Taken {
+    changes: Changes,
+    cost: u64,
+}
+
 /// What a step does that can be taken. Fails only where memory is wanting.
 fn take_step<L: Look>(
     scene: &Scene<'_, L>,
     state: &State,
     step: &GroundAction,
-) -> Result<Applied, AllocError>
+) -> Result<Taken, AllocError>
     requires fit { IsFit scene.now.task.now }
     requires can { IsApplicable scene.now.task.now (L.known scene.now.look.now) state.now step.now }
-    ensures step { IfOk result (λ applied. IsStep scene.now.task.now (L.known scene.now.look.now)
-        state.now step.now applied.state applied.cost) }
-    ensures small { IfOk result (λ applied. applied.cost ≤ 262144000000) }
+    ensures step { IfOk result (λ taken. IsStep scene.now.task.now (L.known scene.now.look.now)
+        state.now step.now
+        (with_atoms (without_atoms state.now taken.changes.gone.items) taken.changes.come.items)
+        taken.cost) }
+    ensures small { IfOk result (λ taken. taken.cost ≤ 262144000000) }
 {
     let action = &scene.task.domain.actions.as_slice()[step.action as usize];
     let args = step.args.as_slice();
     let Some(cost) = step_cost(scene.task, scene.look, state, action, args) else {
         unreachable!()
     };
-    let state = after(state, action, args)?;
-    Ok(Applied { state, cost })
+    let changes = changes_of(state.allocator(), action, args)?;
+    Ok(Taken { changes, cost })
 }
 
-/// Takes a step from the state at `from`, and adds the state to which it leads, if that is new: its place and
-/// what the step costs are answered then. Fails only where memory is wanting.
+/// Takes a step from the state at `from`, and adds the state to which it leads, if that is new: its
+/// place and what the step costs are answered then. Fails only where memory is wanting.
 pub(crate) fn grow<L: Look>(
     scene: &Scene<'_, L>,
     tree: &mut Tree,
@@ -99,12 +109,15 @@ pub(crate) fn grow<L: Look>(
 ) -> Result<Option<(u32, u64)>, AllocError>
     requires fit { IsFit scene.now.task.now }
     requires few { length tree.old.store ≤ MOST_STATES }
+    requires here { slice_get tree.old.store from ≡ Some state.now }
     requires can { IsApplicable scene.now.task.now (L.known scene.now.look.now) state.now step.now }
     ensures { IfOk result (Grows scene.now.task.now (L.known scene.now.look.now) tree.old.store
         tree.old.links.items from state.now step.now tree.new.store tree.new.links.items) }
 {
-    let applied = take_step(scene, state, step)?;
-    let (id, fresh) = tree.store.intern(applied.state)?;
+    let taken = take_step(scene, state, step)?;
+    let gone = taken.changes.gone.as_slice();
+    let come = taken.changes.come.as_slice();
+    let (id, fresh) = tree.store.intern_after(from, gone, come)?;
     if !fresh {
         return Ok(None);
     }
@@ -112,9 +125,9 @@ pub(crate) fn grow<L: Look>(
     tree.links.push(Link {
         parent: from,
         step,
-        cost: applied.cost,
+        cost: taken.cost,
     })?;
-    Ok(Some((id, applied.cost)))
+    Ok(Some((id, taken.cost)))
 }
 
 /// How it goes on after the last state was added.
@@ -165,7 +178,8 @@ fn visit<L: Look>(
     }
 }
 
-/// Takes all the steps from the state at `from`, as long as nothing ends it. They are all that can be taken.
+/// Takes all the steps from the state at `from`, as long as nothing ends it. They are all that can
+/// be taken.
 fn visit_all<L: Look>(
     scene: &Scene<'_, L>,
     tree: &mut Tree,
@@ -193,8 +207,8 @@ fn visit_all<L: Look>(
     Ok(Turn::On)
 }
 
-/// Takes all steps from the state at `from`, and adds the states to which they lead, as long as nothing
-/// ends it. Fails only where memory is wanting.
+/// Takes all steps from the state at `from`, and adds the states to which they lead, as long as
+/// nothing ends it. Fails only where memory is wanting.
 pub(crate) fn expand<L: Look>(
     alloc: Global,
     scene: &Scene<'_, L>,

@@ -10,8 +10,8 @@ use grounder::Candidates;
 use std::alloc::{AllocError, Global};
 use task_model::Look;
 
-/// How many arguments of actions are kept for all states. Each takes 80 bytes; an action that has more is joined
-/// anew in each state.
+/// How many arguments of actions are kept for all states. Each takes 80 bytes; an action that has
+/// more is joined anew in each state.
 pub(crate) const MOST_CANDIDATES: usize = 100_000;
 
 /// What an exploration comes to.
@@ -25,8 +25,8 @@ pub(crate) enum Explored {
     More,
 }
 
-/// Goes through the states that are reached, nearest first, until one ends it, or there are more than the
-/// limit allows, or all were seen. Fails only where memory is wanting.
+/// Goes through the states that are reached, nearest first, until one ends it, or there are more
+/// than the limit allows, or all were seen. Fails only where memory is wanting.
 pub(crate) fn explore<L: Look>(alloc: Global, scene: &Scene<'_, L>) -> Result<Explored, AllocError>
     requires fit { IsFit scene.now.task.now }
     requires some { 1 ≤ scene.now.limit }

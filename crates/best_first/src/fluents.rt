@@ -7,7 +7,8 @@ use formula_eval::{Env, objects_at};
 use std::alloc::Global;
 use task_model::{Atom, Domain, Formula, FormulaNode, Role};
 
-/// The condition as an atom, where the slots have these objects, if it is one of a fluent. It takes no memory.
+/// The condition as an atom, where the slots have these objects, if it is one of a fluent. It takes
+/// no memory.
 pub(crate) fn fluent_atom(
     alloc: Global,
     domain: &Domain,

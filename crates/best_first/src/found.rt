@@ -8,6 +8,7 @@ pub enum Found {
     Plan(Plan, u64),
     /// There is no valid plan.
     Nothing,
-    /// More states are reached than the limit allows, and so many also within the steps of any plan.
+    /// More states are reached than the limit allows, and so many also within the steps of any
+    /// plan.
     Limit,
 }

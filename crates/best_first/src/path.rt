@@ -7,8 +7,8 @@ use crate::tree::Link;
 use std::alloc::{AllocError, Global};
 use task_model::{Plan, Seq};
 
-/// The steps from the first state to the last, and what they cost together. Fails only where memory is
-/// wanting.
+/// The steps from the first state to the last, and what they cost together. Fails only where memory
+/// is wanting.
 pub(crate) fn path(alloc: Global, links: &[Link]) -> Result<(Plan, u64), AllocError>
     requires links { AreLinks links.now }
     requires few { length links.now ≤ MOST_STATES }

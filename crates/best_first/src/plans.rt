@@ -15,8 +15,8 @@ use crate::path::path;
 use std::alloc::{AllocError, Global};
 use task_model::{Look, Task};
 
-/// Goes through the states that are reached, best first by the estimate, and where that meets the limit, nearest
-/// first. Fails only where memory is wanting.
+/// Goes through the states that are reached, best first by the estimate, and where that meets the
+/// limit, nearest first. Fails only where memory is wanting.
 fn explore_with<L: Look, E: Estimate>(
     alloc: Global,
     scene: &Scene<'_, L>,
@@ -36,14 +36,15 @@ fn explore_with<L: Look, E: Estimate>(
     }
 }
 
-/// Looks for a valid plan among the states that are reached, at most `limit` of them, from 1 to 200,000.
+/// Looks for a valid plan among the states that are reached, at most `limit` of them, from 1 to
+/// 200,000.
 ///
-/// A plan that is found has at most `limit` steps; its states are distinct, and only the last of them meets
-/// the goal. `Nothing` comes exactly where there is no valid plan and at most `limit` states are reached.
-/// `Limit` comes only where more than `limit` states are reached, and so many also within the number of
-/// steps of each valid plan. All this holds whatever the estimate answers: it says which state is expanded
-/// next, the one with the least sum of the cost so far and the estimate, and of equal ones the oldest. Fails
-/// only where memory is wanting.
+/// A plan that is found has at most `limit` steps; its states are distinct, and only the last of
+/// them meets the goal. `Nothing` comes exactly where there is no valid plan and at most `limit`
+/// states are reached. `Limit` comes only where more than `limit` states are reached, and so many
+/// also within the number of steps of each valid plan. All this holds whatever the estimate
+/// answers: it says which state is expanded next, the one with the least sum of the cost so far and
+/// the estimate, and of equal ones the oldest. Fails only where memory is wanting.
 pub fn search<L: Look, E: Estimate>(
     alloc: Global,
     task: &Task,
@@ -76,8 +77,8 @@ pub fn search<L: Look, E: Estimate>(
     }
 }
 
-/// Whether more than `limit` states are reached, whatever the goal; `limit` is from 1 to 200,000. Fails
-/// only where memory is wanting.
+/// Whether more than `limit` states are reached, whatever the goal; `limit` is from 1 to 200,000.
+/// Fails only where memory is wanting.
 pub fn exceeds<L: Look>(
     alloc: Global,
     task: &Task,

@@ -35,7 +35,8 @@ struct RelaxedStep {
     adds: Vec<usize>,
 }
 
-/// What is left of a task where deletes, and all parts of conditions but the fluent atoms at their top, are ignored.
+/// What is left of a task where deletes, and all parts of conditions but the fluent atoms at their
+/// top, are ignored.
 #[derive(Drop)]
 pub(crate) struct RelaxedTask {
     /// The fluent atoms, by their numbers.
@@ -124,7 +125,8 @@ impl RelaxedTask {
         self.atoms.len()
     }
 
-    /// The numbers of the fluent atoms at the top of the condition, where these objects are in the slots.
+    /// The numbers of the fluent atoms at the top of the condition, where these objects are in the
+    /// slots.
     fn needed(
         &mut self,
         alloc: Global,
@@ -229,8 +231,8 @@ impl RelaxedTask {
         Ok(true)
     }
 
-    /// What the atoms of the goal cost together from the state, each the least over the steps that add it. The costs
-    /// are one for each atom, and are overwritten.
+    /// What the atoms of the goal cost together from the state, each the least over the steps that
+    /// add it. The costs are one for each atom, and are overwritten.
     pub(crate) fn goal_cost(&self, state: &State, costs: &mut [u64]) -> u64 {
         if self.goal.is_empty() {
             return 0;

@@ -103,9 +103,9 @@ fn add_atoms(
     Ok(())
 }
 
-/// What a yield of these outputs would certify: the types of the outputs with all supertypes, and the stream's certified atoms
-/// (PDDLStream 2020). The stream is one of a fit task, and there are as many inputs and outputs as it says. Fails only where
-/// memory is wanting.
+/// What a yield of these outputs would certify: the types of the outputs with all supertypes, and
+/// the stream's certified atoms (PDDLStream 2020). The stream is one of a fit task, and there are
+/// as many inputs and outputs as it says. Fails only where memory is wanting.
 pub fn certified_facts(
     alloc: Global,
     domain: &Domain,

@@ -9,8 +9,8 @@ use fact_store::Facts;
 use std::alloc::{AllocError, Global};
 use task_model::{Name, Row};
 
-/// The name of the object that a value from a generator stands for: `#` and the value (this project's rule).
-/// Fails only where memory is wanting.
+/// The name of the object that a value from a generator stands for: `#` and the value (this
+/// project's rule). Fails only where memory is wanting.
 pub fn generated_name(alloc: Global, value: &Name) -> Result<Name, AllocError>
     ensures { IfOk result (λ name. name ≡ generated value.now) }
 {

@@ -65,9 +65,10 @@ fn learn_atoms(
     Ok(())
 }
 
-/// Puts what one tuple of an instance's yield certifies behind what is known: the objects that the values name, their
-/// types with all supertypes, and the stream's certified atoms (PDDLStream 2020). It answers the objects. The stream is
-/// one of a fit task, and there are as many inputs and values as it says.
+/// Puts what one tuple of an instance's yield certifies behind what is known: the objects that the
+/// values name, their types with all supertypes, and the stream's certified atoms (PDDLStream
+/// 2020). It answers the objects. The stream is one of a fit task, and there are as many inputs and
+/// values as it says.
 ///
 /// Fails only where memory is wanting; then some of it may be known.
 pub fn learn_tuple(

@@ -11,8 +11,9 @@ use formula_eval::{Env, objects_at};
 use std::alloc::{AllocError, Global};
 use task_model::{Domain, Obj, Stream, Valued};
 
-/// The value of the function term that an instance of a cost stream would certify with this answer (this project). The stream
-/// is one of a fit task. For other streams it is None. It takes no memory.
+/// The value of the function term that an instance of a cost stream would certify with this answer
+/// (this project). The stream is one of a fit task. For other streams it is None. It takes no
+/// memory.
 pub fn worth_of(
     alloc: Global,
     domain: &Domain,
@@ -36,8 +37,9 @@ pub fn worth_of(
     })
 }
 
-/// Puts the value that the answer of a cost stream's instance certifies behind what is known (this project). The stream
-/// is one of a fit task, and there are as many inputs as it says. For other streams nothing is learnt.
+/// Puts the value that the answer of a cost stream's instance certifies behind what is known (this
+/// project). The stream is one of a fit task, and there are as many inputs as it says. For other
+/// streams nothing is learnt.
 ///
 /// Fails only where memory is wanting, and leaves all as it was then.
 pub fn learn_value(

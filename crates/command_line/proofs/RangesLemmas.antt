@@ -4,12 +4,10 @@ use Rattle.std.proofs.lemmas.Bool.{leb-true}
 use Rattle.std.specs.Cmp.{first_so, second_so}
 use Rattle.std.specs.Str.Parse.{digits_value}
 use Rattle.transcript_model.proofs.NamesLemmas.{map_some}
-use Rattle.transcript_model.specs.declared.head.Mode.{Mode}
-use Rattle.transcript_model.specs.declared.head.Mode.TheVariants.{Incremental, Focused}
 use Rattle.clap.specs.Words.{App, Row, Text, first_of, matches_of}
 use Rattle.command_line.specs.Apps.{generate_app, is_taken, replay_app, solve_app}
 use Rattle.command_line.specs.Numbers.{are_few_digits, count_in, count_of, count_or, is_count}
-use Rattle.command_line.specs.Ranges.{AreInRange, IsBetween, IsBuilt, IsInRange}
+use Rattle.command_line.specs.Ranges.{AreInRange, IsBetween, IsInRange}
 use Rattle.command_line.specs.Words.{Command, GivenLimits, ReplayWords, SolveWords, are_apart, command_of, files_in, generate, generate_in, generate_of, limits_in, mode_or, path_in, program_in, read_by, replay, replay_in, replay_of, solve, solve_in, solve_of}
 use Rattle.lemmas.proofs.Options.{and_then_some, where_true}
 use Rattle.std.proofs.lemmas.Option.{same_Some}
@@ -51,15 +49,6 @@ limits_between rows l e =
       or_between 8 3 (omega arith, omega arith) (first_of (codes "depth") rows) depth.0 depth.1,
     )
 
-mode_built : (name : Option Text) (mode : Mode) → mode_or name ≡ Some mode → IsBuilt mode
-mode_built None mode e = subst IsBuilt (same_Some Incremental mode e) tt
-mode_built (Some name) mode e = by (bytes_eq name (codes "incremental")) (bytes_eq name (codes "focused")) e
-  where
-    by : (a b : Bool) → (if a then Some Incremental else if b then Some Focused else None) ≡ Some mode → IsBuilt mode
-    by true b e = subst IsBuilt (same_Some Incremental mode e) tt
-    by false true e = subst IsBuilt (same_Some Focused mode e) tt
-    by false false e = absurd (cc)
-
 -- where a map stands there is no program
 alone_from : (path workers : Option Text) (program : List Text)
     → are_apart path workers program ≡ true
@@ -91,7 +80,6 @@ solve_between rows w e =
       states = few.1;
       depth = few.2;
       workers = or_between 16 1 (omega arith, omega arith) (first_of (codes "workers") rows) workers.0 workers.1;
-      built = mode_built (first_of (codes "algorithm") rows) mode.0 mode.1;
       alone = alone_from (path_in rows) (first_of (codes "workers") rows) (program_in rows) found.0;
     } in
     subst AreInRange (same_Some made w found.1) ranges

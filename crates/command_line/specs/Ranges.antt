@@ -1,8 +1,6 @@
 -- What holds of every command that words mean.
-use Rattle.std.specs.Prelude.{◌≡◌, ◌≤◌, ⊤, ℕ, List, [], Some}
+use Rattle.std.specs.Prelude.{◌≡◌, ◌≤◌, ℕ, List, [], Some}
 use Rattle.clap.specs.Words.{Text}
-use Rattle.transcript_model.specs.declared.head.Mode.{Mode}
-use Rattle.transcript_model.specs.declared.head.Mode.TheVariants.{Incremental, Focused, Binding, Adaptive}
 use Rattle.transcript_model.specs.declared.limits.TheConstants.{MOST_CALLS, MOST_DEPTH, WORKERS}
 use Rattle.command_line.specs.Words.{Command, SolveWords, command_of, generate, replay, solve}
 use Rattle.task_model.specs.declared.limits.TheConstants.{MOST_STATES}
@@ -11,20 +9,12 @@ use Rattle.task_model.specs.declared.limits.TheConstants.{MOST_STATES}
 abbrev pub IsBetween : ℕ → ℕ → Type 0
 IsBetween most n = (1 ≤ n) × (n ≤ most)
 
--- the modes that are built
-abbrev pub IsBuilt : Mode → Type 0
-IsBuilt Incremental = ⊤
-IsBuilt Focused = ⊤
-IsBuilt Binding = ⊥
-IsBuilt Adaptive = ⊥
-
--- `solve`: its numbers are in their ranges, its mode is one that is built, and no program stands beside a map
+-- `solve`: its numbers are in their ranges, and no program stands beside a map
 pub record AreInRange (w : SolveWords) : Type 0 where
   pub calls : IsBetween MOST_CALLS w.limits.calls
   pub states : IsBetween MOST_STATES w.limits.states
   pub depth : IsBetween MOST_DEPTH w.limits.depth
   pub workers : IsBetween WORKERS w.workers
-  pub built : IsBuilt w.mode
   pub alone : (path : Text) → w.path ≡ Some path → w.program ≡ []
 
 -- the numbers of the command are in their ranges

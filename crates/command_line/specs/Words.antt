@@ -2,7 +2,7 @@
 use Rattle.std.specs.Prelude.{ℕ, Bool, true, false, List, [], ◌∷◌, codes, bytes_eq, Option, None, Some, if◌then◌else◌, option_map, option_and_then}
 use Rattle.clap.specs.Words.{App, Row, Text, all_of, first_of, matches_of}
 use Rattle.transcript_model.specs.declared.head.Mode.{Mode}
-use Rattle.transcript_model.specs.declared.head.Mode.TheVariants.{Incremental, Focused}
+use Rattle.transcript_model.specs.declared.head.Mode.TheVariants.{Incremental, Focused, Binding, Adaptive}
 use Rattle.transcript_model.specs.declared.limits.TheConstants.{MOST_CALLS, MOST_DEPTH, WORKERS}
 use Rattle.command_line.specs.Apps.{generate_app, is_taken, replay_app, solve_app}
 use Rattle.command_line.specs.Numbers.{count_in, count_of}
@@ -64,12 +64,14 @@ limits_in rows =
     given (count_in (codes "depth") MOST_DEPTH DEFAULT_DEPTH rows) (λ depth.
     Some (record { calls = calls; states = states; depth = depth }))))
 
--- the mode of this name, where it is built, and incremental mode where the words name none
+-- the mode of this name, and incremental mode where the words name none
 abbrev pub mode_or : Option Text → Option Mode
 mode_or None = Some Incremental
 mode_or (Some name) =
     if bytes_eq name (codes "incremental") then Some Incremental
-    else if bytes_eq name (codes "focused") then Some Focused else None
+    else if bytes_eq name (codes "focused") then Some Focused
+    else if bytes_eq name (codes "binding") then Some Binding
+    else if bytes_eq name (codes "adaptive") then Some Adaptive else None
 
 -- neither a number of workers nor a program stands beside a map
 abbrev pub are_apart : Option Text → Option Text → List Text → Bool

@@ -2,8 +2,8 @@
 use task_model::Seq;
 use transcript_model::Mode;
 
-/// A task is to be solved: `solve DOMAIN PROBLEM STREAMS [OPTIONS] [-- PROGRAM WORDS]` (this project). Paths are as
-/// the words give them, and may be empty; no file is looked at here.
+/// A task is to be solved: `solve DOMAIN PROBLEM STREAMS [OPTIONS] [-- PROGRAM WORDS]` (this
+/// project). Paths are as the words give them, and may be empty; no file is looked at here.
 #[derive(Debug, Drop)]
 pub struct SolveConfig {
     /// DOMAIN, the path of the domain's text.
@@ -14,22 +14,24 @@ pub struct SolveConfig {
     pub streams: String,
     /// The path of `--map`, where the words have one.
     pub map: Option<String>,
-    /// The generator program and its words, in order; none where no program is named, and none beside a map.
+    /// The generator program and its words, in order; none where no program is named, and none
+    /// beside a map.
     pub program: Seq<String>,
     /// How many workers run the program, 1 to 16: `--workers`, and 1 without it, as beside a map.
     pub workers: u8,
-    /// How the planner goes about it: `--algorithm`. Incremental and focused mode are built, and the first is the default.
+    /// How the planner goes about it: `--algorithm`, and incremental mode without it.
     pub mode: Mode,
     /// The most calls of a run, 1 to 100,000: `--calls`, and 10,000 without it.
     pub calls: u32,
     /// The most states of a search, 1 to 200,000: `--states`, and 100,000 without it.
     pub states: u32,
-    /// The depth of dreams, 1 to 8: `--depth`, and 3 without it. It has no meaning in incremental mode.
+    /// The depth of dreams, 1 to 8: `--depth`, and 3 without it. It has no meaning in incremental
+    /// mode.
     pub depth: u8,
 }
 
-/// A report is to be judged: `replay DOMAIN PROBLEM STREAMS REPORT [--states N]` (this project). Paths are as the
-/// words give them, and may be empty; no file is looked at here.
+/// A report is to be judged: `replay DOMAIN PROBLEM STREAMS REPORT [--states N]` (this project).
+/// Paths are as the words give them, and may be empty; no file is looked at here.
 #[derive(Debug, Drop)]
 pub struct ReplayConfig {
     /// DOMAIN, the path of the domain's text.
@@ -51,6 +53,7 @@ pub enum Config {
     Solve(SolveConfig),
     /// A report is to be judged.
     Replay(ReplayConfig),
-    /// The grid task of this number, 1 to 12, is to be made and solved: `generate N` (this project).
+    /// The grid task of this number, 1 to 12, is to be made and solved: `generate N` (this
+    /// project).
     Generate(u32),
 }

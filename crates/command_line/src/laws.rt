@@ -1,9 +1,9 @@
 //! Laws of the definitions in `specs/`, each the contract of a function that does nothing.
 ghost use Rattle.command_line.specs.Ranges.{WordsAreInRange};
 
-/// Of every command that words mean, all numbers are in their ranges: calls 1 to 100,000, states 1 to 200,000,
-/// depth 1 to 8, workers 1 to 16, the number of `generate` 1 to 12. The mode of `solve` is one that is built, and no
-/// program stands beside a map.
+/// Of every command that words mean, all numbers are in their ranges: calls 1 to 100,000, states 1
+/// to 200,000, depth 1 to 8, workers 1 to 16, the number of `generate` 1 to 12. No program
+/// stands beside a map.
 pub fn words_are_in_range()
     ensures { WordsAreInRange }
 {}

@@ -23,7 +23,8 @@ fn are_digits(word: &[u8]) -> bool
     word.iter().all(|b| b.is_ascii_digit())
 }
 
-/// The number from 1 to the most that a word of one to seven digits writes, and nothing where the word writes none.
+/// The number from 1 to the most that a word of one to seven digits writes, and nothing where the
+/// word writes none.
 #[tactic(auto, unfolding(crate::specs::Numbers::is_count))]
 pub(crate) fn count_of(word: &str, most: u32) -> Option<u32>
     ensures value { result ≡ count_of most word.now }

@@ -47,7 +47,7 @@ fn solve_command<'a>(alloc: Global) -> Result<Command<'a>, AllocError>
         .arg(option(alloc, "workers"))
 }
 
-/// The mode of this name, where it is built, and incremental mode where the words name none.
+/// The mode of this name, and incremental mode where the words name none.
 fn mode_or(name: Option<&str>) -> Option<Mode>
     ensures { result ≡ mode_or (option_map (λ s. s.now) name.entry) }
 {
@@ -57,6 +57,10 @@ fn mode_or(name: Option<&str>) -> Option<Mode>
             Some(Mode::Incremental)
         } else if name == "focused" {
             Some(Mode::Focused)
+        } else if name == "binding" {
+            Some(Mode::Binding)
+        } else if name == "adaptive" {
+            Some(Mode::Adaptive)
         } else {
             None
         },

@@ -2,8 +2,8 @@
 ghost use Rattle.std.specs.Prelude.{◌≡◌};
 ghost use Rattle.command_line.specs.Usage.{usage_text};
 
-/// The usage text: one line for each command, each ended by a line feed. The planner prints it behind its line
-/// `fault usage`, where `read_words` answers `WordsFault::Usage` (this project).
+/// The usage text: one line for each command, each ended by a line feed. The planner prints it
+/// behind its line `fault usage`, where `read_words` answers `WordsFault::Usage` (this project).
 pub fn usage_text() -> &'static str
     ensures { result.now ≡ usage_text }
 {

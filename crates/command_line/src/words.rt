@@ -9,18 +9,21 @@ use crate::solve::solve;
 use crate::{Config, WordsFault};
 use std::alloc::Global;
 
-/// What the words after the program's name ask for: exactly the command that they mean (this project).
+/// What the words after the program's name ask for: exactly the command that they mean (this
+/// project).
 ///
-/// The first word names the command, and `clap` reads the others as the command's words and options. An option stands
-/// in any place before `--`, at most once, as `--name value` or `--name=value`; a value that begins with `-`, and isn't
-/// `-` alone, needs the second form. After the first `--` no word is an option. A number is one to seven digits and
-/// nothing else, within its range. The program's words stand behind STREAMS, best behind `--`.
+/// The first word names the command, and `clap` reads the others as the command's words and
+/// options. An option stands in any place before `--`, at most once, as `--name value` or
+/// `--name=value`; a value that begins with `-`, and isn't `-` alone, needs the second form. After
+/// the first `--` no word is an option. A number is one to seven digits and nothing else, within
+/// its range. The program's words stand behind STREAMS, best behind `--`.
 ///
 /// # Errors
 ///
-/// - `Usage` only where the words mean no command: there are none, the first is no command's name, a word or an option
-///   is missing, unknown, too many or twice, a number is out of its form or its range, the named mode isn't built, or a
-///   program or `--workers` stands beside `--map`. `--help` and `--version` are refused like any unknown word.
+/// - `Usage` only where the words mean no command: there are none, the first is no command's name,
+///   a word or an option is missing, unknown, too many or twice, a number is out of its form or its
+///   range, no mode has the name, or a program or `--workers` stands beside `--map`. `--help`
+///   and `--version` are refused like any unknown word.
 /// - `Memory` where memory is wanting. Nothing is said of the words then.
 #[tactic(auto, unfolding(crate::specs::Words::command_of))]
 pub fn read_words(alloc: Global, words: &[String]) -> Result<Config, WordsFault>

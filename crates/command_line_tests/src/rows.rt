@@ -5,9 +5,9 @@ use std::process::Abort;
 use std::test::Fail;
 use transcript_model::Mode;
 
-/// A line of words, which are parted by spaces, and what it asks for. In both, `_` stands for an empty word. `solve` is
-/// told as its paths, calls, states, depth, workers and mode, and then its map or its program, `replay` as its paths
-/// and its states.
+/// A line of words, which are parted by spaces, and what it asks for. In both, `_` stands for an
+/// empty word. `solve` is told as its paths, calls, states, depth, workers and mode, and then its
+/// map or its program, `replay` as its paths and its states.
 pub(crate) type Row = (&'static str, &'static str);
 
 /// Asserts that each line asks for what it should.
@@ -76,6 +76,7 @@ fn mode_word(mode: Mode) -> &'static str {
     match mode {
         Mode::Incremental => "incremental",
         Mode::Focused => "focused",
-        _ => "another",
+        Mode::Binding => "binding",
+        Mode::Adaptive => "adaptive",
     }
 }

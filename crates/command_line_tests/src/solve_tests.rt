@@ -183,8 +183,8 @@ const MAPS: [Row; 18] = [
     ("solve --workers=2 d p s --map m", "usage"),
 ];
 
-/// Modes, of which two are built, and asking for help.
-const MODES: [Row; 15] = [
+/// Modes, and asking for help.
+const MODES: [Row; 16] = [
     (
         "solve --algorithm incremental d p s",
         "solve d p s 10000 100000 3 1 incremental",
@@ -197,9 +197,16 @@ const MODES: [Row; 15] = [
         "solve --algorithm focused d p s",
         "solve d p s 10000 100000 3 1 focused",
     ),
+    (
+        "solve d p s --algorithm binding --depth 2",
+        "solve d p s 10000 100000 2 1 binding",
+    ),
+    (
+        "solve --algorithm=adaptive d p s",
+        "solve d p s 10000 100000 3 1 adaptive",
+    ),
     ("solve --algorithm Focused d p s", "usage"),
-    ("solve --algorithm binding d p s", "usage"),
-    ("solve --algorithm adaptive d p s", "usage"),
+    ("solve --algorithm bindings d p s", "usage"),
     ("solve --algorithm Incremental d p s", "usage"),
     ("solve --algorithm inc d p s", "usage"),
     ("solve --algorithm= d p s", "usage"),
@@ -230,6 +237,6 @@ fn a_map_stands_alone(rt: HostRuntime) -> Result<(), Fail> {
 }
 
 #[test]
-fn two_modes_are_built(rt: HostRuntime) -> Result<(), Fail> {
+fn modes_are_named(rt: HostRuntime) -> Result<(), Fail> {
     check_rows(&rt, rt.alloc(), &MODES)
 }

@@ -21,7 +21,7 @@ use Rattle.domain_reader.proofs.FitCycles.{rules_acyclic}
 use Rattle.domain_reader.proofs.FitLists.{constants_fit, functions_fit, knows, predicates_fit}
 use Rattle.domain_reader.proofs.FitRoles.{few_derived, not_derived}
 use Rattle.domain_reader.proofs.FitRules.{rules_fit, rules_long}
-use Rattle.domain_reader.proofs.FitSorts.{types_fit}
+use Rattle.domain_reader.proofs.FitSortsAll.{types_fit}
 use Rattle.domain_reader.specs.Cycles.{derived_edges, derived_in, listed_in, type_edges}
 use Rattle.name_tables.specs.Cycles.{CycleFaults}
 use Rattle.domain_reader.specs.Domains.{AreNameFaults, IsDomainRead, DomainReads, actions_of, domain_names, plain_names, rules_of}

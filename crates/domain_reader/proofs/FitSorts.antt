@@ -1,14 +1,13 @@
 -- The types of a domain without faults are fit.
-use Rattle.std.proofs.Common.{◌≡◌, ℕ, zero, suc, ◌+◌, ◌<◌, ◌≤◌, Bool, true, false, ◌&&◌, not, cond, ◌==◌, nat_lt, if◌then◌else◌, List, [], ◌∷◌, ◌++◌, codes, map, length, refl, sym, ap, ◌∙◌, subst, arith, ◌⊎◌, inl, inr, Some, None, slice_get, le-leb, lt-ltb, ltb-true, eq-eqb}
+use Rattle.std.proofs.Common.{◌≡◌, ℕ, zero, suc, ◌+◌, ◌<◌, Bool, true, false, ◌&&◌, not, cond, ◌==◌, nat_lt, if◌then◌else◌, List, [], ◌∷◌, ◌++◌, codes, map, length, refl, sym, ap, ◌∙◌, subst, arith, ◌⊎◌, inl, inr, Some, None, slice_get, ltb-true, eq-eqb}
 use Rattle.std.specs.Cmp.{first_so, second_so}
 use Rattle.std.specs.List.{list_any, list_all}
 use Rattle.std.proofs.lemmas.Bool.{or_cases, or_left, eqb-true, false_from_ne_true}
-use Rattle.std.proofs.lemmas.Option.{slice_get_within}
 use Rattle.sexpr_text.specs.Trees.{Trees, nothing, word, list, size}
-use Rattle.task_model.specs.Fit.{AreFitSorts, AreNames, are_places, is_name}
+use Rattle.task_model.specs.Fit.{is_name}
 use Rattle.lemmas.specs.Lists.{LeadsAlong, has_number}
 use Rattle.task_model.specs.declared.domain.Sort as sort
-use Rattle.form_reader.specs.declared.fault.InputKind.TheVariants.{TypeCycle, Unknown}
+use Rattle.form_reader.specs.declared.fault.InputKind.TheVariants.{Unknown}
 use Rattle.form_reader.specs.declared.groups.Spot.{Spot}
 use Rattle.form_reader.specs.declared.groups.Spot.TheVariants.{Start, Named, Typed}
 use Rattle.form_reader.specs.declared.items.Item.{Item}
@@ -19,23 +18,21 @@ use Rattle.form_reader.specs.Rows.{after_word, groups_faults, head_of, is_dash, 
 use Rattle.form_reader.specs.Faults.{shape}
 use Rattle.form_reader.specs.declared.words.WordSort.TheVariants.{Name}
 use Rattle.lemmas.proofs.Members.{push_cases}
-use Rattle.lemmas.proofs.ListTests.{all_from, any_append_left, any_append_right}
+use Rattle.lemmas.proofs.ListTests.{any_append_left, any_append_right}
 use Rattle.name_tables.specs.Declarations.{number_put}
 use Rattle.name_tables.specs.declared.vocabulary.Vocabulary.{Vocabulary}
 use Rattle.name_tables.specs.Graphs.{HasWay, ascending, leads}
 use Rattle.name_tables.specs.Names.{has_name, with_name}
 use Rattle.name_tables.specs.Variables.{is_named, named_sorts, named_words, seen_after, sort_of, types_names, unless}
-use Rattle.name_tables.proofs.GraphsOrderLemmas.{Ascends, ascending_in, ascends_all, ascends_places, in_ascending, number_any}
+use Rattle.name_tables.proofs.GraphsOrderLemmas.{ascending_in, in_ascending, number_any}
 use Rattle.name_tables.proofs.FitGroups.{sort_places}
 use Rattle.name_tables.proofs.NamesLemmas.{name_found, name_there, same_name, has_with}
 use Rattle.name_tables.proofs.NoFaultLemmas.{chosen}
-use Rattle.name_tables.proofs.GraphsLemmas.{number_there}
 use Rattle.domain_reader.proofs.FitItems.{AreClean, IsClean}
-use Rattle.domain_reader.proofs.FitEdges.{is_candidate, none_cyclic, put_keeps, put_leads, way_joined, way_within}
-use Rattle.domain_reader.proofs.FitNames.{Known, known_with, rest_formed, tables_fit}
-use Rattle.domain_reader.specs.Cycles.{AreSorts, no_sorts, more_sorts, IsAbove, edge_put, edges_each, edges_in, first_edges, is_types, listed_in, listed_row, type_edges, under_object}
-use Rattle.name_tables.specs.Cycles.{CycleFaults}
-use Rattle.domain_reader.specs.Tables.{no_names, types_in, with_item, with_items, vocabulary_in}
+use Rattle.domain_reader.proofs.FitEdges.{is_candidate, put_keeps, put_leads}
+use Rattle.domain_reader.proofs.FitNames.{Known, known_with, rest_formed}
+use Rattle.domain_reader.specs.Cycles.{AreSorts, no_sorts, more_sorts, IsAbove, edge_put, edges_each, edges_in, first_edges, is_types, listed_in, listed_row, under_object}
+use Rattle.domain_reader.specs.Tables.{types_in, with_item, with_items}
 use Rattle.name_tables.specs.declared.cycles.Candidate.{Candidate}
 
 -- ---- each word of `:types` is a type
@@ -171,10 +168,10 @@ module _ (sorts : List (List ℕ)) (L : ℕ → Type 0) where
 -- ---- what types are under
 
 -- Each edge leads to a type, each type but the first is under the first, and what else is under a type is listed.
-record IsUnder (size : ℕ) (L : ℕ → Type 0) (edges : List (List ℕ)) : Type 0 where
-  within : (a b : ℕ) → leads edges a b ≡ true → b < size
-  object : (a : ℕ) → 0 < a → a < size → leads edges a 0 ≡ true
-  listed : (a b : ℕ) → leads edges a b ≡ true → ((b ≡ 0) × (0 < a)) ⊎ L a
+pub record IsUnder (size : ℕ) (L : ℕ → Type 0) (edges : List (List ℕ)) : Type 0 where
+  pub within : (a b : ℕ) → leads edges a b ≡ true → b < size
+  pub object : (a : ℕ) → 0 < a → a < size → leads edges a 0 ≡ true
+  pub listed : (a b : ℕ) → leads edges a b ≡ true → ((b ≡ 0) × (0 < a)) ⊎ L a
 
 under_leads : (ns : List (List ℕ)) (a b : ℕ) → leads (under_object ns) a b ≡ true → b ≡ 0
 under_leads [] a b h = absurd (cc)
@@ -187,7 +184,7 @@ under_gets [] a lt = absurd (omega arith)
 under_gets (n ∷ ns) zero lt = refl
 under_gets (n ∷ ns) (suc a) lt = under_gets ns a (omega arith)
 
-first_under : (L : ℕ → Type 0) (names : List (List ℕ))
+pub first_under : (L : ℕ → Type 0) (names : List (List ℕ))
     → IsUnder (length names) L (first_edges names)
 first_under L [] = record { within = λ a b h. absurd (cc); object = λ a pos lt. absurd (omega arith); listed = λ a b h. absurd (cc) }
 first_under L (n ∷ ns) = record { within = within; object = object; listed = listed }
@@ -250,7 +247,7 @@ module _ (whole : Vocabulary) (heads : List (List ℕ)) (L : ℕ → Type 0) (ty
       )
   under_item edges seen v _ rest c k s l u = (s, u)
 
-  under_items : (edges seen : List (List ℕ)) (v : Vocabulary) (body : Trees)
+  pub under_items : (edges seen : List (List ℕ)) (v : Vocabulary) (body : Trees)
       → AreClean whole heads body → Known (with_items v body).sorts whole.sorts
       → SeenListed whole.sorts L seen → Lists whole.sorts L (listed_in whole.sorts seen body)
       → IsUnder (length whole.sorts) L edges
@@ -270,7 +267,7 @@ module _ (whole : Vocabulary) (heads : List (List ℕ)) (L : ℕ → Type 0) (ty
 
 -- ---- no cycles
 
-no_sort_seen : (sorts : List (List ℕ)) (L : ℕ → Type 0) → SeenListed sorts L []
+pub no_sort_seen : (sorts : List (List ℕ)) (L : ℕ → Type 0) → SeenListed sorts L []
 no_sort_seen sorts L n h = absurd (cc)
 
 module _ (size : ℕ) (edges : List (List ℕ)) (L : ℕ → Type 0) (u : IsUnder size L edges) (free : (k : ℕ) → L k → ¬ (HasWay edges k k)) where
@@ -287,11 +284,11 @@ module _ (size : ℕ) (edges : List (List ℕ)) (L : ℕ → Type 0) (u : IsUnde
       back (suc b) h = record { between = suc b ∷ []; steps = (h, u.object (suc b) (omega arith) (u.within 0 (suc b) h)) }
 
   -- what is led to from the first type on the way
-  from_first : (between : List ℕ) (b : ℕ) → LeadsAlong (leads edges) 0 between b → ⊥
+  pub from_first : (between : List ℕ) (b : ℕ) → LeadsAlong (leads edges) 0 between b → ⊥
   from_first [] b l = first_free b l
   from_first (m ∷ ms) b l = first_free m l.0
 
-  none_around : (k : ℕ) (between : List ℕ) → LeadsAlong (leads edges) k between k → ⊥
+  pub none_around : (k : ℕ) (between : List ℕ) → LeadsAlong (leads edges) k between k → ⊥
   none_around k [] l =
       elim (u.listed k k l) [
         | inl e ↦ omega (arith, e.0, e.1)
@@ -306,10 +303,10 @@ module _ (size : ℕ) (edges : List (List ℕ)) (L : ℕ → Type 0) (u : IsUnde
 -- ---- the types as the task has them
 
 -- a supertype, as fit tasks test for it
-abbrev has_above : sort.Sort → ℕ → Bool
+abbrev pub has_above : sort.Sort → ℕ → Bool
 has_above s b = list_any (λ n. n == b) s.above
 
-above_way : (edges : List (List ℕ)) (k : ℕ) (above : List ℕ) (b : ℕ) → IsAbove edges k above
+pub above_way : (edges : List (List ℕ)) (k : ℕ) (above : List ℕ) (b : ℕ) → IsAbove edges k above
     → list_any (λ n. n == b) above ≡ true → HasWay edges k b
 above_way edges k above b i h =
     let there : has_number (ascending [] i.reached) b ≡ true = ap (λ ns. has_number ns b) (sym i.sorted) ∙ sym (number_any above b) ∙ h in
@@ -318,12 +315,12 @@ above_way edges k above b i h =
       | inr e ↦ i.right.only b e
     ]
 
-way_above : (edges : List (List ℕ)) (k : ℕ) (above : List ℕ) (b : ℕ) → IsAbove edges k above
+pub way_above : (edges : List (List ℕ)) (k : ℕ) (above : List ℕ) (b : ℕ) → IsAbove edges k above
     → HasWay edges k b → list_any (λ n. n == b) above ≡ true
 way_above edges k above b i w =
     number_any above b ∙ ap (λ ns. has_number ns b) i.sorted ∙ ascending_in [] i.reached b (inr (i.right.all b w.between w.steps))
 
-sorts_named : (edges : List (List ℕ)) (k : ℕ) (ns : List (List ℕ)) (ss : List sort.Sort)
+pub sorts_named : (edges : List (List ℕ)) (k : ℕ) (ns : List (List ℕ)) (ss : List sort.Sort)
     → AreSorts edges k ns ss → map (λ (s : sort.Sort). s.name) ss ≡ ns
 sorts_named edges k [] [] no_sorts = refl
 sorts_named edges k [] (s ∷ ss) x = elim x [ ]
@@ -339,7 +336,7 @@ sorts_many edges k (n ∷ ns) [] x = elim x [ ]
 sorts_many edges k (n ∷ ns) (s ∷ ss) (more_sorts above more) =
     ap suc (sorts_many edges (k + 1) ns ss more)
 
-sort_at : (edges : List (List ℕ)) (k : ℕ) (ns : List (List ℕ)) (ss : List sort.Sort) (i : ℕ) (s : sort.Sort)
+pub sort_at : (edges : List (List ℕ)) (k : ℕ) (ns : List (List ℕ)) (ss : List sort.Sort) (i : ℕ) (s : sort.Sort)
     → AreSorts edges k ns ss → slice_get ss i ≡ Some s → IsAbove edges (k + i) s.above
 sort_at edges k [] [] i s x e = absurd (cc)
 sort_at edges k [] (t ∷ ts) i s x e = elim x [ ]
@@ -352,12 +349,12 @@ sort_at edges k (n ∷ ns) (t ∷ ts) (suc i) s (more_sorts above more) e =
     let next : k + 1 + i ≡ k + suc i = omega arith in
     subst (λ m. IsAbove edges m s.above) next (sort_at edges (k + 1) ns ts i s more e)
 
-nothing_in : (ns : List ℕ) → ((b : ℕ) → list_any (λ n. n == b) ns ≡ true → ⊥) → ns ≡ []
+pub nothing_in : (ns : List ℕ) → ((b : ℕ) → list_any (λ n. n == b) ns ≡ true → ⊥) → ns ≡ []
 nothing_in [] none = refl
 nothing_in (n ∷ ns) none =
     absurd (none n (or_left (n == n) (list_any (λ m. m == n) ns) (eq-eqb n n refl)))
 
-first_sort : (ns : List (List ℕ)) (ss : List sort.Sort) → map (λ (s : sort.Sort). s.name) ss ≡ ns
+pub first_sort : (ns : List (List ℕ)) (ss : List sort.Sort) → map (λ (s : sort.Sort). s.name) ss ≡ ns
     → slice_get ns 0 ≡ Some (codes "object")
     → ((s : sort.Sort) → slice_get ss 0 ≡ Some s → s.above ≡ [])
     → slice_get ss 0 ≡ Some (record { name = codes "object"; above = [] })
@@ -367,65 +364,3 @@ first_sort ns (s ∷ ss) e f none =
     let g : Some s.name ≡ Some (codes "object") = ap (λ ms. slice_get ms 0) e ∙ f in
     let same : s.name ≡ codes "object" = cc in
     λ i. Some (record { name = same i; above = none s refl i })
-
--- ---- all of it
-
-module _ (size : ℕ) (edges names : List (List ℕ)) (all : List sort.Sort) (L : ℕ → Type 0) (u : IsUnder size L edges)
-    (free : (k : ℕ) → L k → ¬ (HasWay edges k k)) (are : AreSorts edges 0 names all) (long : length names ≡ size)
-    (few : size ≤ 8388608) where
-  own : (k : ℕ) (s : sort.Sort) → slice_get all k ≡ Some s → IsAbove edges k s.above
-  own k s e = let here : 0 + k ≡ k = omega arith in subst (λ n. IsAbove edges n s.above) here (sort_at edges 0 names all k s are e)
-
-  many : length all ≡ size
-  many = sorts_many edges 0 names all are ∙ long
-
-  abbrev is_place : ℕ → Bool
-  is_place n = nat_lt n size
-
-  reached_places : (k : ℕ) (above : List ℕ) → IsAbove edges k above → are_places size above ≡ true
-  reached_places k above i =
-      let reached : list_all is_place i.reached ≡ true =
-      all_from is_place i.reached (λ j b e. lt-ltb b size (within b (i.right.only b (number_there i.reached j b e)))) in
-      ascends_places size above few (subst (Ascends 0 size) (sym i.sorted) (ascends_all size [] i.reached reached tt))
-    where
-      within : (b : ℕ) → HasWay edges k b → b < size
-      within b w = way_within edges (λ n. n < size) u.within k w.between b w.steps
-
-  sorts_fit : AreNames names → slice_get names 0 ≡ Some (codes "object") → AreFitSorts all
-  sorts_fit are_names object = record {
-    names = subst AreNames (sym (sorts_named edges 0 names all are)) are_names;
-    first = first_sort names all (sorts_named edges 0 names all are) object
-        (λ s e. nothing_in s.above
-        (λ b h. let w = above_way edges 0 s.above b (own 0 s e) h in from_first size edges L u free w.between b w.steps));
-    short = le-leb (length all) 8388608 (omega (arith, many));
-    places = all_from (λ (s : sort.Sort). are_places (length all) s.above) all
-        (λ k s e. subst (λ n. are_places n s.above ≡ true) (sym many) (reached_places k s.above (own k s e)));
-    proper = λ k s e. false_from_ne_true (has_above s k)
-        (λ h. let w = above_way edges k s.above k (own k s e) h in none_around size edges L u free k w.between w.steps);
-    closed = λ k a b s t at_k above_a at_a above_b.
-        let first = above_way edges k s.above a (own k s at_k) above_a in
-        let second = above_way edges a t.above b (own a t at_a) above_b in
-        way_above edges k s.above b (own k s at_k)
-        (record {
-          between = first.between ++ a ∷ second.between;
-          steps = way_joined edges k first.between a second.between b first.steps second.steps;
-        });
-  }
-
--- the types of a domain whose items have no faults and whose types are on no cycle
-pub types_fit : (heads : List (List ℕ)) (body : Trees) (all : List sort.Sort)
-    → AreClean (vocabulary_in body) heads body → size body ≤ 4194304
-    → CycleFaults TypeCycle (type_edges (vocabulary_in body).sorts body) (listed_in (vocabulary_in body).sorts [] body) []
-    → AreSorts (type_edges (vocabulary_in body).sorts body) 0 (vocabulary_in body).sorts all
-    → AreFitSorts all
-types_fit heads body all clean small none are =
-    let v = vocabulary_in body in
-    let tables = tables_fit heads body clean in
-    let listed = listed_in v.sorts [] body in
-    let edges = type_edges v.sorts body in
-    let L : ℕ → Type 0 = λ k. is_candidate listed k ≡ true in
-    let typed : 0 < length v.sorts = slice_get_within v.sorts 0 (codes "object") tables.object in
-    let u = under_items v heads L typed (first_edges v.sorts) [] no_names body clean (λ n h. h) (no_sort_seen v.sorts L)
-    (λ k h. h) (first_under L v.sorts) in
-    sorts_fit (length v.sorts) edges v.sorts all L u (none_cyclic listed [] none refl) are refl
-    (omega (arith, tables.sorts.few)) (record { each = tables.sorts.named; distinct = tables.sorts.distinct }) tables.object

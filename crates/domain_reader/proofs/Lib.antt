@@ -6,6 +6,7 @@ pub mod FitItems
 pub mod FitNames
 pub mod FitEdges
 pub mod FitSorts
+pub mod FitSortsAll
 pub mod FitLists
 pub mod FitRules
 pub mod FitRoles

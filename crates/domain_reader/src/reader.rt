@@ -63,9 +63,9 @@ fn read(alloc: Global, text: &Tree) -> Result<Domain, InputFault>
 ///
 /// # Errors
 ///
-/// - `At`: the text has a fault. Of its form faults the one with the least place is answered, and at
-///   one place `Shape` last; where it has none, of its name faults the one with the least place, and
-///   at one place the one of the smallest number.
+/// - `At`: the text has a fault. Of its form faults the one with the least place is answered, and
+///   at one place `Shape` last; where it has none, of its name faults the one with the least place,
+///   and at one place the one of the smallest number.
 /// - `Memory`: memory ran out, which says nothing of the text.
 pub fn read_domain(alloc: Global, text: &Tree) -> Result<Domain, InputFault>
     ensures reads { specs.DomainReads (tree text.now) result }

@@ -1,1 +1,7 @@
+pub mod AnswersLemmas
+pub mod EntriesLemmas
 pub mod FirstLemmas
+pub mod NextLemmas
+pub mod NotingLemmas
+pub mod ProgressLemmas
+pub mod StayLemmas

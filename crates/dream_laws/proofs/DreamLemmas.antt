@@ -35,7 +35,7 @@ use Rattle.dream_laws.proofs.SupportLemmas.{stream_of}
 
 -- ---- places
 
-places_same : (xs ys : List ℕ) → map (λ place. place + 1) xs ≡ map (λ place. place + 1) ys → xs ≡ ys
+pub places_same : (xs ys : List ℕ) → map (λ place. place + 1) xs ≡ map (λ place. place + 1) ys → xs ≡ ys
 places_same [] [] e = refl
 places_same [] (y ∷ ys) e = absurd (cc)
 places_same (x ∷ xs) [] e = absurd (cc)

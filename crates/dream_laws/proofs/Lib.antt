@@ -1,4 +1,5 @@
 pub mod NamesFreeLemmas
 pub mod SupportLemmas
 pub mod ListLemmas
+pub mod FreshLemmas
 pub mod DreamLemmas

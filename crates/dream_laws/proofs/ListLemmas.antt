@@ -6,7 +6,7 @@ use Rattle.std.proofs.lemmas.List.{append-nil, length-append, length-map, take-a
 use Rattle.std.proofs.lemmas.Option.{slice_get_within}
 use Rattle.lemmas.proofs.Ascending.{same_list}
 use Rattle.lemmas.proofs.Distinct.{in_mapped}
-use Rattle.lemmas.proofs.Members.{member_at}
+use Rattle.lemmas.proofs.Members.{append_cases, member_at}
 use Rattle.lemmas.proofs.Pigeonhole.{pigeons}
 use Rattle.task_model.proofs.StreamsLemmas.{instances_total}
 use Rattle.task_model.specs.Dreams.{Entry, instances_of, supposing, HasFreshOutputs, IsPass, AreSupposed, is_supported, HaveSupport}
@@ -18,7 +18,17 @@ use Rattle.task_model.specs.declared.task.Task.{Task}
 use Rattle.transcript_model.specs.Dreaming.{MoreAreSupposed}
 use Rattle.lemmas.specs.Lists.{numbers_from}
 use Rattle.std.specs.List.{list_any}
-use Rattle.dream_laws.proofs.SupportLemmas.{append_cases, supported_later, support_stays}
+use Rattle.dream_laws.proofs.SupportLemmas.{supported_later, support_stays}
+
+-- ---- fronts of what was added to
+
+pub added_front : (list old more : List Entry) → list ≡ old ++ more → (n : ℕ) → n ≤ length old → take n list ≡ take n old
+added_front list old more added n few = ap (take n) added ∙ take-append-le n old more few
+
+pub added_behind : (list old more : List Entry) → list ≡ old ++ more → (k j : ℕ) → k ≡ length old + j
+    → take k list ≡ old ++ take j more
+added_behind list old more added k j is =
+    ap (take k) added ∙ ap (λ n. take n (old ++ more)) is ∙ take-append-add old more j
 
 module _ (task : Task) (known : Known) where
   abbrev AreFresh : List Entry → List Entry → Type 0
@@ -156,15 +166,12 @@ module _ (task : Task) (known : Known) where
           | inr later ↦ new later.0 later.1 later.2
         ]
       where
-        front : (n : ℕ) → n ≤ length old → take n list ≡ take n old
-        front n few = ap (take n) pass.added ∙ take-append-le n old pass.more few
-
         kept : IsOfList old k e → k ≤ length old → IsOfList list k e
         kept h few = record {
           stream = h.stream;
           named = h.named;
           unfinished = h.unfinished;
-          supported = subst (λ es. is_supported task known list es e ≡ true) (append-nil (take k old) ∙ sym (front k few))
+          supported = subst (λ es. is_supported task known list es e ≡ true) (append-nil (take k old) ∙ sym (added_front list old pass.more pass.added k few))
               (support_stays task known old list (take k old) [] e h.supported);
         }
 
@@ -175,12 +182,9 @@ module _ (task : Task) (known : Known) where
               stream = d.stream;
               named = d.named;
               unfinished = d.unfinished;
-              supported = subst (λ es. is_supported task known list es e ≡ true) (sym (behind j is))
+              supported = subst (λ es. is_supported task known list es e ≡ true) (sym (added_behind list old pass.more pass.added k j is))
                   (supported_later task known old list old (take j pass.more) e d.stream d.named d.reachable);
             }
-          where
-            behind : (j : ℕ) → k ≡ length old + j → take k list ≡ old ++ take j pass.more
-            behind j is = ap (λ es. take k es) pass.added ∙ ap (λ n. take n (old ++ pass.more)) is ∙ take-append-add old pass.more j
 
     pub list_supported : (depth : ℕ) (list : List Entry) → AreSupposed task known notes tried depth list
         → HaveSupport task known list list

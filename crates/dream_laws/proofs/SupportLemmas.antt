@@ -1,68 +1,18 @@
 -- What has support has it still where more is supposed.
-use Rattle.std.proofs.Common.{◌≡◌, ℕ, zero, suc, ◌+◌, ◌<◌, ◌⊎◌, inl, inr, arith, true, false, cond, List, [], ◌∷◌, ◌++◌, length, take, refl, sym, ap, subst, ◌∙◌, Option, None, Some, slice_get}
-use Rattle.std.proofs.lemmas.Bool.{and_from}
+use Rattle.std.proofs.Common.{◌≡◌, ℕ, inl, inr, arith, true, false, cond, List, [], ◌∷◌, ◌++◌, length, take, refl, sym, ap, subst, ◌∙◌, Option, None, Some, slice_get}
 use Rattle.std.proofs.lemmas.Grind.{flat_map-append}
 use Rattle.std.proofs.lemmas.List.{take-append-le, take_all, take-take}
-use Rattle.std.proofs.lemmas.List.Elements.{Contains-append_left}
 use Rattle.std.proofs.lemmas.Option.{slice_get_within}
-use Rattle.std.specs.Cmp.{first_so, second_so}
-use Rattle.std.specs.List.{list_all, flat_map}
-use Rattle.lemmas.proofs.Members.{push_cases}
-use Rattle.task_model.proofs.KnownLemmas.{fact_member, with_facts-is, facts_then}
+use Rattle.std.specs.List.{flat_map}
+use Rattle.lemmas.proofs.Members.{from_take, push_cases}
+use Rattle.task_model.proofs.KnownLemmas.{facts_kept, facts_then}
+use Rattle.task_model.proofs.StreamsLemmas.{reachable_kept}
 use Rattle.task_model.specs.Dreams.{Entry, entry_facts, supposing, is_supported, HaveSupport, supported_after}
-use Rattle.task_model.specs.Known.{Known, is_fact, type_fact, with_facts}
-use Rattle.task_model.specs.Streams.{fact_of, is_reachable}
-use Rattle.task_model.specs.Truth.{slots_of, has_type, have_types}
-use Rattle.task_model.specs.declared.domain.Pattern.{Pattern}
+use Rattle.task_model.specs.Known.{Known, is_fact, with_facts}
+use Rattle.task_model.specs.Streams.{is_reachable}
 use Rattle.task_model.specs.declared.fact.Fact.{Fact}
-use Rattle.task_model.specs.declared.stream.Instance.{Instance}
 use Rattle.task_model.specs.declared.stream.Stream.{Stream}
 use Rattle.task_model.specs.declared.task.Task.{Task}
-
--- ---- lists put together
-
--- what stands in two lists put together stands in the first, or behind it
-pub append_cases : {A : Type 0} (xs ys : List A) (k : ℕ) (x : A) → slice_get (xs ++ ys) k ≡ Some x
-    → (slice_get xs k ≡ Some x) ⊎ ((j : ℕ) × (k ≡ length xs + j) × (slice_get ys j ≡ Some x))
-append_cases [] ys k x at = inr (k, omega arith, at)
-append_cases (z ∷ zs) ys zero x at = inl at
-append_cases (z ∷ zs) ys (suc k) x at =
-    elim (append_cases zs ys k x at) [ inl h ↦ inl h | inr h ↦ inr (h.0, omega (arith, h.1), h.2) ]
-
--- what stands in a front of a list
-pub from_take : {A : Type 0} (xs : List A) (n k : ℕ) (x : A) → slice_get (take n xs) k ≡ Some x → (k < n) × (slice_get xs k ≡ Some x)
-from_take xs zero k x at = absurd (cc)
-from_take [] (suc n) k x at = absurd (cc)
-from_take (y ∷ ys) (suc n) zero x at = (omega arith, at)
-from_take (y ∷ ys) (suc n) (suc k) x at = let r = from_take ys n k x at in (omega (arith, r.0), r.1)
-
--- ---- what is known stays known
-
-pub fact_stays : (facts more : List Fact) (fact : Fact) → is_fact facts fact ≡ true → is_fact (with_facts facts more) fact ≡ true
-fact_stays facts more fact e =
-    (fact_member (with_facts facts more) fact).1
-    (((with_facts-is facts more).members fact).1 (Contains-append_left facts more fact ((fact_member facts fact).0 e)))
-
-module _ (known after : Known) (stays : (fact : Fact) → is_fact known.facts fact ≡ true → is_fact after.facts fact ≡ true) where
-  types_stay : (objects sorts : List ℕ) → have_types known objects sorts ≡ true → have_types after objects sorts ≡ true
-  types_stay [] [] e = refl
-  types_stay [] (s ∷ ss) e = e
-  types_stay (o ∷ os) [] e = e
-  types_stay (o ∷ os) (s ∷ ss) e =
-      and_from _ _ (stays (type_fact s o) (first_so (has_type known o s) (have_types known os ss) e))
-      (types_stay os ss (second_so (has_type known o s) (have_types known os ss) e))
-
-  patterns_stay : (slots : List ℕ) (ps : List Pattern) → list_all (λ p. is_fact known.facts (fact_of slots p)) ps ≡ true
-      → list_all (λ p. is_fact after.facts (fact_of slots p)) ps ≡ true
-  patterns_stay slots [] e = refl
-  patterns_stay slots (p ∷ ps) e =
-      and_from _ _ (stays (fact_of slots p) (first_so (is_fact known.facts (fact_of slots p)) _ e))
-      (patterns_stay slots ps (second_so (is_fact known.facts (fact_of slots p)) _ e))
-
-  pub reachable_stays : (s : Stream) (i : Instance) → is_reachable s known i ≡ true → is_reachable s after i ≡ true
-  reachable_stays s i e =
-      and_from _ _ (types_stay i.inputs s.inputs (first_so (have_types known i.inputs s.inputs) _ e))
-      (patterns_stay (slots_of i.inputs) s.domain (second_so (have_types known i.inputs s.inputs) _ e))
 
 -- ---- support
 
@@ -74,7 +24,7 @@ module _ (task : Task) (known : Known) where
       subst (λ fs. is_fact fs fact ≡ true)
       (sym (facts_then known.facts (flat_map (entry_facts task) before) (flat_map (entry_facts task) more))
       ∙ ap (with_facts known.facts) (sym (flat_map-append (entry_facts task) before more)))
-      (fact_stays (with_facts known.facts (flat_map (entry_facts task) before)) (flat_map (entry_facts task) more) fact e)
+      (facts_kept (with_facts known.facts (flat_map (entry_facts task) before)) (flat_map (entry_facts task) more) fact e)
 
   -- an instance of this stream that is reachable with entries has support behind them and more
   pub supported_later : (list other before more : List Entry) (e : Entry) (stream : Stream)
@@ -83,7 +33,7 @@ module _ (task : Task) (known : Known) where
       → is_supported task known other (before ++ more) e ≡ true
   supported_later list other before more e stream named reached =
       rw named
-      (reachable_stays (supposing task known list before) (supposing task known other (before ++ more))
+      (reachable_kept (supposing task known list before) (supposing task known other (before ++ more))
       (supposed_stays list other before more) stream e.instance reached)
 
   -- the stream of an entry that has support

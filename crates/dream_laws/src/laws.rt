@@ -1,4 +1,5 @@
-//! Laws of lists of supposed entries and of dreams, each the contract of a function that does nothing.
+//! Laws of lists of supposed entries and of dreams, each the contract of a function that does
+//! nothing.
 ghost use Rattle.dream_laws.specs.Laws.{SupposedListsAreOne, MoreAreTooMany, ListsHaveSupport, PlansIgnoreNames, DreamsAreOne, ADreamAsks};
 
 /// There is one list of supposed entries after so many passes.

@@ -7,6 +7,7 @@ use Rattle.std.specs.Cmp.{first_so}
 use Rattle.std.specs.List.{list_any, list_all, flat_map}
 use Rattle.std.specs.Prelude.{IfOk}
 use Rattle.certify.proofs.OutputsLemmas.{names_grow}
+use Rattle.dream_laws.proofs.FreshLemmas.{each_is_fresh}
 use Rattle.dream_laws.proofs.ListLemmas.{list_supported}
 use Rattle.lemmas.proofs.ListTests.{all_at, all_by_place, all_one}
 use Rattle.optimistic_set.specs.Dreamable.{Dreamable, AreReal}
@@ -14,7 +15,7 @@ use Rattle.optimistic_set.specs.Entries.{ArePlainEntries}
 use Rattle.session_core.specs.Session.{IsSession, IsLearnt}
 use Rattle.session_core.specs.State.{State}
 use Rattle.task_model.specs.Dreams as dreams
-use Rattle.task_model.specs.Dreams.{AreSupposed, supposing}
+use Rattle.task_model.specs.Dreams.{AreSupposed, HasFreshOutputs, supposing}
 use Rattle.task_model.specs.Fit.{IsFit, is_name, is_letter, is_name_byte}
 use Rattle.task_model.specs.Initial.{declared_names}
 use Rattle.task_model.specs.Known.{Known, same_numbers, with_name, with_names}
@@ -106,6 +107,8 @@ pub listed : (task : Task) (known : Known) (notes : List Note) (tried : List Ins
     → ArePlainEntries task d.base d.list → IsListed task d
 listed task known notes tried depth d base so is plain = record {
   plain = plain;
+  fresh = subst (λ k. (n : ℕ) (e : dreams.Entry) → slice_get d.list n ≡ Some e → HasFreshOutputs task k (take n d.list) e) (sym base)
+      (each_is_fresh task known notes tried depth d.list so);
   support = subst (λ k. dreams.HaveSupport task k d.list d.list) (sym base) (list_supported task known notes tried depth d.list so);
   known = is ∙ ap (λ k. supposing task k d.list d.list) (sym base);
 }

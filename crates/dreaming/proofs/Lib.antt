@@ -1,6 +1,9 @@
-mod PlacesLemmas
-mod PartLemmas
+pub mod PlacesLemmas
+pub mod PartLemmas
 mod FailsLemmas
-mod KeptLemmas
-mod ThinLemmas
-mod AfterLemmas
+pub mod WantedLemmas
+pub mod KeptLemmas
+pub mod ThinLemmas
+pub mod AfterLemmas
+pub mod DreamlessLemmas
+mod OwnLemmas

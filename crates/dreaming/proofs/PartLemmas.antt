@@ -33,7 +33,7 @@ use Rattle.dreaming.specs.Thinning.{IsPartAt, IsValidWith, has_support, supporte
 
 -- ---- plain entries
 
-plain_few : (task : Task) (known : Known) (list : List Entry) → ArePlainEntries task known list → HaveFew list
+pub plain_few : (task : Task) (known : Known) (list : List Entry) → ArePlainEntries task known list → HaveFew list
 plain_few task known list plain =
     all_by_place (λ (e : Entry). length e.outputs ≤ 8) list
     (λ k e at.

@@ -1,5 +1,5 @@
 -- Entries at places of a list.
-use Rattle.std.proofs.Common.{◌≡◌, ℕ, zero, suc, ◌+◌, ◌-◌, ◌<◌, ◌≤◌, inl, inr, arith, List, [], ◌∷◌, ◌++◌, length, map, take, drop, get_or, refl, sym, ap, subst, ◌∙◌, Option, Some, None, slice_get, All, append_assoc}
+use Rattle.std.proofs.Common.{◌≡◌, ℕ, zero, suc, ◌+◌, ◌-◌, ◌<◌, ◌≤◌, inl, inr, arith, List, [], ◌∷◌, ◌++◌, length, map, take, drop, get_or, refl, sym, ap, subst, ◌∙◌, Option, Some, None, slice_get, All, Contains, append_assoc}
 use Rattle.std.proofs.lemmas.List.{length-append, length-drop, length-map, take_all, take_more, take-map, drop-map}
 use Rattle.std.proofs.lemmas.List.Elements.{All-head, All-tail, filter_map-append}
 use Rattle.std.proofs.lemmas.Option.{slice_get_within, get_or_from_slice_get, same_Some}
@@ -8,9 +8,9 @@ use Rattle.std.specs.List.{cons_option}
 use Rattle.std.specs.Ordering.{nat_cmp}
 use Rattle.std.specs.declared.cmp.Ordering.TheVariants.{Less}
 use Rattle.dream_laws.proofs.DreamLemmas.{somes_same}
-use Rattle.dream_laws.proofs.SupportLemmas.{from_take}
+use Rattle.lemmas.proofs.Ascending.{contains_none, contains_cases, contains_here, contains_later}
 use Rattle.lemmas.proofs.ListTests.{get_there, all_by_place}
-use Rattle.lemmas.proofs.Members.{push_cases, get_behind}
+use Rattle.lemmas.proofs.Members.{push_cases, get_behind, get_single, from_take, member_at}
 use Rattle.lemmas.specs.Lists.{AreAscending, numbers_from}
 use Rattle.task_model.specs.Dreams.{Entry}
 use Rattle.dreaming.specs.Parts.{entries_at}
@@ -33,17 +33,39 @@ pub length-entries_at : (list : List Entry) (places : List ℕ) → AreBelow lis
 length-entries_at list places below =
     sym (length-map (entries_at list places) Some) ∙ sym (ap length (chosen_at list places below)) ∙ length-map places (slice_get list)
 
+pub from_entries : (list : List Entry) (places : List ℕ) (e : Entry) → Contains (entries_at list places) e
+    → (q : ℕ) × Contains places q × (slice_get list q ≡ Some e)
+from_entries list [] e m = absurd (contains_none e m)
+from_entries list (p ∷ ps) e m =
+    by (λ c. let r = from_entries list ps e c in (r.0, contains_later p ps r.0 r.1, r.2)) (slice_get list p) refl m
+  where
+    by : (Contains (entries_at list ps) e → (q : ℕ) × Contains (p ∷ ps) q × (slice_get list q ≡ Some e))
+        → (o : Option Entry) → slice_get list p ≡ o → Contains (cons_option o (entries_at list ps)) e
+        → (q : ℕ) × Contains (p ∷ ps) q × (slice_get list q ≡ Some e)
+    by later None is c = later c
+    by later (Some x) is c =
+        elim (contains_cases x (entries_at list ps) e c)
+        [ inl same ↦ (p, contains_here p ps, is ∙ ap Some same) | inr other ↦ later other ]
+
+pub in_entries : (list : List Entry) (places : List ℕ) (q : ℕ) (e : Entry) → Contains places q → slice_get list q ≡ Some e
+    → Contains (entries_at list places) e
+in_entries list [] q e m at = absurd (contains_none q m)
+in_entries list (p ∷ ps) q e m at =
+    elim (contains_cases p ps q m) [
+      | inl here ↦
+          subst (λ o. Contains (cons_option o (entries_at list ps)) e) (sym (ap (slice_get list) here ∙ at))
+          (contains_here e (entries_at list ps))
+      | inr later ↦ by (slice_get list p) (in_entries list ps q e later at)
+    ]
+  where
+    by : (o : Option Entry) → Contains (entries_at list ps) e → Contains (cons_option o (entries_at list ps)) e
+    by None c = c
+    by (Some x) c = contains_later x (entries_at list ps) e c
+
 pub entry_of_list : (list : List Entry) (places : List ℕ) (k : ℕ) (e : Entry) → slice_get (entries_at list places) k ≡ Some e
     → (q : ℕ) × (slice_get list q ≡ Some e)
-entry_of_list list [] k e at = absurd (cc)
-entry_of_list list (p ∷ ps) k e at = by (λ j there. entry_of_list list ps j e there) (slice_get list p) refl k at
-  where
-    by : ((j : ℕ) → slice_get (entries_at list ps) j ≡ Some e → (q : ℕ) × (slice_get list q ≡ Some e))
-        → (o : Option Entry) → slice_get list p ≡ o → (k : ℕ) → slice_get (cons_option o (entries_at list ps)) k ≡ Some e
-        → (q : ℕ) × (slice_get list q ≡ Some e)
-    by later None is k there = later k there
-    by later (Some x) is zero there = (p, is ∙ there)
-    by later (Some x) is (suc k) there = later k there
+entry_of_list list places k e at =
+    let r = from_entries list places e (member_at (entries_at list places) k e at) in (r.0, r.2)
 
 pub entries_pushed : (list : List Entry) (places : List ℕ) (place : ℕ) (e : Entry) → slice_get list place ≡ Some e
     → entries_at list (places ++ place ∷ []) ≡ entries_at list places ++ e ∷ []
@@ -61,16 +83,19 @@ entries_more list places i e lt at =
 pub rest_whole : {A : Type 0} (xs : List A) (n : ℕ) → take (length xs - n) (drop n xs) ≡ drop n xs
 rest_whole xs n = take_all (length xs - n) (drop n xs) (omega (arith, length-drop n xs))
 
+pub below_at : (n : ℕ) (places : List ℕ) → All (λ place. place < n) places → (k p : ℕ) → slice_get places k ≡ Some p → p < n
+below_at n places below k p at =
+    subst (λ q. q < n) (get_or_from_slice_get places k p p at) (below k p (slice_get_within places k p at))
+
 pub at_place : (list : List Entry) (places : List ℕ) → AreBelow list places → (k p : ℕ) → slice_get places k ≡ Some p → p < length list
-at_place list places below k p at =
-    subst (λ q. q < length list) (get_or_from_slice_get places k p p at) (below k p (slice_get_within places k p at))
+at_place list places = below_at (length list) places
 
 pub below_front : (list : List Entry) (places : List ℕ) (n : ℕ) → AreBelow list places → AreBelow list (take n places)
 below_front list places n below =
     all_by_place (λ place. place < length list) (take n places)
     (λ k p at. let there = from_take places n k p at in at_place list places below k p there.1)
 
-from_drop : {A : Type 0} (n : ℕ) (xs : List A) (k : ℕ) (x : A) → slice_get (drop n xs) k ≡ Some x → slice_get xs (n + k) ≡ Some x
+pub from_drop : {A : Type 0} (n : ℕ) (xs : List A) (k : ℕ) (x : A) → slice_get (drop n xs) k ≡ Some x → slice_get xs (n + k) ≡ Some x
 from_drop zero xs k x at = let same : 0 + k ≡ k = omega arith in ap (slice_get xs) same ∙ at
 from_drop (suc n) [] k x at = absurd (cc)
 from_drop (suc n) (y ∷ ys) k x at =
@@ -127,14 +152,11 @@ all_entries list = from [] list
         ap (λ o. cons_option o (entries_at (before ++ x ∷ xs) (numbers_from (length before + 1) (length xs)))) here
         ∙ ap (λ es. x ∷ es) (moved ∙ from (before ++ x ∷ []) xs)
 
-less : (a b : ℕ) → a < b → nat_cmp a b ≡ Less
-less a b lt = sym (nat_cmp_is a b Less lt)
-
 pub all_ascend : (n : ℕ) → AreAscending nat_cmp (numbers_from 0 n)
 all_ascend n i j a b lt at_i at_j =
     let first = number_at 0 n i a at_i in
     let second = number_at 0 n j b at_j in
-    less a b (omega (arith, lt, first.0, second.0))
+    sym (nat_cmp_is a b Less (omega (arith, lt, first.0, second.0)))
 
 -- ---- ascending places
 
@@ -170,3 +192,26 @@ pub front_before : (places : List ℕ) (from to : ℕ) → from ≤ to → AreAs
 front_before places from to few ascend i j a b at_i at_j =
     let front = from_take places from i a at_i in
     ascend i (to + j) a b (omega (arith, few, front.0)) front.1 (from_drop to places j b at_j)
+
+-- one place more, which is behind all that are there
+module _ (n : ℕ) (places : List ℕ) (below : All (λ place. place < n) places) where
+  pub below_next : All (λ place. place < n + 1) places
+  below_next = all_by_place (λ place. place < n + 1) places (λ k p at. omega (arith, below_at n places below k p at))
+
+  pub below_more : All (λ place. place < n + 1) (places ++ n ∷ [])
+  below_more = all_by_place (λ place. place < n + 1) (places ++ n ∷ []) each
+    where
+      each : (k q : ℕ) → slice_get (places ++ n ∷ []) k ≡ Some q → q < n + 1
+      each k q at =
+          elim (push_cases places n k q at) [
+            | inl early ↦ omega (arith, below_at n places below k q early)
+            | inr last ↦ omega (arith, last.1)
+          ]
+
+  pub ascend_more : AreAscending nat_cmp places → AreAscending nat_cmp (places ++ n ∷ [])
+  ascend_more ascend = ascend_push places n ascend before
+    where
+      before : AreBefore places (n ∷ [])
+      before i j a b at_i at_j =
+          let here = get_single n b j at_j in
+          sym (nat_cmp_is a b Less (omega (arith, below_at n places below i a at_i, here.1)))

@@ -1,3 +1,4 @@
 pub mod Parts
 pub mod Thinning
 pub mod Answers
+pub mod Laws

@@ -1,5 +1,5 @@
 -- Leaving out entries that a plan doesn't need.
-use Rattle.std.specs.Prelude.{◌≡◌, ℕ, ◌+◌, ◌<◌, ◌^◌, List, [], ◌∷◌, ◌++◌, length, take, drop, Bool, false, All, Option, None, Some, slice_get, if◌then◌else◌}
+use Rattle.std.specs.Prelude.{◌≡◌, ℕ, ◌+◌, ◌<◌, ◌^◌, List, [], ◌∷◌, ◌++◌, length, take, drop, get_or, Bool, true, false, All, Contains, Option, None, Some, slice_get, if◌then◌else◌}
 use Rattle.std.specs.Ordering.{nat_cmp}
 use Rattle.lemmas.specs.Lists.{AreAscending}
 use Rattle.optimistic_set.specs.Dreamable.{Dreamable}
@@ -8,9 +8,10 @@ use Rattle.task_model.specs.Known.{Known}
 use Rattle.task_model.specs.Plans.{IsValid}
 use Rattle.task_model.specs.declared.task.GroundAction.{GroundAction}
 use Rattle.task_model.specs.declared.task.Task.{Task}
-use Rattle.dreaming.specs.Parts.{Portion, IsListed, IsPart, entries_at}
+use Rattle.dreaming.specs.Parts.{Portion, IsListing, IsPart, entries_at}
 use Rattle.dreaming.specs.declared.trial.Kept.{Kept}
 use Rattle.dreaming.specs.declared.trial.Trial.{Trial}
+use Rattle.dreaming.specs.declared.wanted.Wanted.{Wanted}
 
 -- ---- places
 
@@ -66,22 +67,48 @@ module _ (task : Task) (d : Dreamable) (steps : List GroundAction) where
     pub kept : IsKeptOf k
     pub needed : (place : ℕ) → place < length k.places.items → AreNeededOf k.places.items place (place + 1)
 
+-- ---- what can't be left out
+
+abbrev pub IsWanted : Wanted → ℕ → Type 0
+IsWanted w object = get_or w.flags.items object false ≡ true
+
+-- an output of the entry at this place is wanted
+abbrev pub HasWanted : Dreamable → Wanted → ℕ → Type 0
+HasWanted d w place =
+    (e : Entry) × (slice_get d.list place ≡ Some e) × (object : ℕ) × Contains e.outputs object × IsWanted w object
+
+module _ (task : Task) (d : Dreamable) (steps : List GroundAction) where
+  -- this place is among any places whose entries have support, and with which the plan is valid
+  abbrev pub IsEssential : ℕ → Type 0
+  IsEssential place =
+      (places : List ℕ) (cost : ℕ) → All (λ p. p < length d.list) places
+      → HaveSupport task d.base d.list (entries_at d.list places) → IsValidWith task d steps places cost
+      → Contains places place
+
+  -- so is the place of the entry that has a wanted object among its outputs
+  abbrev pub AreEssential : Wanted → Type 0
+  AreEssential w =
+      (object : ℕ) → IsWanted w object → (place : ℕ) (e : Entry) → slice_get d.list place ≡ Some e
+      → Contains e.outputs object → IsEssential place
+
 -- ---- a trial
 
--- the list is one of what is supposed, and the plan is short enough to be checked
+-- The list is one of what is supposed, the plan is short enough to be checked, and entries with a wanted output can't be
+-- left out.
 pub record IsTrial (t : Trial) : Type 0 where
-  pub listed : IsListed t.task.now t.supposed.now
+  pub listed : IsListing t.listing
   pub few : length t.plan.now.steps < 2 ^ 26
+  pub essential : AreEssential t.listing.task.now t.listing.supposed.now t.plan.now.steps t.wanted.now
 
 abbrev pub IsKept : Trial → Kept → Type 0
-IsKept t k = IsKeptOf t.task.now t.supposed.now t.plan.now.steps k
+IsKept t k = IsKeptOf t.listing.task.now t.listing.supposed.now t.plan.now.steps k
 
 abbrev pub AreNeeded : Trial → List ℕ → ℕ → ℕ → Type 0
-AreNeeded t places from to = AreNeededOf t.task.now t.supposed.now t.plan.now.steps places from to
+AreNeeded t places from to = AreNeededOf t.listing.task.now t.listing.supposed.now t.plan.now.steps places from to
 
 -- each of them is needed
 abbrev pub AreSingleNeeded : Trial → List ℕ → Type 0
 AreSingleNeeded t places = (place : ℕ) → place < length places → AreNeeded t places place (place + 1)
 
 abbrev pub IsThin : Trial → Kept → Type 0
-IsThin t k = IsThinOf t.task.now t.supposed.now t.plan.now.steps k
+IsThin t k = IsThinOf t.listing.task.now t.listing.supposed.now t.plan.now.steps k

@@ -6,16 +6,18 @@ ghost use Rattle.session_core.specs.Session.{IsSession, IsLearnt};
 ghost use Rattle.transcript_model.specs.Rounds.{Limits};
 ghost use Rattle.dreaming.specs.Answers.{IsDreamed, IsKnownPlan, HasFewSteps, IsSureNone, IsThinDream, ComesOfList};
 ghost use Rattle.dreaming.specs.Parts.{IsListed};
-ghost use Rattle.dreaming.specs.Thinning.{IsThinOf};
+ghost use Rattle.dreaming.specs.Thinning.{IsTrial, IsKept, IsThinOf};
 ghost use Rattle.shown_plan.specs.Shown.{AreNamedSteps};
 
-use crate::named::name_steps;
 use crate::shown::{all_places, entries_of, uses_of};
+use crate::taken::Listing;
 use crate::thin::thin;
-use crate::trial::{Kept, Trial};
+use crate::trial::{Kept, Trial, kept_of};
+use crate::wanted::{Wanted, places_named};
 use best_first::{Additive, Found, search};
 use optimistic_set::{OptEntry, OptimisticFault, Supposed, Tried, optimistic};
 use session_core::Session;
+use shown_plan::name_steps;
 use std::alloc::{AllocError, Global};
 use task_model::{Plan, Seq, Task};
 use transcript_model::{Call, DreamUse};
@@ -40,6 +42,25 @@ pub enum Dreamt {
     Empty,
 }
 
+/// What is kept before any entry is left out: what has support of the entries that the plan's steps
+/// name, if the plan is valid with them, else all entries, with which it costs so much.
+fn kept_first(trial: &Trial<'_>, cost: u64) -> Result<Kept, AllocError>
+    requires trial { IsTrial trial.now }
+    requires valid { IsValid trial.now.listing.task.now trial.now.listing.supposed.now.known
+        trial.now.plan.now.steps cost }
+    ensures { IfOk result (IsKept trial.now) }
+{
+    let listing = &trial.listing;
+    let named = places_named(listing.alloc, listing.supposed, trial.wanted)?;
+    match kept_of(trial, named.as_slice())? {
+        Some(kept) => Ok(kept),
+        None => {
+            let places = all_places(listing.alloc, listing.supposed.len())?;
+            Ok(Kept { places, cost })
+        }
+    }
+}
+
 /// The places of the entries that the plan needs, and what it costs with them.
 fn needed(
     alloc: Global,
@@ -53,14 +74,18 @@ fn needed(
     requires valid { IsValid task.now supposed.now.known plan.now.steps cost }
     ensures { IfOk result (IsThinOf task.now supposed.now plan.now.steps) }
 {
-    let places = all_places(alloc, supposed.len())?;
-    let mut kept = Kept { places, cost };
-    let trial = Trial {
+    let wanted = Wanted::of(alloc, supposed, plan)?;
+    let listing = Listing {
         alloc,
         task,
         supposed,
-        plan,
     };
+    let trial = Trial {
+        listing,
+        plan,
+        wanted: &wanted,
+    };
+    let mut kept = kept_first(&trial, cost)?;
     thin(&trial, &mut kept)?;
     Ok(kept)
 }
@@ -129,13 +154,15 @@ fn dream_over(
     }
 }
 
-/// Looks for a plan over all entries that may be supposed after the transcript, all of whose answers are learnt, within
-/// `states` states, from 1 to 200,000, and leaves out entries one after another, each with those that lose support, until none
-/// can be left out and the plan still be valid (PDDLStream 2020; what is left out is this project's).
+/// Looks for a plan over all entries that may be supposed after the transcript, all of whose
+/// answers are learnt, within `states` states, from 1 to 200,000, and leaves out entries one after
+/// another, each with those that lose support, until none can be left out and the plan still be
+/// valid (PDDLStream 2020; what is left out is this project's).
 ///
-/// The plan has at most `states` steps. Where it needs no entry it is valid by what is known. `Empty` comes only where more than
-/// 20,000 entries might be supposed, where no plan is valid over them, and where more than `states` states are reached over
-/// them, and so many also within the steps of any plan. Fails only where memory is wanting.
+/// The plan has at most `states` steps. Where it needs no entry it is valid by what is known.
+/// `Empty` comes only where more than 20,000 entries might be supposed, where no plan is valid over
+/// them, and where more than `states` states are reached over them, and so many also within the
+/// steps of any plan. Fails only where memory is wanting.
 pub fn dream(
     alloc: Global,
     task: &Task,

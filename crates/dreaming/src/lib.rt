@@ -2,11 +2,15 @@
 #![tactic(auto)]
 
 mod answer;
-mod named;
+pub mod laws;
 mod part;
 mod shown;
+mod taken;
 mod thin;
 mod trial;
+mod wanted;
 
 pub use answer::{Dreamt, dream};
 pub use part::Part;
+pub use shown::entries_of;
+pub use taken::{Listing, part_at, take_supported};

@@ -7,8 +7,8 @@ use std::alloc::{AllocError, Global};
 use std::marker::Model;
 use task_model::{Name, Task};
 
-/// Some entries of a list, in the order in which they were taken, with what they certify laid over what is known without them.
-/// The placeholders of the whole list have names.
+/// Some entries of a list, in the order in which they were taken, with what they certify laid over
+/// what is known without them. The placeholders of the whole list have names.
 #[derive(Drop)]
 pub struct Part<'a> {
     facts: &'a Facts,
@@ -73,8 +73,8 @@ impl<'a> Part<'a> {
         Layer::new(self.facts, self.names, &self.more)
     }
 
-    /// Whether the entry at this place of the list has support: its inputs have their types and its domain facts are known, by
-    /// what is known with the entries.
+    /// Whether the entry at this place of the list has support: its inputs have their types and its
+    /// domain facts are known, by what is known with the entries.
     pub fn supports(&self, alloc: Global, task: &Task, place: usize) -> bool
         requires part { IsPart task.now self.now }
         requires place { place < length self.now.list }
@@ -89,8 +89,8 @@ impl<'a> Part<'a> {
         }
     }
 
-    /// Puts the entry at this place of the list behind the others. Fails only where memory is wanting; then the part is no
-    /// longer one, and may not be asked again.
+    /// Puts the entry at this place of the list behind the others. Fails only where memory is
+    /// wanting; then the part is no longer one, and may not be asked again.
     pub fn take(&mut self, alloc: Global, task: &Task, place: usize) -> Result<(), AllocError>
         requires part { IsPart task.now self.old }
         requires place { place < length self.old.list }

@@ -5,11 +5,10 @@ ghost use Rattle.dreaming.specs.Parts.{entries_at, IsListed};
 ghost use Rattle.task_model.specs.Dreams.{instances_of};
 ghost use Rattle.transcript_model.specs.Names.{call_of_instance};
 
-use crate::named::name_instance;
 use optimistic_set::{OptEntry, Supposed};
 use std::alloc::{AllocError, Global};
 use task_model::{Seq, Task};
-use transcript_model::DreamUse;
+use transcript_model::{DreamUse, name_instance};
 
 /// All places below a count.
 pub(crate) fn all_places(alloc: Global, count: usize) -> Result<Vec<usize>, AllocError>
@@ -50,8 +49,8 @@ pub(crate) fn uses_of(
     Ok(Seq::from_vec(uses))
 }
 
-/// The entries at these places.
-pub(crate) fn entries_of(
+/// The entries at these places of a list. Fails only where memory is wanting.
+pub fn entries_of(
     alloc: Global,
     supposed: &Supposed<'_>,
     places: &[usize],

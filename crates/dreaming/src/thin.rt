@@ -5,8 +5,8 @@ ghost use Rattle.dreaming.specs.Thinning.{IsTrial, IsKept, IsThin, AreSingleNeed
 use crate::trial::{Kept, Trial, without};
 use std::alloc::AllocError;
 
-/// Leaves out so many entries at once, from the first on, wherever the plan stays valid, and answers whether some were left
-/// out.
+/// Leaves out so many entries at once, from the first on, wherever the plan stays valid, and
+/// answers whether some were left out.
 fn leave_out(trial: &Trial<'_>, kept: &mut Kept, size: usize) -> Result<bool, AllocError>
     requires trial { IsTrial trial.now }
     requires kept { IsKept trial.now kept.old }
@@ -33,8 +33,8 @@ fn leave_out(trial: &Trial<'_>, kept: &mut Kept, size: usize) -> Result<bool, Al
     Ok(some)
 }
 
-/// Leaves out entries, halves of them at first, then fewer at once, and in the end one by one, until none can be left out
-/// without the plan losing validity.
+/// Leaves out entries, half of them at once, then an eighth, and in the end one by one, until none
+/// can be left out without the plan losing validity.
 pub(crate) fn thin(trial: &Trial<'_>, kept: &mut Kept) -> Result<(), AllocError>
     requires trial { IsTrial trial.now }
     requires kept { IsKept trial.now kept.old }
@@ -46,6 +46,6 @@ pub(crate) fn thin(trial: &Trial<'_>, kept: &mut Kept) -> Result<(), AllocError>
         if size == 1 && !some {
             return Ok(());
         }
-        size = (size / 2).max(1);
+        size = (size / 4).max(1);
     }
 }

@@ -1,10 +1,10 @@
 -- Lists that have all that something holds of, each once, put together part by part.
-use Rattle.std.proofs.Common.{◌≡◌, ℕ, zero, suc, ◌+◌, ◌<◌, ◌≤◌, add-one, List, [], ◌∷◌, ◌++◌, length, take, refl, sym, ap, ◌∙◌, subst, arith, inl, inr, Contains, Some, slice_get, ◌↔◌, append_assoc, length-append}
+use Rattle.std.proofs.Common.{◌≡◌, ℕ, zero, suc, ◌+◌, ◌≤◌, add-one, List, [], ◌∷◌, ◌++◌, length, take, refl, sym, ap, ◌∙◌, subst, arith, inl, inr, Contains, Some, slice_get, ◌↔◌, append_assoc, length-append}
 use Rattle.std.proofs.lemmas.List.{append-nil, take_all}
 use Rattle.std.proofs.lemmas.List.Elements.{Contains-append_left, Contains-append_right, Contains-append_cases}
 use Rattle.lemmas.proofs.Ascending.{contains_here, contains_later, contains_none, contains_cases}
 use Rattle.lemmas.proofs.Distinct.{distinct_cons, distinct_append}
-use Rattle.lemmas.proofs.Members.{member_at, place_of, distinct_nil, take_next}
+use Rattle.lemmas.proofs.Members.{member_at, place_of, distinct_nil, from_take, take_next}
 use Rattle.lemmas.specs.Lists.{AreDistinct}
 use Rattle.fact_join.specs.Adding.{Adds, Exceeds, ComesOf}
 use Rattle.fact_join.specs.declared.query.JoinFault.{JoinFault}
@@ -17,15 +17,8 @@ new_at : {A : Type 0} (xs : List A) (i : ℕ) (x : A) → AreDistinct xs → sli
     → Contains (take i xs) x → ⊥
 new_at xs i x d at m = new_by (place_of (take i xs) x m)
   where
-    front : {A : Type 0} (xs : List A) (i k : ℕ) (x : A) → slice_get (take i xs) k ≡ Some x
-        → (k < i) × (slice_get xs k ≡ Some x)
-    front xs zero k x e = absurd (cc)
-    front [] (suc i) k x e = absurd (cc)
-    front (y ∷ ys) (suc i) zero x e = (omega arith, e)
-    front (y ∷ ys) (suc i) (suc k) x e = let r = front ys i k x e in (omega (arith, r.0), r.1)
-
     new_by : (k : ℕ) × (slice_get (take i xs) k ≡ Some x) → ⊥
-    new_by (k, e) = let r = front xs i k x e in let same : k ≡ i = d k i x r.1 at in absurd (omega (arith, r.0, same))
+    new_by (k, e) = let r = from_take xs i k x e in let same : k ≡ i = d k i x r.1 at in absurd (omega (arith, r.0, same))
 
 -- ---- one and the same condition
 

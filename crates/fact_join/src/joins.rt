@@ -12,9 +12,9 @@ use crate::query::{JoinFault, Query, QueryAtom, Wanted};
 use formula_eval::have_types;
 use task_model::{Fact, Look, Obj, Objects};
 
-/// Puts behind the rows all tuples that agree with the partial one, have the query's types, make all atoms
-/// known facts and are wanted, each once, in no particular order. Fails where more rows than the query's most
-/// would stand there, and where memory is wanting.
+/// Puts behind the rows all tuples that agree with the partial one, have the query's types, make
+/// all atoms known facts and are wanted, each once, in no particular order. Fails where more rows
+/// than the query's most would stand there, and where memory is wanting.
 #[cycle(join)]
 pub fn join<L: Look, W: Wanted, const N: usize>(
     query: &Query<'_, L, W>,
@@ -40,8 +40,8 @@ pub fn join<L: Look, W: Wanted, const N: usize>(
     }
 }
 
-/// Goes on with the facts of the first atom that has a fixed term, if it has one, and else with each object in the
-/// slot, which is free.
+/// Goes on with the facts of the first atom that has a fixed term, if it has one, and else with
+/// each object in the slot, which is free.
 #[cycle(join)]
 fn join_left<L: Look, W: Wanted, const N: usize>(
     query: &Query<'_, L, W>,

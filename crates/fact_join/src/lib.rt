@@ -1,4 +1,5 @@
-//! Conjunctive queries over what is known: all tuples of objects that satisfy some atoms, found by joins.
+//! Conjunctive queries over what is known: all tuples of objects that satisfy some atoms, found by
+//! joins.
 #![tactic(auto)]
 
 mod front;

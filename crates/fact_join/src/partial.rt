@@ -9,7 +9,8 @@ use formula_eval::Env;
 use std::alloc::{AllocError, Global};
 use task_model::{Obj, Row, Term};
 
-/// Sixteen slots, some of which have an object: the tuples that agree with it have these objects there.
+/// Sixteen slots, some of which have an object: the tuples that agree with it have these objects
+/// there.
 #[derive(Clone, Copy, Debug)]
 pub struct Partial {
     /// The slots, each with its object, or None where it is free.
@@ -78,7 +79,8 @@ impl Partial {
         }
     }
 
-    /// What is left where the terms have to be these objects, one by one, or None where they can't be.
+    /// What is left where the terms have to be these objects, one by one, or None where they can't
+    /// be.
     pub fn fit(&self, terms: &[Term], objects: &[Obj]) -> Option<Partial>
         requires { list_all is_readable_term terms.now ≡ true }
         ensures { Narrows self.now (λ slots. objects_at slots terms.now ≡ objects.now) result }
@@ -93,8 +95,8 @@ impl Partial {
         }
     }
 
-    /// The objects of the terms, if each is fixed, and else one of them that is a free slot. Fails only where
-    /// memory is wanting.
+    /// The objects of the terms, if each is fixed, and else one of them that is a free slot. Fails
+    /// only where memory is wanting.
     pub(crate) fn ground(&self, alloc: Global, terms: &[Term]) -> Result<Grounding, AllocError>
         requires { list_all is_readable_term terms.now ≡ true }
         ensures { IfOk result (IsGrounding self.now terms.now) }
@@ -127,7 +129,8 @@ impl Partial {
         None
     }
 
-    /// Whether a tuple of at most sixteen objects agrees. Behind its objects a tuple counts as having the object 0.
+    /// Whether a tuple of at most sixteen objects agrees. Behind its objects a tuple counts as
+    /// having the object 0.
     pub(crate) fn agrees(&self, tuple: &[Obj]) -> bool
         requires { length tuple.now ≤ 16 }
         ensures { IsTrue result ↔ Agrees self.now (slots_of tuple.now) }

@@ -6,8 +6,8 @@ use std::alloc::{AllocError, AllocFailed, Global};
 use task_model::{Look, Obj, Term};
 use thiserror::Error;
 
-/// An atom that has to be known: a predicate, by its place among the domain's predicates, and the terms of
-/// its arguments, at most eight. A slot is a place of the tuple.
+/// An atom that has to be known: a predicate, by its place among the domain's predicates, and the
+/// terms of its arguments, at most eight. A slot is a place of the tuple.
 #[derive(Clone, Copy, Debug)]
 pub struct QueryAtom<'a> {
     /// The predicate.

@@ -8,8 +8,8 @@ use fact_store::Facts;
 use std::marker::Model;
 use task_model::{Fact, Look, Name, Obj};
 
-/// What a store knows, with names, facts and values behind its own. It is for look-ups, and seen as what is known so, with the
-/// proof that it is coherent.
+/// What a store knows, with names, facts and values behind its own. It is for look-ups, and seen as
+/// what is known so, with the proof that it is coherent.
 #[derive(Drop)]
 pub struct Layer<'a> {
     base: &'a Facts,

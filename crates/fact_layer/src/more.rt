@@ -8,8 +8,8 @@ use fact_store::{FactTable, Facts, ValueTable};
 use std::alloc::{AllocError, Global};
 use task_model::{Fact, Look, Obj, Valued};
 
-/// Facts and values behind those of a store, in the order in which they came. Each call is given the store, which stays as it
-/// is: what is behind it belongs to this store alone.
+/// Facts and values behind those of a store, in the order in which they came. Each call is given
+/// the store, which stays as it is: what is behind it belongs to this store alone.
 #[derive(Drop)]
 pub struct More {
     /// The facts.
@@ -41,8 +41,8 @@ impl More {
         }
     }
 
-    /// Puts a fact behind the others, and answers true, or answers false where it is there, in the store or behind it. Fails
-    /// only where memory is wanting, and leaves all as it was then.
+    /// Puts a fact behind the others, and answers true, or answers false where it is there, in the
+    /// store or behind it. Fails only where memory is wanting, and leaves all as it was then.
     pub fn add(&mut self, base: &Facts, fact: Fact) -> Result<bool, AllocError>
         ensures fresh { IfOk result
             (λ fresh. fresh ≡ not (is_fact (base.now.known.facts ++ self.old.facts) fact)) }
@@ -57,8 +57,8 @@ impl More {
         self.facts.insert(fact)
     }
 
-    /// Puts each of the facts behind the others, unless it is there, in the store or behind it. Fails only where memory is
-    /// wanting; then some of them may be there.
+    /// Puts each of the facts behind the others, unless it is there, in the store or behind it.
+    /// Fails only where memory is wanting; then some of them may be there.
     pub fn add_all(&mut self, base: &Facts, facts: &[Fact]) -> Result<(), AllocError>
         ensures facts { OnOk result (base.now.known.facts ++ self.new.facts
             ≡ with_facts (base.now.known.facts ++ self.old.facts) facts.now) }
@@ -70,8 +70,9 @@ impl More {
         Ok(())
     }
 
-    /// Puts the value of a function's term behind the others, and answers true, or answers false where this value of this
-    /// term is there, in the store or behind it. Fails only where memory is wanting, and leaves all as it was then.
+    /// Puts the value of a function's term behind the others, and answers true, or answers false
+    /// where this value of this term is there, in the store or behind it. Fails only where memory
+    /// is wanting, and leaves all as it was then.
     pub fn add_value(&mut self, base: &Facts, value: Valued) -> Result<bool, AllocError>
         ensures fresh { IfOk result (λ fresh. fresh
             ≡ not (list_any (same_value value) (base.now.known.values ++ self.old.values))) }

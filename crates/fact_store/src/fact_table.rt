@@ -12,8 +12,9 @@ use std::alloc::{AllocError, Global};
 use std::marker::Model;
 use task_model::{Fact, Obj};
 
-/// The facts in the order in which they came. Contracts see the list of them. Each table covers a front of this list, mostly
-/// all of it: where memory is wanting it stays behind, and the facts that it doesn't cover are searched.
+/// The facts in the order in which they came. Contracts see the list of them. Each table covers a
+/// front of this list, mostly all of it: where memory is wanting it stays behind, and the facts
+/// that it doesn't cover are searched.
 #[derive(Drop)]
 pub struct FactTable {
     facts: IndexSet<Fact>,
@@ -91,8 +92,8 @@ impl FactTable {
         self.facts.contains(fact)
     }
 
-    /// Puts a fact behind the others, and answers true, or answers false where it is there. Fails only
-    /// where memory is wanting, and leaves all as it was then.
+    /// Puts a fact behind the others, and answers true, or answers false where it is there. Fails
+    /// only where memory is wanting, and leaves all as it was then.
     pub fn insert(&mut self, fact: Fact) -> Result<bool, AllocError>
         ensures fresh { IfOk result (λ fresh. fresh ≡ not (is_fact self.old fact)) }
         ensures facts { OnOk result (self.new ≡ with_fact self.old fact) }

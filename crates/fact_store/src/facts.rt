@@ -52,8 +52,9 @@ impl Facts {
     ghost use Rattle.task_model.specs.Fit.{IsFit};
     ghost use Rattle.task_model.specs.Initial.{initial_known};
 
-    /// What is known at first of a task: the declared objects with their types and all supertypes, the
-    /// atoms of static predicates in `:init`, and the values of functions. Fails only where memory is wanting.
+    /// What is known at first of a task: the declared objects with their types and all supertypes,
+    /// the atoms of static predicates in `:init`, and the values of functions. Fails only where
+    /// memory is wanting.
     pub fn new(alloc: Global, task: &Task) -> Result<Facts, AllocError>
         requires { IsFit task.now }
         ensures { IfOk result (λ facts. facts.known ≡ initial_known task.now) }
@@ -129,8 +130,8 @@ impl Facts {
         Some(Obj::new(place as u32))
     }
 
-    /// The objects that have this type, each once, in the order in which that became known: those that `object` gives one by
-    /// one. Fails only where memory is wanting.
+    /// The objects that have this type, each once, in the order in which that became known: those
+    /// that `object` gives one by one. Fails only where memory is wanting.
     pub fn objects_with(&self, alloc: Global, sort: u32) -> Result<Vec<Obj>, AllocError>
         ensures { IfOk result (λ objects. objects.items ≡ objects_of self.now.known.facts sort) }
     {
@@ -144,7 +145,8 @@ impl Facts {
         self.facts.atoms(pred)
     }
 
-    /// One of the predicate's atoms, by its number from 0. Each stands there once, in the order in which they became known.
+    /// One of the predicate's atoms, by its number from 0. Each stands there once, in the order in
+    /// which they became known.
     pub fn atom(&self, pred: u32, number: usize) -> &Fact
         requires { number < length (atoms_of self.now.known.facts pred) }
         ensures { slice_get (atoms_of self.now.known.facts pred) number ≡ Some result.now }
@@ -155,8 +157,8 @@ impl Facts {
         }
     }
 
-    /// The number of a name, which is put behind the others where it is new. Fails only where memory
-    /// is wanting, and leaves all as it was then.
+    /// The number of a name, which is put behind the others where it is new. Fails only where
+    /// memory is wanting, and leaves all as it was then.
     pub fn add_name(&mut self, name: Name) -> Result<Obj, AllocError>
         requires { length self.old.known.names < MOST_NAMES }
         ensures object { IfOk result (λ object. slice_get self.new.known.names object ≡ Some name) }
@@ -174,8 +176,8 @@ impl Facts {
         Ok(Obj::new(place as u32))
     }
 
-    /// Puts a fact behind the others, and answers true, or answers false where it is there. Fails only
-    /// where memory is wanting, and leaves all as it was then.
+    /// Puts a fact behind the others, and answers true, or answers false where it is there. Fails
+    /// only where memory is wanting, and leaves all as it was then.
     pub fn add(&mut self, fact: Fact) -> Result<bool, AllocError>
         requires { All (IsIn self.old.known.names) fact.args }
         ensures fresh { IfOk result (λ fresh. fresh ≡ not (is_fact self.old.known.facts fact)) }
@@ -187,8 +189,9 @@ impl Facts {
         self.facts.insert(fact)
     }
 
-    /// Puts the value of a function's term behind the others, and answers true, or answers false where
-    /// this value of this term is there. Fails only where memory is wanting, and leaves all as it was then.
+    /// Puts the value of a function's term behind the others, and answers true, or answers false
+    /// where this value of this term is there. Fails only where memory is wanting, and leaves all
+    /// as it was then.
     pub fn add_value(&mut self, func: u32, args: Row, value: u32) -> Result<bool, AllocError>
         requires objects { All (IsIn self.old.known.names) args }
         requires cost { value ≤ LARGEST_NUMBER }

@@ -1,4 +1,5 @@
-//! What is known at first: the declared objects with their types, the static atoms and the values of functions.
+//! What is known at first: the declared objects with their types, the static atoms and the values
+//! of functions.
 ghost use Rattle.std.specs.Prelude.{◌≡◌, ◌==◌, ◌≤◌, ◌<◌, ◌++◌, ◌∷◌, [], map, filter, length, true, slice_get, option_map, unwrap_or, OnOk};
 ghost use Rattle.std.specs.List.{flat_map, list_all, list_any};
 ghost use Rattle.task_model.specs.Fit.{is_fit_fact, is_fit_value};
@@ -80,8 +81,8 @@ fn has_object(sort: u32, above: &[u32]) -> bool
     sort == 0 || above.contains(&0)
 }
 
-/// Puts behind the facts that the object has the type, with all supertypes and `object`. The object has a name.
-/// Fails only where memory is wanting; then some of it may be known.
+/// Puts behind the facts that the object has the type, with all supertypes and `object`. The object
+/// has a name. Fails only where memory is wanting; then some of it may be known.
 pub fn add_supertypes(
     facts: &mut Facts,
     alloc: Global,

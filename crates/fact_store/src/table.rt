@@ -56,7 +56,8 @@ pub(crate) fn has_key(group: Group, key: Key, fact: &Fact) -> bool
     }
 }
 
-/// Puts a place behind the others of the key. Fails only where memory is wanting, and then each key has its places still.
+/// Puts a place behind the others of the key. Fails only where memory is wanting, and then each key
+/// has its places still.
 fn put(
     lists: &mut IndexMap<Key, SmallVec<u32, 4>>,
     alloc: Global,

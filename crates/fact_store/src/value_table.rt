@@ -14,8 +14,9 @@ use task_model::{Obj, Row, Valued};
 /// A function's term: the function and its arguments.
 type Term = (u32, Row);
 
-/// The values in the order in which they came. Contracts see the list of them. `least` has the least value of each term among
-/// the first `done`, mostly all of them: where memory is wanting it stays behind, and the others are searched.
+/// The values in the order in which they came. Contracts see the list of them. `least` has the
+/// least value of each term among the first `done`, mostly all of them: where memory is wanting it
+/// stays behind, and the others are searched.
 #[derive(Drop)]
 pub struct ValueTable {
     values: IndexSet<Valued>,
@@ -71,7 +72,8 @@ fn least_value(least: Option<u32>, values: &[Valued], func: u32, args: &[Obj]) -
     least
 }
 
-/// Takes a value among those that the table covers. Fails only where memory is wanting, and then each term has its value still.
+/// Takes a value among those that the table covers. Fails only where memory is wanting, and then
+/// each term has its value still.
 fn put(least: &mut IndexMap<Term, u32>, v: &Valued) -> Result<(), AllocError>
     ensures ok { OnOk result ((q : Term) → least_in least.new q
         ≡ (if same_term (v.now.func, v.now.args) q then Some
@@ -104,8 +106,8 @@ impl ValueTable {
         self.values.contains(value)
     }
 
-    /// Puts a value behind the others, and answers true, or answers false where it is there. Fails only
-    /// where memory is wanting, and leaves all as it was then.
+    /// Puts a value behind the others, and answers true, or answers false where it is there. Fails
+    /// only where memory is wanting, and leaves all as it was then.
     pub fn insert(&mut self, value: Valued) -> Result<bool, AllocError>
         ensures fresh { IfOk result (λ fresh. fresh ≡ not (list_any (same_value value) self.old)) }
         ensures values { OnOk result (self.new ≡ with_value self.old value) }

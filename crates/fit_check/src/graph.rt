@@ -28,7 +28,8 @@ pub(crate) trait Graph {
         → (from < size graph) × (to < size graph) };
 }
 
-/// The next node from where it stands to which an edge leads and which isn't done, or the size where there is none.
+/// The next node from where it stands to which an edge leads and which isn't done, or the size
+/// where there is none.
 fn next_open<G: Graph>(graph: &G, next: &[usize], from: usize) -> usize
     requires long { length next.now ≡ G.size graph.now }
     requires node { from < G.size graph.now }
@@ -85,8 +86,8 @@ fn is_clear<G: Graph>(graph: &G, next: &mut [usize]) -> bool
     are_done(next)
 }
 
-/// Whether no node is reached from itself. It takes time that grows with the square of the size, and fails
-/// only where memory is wanting.
+/// Whether no node is reached from itself. It takes time that grows with the square of the size,
+/// and fails only where memory is wanting.
 pub(crate) fn is_acyclic<G: Graph>(alloc: Global, graph: &G) -> Result<bool, AllocError>
     ensures { IfOk result (λ acyclic. IsTrue acyclic ↔ IsAcyclic (G.edge graph.now)) }
 {

@@ -1,4 +1,5 @@
-//! Whether a task is fit, which all planning asks for: a test, for tasks that no reader has checked.
+//! Whether a task is fit, which all planning asks for: a test, for tasks that no reader has
+//! checked.
 #![tactic(auto)]
 
 pub mod check;

@@ -141,8 +141,8 @@ fn is_type_of(domain: &Domain, input: u32, output: u32) -> bool
     output == input || is_among(input as usize, supertypes(domain, output)) || input == 0
 }
 
-/// Whether an output of this type may be the input in this slot. The type `object` counts only for an input
-/// that stands in no domain fact.
+/// Whether an output of this type may be the input in this slot. The type `object` counts only for
+/// an input that stands in no domain fact.
 fn feeds(domain: &Domain, second: &Stream, slot: usize, input: u32, output: u32) -> bool
     ensures { result ≡ (tests.is_type_of domain.now input output
         && (not (input == 0) || not (fit.is_used slot second.now.domain))) }
@@ -185,8 +185,8 @@ fn gives_to(domain: &Domain, first: &Stream, second: &Stream) -> bool
         .any(|output| is_fed(domain, second, *output))
 }
 
-/// Whether the first stream leads to the second in one step: it certifies a predicate for which the second asks, or
-/// an output may be an input of the second, by their types.
+/// Whether the first stream leads to the second in one step: it certifies a predicate for which the
+/// second asks, or an output may be an input of the second, by their types.
 pub fn stream_leads(domain: &Domain, first: &Stream, second: &Stream) -> bool
     ensures { result ≡ fit.stream_leads domain.now first.now second.now }
 {

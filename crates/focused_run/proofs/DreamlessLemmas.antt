@@ -3,7 +3,7 @@ use Rattle.std.proofs.Common.{All, map, not, IsTrue, ◌↔◌, Option, ◌≡�
 use Rattle.std.proofs.lemmas.Bool.{lt-ltb}
 use Rattle.std.specs.Prelude.{⊤}
 use Rattle.focused_run.proofs.FocusingLemmas.{empty_front, empty_turn}
-use Rattle.focused_run.specs.Focusing.{Begins, RanFocused, carried, idle_of}
+use Rattle.focused_run.specs.Focusing.{Begins, MayFallBack, RanDreaming, carrying, idle_of}
 use Rattle.instance_queue.specs.Level.{instances_of}
 use Rattle.instance_queue.specs.declared.due.Due.{Due}
 use Rattle.io_world.specs.Talks.{Talk}
@@ -29,11 +29,10 @@ use Rattle.task_model.specs.declared.task.Task.{Task}
 use Rattle.transcript_model.specs.Dreaming.{HasNoDreamAfter}
 use Rattle.transcript_model.specs.Legal.{IsLegal, is_level}
 use Rattle.transcript_model.specs.Rounds.{Limits, Share, limits_of, share_of}
-use Rattle.transcript_model.specs.Turns.{IsFallback, IsLevel, level, reset}
+use Rattle.transcript_model.specs.Turns.{IsFallback, IsLevel, Skeleton, level, reset}
 use Rattle.transcript_model.specs.declared.entry.Entry.{Entry}
 use Rattle.transcript_model.specs.declared.entry.Entry.TheVariants as entry
 use Rattle.transcript_model.specs.declared.head.Head.{Head}
-use Rattle.transcript_model.specs.declared.head.Mode.TheVariants.{Focused}
 
 -- ---- what follows a `none`
 
@@ -59,7 +58,8 @@ some_tried (first ∷ more) false same = lt-ltb 0 (length (first ∷ more)) (ome
 
 -- ---- the turn
 
-module _ (head : Head) (task : Task) (is : head.mode ≡ Focused) (tried : List Instance) (dues : List Due)
+module _ (head : Head) (task : Task) (skeletons : List Skeleton) (may : MayFallBack head.mode skeletons) (tried : List Instance)
+    (dues : List Due)
     (old mid new : State) (marked : IsMarked entry.Nothing old mid)
     (none : HasNoDreamAfter (limits_of head) task old.entries tried) (begins : Begins task head old dues) (is_tried : Bool)
     (even : nat_lt 0 (length tried) ≡ is_tried) (b : Batch) (ran : RanFallback task head is_tried dues mid new b) where
@@ -69,9 +69,9 @@ module _ (head : Head) (task : Task) (is : head.mode ≡ Focused) (tried : List 
   pushed : new.entries ≡ old.entries ++ entry.Nothing ∷ ran.more
   pushed = ran.pushed ∙ ap (λ es. es ++ ran.more) marked.entries ∙ append_assoc old.entries (entry.Nothing ∷ []) ran.more
 
-  turn : TurnOf head.mode (limits_of head) task (carried tried) old.entries (entry.Nothing ∷ ran.more) (carried []) (cut_by b)
+  turn : TurnOf head.mode (limits_of head) task (carrying skeletons tried) old.entries (entry.Nothing ∷ ran.more) (carrying skeletons []) (cut_by b)
   turn =
-      empty_turn head task is tried old.entries ran.more (cut_by b) none
+      empty_turn head task skeletons may tried old.entries ran.more (cut_by b) none
       (subst (λ es. IsFallback (limits_of head) task es tried ran.more (cut_by b)) marked.entries fallback)
 
   asks_some : is_tried ≡ false → length old.asked < length new.asked
@@ -120,12 +120,12 @@ module _ (head : Head) (task : Task) (is : head.mode ≡ Focused) (tried : List 
   untried e true = λ there. absurd (let bad : Done ≡ CallsSpent = sym (ran.reset there).0 ∙ e in cc)
   untried e false = λ no. no
 
-  is_whole : b ≡ Done → RanFocused task head tried [] old new turned.Done
+  is_whole : b ≡ Done → RanDreaming task head skeletons tried [] old new turned.Done
   is_whole e = record {
     turned = (
       entry.Nothing ∷ ran.more,
       pushed,
-      subst (λ c. TurnOf head.mode (limits_of head) task (carried tried) old.entries (entry.Nothing ∷ ran.more) (carried []) c)
+      subst (λ c. TurnOf head.mode (limits_of head) task (carrying skeletons tried) old.entries (entry.Nothing ∷ ran.more) (carrying skeletons []) c)
           (ap cut_by e) turn,
     );
     falls = λ done. falls is_tried refl;
@@ -133,13 +133,13 @@ module _ (head : Head) (task : Task) (is : head.mode ≡ Focused) (tried : List 
   }
 
   module _ (held : Held) (running : ℕ → Bool) (spoken : ℕ → Option Talk) (rests : Rests task head new held running spoken) where
-    is_cut_off : b ≡ CallsSpent → RanFocused task head tried [] old new turned.Spent
+    is_cut_off : b ≡ CallsSpent → RanDreaming task head skeletons tried [] old new turned.Spent
     is_cut_off e = record {
       turned = (
         entry.Nothing ∷ ran.more,
-        carried [],
+        carrying skeletons [],
         pushed,
-        subst (λ c. TurnOf head.mode (limits_of head) task (carried tried) old.entries (entry.Nothing ∷ ran.more) (carried []) c)
+        subst (λ c. TurnOf head.mode (limits_of head) task (carrying skeletons tried) old.entries (entry.Nothing ∷ ran.more) (carrying skeletons []) c)
             (ap cut_by e) turn,
         spent_sure head task new (length mid.asked) (length dues) b rests.works.listens.working rests.works.learnt
             rests.works.listens.session rests.works.of e (ran.level (untried e is_tried refl)),
@@ -149,16 +149,17 @@ module _ (head : Head) (task : Task) (is : head.mode ≡ Focused) (tried : List 
     }
 
     pub ran_dreamless : (t : Turned) → (b ≡ Done → t ≡ turned.Done) → (b ≡ CallsSpent → t ≡ turned.Spent)
-        → RanFocused task head tried [] old new t
+        → RanDreaming task head skeletons tried [] old new t
     ran_dreamless t done spent = by b refl
       where
-        by : (c : Batch) → b ≡ c → RanFocused task head tried [] old new t
-        by Done = λ e. subst (RanFocused task head tried [] old new) (sym (done e)) (is_whole e)
-        by CallsSpent = λ e. subst (RanFocused task head tried [] old new) (sym (spent e)) (is_cut_off e)
+        by : (c : Batch) → b ≡ c → RanDreaming task head skeletons tried [] old new t
+        by Done = λ e. subst (RanDreaming task head skeletons tried [] old new) (sym (done e)) (is_whole e)
+        by CallsSpent = λ e. subst (RanDreaming task head skeletons tried [] old new) (sym (spent e)) (is_cut_off e)
 
 -- ---- what would go on as the turn
 
-module _ (head : Head) (task : Task) (is_focused : head.mode ≡ Focused) (fit : IsFit task) (tried : List Instance) (dues : List Due)
+module _ (head : Head) (task : Task) (skeletons : List Skeleton) (may : MayFallBack head.mode skeletons) (fit : IsFit task)
+    (tried : List Instance) (dues : List Due)
     (s : State) (legal : IsLegal head.version task s.entries) (begins : Begins task head s dues)
     (work : All (λ (p : Share). 1 ≤ p.workers) (map share_of head.pools))
     (none : HasNoDreamAfter (limits_of head) task s.entries tried) where
@@ -175,9 +176,9 @@ module _ (head : Head) (task : Task) (is_focused : head.mode ≡ Focused) (fit :
 
   -- the line is there, or not yet
   pub dreamless_marked : (es : List Entry) → (es ≡ s.entries) ⊎ (es ≡ s.entries ++ entry.Nothing ∷ [])
-      → IsFrontOfTurn task head (carried tried) s.entries es
+      → IsFrontOfTurn task head (carrying skeletons tried) s.entries es
   dreamless_marked es (inl is) = inl is
   dreamless_marked es (inr is) =
-      subst (IsFrontOfTurn task head (carried tried) s.entries) (sym is)
-      (empty_front head task is_focused tried (nat_lt 0 (length tried)) s.entries (s.entries ++ entry.Nothing ∷ [])
+      subst (IsFrontOfTurn task head (carrying skeletons tried) s.entries) (sym is)
+      (empty_front head task skeletons may tried (nat_lt 0 (length tried)) s.entries (s.entries ++ entry.Nothing ∷ [])
       (s.entries ++ entry.Nothing ∷ []) none refl refl (some_fallback (nat_lt 0 (length tried))))

@@ -7,7 +7,7 @@ use Rattle.std.specs.Prelude.{⊤}
 use Rattle.dream_asks.proofs.FirstLemmas.{first_sent}
 use Rattle.dream_asks.specs.First.{AreFirstAsks, first_instances, is_askable}
 use Rattle.dream_laws.proofs.DreamLemmas.{dream_asks}
-use Rattle.focused_run.proofs.EntriesLemmas.{dream_distinct}
+use Rattle.dream_asks.proofs.EntriesLemmas.{dream_distinct}
 use Rattle.focused_run.proofs.FocusingLemmas.{Dreamt, dream_front, dream_turn, joined_all, opens_dream}
 use Rattle.focused_run.specs.Focusing.{HasRoom, RanFocused, carried, idle_of}
 use Rattle.instance_queue.specs.Level.{instances_of}
@@ -87,7 +87,7 @@ kept_distinct p (y ∷ ys) distinct = by (p y) (kept_distinct p ys (distinct_tai
     by false = λ rest. rest
 
 -- one turn at most may ask nothing
-idle_one : (tried : List Instance) → idle_of tried ≤ 1
+pub idle_one : (tried : List Instance) → idle_of tried ≤ 1
 idle_one tried = cond_le_one (nat_lt 0 (length tried))
 
 -- ---- before anything is done

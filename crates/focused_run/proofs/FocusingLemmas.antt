@@ -2,8 +2,7 @@
 use Rattle.std.proofs.Common.{arith, ℕ, zero, suc, ◌<◌, ◌≡◌, ◌+◌, nat_lt, Bool, true, false, List, [], ◌∷◌, ◌++◌, length, take, refl, sym, ap, subst, ◌∙◌, append_assoc, inl, inr}
 use Rattle.std.proofs.lemmas.Bool.{ltb-false}
 use Rattle.std.proofs.lemmas.List.{take_all}
-use Rattle.dreaming.specs.Answers.{HasSureNoDreamAfter}
-use Rattle.focused_run.specs.Focusing.{IsDreamLine, carried}
+use Rattle.focused_run.specs.Focusing.{IsDreamLine, MayFallBack, carried, carrying}
 use Rattle.level_run.specs.Advancing.{IsFrontOfTurn}
 use Rattle.level_run.specs.Asking.{IsAskedBehind, IsFrontBehind}
 use Rattle.level_run.specs.Turns.{IsFrontOfFallback, opens_requests}
@@ -15,22 +14,16 @@ use Rattle.transcript_model.specs.Dreaming.{HasNoDreamAfter, IsDreamAfter, Sent,
 use Rattle.transcript_model.specs.Legal.{asks_of}
 use Rattle.transcript_model.specs.Rounds.{IsBatch, Limits, calls_left, limits_of}
 use Rattle.transcript_model.specs.Transcript.{names_of}
-use Rattle.transcript_model.specs.Turns.{FocusedTurn, IsFallback, is_cut}
+use Rattle.transcript_model.specs.Turns.{FocusedTurn, IsEmptyTurn, IsFallback, Skeleton, is_cut}
 use Rattle.transcript_model.specs.declared.entry.Call.{Call}
 use Rattle.transcript_model.specs.declared.entry.DreamUse.{DreamUse}
 use Rattle.transcript_model.specs.declared.entry.Entry.{Entry}
 use Rattle.transcript_model.specs.declared.entry.Entry.TheVariants as entry
 use Rattle.transcript_model.specs.declared.head.Head.{Head}
 use Rattle.transcript_model.specs.declared.head.Mode.{Mode}
-use Rattle.transcript_model.specs.declared.head.Mode.TheVariants.{Focused}
+use Rattle.transcript_model.specs.declared.head.Mode.TheVariants.{Incremental, Focused, Binding, Adaptive}
 
 -- ---- no dream, and the line of one
-
-pub surely_none : (limits : Limits) (task : Task) (before : List Entry) (tried : List Instance)
-    → HasSureNoDreamAfter limits task before tried → HasNoDreamAfter limits task before tried
-surely_none limits task before tried (inl many) = inl many
-surely_none limits task before tried (inr (list, supposed, inl none)) = inr (list, supposed, inl none)
-surely_none limits task before tried (inr (list, supposed, inr far)) = inr (list, supposed, inr (inr far.reached))
 
 pub some_from : (n : ℕ) → (n ≡ 0 → ⊥) → 0 < n
 some_from zero not = absurd (not refl)
@@ -69,14 +62,6 @@ module _ (head : Head) (task : Task) (is : head.mode ≡ Focused) where
       → TurnOf head.mode (limits_of head) task (carried tried) before now (carried next) cut
   focused_turn tried next before now cut turn =
       subst (λ (m : Mode). TurnOf m (limits_of head) task (carried tried) before now (carried next) cut) (sym is) (turn, refl)
-
-  pub empty_turn : (tried : List Instance) (before more : List Entry) (cut : Bool)
-      → HasNoDreamAfter (limits_of head) task before tried
-      → IsFallback (limits_of head) task (before ++ entry.Nothing ∷ []) tried more cut
-      → TurnOf head.mode (limits_of head) task (carried tried) before (entry.Nothing ∷ more) (carried []) cut
-  empty_turn tried before more cut none fallback =
-      focused_turn tried [] before (entry.Nothing ∷ more) cut
-      (inr (record { none = none; rest = more; is = refl; fallback = fallback; forgotten = refl }))
 
   module _ (tried : List Instance) (before : List Entry) (uses : List DreamUse) (steps : List Call) (entries : List dreams.Entry)
       (dream : IsDreamAfter (limits_of head) task before tried uses steps entries) where
@@ -130,17 +115,36 @@ module _ (head : Head) (task : Task) (is : head.mode ≡ Focused) where
         ap (λ sent. tried ++ sent_instances sent) (take_all (calls_left (limits_of head) marked) firsts (ltb-false _ _ whole))
         ∙ ap (λ is. tried ++ is) same
 
+-- ---- turns without a dream
+
+module _ (head : Head) (task : Task) (skeletons : List Skeleton) (may : MayFallBack head.mode skeletons) where
+  pub empty_turn : (tried : List Instance) (before more : List Entry) (cut : Bool)
+      → HasNoDreamAfter (limits_of head) task before tried
+      → IsFallback (limits_of head) task (before ++ entry.Nothing ∷ []) tried more cut
+      → TurnOf head.mode (limits_of head) task (carrying skeletons tried) before (entry.Nothing ∷ more) (carrying skeletons []) cut
+  empty_turn tried before more cut none fallback = by head.mode may
+    where
+      empty : IsEmptyTurn (limits_of head) task tried before (entry.Nothing ∷ more) [] cut
+      empty = record { none = none; rest = more; is = refl; fallback = fallback; forgotten = refl }
+
+      by : (m : Mode) → MayFallBack m skeletons
+          → TurnOf m (limits_of head) task (carrying skeletons tried) before (entry.Nothing ∷ more) (carrying skeletons []) cut
+      by Incremental never = absurd never
+      by Focused may = (inr empty, refl)
+      by Binding may = (inr empty, refl)
+      by Adaptive retired = inr (inr (record { all_retired = retired; tried = []; turn = empty; next_is = refl }))
+
   -- the first of a turn without a dream
   pub empty_front : (tried : List Instance) (is_tried : Bool) (before mid es : List Entry)
       → HasNoDreamAfter (limits_of head) task before tried → nat_lt 0 (length tried) ≡ is_tried
       → mid ≡ before ++ entry.Nothing ∷ []
-      → IsFrontOfFallback head task is_tried mid es → IsFrontOfTurn task head (carried tried) before es
+      → IsFrontOfFallback head task is_tried mid es → IsFrontOfTurn task head (carrying skeletons tried) before es
   empty_front tried is_tried before mid es none even at f = inr (record {
     part = entry.Nothing ∷ f.part;
     rest = f.rest;
     is = f.is ∙ ap (λ t. t ++ f.part) at ∙ append_assoc before (entry.Nothing ∷ []) f.part;
     whole = (
-      carried [],
+      carrying skeletons [],
       f.whole.0,
       empty_turn tried before (f.part ++ f.rest) f.whole.0 none
           (subst (λ m. IsFallback (limits_of head) task m tried (f.part ++ f.rest) f.whole.0) at (f.whole.1 tried even)),

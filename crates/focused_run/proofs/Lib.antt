@@ -1,4 +1,3 @@
 pub mod DreamlessLemmas
 pub mod DreamtLemmas
-pub mod EntriesLemmas
 pub mod FocusingLemmas

@@ -1,5 +1,6 @@
--- What focused mode carries from turn to turn, and what its turns are.
-use Rattle.std.specs.Prelude.{ℕ, ◌<◌, ◌≤◌, ⊤, List, [], length, nat_lt, cond, count_by}
+-- What the modes that dream carry from turn to turn, and what their turns are.
+use Rattle.std.specs.Prelude.{◌≡◌, ℕ, ◌<◌, ◌≤◌, ⊤, List, [], length, nat_lt, true, cond, count_by}
+use Rattle.std.specs.List.{list_all}
 use Rattle.instance_queue.specs.declared.due.Due.{Due}
 use Rattle.level_run.specs.Advancing.{RanTurn}
 use Rattle.level_run.specs.Turns.{IsTurn}
@@ -11,14 +12,20 @@ use Rattle.task_model.specs.declared.task.Task.{Task}
 use Rattle.transcript_model.specs.Dreaming.{IsDreamAfter}
 use Rattle.transcript_model.specs.Legal.{is_level}
 use Rattle.transcript_model.specs.Rounds.{Limits}
-use Rattle.transcript_model.specs.Turns.{Kept}
+use Rattle.transcript_model.specs.Turns.{Kept, Skeleton}
 use Rattle.transcript_model.specs.declared.entry.Entry.{Entry}
 use Rattle.transcript_model.specs.declared.entry.Entry.TheVariants as entry
 use Rattle.transcript_model.specs.declared.head.Head.{Head}
+use Rattle.transcript_model.specs.declared.head.Mode.{Mode}
+use Rattle.transcript_model.specs.declared.head.Mode.TheVariants.{Incremental, Focused, Binding, Adaptive}
+
+-- the instances that were tried, and these skeletons
+abbrev pub carrying : List Skeleton → List Instance → Kept
+carrying skeletons tried = record { tried = tried; skeletons = skeletons }
 
 -- the instances that were tried, and no skeletons
 abbrev pub carried : List Instance → Kept
-carried tried = record { tried = tried; skeletons = [] }
+carried tried = carrying [] tried
 
 -- one turn may ask nothing where something is tried: it forgets that
 abbrev pub idle_of : List Instance → ℕ
@@ -41,8 +48,21 @@ IsDreamLine limits task before tried (entry.Dream uses steps) entries =
     IsDreamAfter limits task before tried uses steps entries
 IsDreamLine limits task before tried e entries = ⊥
 
--- what a turn of focused mode has done, where these were tried before and those are afterwards
+-- what a turn has done that leaves the skeletons, where these were tried before and those are afterwards
+abbrev pub RanDreaming : Task → Head → List Skeleton → List Instance → List Instance → State → State → Turned
+    → Type 0
+RanDreaming task head skeletons tried next =
+    RanTurn task head (carrying skeletons tried) (carrying skeletons next) (idle_of tried) (idle_of next) (λ asked. ⊤)
+
+-- the same of a mode without skeletons
 abbrev pub RanFocused : Task → Head → List Instance → List Instance → State → State → Turned
     → Type 0
-RanFocused task head tried next =
-    RanTurn task head (carried tried) (carried next) (idle_of tried) (idle_of next) (λ asked. ⊤)
+RanFocused task head = RanDreaming task head []
+
+-- Where a turn finds no dream it may fall back in a mode that dreams: in adaptive mode only where all skeletons are
+-- given up.
+abbrev pub MayFallBack : Mode → List Skeleton → Type 0
+MayFallBack Incremental skeletons = ⊥
+MayFallBack Focused skeletons = Unit {0}
+MayFallBack Binding skeletons = Unit {0}
+MayFallBack Adaptive skeletons = list_all (λ (s : Skeleton). s.retired) skeletons ≡ true

@@ -1,10 +1,10 @@
 //! Turns without a dream.
-ghost use Rattle.std.specs.Prelude.{◌≡◌, IfOk, IfErr, OnOk};
-ghost use Rattle.focused_run.specs.Focusing.{Begins, RanFocused, carried};
+ghost use Rattle.std.specs.Prelude.{◌≡◌, List, IfOk, IfErr, OnOk};
+ghost use Rattle.focused_run.specs.Focusing.{Begins, MayFallBack, RanDreaming, carrying};
 ghost use Rattle.io_world.specs.Talks.{Same};
 ghost use Rattle.level_run.specs.Advancing.{Advances, IsFrontOfTurn, TurnBreaks};
-ghost use Rattle.level_run.specs.Turns.{IsRunnableIn};
 ghost use Rattle.level_run.specs.declared.turns.Turned.TheVariants.{Spent, Done as WholeTurn};
+ghost use Rattle.round_run.specs.Batches.{IsRunnable};
 ghost use Rattle.round_run.specs.Dialogue.{workers_in};
 ghost use Rattle.round_run.specs.Held.{is_child_running};
 ghost use Rattle.round_run.specs.Resting.{AreCaused, GoesInOrder, Rests};
@@ -12,7 +12,7 @@ ghost use Rattle.round_run.specs.Rolling.{Stopped};
 ghost use Rattle.round_run.specs.declared.ending.Batch.TheVariants.{CallsSpent, Done};
 ghost use Rattle.transcript_model.specs.Dreaming.{HasNoDreamAfter};
 ghost use Rattle.transcript_model.specs.Rounds.{limits_of};
-ghost use Rattle.transcript_model.specs.declared.head.Mode.TheVariants.{Focused};
+ghost use Rattle.transcript_model.specs.Turns.{Skeleton};
 
 use instance_queue::Due;
 use io_world::{Host, Sink};
@@ -23,7 +23,7 @@ use task_model::Task;
 use transcript_model::{Entry, Head};
 
 /// How the turn ends whose last batch ended so.
-pub(crate) fn turned(ended: Batch) -> Turned
+pub fn turned(ended: Batch) -> Turned
     ensures done { ended ≡ Done → result ≡ WholeTurn }
     ensures spent { ended ≡ CallsSpent → result ≡ Spent }
 {
@@ -34,8 +34,14 @@ pub(crate) fn turned(ended: Batch) -> Turned
 }
 
 /// Says that there is no dream; then where something was tried, that is forgotten, and else a whole
-/// level is asked.
-pub(crate) fn without_dream<H: Host, O: Sink>(
+/// level is asked, of these instances, which are due. It is so in each mode that dreams, and no
+/// skeletons change.
+///
+/// # Errors
+/// `Answer` where the line that answers a request is no answer; `Generator` and `Write` only where
+/// the host's or the sink's count of faults rose in this call; `Memory`. Afterwards the session may
+/// only be looked at.
+pub fn without_dream<H: Host, O: Sink>(
     task: &Task,
     head: &Head,
     session: &mut Session,
@@ -45,20 +51,23 @@ pub(crate) fn without_dream<H: Host, O: Sink>(
     tried: &mut Tried,
     dues: &[Due],
 ) -> Result<Turned, RunFault>
-    requires runnable { IsRunnableIn Focused task.now head.now }
+    requires runnable { IsRunnable task.now head.now }
     requires rests { Rests task.now head.now session.old lines.old (H.running host.old)
         (H.spoken host.old) }
     requires begins { Begins task.now head.now session.old dues.now }
     requires none { HasNoDreamAfter (limits_of head.now) task.now session.old.entries tried.old }
     ensures rests { OnOk result (Rests task.now head.now session.new lines.new (H.running host.new)
         (H.spoken host.new)) }
-    ensures ran { IfOk result (RanFocused task.now head.now tried.old tried.new
-        session.old session.new) }
+    ensures ran { IfOk result (λ t. (skeletons : List Skeleton)
+        → MayFallBack head.now.mode skeletons → RanDreaming task.now head.now skeletons
+        tried.old tried.new session.old session.new t) }
     ensures adds { OnOk result (GoesInOrder session.old.entries session.new.entries
         (O.taken out.old) (O.taken out.new) (Advances task.now head.now session.old.entries
         session.new.entries (H.log host.old) (H.log host.new))) }
-    ensures stopped { IfErr result (λ fault. Stopped head.now.version task.now (workers_in head.now)
-        (IsFrontOfTurn task.now head.now (carried tried.old) session.old.entries)
+    ensures stopped { IfErr result (λ fault. (skeletons : List Skeleton)
+        → MayFallBack head.now.mode skeletons
+        → Stopped head.now.version task.now (workers_in head.now)
+        (IsFrontOfTurn task.now head.now (carrying skeletons tried.old) session.old.entries)
         session.old.entries fault (O.taken out.old) (O.taken out.new) (H.spoken host.new)
         (TurnBreaks task.now head.now session.old.entries fault (H.log host.old)
         (H.log host.new))) }

@@ -6,4 +6,5 @@ mod dreamless;
 mod dreamt;
 mod focused_mode;
 
+pub use dreamless::{turned, without_dream};
 pub use focused_mode::focused;

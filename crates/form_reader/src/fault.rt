@@ -22,7 +22,8 @@ pub enum InputKind {
     TypeCycle = 6,
     /// A derived predicate that depends on itself.
     DerivedCycle = 7,
-    /// A predicate that is derived, or of a stream one that changes, where such a one may not stand.
+    /// A predicate that is derived, or of a stream one that changes, where such a one may not
+    /// stand.
     EffectOnStatic = 8,
     /// A word in the place of a number that isn't a number of at most 1,000,000.
     Number = 9,
@@ -40,7 +41,8 @@ impl InputKind {
         self as u8
     }
 
-    /// The kind's place in the order of faults at one place: `Shape` is the last, the others go by number.
+    /// The kind's place in the order of faults at one place: `Shape` is the last, the others go by
+    /// number.
     fn rank(self) -> u8
         ensures { result ≡ specs.rank_of self }
     {
@@ -91,8 +93,8 @@ impl Fault {
         }
     }
 
-    /// Whether this fault is answered rather than the other one: it has the lesser place, or at one place the smaller
-    /// number, `Shape` being last there.
+    /// Whether this fault is answered rather than the other one: it has the lesser place, or at one
+    /// place the smaller number, `Shape` being last there.
     pub fn comes_first(self, other: Fault) -> bool
         ensures { result ≡ specs.comes_first self other }
     {

@@ -12,14 +12,16 @@ use crate::items::{TextKind, check_items};
 use crate::words::WordSort;
 use sexpr_text::{Front, Tree, alone, front_of};
 
-/// The form fault of a text that is answered, if it has one: of all its form faults the one with the least place, and
-/// at one place `Shape` last.
+/// The form fault of a text that is answered, if it has one: of all its form faults the one with
+/// the least place, and at one place `Shape` last.
 ///
 /// # Faults
 ///
-/// - `Shape`: a word or a list that can't stand where it stands, at its place; a list that ends before its form is
-///   complete, a problem without `:domain` or `:goal`, or a cost stream without `:value`, at the list's place.
-/// - `Unsupported`: a form of PDDL or PDDLStream that this project leaves out, mostly at its list's place.
+/// - `Shape`: a word or a list that can't stand where it stands, at its place; a list that ends
+///   before its form is complete, a problem without `:domain` or `:goal`, or a cost stream without
+///   `:value`, at the list's place.
+/// - `Unsupported`: a form of PDDL or PDDLStream that this project leaves out, mostly at its list's
+///   place.
 /// - `Number`: a word in the place of a number that isn't one of at most 1,000,000, at its place.
 pub fn check_form(text: TextKind, text_tree: &Tree) -> Option<Fault>
     ensures { result ≡ least_fault (specs.form_faults text (tree text_tree.now)) }

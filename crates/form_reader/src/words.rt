@@ -41,8 +41,8 @@ impl WordSort {
     }
 }
 
-/// Whether the word is a name, in lower case: a letter and then letters, digits, `-` and `_`, at most 255 bytes
-/// (PDDL 2.1; the length is this project's).
+/// Whether the word is a name, in lower case: a letter and then letters, digits, `-` and `_`, at
+/// most 255 bytes (PDDL 2.1; the length is this project's).
 pub fn is_name(word: &[u8]) -> bool
     ensures { result ≡ fit.is_name word.now }
 {
@@ -82,7 +82,8 @@ pub fn is_variable(word: &[u8]) -> bool
     }
 }
 
-/// Whether the word is a name that a predicate may have: none of the words that head conditions and effects in PDDL.
+/// Whether the word is a name that a predicate may have: none of the words that head conditions and
+/// effects in PDDL.
 pub fn is_predicate_name(word: &[u8]) -> bool
     ensures { result ≡ specs.is_predicate_name word.now }
 {
@@ -135,7 +136,8 @@ pub(crate) fn begins_with_digit(word: &[u8]) -> bool
     }
 }
 
-/// The number that the word writes, if it is digits alone and the number is at most 1,000,000. Leading zeros may stand.
+/// The number that the word writes, if it is digits alone and the number is at most 1,000,000.
+/// Leading zeros may stand.
 #[tactic(auto, unfolding(crate::specs::Words::is_number))]
 pub fn number_of(word: &[u8]) -> Option<u32>
     ensures { result ≡ (if specs.is_number word.now then Some (digits_value 10 word.now) else

@@ -36,7 +36,8 @@ impl Env {
     /// The object in this slot, which is below sixteen.
     pub fn get(&self, slot: u8) -> Obj
         requires { slot < 16 }
-        ensures { result ≡ slice_index self.now slot }
+        ensures object { result ≡ slice_index self.now slot }
+        ensures inside { slot < length self.now }
     {
         self.slots[slot as usize]
     }

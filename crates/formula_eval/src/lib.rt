@@ -1,4 +1,5 @@
-//! When conditions are true: PDDL conditions with derived predicates, over what is known and a state.
+//! When conditions are true: PDDL conditions with derived predicates, over what is known and a
+//! state.
 #![tactic(auto)]
 
 pub mod env;

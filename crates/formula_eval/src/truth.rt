@@ -139,7 +139,8 @@ fn atom<L: Look>(scene: &Scene<'_, L>, depth: usize, pred: u32, args: Row) -> bo
     }
 }
 
-/// Whether the derived atom follows by an item, whose body rests on derived atoms at most `depth` deep.
+/// Whether the derived atom follows by an item, whose body rests on derived atoms at most `depth`
+/// deep.
 #[cycle(truth)]
 fn derived<L: Look>(scene: &Scene<'_, L>, depth: usize, pred: u32, args: &[Obj]) -> bool
     requires fit { IsFit scene.now.task.now }
@@ -158,9 +159,9 @@ fn derived<L: Look>(scene: &Scene<'_, L>, depth: usize, pred: u32, args: &[Obj])
     false
 }
 
-/// Whether the condition is true of the task, what is known and the state (PDDL 2.1, and PDDL 2.2 for
-/// derived predicates), the variables having their objects in the slots. The slots are unchanged
-/// afterwards, and no memory is taken.
+/// Whether the condition is true of the task, what is known and the state (PDDL 2.1, and PDDL 2.2
+/// for derived predicates), the variables having their objects in the slots. The slots are
+/// unchanged afterwards, and no memory is taken.
 pub fn holds<L: Look>(
     task: &Task,
     look: &L,

@@ -1,5 +1,5 @@
 -- What is tried for a variable: each object that makes the condition true comes at some place.
-use Rattle.std.proofs.Common.{◌≡◌, ℕ, zero, suc, ◌+◌, ◌<◌, Bool, true, false, List, [], ◌∷◌, length, get_or, refl, sym, ap, ◌∙◌, subst, arith, Option, Some, None, slice_get, slice_index, slice_set, Contains, IfSome, nat_lt, ◌||◌, ◌≤◌}
+use Rattle.std.proofs.Common.{◌≡◌, ℕ, zero, suc, ◌+◌, ◌<◌, Bool, true, false, List, [], ◌∷◌, length, get_or, refl, sym, ap, ◌∙◌, subst, arith, Option, Some, None, slice_get, slice_index, slice_set, Contains, IfSome, nat_lt, nat_le, ◌&&◌, ◌||◌, ◌≤◌}
 use Rattle.std.proofs.lemmas.List.Folds.{list_any_at}
 use Rattle.std.proofs.lemmas.Option.{slice_get_within, same_Some}
 use Rattle.std.specs.FinMap as finite
@@ -9,24 +9,28 @@ use Rattle.std.specs.Ordering.{eq_by_cmp}
 use Rattle.lemmas.proofs.Ascending.{contains_here, contains_later}
 use Rattle.lemmas.proofs.ListTests.{any_found}
 use Rattle.lemmas.proofs.Members.{place_of}
+use Rattle.task_model.proofs.KnownLemmas.{fact_member}
 use Rattle.task_model.proofs.StateLemmas.{atoms_tied}
 use Rattle.task_model.specs.AtomOrder.{atom_cmp}
 use Rattle.task_model.specs.declared.fact.Atom as fact
+use Rattle.task_model.specs.declared.fact.Fact.{Fact}
 use Rattle.task_model.specs.Condition.{Condition, Atom, All as every, parts_of}
-use Rattle.task_model.specs.Known.{Known, objects_of}
+use Rattle.task_model.specs.Known.{Known, atom_fact, is_fact, is_match, matches_of, objects_of}
 use Rattle.task_model.specs.Roles.{role_of}
 use Rattle.task_model.specs.State.{Atoms, contains, items}
-use Rattle.fact_join.proofs.FactLemmas.{has_object}
+use Rattle.fact_join.proofs.FactLemmas.{has_object, into_filter, is_match_at}
 use Rattle.task_model.specs.Truth.{has_type, atom_at, object_of, objects_at, some_tuple, truth, all_true}
 use Rattle.task_model.specs.declared.condition.Term.{Term}
 use Rattle.task_model.specs.declared.condition.Term.TheVariants.{Slot, Object}
 use Rattle.task_model.specs.declared.domain.Domain.{Domain}
 use Rattle.task_model.specs.declared.domain.Role.TheVariants as role
 use Rattle.formula_eval.specs.Judged.{some_at, truth_at}
-use Rattle.formula_eval.specs.Readable.{is_readable_term}
-use Rattle.formula_memo.specs.Tries.{ComesAt, IsLead, IsPlaced, IsSameBelow, is_passed, led_atom, places_of}
+use Rattle.formula_eval.specs.Readable.{is_readable, is_readable_term}
+use Rattle.formula_memo.specs.Tries.{ComesAt, IsInFacts, IsLead, IsPlaced, IsSameBelow, StandsAmong, is_passed, places_among, places_of}
+use Rattle.formula_memo.specs.declared.lead.Among.{Among}
+use Rattle.formula_memo.specs.declared.lead.Among.TheVariants.{State, Facts}
 use Rattle.formula_memo.specs.declared.lead.Lead.{Lead}
-use Rattle.formula_eval.proofs.ReadableLemmas.{fluent_at}
+use Rattle.formula_eval.proofs.ReadableLemmas.{fluent_at, static_at}
 use borrow.Author.Tests.{ltb-true, ltb-false}
 
 -- ---- slots
@@ -42,12 +46,6 @@ pub here_set : (slots : List ℕ) (i o : ℕ) → i < length slots → slice_ind
 here_set [] i o h = absurd (omega arith)
 here_set (x ∷ xs) zero o h = refl
 here_set (x ∷ xs) (suc i) o h = here_set xs i o (omega arith)
-
--- a slot that holds something is there
-pub holding_inside : (slots : List ℕ) (i o : ℕ) → slice_index slots i ≡ suc o → i < length slots
-holding_inside [] i o e = absurd (cc)
-holding_inside (x ∷ xs) zero o e = omega arith
-holding_inside (x ∷ xs) (suc i) o e = omega (arith, holding_inside xs i o e)
 
 -- some objects that pass leave the slots below as they are
 pub tuple_there : (objects : ℕ → List ℕ) (test : List ℕ → Bool) (sorts : List ℕ) (first : ℕ) (slots : List ℕ)
@@ -71,26 +69,77 @@ part_true atom objects slots (x ∷ xs) (suc i) c h e t =
     part_true atom objects slots xs i c (omega (arith, h)) e (second_so (truth atom objects x slots) _ t)
 
 -- a lead of a part is one of all
-pub lead_of_part : (domain : Domain) (cs : List Condition) (i : ℕ) (c : Condition) (slot : ℕ) (lead : Lead)
-    → i < length cs → c ≡ get_or cs i c → IsLead domain c slot lead
-    → IsLead domain (every (parts_of cs)) slot lead
-lead_of_part domain cs i c slot lead h e is = record {
+pub lead_of_part : (domain : Domain) (cs : List Condition) (i : ℕ) (c : Condition) (slot : ℕ) (slots : List ℕ) (lead : Lead)
+    → i < length cs → c ≡ get_or cs i c → IsLead domain c slot slots lead
+    → IsLead domain (every (parts_of cs)) slot slots lead
+lead_of_part domain cs i c slot slots lead h e is = record {
   placed = is.placed;
-  needed = λ known state depth slots t.
-      is.needed known state depth slots (part_true (atom_at domain known state depth) (objects_of known.facts) slots cs i c h e t);
+  needed = λ known state depth after same t.
+      is.needed known state depth after same
+      (part_true (atom_at domain known state depth) (objects_of known.facts) after cs i c h e t);
 }
 
+-- an atom that can be read names a predicate of the domain, and its terms can be read
+pub readable_atom : (domain : Domain) (condition : Condition) (pred : ℕ) (terms : List Term)
+    → condition ≡ Atom pred terms → is_readable domain condition ≡ true
+    → (pred < length domain.predicates) × (list_all is_readable_term terms ≡ true)
+readable_atom domain condition pred terms is readable =
+    let whole : is_readable domain (Atom pred terms) ≡ true = ap (is_readable domain) (sym is) ∙ readable in
+    let front = first_so (nat_lt pred (length domain.predicates) && nat_le (length terms) 8) (list_all is_readable_term terms) whole in (
+      ltb-true pred (length domain.predicates) (first_so (nat_lt pred (length domain.predicates)) (nat_le (length terms) 8) front),
+      second_so (nat_lt pred (length domain.predicates) && nat_le (length terms) 8) (list_all is_readable_term terms) whole,
+    )
+
+-- ---- atoms of a state, and facts
+
+atom_place : (state : Atoms) (atom : fact.Atom) → contains state atom ≡ true
+    → (n : ℕ) × (slice_get (items state) n ≡ Some atom)
+atom_place state atom e =
+    let found = any_found (eq_by_cmp atom_cmp atom) (items state) (sym (finite.contains_key-keys state atom) ∙ e) in
+    (found.0, found.2 ∙ ap Some (sym (atoms_tied atom found.1 ((Equal-is (atom_cmp atom found.1)).0 found.3))))
+
+-- a known atom is at some place of those that have the same object at a place
+fact_place : (facts : List Fact) (pred at object : ℕ) (args : List ℕ) → is_fact facts (atom_fact pred args) ≡ true
+    → slice_get args at ≡ Some object
+    → (n : ℕ) × (slice_get (matches_of facts pred at object) n ≡ Some (atom_fact pred args))
+fact_place facts pred at object args known here =
+    place_of (matches_of facts pred at object) (atom_fact pred args)
+    (into_filter (is_match pred at object) facts (atom_fact pred args) ((fact_member facts (atom_fact pred args)).0 known)
+    (is_match_at pred at object args here))
+
 -- an atom of a fluent is a lead
-pub lead_of_atom : (domain : Domain) (pred slot : ℕ) (lead : Lead) → role_of domain pred ≡ role.Fluent
-    → lead.pred ≡ pred → slice_get lead.terms.now lead.place ≡ Some (Slot slot)
-    → list_all is_readable_term lead.terms.now ≡ true
-    → IsLead domain (Atom pred lead.terms.now) slot lead
-lead_of_atom domain pred slot lead fluent same at readable = record {
-  placed = record { at = at; readable = readable };
-  needed = λ known state depth slots t.
-      ap (λ p. contains state (record { pred = p; args = objects_at slots lead.terms.now })) same
-      ∙ sym (fluent_at domain known state pred (objects_at slots lead.terms.now) depth fluent) ∙ t;
-}
+pub lead_of_fluent : (domain : Domain) (condition : Condition) (slot : ℕ) (slots : List ℕ) (lead : Lead)
+    → condition ≡ Atom lead.pred lead.terms.now → role_of domain lead.pred ≡ role.Fluent
+    → IsPlaced slot lead → lead.among ≡ State → IsLead domain condition slot slots lead
+lead_of_fluent domain condition slot slots lead is fluent placed among =
+    subst (λ x. IsLead domain x slot slots lead) (sym is) (record {
+      placed = placed;
+      needed = λ known state depth after same t.
+          let objects = objects_at after lead.terms.now in
+          let at = atom_place state (record { pred = lead.pred; args = objects })
+          (sym (fluent_at domain known state lead.pred objects depth fluent) ∙ t) in
+          (at.0, subst (λ a. StandsAmong known state lead.pred a objects at.0) (sym among) at.1);
+    })
+
+-- an atom of a static predicate is a lead by the facts that have the object of one of its terms
+module _ (domain : Domain) (condition : Condition) (slot : ℕ) (slots : List ℕ) (before : Lead)
+    (is : condition ≡ Atom before.pred before.terms.now) (static : role_of domain before.pred ≡ role.Static)
+    (placed : IsPlaced slot before) where
+  lead_of_static : (lead : Lead) → IsInFacts slot slots before lead → IsLead domain condition slot slots lead
+  lead_of_static lead through =
+      subst (λ x. IsLead domain x slot slots lead) (sym is)
+      (subst (IsLead domain (Atom before.pred before.terms.now) slot slots) (sym through.is) (record {
+        placed = record { at = placed.at; readable = placed.readable };
+        needed = λ known state depth after same t.
+            fact_place known.facts before.pred through.at through.object (objects_at after before.terms.now)
+            (sym (static_at domain known state before.pred (objects_at after before.terms.now) depth static) ∙ t)
+            (through.filled after same);
+      }))
+
+  pub leads_of_static : (lead : Option Lead) → IfSome lead (IsInFacts slot slots before)
+      → IfSome lead (IsLead domain condition slot slots)
+  leads_of_static None through = through
+  leads_of_static (Some lead) through = lead_of_static lead through
 
 -- ---- terms
 
@@ -104,19 +153,11 @@ slot_object slots (t ∷ ts) zero slot e = by t e
     by (Object o) e = absurd (cc)
 slot_object slots (t ∷ ts) (suc place) slot e = slot_object slots ts place slot e
 
--- ---- atoms of a state
-
-atom_place : (state : Atoms) (atom : fact.Atom) → contains state atom ≡ true
-    → (n : ℕ) × (slice_get (items state) n ≡ Some atom)
-atom_place state atom e =
-    let found = any_found (eq_by_cmp atom_cmp atom) (items state) (sym (finite.contains_key-keys state atom) ∙ e) in
-    (found.0, found.2 ∙ ap Some (sym (atoms_tied atom found.1 ((Equal-is (atom_cmp atom found.1)).0 found.3))))
-
 -- ---- what comes
 
 -- each object that makes the condition true comes at some place
 module _ (domain : Domain) (known : Known) (state : Atoms) (depth sort slot : ℕ) (rest : List ℕ) (body : Condition) (slots : List ℕ) where
-  pub comes : (lead : Option Lead) → IfSome lead (IsLead domain body slot) → IfSome lead (λ _. slot < length slots)
+  pub comes : (lead : Option Lead) → IfSome lead (IsLead domain body slot slots) → slot < length slots
       → (o : ℕ) → Contains (objects_of known.facts sort) o
       → some_at domain known state depth (slot + 1) rest body (slice_set slots slot o) ≡ true
       → (n : ℕ) × ComesAt known state sort lead slot slots n o
@@ -126,22 +167,29 @@ module _ (domain : Domain) (known : Known) (state : Atoms) (depth sort slot : �
       tuple_there (objects_of known.facts) (truth_at domain known state depth body) rest
       (slot + 1) (slice_set slots slot o) e in
       let after = found.0 in
-      let in_state : contains state (led_atom lead after) ≡ true = is.needed known state depth after found.2 in
-      let at = atom_place state (led_atom lead after) in_state in (
+      let same : IsSameBelow slot slots after =
+      λ k h. sym (below_set slots slot o k h) ∙ found.1 k (omega (arith, h)) in
+      let at = is.needed known state depth after same found.2 in (
         at.0,
         record {
           after = after;
-          same = λ k h. sym (below_set slots slot o k h) ∙ found.1 k (omega (arith, h));
+          same = same;
           here = sym (found.1 slot (omega arith)) ∙ here_set slots slot o inside;
           stands = at.1;
         },
       )
 
+stands_within : (known : Known) (state : Atoms) (pred : ℕ) (among : Among) (objects : List ℕ) (n : ℕ)
+    → StandsAmong known state pred among objects n → n < places_among known state pred among
+stands_within known state pred State objects n at = slice_get_within (items state) n _ at
+stands_within known state pred (Facts place object) objects n at =
+    slice_get_within (matches_of known.facts pred place object) n _ at
+
 pub comes_within : (known : Known) (state : Atoms) (sort slot : ℕ) (lead : Option Lead) (slots : List ℕ) (n o : ℕ)
     → ComesAt known state sort lead slot slots n o → n < places_of known state sort lead
 comes_within known state sort slot None slots n o at = slice_get_within (objects_of known.facts sort) n o at
 comes_within known state sort slot (Some lead) slots n o at =
-    slice_get_within (items state) n (led_atom lead at.after) at.stands
+    stands_within known state lead.pred lead.among (objects_at at.after lead.terms.now) n at.stands
 
 -- the same comes where the slots below are the same
 pub comes_moved : (known : Known) (state : Atoms) (sort slot : ℕ) (lead : Option Lead) (slots others : List ℕ) (n o : ℕ)
@@ -186,7 +234,7 @@ module _ (domain : Domain) (known : Known) (state : Atoms) (depth sort slot : �
       → some_at domain known state depth (slot + 1) rest body (slice_set slots slot o) ≡ false
 
   -- where all that comes was tried, none passes
-  pub none_passes : (lead : Option Lead) (count : ℕ) → IfSome lead (IsLead domain body slot) → IfSome lead (λ _. slot < length slots)
+  pub none_passes : (lead : Option Lead) (count : ℕ) → IfSome lead (IsLead domain body slot slots) → slot < length slots
       → places_of known state sort lead ≤ count → TriedBefore lead count
       → list_any (λ o. some_at domain known state depth (slot + 1) rest body (slice_set slots slot o)) (objects_of known.facts sort) ≡ false
   none_passes lead count is inside enough tried =
@@ -221,10 +269,10 @@ module _ (domain : Domain) (known : Known) (state : Atoms) (depth sort slot : �
             (comes_so o moved m) none
       ] refl
 
-pub placed_lead : (domain : Domain) (body : Condition) (slot : ℕ) (lead : Option Lead)
-    → IfSome lead (IsLead domain body slot) → IfSome lead (IsPlaced slot)
-placed_lead domain body slot None is = is
-placed_lead domain body slot (Some lead) is = is.placed
+pub placed_lead : (domain : Domain) (body : Condition) (slot : ℕ) (slots : List ℕ) (lead : Option Lead)
+    → IfSome lead (IsLead domain body slot slots) → IfSome lead (IsPlaced slot)
+placed_lead domain body slot slots None is = is
+placed_lead domain body slot slots (Some lead) is = is.placed
 
 pub term_object : (after : List ℕ) (terms : List Term) (i : ℕ) (t : Term) → i < length terms
     → t ≡ get_or terms i t → slice_get (objects_at after terms) i ≡ Some (object_of after t)
@@ -245,3 +293,7 @@ pub placed_atom : (atoms : List fact.Atom) (place : ℕ) (x y : fact.Atom) → x
 placed_atom [] place x y e at = absurd (cc)
 placed_atom (a ∷ rest) zero x y e at = e ∙ same_Some a y at
 placed_atom (a ∷ rest) (suc place) x y e at = placed_atom rest place x y e at
+
+pub placed_fact : (facts : List Fact) (place : ℕ) (x y : Fact) → slice_get facts place ≡ Some x
+    → slice_get facts place ≡ Some y → x ≡ y
+placed_fact facts place x y here at = same_Some x y (sym here ∙ at)

@@ -11,18 +11,17 @@ ghost use Rattle.formula_memo.specs.Remembered.{StandsFor, truth_of};
 ghost use Rattle.formula_memo.specs.Rests.{AllRest, PartsRest, RestsWithin};
 ghost use Rattle.formula_memo.specs.Tries.{is_passed};
 
+use crate::choice::lead_for;
 use crate::memo::Memo;
 use crate::scene::Scene;
-use crate::tries::{lead_for, places, tried_object};
-use formula_eval::{Env, have_types, holds, object_of, objects_at};
+use crate::tries::{places, tried_object};
+use formula_eval::{Env, have_types, object_of, objects_at};
 use std::alloc::AllocError;
-use task_model::{
-    Atom, Derived, Fact, Formula, FormulaNode, Kind, Look, Obj, Role, Row, State, Task,
-};
+use task_model::{Atom, Derived, Fact, Formula, FormulaNode, Kind, Look, Obj, Role, Row};
 
 /// Whether the condition is true, whose predicates rest on derived predicates at most `depth` deep.
 #[cycle(truth)]
-fn truth<L: Look>(
+pub(crate) fn truth<L: Look>(
     scene: &Scene<'_, L>,
     memo: &mut Memo,
     depth: usize,
@@ -166,6 +165,7 @@ fn some_object<L: Look>(
 ) -> Result<bool, AllocError>
     requires fit { IsFit scene.now.task.now }
     requires slots { suc (first + length rest.now) ≤ 16 }
+    requires inside { first < length env.old }
     requires readable { is_readable scene.now.task.now.domain body.now ≡ true }
     requires rests { AllRest scene.now.task.now.domain depth body.now }
     requires stands { StandsFor scene.now.task.now.domain (L.known scene.now.look.now)
@@ -178,8 +178,8 @@ fn some_object<L: Look>(
         scene.now.state.now memo.new }
 {
     let lead = lead_for(scene, sort, first, body, env);
-    for place in 0..places(scene, sort, lead) {
-        let tried = tried_object(scene, sort, first, lead, place, env);
+    for place in 0..places(scene, sort, &lead) {
+        let tried = tried_object(scene, sort, first, &lead, place, env);
         let found = passes(scene, memo, depth, first, tried, rest, body, env)?;
         if found {
             return Ok(true);
@@ -342,73 +342,4 @@ fn follows_by<L: Look>(
     }
     let mut env = Env::new(args);
     Ok(truth(scene, memo, depth, &item.body, &mut env)?)
-}
-
-/// Whether the condition is true of the task, what is known and the state (PDDL 2.1, and PDDL 2.2
-/// for derived predicates), the variables having their objects in the slots. The slots are
-/// unchanged afterwards.
-///
-/// What the memo remembers of derived atoms isn't judged again, and what is judged of them is
-/// remembered. Fails only where memory is wanting.
-pub fn holds_memo<L: Look>(
-    task: &Task,
-    look: &L,
-    state: &State,
-    memo: &mut Memo,
-    formula: &Formula,
-    env: &mut Env,
-) -> Result<bool, AllocError>
-    requires fit { IsFit task.now }
-    requires readable { is_readable task.now.domain formula.now ≡ true }
-    requires stands { StandsFor task.now.domain (L.known look.now) state.now memo.old }
-    ensures value { IfOk result (λ value. value ≡ is_true task.now.domain (L.known look.now)
-        state.now formula.now env.old) }
-    ensures same { env.new ≡ env.old }
-    ensures stands { StandsFor task.now.domain (L.known look.now) state.now memo.new }
-{
-    let scene = Scene { task, look, state };
-    truth(&scene, memo, task.domain.derived.len(), formula, env)
-}
-
-/// Whether the condition is true, as `holds_memo` says. Where memory is wanting, what is judged
-/// isn't remembered, and this takes the longer.
-pub fn holds_with<L: Look>(
-    task: &Task,
-    look: &L,
-    state: &State,
-    memo: &mut Memo,
-    formula: &Formula,
-    env: &mut Env,
-) -> bool
-    requires fit { IsFit task.now }
-    requires readable { is_readable task.now.domain formula.now ≡ true }
-    requires stands { StandsFor task.now.domain (L.known look.now) state.now memo.old }
-    ensures value { result ≡ is_true task.now.domain (L.known look.now) state.now formula.now
-        env.old }
-    ensures same { env.new ≡ env.old }
-    ensures stands { StandsFor task.now.domain (L.known look.now) state.now memo.new }
-{
-    match holds_memo(task, look, state, memo, formula, env) {
-        Ok(value) => value,
-        Err(_) => holds(task, look, state, formula, env),
-    }
-}
-
-/// Whether the condition is true, as `holds` of `formula_eval` says: each derived atom is judged
-/// once. Where memory is wanting, it is judged anew wherever it stands, and this takes the longer.
-pub fn holds_once<L: Look>(
-    task: &Task,
-    look: &L,
-    state: &State,
-    formula: &Formula,
-    env: &mut Env,
-) -> bool
-    requires fit { IsFit task.now }
-    requires readable { is_readable task.now.domain formula.now ≡ true }
-    ensures value { result ≡ is_true task.now.domain (L.known look.now) state.now formula.now
-        env.old }
-    ensures same { env.new ≡ env.old }
-{
-    let mut memo = Memo::empty(state.allocator());
-    holds_with(task, look, state, &mut memo, formula, env)
 }

@@ -1,74 +1,42 @@
-//! Atoms that have to be in the state so that a condition is true.
-ghost use Rattle.std.specs.Prelude.{◌≡◌, true, ℕ, List, IfSome, Some, slice_get};
+//! Atoms that have to be true so that a condition is, and the objects that their terms can have.
+ghost use Rattle.std.specs.Prelude.{◌≡◌, true, ℕ, List, IfSome};
 ghost use Rattle.std.specs.List.{list_all};
-ghost use Rattle.task_model.specs.Fit.{IsFitDomain};
 ghost use Rattle.task_model.specs.Truth.{object_of as object_in, objects_at};
-ghost use Rattle.formula_eval.specs.Readable.{is_readable, is_readable_term};
-ghost use Rattle.formula_memo.specs.Tries.{IsLead, IsSameBelow};
+ghost use Rattle.formula_eval.specs.Readable.{is_readable_term};
+ghost use Rattle.formula_memo.specs.Tries.{IsSameBelow};
 
 use formula_eval::Env;
-use task_model::{Domain, Formula, FormulaNode, Obj, Role, Term};
+use task_model::{Obj, Term};
 
-/// An atom of a fluent that has to be in the state so that a condition is true, and the place of a
-/// slot among its terms.
+/// Where an atom has to be so that it is true.
+#[derive(Clone, Copy)]
+pub(crate) enum Among {
+    /// In the state, if its predicate is a fluent.
+    State,
+    /// Among the facts that have this object at this place, if its predicate is static.
+    Facts { at: usize, object: Obj },
+}
+
+/// An atom that has to be true so that a condition is, and the place of a slot among its terms.
 #[derive(Clone, Copy)]
 pub(crate) struct Lead<'a> {
     pub(crate) pred: u32,
     pub(crate) terms: &'a [Term],
     pub(crate) place: usize,
+    pub(crate) among: Among,
 }
 
-/// The place of the slot among the terms, if it is there.
-fn place_of(terms: &[Term], slot: u8) -> Option<usize>
-    ensures { IfSome result (λ place. slice_get terms.now place ≡ Some (Term.Slot slot)) }
+/// The object of the term, as far as the slots below this one say.
+pub(crate) fn filled(term: Term, slot: u8, env: &Env) -> Option<Obj>
+    requires { is_readable_term term ≡ true }
+    ensures { IfSome result (λ object. (after : List ℕ) → IsSameBelow slot env.now after
+        → object_in after term ≡ object) }
 {
-    for (place, term) in terms.iter().enumerate() {
-        if *term == Term::Slot(slot) {
-            return Some(place);
-        }
+    match term {
+        Term::Slot(other) if other < slot => Some(env.get(other)),
+        Term::Slot(_) => None,
+        Term::Object(object) => Some(object),
     }
-    None
-}
-
-/// The condition as a lead to the slot, if it is an atom of a fluent with that slot.
-fn lead_by<'a>(domain: &Domain, condition: &'a Formula, slot: u8) -> Option<Lead<'a>>
-    requires fit { IsFitDomain domain.now }
-    requires readable { is_readable domain.now condition.now ≡ true }
-    ensures { IfSome result (IsLead domain.now condition.now slot) }
-{
-    let FormulaNode::Atom { pred, args } = &condition.node else {
-        return None;
-    };
-    match domain.roles.as_slice()[*pred as usize] {
-        Role::Fluent => {
-            let terms = args.as_slice();
-            let place = place_of(terms, slot)?;
-            Some(Lead {
-                pred: *pred,
-                terms,
-                place,
-            })
-        }
-        Role::Static | Role::Derived => None,
-    }
-}
-
-/// The first lead to the slot by the condition itself or, where all of its parts have to be true,
-/// by one of them.
-pub(crate) fn lead_of<'a>(domain: &Domain, condition: &'a Formula, slot: u8) -> Option<Lead<'a>>
-    requires fit { IsFitDomain domain.now }
-    requires readable { is_readable domain.now condition.now ≡ true }
-    ensures { IfSome result (IsLead domain.now condition.now slot) }
-{
-    let FormulaNode::All(parts) = &condition.node else {
-        return lead_by(domain, condition, slot);
-    };
-    for part in parts.as_slice() {
-        if let Some(lead) = lead_by(domain, part, slot) {
-            return Some(lead);
-        }
-    }
-    None
 }
 
 /// Whether the term can be this object, as far as the slots below this one say.
@@ -77,9 +45,9 @@ fn can_be(term: Term, object: Obj, slot: u8, env: &Env) -> bool
     ensures { (after : List ℕ) → object ≡ object_in after term → IsSameBelow slot env.now after
         → result ≡ true }
 {
-    match term {
-        Term::Slot(other) => slot <= other || env.get(other) == object,
-        Term::Object(known) => known == object,
+    match filled(term, slot, env) {
+        Some(known) => known == object,
+        None => true,
     }
 }
 

@@ -1,12 +1,14 @@
 //! When conditions are true, where each derived atom is judged once.
 #![tactic(auto)]
 
-pub mod judge;
+mod choice;
+pub mod holds;
+mod judge;
 pub mod laws;
 mod lead;
 pub mod memo;
 mod scene;
 mod tries;
 
-pub use judge::{holds_memo, holds_once, holds_with};
+pub use holds::{holds_memo, holds_once, holds_with};
 pub use memo::Memo;

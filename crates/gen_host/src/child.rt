@@ -16,8 +16,8 @@ struct Running<P: OpenProcess> {
     output: P::Stdout,
 }
 
-/// A program of its own: its standard input and output are pipes, and its standard error is ours. It
-/// tells nothing of what is said.
+/// A program of its own: its standard input and output are pipes, and its standard error is ours.
+/// It tells nothing of what is said.
 ///
 /// A program that can't be started, one that closes its output or ends, and one that takes no bytes
 /// since it closed its input or ended, are faults. A call waits as long as the program neither

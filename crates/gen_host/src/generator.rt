@@ -49,12 +49,12 @@ pub trait Generator: Drop {
             (λ _. spoken self.new ≡ spoken self.old) }
         ensures cause { HasCause Failed last_count (faults self.old) (faults self.new) result };
 
-    /// Puts bytes of it at the beginning of the room, and answers how many: at least 1. There has to
-    /// be room, and it has to run.
+    /// Puts bytes of it at the beginning of the room, and answers how many: at least 1. There has
+    /// to be room, and it has to run.
     ///
     /// # Errors
-    /// `Failed` only where the count of faults rose in this call, the end of its output being such a
-    /// fault; `Memory`. It still runs.
+    /// `Failed` only where the count of faults rose in this call, the end of its output being such
+    /// a fault; `Memory`. It still runs.
     fn receive(&mut self, room: &mut [u8]) -> Result<usize, HostFault>
         requires some { 0 < length room.old }
         requires runs { running self.old ≡ true }

@@ -5,7 +5,8 @@ ghost use Rattle.gen_host.specs.Members.{all_idle};
 use crate::Generator;
 use std::alloc::AllocError;
 
-/// Adds a generator that doesn't run behind others that don't run. Where memory is wanting they stay as they were.
+/// Adds a generator that doesn't run behind others that don't run. Where memory is wanting they
+/// stay as they were.
 pub fn add_idle(
     members: &mut Vec<Box<dyn Generator>>,
     member: Box<dyn Generator>,

@@ -10,8 +10,8 @@ use crate::values::number_of;
 /// What an answer to a request may be besides the word `end`.
 #[derive(Clone, Copy, Debug, PartialEq, Eq)]
 pub enum Wanted {
-    /// `yield` and one tuple of `width` values; if `several`, 1 to 16 of them, parted by fields `|`. Tuples of no values
-    /// aren't parted, so there is one.
+    /// `yield` and one tuple of `width` values; if `several`, 1 to 16 of them, parted by fields
+    /// `|`. Tuples of no values aren't parted, so there is one.
     Outputs {
         /// How many outputs the stream has, at most 8.
         width: usize,
@@ -48,8 +48,9 @@ pub enum Answer {
     Bad(Why),
 }
 
-/// What a line, without its line feed, says to a request of this kind. It has at most 1,024 bytes, and its fields are
-/// parted by spaces (this project's protocol). `Bad` never comes with `Why::TooLong`.
+/// What a line, without its line feed, says to a request of this kind. It has at most 1,024 bytes,
+/// and its fields are parted by spaces (this project's protocol). `Bad` never comes with
+/// `Why::TooLong`.
 pub fn answer_of(line: &[u8], wanted: Wanted) -> Answer
     requires line { length line.now ≤ 1024 }
     requires wanted { IsNarrow wanted }

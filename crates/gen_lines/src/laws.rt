@@ -1,8 +1,8 @@
 //! Laws of the definitions in `specs/`, each the contract of a function that does nothing.
 ghost use Rattle.gen_lines.specs.Laws.{LinesIgnoreCutting, NumbersAreSmall, RequestsReadBack, WordsAreFields, YieldsAreRight};
 
-/// However bytes are cut into pushes, and whenever lines are taken, the lines taken and those still held are the lines
-/// of all the bytes.
+/// However bytes are cut into pushes, and whenever lines are taken, the lines taken and those still
+/// held are the lines of all the bytes.
 pub fn lines_ignore_cutting()
     ensures { LinesIgnoreCutting }
 {}
@@ -12,7 +12,8 @@ pub fn words_are_fields()
     ensures { WordsAreFields }
 {}
 
-/// A yield has 1 to 16 tuples, each of as many values as are wanted; more than one only where several are.
+/// A yield has 1 to 16 tuples, each of as many values as are wanted; more than one only where
+/// several are.
 pub fn yields_are_right()
     ensures { YieldsAreRight }
 {}
@@ -22,7 +23,8 @@ pub fn numbers_are_small()
     ensures { NumbersAreSmall }
 {}
 
-/// A request is one line, whatever follows it, and its fields are its words, where names are printed bytes.
+/// A request is one line, whatever follows it, and its fields are its words, where names are
+/// printed bytes.
 pub fn requests_read_back()
     ensures { RequestsReadBack }
 {}

@@ -41,8 +41,8 @@ pub enum Seen<'a> {
 }
 
 impl LineBuf {
-    /// A buffer that holds nothing and has room for [`LINE_BYTES`] bytes, for which no later call takes memory. Fails only
-    /// where memory is wanting.
+    /// A buffer that holds nothing and has room for [`LINE_BYTES`] bytes, for which no later call
+    /// takes memory. Fails only where memory is wanting.
     pub fn new(alloc: Global) -> Result<LineBuf, AllocError>
         ensures { IfOk result (λ b. b ≡ []) }
     {

@@ -5,8 +5,9 @@ ghost use Rattle.gen_lines.specs.Request.{IsNamed, request_of};
 use std::alloc::{AllocError, Global};
 use task_model::{Instance, Look, Task};
 
-/// The request for the next answer of an instance, of which it has given `number` tuples: the line `next`, that number,
-/// the stream and the inputs by name, with single spaces, and its line feed. Fails only where memory is wanting.
+/// The request for the next answer of an instance, of which it has given `number` tuples: the line
+/// `next`, that number, the stream and the inputs by name, with single spaces, and its line feed.
+/// Fails only where memory is wanting.
 pub fn request_text<L: Look>(
     alloc: Global,
     task: &Task,

@@ -28,7 +28,8 @@ impl Spans {
         usize::from(self.tuples) * usize::from(self.width)
     }
 
-    /// The bytes of a value of the line that the spans are of. Values count from 0, tuple after tuple.
+    /// The bytes of a value of the line that the spans are of. Values count from 0, tuple after
+    /// tuple.
     pub fn text<'a>(&self, line: &'a [u8], value: usize) -> &'a [u8]
         requires line { LieIn line.now self.now }
         requires value { value < value_count self.now }
@@ -42,7 +43,8 @@ impl Spans {
 /// The most tuples that a yield may hold.
 const TUPLES: u8 = 16;
 
-/// How many tuples the fields from a place on make, if each has this many values and there aren't too many.
+/// How many tuples the fields from a place on make, if each has this many values and there aren't
+/// too many.
 pub(crate) fn count_tuples(line: &[u8], from: usize, width: usize, bars: bool) -> Option<u8>
     requires { from ≤ length line.now }
     ensures { result ≡ count_of width (parted bars (fields (drop from line.now))) }

@@ -18,8 +18,8 @@ pub(crate) fn is_bar(field: &[u8]) -> bool
     field == b"|".as_slice()
 }
 
-/// Whether a field is a value: one to 64 visible bytes of ASCII, none of them a bracket, `;`, `#`, `@` or `|`. (PDDLStream
-/// 2020 gives values any form; the bytes are this project's.)
+/// Whether a field is a value: one to 64 visible bytes of ASCII, none of them a bracket, `;`, `#`,
+/// `@` or `|`. (PDDLStream 2020 gives values any form; the bytes are this project's.)
 #[tactic(auto, unfolding(crate::specs::Reply::is_value))]
 pub fn is_value(field: &[u8]) -> bool
     ensures { result ≡ is_value field.now }
@@ -39,7 +39,8 @@ fn is_value_byte(b: u8) -> bool
     matches!(b, b'!'..=b'~') && !matches!(b, b'(' | b')' | b';' | b'#' | b'@' | b'|')
 }
 
-/// The number that a field writes, if it is digits alone and the number is at most [`LARGEST_NUMBER`].
+/// The number that a field writes, if it is digits alone and the number is at most
+/// [`LARGEST_NUMBER`].
 #[tactic(auto, unfolding(crate::specs::Reply::is_number))]
 pub(crate) fn number_of(field: &[u8]) -> Option<u32>
     ensures { result ≡ (if is_number field.now then Some (digits_value 10 field.now) else None) }

@@ -1,5 +1,5 @@
-//! A generator for blocks on a grid: it reads the grid at the path that is its one word, and answers each line of standard
-//! input by one line.
+//! A generator for blocks on a grid: it reads the grid at the path that is its one word, and
+//! answers each line of standard input by one line.
 #![tactic(auto)]
 
 use grid_world::{GridStatus, serve};

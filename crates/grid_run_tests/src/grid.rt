@@ -139,7 +139,8 @@ fn round_at(level: &[Ask], place: usize, workers: usize) -> &[Ask] {
     level.get(place..end).unwrap_or(&[])
 }
 
-/// The lines of a level, whose first request has this number: rounds of as many requests as there are workers.
+/// The lines of a level, whose first request has this number: rounds of as many requests as there
+/// are workers.
 fn push_level(
     alloc: Global,
     text: &mut String,
@@ -254,7 +255,8 @@ fn push_share(text: &mut Vec<u8>, level: &[Ask], child: usize) -> Result<(), All
     Ok(())
 }
 
-/// What one of three children says. The first two say nothing before a line was written to the third.
+/// What one of three children says. The first two say nothing before a line was written to the
+/// third.
 fn share(alloc: Global, child: usize) -> Result<Script, AllocError> {
     let mut bytes = Vec::new(alloc);
     push_share(&mut bytes, &FIRST, child)?;

@@ -14,7 +14,8 @@ fn words(alloc: Global, number: u32) -> Result<Vec<String>, AllocError> {
     Ok(words)
 }
 
-/// What `generate N` writes, and how it ends, where children answer as the grid of that number does.
+/// What `generate N` writes, and how it ends, where children answer as the grid of that number
+/// does.
 fn made(rt: &impl Abort, alloc: Global, number: u32) -> Result<(Vec<u8>, Status), Fail> {
     assert!(rt; 1 <= number && number <= 12);
     let task = grid_task(alloc, number)?;

@@ -106,7 +106,8 @@ const DUPLICATE: [Row; 4] = [
     ),
 ];
 
-/// Lines with two faults, of which the first kind is told, and files with two faulty lines, of which the first is told.
+/// Lines with two faults, of which the first kind is told, and files with two faulty lines, of
+/// which the first is told.
 const PAIRS: [(&'static str, u32, GridKind); 9] = [
     ("grid 0", 1, GridKind::Form),
     ("grid 5 5\nobstacle 9 9 9", 2, GridKind::Form),
@@ -165,7 +166,8 @@ fn of_two_faults_the_first_is_told(rt: HostRuntime) -> Result<(), Fail> {
     Ok(())
 }
 
-/// A grid file with so many lines behind a block and a region, each with a number between a word and a rest.
+/// A grid file with so many lines behind a block and a region, each with a number between a word
+/// and a rest.
 fn many(alloc: Global, word: &str, count: u32, rest: &str) -> Result<String, AllocError> {
     let mut text = String::from_str(alloc, "grid 1000 5\nblock x 1 1 0 0\nregion y 0 0 1 1\n")?;
     for number in 0..count {

@@ -22,7 +22,8 @@ fn words(alloc: Global, path: &str) -> Result<Vec<String>, AllocError> {
     Ok(words)
 }
 
-/// A source of these bytes, which come one by one as long as there are cuts. The call with this number fails.
+/// A source of these bytes, which come one by one as long as there are cuts. The call with this
+/// number fails.
 fn source(
     alloc: Global,
     bytes: &[u8],
@@ -37,7 +38,8 @@ fn source(
     ))
 }
 
-/// What a run over a grid file, an input and a sink with some room ends with, and what the sink took.
+/// What a run over a grid file, an input and a sink with some room ends with, and what the sink
+/// took.
 fn run(
     alloc: Global,
     grid: &[u8],
@@ -142,7 +144,8 @@ fn stretched(
     Ok(bytes)
 }
 
-/// What stands before and behind so many letters in the input, how the program ends, and what it answers.
+/// What stands before and behind so many letters in the input, how the program ends, and what it
+/// answers.
 type Long = (&'static str, usize, &'static str, GridStatus, &'static str);
 
 const LONG: [Long; 6] = [

@@ -22,8 +22,8 @@ pub(crate) enum EntrySort {
     Obstacle,
 }
 
-/// The words of a line by what they mean. A line `grid W H` is about the rectangle of the whole grid, whose corner is
-/// written nowhere and stands here as 0; it and obstacles have an empty name.
+/// The words of a line by what they mean. A line `grid W H` is about the rectangle of the whole
+/// grid, whose corner is written nowhere and stands here as 0; it and obstacles have an empty name.
 #[derive(Drop)]
 pub(crate) struct Entry<'a> {
     sort: EntrySort,
@@ -162,8 +162,8 @@ fn obstacle_of(given: &[u8]) -> Option<Entry<'_>>
     })
 }
 
-/// The most cells that a line's rectangle may be wide or high. A grid has its own limit; for others it is what four digits
-/// write.
+/// The most cells that a line's rectangle may be wide or high. A grid has its own limit; for others
+/// it is what four digits write.
 fn most_extent(sort: EntrySort) -> u32
     ensures { result ≡ specs.most_extent sort }
 {

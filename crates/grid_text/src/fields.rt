@@ -4,8 +4,8 @@ ghost use Rattle.std.specs.List.{position_or_len};
 ghost use Rattle.gen_lines.specs.Reply.{fields, is_space};
 ghost use Rattle.grid_text.specs.Entries.{four_of};
 
-/// A line's first field and what stands behind it, or None where it has none. Fields are the longest runs of bytes other
-/// than spaces.
+/// A line's first field and what stands behind it, or None where it has none. Fields are the
+/// longest runs of bytes other than spaces.
 pub fn first_field(line: &[u8]) -> Option<(&[u8], &[u8])>
     ensures { MatchOption result (fields line.now ≡ [])
         (λ f. fields line.now ≡ f.0.now ∷ fields f.1.now) }

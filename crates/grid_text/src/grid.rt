@@ -209,7 +209,8 @@ impl Grid {
     /// The entry with its numbers read.
     ///
     /// # Errors
-    /// The first of the faults of its place among the lines, its numbers, its cells, its name and its number.
+    /// The first of the faults of its place among the lines, its numbers, its cells, its name and
+    /// its number.
     #[tactic(auto, unfolding(crate::specs::Grids::entry_fault))]
     fn checked<'a>(&self, entry: &Entry<'a>) -> Result<Item<'a>, GridKind>
         ensures { MatchResult result

@@ -1,7 +1,7 @@
 //! The grid of blocks as a text: its reader, and the task of each size.
 //!
-//! [`read_grid`] reads a grid file or refuses it with its first faulty line. [`grid_task`] makes the four texts of a task
-//! from a number. The forms are this project's.
+//! [`read_grid`] reads a grid file or refuses it with its first faulty line. [`grid_task`] makes
+//! the four texts of a task from a number. The forms are this project's.
 #![tactic(auto)]
 
 mod entry;

@@ -6,7 +6,8 @@ ghost use Rattle.task_model.specs.Fit as fit;
 /// The longest name, in bytes.
 const NAME_BYTES: usize = 255;
 
-/// Whether the field is a name in lower case: a letter and then letters, digits, `-` and `_`, at most 255 bytes.
+/// Whether the field is a name in lower case: a letter and then letters, digits, `-` and `_`, at
+/// most 255 bytes.
 pub(crate) fn is_name(field: &[u8]) -> bool
     ensures { result ≡ fit.is_name field.now }
 {

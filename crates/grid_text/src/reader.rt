@@ -7,13 +7,14 @@ use crate::grid::Grid;
 use crate::lines::{first_line, is_bare};
 use std::alloc::Global;
 
-/// The grid that a file says (the form is this project's). Lines end with a line feed, one carriage return before it
-/// dropped; the last may lack it. Empty lines and those that begin with `;` are passed over. The first other line is
-/// `grid W H`, and then come, in any order, `block NAME w h x y`, `region NAME x y w h` and `obstacle x y w h`.
+/// The grid that a file says (the form is this project's). Lines end with a line feed, one carriage
+/// return before it dropped; the last may lack it. Empty lines and those that begin with `;` are
+/// passed over. The first other line is `grid W H`, and then come, in any order, `block NAME w h x
+/// y`, `region NAME x y w h` and `obstacle x y w h`.
 ///
 /// # Errors
-/// The first line with a fault, from 1, and its first fault in the order of [`GridKind`]; `Form` at line 1 where all lines
-/// are passed over. Or `Memory`.
+/// The first line with a fault, from 1, and its first fault in the order of [`GridKind`]; `Form` at
+/// line 1 where all lines are passed over. Or `Memory`.
 pub fn read_grid(alloc: Global, bytes: &[u8]) -> Result<Grid, GridFault>
     requires { length bytes.now < 2 ^ 31 }
     ensures grid { IfOk result (IsGridOf bytes.now) }

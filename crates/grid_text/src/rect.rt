@@ -2,7 +2,8 @@
 ghost use Rattle.std.specs.Prelude.{◌≡◌, ◌+◌};
 ghost use Rattle.grid_text.specs.Rects.{is_within, meets};
 
-/// A rectangle of cells: its corner with the least x and y, and how many cells it is wide and high. y grows to the south.
+/// A rectangle of cells: its corner with the least x and y, and how many cells it is wide and high.
+/// y grows to the south.
 #[derive(Clone, Copy, Debug, PartialEq, Eq)]
 pub struct Rect {
     /// The least x of its cells.

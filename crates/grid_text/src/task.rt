@@ -5,7 +5,8 @@ ghost use Rattle.grid_text.specs.Tasks as specs;
 use std::alloc::{AllocError, Global};
 use task_model::Seq;
 
-/// The domain of every grid task: blocks are picked from their sides and put where no other block is in the way.
+/// The domain of every grid task: blocks are picked from their sides and put where no other block
+/// is in the way.
 const DOMAIN: &[u8] = b"(define (domain grid)
   (:requirements :strips :typing :negative-preconditions :derived-predicates)
   (:types block region pose side cell)
@@ -29,8 +30,8 @@ const DOMAIN: &[u8] = b"(define (domain grid)
     :effect (and (at ?b ?p) (free) (not (holding ?b ?g)))))
 ";
 
-/// The streams of every grid task: where a block may lie in a region, its sides, the cell from which it is reached, and
-/// that two blocks don't overlap.
+/// The streams of every grid task: where a block may lie in a region, its sides, the cell from
+/// which it is reached, and that two blocks don't overlap.
 const STREAMS: &[u8] = b"(define (stream grid)
   (:stream place :inputs (?b - block ?r - region) :domain (fits ?b ?r)
     :outputs (?p - pose) :certified (and (pose ?b ?p) (in ?b ?p ?r)))
@@ -57,8 +58,8 @@ pub struct GridTask {
     pub grid: Seq<u8>,
 }
 
-/// The task of a number, from 1 to 12: so many blocks, each of which has to be put into its own region of two cells, one
-/// of them an obstacle. Fails only where memory is wanting.
+/// The task of a number, from 1 to 12: so many blocks, each of which has to be put into its own
+/// region of two cells, one of them an obstacle. Fails only where memory is wanting.
 pub fn grid_task(alloc: Global, number: u32) -> Result<GridTask, AllocError>
     requires { (1 ≤ number) × (number ≤ 12) }
     ensures { IfOk result (λ task. task ≡ specs.grid_task number) }

@@ -7,7 +7,7 @@ use Rattle.lemmas.specs.Lists.{numbers_from}
 use Rattle.grid_text.specs.Grids.{GridFile}
 use Rattle.grid_text.specs.declared.grid.Block.{Block}
 use Rattle.grid_text.specs.declared.rect.Rect.{Rect}
-use Rattle.grid_world.specs.Answers.{corners, may_lie, nth, pose_answer, poses_at, row_corners}
+use Rattle.grid_world.specs.Answers.{may_lie, nth, pose_answer, poses_at, row_corners}
 use Rattle.grid_world.specs.declared.answer.GridAnswer.{GridAnswer}
 use Rattle.grid_world.specs.declared.words.Corner.{Corner}
 
@@ -34,20 +34,6 @@ row_from grid block region y column =
 abbrev pub rows_from : GridFile → Block → Rect → ℕ → List GridAnswer
 rows_from grid block region row =
     poses_at grid block region (flat_map (row_corners region.x region.w) (numbers_from (region.y + row) (region.h - row)))
-
-pub whole_row : (grid : GridFile) (block : Block) (region : Rect) (y : ℕ)
-    → row_from grid block region y 0 ≡ poses_at grid block region (row_corners region.x region.w y)
-whole_row grid block region y =
-    let a : region.x + 0 ≡ region.x = omega arith in
-    let b : region.w - 0 ≡ region.w = omega arith in
-    rw (a, b) refl
-
-pub whole_region : (grid : GridFile) (block : Block) (region : Rect)
-    → rows_from grid block region 0 ≡ poses_at grid block region (corners region)
-whole_region grid block region =
-    let a : region.y + 0 ≡ region.y = omega arith in
-    let b : region.h - 0 ≡ region.h = omega arith in
-    rw (a, b) refl
 
 -- the answer at a place of all is that at what is left in the rest, whatever comes behind
 abbrev pub Leaves : List GridAnswer → ℕ → ℕ → List GridAnswer → Type 0
@@ -144,7 +130,3 @@ rows_more grid block region row h =
     ap (λ ys. poses_at grid block region (flat_map (row_corners region.x region.w) ys)) (numbers_at region.y region.h row h)
     ∙ poses_append grid block region (row_corners region.x region.w (region.y + row))
     (flat_map (row_corners region.x region.w) (numbers_from (region.y + (row + 1)) (region.h - (row + 1))))
-
-pub rows_none : (grid : GridFile) (block : Block) (region : Rect) (row : ℕ) → region.h ≤ row
-    → rows_from grid block region row ≡ []
-rows_none grid block region row h = rw (numbers_none region.y region.h row h) refl

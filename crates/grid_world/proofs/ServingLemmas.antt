@@ -1,9 +1,9 @@
 -- Lines of a source are answered one by one.
-use Rattle.std.proofs.Common.{◌≡◌, ℕ, ◌+◌, ◌<◌, ◌≤◌, List, [], ◌∷◌, ◌++◌, length, drop, take, refl, sym, ap, ◌∙◌, subst, arith, Option, Some, None, position, append-nil, append_assoc, length-append, get_or, map}
+use Rattle.std.proofs.Common.{◌≡◌, ℕ, ◌+◌, ◌<◌, ◌≤◌, List, [], ◌∷◌, ◌++◌, length, drop, take, refl, sym, ap, ◌∙◌, subst, arith, Option, Some, None, position, append-nil, length-append, get_or, map}
 use Rattle.std.specs.Io.BufRead.{strip_last}
-use Rattle.std.specs.Io.KnownBytes.{Appends, Consumes, IsAtEnd, Keeps}
+use Rattle.std.specs.Io.KnownBytes.{Appends, Consumes, IsAtEnd}
 use Rattle.std.specs.List.{after_first}
-use Rattle.std.proofs.KnownBytes.{Appends-nil, Appends-trans, Consumes-kept, Consumes-nil, Consumes-trans}
+use Rattle.std.proofs.KnownBytes.{Appends-nil, Appends-trans, Consumes-nil, Consumes-trans}
 use Rattle.std.proofs.lemmas.Grind.{flat_map-append}
 use Rattle.std.proofs.Math.Seq.{take-append-add}
 use Rattle.gen_lines.specs.Cutting.{Cut, fresh, pushed, took}
@@ -13,26 +13,10 @@ use Rattle.gen_lines.proofs.CuttingLemmas.{whole}
 use Rattle.grid_text.specs.Grids.{GridFile}
 use Rattle.grid_world.specs.AnswerLines.{line_of_answer, replies_to, answer_to_line}
 use Rattle.grid_world.specs.Answers.{answer_in}
-use Rattle.grid_world.specs.Filling.{Came, HoldsMore}
+use Rattle.grid_world.specs.Filling.{Came}
 use Rattle.grid_world.specs.Serving.{AnswersLines, EndsSo, Wrote}
 use Rattle.grid_world.specs.declared.status.GridStatus.{GridStatus}
-use Rattle.grid_world.specs.declared.status.GridStatus.TheVariants.{Done, Limit, Input, ReadFault, WriteFault, Memory}
-
-pub came_none : (a : Option (List ℕ)) (held : List ℕ) → Came a a held held
-came_none a held = record { more = []; held = sym (append-nil held); from = Consumes-nil a }
-
-pub came_more : (a b c : Option (List ℕ)) (old mid new : List ℕ) (n : ℕ) → Came a b old mid
-    → HoldsMore n b c mid new → Came a c old new
-came_more a b c old mid new n p q = record {
-  more = p.more ++ q.more;
-  held = q.held ∙ ap (λ h. h ++ q.more) p.held ∙ append_assoc old p.more q.more;
-  from = Consumes-trans a b c p.more q.more p.from q.from;
-}
-
-pub came_kept : (a b c : Option (List ℕ)) (old mid new : List ℕ) → Came a b old mid → new ≡ mid
-    → Keeps b c → Came a c old new
-came_kept a b c old mid new p e k =
-    record { more = p.more; held = e ∙ p.held; from = Consumes-kept a b c p.more p.from k }
+use Rattle.grid_world.specs.declared.status.GridStatus.TheVariants.{Done, Limit, Input, ReadFault, WriteFault}
 
 -- so many lines were answered, and these bytes are held
 pub record Stands (grid : GridFile) (before after old new : Option (List ℕ)) (held : List ℕ) (n : ℕ) : Type 0 where
@@ -141,19 +125,6 @@ pub ends_read : (grid : GridFile) (before after old new : Option (List ℕ)) (he
     → AnswersLines grid before after old new ReadFault
 ends_read grid before after old new held n s few none =
     ends_with grid before after old new held n ReadFault s few (λ a w. w) (λ a r c h. lines_none held none)
-
-pub ends_memory : (grid : GridFile) (left taken : Option (List ℕ))
-    → AnswersLines grid left left taken taken Memory
-ends_memory grid left taken = record {
-  read = [];
-  from = Consumes-nil left;
-  answered = [];
-  behind = [];
-  lines = refl;
-  few = omega arith;
-  wrote = Appends-nil taken;
-  ends = refl;
-}
 
 part_more : (text reply : List ℕ) (n : ℕ)
     → take (length text + n) (text ++ reply) ≡ text ++ take n reply

@@ -91,12 +91,6 @@ answers_feed grid bytes =
     ∙ flat_map-append (answer_to_line grid) (lines_of bytes) (strip_last 13 (unfinished bytes) ∷ [])
     ∙ ap (λ t. answers_text grid bytes ++ t) (append-nil (answer_to_line grid (strip_last 13 (unfinished bytes))))
 
-pub goes_first : (grid : GridFile) (written left : List ℕ) → unfinished written ≡ left → SessionGoesOn grid written [] left []
-goes_first grid written left e = record {
-  left_is = sym e ∙ ap unfinished (sym (append-nil written));
-  answers_are = ap (answers_text grid) (append-nil written) ∙ sym (append-nil (answers_text grid written));
-}
-
 feed_told : (b : ℕ) → (b == 10) ≡ true → b ≡ 10
 feed_told b e = grind (arith, nat_tests, e)
 

@@ -29,8 +29,9 @@ impl<'a> Model for Ask<'a> {
     ghost view = { λ a. record { turn = a.turn; stream = a.stream; inputs = fields a.inputs.now } };
 }
 
-/// The answer to a request, which is a line without its line feed: `next K STREAM INPUTS`. It is the K-th answer, from 0,
-/// of the stream with these inputs, and `End` where there are no more and where the line isn't such a request.
+/// The answer to a request, which is a line without its line feed: `next K STREAM INPUTS`. It is
+/// the K-th answer, from 0, of the stream with these inputs, and `End` where there are no more and
+/// where the line isn't such a request.
 pub fn grid_answer(grid: &Grid, request: &[u8]) -> GridAnswer
     ensures { result ≡ specs.answer_in grid.now request.now }
 {

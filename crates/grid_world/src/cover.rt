@@ -9,8 +9,9 @@ use grid_text::{Block, Rect};
 /// The most corners of a row: a grid is at most so many cells wide.
 pub(crate) const MOST_COLUMNS: usize = 1000;
 
-/// For each column of a row of corners in a region, a column before which the block can't lie: if it is past the column
-/// itself, the block with its corner there meets an obstacle, and else it meets none.
+/// For each column of a row of corners in a region, a column before which the block can't lie: if
+/// it is past the column itself, the block with its corner there meets an obstacle, and else it
+/// meets none.
 pub(crate) fn row_cover(
     obstacles: &[Rect],
     block: &Block,

@@ -17,8 +17,9 @@ use std::marker::Model;
 /// A text of so many bytes is too long.
 const TEXT_BYTES: usize = 1 << 31;
 
-/// The generator of the grid in the process. It tells what was said with it, which is the dialogue of its grid: what was
-/// read from it is the front of the answers to the lines that were written to it.
+/// The generator of the grid in the process. It tells what was said with it, which is the dialogue
+/// of its grid: what was read from it is the front of the answers to the lines that were written to
+/// it.
 #[derive(Drop)]
 pub struct GridGen {
     alloc: Global,
@@ -66,7 +67,8 @@ impl Generator for GridGen {
 
     ghost spoken = { λ g. Some (talk_of g.session) };
 
-    /// The words are `@grid` and the text of a grid, shorter than 2^31 bytes. `Failed` where they aren't.
+    /// The words are `@grid` and the text of a grid, shorter than 2^31 bytes. `Failed` where they
+    /// aren't.
     fn start(&mut self, argv: &[String]) -> Result<(), HostFault>
         requires words { 0 < length argv.now }
         requires idle { is_session_running self.old.session ≡ false }

@@ -1,8 +1,9 @@
-//! The generator of the grid of blocks: its answers, the generator in the process, and the program over any source and
-//! sink.
+//! The generator of the grid of blocks: its answers, the generator in the process, and the program
+//! over any source and sink.
 //!
-//! [`grid_answer`] answers one request. [`GridGen`] is a child of a host, [`GridReplies`] answers for children in tests,
-//! and [`serve`] is all that the program does. The streams and their answers are this project's.
+//! [`grid_answer`] answers one request. [`GridGen`] is a child of a host, [`GridReplies`] answers
+//! for children in tests, and [`serve`] is all that the program does. The streams and their answers
+//! are this project's.
 #![tactic(auto)]
 
 mod answer;

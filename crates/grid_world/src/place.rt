@@ -14,8 +14,8 @@ use crate::inputs::two_fields;
 use crate::words::{Corner, block_named, rect_at, region_named};
 use grid_text::{Block, Grid, Rect};
 
-/// The answer for `BLOCK REGION`: a corner with which the block lies wholly in the region and shares no cell with an
-/// obstacle, by y and then by x.
+/// The answer for `BLOCK REGION`: a corner with which the block lies wholly in the region and
+/// shares no cell with an obstacle, by y and then by x.
 pub(crate) fn place_answer(grid: &Grid, turn: u32, inputs: &[u8]) -> GridAnswer
     ensures { result ≡ specs.nth turn (specs.poses_of grid.now (two_of (fields inputs.now))) }
 {
@@ -78,7 +78,8 @@ fn pose_in_row(grid: &Grid, block: &Block, region: &Rect, y: u32, turn: u32) -> 
     InRow::Left(left)
 }
 
-/// Whether the block with its corner in this column lies wholly in the region, and no number past the column is noted there.
+/// Whether the block with its corner in this column lies wholly in the region, and no number past
+/// the column is noted there.
 fn is_free(ends: &[u64; MOST_COLUMNS], block: &Block, region: &Rect, y: u32, column: u32) -> bool
     requires small { LiesInLargest region.now }
     requires within { column < region.now.w }

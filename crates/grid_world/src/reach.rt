@@ -17,8 +17,8 @@ pub(crate) struct WideCell {
     y: u64,
 }
 
-/// The answer for `BLOCK POSE SIDE`: the cell beside the block from which it is reached, if it lies in the grid and in no
-/// obstacle.
+/// The answer for `BLOCK POSE SIDE`: the cell beside the block from which it is reached, if it lies
+/// in the grid and in no obstacle.
 pub(crate) fn reach_answer(grid: &Grid, turn: u32, inputs: &[u8]) -> GridAnswer
     ensures { result ≡ specs.nth turn
         (option_to_list (specs.hand_of grid.now (three_of (fields inputs.now)))) }

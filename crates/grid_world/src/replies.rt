@@ -8,8 +8,9 @@ use grid_text::{Grid, without_return};
 use io_world::AnswerBy;
 use std::alloc::{AllocError, Global};
 
-/// Answers each request line as [`GridGen`](crate::GridGen) and [`serve`](crate::serve) do: one carriage return at its end
-/// is dropped first. With it a host that answers by a function plays the grid.
+/// Answers each request line as [`GridGen`](crate::GridGen) and [`serve`](crate::serve) do: one
+/// carriage return at its end is dropped first. With it a host that answers by a function plays the
+/// grid.
 #[derive(Clone, Copy)]
 pub struct GridReplies<'a> {
     grid: &'a Grid,

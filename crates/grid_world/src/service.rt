@@ -15,8 +15,9 @@ const GRID_BYTES: usize = 4_194_304;
 /// How many lines are answered at most.
 pub const MOST_LINES: usize = 100_000;
 
-/// Reads the grid at the one path that the words are, and then answers each line of the source by one line, written at once,
-/// until the source ends or 100,000 lines were answered. Bytes behind the last line feed are no line.
+/// Reads the grid at the one path that the words are, and then answers each line of the source by
+/// one line, written at once, until the source ends or 100,000 lines were answered. Bytes behind
+/// the last line feed are no line.
 pub fn serve<F: Files, S: Source, O: Sink>(
     alloc: Global,
     words: &[String],
@@ -24,7 +25,8 @@ pub fn serve<F: Files, S: Source, O: Sink>(
     source: &mut S,
     out: &mut O,
 ) -> GridStatus
-    // By the words, what the read of the file answered, the file's bytes, and how the answers ended.
+    // By the words, what the read of the file answered, the file's bytes, and how the answers
+    // ended.
     ensures { Serves (record {
       told = F.told files.old;
       asked_old = F.asked files.old;

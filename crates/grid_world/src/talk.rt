@@ -9,8 +9,8 @@ use grid_text::{Grid, without_return};
 use std::alloc::{AllocError, Global};
 use std::marker::Model;
 
-/// A grid, what was written to it and how much of its answers was given. All of it is kept, so that what was said is what
-/// it is seen as.
+/// A grid, what was written to it and how much of its answers was given. All of it is kept, so that
+/// what was said is what it is seen as.
 #[derive(Drop)]
 pub(crate) struct Session {
     running: bool,
@@ -59,7 +59,8 @@ impl Session {
         }
     }
 
-    /// Takes these bytes, and answers each line that became whole. Fails only where memory is wanting; nothing changes then.
+    /// Takes these bytes, and answers each line that became whole. Fails only where memory is
+    /// wanting; nothing changes then.
     pub(crate) fn send(&mut self, alloc: Global, bytes: &[u8]) -> Result<(), AllocError>
         ensures sent { OnOk result
             (self.new ≡ record self.old { written = self.old.written ++ bytes.now }) }
@@ -86,7 +87,8 @@ impl Session {
         self.answers.len() - self.given
     }
 
-    /// Gives the first bytes of the answers that are left, as many as there is room for, and says how many.
+    /// Gives the first bytes of the answers that are left, as many as there is room for, and says
+    /// how many.
     pub(crate) fn give(&mut self, room: &mut [u8]) -> usize
         ensures count { result ≡ min (length (left_of self.old)) (length room.old) }
         ensures given { self.new ≡ record self.old { given = self.old.given + result } }

@@ -7,9 +7,9 @@ use crate::steps::{Scene, add_steps};
 use std::alloc::{AllocError, Global};
 use task_model::{GroundAction, Look, State, Task};
 
-/// The actions that are applicable in the state with their arguments (PDDL 2.1, with costs as in IPC 2008):
-/// each once, in the order of the actions and then of the objects' numbers, one after another. Fails only
-/// where memory is wanting.
+/// The actions that are applicable in the state with their arguments (PDDL 2.1, with costs as in
+/// IPC 2008): each once, in the order of the actions and then of the objects' numbers, one after
+/// another. Fails only where memory is wanting.
 pub fn applicable<L: Look>(
     alloc: Global,
     task: &Task,

@@ -9,7 +9,8 @@ use std::alloc::{AllocError, Global};
 use std::slice;
 use task_model::{Domain, Formula, FormulaNode, Role};
 
-/// The parts that all have to be true where the condition is made of such, and else the condition alone.
+/// The parts that all have to be true where the condition is made of such, and else the condition
+/// alone.
 pub fn tops(condition: &Formula) -> &[Formula]
     ensures { result.now ≡ tops_of condition.now }
 {
@@ -42,8 +43,8 @@ pub(crate) fn static_atom<'a>(domain: &Domain, condition: &'a Formula) -> Option
     }
 }
 
-/// The atoms of static predicates that stand at the top of the condition: the condition itself, or parts that all
-/// have to be true. Fails only where memory is wanting.
+/// The atoms of static predicates that stand at the top of the condition: the condition itself, or
+/// parts that all have to be true. Fails only where memory is wanting.
 pub(crate) fn static_atoms<'a>(
     alloc: Global,
     domain: &Domain,

@@ -29,8 +29,9 @@ impl Wanted for Anything {
     }
 }
 
-/// The arguments that have the types of the action's parameters and make its static atoms known facts, in their
-/// order, or None where there are more than `most`. Fails only where memory is wanting.
+/// The arguments that have the types of the action's parameters and make its static atoms known
+/// facts, in their order, or None where there are more than `most`. Fails only where memory is
+/// wanting.
 fn rows_of<L: Look>(
     alloc: Global,
     task: &Task,
@@ -62,8 +63,8 @@ fn rows_of<L: Look>(
     }
 }
 
-/// Puts the steps of the action that can be taken behind the others: those of these rows for which its other
-/// conditions are true. Fails only where memory is wanting.
+/// Puts the steps of the action that can be taken behind the others: those of these rows for which
+/// its other conditions are true. Fails only where memory is wanting.
 fn add_from_rows<L: Look>(
     scene: &Scene<'_, L>,
     rows: &[Wide],
@@ -89,8 +90,8 @@ fn add_from_rows<L: Look>(
     Ok(())
 }
 
-/// For each action of a task the arguments that have the types of its parameters and make its static atoms known
-/// facts, found once for all states of a search: no state changes them.
+/// For each action of a task the arguments that have the types of its parameters and make its
+/// static atoms known facts, found once for all states of a search: no state changes them.
 #[derive(Drop)]
 pub struct Candidates {
     /// The arguments of each action, in their order, or None where there are too many to keep.
@@ -98,7 +99,8 @@ pub struct Candidates {
 }
 
 impl Candidates {
-    /// Those of the task, as far as no more than `most` are kept. Fails only where memory is wanting.
+    /// Those of the task, as far as no more than `most` are kept. Fails only where memory is
+    /// wanting.
     pub fn new<L: Look>(
         alloc: Global,
         task: &Task,

@@ -35,7 +35,8 @@ impl<'a, L: Look> Wanted for Scene<'a, L> {
     ghost wants = { λ scene args. can_take scene.task.now (L.known scene.look.now) scene.state.now
         scene.action.now args };
 
-    /// Whether the action can be taken with these objects: its condition is true, and its cost has a value.
+    /// Whether the action can be taken with these objects: its condition is true, and its cost has
+    /// a value.
     fn wants(&self, args: &[Obj]) -> bool {
         let mut env = Env::new(args);
         holds_once(
@@ -49,8 +50,8 @@ impl<'a, L: Look> Wanted for Scene<'a, L> {
 }
 
 impl<'a, L: Look> Scene<'a, L> {
-    /// Whether the action can be taken with these objects as far as its static atoms don't say: all other parts of
-    /// its condition are true, and its cost has a value.
+    /// Whether the action can be taken with these objects as far as its static atoms don't say: all
+    /// other parts of its condition are true, and its cost has a value.
     pub(crate) fn can_go(&self, memo: &mut Memo, args: &[Obj]) -> bool
         requires fit { IsFit self.now.task.now }
         requires action { is_fit_action self.now.task.now.domain self.now.action.now ≡ true }
@@ -74,7 +75,8 @@ impl<'a, L: Look> Scene<'a, L> {
     }
 }
 
-/// The arguments with which the action can be taken, in their order. Fails only where memory is wanting.
+/// The arguments with which the action can be taken, in their order. Fails only where memory is
+/// wanting.
 fn arguments<L: Look>(alloc: Global, scene: &Scene<'_, L>) -> Result<Vec<Wide>, AllocError>
     requires fit { IsFit scene.now.task.now }
     requires action { is_fit_action scene.now.task.now.domain scene.now.action.now ≡ true }
@@ -97,7 +99,8 @@ fn arguments<L: Look>(alloc: Global, scene: &Scene<'_, L>) -> Result<Vec<Wide>, 
     Ok(rows)
 }
 
-/// Puts the steps of the action that can be taken behind the others. Fails only where memory is wanting.
+/// Puts the steps of the action that can be taken behind the others. Fails only where memory is
+/// wanting.
 pub(crate) fn add_steps<L: Look>(
     alloc: Global,
     scene: &Scene<'_, L>,

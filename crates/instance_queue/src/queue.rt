@@ -63,8 +63,8 @@ impl Queue {
     ghost use Rattle.instance_queue.specs.Notes.{tally_of, note_of};
     ghost use Rattle.instance_queue.specs.Level.{AreDueInTurn, ComesOf};
 
-    /// The queue in which nothing is noted, with room for an instance of each stream. Fails only where
-    /// memory is wanting.
+    /// The queue in which nothing is noted, with room for an instance of each stream. Fails only
+    /// where memory is wanting.
     pub fn new(alloc: Global, task: &Task) -> Result<Queue, AllocError>
         ensures { IfOk result (λ queue. queue ≡ []) }
     {
@@ -102,8 +102,8 @@ impl Queue {
         Ok(())
     }
 
-    /// Notes that an instance gave a tuple; it has given fewer than 2^32 - 1 before. Fails only where
-    /// memory is wanting, and leaves all as it was then.
+    /// Notes that an instance gave a tuple; it has given fewer than 2^32 - 1 before. Fails only
+    /// where memory is wanting, and leaves all as it was then.
     pub fn note_got(&mut self, instance: &Instance) -> Result<(), AllocError>
         requires { yields_of self.old instance.now < 4294967295 }
         ensures ok { OnOk result (self.new ≡ self.old ++ Yielded instance.now ∷ []) }
@@ -123,8 +123,8 @@ impl Queue {
         )
     }
 
-    /// Notes that an instance ended, or, of a cost stream, that it gave its value. Fails only where memory
-    /// is wanting, and leaves all as it was then.
+    /// Notes that an instance ended, or, of a cost stream, that it gave its value. Fails only where
+    /// memory is wanting, and leaves all as it was then.
     pub fn note_end(&mut self, instance: &Instance) -> Result<(), AllocError>
         ensures ok { OnOk result (self.new ≡ self.old ++ Ended instance.now ∷ []) }
         ensures err { OnErr result (self.new ≡ self.old) }
@@ -158,8 +158,9 @@ impl Queue {
         tally.ended || is_test(stream) && tally.yields > 0
     }
 
-    /// Whether nothing more comes of the instance: it has ended, or it is one of a test, a stream without
-    /// outputs or a value, and has yielded. Of a stream that the task hasn't nothing has finished.
+    /// Whether nothing more comes of the instance: it has ended, or it is one of a test, a stream
+    /// without outputs or a value, and has yielded. Of a stream that the task hasn't nothing has
+    /// finished.
     pub fn finished(&self, task: &Task, instance: &Instance) -> bool
         ensures { result ≡ at_stream task.now instance.now.stream false
             (λ stream. is_finished stream self.now instance.now) }
@@ -170,8 +171,8 @@ impl Queue {
         }
     }
 
-    /// Whether the instance's stream is one of the task's, its inputs have their types, and its domain
-    /// facts are known (PDDLStream 2020). It takes no memory.
+    /// Whether the instance's stream is one of the task's, its inputs have their types, and its
+    /// domain facts are known (PDDLStream 2020). It takes no memory.
     pub fn reachable(&self, task: &Task, facts: &Facts, instance: &Instance) -> bool
         requires { IsFit task.now }
         ensures { result ≡ at_stream task.now instance.now.stream false
@@ -183,8 +184,9 @@ impl Queue {
         }
     }
 
-    /// Whether the instance may be asked for its next tuple: its stream is one of the task's, it is reachable and it
-    /// hasn't finished (PDDLStream 2020; what finishes an instance is this project's). It takes no memory.
+    /// Whether the instance may be asked for its next tuple: its stream is one of the task's, it is
+    /// reachable and it hasn't finished (PDDLStream 2020; what finishes an instance is this
+    /// project's). It takes no memory.
     pub fn is_due(&self, task: &Task, facts: &Facts, instance: &Instance) -> bool
         requires { IsFit task.now }
         ensures { result ≡ due task.now facts.now.known self.now instance.now }
@@ -198,9 +200,9 @@ impl Queue {
         }
     }
 
-    /// The asks that are due: the instances that are reachable and unfinished, in the order of the stream's
-    /// place and then of the inputs, name by name and byte by byte, each with its turn. Fails where there are
-    /// more than 1,000,000, and where memory is wanting.
+    /// The asks that are due: the instances that are reachable and unfinished, in the order of the
+    /// stream's place and then of the inputs, name by name and byte by byte, each with its turn.
+    /// Fails where there are more than 1,000,000, and where memory is wanting.
     pub fn next_level(&self, task: &Task, facts: &Facts) -> Result<Vec<Due>, QueueFault>
         requires { IsFit task.now }
         ensures due { IfOk result (λ dues. AreDueInTurn task.now facts.now.known self.now

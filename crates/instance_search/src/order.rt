@@ -8,7 +8,8 @@ use std::cmp::Ordering;
 use std::marker::Model;
 use task_model::{Instance, Name, Obj};
 
-/// The names of the objects, each at its object's place: some, and behind them others. It is seen as the list of them.
+/// The names of the objects, each at its object's place: some, and behind them others. It is seen
+/// as the list of them.
 #[derive(Drop)]
 pub struct Names<'a> {
     first: &'a [Name],
@@ -50,8 +51,8 @@ impl<'a> Names<'a> {
     }
 }
 
-/// Compares objects by their names, one after another and byte by byte; of a list and a longer one that begins
-/// with it the shorter comes first.
+/// Compares objects by their names, one after another and byte by byte; of a list and a longer one
+/// that begins with it the shorter comes first.
 fn compare_inputs(names: &Names<'_>, a: &[Obj], b: &[Obj]) -> Ordering
     ensures { result ≡ slice_cmp (slice_cmp nat_cmp) (map (name_at names.now) a.now)
         (map (name_at names.now) b.now) }

@@ -42,8 +42,8 @@ fn are_known<L: Look>(alloc: Global, look: &L, patterns: &[Pattern], env: &Env) 
     true
 }
 
-/// Whether the inputs have their types and the domain facts are known, where the instance is one of the stream
-/// (PDDLStream 2020). It takes no memory.
+/// Whether the inputs have their types and the domain facts are known, where the instance is one of
+/// the stream (PDDLStream 2020). It takes no memory.
 pub fn is_reachable<L: Look>(alloc: Global, stream: &Stream, look: &L, instance: &Instance) -> bool
     requires { IsReadableStream stream.now }
     ensures { result ≡ reaches stream.now (L.known look.now) instance.now }

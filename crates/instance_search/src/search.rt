@@ -68,8 +68,8 @@ fn domain_atoms(alloc: Global, stream: &Stream) -> Result<Vec<QueryAtom<'_>>, Al
     Ok(atoms)
 }
 
-/// The inputs with which instances of the stream are reachable and sought, each once. Fails where there are more than
-/// `most`, and where memory is wanting.
+/// The inputs with which instances of the stream are reachable and sought, each once. Fails where
+/// there are more than `most`, and where memory is wanting.
 fn inputs_of<L: Look, S: Sought>(
     search: &Search<'_, L, S>,
     most: usize,
@@ -94,8 +94,8 @@ fn inputs_of<L: Look, S: Sought>(
     Ok(rows)
 }
 
-/// Adds the instances of one stream that are sought. Fails where more than `most` would stand there, and where memory is
-/// wanting.
+/// Adds the instances of one stream that are sought. Fails where more than `most` would stand
+/// there, and where memory is wanting.
 fn add_instances<L: Look, S: Sought>(
     search: &Search<'_, L, S>,
     most: usize,
@@ -150,8 +150,9 @@ fn found<L: Look, S: Sought>(
     Ok(instances)
 }
 
-/// The instances that are reachable and sought, in the order of the stream's place and then of the inputs, name by name and
-/// byte by byte (the order is this project's). Fails where there are more than `most`, and where memory is wanting.
+/// The instances that are reachable and sought, in the order of the stream's place and then of the
+/// inputs, name by name and byte by byte (the order is this project's). Fails where there are more
+/// than `most`, and where memory is wanting.
 pub fn found_instances<L: Look, S: Sought>(
     alloc: Global,
     task: &Task,

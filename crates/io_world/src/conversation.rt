@@ -12,8 +12,8 @@ use crate::pieces::has_line;
 /// Writes all of these bytes to a running child.
 ///
 /// # Errors
-/// `Failed` where a write failed; the count of faults rose. `Memory` where there was none. The child
-/// took the first bytes then, but not all.
+/// `Failed` where a write failed; the count of faults rose. `Memory` where there was none. The
+/// child took the first bytes then, but not all.
 pub fn send_all<H: Host>(host: &mut H, child: u8, bytes: &[u8]) -> Result<(), HostFault>
     requires number { child < CHILDREN }
     requires runs { H.running host.old child ≡ true }
@@ -33,9 +33,9 @@ pub fn send_all<H: Host>(host: &mut H, child: u8, bytes: &[u8]) -> Result<(), Ho
     Ok(())
 }
 
-/// Hears a running child until the room holds a line feed, or is full, and answers how many bytes of
-/// the room are held then. The first `held` bytes of the room are held before, and stay. It reads
-/// only while no line feed is held.
+/// Hears a running child until the room holds a line feed, or is full, and answers how many bytes
+/// of the room are held then. The first `held` bytes of the room are held before, and stay. It
+/// reads only while no line feed is held.
 ///
 /// # Errors
 /// `Failed` where a read failed; the count of faults rose. `Memory` where there was none. The bytes

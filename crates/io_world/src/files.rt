@@ -33,8 +33,8 @@ pub trait Files {
     /// gives the told bytes.
     ///
     /// # Errors
-    /// - `Failed` only where the count of faults rose in this call. Where the files are told, a path
-    ///   that isn't there is answered neither by Ok nor by `TooLong`.
+    /// - `Failed` only where the count of faults rose in this call. Where the files are told, a
+    ///   path that isn't there is answered neither by Ok nor by `TooLong`.
     /// - `TooLong`: of the calls that answer Ok or this, it comes for exactly those whose file has
     ///   more than `most` bytes.
     /// - `Memory`: there was none.

@@ -11,7 +11,8 @@ use std::marker::Model;
 /// How many bytes there is room for.
 const ROOM: usize = 4096;
 
-/// Bytes that wait for the end of their line. Contracts see the list of them. No line feed is among them.
+/// Bytes that wait for the end of their line. Contracts see the list of them. No line feed is among
+/// them.
 #[derive(Drop)]
 pub(crate) struct HeldLine {
     bytes: ArrayVec<u8, ROOM>,
@@ -28,7 +29,8 @@ impl Model for HeldLine {
     ghost invariant = { λ h. IsHeld h.bytes.items };
 }
 
-/// Writes all of these bytes, in as many pieces as it takes, or answers false where a write fails or takes nothing.
+/// Writes all of these bytes, in as many pieces as it takes, or answers false where a write fails
+/// or takes nothing.
 fn write_whole<W: Write>(out: &mut W, bytes: &[u8]) -> bool
     ensures { result ≡ true → Appends (W.contents out.old) (W.contents out.new) bytes.now }
 {
@@ -52,8 +54,9 @@ impl HeldLine {
         }
     }
 
-    /// Takes bytes, as many as there is room for and at least one, and answers how many. Where a line feed is among them, or the
-    /// room is full, all that is held is written. It answers None where a write fails or takes nothing; then nothing is held.
+    /// Takes bytes, as many as there is room for and at least one, and answers how many. Where a
+    /// line feed is among them, or the room is full, all that is held is written. It answers None
+    /// where a write fails or takes nothing; then nothing is held.
     pub(crate) fn write<W: Write>(&mut self, out: &mut W, bytes: &[u8]) -> Option<usize>
         requires { 0 < length bytes.now }
         ensures count { IfSome result (λ n. (0 < n) × (n ≤ length bytes.now)) }

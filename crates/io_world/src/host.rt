@@ -21,10 +21,10 @@ pub enum HostFault {
 /// Every host tells which children run: a child runs from an Ok of its `start` until its `stop`
 /// answers, whatever that answers.
 ///
-/// It may tell what was said with each child since it was started: an Ok of `start` empties it, an Ok
-/// of `write` or `read` adds the bytes taken or given, and nothing else changes it. It may tell the
-/// log of all calls on all children in order, with their answers. A host that tells its log tells
-/// what was said with each child that runs, and that is what the log spells.
+/// It may tell what was said with each child since it was started: an Ok of `start` empties it, an
+/// Ok of `write` or `read` adds the bytes taken or given, and nothing else changes it. It may tell
+/// the log of all calls on all children in order, with their answers. A host that tells its log
+/// tells what was said with each child that runs, and that is what the log spells.
 pub trait Host {
     /// How often a call has failed, at most `last`.
     ghost faults: { Self → ℕ };
@@ -58,8 +58,8 @@ pub trait Host {
             (started child (map string_bytes argv.now) result) }
         ensures cause { HasCause Failed last (faults self.old) (faults self.new) result };
 
-    /// Writes the first of these bytes to a running child, and answers how many it took: at least 1.
-    /// There has to be one.
+    /// Writes the first of these bytes to a running child, and answers how many it took: at least
+    /// 1. There has to be one.
     ///
     /// # Errors
     /// `Failed` only where the count of faults rose in this call; `Memory`. The child still runs.
@@ -75,12 +75,12 @@ pub trait Host {
         ensures log { Logs (log self.old) (log self.new) (wrote child bytes.now result) }
         ensures cause { HasCause Failed last (faults self.old) (faults self.new) result };
 
-    /// Puts bytes of a running child at the beginning of the room, and answers how many: at least 1.
-    /// There has to be room.
+    /// Puts bytes of a running child at the beginning of the room, and answers how many: at least
+    /// 1. There has to be room.
     ///
     /// # Errors
-    /// `Failed` only where the count of faults rose in this call, the end of the child's output being
-    /// such a fault; `Memory`. The child still runs.
+    /// `Failed` only where the count of faults rose in this call, the end of the child's output
+    /// being such a fault; `Memory`. The child still runs.
     fn read(&mut self, child: u8, room: &mut [u8]) -> Result<usize, HostFault>
         requires number { child < CHILDREN }
         requires some { 0 < length room.old }

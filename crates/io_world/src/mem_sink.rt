@@ -39,8 +39,8 @@ impl Model for MemSink {
 }
 
 impl MemSink {
-    /// An empty sink for `room` bytes, all of whose memory is taken at once. One write takes at most
-    /// `piece` bytes. The calls of `write` whose numbers, from 0, stand in `fails` fail.
+    /// An empty sink for `room` bytes, all of whose memory is taken at once. One write takes at
+    /// most `piece` bytes. The calls of `write` whose numbers, from 0, stand in `fails` fail.
     ///
     /// # Errors
     /// `AllocError` where there is no memory.

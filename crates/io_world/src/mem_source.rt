@@ -37,8 +37,8 @@ impl Model for MemSource {
 }
 
 impl MemSource {
-    /// A source of these bytes. The i-th call of `read`, from 0, gives at most `cuts[i]` bytes, where
-    /// such a cut is stated and at least 1. The calls whose numbers stand in `fails` fail.
+    /// A source of these bytes. The i-th call of `read`, from 0, gives at most `cuts[i]` bytes,
+    /// where such a cut is stated and at least 1. The calls whose numbers stand in `fails` fail.
     pub fn new(bytes: Vec<u8>, cuts: Vec<usize>, fails: Vec<u64>) -> MemSource
         ensures { result ≡ record {
           left = bytes.items;

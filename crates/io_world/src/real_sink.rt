@@ -9,9 +9,10 @@ use crate::held_line::HeldLine;
 use crate::sink::{Sink, SinkFault};
 use std::io;
 
-/// Standard output. It tells nothing of what it took. It holds the beginning of a line until the line feed comes or 4,096 bytes
-/// are held, and a whole line is written at once. A write that fails, or takes nothing, is a fault, and what was held is lost;
-/// one that was interrupted is done again.
+/// Standard output. It tells nothing of what it took. It holds the beginning of a line until the
+/// line feed comes or 4,096 bytes are held, and a whole line is written at once. A write that
+/// fails, or takes nothing, is a fault, and what was held is lost; one that was interrupted is done
+/// again.
 #[derive(Drop)]
 pub struct RealSink<R> {
     rt: R,

@@ -40,7 +40,8 @@ impl ReplyBuffer {
         })
     }
 
-    /// The bytes that the next read may give: the answers that are pending, and `end` where none is.
+    /// The bytes that the next read may give: the answers that are pending, and `end` where none
+    /// is.
     pub fn next(&self) -> &[u8]
         ensures { result.now ≡ next_bytes self.now }
     {

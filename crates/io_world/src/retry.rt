@@ -4,8 +4,8 @@ ghost use Rattle.std.specs.Io.KnownBytes.{Appends, Consumes, IsAtEnd, Keeps};
 
 use std::io::{ErrorKind, Read, Write};
 
-/// Reads once, and again as long as it is interrupted; answers how many bytes it gave, 0 at the end.
-/// It answers None where the read fails, and then gave none.
+/// Reads once, and again as long as it is interrupted; answers how many bytes it gave, 0 at the
+/// end. It answers None where the read fails, and then gave none.
 pub fn read_some<R: Read>(reader: &mut R, room: &mut [u8]) -> Option<usize>
     ensures count { IfSome result (λ n. n ≤ length room.new) }
     ensures bytes { MatchOption result (Keeps (R.remaining reader.old) (R.remaining reader.new))

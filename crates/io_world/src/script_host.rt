@@ -23,7 +23,8 @@ use std::marker::Model;
 pub struct Script {
     /// The bytes that it gives in all.
     pub bytes: Vec<u8>,
-    /// The i-th read, from 0, gives at most `cuts[i]` bytes, where such a cut is stated and at least 1.
+    /// The i-th read, from 0, gives at most `cuts[i]` bytes, where such a cut is stated and at
+    /// least 1.
     pub cuts: Vec<usize>,
     /// A triple of a place, a child and a number of lines: the bytes from this place on are given
     /// only after so many line feeds were written to that child. A read before that fails.
@@ -40,8 +41,8 @@ impl Model for Script {
     } };
 }
 
-/// A host whose children play scripts. It keeps and tells its log as long as there is memory for it,
-/// and tells what was said with each child.
+/// A host whose children play scripts. It keeps and tells its log as long as there is memory for
+/// it, and tells what was said with each child.
 #[derive(Drop)]
 pub struct ScriptHost {
     scripts: Vec<Script>,
@@ -66,9 +67,9 @@ impl Model for ScriptHost {
 }
 
 impl ScriptHost {
-    /// Children with these scripts, by their numbers; none of them runs. Each start plays the child's
-    /// script from its beginning. The calls whose numbers, from 0, stand in `fails` fail. It takes
-    /// the memory of its log from `alloc`.
+    /// Children with these scripts, by their numbers; none of them runs. Each start plays the
+    /// child's script from its beginning. The calls whose numbers, from 0, stand in `fails` fail.
+    /// It takes the memory of its log from `alloc`.
     pub fn new(alloc: Global, children: Vec<Script>, fails: Vec<u64>) -> ScriptHost
         ensures idle { (k : ℕ) → is_running result k ≡ false }
         ensures state { result ≡ record {

@@ -13,8 +13,8 @@ pub enum SinkFault {
 
 /// Something that takes bytes, such as standard output.
 ///
-/// It may tell the bytes that it took so far. An Ok then adds the first of the handed bytes, as many
-/// as it answers, and a fault adds none.
+/// It may tell the bytes that it took so far. An Ok then adds the first of the handed bytes, as
+/// many as it answers, and a fault adds none.
 pub trait Sink {
     /// How often a call has failed, at most `2^48 - 1`.
     ghost faults: { Self → ℕ };

@@ -14,8 +14,8 @@ pub enum SourceFault {
 
 /// Something that gives bytes to an end, such as standard input.
 ///
-/// It may tell the bytes that are left. An Ok then gives the first of them and leaves the rest, and a
-/// fault leaves them all.
+/// It may tell the bytes that are left. An Ok then gives the first of them and leaves the rest, and
+/// a fault leaves them all.
 pub trait Source {
     /// How often a call has failed, at most `2^48 - 1`.
     ghost faults: { Self → ℕ };
@@ -23,8 +23,9 @@ pub trait Source {
     /// The bytes left, where they are told.
     ghost left: { Self → Option (List ℕ) };
 
-    /// Puts bytes at the beginning of the room, and answers how many. 0 is the end of the input, and
-    /// where the bytes left are told, it comes exactly where none is left. There has to be room.
+    /// Puts bytes at the beginning of the room, and answers how many. 0 is the end of the input,
+    /// and where the bytes left are told, it comes exactly where none is left. There has to be
+    /// room.
     ///
     /// # Errors
     /// `Failed` only where the count of faults rose in this call.

@@ -30,9 +30,9 @@ impl Model for Child {
     ghost view = { λ s. record { running = s.running; reply = s.buffer } };
 }
 
-/// A host that answers each request line by a function, and `end` where it is read and no request is
-/// open. Its count of faults is 0. It keeps and tells its log as long as there is memory for each
-/// call, and tells what was said with each child.
+/// A host that answers each request line by a function, and `end` where it is read and no request
+/// is open. Its count of faults is 0. It keeps and tells its log as long as there is memory for
+/// each call, and tells what was said with each child.
 #[derive(Drop)]
 pub struct SureHost<A> {
     answers: A,

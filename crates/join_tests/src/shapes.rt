@@ -1,4 +1,5 @@
-//! Streams and actions whose atoms share variables, or have one twice, a constant, none in common, or no atoms.
+//! Streams and actions whose atoms share variables, or have one twice, a constant, none in common,
+//! or no atoms.
 use fact_store::Facts;
 use grounder::{Candidates, applicable};
 use instance_queue::Queue;
@@ -9,8 +10,8 @@ use std::test::Fail;
 use task_model::{GroundAction, Obj};
 use worked_tasks::{Texts, task};
 
-/// The edges o1 to o2, o2 to o2 and o2 to o3; o3 is marked; o1 and o2 have the type `spot`, below `place`. The objects are
-/// k, o1, o2, o3, in this order.
+/// The edges o1 to o2, o2 to o2 and o2 to o3; o3 is marked; o1 and o2 have the type `spot`, below
+/// `place`. The objects are k, o1, o2, o3, in this order.
 const EDGES: Texts<'static> = Texts {
     domain: "(define (domain d) (:requirements :typing) (:types spot - place place)
   (:constants k) (:predicates (e ?x ?y) (p ?x) (done))
@@ -105,8 +106,9 @@ fn candidates_give_the_same_steps_however_many_are_kept(rt: HostRuntime) -> Resu
     Ok(())
 }
 
-/// How many candidates are kept of each action where 6 may be: of `path`, `loop` and `both` all; then `from`, which has
-/// two, and `rest`, which has one, are left out, and of `mark` none are there.
+/// How many candidates are kept of each action where 6 may be: of `path`, `loop` and `both` all;
+/// then `from`, which has two, and `rest`, which has one, are left out, and of `mark` none are
+/// there.
 const KEPT: [Option<usize>; 6] = [Some(4), Some(1), Some(1), None, Some(0), None];
 
 #[test]

@@ -8,7 +8,8 @@ use std::test::Fail;
 use task_model::Obj;
 use worked_tasks::{Texts, task};
 
-/// A chain of ten objects, three rows of eight, two marks, and what leads from and to the constant `k`.
+/// A chain of ten objects, three rows of eight, two marks, and what leads from and to the constant
+/// `k`.
 const EIGHT: Texts<'static> = Texts {
     domain: "(define (domain d) (:constants k)
   (:predicates (e ?x ?y) (p ?x) (c ?x ?y) (w ?a ?b ?c ?d ?e ?f ?g ?h)))",
@@ -180,7 +181,8 @@ const TYPED_STEPS: &str = "0 q
 7 os
 ";
 
-/// Adds a line of a number and the names of objects, which are letters by their places; `-` where there is none.
+/// Adds a line of a number and the names of objects, which are letters by their places; `-` where
+/// there is none.
 fn push_line(
     alloc: Global,
     text: &mut String,

@@ -31,6 +31,22 @@ push_cases (z ∷ zs) y zero x e = inl e
 push_cases (z ∷ zs) y (suc i) x e =
     elim (push_cases zs y i x e) [ inl h ↦ inl h | inr h ↦ inr (ap suc h.0, h.1) ]
 
+-- what stands in two lists put together stands in the first, or behind it
+pub append_cases : {A : Type 0} (xs ys : List A) (k : ℕ) (x : A) → slice_get (xs ++ ys) k ≡ Some x
+    → (slice_get xs k ≡ Some x) ⊎ ((j : ℕ) × (k ≡ length xs + j) × (slice_get ys j ≡ Some x))
+append_cases [] ys k x at = inr (k, omega arith, at)
+append_cases (z ∷ zs) ys zero x at = inl at
+append_cases (z ∷ zs) ys (suc k) x at =
+    elim (append_cases zs ys k x at) [ inl h ↦ inl h | inr h ↦ inr (h.0, omega (arith, h.1), h.2) ]
+
+-- what stands in a front of a list
+pub from_take : {A : Type 0} (xs : List A) (n k : ℕ) (x : A) → slice_get (take n xs) k ≡ Some x
+    → (k < n) × (slice_get xs k ≡ Some x)
+from_take xs zero k x at = absurd (cc)
+from_take [] (suc n) k x at = absurd (cc)
+from_take (y ∷ ys) (suc n) zero x at = (omega arith, at)
+from_take (y ∷ ys) (suc n) (suc k) x at = let r = from_take ys n k x at in (omega (arith, r.0), r.1)
+
 pub distinct_push : {A : Type 0} (xs : List A) (y : A) → AreDistinct xs → ¬ (Contains xs y)
     → AreDistinct (xs ++ y ∷ [])
 distinct_push xs y distinct absent i j x at_i at_j =

@@ -28,7 +28,7 @@ asks_lead limits task c before (a ∷ asks) e more = (
   asks_lead limits task (with_asks c asks) (before ++ a ∷ []) asks refl more,
 )
 
-none_there : (number : ℕ) (answers : List Entry) → AreAnswers number 0 answers → answers ≡ []
+pub none_there : (number : ℕ) (answers : List Entry) → AreAnswers number 0 answers → answers ≡ []
 none_there number [] all = refl
 none_there number (a ∷ answers) all = absurd all
 

@@ -11,6 +11,7 @@ use Rattle.transcript_model.specs.declared.entry.Entry.{Entry}
 use Rattle.transcript_model.specs.declared.entry.Entry.TheVariants as entry
 use Rattle.transcript_model.proofs.LegalNumberLemmas.{asks_marked}
 use Rattle.transcript_model.proofs.RoundsFrontLemmas.{cuts}
+use Rattle.level_course.proofs.CoursesStepLemmas.{none_there}
 use Rattle.level_course.specs.Courses.{Course, Opens, IsBehind, BeginsLevel, Leads, with_asks}
 use Rattle.level_course.specs.Laws.{IsAt}
 
@@ -30,12 +31,8 @@ pub record Finishes (limits : Limits) (task : Task) (c : Course) (before es : Li
   pub cut : AreRounds limits.pools c.later rounds
   pub run : AreRoundsRun task (before ++ (c.asks ++ answers)) rounds later
 
-none_there : (number : ℕ) (answers : List Entry) → AreAnswers number 0 answers → answers ≡ []
-none_there number [] all = refl
-none_there number (a ∷ answers) all = absurd all
-
 -- a batch whose first round begins, and what is left of it then
-opened_run : (limits : Limits) (task : Task) (before es : List Entry) (list : List Instance) (cut : Bool) (c : Course)
+pub opened_run : (limits : Limits) (task : Task) (before es : List Entry) (list : List Instance) (cut : Bool) (c : Course)
     → Opens limits task before list cut c → Finishes limits task c before es
     → (rounds : List (List Instance)) × AreRounds limits.pools list rounds × AreRoundsRun task before rounds es
 opened_run limits task before es list cut c o f = by o.round refl
@@ -74,7 +71,7 @@ opened_run limits task before es list cut c o f = by o.round refl
           (now, f.later, all, (f.answers, refl, answers_right), subst (λ xs. AreRoundsRun task xs f.rounds f.later) front f.run),
         )
 
-opened_tidy : (limits : Limits) (task : Task) (before : List Entry) (list : List Instance) (cut : Bool) (c : Course)
+pub opened_tidy : (limits : Limits) (task : Task) (before : List Entry) (list : List Instance) (cut : Bool) (c : Course)
     → Opens limits task before list cut c → IsTidy c
 opened_tidy limits task before list cut c o none =
     let count : c.answers ≡ length o.round = λ i. (o.is i).answers in

@@ -7,8 +7,8 @@ use std::alloc::Global;
 use std::marker::Model;
 use task_model::Instance;
 
-/// What the last level has still to do: a batch of asks, cut into rounds. All requests of a round are made, and then they are
-/// answered in the same order. Between two levels nothing is to do.
+/// What the last level has still to do: a batch of asks, cut into rounds. All requests of a round
+/// are made, and then they are answered in the same order. Between two levels nothing is to do.
 #[derive(Drop)]
 pub struct Course {
     dues: Vec<Due>,
@@ -51,7 +51,8 @@ impl Course {
         }
     }
 
-    /// Whether a level may begin, or any outcome may stand: nothing is to do, and calls weren't wanting.
+    /// Whether a level may begin, or any outcome may stand: nothing is to do, and calls weren't
+    /// wanting.
     pub fn is_between(&self) -> bool
         ensures { result ≡ ((self.now.answers == 0) && not self.now.is_cut) }
     {

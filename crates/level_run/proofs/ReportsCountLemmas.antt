@@ -56,7 +56,7 @@ answers_none number (suc n) (e ∷ es) are =
     none_more e es (answer_is_none number e are.0) (answers_none (number + 1) n es are.1)
 
 -- no entry of a batch is a level
-rounds_none : (task : Task) (before : List Entry) (rounds : List (List Instance)) (entries : List Entry)
+pub rounds_none : (task : Task) (before : List Entry) (rounds : List (List Instance)) (entries : List Entry)
     → AreRoundsRun task before rounds entries → count_by is_level entries ≡ 0
 rounds_none task before [] entries none = ap (count_by is_level) none
 rounds_none task before (round ∷ rounds) entries (now, rest, is, (answers, same, are), run) =

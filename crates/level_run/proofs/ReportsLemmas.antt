@@ -23,7 +23,8 @@ use Rattle.io_world.specs.Talks.{Event, Same, Talk}
 use Rattle.level_run.proofs.AdvancingLemmas.{needed_more, needed_stops}
 use Rattle.level_run.specs.Advancing.{TurnBreaks}
 use Rattle.round_run.proofs.BreakingRunLemmas.{broken_more, broken_of, levels_broken, still_breaks, stops_then_stops}
-use Rattle.round_run.proofs.CallsRunLemmas.{ran_of, ran_stopped, stops_none}
+use Rattle.round_run.proofs.CallsRunLemmas.{stops_none}
+use Rattle.round_run.proofs.CallsStopLemmas.{ran_of, ran_stopped}
 use Rattle.round_run.specs.Breaking.{LogBroken, RunBreaks}
 use Rattle.round_run.specs.Calls.{LogRan, LogStops, Runs}
 use Rattle.round_run.proofs.TalkingLemmas.{dialogue_unasked}

@@ -1,5 +1,5 @@
 -- Outcomes that are true.
-use Rattle.std.proofs.Common.{◌≡◌, ℕ, ◌^◌, ◌<◌, ◌≤◌, arith, List, [], length, take, refl, sym, subst, ap, ◌∙◌, false, ◌+◌, Vec, Global, inl, inr}
+use Rattle.std.proofs.Common.{◌≡◌, ℕ, ◌^◌, ◌<◌, ◌≤◌, arith, List, [], length, take, sym, subst, ap, ◌∙◌, false, ◌+◌, Vec, Global, inl, inr}
 use Rattle.std.proofs.Math.Seq.{take-length}
 use Rattle.std.proofs.lemmas.List.{length-map}
 use Rattle.best_first.specs.Answer.{HasPlan, IsFoundPlan, IsLimit}
@@ -224,10 +224,6 @@ spent_sure head task s before many b works learnt h of is ends =
     by : EndsBatch task s.entries before (length s.asked) head.calls many CallsSpent
         → IsSure head task s.entries (outcome.Limit Calls)
     by (all, more, left) = calls_sure task s works learnt h head of all left.0 left.1
-
-pub done_of : (b : Batch) → (b ≡ CallsSpent → ⊥) → b ≡ Done
-done_of Done not = refl
-done_of CallsSpent not = absurd (not refl)
 
 pub all_asked : (task : Task) (entries : List Entry) (before after calls many : ℕ) (b : Batch)
     → b ≡ Done

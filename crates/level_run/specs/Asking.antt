@@ -15,8 +15,8 @@ use Rattle.transcript_model.specs.Rounds.{IsBatch, limits_of}
 use Rattle.transcript_model.specs.declared.entry.Entry.{Entry}
 use Rattle.transcript_model.specs.declared.head.Head.{Head}
 
--- Requests may stand behind this entry, which is neither a request nor an answer; these instances are due, one at least,
--- and a call is left.
+-- Requests may stand behind this entry, which is neither a request nor an answer; these instances are due, one at
+-- least, and a call is left.
 pub record MayAskBehind (task : Task) (head : Head) (entry : Entry) (dues : List Due) (s : State) : Type 0 where
   pub mark : is_mark entry ≡ true
   pub opens : opens_requests head.mode entry ≡ true

@@ -145,12 +145,18 @@ is_level_or_dream entry.Level = true
 is_level_or_dream (entry.Dream uses steps) = true
 is_level_or_dream e = false
 
--- In incremental mode requests stand behind the line of a level, and in the others behind that or a dream.
+abbrev pub is_level_or_pick : Entry → Bool
+is_level_or_pick entry.Level = true
+is_level_or_pick (entry.Pick number) = true
+is_level_or_pick e = false
+
+-- Requests stand behind the line of a level; in focused and binding mode also behind a dream, and in adaptive mode also
+-- behind a skeleton's pick.
 abbrev pub opens_requests : Mode → Entry → Bool
 opens_requests Incremental e = is_level e
 opens_requests Focused e = is_level_or_dream e
 opens_requests Binding e = is_level_or_dream e
-opens_requests Adaptive e = is_level_or_dream e
+opens_requests Adaptive e = is_level_or_pick e
 
 -- such a line stands in the transcript
 abbrev pub HasTurnLine : Mode → List Entry → Type 0

@@ -36,7 +36,8 @@ fn maps_give_pools_or_their_first_fault(rt: HostRuntime) -> Result<(), Fail> {
     check_rows(&rt, alloc, &none, &[("{'pools':[]}", "")])
 }
 
-/// What pools of a map become with the grid's text in its place, behind the path that the map gives.
+/// What pools of a map become with the grid's text in its place, behind the path that the map
+/// gives.
 fn with_text(alloc: Global, map: &str) -> Result<String, Fail> {
     let task = task_of(alloc, "place grasp reach")?;
     if !is_fit(alloc, &task)? {

@@ -36,8 +36,8 @@ fn push_streams(text: &mut String, task: &Task, streams: &[u32]) -> Result<(), F
     Ok(())
 }
 
-/// The pools, parted by `/`: the first child, the workers, the streams, and behind a colon the words, where `_` stands
-/// for an empty one.
+/// The pools, parted by `/`: the first child, the workers, the streams, and behind a colon the
+/// words, where `_` stands for an empty one.
 pub(crate) fn pools_text(alloc: Global, task: &Task, pools: &[Pool]) -> Result<String, Fail> {
     let mut text = String::new(alloc);
     for pool in pools {

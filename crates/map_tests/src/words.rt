@@ -7,8 +7,8 @@ use std::process::Abort;
 use std::test::Fail;
 use stream_map::one_pool;
 
-/// The streams, the words, which are parted by spaces and where `_` stands for an empty one, the workers, and what
-/// they give.
+/// The streams, the words, which are parted by spaces and where `_` stands for an empty one, the
+/// workers, and what they give.
 type Row = (&'static str, &'static str, u8, &'static str);
 
 const WORDS: [Row; 22] = [

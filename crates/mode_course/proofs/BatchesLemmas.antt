@@ -1,9 +1,9 @@
 -- A batch by itself: where the entries lead until nothing of it is open, and that they run its list.
 use Rattle.std.proofs.Common.{◌≡◌, ℕ, zero, suc, ◌<◌, ◌≤◌, inl, inr, All, Bool, List, [], ◌∷◌, ◌++◌, refl, sym, ap, subst, ◌∙◌, arith, append_assoc}
 use Rattle.std.proofs.lemmas.List.{append-nil}
-use Rattle.level_course.proofs.CoursesTurnLemmas.{IsTidy, Walks, done, walk, within}
+use Rattle.level_course.proofs.CoursesTurnLemmas.{IsTidy, Walks, done, opened_run, opened_tidy, walk, within}
 use Rattle.level_course.specs.Courses.{Course, IsBehind, Leads, Opens}
-use Rattle.mode_course.proofs.OpensLemmas.{AreRun, opened_cut, opened_run, opened_tidy}
+use Rattle.mode_course.proofs.OpensLemmas.{AreRun, opened_cut}
 use Rattle.mode_course.proofs.StepsLemmas.{batch_open}
 use Rattle.mode_course.specs.Places.{IsBatchStep, LeadsOn, Place, begins_level, falls_back, goes_on, resets, tells_dream, tells_none, with_batch}
 use Rattle.task_model.specs.declared.stream.Instance.{Instance}
@@ -146,7 +146,7 @@ module _ (limits : Limits) (task : Task) where
             let last = stuck k m (before ++ front) rest zero_now later in
             let all : front ≡ now = sym (is ∙ ap (λ xs. front ++ xs) last.0 ∙ append-nil front) in (
               subst (AreRun limits task before list) all
-                  (opened_run (only_batches limits) task before list cut c only front finishes),
+                  (opened_run (only_batches limits) task before front list cut c only finishes),
               sym (ap (λ (x : Course). x.is_cut) last.1) ∙ same ∙ opened_cut limits task before list cut c o,
             )
 
@@ -157,7 +157,7 @@ module _ (limits : Limits) (task : Task) where
       where
         by : Walks (only_batches limits) task c before es d → (more : List Entry) × AreRun limits task before list (es ++ more)
         by (within more finishes open_yet) =
-            (more, opened_run (only_batches limits) task before list cut c only (es ++ more) finishes)
+            (more, opened_run (only_batches limits) task before (es ++ more) list cut c only finishes)
         by (done front rest k is finishes zero_now same tidy_now later) =
             let last = stuck k d (before ++ front) rest zero_now later in
             let answers = ap (λ (x : Course). x.answers) last.1 in

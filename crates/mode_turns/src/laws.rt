@@ -16,7 +16,8 @@ pub fn fronts_are_begun()
     ensures { FrontsAreBegun }
 {}
 
-/// Behind any transcript the batches of a dream's entries have an end, where each pool has a worker.
+/// Behind any transcript the batches of a dream's entries have an end, where each pool has a
+/// worker.
 pub fn batches_exist()
     ensures { BatchesExist }
 {}

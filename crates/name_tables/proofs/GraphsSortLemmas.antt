@@ -1,12 +1,12 @@
 -- Numbers that were sorted, each once, are the ascending ones.
-use Rattle.std.proofs.Common.{◌≡◌, ℕ, ◌<◌, true, false, cond, ◌==◌, nat_lt, List, [], ◌∷◌, ◌++◌, refl, sym, ◌∙◌, arith, inl, inr, Contains, ltb-true, ltb-false, eqb-true, lt-ltb}
+use Rattle.std.proofs.Common.{◌≡◌, ℕ, true, false, cond, ◌==◌, nat_lt, List, [], ◌∷◌, ◌++◌, refl, sym, ◌∙◌, arith, inl, inr, Contains, ltb-true, ltb-false, eqb-true}
 use Rattle.std.specs.List.{AllByRecursion, dedup}
 use Rattle.std.specs.List.Sorted.{IsPermutation, IsSorted, IsStrictlySortedBy}
 use Rattle.std.specs.Bool.{nat_eq}
 use Rattle.std.specs.Ordering.{nat_cmp}
-use Rattle.std.specs.Cmp.{unsigned_ties, nat_eq_equiv}
-use Rattle.std.specs.declared.cmp.Ordering.TheVariants.{Less, Equal, Greater}
-use Rattle.std.proofs.lemmas.Bool.{cond-true, eqb-false}
+use Rattle.std.specs.Cmp.{unsigned_ties, nat_eq_equiv, nat_cmp_is}
+use Rattle.std.specs.declared.cmp.Ordering.TheVariants.{Less}
+use Rattle.std.proofs.lemmas.Bool.{eqb-false}
 use Rattle.std.proofs.lemmas.Cmp.{nat_cmp_total}
 use Rattle.std.proofs.lemmas.List.Kept.{Contains-dedup_nat, Contains-from_dedup, IsStrictlySortedBy-dedup}
 use Rattle.std.proofs.lemmas.List.Sorted.{list_any-IsPermutation}
@@ -24,9 +24,6 @@ ascending_push so_far [] n = refl
 ascending_push so_far (m ∷ ms) n = ascending_push (ascending_with so_far m) ms n
 
 -- ---- strictly ascending
-
-less : (a b : ℕ) → a < b → nat_cmp a b ≡ Less
-less a b h = cond-true (nat_lt a b) Less (cond (a == b) Equal Greater) (lt-ltb a b h)
 
 all_with : (P : ℕ → Type 0) (ns : List ℕ) (n : ℕ) → AllByRecursion P ns → P n
     → AllByRecursion P (ascending_with ns n)
@@ -54,11 +51,11 @@ strict_with (m ∷ ms) n s =
     elim (nat_lt n m) as (λ b. nat_lt n m ≡ b
     → IsStrictlySortedBy nat_cmp (cond b (n ∷ m ∷ ms) (cond (n == m) (m ∷ ms) (m ∷ ascending_with ms n)))) [
       | true ↦ λ before.
-          let first = less n m (ltb-true n m before) in ((first, all_above n m ms first s.0), s)
+          let first = sym (nat_cmp_is n m Less (ltb-true n m before)) in ((first, all_above n m ms first s.0), s)
       | false ↦ λ behind. elim (n == m) as (λ b. (n == m) ≡ b → IsStrictlySortedBy nat_cmp (cond b (m ∷ ms) (m ∷ ascending_with ms n))) [
         | true ↦ λ _. s
         | false ↦ λ other. (
-          all_with (λ k. nat_cmp m k ≡ Less) ms n s.0 (less m n (omega (arith, ltb-false n m behind, eqb-false n m other))),
+          all_with (λ k. nat_cmp m k ≡ Less) ms n s.0 (sym (nat_cmp_is m n Less (omega (arith, ltb-false n m behind, eqb-false n m other)))),
           strict_with ms n s.1,
         )
       ] refl

@@ -45,7 +45,7 @@ names_pushed list e =
     ∙ ap (λ ns. entry_names 1 list ++ ns) (append-nil (placeholders (1 + length list) 1 (length e.outputs)))
     ∙ ap (λ n. entry_names 1 list ++ placeholders n 1 (length e.outputs)) next
 
-length-placeholders : (j i n : ℕ) → length (placeholders j i n) ≡ n
+pub length-placeholders : (j i n : ℕ) → length (placeholders j i n) ≡ n
 length-placeholders j i zero = refl
 length-placeholders j i (suc n) = ap suc (length-placeholders j (i + 1) n)
 
@@ -57,7 +57,7 @@ length-entry_names j (e ∷ es) =
     ∙ (λ i. length-placeholders j 1 (length e.outputs) i + length-entry_names (j + 1) es i)
     ∙ sym (sum_by-cons (λ (x : Entry). length x.outputs) e es)
 
-few_names : (j : ℕ) (list : List Entry) → HaveFew list → length (entry_names j list) ≤ 8 * length list
+pub few_names : (j : ℕ) (list : List Entry) → HaveFew list → length (entry_names j list) ≤ 8 * length list
 few_names j [] few = omega arith
 few_names j (e ∷ es) few =
     let here : length e.outputs ≤ 8 = few 0 e (omega arith) in
@@ -72,7 +72,7 @@ few_names j (e ∷ es) few =
 
 -- ---- placeholders have names
 
-numbers_in : (names : List (List ℕ)) (first n : ℕ) → first + n ≤ length names → All (IsIn names) (numbers_from first n)
+pub numbers_in : (names : List (List ℕ)) (first n : ℕ) → first + n ≤ length names → All (IsIn names) (numbers_from first n)
 numbers_in names first zero le = All-nil (IsIn names)
 numbers_in names first (suc n) le =
     All-cons (IsIn names) first (numbers_from (first + 1) n) (in_names names first (omega (arith, le)))

@@ -1,5 +1,5 @@
 pub mod PlaceholderLemmas
 pub mod SupposingLemmas
-mod DraftLemmas
+pub mod DraftLemmas
 mod PassLemmas
 mod TriedLemmas

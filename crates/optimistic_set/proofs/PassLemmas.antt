@@ -1,7 +1,7 @@
 -- A pass over all streams, and passes one after another.
 use Rattle.std.proofs.Common.{◌≡◌, ℕ, zero, suc, ◌+◌, ◌-◌, ◌<◌, ◌≤◌, arith, false, not, ◌&&◌, List, [], ◌∷◌, ◌++◌, length, take, get_or, refl, sym, ap, subst, ◌∙◌, inl, inr, Some, slice_get, Contains, append_assoc}
 use Rattle.std.proofs.lemmas.Bool.{and_from}
-use Rattle.std.proofs.lemmas.List.{append-nil, map-append, take_more, take-append-le, take_all}
+use Rattle.std.proofs.lemmas.List.{append-nil, map-append, take_more, take-append-le}
 use Rattle.std.specs.Cmp.{first_so, second_so}
 use Rattle.std.specs.List.{list_any}
 use Rattle.fact_join.specs.Adding.{Exceeds, ComesOf as Lacks}
@@ -64,11 +64,6 @@ adds_more task known old mid new instances i instance lt is so_far (e, pushed, o
     within [] k x at = absurd (cc)
     within (y ∷ ys) zero x at = omega arith
     within (y ∷ ys) (suc k) x at = omega (arith, within ys k x at)
-
-pub adds_all : (task : Task) (known : Known) (old new : List Entry) (instances : List Instance) (i : ℕ)
-    → length instances ≤ i → AddsEntries task known old new (take i instances) → AddsEntries task known old new instances
-adds_all task known old new instances i past so_far =
-    subst (AddsEntries task known old new) (take_all i instances past) so_far
 
 -- ---- what a pass finds
 

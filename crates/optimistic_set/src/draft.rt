@@ -39,7 +39,8 @@ pub(crate) struct Draft<'a> {
     pub(crate) asked: Tried,
 }
 
-/// Which instances may become entries: those that haven't finished, weren't tried and have no entry.
+/// Which instances may become entries: those that haven't finished, weren't tried and have no
+/// entry.
 #[derive(Drop)]
 struct Fresh<'a> {
     queue: &'a Queue,
@@ -59,7 +60,8 @@ impl<'a> Sought for Fresh<'a> {
     }
 }
 
-/// Puts what an entry of the stream certifies behind a store. Fails only where memory is wanting; then some of it may be there.
+/// Puts what an entry of the stream certifies behind a store. Fails only where memory is wanting;
+/// then some of it may be there.
 pub fn add_certified(
     more: &mut More,
     alloc: Global,
@@ -167,7 +169,8 @@ impl<'a> Draft<'a> {
         Ok(())
     }
 
-    /// The instances that come next: those that are due by what is known with the entries, have no entry, and weren't tried.
+    /// The instances that come next: those that are due by what is known with the entries, have no
+    /// entry, and weren't tried.
     fn next(
         &self,
         alloc: Global,
@@ -199,8 +202,9 @@ impl<'a> Draft<'a> {
         found_instances(alloc, task, &look, &names, &fresh, most)
     }
 
-    /// Goes through all streams once: behind the entries come those of all instances that are due by what is known with the
-    /// entries. Fails where more than 20,000 entries would be there, and where memory is wanting.
+    /// Goes through all streams once: behind the entries come those of all instances that are due
+    /// by what is known with the entries. Fails where more than 20,000 entries would be there, and
+    /// where memory is wanting.
     pub(crate) fn pass(
         &mut self,
         alloc: Global,

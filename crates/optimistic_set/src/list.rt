@@ -18,10 +18,11 @@ use task_model::Task;
 /// The most entries of a list (this project's limit).
 pub const MOST_ENTRIES: usize = 20_000;
 
-/// The instances that may be supposed to answer, with placeholders for their outputs: behind the empty list come, so often
-/// as `depth` says, those that are due by what is known with the entries so far, have none, and weren't tried
-/// (PDDLStream 2020; how the list is found and ordered is this project's). The facts are those of the task and of what was
-/// answered, so none of their names begins with `@`.
+/// The instances that may be supposed to answer, with placeholders for their outputs: behind the
+/// empty list come, so often as `depth` says, those that are due by what is known with the entries
+/// so far, have none, and weren't tried (PDDLStream 2020; how the list is found and ordered is this
+/// project's). The facts are those of the task and of what was answered, so none of their names
+/// begins with `@`.
 ///
 /// Fails where there would be more than [`MOST_ENTRIES`] entries, and where memory is wanting.
 pub fn optimistic<'a>(

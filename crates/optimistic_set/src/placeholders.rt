@@ -31,8 +31,8 @@ pub(crate) fn fresh_objects(alloc: Global, first: u32, count: usize) -> Result<R
     Ok(row)
 }
 
-/// The name of the output of this number of the entry of this number, both from 1: `@`, the entry's number, a dot and the
-/// output's (this project's rule).
+/// The name of the output of this number of the entry of this number, both from 1: `@`, the entry's
+/// number, a dot and the output's (this project's rule).
 fn placeholder_name(alloc: Global, entry: u64, output: u64) -> Result<Name, AllocError>
     ensures { IfOk result (λ name. name ≡ placeholder entry output) }
 {

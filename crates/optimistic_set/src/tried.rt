@@ -4,7 +4,8 @@ use std::alloc::{AllocError, Global};
 use std::marker::Model;
 use task_model::Instance;
 
-/// Instances in the order in which they were put there; one that came again stands there again. It is seen as the list of them.
+/// Instances in the order in which they were put there; one that came again stands there again. It
+/// is seen as the list of them.
 #[derive(Drop)]
 pub struct Tried {
     list: Vec<Instance>,
@@ -55,7 +56,8 @@ impl Tried {
         self.set.contains(instance)
     }
 
-    /// Puts an instance behind the others. Fails only where memory is wanting, and leaves all as it was then.
+    /// Puts an instance behind the others. Fails only where memory is wanting, and leaves all as it
+    /// was then.
     pub fn add(&mut self, instance: &Instance) -> Result<(), AllocError>
         ensures ok { OnOk result (self.new ≡ self.old ++ instance.now ∷ []) }
         ensures err { OnErr result (self.new ≡ self.old) }

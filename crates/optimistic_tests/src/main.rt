@@ -1,8 +1,9 @@
-//! What is supposed, and the dreams that rest on it, as rows: each says a task, what its streams answered and which instances
-//! were tried, and the program prints the list or the dream.
+//! What is supposed, and the dreams that rest on it, as rows: each says a task, what its streams
+//! answered and which instances were tried, and the program prints the list or the dream.
 #![tactic(auto)]
 
 mod given;
+mod judged;
 mod print;
 mod story;
 

@@ -4,6 +4,7 @@ ghost use Rattle.session_tests.specs.Played.{IsWorkingSession};
 ghost use Rattle.task_model.specs.Fit.{IsFit};
 
 use crate::given::Given;
+use crate::judged::add_judged;
 use crate::print::{push_count, push_dream, push_list};
 use dreaming::dream;
 use fit_check::is_fit;
@@ -16,11 +17,12 @@ use task_model::Task;
 use task_reader::{domain_in, problem_in, streams_in};
 use test_rows::{Part, number};
 
-/// How deep entries are supposed, and how many states are searched.
+/// How deep entries are supposed, and how many states are searched: by a run, and by a judge.
 #[derive(Clone, Copy)]
-struct Bounds {
-    depth: u8,
-    states: u32,
+pub(crate) struct Bounds {
+    pub(crate) depth: u8,
+    pub(crate) states: u32,
+    pub(crate) limit: u32,
 }
 
 /// The task of the texts, if they spell one.
@@ -155,11 +157,16 @@ fn tell_part(
             bounds.states = count;
             Ok(())
         }
+        "limit" => {
+            bounds.limit = count;
+            Ok(())
+        }
         "level" => ask_all(alloc, task, session, part.text.as_slice()),
         "tried" => add_tried(task, session, tried, count as usize),
         "list" => add_list(alloc, out, task, session, tried, *bounds, false),
         "count" => add_list(alloc, out, task, session, tried, *bounds, true),
         "dream" => add_dream(alloc, out, task, session, tried, *bounds),
+        "judge" => add_judged(alloc, out, task, tried, *bounds, part.text.as_slice()),
         _ => Ok(()),
     }
 }
@@ -173,6 +180,7 @@ fn tell(alloc: Global, task: &Task, parts: &[Part], out: &mut String) -> Result<
     let mut bounds = Bounds {
         depth: 3,
         states: 100_000,
+        limit: 100_000,
     };
     for part in parts {
         tell_part(

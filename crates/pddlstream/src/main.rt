@@ -11,8 +11,8 @@ use std::{env, io};
 /// How many programs a host has. Behind them stands the generator of the grid, child 16.
 const PROGRAMS: usize = 16;
 
-/// The words behind the program's name; none where one of them isn't UTF-8, so that they are no command. Fails only
-/// where memory is wanting.
+/// The words behind the program's name; none where one of them isn't UTF-8, so that they are no
+/// command. Fails only where memory is wanting.
 fn words(rt: &HostRuntime) -> io::Result<Vec<String>> {
     let mut words = Vec::new(rt.alloc());
     let given = match env::args(rt) {

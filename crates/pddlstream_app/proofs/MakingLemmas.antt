@@ -26,7 +26,6 @@ made_in_range w is = subst AreInRange (sym is) (record {
   states = (omega arith, omega arith);
   depth = (omega arith, omega arith);
   workers = (omega arith, omega arith);
-  built = tt;
   alone = λ path e. absurd (cc);
 })
 

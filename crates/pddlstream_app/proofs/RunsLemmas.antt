@@ -1,5 +1,5 @@
 -- How runs end.
-use Rattle.std.proofs.Common.{◌≡◌, ℕ, ◌+◌, arith, List, [], ◌++◌, length, take, true, false, MatchBool, Option, None, Some, refl, sym, subst, ap, ◌∙◌, ◌⊎◌, inl, inr, Result, Ok, Err, IfOk, IfErr}
+use Rattle.std.proofs.Common.{◌≡◌, ℕ, ◌+◌, arith, List, [], ◌++◌, length, take, true, false, MatchBool, Option, Some, refl, sym, subst, ap, ◌∙◌, ◌⊎◌, inl, inr, Result, Ok, Err, IfOk, IfErr}
 use Rattle.std.proofs.Math.Seq.{take-append-add}
 use Rattle.std.proofs.lemmas.List.{length-append}
 use Rattle.std.specs.Io.KnownBytes.{Appends}
@@ -22,12 +22,12 @@ use Rattle.pddlstream_app.specs.Files.{HasBytes, file_of}
 use Rattle.pddlstream_app.specs.Inputs.{HasNoInput, IsTaskOf}
 use Rattle.pddlstream_app.specs.Outside.{IsUntouched, Outside, Written}
 use Rattle.pddlstream_app.specs.Replays.{kind_of_verdict, verdict_text}
-use Rattle.pddlstream_app.specs.Runs.{ClosesRun, Ends, RunHasFault, HasOutcome, HasVerdict, IsBefore, IsBeforeLast, IsCompleted, IsPartOfRun, IsVerdictSaid, IsStopped, IsUnneeded, LeavesReplays, ProgramRun, TellsStatus, TookAll, TookPart, outcome_status, shown_so_far, shown_text}
+use Rattle.pddlstream_app.specs.Runs.{ClosesRun, Ends, RunHasFault, HasOutcome, HasVerdict, IsBefore, IsBeforeLast, IsCompleted, IsPartOfRun, IsVerdictSaid, IsStopped, IsUnneeded, ProgramRun, TellsStatus, TookAll, TookPart, outcome_status, shown_so_far, shown_text}
 use Rattle.replay_check.specs.Verdicts.{IsVerdict}
 use Rattle.replay_check.specs.declared.verdict.Verdict.{Verdict}
 use Rattle.replay_check.specs.declared.verdict.Verdict.TheVariants as verdict
 use Rattle.pddlstream_app.specs.Stop.{is_write, is_write_fault, status_at, last_text}
-use Rattle.command_line.specs.Words.{ReplayWords, SolveWords, command_of, generate, replay, solve}
+use Rattle.command_line.specs.Words.{ReplayWords, SolveWords, command_of, replay, solve}
 use Rattle.pddlstream_app.specs.Solving.{HasNoReport, IsPosed, IsSolved}
 use Rattle.pddlstream_app.specs.Works.{Work, command_for, files_of, solving, words_of}
 use Rattle.round_run.specs.declared.fault.RunFault.{RunFault}
@@ -125,13 +125,6 @@ module _ (words : List (List ℕ)) (outside : Outside) where
       absurd (is_of_input words outside.files (stop.Run fault.Write) n)
   stopped_reading sink (stop.Run fault.Memory) n none =
       record { text = []; cause = inl (refl, none); took = appends_none sink }
-
-  -- the words are no command
-  pub stopped_words : (sink : Option (List ℕ)) → command_of words ≡ None
-      → LogStops outside.was outside.now
-      → IsStopped words outside (unwritten sink) stop.Usage
-  stopped_words sink no_command none =
-      record { text = []; cause = (no_command, (refl, none)); took = appends_none sink }
 
   -- memory is wanting before anything was written
   pub stopped_early : (written : Written) → Appends written.before written.after []
@@ -400,20 +393,3 @@ module _ (words : List (List ℕ)) (outside : Outside) where
         of b (inl x) = ends_told why b status other x
         of b (inr x) = ends_told (stop.Run fault.Memory)
             (record { text = b.text; cause = for_memory why b.text b.cause; took = b.took }) status refl x
-
--- ---- replays
-
--- a task that is solved isn't judged
-pub no_replay : (words : List (List ℕ)) (outside : Outside) (asked : SolveWords)
-    → command_of words ≡ Some (solve asked) → LeavesReplays words outside
-no_replay words outside asked is_solved other judging = let both = sym is_solved ∙ judging in absurd (cc)
-
--- nor is one that is made
-pub no_replay_made : (words : List (List ℕ)) (outside : Outside) (number : ℕ)
-    → command_of words ≡ Some (generate number) → LeavesReplays words outside
-no_replay_made words outside number making_it other judging =
-    let both = sym making_it ∙ judging in absurd (cc)
-
-pub no_command : (words : List (List ℕ)) (outside : Outside) → command_of words ≡ None
-    → LeavesReplays words outside
-no_command words outside none other judging = let both = sym none ∙ judging in absurd (cc)

@@ -89,13 +89,12 @@ fn attempt<F: Files, H: Host, O: Sink>(
 ///
 /// `solve DOMAIN PROBLEM STREAMS [OPTIONS] [-- PROGRAM WORDS]` reads the domain's file and the
 /// domain, then the problem's and the problem, then the streams' and the streams. By `--map FILE`
-/// the map says which program answers which stream; without it, PROGRAM answers all, by
-/// `--workers N` children (1). A pool of `@grid FILE` has the generator of the grid, whose file is
-/// read last. Where something is to be asked, the children of all pools are started. `--algorithm`
-/// says what is asked, all that is due, level by level, or what a dream needs; it is asked in rounds
-/// of as many requests as the pools have workers for. The report has a head, each request and
-/// answer, and the outcome. The other options are `--calls`, `--states` and `--depth`
-/// (`command_line`).
+/// the map says which program answers which stream; without it, PROGRAM answers all, by `--workers
+/// N` children (1). A pool of `@grid FILE` has the generator of the grid, whose file is read last.
+/// Where something is to be asked, the children of all pools are started. `--algorithm` says what
+/// is asked, all that is due, level by level, or what a dream needs; it is asked in rounds of as
+/// many requests as the pools have workers for. The report has a head, each request and answer, and
+/// the outcome. The other options are `--calls`, `--states` and `--depth` (`command_line`).
 ///
 /// `replay DOMAIN PROBLEM STREAMS REPORT [--states N]` reads the three texts so, then the report's
 /// file, and writes `valid`, `invalid LINE KIND`, or `limit states` where a claim of the report

@@ -1,12 +1,12 @@
 //! The run of a mode.
 ghost use Rattle.std.specs.Prelude.{◌≡◌, ℕ, false, IfOk, IfErr};
-ghost use Rattle.command_line.specs.Ranges.{IsBuilt};
 ghost use Rattle.io_world.specs.Faults.{last_count, HasCause};
 ghost use Rattle.level_run.specs.Reports.{IsBroken, IsReported};
 ghost use Rattle.round_run.specs.Batches.{IsRunnable};
 ghost use Rattle.round_run.specs.declared.fault.RunFault.TheVariants.{Generator, Write};
 ghost use Rattle.task_model.specs.Fit.{IsFit};
 
+use binding_run::{adaptive, binding};
 use focused_run::focused;
 use io_world::{Host, Sink};
 use level_run::{Ran, RunFault, incremental};
@@ -24,7 +24,6 @@ pub(crate) fn run_in_mode<H: Host, O: Sink>(
 ) -> Result<Ran, RunFault>
     requires fit { IsFit task.now }
     requires runnable { IsRunnable task.now head.now }
-    requires built { IsBuilt head.now.mode }
     requires idle { (k : ℕ) → H.running host.old k ≡ false }
     ensures reported { IfOk result (IsReported task.now head.now (H.spoken host.new)
         (H.log host.old) (H.log host.new) (O.taken out.old) (O.taken out.new)) }
@@ -38,7 +37,7 @@ pub(crate) fn run_in_mode<H: Host, O: Sink>(
     match head.mode {
         Mode::Incremental => incremental(alloc, task, head, host, out),
         Mode::Focused => focused(alloc, task, head, host, out),
-        // No words mean these.
-        Mode::Binding | Mode::Adaptive => unreachable!(),
+        Mode::Binding => binding(alloc, task, head, host, out),
+        Mode::Adaptive => adaptive(alloc, task, head, host, out),
     }
 }

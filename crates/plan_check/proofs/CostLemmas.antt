@@ -1,20 +1,11 @@
 -- Costs: the values of functions are small, and sums can be taken from the front.
-use Rattle.std.proofs.Common.{◌≡◌, ℕ, zero, suc, ◌+◌, ◌<◌, ◌≤◌, Bool, true, false, List, [], ◌∷◌, map, filter, length, drop, get_or, min, refl, sym, ap, arith, Option, Some, None, IfSome, cond}
+use Rattle.std.proofs.Common.{◌≡◌, ℕ, zero, suc, ◌<◌, ◌≤◌, Bool, true, false, List, [], ◌∷◌, map, filter, length, drop, get_or, min, sym, ap, arith, IfSome, cond}
 use Rattle.std.specs.List.{All}
 use Rattle.std.proofs.lemmas.List.Elements.{All-head, All-tail}
 use Rattle.task_model.specs.Known.{Known, IsCoherent, least, least_from, value_of, is_value_of}
 use Rattle.task_model.specs.Steps.{sum_of, term_cost, terms_cost}
 use Rattle.task_model.specs.declared.domain.CostTerm.{CostTerm}
 use Rattle.task_model.specs.declared.task.Valued.{Valued}
-
-pub sum_assoc : (m n : ℕ) (o : Option ℕ)
-    → sum_of (Some (m + n)) o ≡ sum_of (Some m) (sum_of (Some n) o)
-sum_assoc m n None = refl
-sum_assoc m n (Some k) = ap Some (omega arith)
-
-pub sum_zero : (o : Option ℕ) → sum_of (Some 0) o ≡ o
-sum_zero None = refl
-sum_zero (Some k) = ap Some (omega arith)
 
 pub terms_cost-drop : (known : Known) (slots : List ℕ) (ts : List CostTerm) (i : ℕ) (t : CostTerm)
     → i < length ts → t ≡ get_or ts i t

@@ -1,4 +1,5 @@
-//! Steps and plans, checked: the initial state, what a step does and costs, and whether a plan is valid.
+//! Steps and plans, checked: the initial state, what a step does and costs, and whether a plan is
+//! valid.
 #![tactic(auto)]
 
 mod cost;
@@ -8,7 +9,7 @@ pub mod plan;
 pub mod start;
 pub mod step;
 
-pub use effect::after;
+pub use effect::{Changes, after, changes_of};
 pub use fault::{CheckFault, StepFault};
 pub use plan::check;
 pub use start::initial;

@@ -52,11 +52,12 @@ fn run<L: Look>(
     Ok(Applied { state, cost })
 }
 
-/// What a valid plan costs (PDDL 2.1; costs as in IPC 2008): each step is applicable in turn from the
-/// initial state, and the goal is true at the end. A plan has fewer than 2^26 steps, so that the sum fits.
+/// What a valid plan costs (PDDL 2.1; costs as in IPC 2008): each step is applicable in turn from
+/// the initial state, and the goal is true at the end. A plan has fewer than 2^26 steps, so that
+/// the sum fits.
 ///
-/// The fault that is told is that of the first step that isn't applicable, or `Goal` where all are and
-/// only the goal is false. Fails besides where memory is wanting.
+/// The fault that is told is that of the first step that isn't applicable, or `Goal` where all are
+/// and only the goal is false. Fails besides where memory is wanting.
 pub fn check<L: Look>(alloc: Global, task: &Task, look: &L, plan: &Plan) -> Result<u64, CheckFault>
     requires fit { IsFit task.now }
     requires few { length plan.now.steps < 2 ^ 26 }

@@ -6,8 +6,8 @@ ghost use Rattle.task_model.specs.Initial.{initial_state};
 use std::alloc::{AllocError, Global};
 use task_model::{Atom, Fact, Role, State, Task};
 
-/// The initial state of the task: the atoms of fluents in `:init` (PDDL 2.1). Fails only where memory is
-/// wanting.
+/// The initial state of the task: the atoms of fluents in `:init` (PDDL 2.1). Fails only where
+/// memory is wanting.
 pub fn initial(alloc: Global, task: &Task) -> Result<State, AllocError>
     requires { IsFit task.now }
     ensures { IfOk result (λ state. state ≡ initial_state task.now) }

@@ -28,7 +28,8 @@ fn action_of<'a>(task: &'a Task, step: &GroundAction) -> Option<&'a Action>
     task.domain.actions.as_slice().get(step.action as usize)
 }
 
-/// What the action costs with these arguments, or None where a term has no value. It takes no memory.
+/// What the action costs with these arguments, or None where a term has no value. It takes no
+/// memory.
 pub fn cost<L: Look>(
     task: &Task,
     look: &L,
@@ -53,8 +54,8 @@ pub fn cost<L: Look>(
     )
 }
 
-/// The action that the step names and what it costs, if it is applicable. Of several faults the first is told: no
-/// such action, arguments, condition, cost.
+/// The action that the step names and what it costs, if it is applicable. Of several faults the
+/// first is told: no such action, arguments, condition, cost.
 fn judged<'a, L: Look>(
     task: &'a Task,
     look: &L,
@@ -87,8 +88,8 @@ fn judged<'a, L: Look>(
 
 /// What the step does in the state and what it costs (PDDL 2.1; costs as in IPC 2008).
 ///
-/// Of several faults the first is told: no such action, arguments, condition, cost. Fails besides where
-/// memory is wanting.
+/// Of several faults the first is told: no such action, arguments, condition, cost. Fails besides
+/// where memory is wanting.
 pub fn apply<L: Look>(
     task: &Task,
     look: &L,
@@ -108,10 +109,11 @@ pub fn apply<L: Look>(
     }
 }
 
-/// Takes the step in the state itself, which becomes the one after it, and answers what the step costs (PDDL 2.1;
-/// costs as in IPC 2008). No state is copied.
+/// Takes the step in the state itself, which becomes the one after it, and answers what the step
+/// costs (PDDL 2.1; costs as in IPC 2008). No state is copied.
 ///
-/// Fails as `apply` does, and leaves the state as it was; but where memory is wanting, the state is of no further use.
+/// Fails as `apply` does, and leaves the state as it was; but where memory is wanting, the state is
+/// of no further use.
 pub fn advance<L: Look>(
     task: &Task,
     look: &L,

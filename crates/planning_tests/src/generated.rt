@@ -12,8 +12,8 @@ use std::test::Fail;
 use task_model::{Fact, Kind, Name, Row, Task};
 use worked_tasks::{Texts, task};
 
-/// Of the predicates, (seen ?x) alone is static: (found) where some ?x is seen, (hidden) where (found) is false, and
-/// (apart) where some first of sixteen objects isn't seen and the last is.
+/// Of the predicates, (seen ?x) alone is static: (found) where some ?x is seen, (hidden) where
+/// (found) is false, and (apart) where some first of sixteen objects isn't seen and the last is.
 const DOMAIN: &str = "(define (domain world) (:types block)
   (:predicates (seen ?x) (found) (hidden) (apart))
   (:derived (found) (exists (?x) (seen ?x)))
@@ -53,7 +53,8 @@ fn generate(facts: &mut Facts, alloc: Global) -> Result<(), AllocError>
     Ok(())
 }
 
-/// Whether the goal is true in the initial state, as every judge says. Where two of them differ, this fails.
+/// Whether the goal is true in the initial state, as every judge says. Where two of them differ,
+/// this fails.
 fn is_true(alloc: Global, task: &Task, facts: &Facts) -> Result<bool, AllocError>
     requires { IsFit task.now }
 {
@@ -106,7 +107,8 @@ fn judged(alloc: Global, problem: &str) -> Result<(bool, bool), Fail> {
     Ok(judge(alloc, &task)?)
 }
 
-/// Problems, each with whether its goal is true at first, and whether it is where `#v` is known too.
+/// Problems, each with whether its goal is true at first, and whether it is where `#v` is known
+/// too.
 const GOALS: [(&str, (bool, bool)); 6] = [
     // derived bodies range over generated objects
     (

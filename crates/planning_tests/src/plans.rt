@@ -1,4 +1,5 @@
-//! Plans of a task whose one action deletes and adds the atom (p), adds (q), and costs the value of (f).
+//! Plans of a task whose one action deletes and adds the atom (p), adds (q), and costs the value of
+//! (f).
 ghost use Rattle.task_model.specs.Fit.{IsFit};
 
 use crate::known::known;
@@ -118,7 +119,8 @@ fn is_in(alloc: Global, state: &State, pred: u32) -> bool {
     state.has(&Atom { pred, args })
 }
 
-/// What the step costs in the initial state, and whether both atoms are true afterwards; None where it can't be done.
+/// What the step costs in the initial state, and whether both atoms are true afterwards; None where
+/// it can't be done.
 fn stepped_from(
     alloc: Global,
     task: &Task,

@@ -41,8 +41,8 @@ fn request(
     request_text(alloc, task, facts, number, &instance)
 }
 
-/// That request for the object of this name over what is known of the task at first, if there are streams and such an
-/// object.
+/// That request for the object of this name over what is known of the task at first, if there are
+/// streams and such an object.
 fn asked(
     alloc: Global,
     task: &Task,
@@ -92,7 +92,8 @@ fn weigh(alloc: Global, facts: &mut Facts, cup: Obj, value: u32) -> Result<bool,
     facts.add_value(0, Row::new(alloc, &[cup])?, value)
 }
 
-/// The weight of the cup, at first and then, once it is also said to be `value`; and whether that was new.
+/// The weight of the cup, at first and then, once it is also said to be `value`; and whether that
+/// was new.
 fn weighed(alloc: Global, value: u32) -> Result<(Option<u32>, bool, Option<u32>), Fail>
     requires { value < 99 }
 {
@@ -201,7 +202,8 @@ fn add_cubes(alloc: Global, facts: &mut Facts) -> Result<(), AllocError>
     Ok(())
 }
 
-/// The objects that have this type at first, and once these cubes are known. Of ten objects or more nothing is said.
+/// The objects that have this type at first, and once these cubes are known. Of ten objects or more
+/// nothing is said.
 fn listed_in(alloc: Global, task: &Task, sort: u32) -> Result<(Vec<Obj>, Vec<Obj>), AllocError>
     requires { IsFit task.now }
 {

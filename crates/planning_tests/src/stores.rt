@@ -60,6 +60,60 @@ fn a_place_gives_its_state(rt: HostRuntime) -> Result<(), Fail> {
     Ok(())
 }
 
+/// The atoms in which one predicate is true of these objects, in this order.
+fn atoms(alloc: Global, places: &[u32]) -> Result<Vec<Atom>, AllocError> {
+    let mut atoms = Vec::new(alloc);
+    for place in places {
+        let mut args = Row::empty(alloc);
+        args.push(Obj::new(*place))?;
+        atoms.push(Atom { pred: 1, args })?;
+    }
+    Ok(atoms)
+}
+
+/// Where the store keeps the state at `from` without some places and then with others, and whether
+/// it is new there; None where the store is full, or has no state there.
+fn changed(
+    alloc: Global,
+    store: &mut StateStore,
+    from: u32,
+    gone: &[u32],
+    come: &[u32],
+) -> Result<Option<(u32, bool)>, AllocError> {
+    if store.len() > 200_000 || from as usize >= store.len() {
+        return Ok(None);
+    }
+    let gone = atoms(alloc, gone)?;
+    let come = atoms(alloc, come)?;
+    Ok(Some(store.intern_after(from, gone.as_slice(), come.as_slice())?))
+}
+
+/// A state's place, what goes and what comes, and the place of the state after with whether it is
+/// new.
+type Change<'a> = (u32, &'a [u32], &'a [u32], (u32, bool));
+
+#[test]
+fn a_changed_state_is_kept_once(rt: HostRuntime) -> Result<(), Fail> {
+    let changes: [Change<'_>; 7] = [
+        (0, &[2], &[3], (1, true)),
+        (1, &[3], &[2], (0, false)),
+        (0, &[4], &[4], (0, false)),
+        (0, &[9], &[2, 2], (0, false)),
+        (0, &[4, 2], &[], (2, true)),
+        (2, &[], &[4, 3], (1, false)),
+        (2, &[], &[3], (3, true)),
+    ];
+    let mut store = StateStore::new(rt.alloc())?;
+    assert_eq!(rt; kept(rt.alloc(), &mut store, &[2, 4])?, Some((0, true)));
+    for (from, gone, come, wanted) in changes {
+        let found = changed(rt.alloc(), &mut store, from, gone, come)?;
+        assert_eq!(rt; found, Some(wanted));
+    }
+    assert_eq!(rt; kept(rt.alloc(), &mut store, &[3, 4])?, Some((1, false)));
+    assert_eq!(rt; kept(rt.alloc(), &mut store, &[])?, Some((2, false)));
+    Ok(())
+}
+
 /// The state of 18 switches, which are up or down as the number's bits say.
 fn switches(alloc: Global, number: u32) -> Result<State, AllocError> {
     let mut atoms = Vec::with_capacity(alloc, 18)?;

@@ -19,8 +19,9 @@ fn fits(pools: &[Workers], dues: &[Due]) -> bool
     true
 }
 
-/// How many of these asks, from the front on, make a round: as many as there are such that no pool has more of them than
-/// workers. Where each pool has a worker and there is an ask, there is one at least.
+/// How many of these asks, from the front on, make a round: as many as there are such that no pool
+/// has more of them than workers. Where each pool has a worker and there is an ask, there is one at
+/// least.
 pub fn longest_front(pools: &[Workers], dues: &[Due]) -> usize
     ensures { IsLongestFront (shares_of pools.now) (instances_of dues.now) result }
 {

@@ -1,4 +1,5 @@
-//! Pools of workers: which of them answers for a stream, which of its children is asked, and how many asks make a round.
+//! Pools of workers: which of them answers for a stream, which of its children is asked, and how
+//! many asks make a round.
 #![tactic(auto)]
 
 mod front;

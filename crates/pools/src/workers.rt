@@ -11,8 +11,8 @@ use std::marker::Model;
 use task_model::Seq;
 use transcript_model::Pool;
 
-/// What is kept of a pool: its children, and the streams that they answer for, each of which is found without going through
-/// the others.
+/// What is kept of a pool: its children, and the streams that they answer for, each of which is
+/// found without going through the others.
 #[derive(Drop)]
 pub struct Workers {
     first: u8,
@@ -36,8 +36,9 @@ impl Workers {
     ghost use Rattle.pools.specs.Pools.{has_stream, share_of};
     ghost use Rattle.transcript_model.specs.Rounds.{serves as serves_instance};
 
-    /// A pool: the number of its first child, how many workers it has, 1 to 16, which have the numbers from that on, and its
-    /// streams, by their places among so many of the task. Fails only where memory is wanting.
+    /// A pool: the number of its first child, how many workers it has, 1 to 16, which have the
+    /// numbers from that on, and its streams, by their places among so many of the task. Fails only
+    /// where memory is wanting.
     pub fn new(
         alloc: Global,
         first: u8,
@@ -114,7 +115,8 @@ fn marked(alloc: Global, streams: &[u32], count: usize) -> Result<Vec<bool>, All
     Ok(marks)
 }
 
-/// The workers of a head's pools, in their order, where the task has so many streams. Fails only where memory is wanting.
+/// The workers of a head's pools, in their order, where the task has so many streams. Fails only
+/// where memory is wanting.
 pub fn workers_in(alloc: Global, pools: &[Pool], count: usize) -> Result<Vec<Workers>, AllocError>
     ensures { IfOk result (λ all. all.items ≡ map workers_of pools.now) }
 {
@@ -139,8 +141,9 @@ fn server(pools: &[Workers], stream: u32) -> Option<&Workers>
     None
 }
 
-/// The number, at most 16, of the child for an ask of this stream, after these asks of the same round: of the pool that answers
-/// for the stream, the first child that has none of them. It is 0 where no pool does.
+/// The number, at most 16, of the child for an ask of this stream, after these asks of the same
+/// round: of the pool that answers for the stream, the first child that has none of them. It is 0
+/// where no pool does.
 pub fn child_of(pools: &[Workers], before: &[Due], stream: u32) -> u8
     requires { child_for pools.now (streams_of before.now) stream ≤ 16 }
     ensures { result ≡ child_for pools.now (streams_of before.now) stream }

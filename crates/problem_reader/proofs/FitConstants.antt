@@ -24,8 +24,8 @@ use Rattle.domain_reader.specs.Domains.{IsDomainRead, constants_in, is_constants
 use Rattle.domain_reader.specs.Domains as domains
 use Rattle.name_tables.specs.Texts.{body_of}
 use Rattle.problem_reader.proofs.FitObjects.{AreConstants, HaveTypes}
-use Rattle.problem_reader.proofs.TablesObjectLemmas.{even_each}
 use Rattle.problem_reader.proofs.TablesAppendLemmas.{declared_length}
+use Rattle.problem_reader.proofs.TablesDomainLemmas.{constants_even}
 
 -- ---- each has a type
 
@@ -95,21 +95,6 @@ list_typed (n ∷ ns) (k ∷ ks) s = (s.0, list_typed ns ks s.1)
 
 -- ---- as many names as lists of types
 
-even_here : (sorts : List (List ℕ)) (t : Typed) (rest : Trees) (b : Bool)
-    → length t.names ≡ length t.sorts
-    → length (cond b (declared_here sorts t rest) t).names ≡ length (cond b (declared_here sorts t rest) t).sorts
-even_here sorts t rest true h =
-    even_each t (named_words Start rest) (named_sorts sorts Start 0 rest) h
-even_here sorts t rest false h = h
-
-even_in : (sorts : List (List ℕ)) (t : Typed) (body : Trees) → length t.names ≡ length t.sorts
-    → length (constants_in sorts t body).names ≡ length (constants_in sorts t body).sorts
-even_in sorts t nothing h = h
-even_in sorts t (word w at rest) h = even_in sorts t rest h
-even_in sorts t (list items at rest) h =
-    let it : Item = item_of text.Domain (head_of items) in
-    even_in sorts (grown_by sorts t it (tail_of items)) rest (even_here sorts t (tail_of items) (is_constants it) h)
-
 -- ---- each takes a byte
 
 record IsGood (rest : Trees) : Type 0 where
@@ -154,7 +139,7 @@ pub constants_read : (t : Trees) (d : domain.Domain) → IsDomainRead t d → si
 constants_read t d read small =
     let sorts : List (List ℕ) = (domains.domain_names t).sorts in
     let made : Typed = constants_in sorts no_typed (body_of t) in
-    let even : length made.names ≡ length made.sorts = even_in sorts no_typed (body_of t) refl in
+    let even : length made.names ≡ length made.sorts = constants_even sorts no_typed (body_of t) refl in
     let few = few_in sorts no_typed (body_of t) (formed_items t read.formed) in
     let long : length d.constants ≡ length made.names = ap length read.domain.parts.constants ∙ list_long made.names made.sorts even in
     record {

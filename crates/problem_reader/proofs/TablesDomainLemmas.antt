@@ -86,12 +86,12 @@ objects_same sorts v t (list items at rest) e =
     (objects_by v (item_of text.Domain (head_of items)) (tail_of items)
     ∙ names_here sorts t v.objects (tail_of items) (is_constants (item_of text.Domain (head_of items))) e)
 
-objects_even : (sorts : List (List ℕ)) (t : Typed) (body : Trees) → length t.names ≡ length t.sorts
+pub constants_even : (sorts : List (List ℕ)) (t : Typed) (body : Trees) → length t.names ≡ length t.sorts
     → length (constants_in sorts t body).names ≡ length (constants_in sorts t body).sorts
-objects_even sorts t nothing h = h
-objects_even sorts t (word w at rest) h = objects_even sorts t rest h
-objects_even sorts t (list items at rest) h =
-    objects_even sorts (cond (is_constants (item_of text.Domain (head_of items))) (declared_here sorts t (tail_of items)) t) rest
+constants_even sorts t nothing h = h
+constants_even sorts t (word w at rest) h = constants_even sorts t rest h
+constants_even sorts t (list items at rest) h =
+    constants_even sorts (cond (is_constants (item_of text.Domain (head_of items))) (declared_here sorts t (tail_of items)) t) rest
     (even_here sorts t (tail_of items) (is_constants (item_of text.Domain (head_of items))) h)
 
 -- ---- all names
@@ -121,7 +121,7 @@ module _ (t : Trees) (d : domain.Domain) (read : IsDomainRead t d) where
   known_objects : put_constants [] d.constants ≡ v.objects
   known_objects =
       ap (put_constants []) read.domain.parts.constants
-      ∙ constants_put [] typed.names typed.sorts (objects_even v.sorts no_typed (body_of t) refl)
+      ∙ constants_put [] typed.names typed.sorts (constants_even v.sorts no_typed (body_of t) refl)
       ∙ ap (put []) (sym (objects_same v.sorts no_names no_typed (body_of t) refl)) ∙ (built (body_of t)).objects
 
   known : (body : Trees) → problem_names d body ≡ with_objects v body

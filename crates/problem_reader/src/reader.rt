@@ -17,8 +17,8 @@ use sexpr_text::Tree;
 use std::alloc::{AllocError, Global};
 use task_model::{Domain, Problem};
 
-/// The name fault that is answered of a problem with these names and items, if it has one. Fails only where memory is
-/// wanting.
+/// The name fault that is answered of a problem with these names and items, if it has one. Fails
+/// only where memory is wanting.
 #[tactic(auto, using(form_reader::proofs::FaultsFirstLemmas::first_append))]
 fn check_names(
     alloc: Global,
@@ -68,18 +68,19 @@ fn read(alloc: Global, text: &Tree, domain: &Domain) -> Result<Problem, InputFau
 
 /// Reads a problem of this domain from its tree.
 ///
-/// The forms are those of this project's profile of PDDL 2.1, with the total cost as the metric (IPC 2008). The domain is
-/// one that `domain_reader::read_domain` gave.
+/// The forms are those of this project's profile of PDDL 2.1, with the total cost as the metric
+/// (IPC 2008). The domain is one that `domain_reader::read_domain` gave.
 ///
 /// # Errors
 ///
-/// - `At`: the text has a fault. Of its form faults the one with the least place is answered, and at one place `Shape`
-///   last; where it has none, of its name faults the one with the least place, and at one place the one of the smallest
-///   number.
+/// - `At`: the text has a fault. Of its form faults the one with the least place is answered, and
+///   at one place `Shape` last; where it has none, of its name faults the one with the least place,
+///   and at one place the one of the smallest number.
 /// - `Memory`: memory ran out, which says nothing of the text.
 pub fn read_problem(alloc: Global, text: &Tree, domain: &Domain) -> Result<Problem, InputFault>
     ensures reads { specs.ProblemReads domain.now (tree text.now) result }
-    // Over a fit domain that was read, the problem of a tree as texts of at most 4 MiB give it is fit.
+    // Over a fit domain that was read, the problem of a tree as texts of at most 4 MiB give it is
+    // fit.
     ensures fit { IfOk result (λ p. IsFitRead domain.now → IsBounded (tree text.now)
         → IsFitOver domain.now p) }
 {

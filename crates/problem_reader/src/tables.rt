@@ -36,8 +36,8 @@ fn add_objects(names: &mut NameTable, items: &[Tree]) -> Result<(), AllocError>
     }
 }
 
-/// The names of a problem with these items: those of its domain, and behind the constants the objects. Fails only where
-/// memory is wanting.
+/// The names of a problem with these items: those of its domain, and behind the constants the
+/// objects. Fails only where memory is wanting.
 pub(crate) fn names_of(
     alloc: Global,
     domain: &Domain,

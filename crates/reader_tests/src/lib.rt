@@ -1,4 +1,5 @@
-//! Tests of the readers: which texts are refused, with the fault and its place, and what the others spell.
+//! Tests of the readers: which texts are refused, with the fault and its place, and what the others
+//! spell.
 #![tactic(auto)]
 
 #[cfg(test)]

@@ -1,4 +1,5 @@
-//! Domains that are refused for their names. In each the byte `@` marks the place of the fault and is no part of it.
+//! Domains that are refused for their names. In each the byte `@` marks the place of the fault and
+//! is no part of it.
 use form_reader::InputKind;
 
 pub const UNKNOWN: InputKind = InputKind::Unknown;

@@ -1,4 +1,5 @@
-//! Problems that are refused. In each the byte `@` marks the place of the fault and is no part of it.
+//! Problems that are refused. In each the byte `@` marks the place of the fault and is no part of
+//! it.
 use form_reader::InputKind;
 
 const SHAPE: InputKind = InputKind::Shape;

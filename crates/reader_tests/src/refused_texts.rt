@@ -85,7 +85,8 @@ const FLUENT: &[u8] =
 /// A domain with a predicate that no action changes.
 const STATIC: &[u8] = b"(define (domain d) (:predicates (p ?x)))";
 
-/// Problems of the domain `d` with its predicate `p` that are refused, each with what is told of it.
+/// Problems of the domain `d` with its predicate `p` that are refused, each with what is told of
+/// it.
 const PROBLEMS: [(&[u8], &[u8], usize); 6] = [
     (b"", b"unclosed", 0),
     (b"(define (problem t) (:domain d))", b"shape", 0),

@@ -4,8 +4,8 @@ use std::test::Fail;
 use task_model::Task;
 use worked_tasks::{ARM, FETCH, GRID, KEEP, LAMPS, SAME, SOW, TWO, Texts, task};
 
-/// How many types, predicates, functions, derived rules and actions a task has, and how many objects, facts, values and
-/// streams.
+/// How many types, predicates, functions, derived rules and actions a task has, and how many
+/// objects, facts, values and streams.
 fn counts_of(task: &Task) -> [usize; 9] {
     let Task {
         domain,
@@ -25,7 +25,8 @@ fn counts_of(task: &Task) -> [usize; 9] {
     ]
 }
 
-/// Texts of fit tasks, each with what the task has. Each has the function `total-cost`, declared or not.
+/// Texts of fit tasks, each with what the task has. Each has the function `total-cost`, declared or
+/// not.
 const FIT: [(Texts<'static>, [usize; 9]); 8] = [
     (FETCH, [1, 5, 1, 0, 2, 1, 2, 0, 1]),
     (TWO, [1, 3, 1, 0, 0, 1, 1, 0, 2]),

@@ -1,5 +1,6 @@
 -- Claims of outcomes, from what is kept of the entries.
-use Rattle.std.proofs.Common.{◌≡◌, ℕ, ◌<◌, List, [], ◌∷◌, length, refl, ap, subst, arith, Contains}
+use Rattle.std.proofs.Common.{◌≡◌, ◌==◌, ◌↔◌, ℕ, ◌<◌, Bool, List, [], ◌∷◌, length, refl, sym, ap, subst, ◌∙◌, arith, Contains, IsTrue}
+use Rattle.std.proofs.lemmas.Bool.{ne_eqb, true≢false}
 use Rattle.std.proofs.lemmas.List.{length-map}
 use Rattle.lemmas.proofs.Pigeonhole.{pigeons}
 use Rattle.instance_queue.specs.Level.{AreDueInTurn, instances_of}
@@ -83,3 +84,13 @@ module _ (version : ℕ) (task : Task) (entries : List Entry) (l : Ledger) (h : 
       → NothingIsDue task (known_of task entries) (notes_of task entries)
   none_due_at [] empty turn = none_due [] turn refl
   none_due_at (d ∷ more) empty turn = absurd (omega (arith, empty))
+
+  -- a list that is empty exactly where nothing is due
+  pub nothing_due_is : (dues : List Due) (empty : Bool) → AreDueInTurn task l.facts.known l.queue dues
+      → empty ≡ (length dues == 0)
+      → IsTrue empty ↔ NothingIsDue task (known_of task entries) (notes_of task entries)
+  nothing_due_is [] empty turn is = (λ yes. none_due [] turn refl, λ none. is)
+  nothing_due_is (d ∷ more) empty turn is = (
+    λ yes. absurd (true≢false (sym yes ∙ is ∙ ne_eqb (length (d ∷ more)) 0 (λ e. omega (arith, e)))),
+    λ none. absurd (not_none_due (d ∷ more) d more turn refl none),
+  )

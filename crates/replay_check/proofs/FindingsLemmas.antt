@@ -1,16 +1,11 @@
 -- What is found of an outcome, from what is said of its plan or of its claim.
-use Rattle.std.proofs.Common.{◌≡◌, ℕ, zero, suc, ◌+◌, ◌<◌, ◌≤◌, inl, inr, List, [], ◌∷◌, map, take, drop, length, refl, sym, ap, subst, ◌∙◌, slice_get, arith}
-use Rattle.std.proofs.lemmas.List.{take-append-drop}
-use Rattle.task_model.proofs.StepsLemmas.{parts_of_whole}
-use Rattle.task_model.specs.Initial.{initial_state}
-use Rattle.task_model.specs.Plans.{Executes}
-use Rattle.task_model.specs.declared.task.GroundAction.{GroundAction}
+use Rattle.std.proofs.Common.{◌≡◌, ℕ, ◌+◌, ◌<◌, ◌≤◌, inl, inr, List, take, length, refl, subst, slice_get, arith}
+use Rattle.std.proofs.lemmas.List.{take-take}
 use Rattle.task_model.specs.declared.task.Task.{Task}
-use Rattle.transcript_model.specs.Calls.{call_of_step}
 use Rattle.transcript_model.specs.Legal.{IsLegal}
 use Rattle.transcript_model.specs.Outcomes.{MayStand}
 use Rattle.transcript_model.specs.Rounds.{Limits}
-use Rattle.transcript_model.specs.Transcript.{names_of, known_of}
+use Rattle.transcript_model.specs.Transcript.{known_of}
 use Rattle.transcript_model.specs.Turns.{AreTurnsOf, Stage}
 use Rattle.transcript_model.specs.declared.entry.Call.{Call}
 use Rattle.transcript_model.specs.declared.entry.Entry.{Entry}
@@ -18,15 +13,17 @@ use Rattle.transcript_model.specs.declared.outcome.Origin.{Origin}
 use Rattle.transcript_model.specs.declared.outcome.Outcome.{Outcome}
 use Rattle.transcript_model.specs.declared.outcome.Outcome.TheVariants as outcome
 use Rattle.replay_check.proofs.OriginsLemmas.{origins_once}
-use Rattle.replay_check.specs.Breaches.{BreaksClaim, BreaksOutcome, BreaksPlan, BreaksSaid, BreaksStep, IsMisplaced}
+use Rattle.replay_check.specs.Breaches.{BreaksClaim, BreaksOutcome, BreaksPlan, BreaksSaid, BreaksStep, HasPlace}
 use Rattle.replay_check.specs.Claims.{IsJudged}
 use Rattle.replay_check.specs.Findings.{IsClaim, IsRightFinding, IsPlaced}
 use Rattle.replay_check.specs.Kinds.{breach_number}
 use Rattle.replay_check.specs.Lines.{Precedes}
-use Rattle.replay_check.specs.Plans.{CanRun, IsPlan}
-use Rattle.replay_check.specs.Runs.{DiffersAt, IsPlanned, StopsAtStep}
+use Rattle.shown_steps.proofs.PlansLemmas.{front_can, plan_can}
+use Rattle.shown_steps.specs.Plans.{CanRun, IsPlan}
+use Rattle.replay_check.specs.Plans.{DiffersAt, IsPlanned}
+use Rattle.shown_steps.specs.Runs.{StopsAtStep}
 use Rattle.replay_check.specs.declared.claims.Claim.TheVariants as claim
-use Rattle.replay_check.specs.declared.outcome.Finding.TheVariants as finding
+use Rattle.replay_check.specs.declared.finding.Finding.TheVariants as finding
 use Rattle.replay_check.specs.declared.plan.Planned.TheVariants as planned
 use Rattle.replay_check.specs.declared.verdict.BreachKind.{BreachKind}
 use Rattle.replay_check.specs.declared.verdict.BreachKind.TheVariants as kind
@@ -48,52 +45,17 @@ smaller line k than (inr (is, lt)) = lt
 -- ---- plans that run
 
 module _ (task : Task) (entries : List Entry) where
-  shown_front : (k : ℕ) (steps : List GroundAction)
-      → take k (map (call_of_step task (names_of task entries)) steps) ≡ map (call_of_step task (names_of task entries)) (take k steps)
-  shown_front zero steps = refl
-  shown_front (suc k) [] = refl
-  shown_front (suc k) (s ∷ steps) =
-      ap (λ cs. call_of_step task (names_of task entries) s ∷ cs) (shown_front k steps)
-
-  -- a front of calls that can be taken can be taken
-  pub front_can : (calls : List Call) (k : ℕ) → CanRun task entries calls
-      → CanRun task entries (take k calls)
-  front_can calls k can =
-      let whole =
-      subst (λ steps. Executes task (known_of task entries) (initial_state task) steps can.state can.cost)
-      (sym (take-append-drop k can.steps)) can.runs in
-      let parts =
-      parts_of_whole task (known_of task entries) (initial_state task) can.state (take k can.steps) (drop k can.steps) can.cost whole in
-      record {
-        steps = take k can.steps;
-        shown = ap (take k) can.shown ∙ shown_front k can.steps;
-        state = parts.0;
-        cost = parts.1;
-        runs = parts.3;
-      }
-
-  -- a plan can be taken
-  pub plan_can : (calls : List Call) (cost : ℕ) → IsPlan task entries calls cost
-      → CanRun task entries calls
-  plan_can calls cost plan = record { steps = plan.steps; shown = plan.shown; state = plan.valid.0; cost = cost; runs = plan.valid.1 }
-
-  take_fewer : (m n : ℕ) (calls : List Call) → m ≤ n → take m (take n calls) ≡ take m calls
-  take_fewer zero n calls le = refl
-  take_fewer (suc m) zero calls le = absurd (omega (arith, le))
-  take_fewer (suc m) (suc n) [] le = refl
-  take_fewer (suc m) (suc n) (c ∷ calls) le =
-      let below : m ≤ n = omega (arith, le) in ap (λ cs. c ∷ cs) (take_fewer m n calls below)
-
   -- no step of these is stuck
-  none_stuck : (calls : List Call) (n offset : ℕ) → CanRun task entries (take n calls)
+  none_stuck : (calls : List Call) (n offset : ℕ) → CanRun task (known_of task entries) (take n calls)
       → (b : BreaksStep task entries calls offset)
       → b.place + 1 ≤ n → ⊥
   none_stuck calls n offset can b le =
-      b.stuck (subst (CanRun task entries) (take_fewer (b.place + 1) n calls le) (front_can (take n calls) (b.place + 1) can))
+      b.stuck (subst (CanRun task (known_of task entries)) (take-take (b.place + 1) n calls le)
+      (front_can task (known_of task entries) (take n calls) (b.place + 1) can))
 
-  none_stuck_in : (calls : List Call) (offset : ℕ) → CanRun task entries calls
+  none_stuck_in : (calls : List Call) (offset : ℕ) → CanRun task (known_of task entries) calls
       → BreaksStep task entries calls offset → ⊥
-  none_stuck_in calls offset can b = b.stuck (front_can calls (b.place + 1) can)
+  none_stuck_in calls offset can b = b.stuck (front_can task (known_of task entries) calls (b.place + 1) can)
 
 -- ---- plans
 
@@ -103,7 +65,7 @@ module _ (limits : Limits) (limit : ℕ) (task : Task) (entries : List Entry) (c
   said : (offset : ℕ) (k : BreachKind)
       → BreaksOutcome limits task entries (outcome.Plan calls cost from) offset k
       → BreaksPlan limits task entries calls cost from offset k
-  said offset kind.Order wrong = absurd (placed.right wrong.1)
+  said offset kind.Order wrong = absurd (wrong.1 placed.place)
   said offset kind.Text wrong = wrong
   said offset kind.Head wrong = wrong
   said offset kind.Ask wrong = wrong
@@ -114,7 +76,7 @@ module _ (limits : Limits) (limit : ℕ) (task : Task) (entries : List Entry) (c
   said offset kind.From wrong = wrong
   said offset kind.Outcome wrong = wrong
 
-  stuck_first : (place other : ℕ) (than : BreachKind) → StopsAtStep task entries calls place
+  stuck_first : (place other : ℕ) (than : BreachKind) → StopsAtStep task (known_of task entries) calls place
       → BreaksPlan limits task entries calls cost from other than → Precedes other than (place + 1) kind.Plan → ⊥
   stuck_first place other kind.Plan stops (inl b) before =
       none_stuck task entries calls place other stops.runs b (earlier before)
@@ -137,7 +99,7 @@ module _ (limits : Limits) (limit : ℕ) (task : Task) (entries : List Entry) (c
   stuck_first place other kind.Dream stops wrong before = wrong
   stuck_first place other kind.Outcome stops wrong before = wrong
 
-  goal_first : (other : ℕ) (than : BreachKind) → CanRun task entries calls
+  goal_first : (other : ℕ) (than : BreachKind) → CanRun task (known_of task entries) calls
       → BreaksPlan limits task entries calls cost from other than
       → Precedes other than (length calls + 1) kind.Plan → ⊥
   goal_first other kind.Plan can (inl b) before = none_stuck_in task entries calls other can b
@@ -155,10 +117,10 @@ module _ (limits : Limits) (limit : ℕ) (task : Task) (entries : List Entry) (c
   goal_first other kind.Dream can wrong before = wrong
   goal_first other kind.Outcome can wrong before = wrong
 
-  cost_first : (other true_cost : ℕ) (than : BreachKind) → IsPlan task entries calls true_cost
+  cost_first : (other true_cost : ℕ) (than : BreachKind) → IsPlan task (known_of task entries) calls true_cost
       → BreaksPlan limits task entries calls cost from other than → Precedes other than (length calls + 1) kind.Cost → ⊥
   cost_first other true_cost kind.Plan plan (inl b) before =
-      none_stuck_in task entries calls other (plan_can task entries calls true_cost plan) b
+      none_stuck_in task entries calls other (plan_can task (known_of task entries) calls true_cost plan) b
   cost_first other true_cost kind.Plan plan (inr (is, none)) before = none true_cost plan
   cost_first other true_cost kind.Cost plan (is, wrong) (inl lt) = omega (arith, is, lt)
   cost_first other true_cost kind.Cost plan (is, wrong) (inr (at, lt)) = omega (arith, lt)
@@ -172,11 +134,11 @@ module _ (limits : Limits) (limit : ℕ) (task : Task) (entries : List Entry) (c
   cost_first other true_cost kind.Dream plan wrong before = wrong
   cost_first other true_cost kind.Outcome plan wrong before = wrong
 
-  from_first : (place other : ℕ) (than : BreachKind) → IsPlan task entries calls cost
+  from_first : (place other : ℕ) (than : BreachKind) → IsPlan task (known_of task entries) calls cost
       → DiffersAt limits.version entries calls from place
       → BreaksPlan limits task entries calls cost from other than → Precedes other than (length calls + 2 + place) kind.From → ⊥
   from_first place other kind.Plan plan differs (inl b) before =
-      none_stuck_in task entries calls other (plan_can task entries calls cost plan) b
+      none_stuck_in task entries calls other (plan_can task (known_of task entries) calls cost plan) b
   from_first place other kind.Plan plan differs (inr (is, none)) before = none cost plan
   from_first place other kind.Cost plan differs (is, wrong) before = wrong plan
   from_first place other kind.From plan differs b before =
@@ -199,7 +161,7 @@ module _ (limits : Limits) (limit : ℕ) (task : Task) (entries : List Entry) (c
       → IsRightFinding limits limit task entries (outcome.Plan calls cost from) finding.Holds
   right_found plan = (placed.stands plan, λ none. none)
 
-  pub stuck_found : (place : ℕ) → StopsAtStep task entries calls place
+  pub stuck_found : (place : ℕ) → StopsAtStep task (known_of task entries) calls place
       → IsRightFinding limits limit task entries (outcome.Plan calls cost from) (finding.Breaks (place + 1) kind.Plan)
   stuck_found place stops =
       record {
@@ -263,7 +225,7 @@ module _ (limits : Limits) (limit : ℕ) (task : Task) (entries : List Entry) wh
   -- what is wrong with a claim in its place is what it says
   only_said : (o : Outcome) (offset : ℕ) (k : BreachKind) → IsPlaced limits limit task entries o
       → BreaksOutcome limits task entries o offset k → BreaksSaid limits task entries o offset k
-  only_said o offset kind.Order placed wrong = absurd (placed.right wrong.1)
+  only_said o offset kind.Order placed wrong = absurd (wrong.1 placed.place)
   only_said o offset kind.Text placed wrong = wrong
   only_said o offset kind.Head placed wrong = wrong
   only_said o offset kind.Ask placed wrong = wrong
@@ -316,12 +278,11 @@ module _ (limits : Limits) (limit : ℕ) (task : Task) (entries : List Entry) (o
       → MayStand stage o
       → IsPlaced limits limit task entries o
   placed_at stage turns stands =
-      record { right = right stands; stands = λ said. record { stage = stage; turns = turns; stands = stands; true = said } }
+      record { place = there stands; stands = λ said. record { stage = stage; turns = turns; stands = stands; true = said } }
     where
-      right : MayStand stage o → ¬ (IsMisplaced limits task entries o)
-      right (inl rests) wrong =
-          wrong.1 (subst (λ s. AreTurnsOf limits.mode limits task entries s) rests turns)
-      right (inr (cut, is)) wrong = wrong.0 is
+      there : MayStand stage o → HasPlace limits task entries o
+      there (inl rests) = inl (subst (λ s. AreTurnsOf limits.mode limits task entries s) rests turns)
+      there (inr (cut, is)) = inr (is, inl (subst (λ s. AreTurnsOf limits.mode limits task entries s) cut turns))
 
   before_order : (offset : ℕ) (k : BreachKind) → BreaksOutcome limits task entries o offset k
       → Precedes offset k 0 kind.Order → ⊥
@@ -350,6 +311,6 @@ module _ (limits : Limits) (limit : ℕ) (task : Task) (entries : List Entry) (o
       small p kind.Outcome bad few = omega (arith, few)
 
   -- an outcome that may not stand here
-  pub misplaced_found : IsMisplaced limits task entries o
+  pub misplaced_found : ¬ (HasPlace limits task entries o)
       → IsRightFinding limits limit task entries o (finding.Breaks 0 kind.Order)
   misplaced_found wrong = record { breaks = (refl, wrong); first = before_order; decided = λ unsure. inr (refl, omega arith) }

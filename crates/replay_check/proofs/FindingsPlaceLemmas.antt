@@ -1,118 +1,221 @@
 -- Where outcomes stand.
-use Rattle.std.proofs.Common.{◌≡◌, ℕ, zero, suc, ◌<◌, inl, inr, List, [], length, refl, sym, ap, ◌∙◌, arith, Bool, true, false, not, ◌&&◌, ◌==◌}
-use Rattle.transcript_model.specs.Legal.{HasNoneOpen, is_open}
+use Rattle.std.proofs.Common.{◌≡◌, ℕ, zero, suc, ◌+◌, ◌<◌, ◌⊎◌, inl, inr, true, false, not, ◌&&◌, ◌||◌, List, [], ◌∷◌, ◌++◌, length, refl, sym, ap, subst, ◌∙◌, arith, eq-eqb}
+use Rattle.std.proofs.lemmas.Bool.{true≢false}
+use Rattle.lemmas.proofs.Bools.{false_by}
+use Rattle.level_course.specs.Courses.{Course, IsBehind}
+use Rattle.mode_course.proofs.MadeLemmas.{between_awaits, undreamt_awaits}
+use Rattle.mode_course.proofs.StepsLemmas.{awaits_one, still_open}
+use Rattle.mode_course.specs.Agendas.{is_over, is_resting, mode_place_in}
+use Rattle.mode_course.specs.Laws.{IsAt}
+use Rattle.mode_course.specs.Places.{Awaits, IsBatchStep, Place, goes_on, resting, undreamt, with_batch}
+use Rattle.task_model.specs.Streams.{yields_of}
+use Rattle.task_model.specs.declared.stream.Instance.{Instance}
+use Rattle.task_model.specs.declared.task.Task.{Task}
+use Rattle.transcript_model.proofs.RoundsFrontLemmas.{front_of}
+use Rattle.transcript_model.specs.Legal.{HasNoneOpen, asks_of, is_answer, is_ask, is_mark, is_open}
+use Rattle.transcript_model.specs.Names.{call_of_instance}
 use Rattle.transcript_model.specs.Outcomes.{IsPastCalls}
-use Rattle.transcript_model.specs.Turns.{AreTurns, IncrementalTurn, Stage, after_cut, between, inside}
+use Rattle.transcript_model.specs.Rounds.{Limits, requests, requests_from}
+use Rattle.transcript_model.specs.Transcript.{names_of, notes_of}
+use Rattle.transcript_model.specs.Turns.{AreTurnsOf, Stage, after_cut, between, inside}
 use Rattle.transcript_model.specs.declared.entry.Entry.{Entry}
+use Rattle.transcript_model.specs.declared.entry.Entry.TheVariants as entry
 use Rattle.transcript_model.specs.declared.outcome.LimitKind.TheVariants.{Calls}
 use Rattle.transcript_model.specs.declared.outcome.Outcome.{Outcome}
 use Rattle.transcript_model.specs.declared.outcome.Outcome.TheVariants as outcome
-use Rattle.level_course.proofs.CoursesStepLemmas.{turns_lead}
-use Rattle.level_course.proofs.CoursesLemmas.{leads_once}
-use Rattle.level_course.proofs.CoursesTurnLemmas.{turned}
-use Rattle.level_course.specs.Agendas.{place_in}
-use Rattle.level_course.specs.Courses.{Course, at_first}
-use Rattle.level_course.specs.Laws.{IsAt}
 use Rattle.replay_check.proofs.FindingsLemmas.{placed_at}
-use Rattle.replay_check.specs.Breaches.{IsMisplaced}
-use Rattle.replay_check.specs.Findings.{IsPlaced, IsRightEnd}
-use Rattle.replay_check.specs.Standings.{AreBounds, IsStanding, limits_by}
+use Rattle.replay_check.proofs.NextLemmas.{awaits_between, awaits_undreamt}
+use Rattle.replay_check.proofs.PlacesLemmas.{batch_of, between_inside, next_step, stage_at, step_begun, stops}
+use Rattle.replay_check.specs.Breaches.{AreBegun, AreInBatch, HasPlace}
+use Rattle.replay_check.specs.Findings.{IsPlaced, IsRightEnd, MayEndAt}
+use Rattle.replay_check.specs.Standings.{AreBounds, IsStanding, StandsBehind, limits_by}
 use Rattle.replay_check.specs.declared.bounds.Bounds.{Bounds}
-use Rattle.replay_check.specs.declared.entries.Standing.{Standing}
+use Rattle.replay_check.specs.declared.standing.Standing.{Standing}
 
--- ---- whether nothing is to do
+cut_inside : ¬ (after_cut ≡ inside)
+cut_inside e = absurd (cc)
 
-pub rests_not : (n : ℕ) (cut : Bool) → ((n == 0) && not cut) ≡ false → n ≡ 0 → cut ≡ false → ⊥
-rests_not zero false e none uncut = absurd (cc)
-rests_not zero true e none uncut = absurd (cc)
-rests_not (suc n) cut e none uncut = omega (arith, none)
+-- requests and answers are no marks
+talk_no_mark : (e : Entry) → (is_ask e || is_answer e) ≡ true → is_mark e ≡ false
+talk_no_mark (entry.Ask n turn call) talks = refl
+talk_no_mark (entry.Got n tuples values) talks = refl
+talk_no_mark (entry.Value n value) talks = refl
+talk_no_mark (entry.End n) talks = refl
+talk_no_mark entry.Level talks = absurd (cc)
+talk_no_mark (entry.Dream uses steps) talks = absurd (cc)
+talk_no_mark entry.Nothing talks = absurd (cc)
+talk_no_mark entry.Reset talks = absurd (cc)
+talk_no_mark (entry.Pick n) talks = absurd (cc)
+talk_no_mark (entry.Retire n) talks = absurd (cc)
 
--- ---- places
+module _ (b : Bounds) (bounds : AreBounds b) (entries : List Entry) (s : Standing) (standing : IsStanding b entries s) where
+  abbrev task : Task
+  task = b.task.now
 
-module _ (b : Bounds) (limit : ℕ) (bounds : AreBounds b) (entries : List Entry) (s : Standing) (stands : IsStanding b entries s) where
-  abbrev here : Course
-  here = place_in b.task.now entries s.course
+  abbrev limits : Limits
+  limits = limits_by b
 
-  -- the entries are turns that stop in a stage
-  record Stops : Type 0 where
-    stage : Stage
-    at : IsAt here stage
-    turns : AreTurns (limits_by b) b.task.now (IncrementalTurn (limits_by b) b.task.now) tt [] entries stage
+  abbrev stands : StandsBehind limits task entries s.ledger s.course
+  stands = standing.stands
 
-  stops : Stops
-  stops =
-      let t = turned (limits_by b) b.task.now (length entries) bounds.workers [] entries at_first here
-      (omega arith) refl refl (λ none. (refl, refl)) stands.leads in
-      record { stage = t.stage; at = t.at; turns = t.turns }
+  abbrev here : Place
+  here = mode_place_in task entries s.course
 
-  -- between levels each outcome may stand
-  pub between_placed : (o : Outcome) → s.course.answers ≡ 0 → s.course.is_cut ≡ false
-      → IsPlaced (limits_by b) limit b.task.now entries o
-  between_placed o none uncut = by stops.stage stops.at stops.turns
+  -- ---- inside a batch
+
+  -- an answer that may come next leads somewhere
+  behind_answer : (left : ℕ) (e : Entry) → (after : Course) × IsBehind limits task (entries ++ e ∷ []) here.batch left after
+  behind_answer zero e =
+      let f = front_of limits.pools s.course.batch.later bounds.workers in (
+        record {
+          asks = requests task (entries ++ e ∷ []) f.round;
+          next = asks_of (entries ++ e ∷ []) + 1;
+          answers = length f.round;
+          later = f.rest;
+          is_cut = s.course.batch.is_cut;
+        },
+        record { round = f.round; rest = f.rest; parts = f.parts; fit = f.fit; full = f.full; some = f.some; is = refl },
+      )
+  behind_answer (suc left) e = (
+    record {
+      asks = [];
+      next = s.course.batch.next + 1;
+      answers = suc left;
+      later = s.course.batch.later;
+      is_cut = s.course.batch.is_cut;
+    },
+    refl,
+  )
+
+  -- where something is open, a request or an answer may come next
+  in_batch : 0 < s.course.batch.answers → AreInBatch limits task entries
+  in_batch some = by s.course.batch.to_ask refl
     where
-      by : (stage : Stage) → IsAt here stage
-          → AreTurns (limits_by b) b.task.now (IncrementalTurn (limits_by b) b.task.now) tt [] entries stage
-          → IsPlaced (limits_by b) limit b.task.now entries o
-      by between at turns =
-          placed_at (limits_by b) limit b.task.now entries o between turns (inl refl)
-      by after_cut at turns = let both : true ≡ false = sym at.1 ∙ uncut in absurd (cc)
-      by inside at turns = absurd (omega (arith, at, none))
+      goes : (e : Entry) (after : Course) → IsBatchStep limits task entries here.batch e after
+          → AreBegun limits task (entries ++ e ∷ [])
+      goes e after step =
+          step_begun limits task entries here stands.leads bounds.workers e (with_batch here after) (goes_on after step refl)
 
-  -- elsewhere none but the limit of calls
-  pub elsewhere : (o : Outcome) → ¬ (o ≡ outcome.Limit Calls)
-      → (s.course.answers ≡ 0 → s.course.is_cut ≡ false → ⊥)
-      → IsMisplaced (limits_by b) b.task.now entries o
-  elsewhere o other busy = (other, λ turns. busy_there turns)
+      answered : (n : ℕ) → s.course.batch.answers ≡ n → (left : ℕ) × (s.course.batch.answers ≡ suc left)
+      answered zero none = absurd (omega (arith, some, none))
+      answered (suc left) is = (left, is)
+
+      by : (is : List Instance) → s.course.batch.to_ask ≡ is → AreInBatch limits task entries
+      by [] none =
+          let left = answered s.course.batch.answers refl in
+          let e = entry.End s.course.batch.next in
+          let behind = behind_answer left.0 e in (
+            e,
+            refl,
+            goes e behind.0 (inr (record {
+              asked = ap (requests_from task entries (asks_of entries + 1)) none;
+              left = left.0;
+              answers = left.1;
+              to = eq-eqb s.course.batch.next s.course.batch.next refl;
+              behind = behind.1;
+            })),
+          )
+      by (i ∷ is) there =
+          let number = asks_of entries + 1 in
+          let e = entry.Ask number (yields_of (notes_of task entries) i) (call_of_instance task (names_of task entries) i) in
+          let rest = requests_from task entries (number + 1) is in (
+            e,
+            refl,
+            goes e (record {
+              asks = rest;
+              next = s.course.batch.next;
+              answers = s.course.batch.answers;
+              later = s.course.batch.later;
+              is_cut = s.course.batch.is_cut;
+            }) (inl (record { more = some; rest = rest; asks = ap (requests_from task entries number) there; is = refl })),
+          )
+
+  -- ---- outcomes that have no place
+
+  -- behind the want of a dream neither a request nor an answer comes
+  undreamt_alone : Awaits here undreamt → AreInBatch limits task entries → ⊥
+  undreamt_alone awaits (e, talks, begun) =
+      let step = next_step limits task entries here stands.leads bounds.mode e begun in
+      let batch = batch_of limits task entries here e step.0 (talk_no_mark e talks) step.1 in
+      still_open limits task entries here e batch.0 undreamt batch.1 awaits
+
+  pub misplaced : (o : Outcome) → ¬ (MayEndAt s.course o) → ¬ (HasPlace limits task entries o)
+  misplaced o elsewhere (inl turns) =
+      elsewhere (inl (awaits_between task entries s.course
+      (stage_at limits task entries here stands.leads bounds.mode between between_inside turns)))
+  misplaced o elsewhere (inr (is, there)) =
+      elsewhere (inr (
+        is,
+        false_by (is_over s.course.batch && not (is_resting s.course.phase))
+            (λ dreamless. by (undreamt_awaits task entries s.course dreamless) there),
+      ))
     where
-      not_inside : between ≡ inside → ⊥
-      not_inside e = absurd (cc)
+      by : Awaits here undreamt → (AreTurnsOf limits.mode limits task entries after_cut ⊎ AreInBatch limits task entries) → ⊥
+      by awaits (inl turns) =
+          let cut = stage_at limits task entries here stands.leads bounds.mode after_cut cut_inside turns in
+          true≢false (sym cut.cut ∙ awaits.uncut)
+      by awaits (inr talks) = undreamt_alone awaits talks
 
-      busy_there : AreTurns (limits_by b) b.task.now (IncrementalTurn (limits_by b) b.task.now) tt [] entries between
-          → ⊥
-      busy_there turns =
-          let to = turns_lead (limits_by b) b.task.now tt [] entries between at_first turns refl refl in
-          let same = leads_once (limits_by b) b.task.now at_first [] entries here to.last stands.leads to.leads in
-          let at = to.at not_inside in
-          busy (ap (λ (c : Course). c.answers) same ∙ at.0) (ap (λ (c : Course). c.is_cut) same ∙ at.1)
+  -- ---- outcomes that have one
 
-  -- where no answer is wanted, no request is open
-  pub none_open : s.course.answers ≡ 0 → HasNoneOpen entries
-  none_open none n = by (is_open entries n) refl
-    where
-      by : (waits : Bool) → is_open entries n ≡ waits → is_open entries n ≡ false
-      by true e =
-          let within = stands.answered n e in
-          let first = within.0 in
-          let last = within.1 in
-          let count = stands.count in
-          let some = stands.some in
-          absurd (omega (arith, first, last, count, some, none))
-      by false e = e
+  module _ (limit : ℕ) where
+    -- between two turns each outcome may stand
+    between_placed : (o : Outcome) → Awaits here resting → IsPlaced limits limit task entries o
+    between_placed o awaits =
+        let st = stops limits task entries here stands.leads bounds.workers in
+        by st.stage st.at st.turns
+      where
+        by : (stage : Stage) → IsAt here stage → AreTurnsOf limits.mode limits task entries stage
+            → IsPlaced limits limit task entries o
+        by between at turns = placed_at limits limit task entries o between turns (inl refl)
+        by after_cut at turns = absurd (true≢false (sym at.cut ∙ awaits.uncut))
+        by inside (inl some) turns = let none = awaits.answered in absurd (omega (arith, some, none))
+        by inside (inr other) turns = awaits_one here awaits other
 
-  -- Where all calls are made and answered, no answer is wanted.
-  all_answered : IsPastCalls (limits_by b) b.task.now entries → 0 < s.course.answers → ⊥
-  all_answered past some =
-      let left = stands.left in
+    -- where all calls are made and answered, no answer is wanted
+    all_answered : IsPastCalls limits task entries → 0 < s.course.batch.answers → ⊥
+    all_answered past some =
+        let left = stands.left in
+        let count = stands.count in
+        let calls = past.calls in
+        let waits : is_open entries s.course.batch.next ≡ true =
+        stands.waiting s.course.batch.next (omega arith) (omega (arith, left, count, calls, some)) in
+        true≢false (sym waits ∙ past.none_open s.course.batch.next)
+
+    calls_placed : (is_over s.course.batch && not (is_resting s.course.phase)) ≡ false
+        → IsPlaced limits limit task entries (outcome.Limit Calls)
+    calls_placed other =
+        let st = stops limits task entries here stands.leads bounds.workers in
+        record { place = there st.stage st.at st.turns; stands = λ past. right past st.stage st.at st.turns }
+      where
+        there : (stage : Stage) → IsAt here stage → AreTurnsOf limits.mode limits task entries stage
+            → HasPlace limits task entries (outcome.Limit Calls)
+        there between at turns = inl turns
+        there after_cut at turns = inr (refl, inl turns)
+        there inside (inl some) turns = inr (refl, inr (in_batch some))
+        there inside (inr awaits) turns = absurd (true≢false (sym (awaits_undreamt task entries s.course awaits) ∙ other))
+
+        right : IsPastCalls limits task entries → (stage : Stage) → IsAt here stage
+            → AreTurnsOf limits.mode limits task entries stage
+            → IsRightEnd limits limit task entries (outcome.Limit Calls)
+        right past between at turns = record { stage = between; turns = turns; stands = inl refl; true = past }
+        right past after_cut at turns = record { stage = after_cut; turns = turns; stands = inr (refl, refl); true = past }
+        right past inside (inl some) turns = absurd (all_answered past some)
+        right past inside (inr awaits) turns = absurd (true≢false (sym (awaits_undreamt task entries s.course awaits) ∙ other))
+
+    pub has_its_place : (o : Outcome) → MayEndAt s.course o → IsPlaced limits limit task entries o
+    has_its_place o (inl rests) = between_placed o (between_awaits task entries s.course rests)
+    has_its_place o (inr (is, other)) = subst (IsPlaced limits limit task entries) (sym is) (calls_placed other)
+
+  -- where another outcome has its place, no request is open
+  pub none_waits : (o : Outcome) → MayEndAt s.course o → ¬ (o ≡ outcome.Limit Calls) → HasNoneOpen entries
+  none_waits o (inr (is, other)) no_limit n = absurd (no_limit is)
+  none_waits o (inl rests) no_limit n =
+      false_by (is_open entries n) (λ waits.
+      let within = stands.answered n waits in
+      let first = within.0 in
+      let last = within.1 in
       let count = stands.count in
-      let calls = past.calls in
-      let waits : is_open entries s.course.next ≡ true =
-      stands.waiting s.course.next (omega arith) (omega (arith, left, count, calls, some)) in
-      let both : true ≡ false = sym waits ∙ past.none_open s.course.next in
-      absurd (cc)
-
-  calls_stand : IsPastCalls (limits_by b) b.task.now entries
-      → IsRightEnd (limits_by b) limit b.task.now entries (outcome.Limit Calls)
-  calls_stand past = by stops.stage stops.at stops.turns
-    where
-      by : (stage : Stage) → IsAt here stage
-          → AreTurns (limits_by b) b.task.now (IncrementalTurn (limits_by b) b.task.now) tt [] entries stage
-          → IsRightEnd (limits_by b) limit b.task.now entries (outcome.Limit Calls)
-      by between at turns =
-          record { stage = between; turns = turns; stands = inl refl; true = past }
-      by after_cut at turns =
-          record { stage = after_cut; turns = turns; stands = inr (refl, refl); true = past }
-      by inside at turns = absurd (all_answered past at)
-
-  -- the limit of calls is in its place everywhere, since it is false inside a turn
-  pub calls_placed : IsPlaced (limits_by b) limit b.task.now entries (outcome.Limit Calls)
-  calls_placed = record { right = λ wrong. wrong.0 refl; stands = calls_stand }
+      let some = stands.some in
+      let none = (between_awaits task entries s.course rests).answered in
+      omega (arith, first, last, count, some, none))

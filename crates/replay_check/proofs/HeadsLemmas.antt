@@ -4,15 +4,15 @@ use Rattle.std.proofs.lemmas.Bool.{cases_lt}
 use Rattle.lemmas.proofs.Bools.{not_both}
 use Rattle.lemmas.proofs.Members.{get_and_take}
 use Rattle.lemmas.proofs.ListTests.{get_there}
+use Rattle.mode_course.specs.Laws.{IsFollowed}
 use Rattle.task_model.specs.declared.task.Task.{Task}
-use Rattle.transcript_model.specs.declared.head.Mode.TheVariants.{Incremental}
 use Rattle.transcript_model.specs.declared.head.PoolLine.{PoolLine}
 use Rattle.transcript_model.specs.declared.report.Report.{Report}
 use Rattle.replay_check.specs.Breaches.{BreaksHead}
 use Rattle.replay_check.specs.Heads.{AreFitPoolLines, are_fit_limits, is_fit_pool}
 use Rattle.replay_check.specs.Lines.{line_behind_pools}
 
-module _ (task : Task) (r : Report) (place : ℕ) (mode : r.mode ≡ Incremental)
+module _ (task : Task) (r : Report) (place : ℕ) (mode : IsFollowed r.mode)
     (limits : are_fit_limits r ≡ true) (fit : AreFitPoolLines task (take place r.pools)) (within : place < length r.pools) where
   not_earlier : (b : ℕ) (pool : PoolLine) → slice_get r.pools b ≡ Some pool
       → is_fit_pool task (take b r.pools) pool ≡ false → b < place → ⊥

@@ -12,7 +12,7 @@ use Rattle.replay_check.specs.Heads.{AreFitPoolLines, are_new, is_fit_pool, serv
 use Rattle.replay_check.specs.declared.head.Before.{Before}
 use Rattle.lemmas.proofs.Numbers.{le_test}
 
-last_or_before : {A : Type 0} (xs : List A) (x : A) (k : ℕ) (y : A)
+pub last_or_before : {A : Type 0} (xs : List A) (x : A) (k : ℕ) (y : A)
     → slice_get (xs ++ x ∷ []) k ≡ Some y
     → ((slice_get xs k ≡ Some y) × (take k (xs ++ x ∷ []) ≡ take k xs)) ⊎ ((x ≡ y) × (take k (xs ++ x ∷ []) ≡ xs))
 last_or_before [] x zero y at = inr (cc, refl)

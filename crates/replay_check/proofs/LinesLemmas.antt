@@ -4,12 +4,15 @@ use Rattle.std.proofs.lemmas.Bool.{cases_lt}
 use Rattle.std.proofs.lemmas.List.{length-append, length-map, take_all}
 use Rattle.std.specs.Fmt.{decimal}
 use Rattle.std.specs.List.{flat_map}
-use Rattle.std.proofs.lemmas.Option.{none-some, slice_get_past}
+use Rattle.std.proofs.lemmas.Option.{none-some, slice_get_past, slice_get_within}
+use Rattle.dream_check.specs.Lines.{IsWrongLine}
+use Rattle.task_model.specs.declared.stream.Instance.{Instance}
 use Rattle.task_model.specs.declared.task.Task.{Task}
 use Rattle.report_text.proofs.FormsLemmas.{report_text}
 use Rattle.transcript_model.specs.Rounds.{Limits}
-use Rattle.report_text.specs.Texts.{Line, do_line, done_line, entry_lines, from_line, head_lines, line, line_text, lines_text, outcome_lines, pool_line, text_of_report, lines_of_report}
+use Rattle.report_text.specs.Texts.{Line, do_line, done_line, entry_lines, from_line, head_lines, line, line_text, lines_text, outcome_lines, pool_line, step_line, text_of_report, lines_of_report, use_line}
 use Rattle.transcript_model.specs.declared.entry.Call.{Call}
+use Rattle.transcript_model.specs.declared.entry.DreamUse.{DreamUse}
 use Rattle.transcript_model.specs.declared.entry.Entry.{Entry}
 use Rattle.transcript_model.specs.declared.entry.Entry.TheVariants as entry
 use Rattle.transcript_model.specs.declared.outcome.LimitKind.{LimitKind}
@@ -17,7 +20,7 @@ use Rattle.transcript_model.specs.declared.outcome.Origin.{Origin}
 use Rattle.transcript_model.specs.declared.outcome.Outcome.{Outcome}
 use Rattle.transcript_model.specs.declared.outcome.Outcome.TheVariants as outcome
 use Rattle.transcript_model.specs.declared.report.Report.{Report}
-use Rattle.replay_check.specs.Breaches.{BreaksFrom, BreaksOutcome}
+use Rattle.replay_check.specs.Breaches.{BreaksEntry, BreaksFrom, BreaksOutcome, IsFalseDream}
 use Rattle.replay_check.specs.Findings.{IsFirstWrong, NoneEarlier}
 use Rattle.replay_check.specs.Lines.{outcome_line}
 use Rattle.replay_check.specs.declared.verdict.BreachKind.{BreachKind}
@@ -44,7 +47,8 @@ report_short r bytes is =
 
 -- ---- entries
 
-entry_long : (e : Entry) → 1 ≤ length (entry_lines e)
+-- each entry has a line
+pub entry_long : (e : Entry) → 1 ≤ length (entry_lines e)
 entry_long entry.Level = omega arith
 entry_long (entry.Ask number turn call) = omega arith
 entry_long (entry.Got number tuples values) = omega arith
@@ -56,31 +60,86 @@ entry_long entry.Reset = omega arith
 entry_long (entry.Pick number) = omega arith
 entry_long (entry.Retire number) = omega arith
 
--- an entry begins behind the first line of each that precedes it
-pub lines_rise : (xs : List Entry) (j k : ℕ) → j < length xs → j < k
-    → length (flat_map entry_lines (take j xs)) + 1 ≤ length (flat_map entry_lines (take k xs))
-lines_rise [] j k within lt = absurd (omega (arith, within))
-lines_rise (x ∷ xs) j zero within lt = absurd (omega (arith, lt))
-lines_rise (x ∷ xs) zero (suc k) within lt =
+-- a dream has one line, and one for each use and each step
+pub dream_count : (uses : List DreamUse) (steps : List Call)
+    → length (entry_lines (entry.Dream uses steps)) ≡ length uses + length steps + 1
+dream_count uses steps =
+    let sum = length-append (map use_line uses) (map step_line steps) in
+    let first = length-map uses use_line in
+    let second = length-map steps step_line in
+    omega (arith, sum, first, second)
+
+-- an entry begins behind all lines of each that precedes it
+pub lines_rise : (xs : List Entry) (j k : ℕ) (e : Entry) → slice_get xs j ≡ Some e → j < k
+    → length (flat_map entry_lines (take j xs)) + length (entry_lines e) ≤ length (flat_map entry_lines (take k xs))
+lines_rise [] j k e at lt = absurd (cc)
+lines_rise (x ∷ xs) j zero e at lt = absurd (omega (arith, lt))
+lines_rise (x ∷ xs) zero (suc k) e at lt =
+    let is : x ≡ e = cc in
+    let same = ap (λ (d : Entry). length (entry_lines d)) is in
     let sum = length-append (entry_lines x) (flat_map entry_lines (take k xs)) in
-    let own = entry_long x in
-    omega (arith, sum, own)
-lines_rise (x ∷ xs) (suc j) (suc k) within lt =
+    omega (arith, sum, same)
+lines_rise (x ∷ xs) (suc j) (suc k) e at lt =
     let below : j < k = omega (arith, lt) in
-    let there : j < length xs = omega (arith, within) in
     let first = length-append (entry_lines x) (flat_map entry_lines (take j xs)) in
     let second = length-append (entry_lines x) (flat_map entry_lines (take k xs)) in
-    let rest = lines_rise xs j k there below in
+    let rest = lines_rise xs j k e at below in
     omega (arith, first, second, rest)
 
--- all entries end behind the first line of each
-pub lines_past : (xs : List Entry) (j : ℕ) → j < length xs
-    → length (flat_map entry_lines (take j xs)) + 1 ≤ length (flat_map entry_lines xs)
-lines_past xs j within =
+-- all entries end behind the lines of each
+pub lines_past : (xs : List Entry) (j : ℕ) (e : Entry) → slice_get xs j ≡ Some e
+    → length (flat_map entry_lines (take j xs)) + length (entry_lines e) ≤ length (flat_map entry_lines xs)
+lines_past xs j e at =
     let all : length (flat_map entry_lines (take (length xs) xs)) ≡ length (flat_map entry_lines xs) =
     ap (λ (es : List Entry). length (flat_map entry_lines es)) (take_all (length xs) xs (omega arith)) in
-    let rise = lines_rise xs j (length xs) within within in
+    let rise = lines_rise xs j (length xs) e at (slice_get_within xs j e at) in
     omega (arith, all, rise)
+
+-- the front of some entries has no more lines
+pub lines_front : (xs : List Entry) (k : ℕ) → length (flat_map entry_lines (take k xs)) ≤ length (flat_map entry_lines xs)
+lines_front [] zero = omega arith
+lines_front [] (suc k) = omega arith
+lines_front (x ∷ xs) zero = omega arith
+lines_front (x ∷ xs) (suc k) =
+    let first = length-append (entry_lines x) (flat_map entry_lines (take k xs)) in
+    let second = length-append (entry_lines x) (flat_map entry_lines xs) in
+    let rest = lines_front xs k in
+    omega (arith, first, second, rest)
+
+-- a line of a dream that is wrong is one of its own
+pub wrong_line_few : (limits : Limits) (task : Task) (before : List Entry) (tried : List Instance) (uses : List DreamUse)
+    (steps : List Call) (offset : ℕ) → IsWrongLine limits task before tried uses steps offset → offset ≤ length uses + length steps
+wrong_line_few limits task before tried uses steps offset (inl b) = let within = b.within in let is = b.is in omega (arith, within, is)
+wrong_line_few limits task before tried uses steps offset (inr (inl b)) =
+    let within = b.within in let is = b.is in omega (arith, within, is)
+wrong_line_few limits task before tried uses steps offset (inr (inr (is, none))) = omega (arith, is)
+
+-- a line of an entry that is wrong is one of its own
+pub line_within : (limits : Limits) (task : Task) (before : List Entry) (e : Entry) (offset : ℕ) (k : BreachKind)
+    → BreaksEntry limits task before e offset k → offset + 1 ≤ length (entry_lines e)
+line_within limits task before e offset kind.Ask wrong = let long = entry_long e in omega (arith, wrong.0, long)
+line_within limits task before e offset kind.Answer wrong = let long = entry_long e in omega (arith, wrong.0, long)
+line_within limits task before e offset kind.Order wrong = let long = entry_long e in omega (arith, wrong.0, long)
+line_within limits task before e offset kind.Outcome wrong = let long = entry_long e in omega (arith, wrong.0, long)
+line_within limits task before e offset kind.Dream wrong = by e wrong
+  where
+    by : (d : Entry) → IsFalseDream limits task before d offset → offset + 1 ≤ length (entry_lines d)
+    by (entry.Dream uses steps) (k, left, line) =
+        let few = wrong_line_few limits task before k.tried uses steps offset line in let count = dream_count uses steps in omega (arith, few, count)
+    by entry.Level none = absurd none
+    by (entry.Ask number turn call) none = absurd none
+    by (entry.Got number tuples values) none = absurd none
+    by (entry.Value number value) none = absurd none
+    by (entry.End number) none = absurd none
+    by entry.Nothing none = absurd none
+    by entry.Reset none = absurd none
+    by (entry.Pick number) none = absurd none
+    by (entry.Retire number) none = absurd none
+line_within limits task before e offset kind.Text wrong = absurd wrong
+line_within limits task before e offset kind.Head wrong = absurd wrong
+line_within limits task before e offset kind.Plan wrong = absurd wrong
+line_within limits task before e offset kind.Cost wrong = absurd wrong
+line_within limits task before e offset kind.From wrong = absurd wrong
 
 -- ---- all lines
 

@@ -6,7 +6,7 @@ use Rattle.std.proofs.lemmas.List.Concat.{flat_map-append}
 use Rattle.task_model.specs.declared.task.Task.{Task}
 use Rattle.report_text.proofs.LineTextLemmas.{read_lines, lines_read}
 use Rattle.report_text.proofs.FormsLemmas.{report_lines, report_text, report_clear}
-use Rattle.report_text.proofs.TextsReadBack.{lines_determine}
+use Rattle.report_text.proofs.ReportsReadBack.{lines_determine}
 use Rattle.report_text.specs.Faults.{BeginsReport, IsFirstFault, IsReport, whole_lines}
 use Rattle.lemmas.specs.Lists.{lines_with_feeds}
 use Rattle.report_text.specs.Forms.{IsFormed}
@@ -114,17 +114,17 @@ module _ (limit : ℕ) (task : Task) (r : Report) where
   said_once Valid Valid first second = refl
   said_once Valid (Invalid line k) first second =
       absurd (no_breach task r line k first.0 second.breach)
-  said_once Valid Limit first second = absurd (first.1 second.0)
+  said_once Valid Limit first second = absurd (first.1 (second.0, second.1))
   said_once (Invalid line k) Valid first second =
       absurd (no_breach task r line k second.0 first.breach)
   said_once (Invalid line k) (Invalid other than) first second =
       let same = neither line other k than (second.first line k first.breach) (first.first other than second.breach) in
       λ i. Invalid (same.0 i) (same.1 i)
   said_once (Invalid line k) Limit first second =
-      absurd (second.1 line k first.breach (first.decided second.0))
-  said_once Limit Valid first second = absurd (second.1 first.0)
+      absurd (second.2 line k first.breach (first.decided second.0 second.1))
+  said_once Limit Valid first second = absurd (second.1 (first.0, first.1))
   said_once Limit (Invalid line k) first second =
-      absurd (first.1 line k second.breach (second.decided first.0))
+      absurd (first.2 line k second.breach (second.decided first.0 first.1))
   said_once Limit Limit first second = refl
 
 pub verdict_once : (limit : ℕ) (task : Task) (bytes : List ℕ) (v w : Verdict)

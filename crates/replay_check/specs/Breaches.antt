@@ -1,10 +1,15 @@
 -- What is wrong with a report, line by line. There is one case for each kind.
-use Rattle.std.specs.Prelude.{◌≡◌, ◌⊎◌, ℕ, ◌+◌, ◌<◌, ◌≤◌, List, [], ◌∷◌, ◌++◌, length, take, true, false, Some, slice_get}
+use Rattle.std.specs.Prelude.{◌≡◌, ◌⊎◌, ◌||◌, ℕ, ◌+◌, ◌<◌, ◌≤◌, List, [], ◌∷◌, ◌++◌, length, take, true, false, Some, slice_get}
+use Rattle.dream_check.specs.Lines.{IsWrongLine}
+use Rattle.mode_course.specs.Laws.{IsFollowed}
+use Rattle.mode_turns.specs.Modes.{Leaves}
 use Rattle.task_model.specs.declared.task.Task.{Task}
+use Rattle.transcript_model.specs.Dreaming.{HasNoDreamAfter}
 use Rattle.transcript_model.specs.Legal.{MayFollow, is_ask, is_answer}
 use Rattle.transcript_model.specs.Outcomes.{AreOrigins, IsTrueOutcome}
 use Rattle.transcript_model.specs.Rounds.{Limits}
-use Rattle.transcript_model.specs.Turns.{AreTurnsOf, Stage, between}
+use Rattle.transcript_model.specs.Transcript.{known_of}
+use Rattle.transcript_model.specs.Turns.{AreTurnsOf, Kept, MayBegin, Stage, after_cut, between}
 use Rattle.transcript_model.specs.declared.entry.Call.{Call}
 use Rattle.transcript_model.specs.declared.entry.Entry.{Entry}
 use Rattle.transcript_model.specs.declared.entry.Entry.TheVariants as entry
@@ -17,7 +22,7 @@ use Rattle.transcript_model.specs.declared.outcome.Outcome.TheVariants as outcom
 use Rattle.transcript_model.specs.declared.report.Report.{Report}
 use Rattle.replay_check.specs.Heads.{are_fit_limits, are_served, is_fit_pool, reported_limits}
 use Rattle.replay_check.specs.Lines.{line_behind_pools, line_of, outcome_line}
-use Rattle.replay_check.specs.Plans.{CanRun, IsPlan}
+use Rattle.shown_steps.specs.Plans.{CanRun, IsPlan}
 use Rattle.replay_check.specs.declared.verdict.BreachKind.{BreachKind}
 use Rattle.replay_check.specs.declared.verdict.BreachKind.TheVariants as kind
 
@@ -35,7 +40,7 @@ pub record BreaksPool (task : Task) (r : Report) (line : ℕ) : Type 0 where
 -- told behind the pools.
 abbrev pub BreaksHead : Task → Report → ℕ → Type 0
 BreaksHead task r line =
-    ((line ≡ 1) × ¬ (r.mode ≡ Incremental))
+    ((line ≡ 1) × ¬ (IsFollowed r.mode))
     ⊎ (((line ≡ 2) × (are_fit_limits r ≡ false))
     ⊎ (BreaksPool task r line ⊎ ((line ≡ line_behind_pools r) × (are_served task r.pools ≡ false))))
 
@@ -51,21 +56,52 @@ MayAsk limits task before e = ⊥
 abbrev pub AreBegun : Limits → Task → List Entry → Type 0
 AreBegun limits task entries = (stage : Stage) × AreTurnsOf limits.mode limits task entries stage
 
--- A request that may not be made; an answer that may not be given; an entry with which no turn goes on.
-abbrev pub BreaksEntry : Limits → Task → List Entry → Entry → BreachKind → Type 0
-BreaksEntry limits task before e kind.Ask = (is_ask e ≡ true) × ¬ (MayAsk limits task before e)
-BreaksEntry limits task before e kind.Answer =
-    (is_answer e ≡ true) × ¬ (MayFollow limits.version task before e)
-BreaksEntry limits task before e kind.Order = ¬ (AreBegun limits task (before ++ e ∷ []))
-BreaksEntry limits task before e other = ⊥
+-- in a mode that dreams a turn may begin behind these entries
+abbrev pub BeginsTurn : Limits → Task → List Entry → Type 0
+BeginsTurn limits task before =
+    ¬ (limits.mode ≡ Incremental) × MayBegin limits task before
+    × AreTurnsOf limits.mode limits task before between
 
--- the entry in this line is wrong so
+-- No turn goes on with the entry. A dream that uses something, and the want of one, are in order where a turn may begin,
+-- whatever else is wrong with them.
+abbrev pub IsOutOfOrder : Limits → Task → List Entry → Entry → Type 0
+IsOutOfOrder limits task before (entry.Dream uses steps) =
+    ¬ (BeginsTurn limits task before × (0 < length uses))
+IsOutOfOrder limits task before entry.Nothing = ¬ (BeginsTurn limits task before)
+IsOutOfOrder limits task before e = ¬ (AreBegun limits task (before ++ e ∷ []))
+
+-- the line of the dream that is so many behind its first is wrong, by what whole turns leave
+abbrev pub IsFalseDream : Limits → Task → List Entry → Entry → ℕ → Type 0
+IsFalseDream limits task before (entry.Dream uses steps) offset =
+    (k : Kept) × Leaves limits task before k × IsWrongLine limits task before k.tried uses steps offset
+IsFalseDream limits task before e offset = ⊥
+
+-- it is said that there is no dream, but by what whole turns leave there may be one
+abbrev pub IsFalseNone : Limits → Task → List Entry → Entry → Type 0
+IsFalseNone limits task before entry.Nothing =
+    (k : Kept) × Leaves limits task before k × ¬ (HasNoDreamAfter limits task before k.tried)
+IsFalseNone limits task before e = ⊥
+
+-- So many lines behind the entry's first: a request that may not be made; an answer that may not be given; an entry with
+-- which no turn goes on; a line of a dream that is none; that there is no dream, which is false.
+abbrev pub BreaksEntry : Limits → Task → List Entry → Entry → ℕ → BreachKind → Type 0
+BreaksEntry limits task before e offset kind.Ask =
+    (offset ≡ 0) × (is_ask e ≡ true) × ¬ (MayAsk limits task before e)
+BreaksEntry limits task before e offset kind.Answer =
+    (offset ≡ 0) × (is_answer e ≡ true) × ¬ (MayFollow limits.version task before e)
+BreaksEntry limits task before e offset kind.Order = (offset ≡ 0) × IsOutOfOrder limits task before e
+BreaksEntry limits task before e offset kind.Dream = IsFalseDream limits task before e offset
+BreaksEntry limits task before e offset kind.Outcome = (offset ≡ 0) × IsFalseNone limits task before e
+BreaksEntry limits task before e offset other = ⊥
+
+-- the line of an entry is wrong so
 pub record BreaksEntries (task : Task) (r : Report) (line : ℕ) (k : BreachKind) : Type 0 where
   pub place : ℕ
   pub e : Entry
   pub there : slice_get r.entries place ≡ Some e
-  pub wrong : BreaksEntry (reported_limits task r) task (take place r.entries) e k
-  pub is : line ≡ line_of r place
+  pub offset : ℕ
+  pub wrong : BreaksEntry (reported_limits task r) task (take place r.entries) e offset k
+  pub is : line ≡ line_of r place + offset
 
 -- ---- outcomes
 
@@ -73,7 +109,7 @@ pub record BreaksEntries (task : Task) (r : Report) (line : ℕ) (k : BreachKind
 pub record BreaksStep (task : Task) (entries : List Entry) (calls : List Call) (offset : ℕ) : Type 0 where
   pub place : ℕ
   pub within : place < length calls
-  pub stuck : ¬ (CanRun task entries (take (place + 1) calls))
+  pub stuck : ¬ (CanRun task (known_of task entries) (take (place + 1) calls))
   pub is : offset ≡ place + 1
 
 -- the origin here isn't the one that is due, or is missing, or needless
@@ -91,9 +127,9 @@ abbrev pub BreaksPlan : Limits → Task → List Entry → List Call → ℕ →
     → Type 0
 BreaksPlan limits task entries calls cost from offset kind.Plan =
     BreaksStep task entries calls offset
-    ⊎ ((offset ≡ length calls + 1) × ((other : ℕ) → ¬ (IsPlan task entries calls other)))
+    ⊎ ((offset ≡ length calls + 1) × ((other : ℕ) → ¬ (IsPlan task (known_of task entries) calls other)))
 BreaksPlan limits task entries calls cost from offset kind.Cost =
-    (offset ≡ length calls + 1) × ¬ (IsPlan task entries calls cost)
+    (offset ≡ length calls + 1) × ¬ (IsPlan task (known_of task entries) calls cost)
 BreaksPlan limits task entries calls cost from offset kind.From =
     BreaksFrom limits.version entries calls from offset
 BreaksPlan limits task entries calls cost from offset other = ⊥
@@ -110,16 +146,23 @@ BreaksSaid limits task entries (outcome.Plan calls cost from) offset k =
     BreaksPlan limits task entries calls cost from offset k
 BreaksSaid limits task entries o offset k = BreaksClaim limits task entries o offset k
 
--- Another outcome than the limit of calls stands inside a turn, or behind a batch that was cut. The limit of calls may
--- stand behind a cut batch; inside a turn it is a false claim, which is the other kind.
-abbrev pub IsMisplaced : Limits → Task → List Entry → Outcome → Type 0
-IsMisplaced limits task entries o =
-    ¬ (o ≡ outcome.Limit Calls) × ¬ (AreTurnsOf limits.mode limits task entries between)
+-- inside a batch: a request or an answer may come next
+abbrev pub AreInBatch : Limits → Task → List Entry → Type 0
+AreInBatch limits task entries =
+    (e : Entry) × ((is_ask e || is_answer e) ≡ true) × AreBegun limits task (entries ++ e ∷ [])
+
+-- An outcome has its place between two turns. The limit of calls has one also behind a batch that was cut, and inside a
+-- batch, where it is false.
+abbrev pub HasPlace : Limits → Task → List Entry → Outcome → Type 0
+HasPlace limits task entries o =
+    AreTurnsOf limits.mode limits task entries between
+    ⊎ ((o ≡ outcome.Limit Calls)
+    × (AreTurnsOf limits.mode limits task entries after_cut ⊎ AreInBatch limits task entries))
 
 -- the line of the outcome that is so many behind its first is wrong so
 abbrev pub BreaksOutcome : Limits → Task → List Entry → Outcome → ℕ → BreachKind → Type 0
 BreaksOutcome limits task entries o offset kind.Order =
-    (offset ≡ 0) × IsMisplaced limits task entries o
+    (offset ≡ 0) × ¬ (HasPlace limits task entries o)
 BreaksOutcome limits task entries o offset k = BreaksSaid limits task entries o offset k
 
 pub record BreaksEnd (task : Task) (r : Report) (line : ℕ) (k : BreachKind) : Type 0 where

@@ -11,10 +11,10 @@ use Rattle.replay_check.specs.declared.claims.Claim.TheVariants.{True, False, Op
 
 abbrev pub IsJudged : Limits → ℕ → Task → List Entry → Outcome → Claim → Type 0
 IsJudged limits limit task entries o True =
-    IsTrueOutcome limits task entries o × ¬ (IsUndecidedClaim limit limits.states task entries o)
+    IsTrueOutcome limits task entries o × ¬ (IsUndecidedClaim limit limits task entries o)
 IsJudged limits limit task entries o False =
-    ¬ (IsTrueOutcome limits task entries o) × ¬ (IsUndecidedClaim limit limits.states task entries o)
-IsJudged limits limit task entries o Open = IsUndecidedClaim limit limits.states task entries o
+    ¬ (IsTrueOutcome limits task entries o) × ¬ (IsUndecidedClaim limit limits task entries o)
+IsJudged limits limit task entries o Open = IsUndecidedClaim limit limits task entries o
 
 -- that it is so, or that it isn't
 abbrev pub claim_of : Bool → Claim

@@ -1,17 +1,19 @@
 -- What is found of an outcome.
-use Rattle.std.specs.Prelude.{ℕ, List}
+use Rattle.std.specs.Prelude.{◌≡◌, ◌⊎◌, ◌&&◌, not, true, false, ℕ, List}
+use Rattle.mode_course.specs.Agendas.{ModeAgenda, is_over, is_resting}
 use Rattle.task_model.specs.declared.task.Task.{Task}
 use Rattle.transcript_model.specs.Outcomes.{IsTrueOutcome, MayStand}
 use Rattle.transcript_model.specs.Rounds.{Limits}
 use Rattle.transcript_model.specs.Turns.{AreTurnsOf, Stage}
 use Rattle.transcript_model.specs.declared.entry.Entry.{Entry}
+use Rattle.transcript_model.specs.declared.outcome.LimitKind.TheVariants.{Calls}
 use Rattle.transcript_model.specs.declared.outcome.Outcome.{Outcome}
 use Rattle.transcript_model.specs.declared.outcome.Outcome.TheVariants as outcome
-use Rattle.replay_check.specs.Breaches.{BreaksOutcome, IsMisplaced}
+use Rattle.replay_check.specs.Breaches.{BreaksOutcome, HasPlace}
 use Rattle.replay_check.specs.Lines.{Precedes}
 use Rattle.replay_check.specs.Verdicts.{IsUndecidedClaim}
-use Rattle.replay_check.specs.declared.outcome.Finding.{Finding}
-use Rattle.replay_check.specs.declared.outcome.Finding.TheVariants.{Holds, Breaks, Open}
+use Rattle.replay_check.specs.declared.finding.Finding.{Finding}
+use Rattle.replay_check.specs.declared.finding.Finding.TheVariants.{Holds, Breaks, Open}
 use Rattle.replay_check.specs.declared.verdict.BreachKind.{BreachKind}
 use Rattle.replay_check.specs.declared.verdict.BreachKind.TheVariants as kind
 
@@ -20,10 +22,17 @@ abbrev pub IsClaim : Outcome → Type 0
 IsClaim (outcome.Plan steps cost from) = ⊥
 IsClaim o = Unit {0}
 
+-- As far as the course goes the outcome has a place: between two turns; and the limit of calls everywhere but behind the
+-- want of a dream.
+abbrev pub MayEndAt : ModeAgenda → Outcome → Type 0
+MayEndAt a o =
+    ((is_over a.batch && is_resting a.phase) ≡ true)
+    ⊎ ((o ≡ outcome.Limit Calls) × ((is_over a.batch && not (is_resting a.phase)) ≡ false))
+
 module _ (limits : Limits) (limit : ℕ) (task : Task) (entries : List Entry) (o : Outcome) where
   -- it can't be decided
   abbrev pub CannotTell : Type 0
-  CannotTell = IsUndecidedClaim limit limits.states task entries o
+  CannotTell = IsUndecidedClaim limit limits task entries o
 
   -- it may stand, and what it says is true
   pub record IsRightEnd : Type 0 where
@@ -32,10 +41,10 @@ module _ (limits : Limits) (limit : ℕ) (task : Task) (entries : List Entry) (o
     pub stands : MayStand stage o
     pub true : IsTrueOutcome limits task entries o
 
-  -- It isn't misplaced, and it may stand here if what it says is true. The limit of calls may be claimed inside a turn,
-  -- where it is false.
+  -- It has its place, and it may stand here if what it says is true. The limit of calls has one inside a batch, where it
+  -- is false.
   pub record IsPlaced : Type 0 where
-    pub right : ¬ (IsMisplaced limits task entries o)
+    pub place : HasPlace limits task entries o
     pub stands : IsTrueOutcome limits task entries o → IsRightEnd
 
   -- no line of it that precedes this one is wrong

@@ -2,13 +2,13 @@
 use Rattle.std.specs.Prelude.{◌≡◌, ℕ, ◌+◌, List, [], ◌∷◌, ◌++◌, map, take, sum_by, Bool, true, false, ◌&&◌, not, ◌==◌, nat_le, Option, Some, None, slice_get, unwrap_or}
 use Rattle.std.specs.List.{list_any, list_all, filter_map, flat_map}
 use Rattle.std.specs.Option.{option_map}
+use Rattle.mode_course.specs.Laws.{IsFollowed}
 use Rattle.task_model.specs.Known.{same_numbers}
 use Rattle.task_model.specs.declared.limits.TheConstants.{MOST_STATES}
 use Rattle.task_model.specs.declared.stream.Stream.{Stream}
 use Rattle.task_model.specs.declared.task.Task.{Task}
 use Rattle.transcript_model.specs.Names.{stream_named}
 use Rattle.transcript_model.specs.Rounds.{Share, Limits}
-use Rattle.transcript_model.specs.declared.head.Mode.TheVariants.{Incremental}
 use Rattle.transcript_model.specs.declared.head.PoolLine.{PoolLine}
 use Rattle.transcript_model.specs.declared.limits.TheConstants.{MOST_CALLS, MOST_DEPTH, WORKERS}
 use Rattle.transcript_model.specs.declared.report.Report.{Report}
@@ -81,7 +81,7 @@ AreFitPoolLines task pools =
 
 -- The head fits the task: its mode is one that is replayed, and its limits and pools are as they should.
 pub record IsFitReportHead (task : Task) (r : Report) : Type 0 where
-  pub mode : r.mode ≡ Incremental
+  pub mode : IsFollowed r.mode
   pub limits : are_fit_limits r ≡ true
   pub pools : AreFitPoolLines task r.pools
   pub served : are_served task r.pools ≡ true

@@ -7,7 +7,7 @@ pub mod Kinds
 pub mod Laws
 pub mod Lines
 pub mod Plans
-pub mod Runs
 pub mod Standings
+pub mod Turns
 pub mod Verdicts
 pub mod Walks

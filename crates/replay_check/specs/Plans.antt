@@ -1,30 +1,41 @@
 -- What is said of a plan as a report shows it.
-use Rattle.std.specs.Prelude.{◌≡◌, ℕ, List, map}
-use Rattle.task_model.specs.Initial.{initial_state}
-use Rattle.task_model.specs.Plans.{Executes, IsValid}
-use Rattle.task_model.specs.State.{Atoms}
-use Rattle.task_model.specs.declared.task.GroundAction.{GroundAction}
+use Rattle.std.specs.Prelude.{◌≡◌, ℕ, ◌^◌, ◌<◌, List, slice_get}
+use Rattle.shown_steps.specs.Plans.{CanRun, IsPlan}
+use Rattle.shown_steps.specs.Runs.{StopsAtStep}
 use Rattle.task_model.specs.declared.task.Task.{Task}
-use Rattle.transcript_model.specs.Calls.{call_of_step}
-use Rattle.transcript_model.specs.Transcript.{names_of, known_of}
+use Rattle.transcript_model.specs.Outcomes.{AreOrigins, IsTruePlan}
+use Rattle.transcript_model.specs.Transcript.{known_of}
 use Rattle.transcript_model.specs.declared.entry.Call.{Call}
 use Rattle.transcript_model.specs.declared.entry.Entry.{Entry}
+use Rattle.transcript_model.specs.declared.outcome.Origin.{Origin}
+use Rattle.replay_check.specs.declared.plan.Planned.{Planned}
+use Rattle.replay_check.specs.declared.plan.Planned.TheVariants.{Right, Stuck, NoGoal, WrongCost, WrongOrigin}
 
-module _ (task : Task) (entries : List Entry) where
-  -- the calls show these steps
-  abbrev pub ShowsSteps : List Call → List GroundAction → Type 0
-  ShowsSteps calls steps = calls ≡ map (call_of_step task (names_of task entries)) steps
+-- the origin here is the first that isn't the one that is due
+pub record DiffersAt (version : ℕ) (entries : List Entry) (calls : List Call) (from : List Origin)
+    (place : ℕ) : Type 0 where
+  pub due : List Origin
+  pub origins : AreOrigins version entries calls due
+  pub other : ¬ (slice_get from place ≡ slice_get due place)
+  pub before : (k : ℕ) → k < place → slice_get from k ≡ slice_get due k
 
-  -- the calls are steps that can be taken one after another
-  pub record CanRun (calls : List Call) : Type 0 where
-    pub steps : List GroundAction
-    pub shown : ShowsSteps calls steps
-    pub state : Atoms
-    pub cost : ℕ
-    pub runs : Executes task (known_of task entries) (initial_state task) steps state cost
+-- what is said of a plan, by the first thing that is wrong with it
+abbrev pub IsPlanned : ℕ → Task → List Entry → List Call → ℕ → List Origin → Planned → Type 0
+IsPlanned version task entries calls cost from Right =
+    IsTruePlan version task entries calls cost from
+IsPlanned version task entries calls cost from (Stuck place) =
+    StopsAtStep task (known_of task entries) calls place
+IsPlanned version task entries calls cost from NoGoal =
+    CanRun task (known_of task entries) calls
+    × ((other : ℕ) → ¬ (IsPlan task (known_of task entries) calls other))
+IsPlanned version task entries calls cost from WrongCost =
+    ((other : ℕ) × IsPlan task (known_of task entries) calls other)
+    × ¬ (IsPlan task (known_of task entries) calls cost)
+IsPlanned version task entries calls cost from (WrongOrigin place) =
+    IsPlan task (known_of task entries) calls cost × DiffersAt version entries calls from place
 
-  -- they are a valid plan of this cost
-  pub record IsPlan (calls : List Call) (cost : ℕ) : Type 0 where
-    pub steps : List GroundAction
-    pub shown : ShowsSteps calls steps
-    pub valid : IsValid task (known_of task entries) steps cost
+-- the place that is told is less than 2^62
+abbrev pub IsNear : Planned → Type 0
+IsNear (Stuck place) = place < 2 ^ 62
+IsNear (WrongOrigin place) = place < 2 ^ 62
+IsNear other = Unit {0}

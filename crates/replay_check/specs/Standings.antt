@@ -1,70 +1,104 @@
 -- Where the judge of a transcript stands.
-use Rattle.std.specs.Prelude.{◌≡◌, ℕ, ◌+◌, ◌≤◌, ◌<◌, List, [], length, true, Some, slice_get}
-use Rattle.std.specs.List.{flat_map}
+use Rattle.std.specs.Prelude.{◌≡◌, ℕ, ◌+◌, ◌≤◌, List, [], length, take, true, Some, slice_get}
+use Rattle.level_course.specs.Agendas.{Agenda}
+use Rattle.mode_course.specs.Agendas.{ModeAgenda, mode_place_in}
+use Rattle.mode_course.specs.Laws.{IsFollowed}
+use Rattle.mode_course.specs.Places.{Awaits, LeadsOn, at_start, undreamt}
+use Rattle.pools.specs.Pools.{HaveWorkers, shares_of}
 use Rattle.task_model.specs.Fit.{IsFit}
 use Rattle.task_model.specs.Streams.{yields_of}
 use Rattle.task_model.specs.declared.limits.TheConstants.{MOST_STATES}
 use Rattle.task_model.specs.declared.stream.Instance.{Instance}
 use Rattle.task_model.specs.declared.task.Task.{Task}
+use Rattle.transcript_ledger.specs.Ledgers.{IsLedger}
+use Rattle.transcript_ledger.specs.declared.ledger.Ledger.{Ledger}
 use Rattle.transcript_model.specs.Legal.{asks_of, is_open}
 use Rattle.transcript_model.specs.Names.{call_of_instance}
 use Rattle.transcript_model.specs.Rounds.{Limits}
-use Rattle.report_text.specs.Texts.{entry_lines}
+use Rattle.transcript_model.specs.Turns.{MayBegin}
 use Rattle.transcript_model.specs.declared.entry.Call.{Call}
 use Rattle.transcript_model.specs.declared.entry.Entry.{Entry}
 use Rattle.transcript_model.specs.declared.entry.Entry.TheVariants as entry
-use Rattle.transcript_model.specs.declared.head.Mode.TheVariants.{Incremental}
 use Rattle.transcript_model.specs.declared.limits.TheConstants.{MOST_CALLS}
-use Rattle.level_course.specs.Agendas.{Agenda, place_in}
-use Rattle.level_course.specs.Courses.{Leads, at_first}
-use Rattle.pools.specs.Pools.{HaveWorkers, shares_of}
 use Rattle.replay_check.specs.Breaches.{BreaksEntry}
-use Rattle.replay_check.specs.Kinds.{breach_number}
-use Rattle.transcript_ledger.specs.Ledgers.{IsLedger}
+use Rattle.replay_check.specs.Lines.{Precedes}
+use Rattle.replay_check.specs.Verdicts.{IsOpenNone}
 use Rattle.replay_check.specs.declared.bounds.Bounds.{Bounds}
-use Rattle.replay_check.specs.declared.entries.Standing.{Standing}
-use Rattle.transcript_ledger.specs.declared.ledger.Ledger.{Ledger}
+use Rattle.replay_check.specs.declared.standing.Standing.{Standing}
 use Rattle.replay_check.specs.declared.verdict.BreachKind.{BreachKind}
+use Rattle.replay_check.specs.declared.verdict.BreachKind.TheVariants as kind
 
 -- what the transcript is bound to
 abbrev pub limits_by : Bounds → Limits
 limits_by b = record {
   version = b.version;
-  mode = Incremental;
+  mode = b.mode;
   calls = b.calls;
   states = b.states;
   depth = b.depth;
   pools = shares_of b.pools.now;
 }
 
--- the task is fit, each pool has a worker, and there are at most 100,000 calls and from 1 to 200,000 states
+-- The task is fit, the mode is one that is replayed, each pool has a worker, there are at most 100,000 calls and from 1 to
+-- 200,000 states, and from 1 to 200,000 states are searched.
 pub record AreBounds (b : Bounds) : Type 0 where
   pub fit : IsFit b.task.now
+  pub mode : IsFollowed b.mode
   pub workers : HaveWorkers (shares_of b.pools.now)
   pub calls : b.calls ≤ MOST_CALLS
   pub some_states : 1 ≤ b.states
   pub few_states : b.states ≤ MOST_STATES
+  pub some_limit : 1 ≤ b.limit
+  pub few_limit : b.limit ≤ MOST_STATES
 
 -- The judge's ledger is that of the entries, and what is to be done is what may come behind them. No more requests are
--- to come than calls are left, and those that were made and are to be answered are open.
-pub record StandsBehind (limits : Limits) (task : Task) (entries : List Entry) (l : Ledger) (a : Agenda) : Type 0 where
+-- to come than calls are left, and those that were made and are to be answered are open. Behind the want of a dream
+-- nothing is open, and what is due is still so.
+pub record StandsBehind (limits : Limits) (task : Task) (entries : List Entry) (l : Ledger)
+    (a : ModeAgenda) : Type 0 where
   pub ledger : IsLedger limits.version task entries l
-  pub leads : Leads limits task at_first [] entries (place_in task entries a)
-  pub count : a.next + a.answers ≡ asks_of entries + length a.to_ask + 1
-  pub left : asks_of entries + length a.to_ask + length a.later ≤ limits.calls
-  pub some : length a.to_ask ≤ a.answers
-  pub waiting : (n : ℕ) → a.next ≤ n → n ≤ asks_of entries → is_open entries n ≡ true
-  pub answered : (n : ℕ) → is_open entries n ≡ true → (a.next ≤ n) × (n ≤ asks_of entries)
-  pub lines : length (flat_map entry_lines entries) ≡ length entries
+  pub leads : LeadsOn limits task at_start [] entries (mode_place_in task entries a)
+  pub count : a.batch.next + a.batch.answers ≡ asks_of entries + length a.batch.to_ask + 1
+  pub left : asks_of entries + length a.batch.to_ask + length a.batch.later ≤ limits.calls
+  pub some : length a.batch.to_ask ≤ a.batch.answers
+  pub waiting : (n : ℕ) → a.batch.next ≤ n → n ≤ asks_of entries → is_open entries n ≡ true
+  pub answered : (n : ℕ) → is_open entries n ≡ true → (a.batch.next ≤ n) × (n ≤ asks_of entries)
+  pub dreamless : a.phase ≡ undreamt
+      → Awaits (mode_place_in task entries a) undreamt × MayBegin limits task entries
 
-abbrev pub IsStanding : Bounds → List Entry → Standing → Type 0
-IsStanding b entries s = StandsBehind (limits_by b) b.task.now entries s.ledger s.course
+-- wherever it was said that there is no dream, that is decided
+abbrev pub AreDecided : ℕ → Limits → Task → List Entry → Type 0
+AreDecided limit limits task entries =
+    (place : ℕ) → slice_get entries place ≡ Some entry.Nothing
+    → ¬ (IsOpenNone limit limits task (take place entries))
 
--- the entry is wrong so, and in no way of a smaller kind
-pub record IsWrong (limits : Limits) (task : Task) (before : List Entry) (e : Entry) (k : BreachKind) : Type 0 where
-  pub breaks : BreaksEntry limits task before e k
-  pub first : (other : BreachKind) → breach_number other < breach_number k
-      → ¬ (BreaksEntry limits task before e other)
+pub record IsStanding (b : Bounds) (entries : List Entry) (s : Standing) : Type 0 where
+  pub stands : StandsBehind (limits_by b) b.task.now entries s.ledger s.course
+  pub decided : AreDecided b.limit (limits_by b) b.task.now entries
+
+-- ---- what is wrong with an entry
+
+-- no line of the entry that precedes this one is wrong
+abbrev pub NoLineEarlier : Limits → Task → List Entry → Entry → ℕ → BreachKind → Type 0
+NoLineEarlier limits task before e offset k =
+    (other : ℕ) (than : BreachKind) → BreaksEntry limits task before e other than
+    → ¬ (Precedes other than offset k)
+
+-- This line of the entry is wrong so, and none is that precedes it; nor does the claim that there is no dream, where it
+-- isn't decided.
+pub record IsWrong (limit : ℕ) (limits : Limits) (task : Task) (before : List Entry) (e : Entry) (offset : ℕ)
+    (k : BreachKind) : Type 0 where
+  pub breaks : BreaksEntry limits task before e offset k
+  pub first : NoLineEarlier limits task before e offset k
+  pub decided : e ≡ entry.Nothing → IsOpenNone limit limits task before → Precedes offset k 0 kind.Outcome
+
+-- The entry says that there is no dream, which isn't decided, and no line of it is wrong in another way.
+pub record IsOpen (limit : ℕ) (limits : Limits) (task : Task) (before : List Entry) (e : Entry) : Type 0 where
+  pub is : e ≡ entry.Nothing
+  pub unsure : IsOpenNone limit limits task before
+  pub first : NoLineEarlier limits task before e 0 kind.Outcome
+
+-- ---- what comes next
 
 -- the request is the next of the open round
 pub record IsNextRequest (task : Task) (l : Ledger) (a : Agenda) (number turn : ℕ) (call : Call) : Type 0 where

@@ -1,12 +1,14 @@
 -- Entries that are taken one after another.
-use Rattle.std.specs.Prelude.{◌≡◌, ℕ, ◌+◌, ◌<◌, List, take, length, All, Option, None, Some, slice_get}
+use Rattle.std.specs.Prelude.{◌≡◌, ℕ, ◌+◌, ◌<◌, List, take, length, All, Some, slice_get}
 use Rattle.report_text.specs.Forms.{IsFormedEntry}
 use Rattle.transcript_model.specs.declared.entry.Entry.{Entry}
-use Rattle.replay_check.specs.Standings.{AreBounds, IsStanding, IsWrong, limits_by}
+use Rattle.replay_check.specs.Standings.{AreBounds, IsOpen, IsStanding, IsWrong, limits_by}
 use Rattle.replay_check.specs.declared.bounds.Bounds.{Bounds}
-use Rattle.replay_check.specs.declared.entries.Standing.{Standing}
 use Rattle.replay_check.specs.declared.entries.Walked.{Walked}
-use Rattle.replay_check.specs.declared.entries.Walked.TheVariants.{Breaks, Ends}
+use Rattle.replay_check.specs.declared.entries.Walked.TheVariants as walked
+use Rattle.replay_check.specs.declared.finding.Finding.{Finding}
+use Rattle.replay_check.specs.declared.finding.Finding.TheVariants.{Holds, Breaks, Open}
+use Rattle.replay_check.specs.declared.standing.Standing.{Standing}
 use Rattle.replay_check.specs.declared.verdict.BreachKind.{BreachKind}
 
 -- the judge stands before the entry at this place
@@ -16,19 +18,31 @@ pub record CanTake (b : Bounds) (entries : List Entry) (place : ℕ) (s : Standi
   pub within : place < length entries
   pub standing : IsStanding b (take place entries) s
 
--- the entry at this place is wrong, and none before it
-pub record IsWrongAt (b : Bounds) (entries : List Entry) (place : ℕ) (k : BreachKind) : Type 0 where
+-- the judge stands before the entry at this place, of which that is said
+pub record StopsAt (b : Bounds) (entries : List Entry) (place : ℕ) (said : Entry → Type 0) : Type 0 where
   pub before : Standing
   pub standing : IsStanding b (take place entries) before
   pub e : Entry
   pub there : slice_get entries place ≡ Some e
-  pub wrong : IsWrong (limits_by b) b.task.now (take place entries) e k
+  pub is : said e
 
--- the judge stands behind the entry at this place, or that is wrong
-abbrev pub IsEntryTaken : Bounds → List Entry → ℕ → Standing → Option BreachKind → Type 0
-IsEntryTaken b entries place s None = IsStanding b (take (place + 1) entries) s
-IsEntryTaken b entries place s (Some k) = IsWrongAt b entries place k
+-- this line of the entry at this place is wrong, and none before it
+abbrev pub IsWrongAt : Bounds → List Entry → ℕ → ℕ → BreachKind → Type 0
+IsWrongAt b entries place offset k =
+    StopsAt b entries place (λ e. IsWrong b.limit (limits_by b) b.task.now (take place entries) e offset k)
+
+-- the claim of the entry at this place isn't decided, and no line before it is wrong
+abbrev pub IsOpenAt : Bounds → List Entry → ℕ → Type 0
+IsOpenAt b entries place =
+    StopsAt b entries place (λ e. IsOpen b.limit (limits_by b) b.task.now (take place entries) e)
+
+-- the judge stands behind the entry at this place, or a line of it is wrong, or its claim isn't decided
+abbrev pub IsEntryTaken : Bounds → List Entry → ℕ → Standing → Finding → Type 0
+IsEntryTaken b entries place s Holds = IsStanding b (take (place + 1) entries) s
+IsEntryTaken b entries place s (Breaks offset k) = IsWrongAt b entries place offset k
+IsEntryTaken b entries place s Open = IsOpenAt b entries place
 
 abbrev pub IsWalked : Bounds → List Entry → Walked → Type 0
-IsWalked b entries (Breaks place k) = IsWrongAt b entries place k
-IsWalked b entries (Ends s) = IsStanding b entries s
+IsWalked b entries (walked.Breaks place offset k) = IsWrongAt b entries place offset k
+IsWalked b entries (walked.Open place) = IsOpenAt b entries place
+IsWalked b entries (walked.Ends s) = IsStanding b entries s

@@ -1,18 +1,21 @@
 //! What outcomes claim, besides plans.
-ghost use Rattle.std.specs.Prelude.{◌≡◌, ◌≤◌, ℕ, List, IfOk};
+ghost use Rattle.std.specs.Prelude.{◌≡◌, ◌↔◌, ℕ, List, IfOk, IsTrue};
 ghost use Rattle.replay_check.specs.Claims.{IsJudged, claim_of};
 ghost use Rattle.transcript_ledger.specs.Ledgers.{IsLedger};
 ghost use Rattle.replay_check.specs.Standings.{AreBounds, limits_by};
+ghost use Rattle.task_model.specs.Streams.{NothingIsDue};
 ghost use Rattle.transcript_model.specs.Legal.{HasNoneOpen};
+ghost use Rattle.transcript_model.specs.Transcript.{known_of, notes_of};
 ghost use Rattle.transcript_model.specs.declared.entry.Entry.{Entry as AnyEntry};
+ghost use Rattle.transcript_model.specs.declared.head.Mode.TheVariants.{Incremental};
 ghost use Rattle.transcript_model.specs.declared.outcome.LimitKind.TheVariants.{Calls, Instances, States};
 ghost use Rattle.transcript_model.specs.declared.outcome.Outcome.TheVariants as outcome;
-ghost use Rattle.task_model.specs.declared.limits.TheConstants.{MOST_STATES};
 
 use crate::bounds::Bounds;
 use best_first::{Additive, Found, exceeds, search};
 use std::alloc::AllocError;
 use transcript_ledger::{Ledger, dues_of};
+use transcript_model::Mode;
 
 /// What is said of a claim.
 #[derive(Clone, Copy, PartialEq, Eq, Debug)]
@@ -32,24 +35,29 @@ fn decided(is_true: bool) -> Claim
     if is_true { Claim::True } else { Claim::False }
 }
 
-/// That there is no plan, and nothing is due.
-pub(crate) fn judge_no_plan(
-    bounds: &Bounds<'_>,
-    ledger: &Ledger,
-    limit: u32,
-) -> Result<Claim, AllocError>
+/// Whether nothing is due.
+fn is_nothing_due(bounds: &Bounds<'_>, ledger: &Ledger) -> Result<bool, AllocError>
     requires bounds { AreBounds bounds.now }
-    requires some { 1 ≤ limit }
-    requires few { limit ≤ MOST_STATES }
+    ensures { (entries : List AnyEntry)
+        → IsLedger bounds.now.version bounds.now.task.now entries ledger.now
+        → IfOk result (λ yes. IsTrue yes ↔ NothingIsDue bounds.now.task.now
+        (known_of bounds.now.task.now entries) (notes_of bounds.now.task.now entries)) }
+{
+    match dues_of(bounds.task, ledger)? {
+        Some(dues) => Ok(dues.as_slice().is_empty()),
+        None => Ok(false),
+    }
+}
+
+/// That there is no plan, and nothing is due.
+pub(crate) fn judge_no_plan(bounds: &Bounds<'_>, ledger: &Ledger) -> Result<Claim, AllocError>
+    requires bounds { AreBounds bounds.now }
     ensures { (entries : List AnyEntry)
         → IsLedger bounds.now.version bounds.now.task.now entries ledger.now → HasNoneOpen entries
-        → IfOk result (IsJudged (limits_by bounds.now) limit bounds.now.task.now entries
+        → IfOk result (IsJudged (limits_by bounds.now) bounds.now.limit bounds.now.task.now entries
         outcome.NoPlan) }
 {
-    let Some(dues) = dues_of(bounds.task, ledger)? else {
-        return Ok(Claim::False);
-    };
-    if !dues.as_slice().is_empty() {
+    if !is_nothing_due(bounds, ledger)? {
         return Ok(Claim::False);
     }
     let mut estimate = Additive::new(bounds.alloc, bounds.task, &ledger.facts)?;
@@ -57,13 +65,13 @@ pub(crate) fn judge_no_plan(
         bounds.alloc,
         bounds.task,
         &ledger.facts,
-        limit,
+        bounds.limit,
         &mut estimate,
     )? {
         Found::Nothing => Ok(Claim::True),
         Found::Limit => Ok(Claim::Open),
         Found::Plan(_, _) => {
-            if exceeds(bounds.alloc, bounds.task, &ledger.facts, limit)? {
+            if exceeds(bounds.alloc, bounds.task, &ledger.facts, bounds.limit)? {
                 Ok(Claim::Open)
             } else {
                 Ok(Claim::False)
@@ -89,25 +97,39 @@ pub(crate) fn judge_calls(bounds: &Bounds<'_>, ledger: &Ledger) -> Result<Claim,
     Ok(decided(!dues.as_slice().is_empty()))
 }
 
-/// That more states are reached than the report's limit allows.
-pub(crate) fn judge_states(
-    bounds: &Bounds<'_>,
-    ledger: &Ledger,
-    limit: u32,
-) -> Result<Claim, AllocError>
+/// Whether it may be claimed that too many states are reached, as far as what is due goes: in
+/// incremental mode that doesn't matter, and in the others nothing may be due.
+fn may_be_past_states(bounds: &Bounds<'_>, ledger: &Ledger) -> Result<bool, AllocError>
     requires bounds { AreBounds bounds.now }
-    requires some { 1 ≤ limit }
-    requires few { limit ≤ MOST_STATES }
     ensures { (entries : List AnyEntry)
         → IsLedger bounds.now.version bounds.now.task.now entries ledger.now
-        → IfOk result (IsJudged (limits_by bounds.now) limit bounds.now.task.now entries
+        → IfOk result (λ yes. IsTrue yes ↔ (¬ (bounds.now.mode ≡ Incremental)
+        → NothingIsDue bounds.now.task.now (known_of bounds.now.task.now entries)
+        (notes_of bounds.now.task.now entries))) }
+{
+    if bounds.mode == Mode::Incremental {
+        return Ok(true);
+    }
+    is_nothing_due(bounds, ledger)
+}
+
+/// That more states are reached than the report's limit allows, and, outside incremental mode, that
+/// nothing is due.
+pub(crate) fn judge_states(bounds: &Bounds<'_>, ledger: &Ledger) -> Result<Claim, AllocError>
+    requires bounds { AreBounds bounds.now }
+    ensures { (entries : List AnyEntry)
+        → IsLedger bounds.now.version bounds.now.task.now entries ledger.now → HasNoneOpen entries
+        → IfOk result (IsJudged (limits_by bounds.now) bounds.now.limit bounds.now.task.now entries
         (outcome.Limit States)) }
 {
-    if limit >= bounds.states {
+    if !may_be_past_states(bounds, ledger)? {
+        return Ok(Claim::False);
+    }
+    if bounds.limit >= bounds.states {
         let more = exceeds(bounds.alloc, bounds.task, &ledger.facts, bounds.states)?;
         return Ok(decided(more));
     }
-    if exceeds(bounds.alloc, bounds.task, &ledger.facts, limit)? {
+    if exceeds(bounds.alloc, bounds.task, &ledger.facts, bounds.limit)? {
         return Ok(Claim::Open);
     }
     Ok(Claim::False)

@@ -1,6 +1,7 @@
 //! The head of a report.
-ghost use Rattle.std.specs.Prelude.{◌≡◌, ◌+◌, ◌<◌, ◌≤◌, List, ◌++◌, length, map, take, slice_get, IfErr, IfOk, IfSome, IfNone, false, true};
+ghost use Rattle.std.specs.Prelude.{◌≡◌, ◌+◌, ◌<◌, ◌≤◌, List, ◌++◌, length, map, take, slice_get, ◌↔◌, IfErr, IfOk, IfSome, IfNone, IsTrue, false, true};
 ghost use Rattle.std.specs.List.{filter_map, list_any};
+ghost use Rattle.mode_course.specs.Laws.{IsFollowed};
 ghost use Rattle.pools.specs.Pools.{shares_of};
 ghost use Rattle.replay_check.specs.Headed.{IsAfter, IsHeaded};
 ghost use Rattle.replay_check.specs.Heads.{AreFitPoolLines, are_fit_limits as limits_fit, are_new, are_served as all_served, is_fit_pool, share_in};
@@ -20,10 +21,21 @@ use transcript_model::{MOST_CALLS, MOST_DEPTH, Mode, PoolLine, Report, WORKERS};
 /// What is said of a head.
 #[derive(Drop)]
 pub(crate) enum Headed {
-    /// It fits the task, and has these pools; the children of each have the numbers behind those of the pools before it.
+    /// It fits the task, and has these pools; the children of each have the numbers behind those of
+    /// the pools before it.
     Fits(Vec<Workers>),
     /// It breaks a rule first in this line.
     Breaks(usize),
+}
+
+/// Whether reports of the mode are replayed: binding and adaptive mode aren't built.
+fn is_followed(mode: Mode) -> bool
+    ensures { IsTrue result ↔ IsFollowed mode }
+{
+    match mode {
+        Mode::Incremental | Mode::Focused => true,
+        Mode::Binding | Mode::Adaptive => false,
+    }
 }
 
 /// Whether the limits are in their ranges.
@@ -38,7 +50,8 @@ fn are_fit_limits(report: &Report) -> bool
         && report.depth <= MOST_DEPTH
 }
 
-/// The streams of a pool, behind those that were served before; None where one isn't the task's or was served before.
+/// The streams of a pool, behind those that were served before; None where one isn't the task's or
+/// was served before.
 fn streams_of(
     alloc: Global,
     task: &Task,
@@ -160,7 +173,7 @@ pub(crate) fn judge_head(alloc: Global, task: &Task, report: &Report) -> Result<
     requires { IsFit task.now }
     ensures { IfOk result (IsHeaded task.now report.now) }
 {
-    if report.mode != Mode::Incremental {
+    if !is_followed(report.mode) {
         return Ok(Headed::Breaks(1));
     }
     if !are_fit_limits(report) {

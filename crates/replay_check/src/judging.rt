@@ -10,9 +10,11 @@ ghost use Rattle.task_model.specs.declared.limits.TheConstants.{MOST_STATES};
 ghost use Rattle.report_text.specs.Forms.{IsFormed};
 
 use crate::bounds::Bounds;
-use crate::entries::{Standing, Walked, walk};
+use crate::entries::{Walked, walk};
+use crate::finding::Finding;
 use crate::head::{Headed, judge_head};
-use crate::outcome::Finding;
+use crate::lines::lines_of;
+use crate::standing::Standing;
 use crate::verdict::{BreachKind, Verdict};
 use report_reader::read_report;
 use report_text::ReportFault;
@@ -36,20 +38,17 @@ fn judge_end(
     bounds: &Bounds<'_>,
     report: &Report,
     standing: &Standing,
-    limit: u32,
 ) -> Result<Verdict, AllocError>
     requires bounds { AreBounds bounds.now }
     requires head { IsFitReportHead bounds.now.task.now report.now }
     requires limits { reported_limits bounds.now.task.now report.now ≡ limits_by bounds.now }
     requires lines { length (lines_of_report report.now) < 2 ^ 31 }
     requires standing { IsStanding bounds.now report.now.entries standing.now }
-    requires some { 1 ≤ limit }
-    requires few { limit ≤ MOST_STATES }
-    ensures { IfOk result (IsReportVerdict limit bounds.now.task.now report.now) }
+    ensures { IfOk result (IsReportVerdict bounds.now.limit bounds.now.task.now report.now) }
 {
     let entries = report.entries.as_slice();
-    let first = report.pools.len() + 3 + entries.len();
-    match standing.judge_outcome(bounds, entries, &report.outcome, limit)? {
+    let first = report.pools.len() + 3 + lines_of(entries);
+    match standing.judge_outcome(bounds, entries, &report.outcome)? {
         Finding::Holds => Ok(Verdict::Valid),
         Finding::Open => Ok(Verdict::Limit),
         Finding::Breaks(line, kind) => Ok(invalid(first + line, kind)),
@@ -57,19 +56,22 @@ fn judge_end(
 }
 
 /// Judges the transcript and the outcome of a report whose head fits.
-fn judge_rest(bounds: &Bounds<'_>, report: &Report, limit: u32) -> Result<Verdict, AllocError>
+fn judge_rest(bounds: &Bounds<'_>, report: &Report) -> Result<Verdict, AllocError>
     requires bounds { AreBounds bounds.now }
     requires head { IsFitReportHead bounds.now.task.now report.now }
     requires limits { reported_limits bounds.now.task.now report.now ≡ limits_by bounds.now }
     requires formed { IsFormed report.now }
     requires lines { length (lines_of_report report.now) < 2 ^ 31 }
-    requires some { 1 ≤ limit }
-    requires few { limit ≤ MOST_STATES }
-    ensures { IfOk result (IsReportVerdict limit bounds.now.task.now report.now) }
+    ensures { IfOk result (IsReportVerdict bounds.now.limit bounds.now.task.now report.now) }
 {
-    match walk(bounds, report.entries.as_slice())? {
-        Walked::Ends(standing) => judge_end(bounds, report, &standing, limit),
-        Walked::Breaks(place, kind) => Ok(invalid(report.pools.len() + 3 + place, kind)),
+    let entries = report.entries.as_slice();
+    match walk(bounds, entries)? {
+        Walked::Ends(standing) => judge_end(bounds, report, &standing),
+        Walked::Open(_) => Ok(Verdict::Limit),
+        Walked::Breaks(place, line, kind) => {
+            let first = report.pools.len() + 3 + lines_of(&entries[..place]);
+            Ok(invalid(first + line, kind))
+        }
     }
 }
 
@@ -90,21 +92,26 @@ fn judge(alloc: Global, task: &Task, report: &Report, limit: u32) -> Result<Verd
         alloc,
         task,
         version: report.version,
+        mode: report.mode,
         calls: report.calls,
         states: report.states,
         depth: report.depth,
         pools: pools.as_slice(),
+        limit,
     };
-    judge_rest(&bounds, report, limit)
+    judge_rest(&bounds, report)
 }
 
-/// Judges the text of a report by the task, searching at most `limit` states, from 1 to 200,000; the text has fewer than 2^31 bytes.
+/// Judges the text of a report by the task, searching at most `limit` states, from 1 to 200,000;
+/// the text has fewer than 2^31 bytes.
 ///
-/// `Valid` comes exactly where the text is a report of the stated forms whose head fits the task, whose transcript is legal and made
-/// of whole turns, and whose outcome may stand there and is true, and where no claim is undecided. `Invalid` has the first line that
-/// is wrong and the smallest kind of what is wrong with it; that the text isn't of the form is told before all else. `Limit` comes
-/// exactly where a claim can't be decided within the limit, and nothing is wrong before it. Reports of the modes that aren't replayed
-/// yet are wrong in line 1, kind 2. Fails only where memory is wanting.
+/// `Valid` comes exactly where the text is a report of the stated forms whose head fits the task,
+/// whose transcript is legal and made of whole turns of its mode, and whose outcome may stand there
+/// and is true, and where no claim is undecided. `Invalid` has the first line that is wrong and the
+/// smallest kind of what is wrong with it; that the text isn't of the form is told before all else.
+/// `Limit` comes exactly where a claim, of the outcome or that there is no dream, can't be decided
+/// within the limit, and nothing is wrong before it. Reports of binding and adaptive mode, which
+/// aren't replayed yet, are wrong in line 1, kind 2. Fails only where memory is wanting.
 pub fn replay(alloc: Global, task: &Task, bytes: &[u8], limit: u32) -> Result<Verdict, AllocError>
     requires fit { IsFit task.now }
     requires some { 1 ≤ limit }

@@ -1,16 +1,21 @@
-//! Whether a report is right: its head, each entry of its transcript, and its outcome; and if not, where and why.
+//! Whether a report is right: its head, each entry of its transcript, and its outcome; and if not,
+//! where and why.
 #![tactic(auto)]
 
+mod asks;
 mod bounds;
 mod claims;
 mod entries;
+mod finding;
 mod head;
 mod judging;
 pub mod laws;
+mod lines;
 mod origins;
 mod outcome;
 mod plan;
-mod steps;
+mod standing;
+mod turns;
 pub mod verdict;
 
 pub use judging::replay;

@@ -12,7 +12,8 @@ fn is_same(shown: &Origin, due: &Origin) -> bool
         && shown.tuple == due.tuple
 }
 
-/// The first place at which the shown origins differ from those that are due, also where one of them is missing or needless.
+/// The first place at which the shown origins differ from those that are due, also where one of
+/// them is missing or needless.
 pub(crate) fn first_difference(shown: &[Origin], due: &[Origin]) -> Option<usize>
     ensures some { IfSome result (λ k. (¬ (slice_get shown.now k ≡ slice_get due.now k))
         × ((j : ℕ) → j < k → slice_get shown.now j ≡ slice_get due.now j)) }

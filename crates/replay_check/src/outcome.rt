@@ -1,10 +1,9 @@
 //! Whether an outcome may stand, and whether what it says is true.
-ghost use Rattle.std.specs.Prelude.{◌≡◌, ◌<◌, ◌≤◌, ◌^◌, ℕ, List, IfOk, IsTrue, length};
+ghost use Rattle.std.specs.Prelude.{◌≡◌, ◌<◌, ◌^◌, ◌↔◌, ℕ, List, IfOk, IsTrue, length};
 ghost use Rattle.replay_check.specs.Claims.{IsJudged};
-ghost use Rattle.replay_check.specs.Findings.{IsClaim, IsRightFinding, IsPlaced};
-ghost use Rattle.replay_check.specs.Runs.{IsNear, IsPlanned};
+ghost use Rattle.replay_check.specs.Findings.{IsClaim, IsRightFinding, IsPlaced, MayEndAt};
+ghost use Rattle.replay_check.specs.Plans.{IsNear, IsPlanned};
 ghost use Rattle.replay_check.specs.Standings.{AreBounds, IsStanding, limits_by};
-ghost use Rattle.task_model.specs.declared.limits.TheConstants.{MOST_STATES};
 ghost use Rattle.task_model.specs.declared.task.Task.{Task as AnyTask};
 ghost use Rattle.transcript_model.specs.Legal.{HasNoneOpen, IsLegal};
 ghost use Rattle.transcript_model.specs.Rounds.{Limits};
@@ -17,22 +16,12 @@ ghost use Rattle.transcript_model.specs.declared.outcome.Outcome.TheVariants as 
 
 use crate::bounds::Bounds;
 use crate::claims::{Claim, judge_calls, judge_instances, judge_no_plan, judge_states};
-use crate::entries::Standing;
+use crate::finding::Finding;
 use crate::plan::{Planned, ShownPlan, judge_plan};
+use crate::standing::Standing;
 use crate::verdict::BreachKind;
 use std::alloc::AllocError;
 use transcript_model::{Entry, LimitKind, Outcome};
-
-/// What is found of an outcome.
-#[derive(Clone, Copy, PartialEq, Eq, Debug)]
-pub enum Finding {
-    /// It may stand, and what it says is true.
-    Holds,
-    /// It is wrong, first in this line, from 0 for the outcome's first.
-    Breaks(usize, BreachKind),
-    /// It may stand, and its claim can't be decided.
-    Open,
-}
 
 /// What is found of a claim in a place where it may stand.
 fn claimed(claim: Claim) -> Finding
@@ -87,17 +76,14 @@ impl Standing {
         bounds: &Bounds<'_>,
         entries: &[Entry],
         outcome: &Outcome,
-        limit: u32,
     ) -> Result<Finding, AllocError>
         requires bounds { AreBounds bounds.now }
         requires standing { IsStanding bounds.now entries.now self.now }
-        requires placed { IsPlaced (limits_by bounds.now) limit bounds.now.task.now entries.now
-            outcome.now }
-        requires resting { outcome.now ≡ said.NoPlan → HasNoneOpen entries.now }
-        requires some { 1 ≤ limit }
-        requires few { limit ≤ MOST_STATES }
-        ensures { IfOk result (IsRightFinding (limits_by bounds.now) limit bounds.now.task.now
-            entries.now outcome.now) }
+        requires placed { IsPlaced (limits_by bounds.now) bounds.now.limit bounds.now.task.now
+            entries.now outcome.now }
+        requires resting { ¬ (outcome.now ≡ said.Limit Calls) → HasNoneOpen entries.now }
+        ensures { IfOk result (IsRightFinding (limits_by bounds.now) bounds.now.limit
+            bounds.now.task.now entries.now outcome.now) }
     {
         let claim = match outcome {
             Outcome::Plan { steps, cost, from } => {
@@ -110,12 +96,20 @@ impl Standing {
                 let found = judge_plan(bounds, &self.ledger, &plan)?;
                 return Ok(planned(steps.len(), found));
             }
-            Outcome::NoPlan => judge_no_plan(bounds, &self.ledger, limit)?,
+            Outcome::NoPlan => judge_no_plan(bounds, &self.ledger)?,
             Outcome::Limit(LimitKind::Calls) => judge_calls(bounds, &self.ledger)?,
-            Outcome::Limit(LimitKind::States) => judge_states(bounds, &self.ledger, limit)?,
+            Outcome::Limit(LimitKind::States) => judge_states(bounds, &self.ledger)?,
             Outcome::Limit(LimitKind::Instances) => judge_instances(bounds, &self.ledger)?,
         };
         Ok(claimed(claim))
+    }
+
+    /// Whether the outcome may stand here, or is the limit of calls inside a batch, where that is
+    /// false. Behind the want of a dream none may stand.
+    fn has_place(&self, outcome: &Outcome) -> bool
+        ensures { IsTrue result ↔ MayEndAt self.now.course outcome.now }
+    {
+        self.course.is_between() || (is_limit_of_calls(outcome) && !self.course.is_undreamt())
     }
 
     /// Judges the outcome behind these entries.
@@ -124,18 +118,15 @@ impl Standing {
         bounds: &Bounds<'_>,
         entries: &[Entry],
         outcome: &Outcome,
-        limit: u32,
     ) -> Result<Finding, AllocError>
         requires bounds { AreBounds bounds.now }
         requires standing { IsStanding bounds.now entries.now self.now }
-        requires some { 1 ≤ limit }
-        requires few { limit ≤ MOST_STATES }
-        ensures { IfOk result (IsRightFinding (limits_by bounds.now) limit bounds.now.task.now
-            entries.now outcome.now) }
+        ensures { IfOk result (IsRightFinding (limits_by bounds.now) bounds.now.limit
+            bounds.now.task.now entries.now outcome.now) }
     {
-        if !is_limit_of_calls(outcome) && !self.course.is_between() {
+        if !self.has_place(outcome) {
             return Ok(Finding::Breaks(0, BreachKind::Order));
         }
-        self.judge_said(bounds, entries, outcome, limit)
+        self.judge_said(bounds, entries, outcome)
     }
 }

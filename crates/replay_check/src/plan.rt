@@ -2,16 +2,15 @@
 ghost use Rattle.std.specs.Prelude.{IfOk};
 ghost use Rattle.transcript_ledger.specs.Ledgers.{IsLedger};
 ghost use Rattle.transcript_model.specs.Legal.{IsLegal};
-ghost use Rattle.replay_check.specs.Plans.{IsPlan};
-ghost use Rattle.replay_check.specs.Runs.{IsNear, IsPlanned};
+ghost use Rattle.transcript_model.specs.Transcript.{known_of};
+ghost use Rattle.shown_steps.specs.Plans.{IsPlan};
+ghost use Rattle.replay_check.specs.Plans.{IsNear, IsPlanned};
 ghost use Rattle.replay_check.specs.Standings.{AreBounds};
 
 use crate::bounds::Bounds;
 use crate::origins::first_difference;
-use crate::steps::{Ran, run_steps};
-use formula_eval::Env;
-use formula_memo::holds_once;
 use shown_plan::plan_origins;
+use shown_steps::{Ran, run_steps};
 use std::alloc::AllocError;
 use transcript_ledger::Ledger;
 use transcript_model::{Call, Entry, Origin};
@@ -44,8 +43,8 @@ pub enum Planned {
 fn judge_origins(bounds: &Bounds<'_>, plan: &ShownPlan<'_>) -> Result<Planned, AllocError>
     requires bounds { AreBounds bounds.now }
     requires legal { IsLegal bounds.now.version bounds.now.task.now plan.now.entries.now }
-    requires plan { IsPlan bounds.now.task.now plan.now.entries.now plan.now.calls.now
-        plan.now.cost }
+    requires plan { IsPlan bounds.now.task.now (known_of bounds.now.task.now plan.now.entries.now)
+        plan.now.calls.now plan.now.cost }
     ensures said { IfOk result (IsPlanned bounds.now.version bounds.now.task.now
         plan.now.entries.now plan.now.calls.now plan.now.cost plan.now.from.now) }
     ensures near { IfOk result IsNear }
@@ -70,13 +69,17 @@ pub(crate) fn judge_plan(
         plan.now.entries.now plan.now.calls.now plan.now.cost plan.now.from.now) }
     ensures near { IfOk result IsNear }
 {
-    let run = match run_steps(bounds, &ledger.facts, plan.calls)? {
+    let run = match run_steps(
+        bounds.alloc,
+        bounds.task,
+        &ledger.facts,
+        &ledger.facts,
+        plan.calls,
+    )? {
         Ran::Stops(place) => return Ok(Planned::Stuck(place)),
         Ran::Ends(run) => run,
     };
-    let mut env = Env::new(&[]);
-    let goal = &bounds.task.problem.goal;
-    if !holds_once(bounds.task, &ledger.facts, &run.state, goal, &mut env) {
+    if !run.reaches_goal(bounds.task, &ledger.facts) {
         return Ok(Planned::NoGoal);
     }
     if !run.costs(plan.cost) {

@@ -2,7 +2,8 @@
 ghost use Rattle.std.specs.Prelude.{◌≡◌};
 ghost use Rattle.replay_check.specs.Kinds.{breach_number};
 
-/// What is wrong with a line of a report, in the order in which the kinds of one line are told (this project's).
+/// What is wrong with a line of a report, in the order in which the kinds of one line are told
+/// (this project's).
 #[derive(Clone, Copy, PartialEq, Eq, Debug)]
 pub enum BreachKind {
     /// The line isn't of a form at its place.

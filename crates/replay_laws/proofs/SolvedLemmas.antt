@@ -2,6 +2,7 @@
 use Rattle.std.proofs.Common.{◌≡◌, ℕ, ◌<◌, ◌≤◌, ◌^◌, List, length, sym, subst, ap, ◌∙◌, arith, Option, Some}
 use Rattle.io_world.specs.FileMap.{FileMap}
 use Rattle.level_run.specs.Reports.{whole_text}
+use Rattle.mode_course.specs.Laws.{IsFollowed}
 use Rattle.command_line.proofs.RangesLemmas.{in_range}
 use Rattle.command_line.specs.Ranges.{AreInRange}
 use Rattle.command_line.specs.Words.{SolveWords, TaskFiles, command_of, solve}
@@ -99,6 +100,6 @@ solved_valid files later words others outside after status end text said asked m
     let short : length whole < 2 ^ 31 = omega (arith, most, ap length wrote) in
     let states : run.head.states ≤ judged.asked.states = omega (arith, le, headed.states) in
     let valid : judged.verdict ≡ Valid = written_valid run.task run.head run.entries solved.outcome run.fit can
-    (headed.mode ∙ mode) solved.turns
+    (subst IsFollowed (sym headed.mode) mode) solved.turns
     judged.asked.states judged.verdict short states verdict in
     (sym judged.kind ∙ ap kind_of_verdict valid, judged.is ∙ ap verdict_text valid)

@@ -7,6 +7,7 @@ use Rattle.std.proofs.lemmas.Option.{slice_get_within, slice_get-map}
 use Rattle.std.specs.List.{list_any, filter_map, flat_map}
 use Rattle.std.specs.Option.{option_map}
 use Rattle.std.proofs.lemmas.Map.Keys.{any_passes_from_place}
+use Rattle.mode_course.specs.Laws.{IsFollowed}
 use Rattle.replay_check.specs.Heads.{AreFitPoolLines, IsFitReportHead, are_new, is_fit_pool, reported_limits, served_by, share_in, workers_together}
 use Rattle.pools.proofs.PoolsLemmas.{server_is}
 use Rattle.pools.specs.Pools.{Workers, workers_of}
@@ -27,7 +28,6 @@ use Rattle.report_text.specs.Texts.{shown_pool}
 use Rattle.gen_lines.specs.Request.{stream_name}
 use Rattle.transcript_model.specs.declared.entry.Entry.{Entry}
 use Rattle.transcript_model.specs.declared.head.Head.{Head}
-use Rattle.transcript_model.specs.declared.head.Mode.TheVariants.{Incremental}
 use Rattle.transcript_model.specs.declared.head.Pool.{Pool}
 use Rattle.transcript_model.specs.declared.head.PoolLine.{PoolLine}
 use Rattle.transcript_model.specs.declared.outcome.Outcome.{Outcome}
@@ -205,7 +205,7 @@ module _ (task : Task) (fit : IsFit task) where
         → (a && b && c && d && e && f) ≡ true
     six a b c d e f ea eb ec ed ee ef = rw (ea, eb, ec, ed, ee, ef) refl
 
-    pub head_fits : head.mode ≡ Incremental → (entries : List Entry) (o : Outcome)
+    pub head_fits : IsFollowed head.mode → (entries : List Entry) (o : Outcome)
         → IsFitReportHead task (report_of task head entries o)
     head_fits mode entries o = record {
       mode = mode;

@@ -1,9 +1,11 @@
 -- The report that a run writes is right, and its claim is decided.
-use Rattle.std.proofs.Common.{◌≡◌, ℕ, ◌<◌, ◌≤◌, ◌^◌, List, length, refl, sym, subst, arith}
+use Rattle.std.proofs.Common.{◌≡◌, ℕ, ◌<◌, ◌≤◌, ◌^◌, inl, inr, List, length, refl, sym, subst, arith}
 use Rattle.level_run.specs.Reports.{IsRun, whole_text}
 use Rattle.level_run.specs.Turns.{IsSure}
+use Rattle.mode_course.specs.Laws.{IsFollowed}
 use Rattle.replay_check.proofs.OneVerdictLemmas.{right_valid}
-use Rattle.replay_check.specs.Verdicts.{IsRightReport, IsUndecided, IsVerdict}
+use Rattle.replay_check.specs.Heads.{reported_limits}
+use Rattle.replay_check.specs.Verdicts.{IsRightReport, IsUndecidedAt, IsUndecidedClaim, IsVerdict}
 use Rattle.replay_check.specs.declared.verdict.Verdict.{Verdict}
 use Rattle.replay_check.specs.declared.verdict.Verdict.TheVariants.{Valid}
 use Rattle.task_model.specs.Fit.{IsFit}
@@ -16,12 +18,12 @@ use Rattle.transcript_model.specs.Transcript.{known_of}
 use Rattle.transcript_model.specs.Turns.{AreTurnsOf}
 use Rattle.transcript_model.specs.declared.entry.Entry.{Entry}
 use Rattle.transcript_model.specs.declared.head.Head.{Head}
-use Rattle.transcript_model.specs.declared.head.Mode.TheVariants.{Incremental}
 use Rattle.transcript_model.specs.declared.outcome.LimitKind.TheVariants.{Calls, States, Instances}
 use Rattle.transcript_model.specs.declared.outcome.Outcome.{Outcome}
 use Rattle.transcript_model.specs.declared.outcome.Outcome.TheVariants as outcome
 use Rattle.replay_laws.proofs.WrittenHeadLemmas.{head_fits, limits_same}
 use Rattle.run_laws.proofs.FormedReportLemmas.{formed}
+use Rattle.run_laws.proofs.ShortTextLemmas.{short_counted}
 use Rattle.run_laws.specs.Reports.{IsHeadOfReports}
 use Rattle.level_run.proofs.ReportsLemmas.{whole_is}
 use Rattle.level_run.specs.Reports.{report_of}
@@ -31,19 +33,25 @@ use Rattle.level_run.specs.Reports.{report_of}
 fewer : (P : Atoms → Type 0) (few many : ℕ) → few ≤ many → MoreThan many P → MoreThan few P
 fewer P few many le more = (more.0, omega (arith, le, more.1), more.2, more.3)
 
-decided : (limit : ℕ) (task : Task) (head : Head) (entries : List Entry) (o : Outcome)
+claim_decided : (limit : ℕ) (task : Task) (head : Head) (entries : List Entry) (o : Outcome)
     → IsSure head task entries o → head.states ≤ limit
-    → ¬ (IsUndecided limit task (report_of task head entries o))
-decided limit task head entries (outcome.Plan calls cost from) sure le open_claim = open_claim
-decided limit task head entries outcome.NoPlan sure le open_claim =
-    sure.within refl (fewer (IsReached task (known_of task entries)) head.states limit le open_claim.1)
-decided limit task head entries (outcome.Limit Calls) sure le open_claim = open_claim
-decided limit task head entries (outcome.Limit States) sure le open_claim =
-    omega (arith, le, open_claim.0)
-decided limit task head entries (outcome.Limit Instances) sure le open_claim = open_claim
+    → ¬ (IsUndecidedClaim limit (reported_limits task (report_of task head entries o)) task entries o)
+claim_decided limit task head entries (outcome.Plan calls cost from) sure le unsure = unsure
+claim_decided limit task head entries outcome.NoPlan sure le unsure =
+    sure.within refl (fewer (IsReached task (known_of task entries)) head.states limit le unsure.1)
+claim_decided limit task head entries (outcome.Limit Calls) sure le unsure = unsure
+claim_decided limit task head entries (outcome.Limit States) sure le unsure = omega (arith, le, unsure.0)
+claim_decided limit task head entries (outcome.Limit Instances) sure le unsure = unsure
+
+-- where as many states are searched as the run searched, no claim is undecided
+decided : (limit : ℕ) (task : Task) (head : Head) (entries : List Entry) (o : Outcome)
+    → IsSure head task entries o → head.states ≤ limit → (line : ℕ)
+    → ¬ (IsUndecidedAt limit task (report_of task head entries o) line)
+decided limit task head entries o sure le line (inl (is, claim)) = claim_decided limit task head entries o sure le claim
+decided limit task head entries o sure le line (inr u) = let below = u.unsure.2.below in omega (arith, le, below)
 
 module _ (task : Task) (head : Head) (entries : List Entry) (o : Outcome) (fit : IsFit task)
-    (can : IsHeadOfReports task head) (mode : head.mode ≡ Incremental) (run : IsRun task head entries o) where
+    (can : IsHeadOfReports task head) (mode : IsFollowed head.mode) (run : IsRun task head entries o) where
   -- all that it says is right
   right : IsRightReport task (report_of task head entries o)
   right =
@@ -64,5 +72,5 @@ module _ (task : Task) (head : Head) (entries : List Entry) (o : Outcome) (fit :
       → IsVerdict limit task (whole_text task head entries o) v → v ≡ Valid
   written_valid limit v short le is =
       right_valid limit task (report_of task head entries o) v
-      (formed task head entries o fit can run (λ other. absurd (other mode))) right
-      (decided limit task head entries o run.sure le) (subst (λ bytes. IsVerdict limit task bytes v) (whole_is task head entries o) is)
+      (formed task head entries o fit can run (short_counted task head entries o (omega (arith, short)))) right
+      (λ unsure. decided limit task head entries o run.sure le unsure.0 unsure.1) (subst (λ bytes. IsVerdict limit task bytes v) (whole_is task head entries o) is)

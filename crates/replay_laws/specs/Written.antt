@@ -1,7 +1,8 @@
--- What a run of incremental mode writes is valid. Each law is the contract of a public function of `lib.rt`, and so is
--- proved.
+-- What a run writes is valid, in each mode that is replayed. Each law is the contract of a public function of `lib.rt`,
+-- and so is proved.
 use Rattle.std.specs.Prelude.{◌≡◌, ◌⊎◌, ℕ, ◌^◌, ◌<◌, ◌≤◌, List, [], ◌∷◌, length}
 use Rattle.level_run.specs.Reports.{IsRun, whole_text}
+use Rattle.mode_course.specs.Laws.{IsFollowed}
 use Rattle.replay_check.specs.Verdicts.{IsVerdict}
 use Rattle.replay_check.specs.declared.verdict.Verdict.{Verdict}
 use Rattle.replay_check.specs.declared.verdict.Verdict.TheVariants.{Valid}
@@ -11,7 +12,6 @@ use Rattle.lemmas.specs.Lists.{numbers_from}
 use Rattle.task_model.specs.declared.task.Task.{Task}
 use Rattle.transcript_model.specs.declared.entry.Entry.{Entry}
 use Rattle.transcript_model.specs.declared.head.Head.{Head}
-use Rattle.transcript_model.specs.declared.head.Mode.TheVariants.{Incremental}
 use Rattle.transcript_model.specs.declared.head.Pool.{Pool}
 use Rattle.transcript_model.specs.declared.limits.TheConstants.{WORKERS}
 use Rattle.transcript_model.specs.declared.outcome.Outcome.{Outcome}
@@ -28,11 +28,11 @@ abbrev pub OnePoolIsOfReports : Type 0
 OnePoolIsOfReports =
     (task : Task) (pools : List Pool) → IsOnePool task pools → ArePoolsOfReports pools
 
--- Of a whole report that a run of incremental mode wrote, of fewer than 2^31 bytes, a replay with a limit of at least
--- the run's says nothing but that it is valid.
+-- Of a whole report that a run wrote, of a mode that is replayed and of fewer than 2^31 bytes, a replay with a limit of at
+-- least the run's says nothing but that it is valid.
 abbrev pub WrittenReportsAreValid : Type 0
 WrittenReportsAreValid =
     (limit : ℕ) (task : Task) (head : Head) (entries : List Entry) (o : Outcome) (v : Verdict) → IsFit task
-    → IsHeadOfReports task head → head.mode ≡ Incremental
+    → IsHeadOfReports task head → IsFollowed head.mode
     → IsRun task head entries o → length (whole_text task head entries o) < 2 ^ 31
     → head.states ≤ limit → IsVerdict limit task (whole_text task head entries o) v → v ≡ Valid

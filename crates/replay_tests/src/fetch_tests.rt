@@ -23,7 +23,7 @@ const TEXT: [Row<'static>; 13] = [
 
 /// Heads that don't fit the task.
 const HEAD: [Row<'static>; 14] = [
-    (&[(1, "pddlstream 1 focused")], "invalid 1 2"),
+    (&[(1, "pddlstream 1 binding")], "invalid 1 2"),
     (&[(1, "pddlstream 1 adaptive")], "invalid 1 2"),
     (&[(2, "limits 0 100000 3")], "invalid 2 2"),
     (&[(2, "limits 100001 100000 3")], "invalid 2 2"),

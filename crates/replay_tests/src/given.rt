@@ -5,7 +5,8 @@ use replay_check::{Verdict, replay};
 use std::alloc::{AllocError, Global};
 use task_model::Task;
 
-/// In place of the line of this number, from 1, stands this text: several lines, or none where it is empty.
+/// In place of the line of this number, from 1, stands this text: several lines, or none where it
+/// is empty.
 pub type Change<'a> = (usize, &'a str);
 
 /// Adds the text and its line feed, or nothing where it is empty.

@@ -19,7 +19,8 @@ const STEPS: u32 = 25_000;
 /// How many objects a step has: those of two answers.
 const OBJECTS: u32 = 16;
 
-/// What is added to numbers that stand in names, so that these are equally long, and ascend with them.
+/// What is added to numbers that stand in names, so that these are equally long, and ascend with
+/// them.
 const FIRST: u32 = 100_000;
 
 const DOMAIN: &str = "(define (domain large) (:predicates (item ?x) (made ?a ?b) (done))

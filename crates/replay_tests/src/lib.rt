@@ -4,6 +4,8 @@
 #[cfg(test)]
 mod arm_tests;
 #[cfg(test)]
+mod dream_tests;
+#[cfg(test)]
 mod fetch_tests;
 #[cfg(test)]
 mod front_tests;

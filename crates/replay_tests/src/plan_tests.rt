@@ -178,7 +178,8 @@ const CLAIMS: [Row<'static>; 16] = [
     ),
 ];
 
-/// Several things are wrong: the earlier line is told, in one line the smaller kind, and before all a line of no form.
+/// Several things are wrong: the earlier line is told, in one line the smaller kind, and before all
+/// a line of no form.
 const FIRST: [Row<'static>; 6] = [
     (&[(2, "limits 0 100000 3"), (12, "don")], "invalid 12 1"),
     (

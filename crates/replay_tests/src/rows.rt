@@ -8,7 +8,8 @@ use worked_tasks::{Texts, task};
 /// A report with these changes, and what a replay says of it.
 pub type Row<'a> = (&'a [Change<'a>], &'a str);
 
-/// Of the report of the task, changed as each row says, a replay within so many states says what the row says.
+/// Of the report of the task, changed as each row says, a replay within so many states says what
+/// the row says.
 pub fn check_rows(
     rt: &impl Abort,
     alloc: Global,

@@ -149,3 +149,152 @@ plan 1
 do buy cup
 cost 7
 done";
+
+/// Dreams of the grid of one block, answered as it should be; 32 lines.
+pub const DREAMT: &str = "pddlstream 1 focused
+limits 10000 100000 3
+pool 1 place grasp reach clear
+dream 4 2
+use 1 place b1 r1
+use 2 grasp b1
+use 4 reach b1 @1.1 @2.1
+use 5 reach b1 home-b1 @2.1
+step pick b1 home-b1 @2.1 @5.1
+step put b1 @1.1 @2.1 @4.1
+ask 1 0 place b1 r1
+got 1 0,4
+ask 2 0 grasp b1
+got 2 n
+dream 2 2
+use 1 reach b1 #0,4 #n
+use 2 reach b1 home-b1 #n
+step pick b1 home-b1 #n @2.1
+step put b1 #0,4 #n @1.1
+ask 3 0 reach b1 #0,4 #n
+got 3 h0,3
+ask 4 0 reach b1 home-b1 #n
+got 4 h0,0
+plan 2
+do pick b1 home-b1 #n #h0,0
+do put b1 #0,4 #n #h0,3
+cost 2
+from #0,4 1
+from #h0,0 4
+from #h0,3 3
+from #n 2
+done";
+
+/// Dreams of seeds, one pass deep: what was tried is forgotten, and a level is asked; 20 lines.
+pub const SOWN: &str = "pddlstream 1 focused
+limits 10000 100000 1
+pool 1 try sow grow
+dream 1 0
+use 1 try a
+ask 1 0 try a
+end 1
+none
+reset
+none
+level
+ask 2 0 sow a
+got 2 s
+dream 1 0
+use 2 grow #s
+ask 3 0 grow #s
+got 3 t
+plan 0
+cost 0
+done";
+
+/// The lamps with a stream that leads nowhere: four states, and eight with what is supposed.
+pub const LOOKED: Texts<'static> = Texts {
+    domain: "(define (domain lamps) (:predicates (on ?x) (never) (seen ?x))
+  (:action turn :parameters (?x) :precondition (not (on ?x)) :effect (on ?x)))",
+    streams: "(define (stream look) (:stream look :outputs (?y) :certified (seen ?y)))",
+    ..LAMPS
+};
+
+/// That nothing leads to what is wanted of them; 9 lines.
+pub const LOOKING: &str = "pddlstream 1 focused
+limits 10000 8 3
+pool 1 look
+none
+level
+ask 1 0 look
+end 1
+no plan
+done";
+
+/// The first of those dreams, and the first request of its batch; 13 lines.
+pub const BEGUN: &str = "pddlstream 1 focused
+limits 10000 100000 3
+pool 1 place grasp reach clear
+dream 4 2
+use 1 place b1 r1
+use 2 grasp b1
+use 4 reach b1 @1.1 @2.1
+use 5 reach b1 home-b1 @2.1
+step pick b1 home-b1 @2.1 @5.1
+step put b1 @1.1 @2.1 @4.1
+ask 1 0 place b1 r1
+limit calls
+done";
+
+/// The same with its answer; 14 lines.
+pub const ANSWERED: &str = "pddlstream 1 focused
+limits 10000 100000 3
+pool 1 place grasp reach clear
+dream 4 2
+use 1 place b1 r1
+use 2 grasp b1
+use 4 reach b1 @1.1 @2.1
+use 5 reach b1 home-b1 @2.1
+step pick b1 home-b1 @2.1 @5.1
+step put b1 @1.1 @2.1 @4.1
+ask 1 0 place b1 r1
+got 1 0,4
+limit calls
+done";
+
+/// The seeds up to where there is no dream; 10 lines.
+pub const DREAMLESS: &str = "pddlstream 1 focused
+limits 10000 100000 1
+pool 1 try sow grow
+dream 1 0
+use 1 try a
+ask 1 0 try a
+end 1
+none
+limit calls
+done";
+
+/// Two streams, whose values are wanted of two objects.
+pub const MADE: Texts<'static> = Texts {
+    domain: "(define (domain w) (:predicates (start ?s) (from ?s ?x) (p ?x) (good ?x)))",
+    problem: "(define (problem w1) (:domain w) (:objects a b) (:init (start a) (start b))
+  (:goal (exists (?x ?y)
+    (and (from a ?x) (from b ?y) (good ?x) (good ?y)))))",
+    streams: "(define (stream w)
+  (:stream mk :inputs (?s) :domain (start ?s) :outputs (?x)
+    :certified (and (from ?s ?x) (p ?x)))
+  (:stream ok :inputs (?x) :domain (p ?x) :certified (good ?x)))",
+};
+
+/// What is dreamt of them, asked in two batches as binding mode does; 17 lines.
+pub const TWICE: &str = "pddlstream 1 focused
+limits 10000 100000 3
+pool 1 mk ok
+dream 4 0
+use 1 mk a
+use 2 mk b
+use 3 ok @1.1
+use 4 ok @2.1
+ask 1 0 mk a
+got 1 v
+ask 2 0 mk b
+got 2 v
+ask 3 0 ok #v
+got 3
+plan 0
+cost 0
+done";

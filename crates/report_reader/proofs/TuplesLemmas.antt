@@ -81,12 +81,6 @@ one_tuple width before mid given left taken over = record {
   each = taken.each;
 }
 
-pub not_over : (width : ℕ) (before mid given left own : List (List ℕ))
-    → HasTaken width before mid given left → ¬ (left ≡ [])
-    → length own ≡ (0 + 1) * width → All IsValue own → ¬ (tuples_of width 0 own ≡ given)
-not_over width before mid given left own taken more len all e =
-    more (same_behind taken.own own left [] (omega (arith, taken.many, len)) (taken.fields ∙ sym e ∙ sym (append-nil own)))
-
 next_tuples : (width b : ℕ) (found : Bool) (before mid after given left fields : List (List ℕ))
     → HasTaken width before mid given left
     → left ≡ codes "|" ∷ fields → TakesTuples width b found mid after fields → TakesTuples width (suc b) found before after given

@@ -17,7 +17,8 @@ use std::alloc::{AllocError, Global};
 use task_model::Seq;
 use transcript_model::{Origin, Outcome};
 
-/// The outcome behind its first line, with the last line of the report; None where a line may not stand.
+/// The outcome behind its first line, with the last line of the report; None where a line may not
+/// stand.
 #[tactic(auto, using(crate::proofs::BodyStopLemmas::last_stop))]
 pub(crate) fn outcome_in(
     alloc: Global,

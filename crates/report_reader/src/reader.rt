@@ -17,9 +17,10 @@ pub const REPORT_BYTES: usize = 268_435_456;
 /// The kind of a fault of the text.
 const TEXT: u8 = 1;
 
-/// The report that the bytes are, in version 1 or 2 (the text of a report is this project's). The fault `At` has the first line,
-/// from 1, up to which no report begins so, and kind 1; where a report begins with all lines that end with a line feed, that is
-/// the line behind them. `Memory` comes only where memory is wanting.
+/// The report that the bytes are, in version 1 or 2 (the text of a report is this project's). The
+/// fault `At` has the first line, from 1, up to which no report begins so, and kind 1; where a
+/// report begins with all lines that end with a line feed, that is the line behind them. `Memory`
+/// comes only where memory is wanting.
 pub fn read_report(alloc: Global, bytes: &[u8]) -> Result<Report, ReportFault>
     requires { length bytes.now < 2 ^ 31 }
     ensures ok { IfOk result (λ r. IsFormed r × (text_of_report r ≡ bytes.now)) }

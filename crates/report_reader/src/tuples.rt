@@ -96,7 +96,8 @@ fn bars_in(fields: &Fields<'_>) -> usize
     bars
 }
 
-/// Whether the fields that are left are tuples of so many values, with so many bars between them. Puts the values behind the others.
+/// Whether the fields that are left are tuples of so many values, with so many bars between them.
+/// Puts the values behind the others.
 fn take_tuples(
     alloc: Global,
     fields: &mut Fields<'_>,

@@ -12,7 +12,8 @@ use crate::outcome_reader::outcome_in;
 use std::alloc::{AllocError, Global};
 use transcript_model::Report;
 
-/// The report in these lines, up to its last line; None where a line may not stand, which is the next one then.
+/// The report in these lines, up to its last line; None where a line may not stand, which is the
+/// next one then.
 pub(crate) fn report_in(alloc: Global, lines: &mut Lines<'_>) -> Result<Option<Report>, AllocError>
     ensures { IfOk result (λ found. PartReads first IsFormed lines_of_report found lines.old
         lines.new) }

@@ -15,7 +15,8 @@ enum Kind {
     Number,
 }
 
-/// What a line answers: how many tuples, and all their values; a number; that there is no more; or why it is no answer.
+/// What a line answers: how many tuples, and all their values; a number; that there is no more; or
+/// why it is no answer.
 #[derive(Clone, Copy)]
 enum Want<'a> {
     Yield(u8, &'a [&'a [u8]]),

@@ -1,4 +1,5 @@
-//! Tests of lines and reports: what a line answers, how reports are written, and which texts are none.
+//! Tests of lines and reports: what a line answers, how reports are written, and which texts are
+//! none.
 #![tactic(auto)]
 
 #[cfg(test)]

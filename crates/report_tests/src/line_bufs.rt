@@ -7,7 +7,8 @@ ghost use Rattle.gen_lines.specs.Lines.{is_feed};
 use gen_lines::{Answer, LINE_BYTES, LineBuf, Seen, Wanted, answer_of};
 use std::alloc::{AllocError, Global};
 
-/// Whether the bytes, pushed in pieces of this size, give these lines and hold a part of one in the end.
+/// Whether the bytes, pushed in pieces of this size, give these lines and hold a part of one in the
+/// end.
 fn cut_into(alloc: Global, bytes: &[u8], size: usize, lines: &[&[u8]]) -> Result<bool, AllocError>
     requires { 0 < size }
 {

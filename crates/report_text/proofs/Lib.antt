@@ -2,6 +2,7 @@ pub mod TextsLemmas
 pub mod LineTextLemmas
 pub mod FormsLemmas
 pub mod TextsReadBack
+pub mod ReportsReadBack
 pub mod PlacesLemmas
 pub mod PlacesPathLemmas
 pub mod FaultsLemmas

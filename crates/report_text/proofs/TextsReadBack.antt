@@ -11,51 +11,46 @@ use Rattle.std.specs.Fmt.{decimal}
 use Rattle.std.specs.List.{list_all, flat_map, count_by}
 use Rattle.std.specs.Str.{bytes_eq}
 use Rattle.std.specs.Str.Parse.{digits_value}
-use Rattle.lemmas.proofs.Numbers.{small_version}
 use Rattle.gen_lines.specs.Reply.{is_value, is_value_byte}
-use Rattle.report_text.specs.Forms.{IsNumber, IsSmall, IsFormedUse, IsFormedEntry, IsFormedOrigin, IsFormedOutcome, IsFormedPool, IsFormed}
-use Rattle.report_text.specs.Texts.{Line, line, tuples_of, tuple_fields, use_line, step_line, do_line, from_line, limit_word, mode_word, entry_lines, outcome_lines, pool_line, done_line}
+use Rattle.report_text.specs.Forms.{IsNumber, IsSmall, IsFormedUse, IsFormedEntry, IsFormedOrigin, IsFormedOutcome}
+use Rattle.report_text.specs.Texts.{Line, line, tuples_of, tuple_fields, use_line, step_line, do_line, from_line, limit_word, entry_lines, outcome_lines, done_line}
 use Rattle.transcript_model.specs.declared.entry.Call.{Call}
 use Rattle.transcript_model.specs.declared.entry.DreamUse.{DreamUse}
 use Rattle.transcript_model.specs.declared.entry.Entry.{Entry}
 use Rattle.transcript_model.specs.declared.entry.Entry.TheVariants as entry
-use Rattle.transcript_model.specs.declared.head.Mode.{Mode}
-use Rattle.transcript_model.specs.declared.head.Mode.TheVariants.{Incremental, Focused, Binding, Adaptive}
-use Rattle.transcript_model.specs.declared.head.PoolLine.{PoolLine}
 use Rattle.transcript_model.specs.declared.outcome.LimitKind.{LimitKind}
 use Rattle.transcript_model.specs.declared.outcome.LimitKind.TheVariants.{Calls, States, Instances}
 use Rattle.transcript_model.specs.declared.outcome.Origin.{Origin}
 use Rattle.transcript_model.specs.declared.outcome.Outcome.{Outcome}
 use Rattle.transcript_model.specs.declared.outcome.Outcome.TheVariants as outcome
-use Rattle.transcript_model.specs.declared.report.Report.{Report}
-use Rattle.report_text.proofs.FormsLemmas.{each_passes, report_lines}
+use Rattle.report_text.proofs.FormsLemmas.{each_passes}
 
 -- ---- fields
 
 abbrev number_in : List ℕ → ℕ
 number_in field = digits_value 10 field
 
-number_back : (n : ℕ) → n < 2 ^ 64 → number_in (decimal n) ≡ n
+pub number_back : (n : ℕ) → n < 2 ^ 64 → number_in (decimal n) ≡ n
 number_back n lt = (decimal_is_IsNumeral n lt).1
 
-back_32 : (n : ℕ) → IsNumber n → number_in (decimal n) ≡ n
+pub back_32 : (n : ℕ) → IsNumber n → number_in (decimal n) ≡ n
 back_32 n le = number_back n (omega arith)
 
-back_8 : (n : ℕ) → IsSmall n → number_in (decimal n) ≡ n
+pub back_8 : (n : ℕ) → IsSmall n → number_in (decimal n) ≡ n
 back_8 n le = number_back n (omega arith)
 
-abbrev is_word : List ℕ → Line → Bool
+abbrev pub is_word : List ℕ → Line → Bool
 is_word word l = bytes_eq l.first word
 
 abbrev call_in : List (List ℕ) → Call
 call_in [] = record { name = []; args = [] }
 call_in (name ∷ args) = record { name = name; args = args }
 
-abbrev first_number : List (List ℕ) → ℕ
+abbrev pub first_number : List (List ℕ) → ℕ
 first_number [] = 0
 first_number (n ∷ fields) = number_in n
 
-abbrev after_first : List (List ℕ) → List (List ℕ)
+abbrev pub after_first : List (List ℕ) → List (List ℕ)
 after_first [] = []
 after_first (n ∷ fields) = fields
 
@@ -121,7 +116,7 @@ bars_counted width (suc bars) values e =
 
 -- ---- entries
 
-use_in : Line → DreamUse
+pub use_in : Line → DreamUse
 use_in l = record { number = first_number l.more; call = call_in (after_first l.more) }
 
 abbrev call_on : Line → Call
@@ -217,7 +212,7 @@ entry_back version (entry.Pick number) rest formed = rw (back_32 number formed) 
 entry_back version (entry.Retire number) rest formed = rw (back_32 number formed) refl
 
 -- so many entries, or as many as there are, and what is behind them
-entries_in : ℕ → List Line → List Entry × List Line
+pub entries_in : ℕ → List Line → List Entry × List Line
 entries_in zero lines = ([], lines)
 entries_in (suc most) lines = after (λ rest. entries_in most rest) (read_entry lines)
   where
@@ -226,7 +221,7 @@ entries_in (suc most) lines = after (λ rest. entries_in most rest) (read_entry 
     after later None = ([], lines)
     after later (Some r) = (r.0 ∷ (later r.1).0, (later r.1).1)
 
-entries_back : (version : ℕ) (most : ℕ) (entries : List Entry) (tail : List Line)
+pub entries_back : (version : ℕ) (most : ℕ) (entries : List Entry) (tail : List Line)
     → length entries ≤ most
     → All (IsFormedEntry version) entries → read_entry tail ≡ None
     → entries_in most (flat_map entry_lines entries ++ tail) ≡ (entries, tail)
@@ -277,7 +272,7 @@ cost_in (l ∷ rest) steps = outcome.Plan steps (first_number l.more) (map origi
 plan_in : ℕ → List Line → Outcome
 plan_in steps rest = cost_in (drop steps rest) (map call_on (take steps rest))
 
-outcome_in : List Line → Outcome
+pub outcome_in : List Line → Outcome
 outcome_in [] = outcome.NoPlan
 outcome_in (l ∷ rest) =
     if is_word (codes "plan") l then plan_in (first_number l.more) rest else if is_word (codes "limit") l
@@ -326,7 +321,7 @@ limit_back Calls = refl
 limit_back States = refl
 limit_back Instances = refl
 
-outcome_back : (version : ℕ) (o : Outcome) → (version ≡ 1) ⊎ (version ≡ 2)
+pub outcome_back : (version : ℕ) (o : Outcome) → (version ≡ 1) ⊎ (version ≡ 2)
     → IsFormedOutcome version o
     → outcome_in (outcome_lines version o ++ done_line ∷ []) ≡ o
 unfolding outcome_in
@@ -336,121 +331,8 @@ outcome_back version outcome.NoPlan is formed = refl
 outcome_back version (outcome.Limit kind) is formed = ap outcome.Limit (limit_back kind)
 
 -- no entry begins as an outcome does
-outcome_no_entry : (version : ℕ) (o : Outcome)
+pub outcome_no_entry : (version : ℕ) (o : Outcome)
     → read_entry (outcome_lines version o ++ done_line ∷ []) ≡ None
 outcome_no_entry version (outcome.Plan steps cost from) = refl
 outcome_no_entry version outcome.NoPlan = refl
 outcome_no_entry version (outcome.Limit kind) = refl
-
--- ---- heads
-
-pool_in : Line → PoolLine
-pool_in l = record { workers = first_number l.more; streams = after_first l.more }
-
-pools_in : List Line → List PoolLine × List Line
-pools_in [] = ([], [])
-pools_in (l ∷ rest) = cond (is_word (codes "pool") l) (pool_in l ∷ (pools_in rest).0, (pools_in rest).1) ([], l ∷ rest)
-
-is_pool_first : List Line → Bool
-is_pool_first [] = false
-is_pool_first (l ∷ rest) = is_word (codes "pool") l
-
-pools_back : (pools : List PoolLine) (tail : List Line) → All IsFormedPool pools
-    → is_pool_first tail ≡ false
-    → pools_in (map pool_line pools ++ tail) ≡ (pools, tail)
-unfolding pools_in pool_in is_pool_first
-pools_back [] [] all none = refl
-pools_back [] (l ∷ tail) all none = rw none refl
-pools_back (p ∷ ps) tail all none =
-    rw (pools_back ps tail (λ k d lt. all (suc k) d (omega arith)) none, back_8 p.workers (all 0 p (omega arith)).workers) refl
-
-mode_in : List (List ℕ) → Mode
-mode_in [] = Incremental
-mode_in (word ∷ more) =
-    if bytes_eq word (codes "incremental") then Incremental else if bytes_eq word (codes "focused") then Focused
-    else if bytes_eq word (codes "binding") then Binding else Adaptive
-
-mode_back : (mode : Mode) → mode_in (mode_word mode ∷ []) ≡ mode
-unfolding mode_in
-mode_back Incremental = refl
-mode_back Focused = refl
-mode_back Binding = refl
-mode_back Adaptive = refl
-
--- ---- reports
-
-entry_no_pool : (e : Entry) (rest : List Line) → is_pool_first (entry_lines e ++ rest) ≡ false
-unfolding is_pool_first
-entry_no_pool entry.Level rest = refl
-entry_no_pool (entry.Ask number turn call) rest = refl
-entry_no_pool (entry.Got number tuples values) rest = refl
-entry_no_pool (entry.Value number value) rest = refl
-entry_no_pool (entry.End number) rest = refl
-entry_no_pool (entry.Dream uses steps) rest = refl
-entry_no_pool entry.Nothing rest = refl
-entry_no_pool entry.Reset rest = refl
-entry_no_pool (entry.Pick number) rest = refl
-entry_no_pool (entry.Retire number) rest = refl
-
-outcome_no_pool : (version : ℕ) (o : Outcome)
-    → is_pool_first (outcome_lines version o ++ done_line ∷ []) ≡ false
-unfolding is_pool_first
-outcome_no_pool version (outcome.Plan steps cost from) = refl
-outcome_no_pool version outcome.NoPlan = refl
-outcome_no_pool version (outcome.Limit kind) = refl
-
-behind_no_pool : (version : ℕ) (entries : List Entry) (o : Outcome)
-    → is_pool_first (flat_map entry_lines entries ++ (outcome_lines version o ++ done_line ∷ [])) ≡ false
-behind_no_pool version [] o = outcome_no_pool version o
-behind_no_pool version (e ∷ es) o =
-    ap is_pool_first (append_assoc (entry_lines e) (flat_map entry_lines es) (outcome_lines version o ++ done_line ∷ []))
-    ∙ entry_no_pool e (flat_map entry_lines es ++ (outcome_lines version o ++ done_line ∷ []))
-
--- what is behind the first two lines of a report with at most so many entries
-behind_head : ℕ → List (List ℕ) → List (List ℕ) → List Line → Report
-behind_head most first second lines =
-    let pools = pools_in lines in
-    let entries = entries_in most pools.1 in
-    record {
-      version = first_number first;
-      mode = mode_in (after_first first);
-      calls = first_number second;
-      states = first_number (after_first second);
-      depth = first_number (after_first (after_first second));
-      pools = pools.0;
-      entries = entries.0;
-      outcome = outcome_in entries.1;
-    }
-
-pub report_in : ℕ → List Line → Report
-report_in most [] = behind_head most [] [] []
-report_in most (first ∷ []) = behind_head most first.more [] []
-report_in most (first ∷ second ∷ lines) = behind_head most first.more second.more lines
-
--- a report with at most so many entries is read back from its lines
-pub report_back : (most : ℕ) (r : Report) → length r.entries ≤ most → IsFormed r
-    → report_in most (report_lines r) ≡ r
-unfolding report_in behind_head
-report_back most r le formed =
-    let behind = outcome_lines r.version r.outcome ++ done_line ∷ [] in
-    let tail = flat_map entry_lines r.entries ++ behind in
-    let pools = pools_back r.pools tail formed.pools (behind_no_pool r.version r.entries r.outcome) in
-    let entries = entries_back r.version most r.entries behind le formed.entries (outcome_no_entry r.version r.outcome) in
-    let outcome = outcome_back r.version r.outcome formed.version formed.outcome in
-    rw (
-      pools,
-      entries,
-      outcome,
-      number_back r.version (small_version r.version formed.version),
-      mode_back r.mode,
-      back_32 r.calls formed.calls,
-      back_32 r.states formed.states,
-      back_8 r.depth formed.depth,
-    ) refl
-
--- reports with equal lines are equal
-pub lines_determine : (r s : Report) → IsFormed r → IsFormed s → report_lines r ≡ report_lines s
-    → r ≡ s
-lines_determine r s first second same =
-    let most = length r.entries + length s.entries in
-    sym (report_back most r (omega arith) first) ∙ ap (report_in most) same ∙ report_back most s (omega arith) second

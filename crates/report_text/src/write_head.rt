@@ -9,8 +9,8 @@ use std::alloc::{AllocError, Global};
 use task_model::Task;
 use transcript_model::{Head, Mode, Pool};
 
-/// The first lines of a report, each with its line feed: the version and the mode, the limits, and the pools. Fails
-/// only where memory is wanting.
+/// The first lines of a report, each with its line feed: the version and the mode, the limits, and
+/// the pools. Fails only where memory is wanting.
 #[tactic(auto, using(crate::proofs::TextsLemmas::assoc))]
 pub fn head_text(alloc: Global, task: &Task, head: &Head) -> Result<Vec<u8>, AllocError>
     requires { All (λ pool. All (λ stream. stream < length task.now.streams) pool.streams)

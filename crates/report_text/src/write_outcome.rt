@@ -7,8 +7,8 @@ use crate::lines::{push_calls, push_field, push_number, push_numbered};
 use std::alloc::{AllocError, Global};
 use transcript_model::{Call, LimitKind, Origin, Outcome};
 
-/// The lines of an outcome, each with its line feed, as this version of reports has them: version 1 does not show the
-/// tuple of an origin. Fails only where memory is wanting.
+/// The lines of an outcome, each with its line feed, as this version of reports has them: version 1
+/// does not show the tuple of an origin. Fails only where memory is wanting.
 #[tactic(auto, using(crate::proofs::TextsLemmas::lines_joined, crate::proofs::TextsLemmas::assoc))]
 pub fn outcome_text(alloc: Global, outcome: &Outcome, version: u8) -> Result<Vec<u8>, AllocError>
     ensures { IfOk result (λ text. text.items ≡ text_of_outcome version outcome.now) }

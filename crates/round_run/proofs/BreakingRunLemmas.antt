@@ -10,9 +10,10 @@ use Rattle.transcript_model.specs.declared.entry.Entry.{Entry}
 use Rattle.transcript_model.specs.declared.entry.Entry.TheVariants as entry
 use Rattle.transcript_model.specs.declared.head.Head.{Head}
 use Rattle.transcript_model.specs.declared.head.Pool.{Pool}
+use Rattle.transcript_model.proofs.LegalStepLemmas.{mark_no_ask}
 use Rattle.round_run.proofs.BreakingLemmas.{breaks_join, breaks_wider, tells_map, tells_of}
 use Rattle.round_run.proofs.CallsRunLemmas.{unasked}
-use Rattle.round_run.proofs.DialogueMarkLemmas.{asks_behind, follows_marked, mark_no_ask, mark_waits}
+use Rattle.round_run.proofs.DialogueMarkLemmas.{asks_behind, follows_marked, mark_waits}
 use Rattle.std.proofs.lemmas.List.Elements.{All-append}
 use Rattle.io_world.proofs.TalksLemmas.{extends_more}
 use Rattle.round_run.specs.Breaking.{Breaks, LogBreaks, LogBroken, RunBreaks, Tells, Underway, Unstarted, WereStarts, starts_after}

@@ -10,7 +10,8 @@ use Rattle.transcript_model.specs.Rounds.{IsRound}
 use Rattle.transcript_model.specs.declared.entry.Entry.{Entry}
 use Rattle.round_run.proofs.BreakingLemmas.{breaks_hearing, breaks_writing}
 use Rattle.round_run.proofs.CallsRoundLemmas.{sent_next}
-use Rattle.round_run.proofs.TalkingRoundLemmas.{front_each, next_front, next_is, next_legal, replies_heard, request_at, requests_heard, round_asks, round_replies, talks_at_heard}
+use Rattle.round_run.proofs.TalkingRoundLemmas.{front_each, next_front, next_legal, replies_heard, request_at, requests_heard, round_asks, round_replies, talks_at_heard}
+use Rattle.round_run.proofs.TalkingHeardLemmas.{next_is}
 use Rattle.round_run.specs.Breaking.{LogBreaks, LogHears}
 use Rattle.round_run.specs.Dialogue.{replies_of, requests_of, text_of_request}
 use Rattle.round_run.specs.Rolling.{IsFrontPart, IsHostFault, IsRolling, finished}

@@ -11,7 +11,6 @@ use Rattle.gen_lines.proofs.LinesLemmas.{ended_length}
 use Rattle.gen_lines.specs.Lines.{ended, is_feed, lines_of}
 use Rattle.io_world.specs.Replies.{IsLine}
 use Rattle.io_world.specs.Talks.{Talk, Event, silence, spelled, heard_more, IsGiven, LogsGiven, LogsTaken, Spells}
-use Rattle.io_world.proofs.TalksLemmas.{extends_none}
 use Rattle.session_core.proofs.SessionLemmas.{count_joined, count_one}
 use Rattle.session_core.specs.Session.{IsSession, begun}
 use Rattle.transcript_model.specs.Legal.{is_answer}
@@ -23,7 +22,8 @@ use Rattle.transcript_model.specs.declared.entry.Entry.{Entry}
 use Rattle.round_run.proofs.CallsLemmas.{answer_calls, ask_calls, calls_then, log_one, spelled_join, spelled_reads}
 use Rattle.round_run.proofs.DialogueRequestLemmas.{AreAsks, AreReplies}
 use Rattle.round_run.proofs.DialogueLemmas.{all_lines, count_own}
-use Rattle.round_run.proofs.TalkingRoundLemmas.{front_each, next_is, replies_heard, request_at, requests_heard, requests_sent, round_asks, round_replies, talks_at_heard}
+use Rattle.round_run.proofs.TalkingRoundLemmas.{front_each, replies_heard, request_at, requests_heard, requests_sent, round_asks, round_replies, talks_at_heard}
+use Rattle.round_run.proofs.TalkingHeardLemmas.{next_is}
 use Rattle.instance_queue.specs.declared.due.Due.{Due}
 use Rattle.round_run.specs.Calls.{Calls, LogFollows, LogReads, lines_read}
 use Rattle.round_run.specs.Dialogue.{IsOneOf, Request, count_to, replies_of, requests_of, text_of_request}
@@ -72,11 +72,6 @@ still_part kept bytes none line =
     ))
 
 -- ---- the reads of one child
-
--- a line was kept, so no call was made
-pub reads_none : (child : ℕ) (kept : List ℕ) (log : Option (List Event))
-    → LogReads child kept log log
-reads_none child kept log = ([], λ k d below. absurd (omega (arith, below)), λ k below. absurd (omega (arith, below)), extends_none log)
 
 pub reads_given : (child : ℕ) (kept bytes : List ℕ) (old new : Option (List Event))
     → lines_of kept ≡ [] → LogsGiven child [] bytes old new

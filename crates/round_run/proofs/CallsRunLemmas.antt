@@ -20,11 +20,12 @@ use Rattle.transcript_model.specs.declared.entry.Entry.TheVariants as entry
 use Rattle.transcript_model.specs.declared.head.Head.{Head}
 use Rattle.transcript_model.specs.declared.head.Pool.{Pool}
 use Rattle.pools.specs.Pools.{Workers}
+use Rattle.transcript_model.proofs.LegalStepLemmas.{mark_no_ask}
 use Rattle.round_run.proofs.CallsLemmas.{follows_join}
-use Rattle.round_run.proofs.DialogueMarkLemmas.{asks_behind, calls_marked, mark_no_ask}
+use Rattle.round_run.proofs.DialogueMarkLemmas.{asks_behind, calls_marked}
 use Rattle.round_run.proofs.StartsLemmas.{starts_cut, starts_more}
 use Rattle.round_run.proofs.TalkingLemmas.{none_asked}
-use Rattle.round_run.specs.Calls.{AreCallsOf, Calls, Follows, Hearing, IsStop, LogRan, LogRuns, LogStartsPart, LogStops, Runs, has_child, start_at, start_in, starts_before, starts_of}
+use Rattle.round_run.specs.Calls.{AreCallsOf, Calls, Follows, Hearing, IsStop, LogRuns, LogStartsPart, LogStops, Runs, has_child, start_at, start_in, starts_before, starts_of}
 use Rattle.round_run.specs.Dialogue.{replies_of, workers_in}
 use Rattle.round_run.specs.Rolling.{IsHostFault}
 use Rattle.round_run.specs.Batches.{EndsBatch}
@@ -105,11 +106,6 @@ pub starts_at_once : (pools : List Pool) (before more : ℕ) → before ≡ 0 �
 starts_at_once pools zero zero none some = absurd (omega (arith, some))
 starts_at_once pools zero (suc more) none some = refl
 starts_at_once pools (suc before) more none some = absurd (omega (arith, none))
-
-pub starts_some : (pools : List Pool) (before more : ℕ) → 0 < before
-    → starts_before pools before more ≡ []
-starts_some pools zero more some = absurd (omega (arith, some))
-starts_some pools (suc before) more some = refl
 
 pub starts_first : (pools : List Pool) (before more : ℕ) → before ≡ 0 → 0 < more
     → starts_before pools before more ≡ starts_of pools
@@ -369,42 +365,3 @@ runs_then task head a b old mid new first second = record {
                   (subst (λ xs. Follows task (workers_in head) xs first.more second.more fs)
                   (append-nil (past ++ starts_of pools ++ es)) g)),
             )
-
--- ---- with stops
-
-pub ran_of : (task : Task) (head : Head) (entries : List Entry) (old new : Option (List Event))
-    → Runs task head [] entries old new
-    → LogRan task head entries old new
-ran_of task head entries old new runs =
-    by new (subst (λ es. LogRuns task head [] es old new) (sym runs.pushed) runs.log)
-  where
-    by : (log : Option (List Event)) → LogRuns task head [] entries old log
-        → LogRan task head entries old log
-    by None l = tt
-    by (Some after) (past, events, was, came, follows) = (
-      past,
-      events,
-      [],
-      was,
-      came ∙ sym (append-nil (past ++ starts_before head.pools 0 (asks_of entries) ++ events)),
-      follows,
-      λ k d below. absurd (omega (arith, below)),
-    )
-
-pub ran_stopped : (task : Task) (head : Head) (entries : List Entry) (old mid new : Option (List Event))
-    → LogRan task head entries old mid
-    → LogStops mid new → LogRan task head entries old new
-ran_stopped task head entries old mid None ran stops = tt
-ran_stopped task head entries old None (Some after) ran (more, each, (before, is, grown)) =
-    absurd (cc)
-ran_stopped task head entries old (Some now) (Some after) (past, events, stops, was, came, follows, all) (more, each, (before, is, grown)) =
-    let same : now ≡ before = cc in (
-      past,
-      events,
-      stops ++ more,
-      was,
-      grown ∙ ap (λ es. es ++ more) (sym same ∙ came)
-          ∙ append_assoc (past ++ starts_before head.pools 0 (asks_of entries) ++ events) stops more,
-      follows,
-      All-append IsStop stops more all each,
-    )

@@ -18,12 +18,9 @@ use Rattle.pools.specs.Pools.{Workers}
 use Rattle.lemmas.proofs.Members.{push_cases, get_append, get_pushed, next_taken}
 use Rattle.lemmas.proofs.Options.{same_some}
 use Rattle.task_model.specs.declared.task.Task.{Task}
-use Rattle.transcript_model.specs.Legal.{IsLegal}
 use Rattle.transcript_model.specs.declared.entry.Entry.{Entry}
-use Rattle.round_run.specs.Dialogue.{AreSaid, BrokenOff, Dialogue, HasBadLine, IsBadLine, IsOneOf, IsSaid, Request, bytes_to, count_to, further_requests, is_to, replies_of, requests_of, text_of_request, wanted_by}
-use Rattle.round_run.specs.Stops.{MayHear}
+use Rattle.round_run.specs.Dialogue.{AreSaid, IsBadLine, IsOneOf, Request, bytes_to, count_to, is_to, text_of_request, wanted_by}
 use Rattle.round_run.specs.Talking.{IsTalk, Talks}
-use Rattle.round_run.specs.declared.fault.RunFault.{RunFault}
 
 -- ---- what is told
 
@@ -38,7 +35,7 @@ pub told_map : {A : Type 0} (P Q : A → Type 0) (o : Option A) → ((x : A) →
 told_map P Q None step p = tt
 told_map P Q (Some x) step p = step x p
 
-drop_front : {A : Type 0} (xs ys : List A) → drop (length xs) (xs ++ ys) ≡ ys
+pub drop_front : {A : Type 0} (xs ys : List A) → drop (length xs) (xs ++ ys) ≡ ys
 drop_front [] ys = refl
 drop_front (x ∷ xs) ys = drop_front xs ys
 
@@ -47,7 +44,7 @@ drop_all [] = refl
 drop_all (x ∷ xs) = drop_all xs
 
 -- the same child, or another
-is_same : (a b : ℕ) → (a ≡ b) ⊎ (a ≢ b)
+pub is_same : (a b : ℕ) → (a ≡ b) ⊎ (a ≢ b)
 is_same a b = by (a == b) refl
   where
     by : (t : Bool) → (a == b) ≡ t → (a ≡ b) ⊎ (a ≢ b)
@@ -56,7 +53,7 @@ is_same a b = by (a == b) refl
 
 -- ---- requests
 
-own_bytes : (r : Request) (child : ℕ) → r.child ≡ child
+pub own_bytes : (r : Request) (child : ℕ) → r.child ≡ child
     → bytes_to child (r ∷ []) ≡ text_of_request r
 own_bytes r child own =
     append-nil (cond (is_to child r) (text_of_request r) []) ∙ ap (λ b. cond b (text_of_request r) []) (eq-eqb r.child child own)
@@ -68,7 +65,7 @@ not_to r child other = by (is_to child r) refl
     by true e = absurd (other (eqb-true r.child child e))
     by false e = e
 
-other_bytes : (r : Request) (child : ℕ) → r.child ≢ child → bytes_to child (r ∷ []) ≡ []
+pub other_bytes : (r : Request) (child : ℕ) → r.child ≢ child → bytes_to child (r ∷ []) ≡ []
 other_bytes r child other =
     append-nil (cond (is_to child r) (text_of_request r) []) ∙ ap (λ b. cond b (text_of_request r) []) (not_to r child other)
 
@@ -197,7 +194,7 @@ module _ (task : Task) (version : ℕ) (rs : List Request) (replies : List Entry
                 absurd (other (ap (λ (w : Request). w.child) (sym same) ∙ mine))
 
   -- bytes more are kept
-  talk_more : (kept more : List ℕ) (talk : Talk) → IsTalk task version rs replies child kept talk
+  pub talk_more : (kept more : List ℕ) (talk : Talk) → IsTalk task version rs replies child kept talk
       → IsTalk task version rs replies child (kept ++ more) (heard_more more talk)
   talk_more kept more talk t = record { written = t.written; taken = t.taken; cut = pushed t.cut more; many = t.many; said = t.said }
 
@@ -321,89 +318,3 @@ module _ (task : Task) (version : ℕ) (pools : List Workers) (rs : List Request
           λ own. let yes : (child == heard) ≡ true = eq-eqb child heard own in let bad : true ≡ false = sym yes ∙ e in absurd (cc) in
           subst (λ b. IfSome (new child) (IsTalk task version rs replies child (cond b (kept child ++ more) (kept child)))) (sym e)
           (subst (λ o. IfSome o (IsTalk task version rs replies child (kept child))) (sym (h.others child other)) (t.each child is))
-
--- ---- what a run leaves behind
-
-module _ (task : Task) (version : ℕ) (pools : List Workers) (entries : List Entry) (spoken : ℕ → Option Talk) (kept : ℕ → List ℕ) where
-  pub dialogue_of : Talks task version pools (requests_of task pools entries) (replies_of entries) kept spoken
-      → Dialogue task version pools entries spoken
-  dialogue_of t child is some = told_map _ _ (spoken child) (λ talk w. record {
-    written = w.written ∙ sym (append-nil (bytes_to child (requests_of task pools entries)));
-    answered = talk_said task version (requests_of task pools entries) (replies_of entries) child (kept child) talk w;
-  }) (t.each child is)
-
--- a request more was written, in whole or in part
-pub broken_one : (task : Task) (version : ℕ) (pools : List Workers) (Front : List Entry → Type 0) (fault : RunFault)
-    (entries : List Entry) (e : Entry) (r : Request) (n : ℕ) (kept : ℕ → List ℕ) (old new : ℕ → Option Talk)
-    → MayHear fault → IsLegal version task (entries ++ e ∷ []) → Front (entries ++ e ∷ [])
-    → requests_of task pools (entries ++ e ∷ []) ≡ requests_of task pools entries ++ r ∷ []
-    → Writes r.child (take n (text_of_request r)) old new
-    → Talks task version pools (requests_of task pools entries) (replies_of entries) kept old
-    → BrokenOff task version pools Front fault entries new
-broken_one task version pools Front fault entries e r n kept old new may legal front grown w t = record {
-  next = e ∷ [];
-  few = omega arith;
-  only = inr may;
-  legal = legal;
-  front = front;
-  count = n;
-  said = λ child is some. by child is (is_same child r.child);
-}
-  where
-    further : further_requests task pools entries (e ∷ []) ≡ r ∷ []
-    further =
-        ap (drop (length (requests_of task pools entries))) grown
-        ∙ drop_front (requests_of task pools entries) (r ∷ [])
-
-    nothing : (m : ℕ) → take m (let none : List ℕ = [] in none) ≡ []
-    nothing zero = refl
-    nothing (suc m) = refl
-
-    by : (child : ℕ) → IsOneOf pools child → (child ≡ r.child) ⊎ (child ≢ r.child)
-        → IfSome (new child) (IsSaid task version (requests_of task pools entries)
-        (replies_of entries) (take n (bytes_to child (further_requests task pools entries (e ∷ [])))) child)
-    by child is (inl own) =
-        subst (λ o. IfSome o (IsSaid task version (requests_of task pools entries)
-        (replies_of entries) (take n (bytes_to child (further_requests task pools entries (e ∷ [])))) child))
-        (sym (ap new own ∙ w.here ∙ ap (λ c. option_map (wrote_more (take n (text_of_request r))) (old c)) (sym own)))
-        (mapped (wrote_more (take n (text_of_request r))) _ _ (old child) (λ talk x. record {
-          written =
-              ap (λ bytes. bytes ++ take n (text_of_request r)) x.written
-              ∙ ap (λ bytes. bytes_to child (requests_of task pools entries) ++ take n bytes)
-              (sym (ap (bytes_to child) further ∙ own_bytes r child (sym own)));
-          answered = talk_said task version (requests_of task pools entries) (replies_of entries) child (kept child) talk x;
-        }) (t.each child is))
-    by child is (inr other) =
-        subst (λ o. IfSome o (IsSaid task version (requests_of task pools entries)
-        (replies_of entries) (take n (bytes_to child (further_requests task pools entries (e ∷ [])))) child))
-        (sym (w.others child other))
-        (told_map _ _ (old child) (λ talk x. record {
-          written =
-              x.written ∙ sym (append-nil (bytes_to child (requests_of task pools entries)))
-              ∙ ap (λ bytes. bytes_to child (requests_of task pools entries) ++ bytes)
-              (sym (ap (take n) (ap (bytes_to child) further ∙ other_bytes r child (λ same. other (sym same))) ∙ nothing n));
-          answered = talk_said task version (requests_of task pools entries) (replies_of entries) child (kept child) talk x;
-        }) (t.each child is))
-
--- the line that was heard for the next request is no answer
-pub bad_line : (task : Task) (version : ℕ) (pools : List Workers) (entries : List Entry) (r : Request) (more : List ℕ)
-    (why : Why) (kept : ℕ → List ℕ) (old new : ℕ → Option Talk)
-    → IsOneOf pools r.child → slice_get (requests_of task pools entries) (length (replies_of entries)) ≡ Some r → Hears r.child more old new
-    → ((line : List ℕ) × (lines_of (kept r.child ++ more) ≡ line ∷ lines_of (after_first is_feed (kept r.child ++ more)))
-    × (reply_of line (wanted_by task version r) ≡ reply.bad why))
-    ⊎ ((why ≡ TooLong) × (lines_of (kept r.child ++ more) ≡ []) × (length (kept r.child ++ more) ≡ 1025))
-    → Talks task version pools (requests_of task pools entries) (replies_of entries) kept old
-    → HasBadLine task version pools entries new r.number why
-bad_line task version pools entries r more why kept old new one next h bad t = record {
-  request = r;
-  numbered = refl;
-  next = next;
-  heard = subst (λ o. IfSome o (λ (talk : Talk).
-      IsBadLine talk.heard (count_to r.child (take (length (replies_of entries)) (requests_of task pools entries)))
-      (wanted_by task version r) why)) (sym h.here)
-      (mapped (heard_more more) _ _ (old r.child)
-      (λ talk x. talk_bad task version (requests_of task pools entries) (replies_of entries) r.child (kept r.child ++ more)
-      (heard_more more talk) r why bad
-      (talk_more task version (requests_of task pools entries) (replies_of entries) r.child (kept r.child) more talk x))
-      (t.each r.child one));
-}

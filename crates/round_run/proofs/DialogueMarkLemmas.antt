@@ -5,32 +5,23 @@ use Rattle.std.proofs.lemmas.List.Folds.{list_any-append}
 use Rattle.std.specs.List.{list_any}
 use Rattle.lemmas.proofs.Bools.{or_false}
 use Rattle.io_world.specs.Talks.{Event}
-use Rattle.session_core.proofs.SessionLemmas.{count_joined, count_one}
+use Rattle.session_core.proofs.SessionLemmas.{count_joined, count_one, mark_follows}
 use Rattle.pools.specs.Pools.{Workers}
 use Rattle.task_model.specs.declared.task.Task.{Task}
 use Rattle.transcript_model.proofs.LegalLemmas.{grows}
-use Rattle.transcript_model.specs.Legal.{IsLegal, MayFollow, asks_of, is_answer_to, is_ask, is_ask_of, is_mark, is_open}
+use Rattle.transcript_model.proofs.LegalStepLemmas.{mark_no_ask}
+use Rattle.transcript_model.specs.Legal.{IsLegal, asks_of, is_answer_to, is_ask, is_ask_of, is_mark, is_open}
 use Rattle.transcript_model.specs.declared.entry.Entry.{Entry}
 use Rattle.transcript_model.specs.declared.entry.Entry.TheVariants as entry
 use Rattle.round_run.proofs.DialogueRequestLemmas.{last_join, replies_join, requests_join}
 use Rattle.round_run.specs.Calls.{AreCallsOf, Follows}
 use Rattle.round_run.specs.Dialogue.{last_round, replies_of, requests_after, requests_of}
 
-pub mark_no_ask : (e : Entry) → is_mark e ≡ true → is_ask e ≡ false
-mark_no_ask (entry.Ask number turn call) m = absurd (cc)
-mark_no_ask e m = refl
-
 -- it may follow any legal transcript
 pub mark_legal : (version : ℕ) (task : Task) (before : List Entry) (e : Entry) → is_mark e ≡ true
     → IsLegal version task before → IsLegal version task (before ++ e ∷ [])
-mark_legal version task before e mark legal = (grows version task before).next e legal (may e mark)
-  where
-    may : (x : Entry) → is_mark x ≡ true → MayFollow version task before x
-    may (entry.Ask number turn call) m = absurd (cc)
-    may (entry.Got number tuples values) m = absurd (cc)
-    may (entry.Value number value) m = absurd (cc)
-    may (entry.End number) m = absurd (cc)
-    may x m = tt
+mark_legal version task before e mark legal =
+    (grows version task before).next e legal (mark_follows version task before e mark)
 
 pub asks_behind : (e : Entry) (more : List Entry) → is_mark e ≡ true → asks_of (e ∷ more) ≡ asks_of more
 asks_behind e more mark =

@@ -6,11 +6,14 @@ pub mod CallsBrokenLemmas
 pub mod CallsOrderLemmas
 pub mod CallsRoundLemmas
 pub mod CallsRunLemmas
+pub mod CallsStopLemmas
 pub mod DialogueLemmas
+pub mod DialogueEndLemmas
 pub mod DialogueMarkLemmas
 pub mod DialogueRequestLemmas
 pub mod PiecesLemmas
 pub mod RollingLemmas
+pub mod RollingEndLemmas
 pub mod RollingFrontLemmas
 pub mod RollingPrintLemmas
 pub mod StartsLemmas
@@ -18,3 +21,5 @@ pub mod StoppedLemmas
 pub mod TalkingLemmas
 pub mod TalkingLineLemmas
 pub mod TalkingRoundLemmas
+pub mod TalkingEndLemmas
+pub mod TalkingHeardLemmas

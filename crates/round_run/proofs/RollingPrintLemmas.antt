@@ -17,7 +17,7 @@ use Rattle.transcript_model.specs.Rounds.{AreAnswers, IsRound, requests, request
 use Rattle.transcript_model.specs.Transcript.{names_of, notes_of}
 use Rattle.transcript_model.specs.declared.entry.Entry.{Entry}
 use Rattle.transcript_model.specs.declared.entry.Entry.TheVariants as entry
-use Rattle.session_core.proofs.RoundCloseLemmas.{close_kept}
+use Rattle.session_core.proofs.RoundWholeLemmas.{close_kept}
 use Rattle.session_core.specs.Session.{IsSession, AreSlotsFor, begun}
 use Rattle.session_core.specs.Slots.{Slot, replied_entry, answers_of, all_answered, asks_from}
 use Rattle.session_core.specs.State.{State, with_slots}

@@ -217,13 +217,6 @@ all_run pools workers running is all k child w at in_w =
 
 -- ---- after a batch
 
--- an answer of which several things are known
-pub all_ok : {T E : Type 0} (r : Result T E) (P : T → Type 0) (A B R : Type 0)
-    → ((t : T) → P t → A → B → R) → IfOk r P → OnOk r A
-    → OnOk r B → OnOk r R
-all_ok (Ok t) P A B R f p a b = f t p a b
-all_ok (Err e) P A B R f p a b = tt
-
 -- whether children run after a batch
 pub started_after : (task : Task) (entries : List Entry) (before after calls many : ℕ) (b : Batch)
     (pools later : List Workers) (old mid new : ℕ → Bool)

@@ -5,7 +5,7 @@ use Rattle.std.proofs.lemmas.Grind.{flat_map-append}
 use Rattle.std.proofs.lemmas.Result.{err_from_is_err_and}
 use Rattle.std.specs.Io.KnownBytes.{Appends}
 use Rattle.std.specs.List.{flat_map}
-use Rattle.std.specs.Result.{IsErrAnd, IfErr, IfOk, OnErr, OnOk}
+use Rattle.std.specs.Result.{IsErrAnd, IfErr, IfOk, OnOk}
 use Rattle.io_world.specs.Faults.{Rose, HasCause}
 use Rattle.task_model.specs.declared.task.Task.{Task}
 use Rattle.transcript_model.specs.Legal.{IsLegal, is_open}
@@ -300,27 +300,12 @@ no_cause failed last before mid first fault r a never is = record {
   cause = λ same. absurd (never (same_err (sym is ∙ same)));
 }
 
--- nothing failed
-pub same_cause : {U : Type 0} (failed : RunFault) (last before : ℕ) (fault : RunFault) (r : Result U RunFault)
-    → (fault ≡ failed → ⊥)
-    → r ≡ Err fault → HasCause failed last before before r
-same_cause failed last before fault r never is =
-    record { later = omega arith; cause = λ same. absurd (never (same_err (sym is ∙ same))) }
-
 pub blamed_listens : (slots : List Slot) (child : ℕ) (bytes : List ℕ) (fault : RunFault)
     → IsBlamed slots child bytes fault → MayListen fault
 blamed_listens slots child bytes Generator is = tt
 blamed_listens slots child bytes Memory is = tt
 blamed_listens slots child bytes Write is = absurd is
 blamed_listens slots child bytes (Answer number why) is = tt
-
-pub heard_no_write : (fault : RunFault) → MayHear fault → fault ≡ Write → ⊥
-heard_no_write fault may is = subst MayHear is may
-
-pub blamed_no_write : (slots : List Slot) (child : ℕ) (bytes : List ℕ) (fault : RunFault)
-    → IsBlamed slots child bytes fault → fault ≡ Write
-    → ⊥
-blamed_no_write slots child bytes fault may is = subst (IsBlamed slots child bytes) is may
 
 pub written_no_generator : (fault : RunFault) → MayWrite fault → fault ≡ Generator → ⊥
 written_no_generator fault may is = subst MayWrite is may
@@ -344,12 +329,6 @@ pub ok_all : {T E : Type 0} (r : Result T E) (P : Type 0) (Q : T → Type 0) (R 
     → ((x : T) → P → Q x → R → S) → OnOk r P → IfOk r Q → OnOk r R → OnOk r S
 ok_all (Ok x) P Q R S f p q more = f x p q more
 ok_all (Err e) P Q R S f p q more = tt
-
-pub err_both : {T E : Type 0} (r : Result T E) (P : E → Type 0) (Q : Type 0) (R : E → Type 0)
-    → ((e : E) → P e → Q → R e) → IfErr r P
-    → OnErr r Q → IfErr r R
-err_both (Ok x) P Q R f p q = tt
-err_both (Err e) P Q R f p q = f e p q
 
 -- all went well
 pub written_cause : {T : Type 0} (last first second third now : ℕ) (value : T) → first ≤ second

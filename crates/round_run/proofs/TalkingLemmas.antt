@@ -11,7 +11,8 @@ use Rattle.transcript_model.proofs.LegalNumberLemmas.{asks_marked}
 use Rattle.transcript_model.specs.Legal.{asks_of, is_mark}
 use Rattle.transcript_model.specs.declared.entry.Entry.{Entry}
 use Rattle.transcript_model.specs.declared.head.Head.{Head}
-use Rattle.round_run.proofs.DialogueMarkLemmas.{last_marked, mark_no_ask, replies_marked, requests_marked}
+use Rattle.transcript_model.proofs.LegalStepLemmas.{mark_no_ask}
+use Rattle.round_run.proofs.DialogueMarkLemmas.{last_marked, replies_marked, requests_marked}
 use Rattle.round_run.proofs.DialogueRequestLemmas.{requests_counted}
 use Rattle.round_run.proofs.DialogueLemmas.{talk_said, told_map}
 use Rattle.round_run.specs.Dialogue.{Dialogue, bytes_to, replies_of, requests_of, workers_in}
@@ -19,18 +20,6 @@ use Rattle.round_run.specs.Talking.{AreSilent, IsTalk, IsTold}
 use Rattle.round_run.specs.Batches.{AllRun, AreStarted}
 
 module _ (task : Task) (version : ℕ) (pools : List Workers) where
-  -- at first
-  pub told_first : (entries : List Entry) (running : ℕ → Bool) (kept : ℕ → List ℕ) (spoken : ℕ → Option Talk)
-      → entries ≡ []
-      → ((k : ℕ) → running k ≡ false) → ((k : ℕ) → kept k ≡ []) → IsTold task version pools entries running kept spoken
-  told_first entries running kept spoken is idle none =
-      subst (λ es. IsTold task version pools es running kept spoken) (sym is) (record {
-        closed = refl;
-        even = refl;
-        idle = λ child _. none child;
-        each = λ child one runs. absurd (let bad : true ≡ false = sym runs ∙ idle child in cc);
-      })
-
   -- a mark stands behind
   pub told_marked : (e : Entry) → is_mark e ≡ true → (entries : List Entry) (running : ℕ → Bool)
       (kept : ℕ → List ℕ) (spoken : ℕ → Option Talk)

@@ -21,7 +21,8 @@ enum Part {
     Child(usize),
 }
 
-/// A row: a command with its files, what its children say, and which calls of the host and of the sink fail.
+/// A row: a command with its files, what its children say, and which calls of the host and of the
+/// sink fail.
 #[derive(Drop)]
 pub(crate) struct Draft {
     alloc: Global,
@@ -49,8 +50,8 @@ impl Draft {
         }
     }
 
-    /// Takes a line of the row, and answers whether it says something. A line of a text begins with `|`, and with `\` where
-    /// it has no line feed.
+    /// Takes a line of the row, and answers whether it says something. A line of a text begins with
+    /// `|`, and with `\` where it has no line feed.
     pub(crate) fn take(&mut self, line: &[u8]) -> Result<bool, AllocError> {
         match line {
             [b'|', text @ ..] => {
@@ -137,7 +138,8 @@ impl Draft {
         Ok(())
     }
 
-    /// The bytes of the open child from a place on wait until so many lines were written to another: place, child and lines.
+    /// The bytes of the open child from a place on wait until so many lines were written to
+    /// another: place, child and lines.
     fn add_need(&mut self, rest: &[u8]) -> Result<bool, AllocError> {
         let (place, rest) = first_word(rest);
         let (child, lines) = first_word(rest);

@@ -1,5 +1,5 @@
-//! Runs that are written as rows of text: each row says a command, its files, what its children say and which calls fail. Of
-//! each the program prints the name, what the run wrote, and how it ended.
+//! Runs that are written as rows of text: each row says a command, its files, what its children say
+//! and which calls fail. Of each the program prints the name, what the run wrote, and how it ended.
 #![tactic(auto)]
 
 mod draft;
@@ -11,7 +11,7 @@ use std::io;
 use std::process::ExitCode;
 
 /// The files of rows, in the order in which they are run.
-const SUBJECTS: [&str; 13] = [
+const SUBJECTS: [&str; 15] = [
     "outcomes.rows",
     "limits.rows",
     "faults.rows",
@@ -25,6 +25,8 @@ const SUBJECTS: [&str; 13] = [
     "walks.rows",
     "searches.rows",
     "focused.rows",
+    "binding.rows",
+    "adaptive.rows",
 ];
 
 /// The most bytes of a file of rows.

@@ -2,7 +2,8 @@
 use crate::draft::Draft;
 use std::io;
 
-/// Plays a row and prints what it writes, and behind that how it ends. A text whose last line has no line feed has `\` there.
+/// Plays a row and prints what it writes, and behind that how it ends. A text whose last line has
+/// no line feed has `\` there.
 fn print_run(rt: &HostRuntime, draft: Draft) -> io::Result<()> {
     let (text, status) = draft.play()?;
     let end = if text.is_empty() || text.ends_with('\n') {
@@ -22,7 +23,8 @@ fn print_last(rt: &HostRuntime, draft: Option<Draft>) -> io::Result<()> {
     }
 }
 
-/// Plays the rows of a text. A row begins with `== ` and its name; lines that begin with `;` are passed over.
+/// Plays the rows of a text. A row begins with `== ` and its name; lines that begin with `;` are
+/// passed over.
 pub(crate) fn play_rows(rt: &HostRuntime, text: &[u8]) -> io::Result<()> {
     let alloc = rt.alloc();
     let mut draft = None;

@@ -34,7 +34,7 @@ use Rattle.transcript_model.proofs.LegalPrefixLemmas.{legal_take}
 use Rattle.level_run.proofs.ReportsLemmas.{whole_is}
 use Rattle.report_text.proofs.LineTextLemmas.{lines_read, read_lines}
 use Rattle.report_text.proofs.FormsLemmas.{report_clear, report_lines, report_text}
-use Rattle.report_text.proofs.TextsReadBack.{lines_determine}
+use Rattle.report_text.proofs.ReportsReadBack.{lines_determine}
 use Rattle.transcript_model.specs.declared.report.Report.{Report}
 
 -- an outcome stands nowhere inside a turn

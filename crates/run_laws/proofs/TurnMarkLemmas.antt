@@ -3,7 +3,7 @@ use Rattle.std.proofs.Common.{◌≡◌, ℕ, zero, suc, ◌+◌, ◌≤◌, inl
 use Rattle.std.proofs.Math.Seq.{take-append-add}
 use Rattle.std.proofs.lemmas.List.{append-nil, length-append, take-append-le}
 use Rattle.std.proofs.lemmas.Option.{slice_get_within}
-use Rattle.dream_laws.proofs.SupportLemmas.{append_cases}
+use Rattle.lemmas.proofs.Members.{append_cases}
 use Rattle.lemmas.proofs.ListTests.{all_at}
 use Rattle.mode_turns.specs.Modes.{TurnOf}
 use Rattle.run_laws.proofs.PlainEntryLemmas.{is_plain, rounds_plain}

@@ -9,7 +9,8 @@ use std::test::Fail;
 use task_model::GroundAction;
 use worked_tasks::{Texts, task};
 
-/// What a search of the task comes to by an estimate. For a limit that isn't one there is nothing to say.
+/// What a search of the task comes to by an estimate. For a limit that isn't one there is nothing
+/// to say.
 fn found<E: Estimate>(
     alloc: Global,
     texts: &Texts<'_>,
@@ -60,7 +61,8 @@ fn shown(alloc: Global, steps: &[GroundAction]) -> Result<Vec<(u32, u32)>, Alloc
     Ok(all)
 }
 
-/// The steps of the plan that is found, each with each of its arguments; none where no plan is found.
+/// The steps of the plan that is found, each with each of its arguments; none where no plan is
+/// found.
 pub fn steps_found(alloc: Global, texts: &Texts<'_>, limit: u32) -> Result<Vec<(u32, u32)>, Fail> {
     let found = found(alloc, texts, limit, &mut Blind)?;
     match &*found {

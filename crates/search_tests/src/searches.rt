@@ -1,4 +1,5 @@
-//! Searches over two lamps, of which four states are reached, and over an action that costs what a function says.
+//! Searches over two lamps, of which four states are reached, and over an action that costs what a
+//! function says.
 use crate::asked::{
     cost_left, estimated, exceeded, first_steps, goals_left, searched, searched_by_costs,
     searched_by_goals, steps_found,
@@ -32,7 +33,8 @@ const PRICELESS: Texts<'static> = Texts {
     ..KEEP
 };
 
-/// That three of twenty-three lamps are on. At most two steps reach 1 + 23 + 253 = 277 states, and three are needed.
+/// That three of twenty-three lamps are on. At most two steps reach 1 + 23 + 253 = 277 states, and
+/// three are needed.
 const THREE: Texts<'static> = Texts {
     problem: "(define (problem l) (:domain lamps)
   (:objects l1 l2 l3 l4 l5 l6 l7 l8 l9 l10 l11 l12 l13 l14 l15 l16 l17 l18 l19 l20 l21 l22 l23)

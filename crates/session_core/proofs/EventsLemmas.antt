@@ -8,6 +8,7 @@ use Rattle.gen_lines.specs.Reply as reply
 use Rattle.gen_lines.specs.Reply.{Reply, reply_of}
 use Rattle.lemmas.specs.Lists.{AreDistinct}
 use Rattle.transcript_model.specs.declared.entry.Entry.{Entry}
+use Rattle.session_core.proofs.SlotsLemmas.{map_same}
 use Rattle.session_core.specs.Events.{Event, sends, says, change_by, after, IsPlayed, lines_said, IsFresh, own_answer, AnswersAreOwn, OrderDoesNotMatter, EachSaysOne}
 use Rattle.session_core.specs.Slots.{Slot, sent_slot, heard_slot, is_slot_of, slot_of, replied_entry, reply_fault, reply_to, answers_of}
 use Rattle.session_core.proofs.SlotsLemmas.{children_of, map_at, at_own, at_other, child_kept, children_kept, slot_of-map, own_slot, answered_at, slot_place}
@@ -23,11 +24,7 @@ keeps_child (says child line) s = child_kept child (heard_slot line) (λ t. refl
 
 pub after_each : (slots : List Slot) (events : List Event)
     → after slots events ≡ map (λ s. slot_after s events) slots
-after_each slots [] = sym (map_id slots)
-  where
-    map_id : (ss : List Slot) → map (λ s. s) ss ≡ ss
-    map_id [] = refl
-    map_id (s ∷ ss) = ap (λ ts. s ∷ ts) (map_id ss)
+after_each slots [] = sym (map_same slots)
 after_each slots (e ∷ events) =
     after_each (map (change_by e) slots) events
     ∙ map-map (λ s. slot_after s events) (change_by e) slots

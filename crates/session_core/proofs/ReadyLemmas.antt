@@ -2,12 +2,10 @@
 use Rattle.std.proofs.Common.{◌≡◌, ℕ, zero, suc, ◌+◌, ◌≤◌, true, false, ◌&&◌, ◌||◌, List, [], ◌∷◌, ◌++◌, length, take, drop, refl, sym, ap, subst, ◌∙◌, Option, Some, None, slice_get, arith, All, Contains, append_assoc, option_map, nat_lt}
 use Rattle.std.proofs.Math.ListN.{take-append-drop}
 use Rattle.std.proofs.Math.Seq.{take-length}
-use Rattle.std.proofs.lemmas.Bool.{and_from}
 use Rattle.std.proofs.lemmas.List.{append-nil, map-append}
 use Rattle.std.proofs.lemmas.List.Elements.{All-head, All-tail, All-take, All-drop, All-replicate, Contains-append_left, Contains-append_right, All-nil, All-cons}
 use Rattle.std.proofs.lemmas.Option.{slice_get-map}
-use Rattle.std.specs.Cmp.{first_so, second_so}
-use Rattle.std.specs.List.{flat_map, list_any, list_all, cons_option}
+use Rattle.std.specs.List.{flat_map, list_any, cons_option}
 use Rattle.std.proofs.lemmas.List.Concat.{flat_map-append}
 use Rattle.gen_lines.specs.Reply as reply
 use Rattle.gen_lines.specs.Reply.{Reply, reply_of}
@@ -16,26 +14,23 @@ use Rattle.instance_queue.specs.Level.{instances_of, AreDueInTurn}
 use Rattle.instance_queue.specs.Notes.{tally_of}
 use Rattle.instance_queue.specs.declared.due.Due.{Due}
 use Rattle.instance_queue.specs.declared.queue.Tally.{Tally}
-use Rattle.task_model.proofs.KnownLemmas.{with_facts-is, fact_member}
-use Rattle.task_model.proofs.StreamsLemmas.{instances_apart, instances_total}
+use Rattle.task_model.proofs.KnownLemmas.{facts_kept}
+use Rattle.task_model.proofs.StreamsLemmas.{instances_apart, instances_total, reachable_kept}
 use Rattle.lemmas.proofs.Members.{member_at, get_behind}
 use Rattle.lemmas.proofs.ListTests.{all_one}
 use Rattle.lemmas.proofs.Ascending.{contains_here, contains_later}
-use Rattle.task_model.specs.Known.{Known, is_fact, with_facts, type_fact}
+use Rattle.task_model.specs.Known.{is_fact}
 use Rattle.lemmas.specs.Lists.{AreDistinct}
-use Rattle.task_model.specs.Streams.{Note, Yielded, Ended, IsDue, is_reachable, is_end_of, is_yield_of, is_test, instance_cmp, yields_of, fact_of}
-use Rattle.task_model.specs.Truth.{have_types, has_type, slots_of}
-use Rattle.task_model.specs.declared.domain.Pattern.{Pattern}
+use Rattle.task_model.specs.Streams.{Note, Yielded, Ended, IsDue, is_end_of, is_yield_of, is_test, instance_cmp, yields_of}
 use Rattle.task_model.specs.declared.fact.Fact.{Fact}
 use Rattle.task_model.specs.declared.stream.Instance.{Instance}
-use Rattle.task_model.specs.declared.stream.Stream.{Stream}
 use Rattle.task_model.specs.declared.task.Task.{Task}
 use Rattle.transcript_model.proofs.LegalPrefixLemmas.{longer}
 use Rattle.transcript_model.proofs.NamedObjectLemmas.{all_joined}
 use Rattle.transcript_model.specs.Transcript.{Asked, asked, certified, known_of, notes_of, note_of}
 use Rattle.transcript_model.specs.declared.entry.Entry.{Entry}
 use Rattle.transcript_model.specs.declared.entry.Entry.TheVariants as entry
-use Rattle.session_core.proofs.RoundCloseLemmas.{close_kept}
+use Rattle.session_core.proofs.RoundWholeLemmas.{close_kept}
 use Rattle.transcript_model.specs.Legal.{answered_number}
 use Rattle.session_core.specs.Ready.{AreReady, IsNextRound, AreAskable}
 use Rattle.session_core.specs.Session.{IsSession, IsLearnt, AreSlotsFor, Asks, MayBeginRound}
@@ -94,38 +89,6 @@ may_begin task s dues count h works learnt ready next =
         short zero us = omega arith
         short (suc n) [] = omega arith
         short (suc n) (u ∷ us) = omega (arith, short n us)
-
--- ---- what is known stays known
-
-facts_kept : (facts more : List Fact) (fact : Fact) → is_fact facts fact ≡ true
-    → is_fact (with_facts facts more) fact ≡ true
-facts_kept facts more fact e =
-    (fact_member (with_facts facts more) fact).1
-    (((with_facts-is facts more).members fact).1 (Contains-append_left facts more fact ((fact_member facts fact).0 e)))
-
-module _ (known after : Known) (kept : (fact : Fact) → is_fact known.facts fact ≡ true → is_fact after.facts fact ≡ true) where
-  types_kept : (objects sorts : List ℕ) → have_types known objects sorts ≡ true
-      → have_types after objects sorts ≡ true
-  types_kept [] [] e = refl
-  types_kept [] (s ∷ ss) e = e
-  types_kept (o ∷ os) [] e = e
-  types_kept (o ∷ os) (s ∷ ss) e =
-      and_from _ _ (kept (type_fact s o) (first_so (has_type known o s) (have_types known os ss) e))
-      (types_kept os ss (second_so (has_type known o s) (have_types known os ss) e))
-
-  patterns_kept : (slots : List ℕ) (ps : List Pattern)
-      → list_all (λ p. is_fact known.facts (fact_of slots p)) ps ≡ true
-      → list_all (λ p. is_fact after.facts (fact_of slots p)) ps ≡ true
-  patterns_kept slots [] e = refl
-  patterns_kept slots (p ∷ ps) e =
-      and_from _ _ (kept (fact_of slots p) (first_so (is_fact known.facts (fact_of slots p)) _ e))
-      (patterns_kept slots ps (second_so (is_fact known.facts (fact_of slots p)) _ e))
-
-  reachable_kept : (s : Stream) (i : Instance) → is_reachable s known i ≡ true
-      → is_reachable s after i ≡ true
-  reachable_kept s i e =
-      and_from _ _ (types_kept i.inputs s.inputs (first_so (have_types known i.inputs s.inputs) _ e))
-      (patterns_kept (slots_of i.inputs) s.domain (second_so (have_types known i.inputs s.inputs) _ e))
 
 -- ---- notes on others
 

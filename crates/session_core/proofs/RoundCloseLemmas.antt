@@ -1,8 +1,7 @@
 -- A closed round leaves a legal transcript with nothing open.
-use Rattle.std.proofs.Common.{◌≡◌, ℕ, zero, suc, ◌+◌, ◌≤◌, ◌<◌, ◌==◌, Bool, true, false, cond, ◌&&◌, not, ◌⊎◌, inl, inr, List, [], ◌∷◌, ◌++◌, length, take, refl, sym, ap, subst, ◌∙◌, Option, None, Some, slice_get, is_none, arith, count_by, append_assoc, length-append, eqb-true, eq-eqb, All, Contains}
-use Rattle.std.proofs.lemmas.List.{append-nil, take-append-le, length-map}
+use Rattle.std.proofs.Common.{◌≡◌, ℕ, ◌+◌, ◌≤◌, ◌<◌, ◌==◌, Bool, true, false, cond, ◌&&◌, not, ◌⊎◌, inl, inr, List, [], ◌∷◌, ◌++◌, length, refl, sym, ap, subst, ◌∙◌, Option, None, Some, slice_get, is_none, arith, append_assoc, eqb-true, eq-eqb, All, Contains}
+use Rattle.std.proofs.lemmas.List.{append-nil}
 use Rattle.std.proofs.lemmas.List.Elements.{All-head, All-tail, All-contains}
-use Rattle.std.proofs.lemmas.List.Sums.{count_by-le-length}
 use Rattle.std.proofs.lemmas.Option.{slice_get_within}
 use Rattle.std.specs.List.{list_any, cons_option}
 use Rattle.std.proofs.lemmas.Bool.{or_right, not-true, and_parts, or_cases, false_from_ne_true, or_left, ne_eqb}
@@ -34,13 +33,11 @@ use Rattle.transcript_model.specs.Names.{call_of_instance, instance_of}
 use Rattle.transcript_model.specs.Transcript.{Asked, asked, names_of, known_of, notes_of}
 use Rattle.transcript_model.specs.declared.entry.Entry.{Entry}
 use Rattle.transcript_model.specs.declared.entry.Entry.TheVariants as entry
-use Rattle.session_core.proofs.SessionLemmas.{count_joined, count_one}
-use Rattle.session_core.specs.Session.{IsSession, AreSlotsFor, Asks}
-use Rattle.session_core.specs.Slots.{Slot, wanted_of, wanted_at, ask_for, asks_from, replied_entry, answers_of, all_answered}
-use Rattle.session_core.specs.State.{State, after_close}
+use Rattle.session_core.specs.Session.{AreSlotsFor, Asks}
+use Rattle.session_core.specs.Slots.{Slot, wanted_of, wanted_at, asks_from, replied_entry, answers_of, all_answered}
 use Rattle.task_model.proofs.KnownLemmas.{below_names}
 
-no_both : {A : Type 0} (b : Bool) → b ≡ true → b ≡ false → A
+pub no_both : {A : Type 0} (b : Bool) → b ≡ true → b ≡ false → A
 no_both b t f = absurd (not_both b t f)
 
 -- each of these numbers waits for an answer, and asks its due's instance
@@ -64,18 +61,18 @@ module _ (version : ℕ) (task : Task) (fit : IsFit task) (entries : List Entry)
       (All-contains (IsIn (names_of task entries)) i.inputs o
       (due_in task (known_of task entries) (notes_of task entries) (coherent version task entries fit legal) i d) m))
 
-  record Requested (before after : List Entry) (n : ℕ) (dues : List Due) : Type 0 where
-    ok_after : IsLegal version task after
-    known : known_of task after ≡ known_of task entries
-    notes : notes_of task after ≡ notes_of task entries
-    count : asks_of after + 1 ≡ n + length dues
-    waits : AllWait task after n dues
-    keeps : (m : ℕ) → is_open before m ≡ true → is_open after m ≡ true
-    only : (m : ℕ) → is_open after m ≡ true
+  pub record Requested (before after : List Entry) (n : ℕ) (dues : List Due) : Type 0 where
+    pub ok_after : IsLegal version task after
+    pub known : known_of task after ≡ known_of task entries
+    pub notes : notes_of task after ≡ notes_of task entries
+    pub count : asks_of after + 1 ≡ n + length dues
+    pub waits : AllWait task after n dues
+    pub keeps : (m : ℕ) → is_open before m ≡ true → is_open after m ≡ true
+    pub only : (m : ℕ) → is_open after m ≡ true
         → (is_open before m ≡ true) ⊎ ((n ≤ m) × (m < n + length dues))
 
   -- the requests of a round, one after another
-  requested : (dues : List Due) (before : List Entry) (n : ℕ) → IsLegal version task before
+  pub requested : (dues : List Due) (before : List Entry) (n : ℕ) → IsLegal version task before
       → known_of task before ≡ known_of task entries
       → notes_of task before ≡ notes_of task entries → n ≡ asks_of before + 1
       → ((i : Instance) → Contains (instances_of dues) i → IsDue task (known_of task entries) (notes_of task entries) i)
@@ -298,11 +295,11 @@ module _ (version : ℕ) (task : Task) (fit : IsFit task) where
           subst (λ x. MayFollow version task before x × (is_answer_to n x ≡ true) × (is_answer x ≡ true)) same (waiting, itself, refl)
       by_number some (reply.bad why) says said = absurd (cc)
 
-  record Answered (before after : List Entry) (count : ℕ) : Type 0 where
-    legal : IsLegal version task after
-    none_open : HasNoneOpen after
-    asks : asks_of after ≡ asks_of before
-    requests : (m : ℕ) → asked task after m ≡ asked task before m
+  pub record Answered (before after : List Entry) (count : ℕ) : Type 0 where
+    pub legal : IsLegal version task after
+    pub none_open : HasNoneOpen after
+    pub asks : asks_of after ≡ asks_of before
+    pub requests : (m : ℕ) → asked task after m ≡ asked task before m
 
   -- those that wait still wait where nothing of them changes
   wait_still : (before after : List Entry) (n k : ℕ) (dues : List Due) → n < k
@@ -315,7 +312,7 @@ module _ (version : ℕ) (task : Task) (fit : IsFit task) where
     wait_still before after n (k + 1) ds (omega (arith, below)) opens requests w.2,
   )
 
-  answered_all : (dues : List Due) (slots : List Slot) (before : List Entry) (n : ℕ)
+  pub answered_all : (dues : List Due) (slots : List Slot) (before : List Entry) (n : ℕ)
       → IsLegal version task before
       → AllWait task before n dues → AreSlotsFor task version n dues slots → all_answered slots ≡ true
       → ((m : ℕ) → is_open before m ≡ true → (n ≤ m) × (m < n + length dues)) → Answered before (before ++ answers_of slots) (length dues)
@@ -377,111 +374,3 @@ module _ (version : ℕ) (task : Task) (fit : IsFit task) where
           and_true : (b : Bool) → (b && not false) ≡ b
           and_true true = refl
           and_true false = refl
-
--- ---- the whole round
-
--- what stands in two lists stands in the first or the second
-two_parts : {A : Type 0} (xs ys : List A) (k : ℕ) (x : A) → slice_get (xs ++ ys) k ≡ Some x
-    → (slice_get xs k ≡ Some x) ⊎ ((j : ℕ) × (k ≡ length xs + j) × (slice_get ys j ≡ Some x))
-two_parts [] ys k x at = inr (k, (let e : k ≡ 0 + k = omega arith in e), at)
-two_parts (z ∷ zs) ys zero x at = inl at
-two_parts (z ∷ zs) ys (suc k) x at =
-    elim (two_parts zs ys k x at) [
-      | inl h ↦ inl h
-      | inr h ↦ inr (h.0, (let e : suc k ≡ suc (length zs) + h.0 = omega (arith, h.1) in e), h.2)
-    ]
-
-wait_at : (task : Task) (before : List Entry) (n : ℕ) (dues : List Due) (j : ℕ) (i : Instance)
-    → AllWait task before n dues
-    → slice_get (instances_of dues) j ≡ Some i → Asks task before (n + j) i
-wait_at task before n [] j i w at = absurd (cc)
-wait_at task before n (d ∷ ds) zero i w at =
-    let same : d.instance ≡ i = cc in
-    let here : n ≡ n + 0 = omega arith in
-    subst (λ m. Asks task before m i) here (subst (Asks task before n) same w.1)
-wait_at task before n (d ∷ ds) (suc j) i w at =
-    let there : (n + 1) + j ≡ n + suc j = omega arith in
-    subst (λ m. Asks task before m i) there (wait_at task before (n + 1) ds j i w.2 at)
-
-no_answers : (task : Task) (names : List (List ℕ)) (n : ℕ) (dues : List Due)
-    → count_by is_answer (asks_from task names n dues) ≡ 0
-no_answers task names n [] = refl
-no_answers task names n (d ∷ ds) =
-    count_joined is_answer (ask_for task names n d ∷ []) (asks_from task names (n + 1) ds)
-    ∙ (λ k. count_one is_answer (ask_for task names n d) k + no_answers task names (n + 1) ds k)
-
-few_answers : (slots : List Slot) → length (answers_of slots) ≤ length slots
-few_answers [] = omega arith
-few_answers (s ∷ ss) =
-    elim s.answer as (λ o. length (cons_option o (answers_of ss)) ≤ suc (length ss)) [
-      | None ↦ omega (arith, few_answers ss)
-      | Some e ↦ omega (arith, few_answers ss)
-    ]
-
-as_many : (task : Task) (version n : ℕ) (dues : List Due) (slots : List Slot)
-    → AreSlotsFor task version n dues slots
-    → length slots ≡ length dues
-as_many task version n [] [] h = refl
-as_many task version n [] (s ∷ ss) h = absurd h
-as_many task version n (d ∷ ds) [] h = absurd h
-as_many task version n (d ∷ ds) (s ∷ ss) h = ap suc (as_many task version (n + 1) ds ss h.1)
-
-pub close_kept : (task : Task) (s : State) → s.is_open ≡ true → all_answered s.slots ≡ true
-    → IsSession task s
-    → IsSession task (after_close s)
-close_kept task s open_now answered h =
-    let r = h.round open_now in
-    let first = length s.asked + 1 in
-    let none : (m : ℕ) → is_open s.entries m ≡ true → ⊥ = λ m o. no_both (is_open s.entries m) o (h.none_open m) in
-    let q = subst (λ xs. Requested s.version task h.fit s.entries h.legal s.entries (s.entries ++ xs) first r.dues) (sym r.asks)
-    (requested s.version task h.fit s.entries h.legal r.dues s.entries first h.legal refl refl
-    (ap (λ k. k + 1) h.counted) r.ready.due r.ready.turns r.ready.distinct (λ m a is o. absurd (none m o))) in
-    let mid = s.entries ++ s.asks in
-    let within : (m : ℕ) → is_open mid m ≡ true → (first ≤ m) × (m < first + length r.dues) =
-    λ m o. elim (q.only m o) [ inl old ↦ absurd (none m old) | inr bounds ↦ bounds ] in
-    let a = answered_all s.version task h.fit r.dues s.slots mid first q.ok_after q.waits r.slots answered within in
-    let answers = answers_of s.slots in
-    let all = mid ++ answers in
-    let many : length s.instances ≡ length r.dues = ap length r.instances ∙ length-map r.dues (λ (d : Due). d.instance) in
-    let slots : length s.slots ≡ length r.dues = as_many task s.version first r.dues s.slots r.slots in
-    let count_mid : count_by is_answer mid ≡ count_by is_answer s.entries + 0 =
-    count_joined is_answer s.entries s.asks
-    ∙ ap (λ n. count_by is_answer s.entries + n)
-    (ap (count_by is_answer) r.asks ∙ no_answers task (names_of task s.entries) first r.dues) in
-    let count_all : count_by is_answer all ≡ count_by is_answer mid + count_by is_answer answers = count_joined is_answer mid answers in
-    let in_answers : count_by is_answer answers ≤ length answers = count_by-le-length is_answer answers in
-    let front : take s.learnt all ≡ take s.learnt s.entries =
-    ap (take s.learnt) (append_assoc s.entries s.asks answers) ∙ take-append-le s.learnt s.entries (s.asks ++ answers) h.learnt in
-    record {
-      fit = h.fit;
-      version = h.version;
-      some_version = h.some_version;
-      calls = h.calls;
-      pools = h.pools;
-      legal = a.legal;
-      none_open = a.none_open;
-      counted = omega (arith, length-append s.asked s.instances, many, a.asks, q.count);
-      asked = λ k i at.
-          elim (two_parts s.asked s.instances k i at) [
-            | inl old ↦
-                let was = h.asked k i old in
-                record {
-                  stream = was.stream;
-                  streamed = was.streamed;
-                  asks = a.requests (k + 1) ∙ asked-kept task s.entries s.asks (k + 1) _ was.asks;
-                }
-            | inr new ↦
-                let here = wait_at task mid first r.dues new.0 i q.waits (ap (λ xs. slice_get xs new.0) (sym r.instances) ∙ new.2) in
-                let place : first + new.0 ≡ k + 1 = omega (arith, new.1) in
-                record {
-                  stream = here.stream;
-                  streamed = here.streamed;
-                  asks = a.requests (k + 1) ∙ ap (asked task mid) (sym place) ∙ here.asks;
-                }
-          ];
-      answered = omega (arith, count_all, count_mid, in_answers, few_answers s.slots, slots, h.answered, a.asks, q.count, h.counted);
-      learnt = omega (arith, h.learnt, length-append mid answers, length-append s.entries s.asks);
-      known = λ works. h.known works ∙ sym (ap (known_of task) front);
-      notes = λ works. h.notes works ∙ sym (ap (notes_of task) front);
-      round = λ e. absurd (cc);
-    }

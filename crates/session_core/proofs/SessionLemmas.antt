@@ -108,7 +108,7 @@ failure_kept task s h =
 
 -- ---- marks
 
-mark_follows : (version : ℕ) (task : Task) (before : List Entry) (e : Entry) → is_mark e ≡ true
+pub mark_follows : (version : ℕ) (task : Task) (before : List Entry) (e : Entry) → is_mark e ≡ true
     → MayFollow version task before e
 mark_follows version task before (entry.Ask number turn call) m = absurd (cc)
 mark_follows version task before (entry.Got number tuples values) m = absurd (cc)
@@ -121,7 +121,7 @@ mark_follows version task before entry.Reset m = tt
 mark_follows version task before (entry.Pick n) m = tt
 mark_follows version task before (entry.Retire n) m = tt
 
-mark_answers : (e : Entry) → is_mark e ≡ true → is_answer e ≡ false
+pub mark_answers : (e : Entry) → is_mark e ≡ true → is_answer e ≡ false
 mark_answers (entry.Ask number turn call) m = refl
 mark_answers (entry.Got number tuples values) m = absurd (cc)
 mark_answers (entry.Value number value) m = absurd (cc)

@@ -8,6 +8,10 @@ use Rattle.lemmas.proofs.Distinct.{distinct_tail}
 use Rattle.lemmas.specs.Lists.{AreDistinct}
 use Rattle.session_core.specs.Slots.{Slot, at_child, is_slot_of, slot_of, all_answered}
 
+pub map_same : (slots : List Slot) → map (λ s. s) slots ≡ slots
+map_same [] = refl
+map_same (s ∷ slots) = ap (λ ts. s ∷ ts) (map_same slots)
+
 abbrev pub children_of : List Slot → List ℕ
 children_of = map (λ (s : Slot). s.child)
 
@@ -108,10 +112,6 @@ set_at_child (t ∷ ts) child zero s f d at own =
     untouched : ts ≡ map (at_child child f) ts
     untouched = sym (map_at (at_child child f) (λ u. u) ts (λ j u at_j. at_other child f u (apart j u at_j)) ∙ map_same ts)
       where
-        map_same : (us : List Slot) → map (λ u. u) us ≡ us
-        map_same [] = refl
-        map_same (u ∷ us) = ap (λ vs. u ∷ vs) (map_same us)
-
         apart : (j : ℕ) (u : Slot) → slice_get ts j ≡ Some u → is_slot_of child u ≡ false
         apart j u at_j =
             elim (is_slot_of child u) as (λ b. is_slot_of child u ≡ b → b ≡ false) [

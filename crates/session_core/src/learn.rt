@@ -110,8 +110,9 @@ fn learn_answer(
     }
 }
 
-/// What the entries from a place on certify and tell, where these instances were asked: it is put behind what is known and noted
-/// after the entries before that place. The transcript is legal. Fails only where memory is wanting; then some of it may be known.
+/// What the entries from a place on certify and tell, where these instances were asked: it is put
+/// behind what is known and noted after the entries before that place. The transcript is legal.
+/// Fails only where memory is wanting; then some of it may be known.
 pub fn learn_from(
     alloc: Global,
     task: &Task,

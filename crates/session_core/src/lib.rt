@@ -1,5 +1,6 @@
-//! The core of the dialogue with generators: which requests are made, what they were answered, and what is known by it,
-//! whatever the order in which children answer. It starts nothing and reads nothing.
+//! The core of the dialogue with generators: which requests are made, what they were answered, and
+//! what is known by it, whatever the order in which children answer. It starts nothing and reads
+//! nothing.
 #![tactic(auto)]
 
 mod cell;

@@ -1,14 +1,12 @@
 //! A round, before anything was sent.
-ghost use Rattle.std.specs.Prelude.{◌≡◌, ◌≤◌, ◌+◌, ◌^◌, ◌<◌, ◌++◌, [], IfOk, IfSome, IfNone, None, length, map, All, Some, slice_get, vec_capacity, option_copied};
+ghost use Rattle.std.specs.Prelude.{◌≡◌, ◌≤◌, ◌+◌, ◌^◌, ◌<◌, ◌++◌, [], IfOk, IfSome, IfNone, None, length, All, Some, slice_get, vec_capacity, option_copied};
 ghost use Rattle.gen_lines.specs.Request.{IsNamed};
 ghost use Rattle.gen_lines.specs.Told.{IsNarrow};
 ghost use Rattle.instance_queue.specs.Level.{instances_of};
 ghost use Rattle.task_model.specs.Fit.{IsFit};
-ghost use Rattle.transcript_model.specs.Names.{call_of_instance};
 ghost use Rattle.pools.specs.Pools.{child_for, streams_of};
 ghost use Rattle.session_core.specs.Slots.{wanted_at, ask_for as ask_of, asks_from, slots_from, slot_for, answers_of, slot_of, all_answered};
 ghost use Rattle.session_core.specs.Slots.{AreFitChildren};
-ghost use Rattle.task_model.specs.Streams.{name_at};
 
 use crate::cell::Cell;
 use fact_store::Facts;
@@ -16,8 +14,8 @@ use gen_lines::{Wanted, request_text};
 use instance_queue::Due;
 use pools::{Workers, child_of};
 use std::alloc::{AllocError, Global};
-use task_model::{Instance, Look, Name, Obj, Seq, Task};
-use transcript_model::{Call, Entry};
+use task_model::{Instance, Task};
+use transcript_model::{Entry, name_instance};
 
 /// The requests of a round as entries, their instances, and what is heard, side by side.
 #[derive(Drop)]
@@ -52,30 +50,6 @@ pub(crate) struct Scene<'a> {
     pub(crate) version: u8,
 }
 
-/// The names of these objects.
-fn names_of(alloc: Global, facts: &Facts, objects: &[Obj]) -> Result<Seq<Name>, AllocError>
-    requires { All (λ object. object < length facts.now.known.names) objects.now }
-    ensures { IfOk result (λ names. names ≡ map (name_at facts.now.known.names) objects.now) }
-{
-    let mut names = Vec::new(alloc);
-    for object in objects {
-        names.push(facts.name(*object).copy(alloc)?)?;
-    }
-    Ok(Seq::from_vec(names))
-}
-
-/// How an instance is shown.
-fn call_of(scene: &Scene<'_>, instance: &Instance) -> Result<Call, AllocError>
-    requires { IsNamed scene.now.task.now scene.now.facts.now.known.names instance.now }
-    ensures { IfOk result (λ call. call
-        ≡ call_of_instance scene.now.task.now scene.now.facts.now.known.names instance.now) }
-{
-    let stream = &scene.task.streams.as_slice()[instance.stream as usize];
-    let name = stream.name.copy(scene.alloc)?;
-    let args = names_of(scene.alloc, scene.facts, instance.inputs.as_slice())?;
-    Ok(Call { name, args })
-}
-
 /// What a request to an instance of this stream may be answered.
 fn wanted_for(scene: &Scene<'_>, stream: u32) -> Wanted
     requires { IsFit scene.now.task.now }
@@ -97,7 +71,7 @@ fn ask_for(scene: &Scene<'_>, number: u32, due: &Due) -> Result<Entry, AllocErro
     ensures { IfOk result (λ ask. ask
         ≡ ask_of scene.now.task.now scene.now.facts.now.known.names number due.now) }
 {
-    let call = call_of(scene, &due.instance)?;
+    let call = name_instance(scene.alloc, scene.task, scene.facts, &due.instance)?;
     Ok(Entry::Ask {
         number,
         turn: due.turn,

@@ -11,11 +11,12 @@ use std::mem;
 use task_model::{Instance, Task};
 use transcript_model::{Entry, Head};
 
-/// A transcript as it grows: rounds of requests, their answers, and what is known by them. It is a state machine that knows
-/// no child and no bytes but those that it is told.
+/// A transcript as it grows: rounds of requests, their answers, and what is known by them. It is a
+/// state machine that knows no child and no bytes but those that it is told.
 ///
-/// A round is begun with asks that are due; then for each child of the round its request is sent and its line is heard, in any
-/// order of the children; then the round is closed, and its answers can be learnt.
+/// A round is begun with asks that are due; then for each child of the round its request is sent
+/// and its line is heard, in any order of the children; then the round is closed, and its answers
+/// can be learnt.
 #[derive(Drop)]
 pub struct Session {
     version: u8,
@@ -63,7 +64,8 @@ impl Session {
     ghost use Rattle.session_core.specs.Slots.{IsUnsent, IsAwaited, all_answered};
     ghost use Rattle.session_core.specs.State.{after_sent, after_line, after_failure, after_close, after_mark, with_learnt};
 
-    /// The session in which nothing was asked, and what is known is what is known at first. Fails only where memory is wanting.
+    /// The session in which nothing was asked, and what is known is what is known at first. Fails
+    /// only where memory is wanting.
     pub fn new(alloc: Global, task: &Task, head: &Head) -> Result<Session, AllocError>
         requires task { IsFit task.now }
         requires head { IsFitHead task.now head.now }
@@ -90,9 +92,10 @@ impl Session {
         })
     }
 
-    /// How many of these asks, from the front on, make the next round: as many as there are such that no pool has more of them than
-    /// workers, and no more than calls are left. Where a call is left and there is an ask, there is one at least. Where all
-    /// that was answered is learnt, and the asks are due, that front of them may begin.
+    /// How many of these asks, from the front on, make the next round: as many as there are such
+    /// that no pool has more of them than workers, and no more than calls are left. Where a call is
+    /// left and there is an ask, there is one at least. Where all that was answered is learnt, and
+    /// the asks are due, that front of them may begin.
     pub fn next_round(&self, dues: &[Due]) -> usize
         ensures cut { IsNextRound self.now dues.now result }
         ensures some { (task : AnyTask) → IsSession task self.now → 0 < length dues.now
@@ -106,9 +109,10 @@ impl Session {
         longest_front(self.pools.as_slice(), &dues[..most])
     }
 
-    /// Begins a round of these asks, and answers how many there are. They are due, each with its turn, and of different
-    /// instances; no pool has more of them than workers; so many calls are left; no round is open, and all that was answered is
-    /// learnt. It takes all memory of the round, of which nothing is sent; each request has a child of its own. Fails where the
+    /// Begins a round of these asks, and answers how many there are. They are due, each with its
+    /// turn, and of different instances; no pool has more of them than workers; so many calls are
+    /// left; no round is open, and all that was answered is learnt. It takes all memory of the
+    /// round, of which nothing is sent; each request has a child of its own. Fails where the
     /// session has failed and where memory is wanting, and leaves all as it was then.
     pub fn begin_round(&mut self, task: &Task, dues: &[Due]) -> Result<usize, CoreFault>
         requires session { IsSession task.now self.old }
@@ -209,8 +213,9 @@ impl Session {
         }
     }
 
-    /// A whole line was taken from the child, without its line feed and a carriage return before that. The child's request was
-    /// sent and isn't answered. A line that is no answer lets the session fail.
+    /// A whole line was taken from the child, without its line feed and a carriage return before
+    /// that. The child's request was sent and isn't answered. A line that is no answer lets the
+    /// session fail.
     pub fn line(&mut self, child: u8, bytes: &[u8]) -> Heard
         requires working { self.old.failed ≡ false }
         requires awaited { IsAwaited self.old.slots child }
@@ -234,8 +239,8 @@ impl Session {
         }
     }
 
-    /// The child wrote more bytes than a line may have. Its request was sent and isn't answered. Answers the number of its ask;
-    /// the session has failed.
+    /// The child wrote more bytes than a line may have. Its request was sent and isn't answered.
+    /// Answers the number of its ask; the session has failed.
     pub fn too_long(&mut self, child: u8) -> u32
         requires working { self.old.failed ≡ false }
         requires awaited { IsAwaited self.old.slots child }
@@ -250,8 +255,9 @@ impl Session {
         self.round.cells[place].number()
     }
 
-    /// Closes the round, each request of which is answered: its requests are put behind the transcript, and then their answers
-    /// in the same order. Of a list of asks whose front was the round, those behind it are due still, with the same turns.
+    /// Closes the round, each request of which is answered: its requests are put behind the
+    /// transcript, and then their answers in the same order. Of a list of asks whose front was the
+    /// round, those behind it are due still, with the same turns.
     pub fn close_round(&mut self)
         requires working { self.old.failed ≡ false }
         requires open { self.old.is_open ≡ true }
@@ -275,9 +281,10 @@ impl Session {
         self.is_open = false;
     }
 
-    /// Learns what the answers of the closed rounds certify and tell: what is known and noted is then what the whole transcript
-    /// certifies and tells. Fails where the session has failed, and leaves all as it was then, and where memory is wanting:
-    /// then the session has failed, and some of what the answers certify may be known.
+    /// Learns what the answers of the closed rounds certify and tell: what is known and noted is
+    /// then what the whole transcript certifies and tells. Fails where the session has failed, and
+    /// leaves all as it was then, and where memory is wanting: then the session has failed, and
+    /// some of what the answers certify may be known.
     pub fn learn(&mut self, task: &Task) -> Result<(), CoreFault>
         requires session { IsSession task.now self.old }
         ensures learnt { OnOk result (self.new ≡ after_learn task.now self.old) }
@@ -312,8 +319,8 @@ impl Session {
         }
     }
 
-    /// Puts an entry behind the transcript that is neither a request nor an answer. No round is open. Fails only where memory is
-    /// wanting, and leaves all as it was then.
+    /// Puts an entry behind the transcript that is neither a request nor an answer. No round is
+    /// open. Fails only where memory is wanting, and leaves all as it was then.
     pub fn mark(&mut self, entry: Entry) -> Result<(), AllocError>
         requires working { self.old.failed ≡ false }
         requires closed { self.old.is_open ≡ false }
@@ -333,7 +340,8 @@ impl Session {
         Ok(())
     }
 
-    /// The asks that are due after the transcript, all of whose answers are learnt. No round is open.
+    /// The asks that are due after the transcript, all of whose answers are learnt. No round is
+    /// open.
     pub fn due(&self, task: &Task) -> Result<Vec<Due>, QueueFault>
         requires session { IsSession task.now self.now }
         requires working { self.now.failed ≡ false }

@@ -40,7 +40,8 @@ fn pools(alloc: Global, task: &Task, workers: u8) -> Result<Seq<Pool>, AllocErro
     Ok(Seq::from_vec(vec![in alloc; pool]?))
 }
 
-/// The head of a run with one pool of so many workers, and at most so many calls. Fails only where memory is wanting.
+/// The head of a run with one pool of so many workers, and at most so many calls. Fails only where
+/// memory is wanting.
 pub fn head(
     alloc: Global,
     task: &Task,

@@ -6,8 +6,8 @@ use std::test::Fail;
 use task_model::{Instance, Obj, Row, Task};
 use worked_tasks::{Texts, task};
 
-/// `cup`, `bowl` and `ball`, in this order, of which the cup and the ball are clear; a stream of an object that is clear,
-/// which gives an object, and a test of any object.
+/// `cup`, `bowl` and `ball`, in this order, of which the cup and the ball are clear; a stream of an
+/// object that is clear, which gives an object, and a test of any object.
 const HANDS: Texts<'static> = Texts {
     domain: "(define (domain hands) (:predicates (clear ?x)))",
     problem: "(define (problem one) (:domain hands) (:objects cup bowl ball)

@@ -78,7 +78,8 @@ pub fn happen_all(session: &mut Session, events: &[Event<'_>]) -> bool
     true
 }
 
-/// Lets the events of a round come, and answers whether they all might and each request is answered.
+/// Lets the events of a round come, and answers whether they all might and each request is
+/// answered.
 pub fn play(session: &mut Session, events: &[Event<'_>]) -> bool
     requires works { session.old.failed ≡ false }
     ensures same { result ≡ true → IsRoundKept session.old session.new }

@@ -161,7 +161,8 @@ fn what_waits_for_its_round_is_asked_in_the_next(rt: HostRuntime) -> Result<(), 
     Ok(())
 }
 
-/// The weight of the cup that is known after these levels of the streams `look` and `weigh`, and how many requests they made.
+/// The weight of the cup that is known after these levels of the streams `look` and `weigh`, and
+/// how many requests they made.
 fn weighed(alloc: Global, played: Levels<'_>) -> Result<(Option<u32>, u32), Fail> {
     let task = task(alloc, &LOOKS_AND_WEIGHS)?;
     let mut session = begin(alloc, &task, 1, 100_000, 1)?;

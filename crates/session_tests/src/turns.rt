@@ -1,4 +1,5 @@
-//! Children that say something before it is their turn, rounds that calls cut short, and sessions that fail.
+//! Children that say something before it is their turn, rounds that calls cut short, and sessions
+//! that fail.
 ghost use Rattle.std.specs.Prelude.{◌≡◌, true, false, IfOk};
 ghost use Rattle.session_core.specs.Session.{IsSession};
 ghost use Rattle.task_model.specs.Fit.{IsFit};

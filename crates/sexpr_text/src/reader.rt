@@ -18,13 +18,13 @@ const MAX_DEPTH: usize = 64;
 
 /// Reads a text that is one list in parentheses.
 ///
-/// White space is a tab, a line feed, a CR or a space. A comment runs from `;` to the next line feed
-/// and may hold any bytes. A word is a maximal run of the bytes `!` to `~` without parentheses and `;`;
-/// its letters `A` to `Z` come out in lower case. Lists stand in one another up to a depth of 64, the
-/// outermost having depth 1.
+/// White space is a tab, a line feed, a CR or a space. A comment runs from `;` to the next line
+/// feed and may hold any bytes. A word is a maximal run of the bytes `!` to `~` without parentheses
+/// and `;`; its letters `A` to `Z` come out in lower case. Lists stand in one another up to a depth
+/// of 64, the outermost having depth 1.
 ///
-/// Lists, comments and words that don't depend on case are those of PDDL 2.1. Which bytes may stand,
-/// the depth and the faults are this project's.
+/// Lists, comments and words that don't depend on case are those of PDDL 2.1. Which bytes may
+/// stand, the depth and the faults are this project's.
 ///
 /// # Errors
 ///

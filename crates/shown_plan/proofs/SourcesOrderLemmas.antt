@@ -10,7 +10,7 @@ use Rattle.std.specs.List.Sorted.{IsStrictlySortedBy}
 use Rattle.std.specs.Ordering.{nat_cmp, match_ordering}
 use Rattle.std.specs.declared.cmp.Ordering.{Ordering}
 use Rattle.std.specs.declared.cmp.Ordering.TheVariants.{Less, Equal, Greater}
-use Rattle.lemmas.proofs.Bools.{or_swap, or_true, or_false}
+use Rattle.lemmas.proofs.Bools.{or_swap, or_true}
 use Rattle.task_model.proofs.KnownLemmas.{numbers_decided}
 use Rattle.task_model.specs.Known.{same_numbers}
 use Rattle.lemmas.specs.Lists.{AreAscending}
@@ -72,21 +72,6 @@ added old name other g =
     elim (same_numbers other name) as (λ b. same_numbers other name ≡ b → (b || old) ≡ (old || (is_generated other && b))) [
       | true ↦ λ same. let too : is_generated other ≡ true = ap is_generated ((numbers_decided other name).0 same) ∙ g in
           rw too (sym (or_true old))
-      | false ↦ λ _. neither old (is_generated other)
-    ] refl
-  where
-    neither : (o g : Bool) → o ≡ (o || (g && false))
-    neither true g = refl
-    neither false true = refl
-    neither false false = refl
-
--- a name that belongs to no generated object adds none
-pub not_added : (old : Bool) (name other : List ℕ) → is_generated name ≡ false
-    → old ≡ (old || (is_generated other && same_numbers other name))
-not_added old name other g =
-    elim (same_numbers other name) as (λ b. same_numbers other name ≡ b → old ≡ (old || (is_generated other && b))) [
-      | true ↦ λ same. let not : is_generated other ≡ false = ap is_generated ((numbers_decided other name).0 same) ∙ g in
-          rw not (sym (or_false old))
       | false ↦ λ _. neither old (is_generated other)
     ] refl
   where

@@ -97,9 +97,6 @@ pub record IsMidway (before : List Entry) (e : Entry) (seen : List (List ℕ)) (
   pub waits : is_among seen value ≡ false → HasBest before value found
 
 module _ (before : List Entry) (e : Entry) (value : List ℕ) where
-  pub midway_first : (found : Option (Option Source)) → HasBest before value found → IsMidway before e [] value found
-  midway_first found h = record { taken = λ t. absurd (cc); waits = λ _. h }
-
   pub midway_next : (seen : List (List ℕ)) (next : List ℕ) (old new : Option (Option Source)) → IsMidway before e seen value old
       → (same_numbers value next ≡ true → HasBest before value old ⊎ HasBest (before ++ e ∷ []) value old
       → HasBest (before ++ e ∷ []) value new)

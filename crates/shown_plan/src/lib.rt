@@ -1,4 +1,5 @@
-//! How a plan is shown as the outcome of a run: its steps by name, and the calls from which its generated objects came.
+//! How a plan is shown as the outcome of a run: its steps by name, and the calls from which its
+//! generated objects came.
 #![tactic(auto)]
 
 pub mod laws;
@@ -10,3 +11,4 @@ mod sources;
 mod steps;
 
 pub use plan::{plan_origins, plan_outcome};
+pub use steps::name_steps;

@@ -13,10 +13,10 @@ use std::alloc::{AllocError, Global};
 use task_model::{GroundAction, Look, Seq, Task};
 use transcript_model::{Call, Entry, Origin, Outcome};
 
-/// The generated objects of these calls, each once, in order of bytes, with the least request whose answer has its
-/// value. From version 2 of the report on the first tuple of that answer that has the value is told too; in version 1
-/// it is always 1 (this project). The calls are steps by name, whose objects have names, as those of a valid plan
-/// have.
+/// The generated objects of these calls, each once, in order of bytes, with the least request whose
+/// answer has its value. From version 2 of the report on the first tuple of that answer that has
+/// the value is told too; in version 1 it is always 1 (this project). The calls are steps by name,
+/// whose objects have names, as those of a valid plan have.
 ///
 /// Fails only where memory is wanting.
 pub fn plan_origins(
@@ -32,9 +32,10 @@ pub fn plan_origins(
     origins_of(alloc, version, entries, &names)
 }
 
-/// The outcome of a run that found this plan of this cost: the steps with the names of their actions and objects,
-/// and their generated objects as `plan_origins` tells them. The names are those of the transcript, and the steps'
-/// actions and objects have names, as those of a valid plan have.
+/// The outcome of a run that found this plan of this cost: the steps with the names of their
+/// actions and objects, and their generated objects as `plan_origins` tells them. The names are
+/// those of the transcript, and the steps' actions and objects have names, as those of a valid plan
+/// have.
 ///
 /// Fails only where memory is wanting.
 pub fn plan_outcome<L: Look>(

@@ -44,7 +44,8 @@ fn sought<'a>(alloc: Global, names: &BTreeSet<&'a [u8]>) -> Result<Sources<'a>, 
     Ok(sources)
 }
 
-/// Takes the entry for the value's source where the value is sought and no lesser request's answer has it.
+/// Takes the entry for the value's source where the value is sought and no lesser request's answer
+/// has it.
 fn note_value(sources: &mut Sources<'_>, entry: &Entry, value: &[u8])
     requires { IsEven entry.now }
     ensures here { (before : List AnyEntry)

@@ -1,46 +1,14 @@
 //! Steps by name.
-ghost use Rattle.std.specs.Prelude.{◌≡◌, ◌<◌, map, length, All, IfOk};
+ghost use Rattle.std.specs.Prelude.{◌≡◌, map, IfOk};
 ghost use Rattle.shown_plan.specs.Shown.{AreNamedSteps};
-ghost use Rattle.task_model.specs.Known.{IsIn};
-ghost use Rattle.task_model.specs.Streams.{name_at};
 ghost use Rattle.transcript_model.specs.Calls.{call_of_step};
 
 use std::alloc::{AllocError, Global};
-use task_model::{GroundAction, Look, Name, Obj, Seq, Task};
-use transcript_model::Call;
+use task_model::{GroundAction, Look, Seq, Task};
+use transcript_model::{Call, name_step};
 
-/// The names of the objects.
-fn name_objects<L: Look>(alloc: Global, look: &L, objects: &[Obj]) -> Result<Seq<Name>, AllocError>
-    requires { All (IsIn (L.known look.now).names) objects.now }
-    ensures { IfOk result (λ names. names ≡ map (name_at (L.known look.now).names) objects.now) }
-{
-    let mut names = Vec::new(alloc);
-    for object in objects {
-        let name = look.name(*object).copy(alloc)?;
-        names.push(name)?;
-    }
-    Ok(Seq::from_vec(names))
-}
-
-/// The step, with the names of its action and its objects.
-fn name_step<L: Look>(
-    alloc: Global,
-    task: &Task,
-    look: &L,
-    step: &GroundAction,
-) -> Result<Call, AllocError>
-    requires action { step.now.action < length task.now.domain.actions }
-    requires objects { All (IsIn (L.known look.now).names) step.now.args }
-    ensures { IfOk result (λ call. call ≡ call_of_step task.now (L.known look.now).names step.now) }
-{
-    let action = &task.domain.actions.as_slice()[step.action as usize];
-    let name = action.name.copy(alloc)?;
-    let args = name_objects(alloc, look, step.args.as_slice())?;
-    Ok(Call { name, args })
-}
-
-/// The steps, with the names of their actions and objects.
-pub(crate) fn name_steps<L: Look>(
+/// The steps, with the names of their actions and objects. Fails only where memory is wanting.
+pub fn name_steps<L: Look>(
     alloc: Global,
     task: &Task,
     look: &L,

@@ -1,1 +1,3 @@
+pub mod EditsLemmas
+pub mod KeptLemmas
 pub mod RowsLemmas

@@ -1,5 +1,5 @@
 -- Rows stand for the same states while atoms are put behind the others, and no two rows for one.
-use Rattle.std.proofs.Common.{◌≡◌, ℕ, zero, suc, ◌<◌, Bool, true, false, cond, List, [], ◌∷◌, ◌++◌, map, drop, length, get_or, length-append, refl, sym, ap, ◌∙◌, subst, arith, Option, Some, None, option_map, slice_get, Contains, All, nat_eq, true≢false, not, IsTrue, ◌↔◌, inl, inr}
+use Rattle.std.proofs.Common.{◌≡◌, ℕ, zero, suc, ◌<◌, Bool, true, false, cond, List, [], ◌∷◌, ◌++◌, map, drop, length, get_or, length-append, refl, sym, ap, ◌∙◌, subst, arith, Option, Some, None, option_map, slice_get, position, Contains, All, nat_eq, true≢false, not, IsTrue, ◌↔◌, inl, inr}
 use Rattle.std.proofs.lemmas.List.{get_or_append_left, length-map, map_push}
 use Rattle.std.proofs.lemmas.List.Elements.{All-head, All-tail, All-weaker, All-push}
 use Rattle.std.proofs.lemmas.Map.Keys.{IsDistinct-head, IsDistinct-tail}
@@ -9,11 +9,16 @@ use Rattle.std.specs.Cmp.Lexicographic.{pointwise, lists_equiv}
 use Rattle.std.specs.Cmp.{nat_eq_equiv, eq_by_cmp_equiv}
 use Rattle.std.specs.FinMap as finite
 use Rattle.std.specs.List.{list_any, AllByRecursion, IsDistinct}
-use Rattle.task_model.proofs.StateLemmas.{atoms_total, same_atoms, contains-from_list}
+use Rattle.task_model.proofs.StateLemmas.{atoms_total, atoms_tied, same_atoms, contains-from_list}
+use Rattle.std.proofs.lemmas.List.Quantifiers.{position-Some}
 use Rattle.task_model.proofs.StateOrderLemmas.{same_atom, ties}
 use Rattle.task_model.proofs.KnownLemmas.{numbers_decided}
 use Rattle.lemmas.proofs.Members.{member_at, place_of, distinct_push, push_cases}
 use Rattle.lemmas.specs.Lists.{AreDistinct}
+use Rattle.std.specs.Ordering.{is_eq}
+use Rattle.std.specs.declared.cmp.Ordering.{Ordering}
+use Rattle.std.specs.declared.cmp.Ordering.TheVariants.{Less, Equal, Greater}
+use Rattle.task_model.specs.AtomOrder.{atom_cmp}
 use Rattle.task_model.specs.State.{Atoms, from_list, items}
 use Rattle.task_model.specs.declared.fact.Atom.{Atom}
 use Rattle.state_store.specs.Kept.{AreKept}
@@ -240,3 +245,19 @@ pub row_at : {V : Type 0} (row_in : V → List ℕ) (atoms : List Atom) (keys : 
 row_at row_in atoms keys key place within is =
     let inside : place < length keys = omega (arith, length-map (map row_in keys) (state_of atoms), length-map keys row_in) in
     slice_get-map row_in keys place ∙ ap (option_map row_in) (slice_get-get_or keys place key inside ∙ ap Some (sym is))
+
+same_is : (x y : Atom) → same_atom x y ≡ true → x ≡ y
+same_is x y e = atoms_tied x y (is_equal (atom_cmp x y) (sym (ties x y) ∙ e))
+  where
+    is_equal : (o : Ordering) → is_eq o ≡ true → o ≡ Equal
+    is_equal Less e = absurd (cc)
+    is_equal Equal e = refl
+    is_equal Greater e = absurd (cc)
+
+-- an atom that was looked for stands at the place that was found
+pub place_is : (atoms : List Atom) (atom : Atom) (place : ℕ) → position (same_atom atom) atoms ≡ Some place
+    → slice_get atoms place ≡ Some atom
+place_is atoms atom place e =
+    let found = position-Some (same_atom atom) atoms place atom e in
+    slice_get-get_or atoms place atom found.0
+    ∙ ap Some (sym (same_is atom (get_or atoms place atom) found.1))

@@ -1,6 +1,7 @@
 //! States, each kept once and known by a number.
 #![tactic(auto)]
 
+mod edits;
 mod rows;
 pub mod store;
 

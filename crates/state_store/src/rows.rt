@@ -7,23 +7,36 @@ use indexmap::IndexSet;
 use std::alloc::{AllocError, Global};
 use task_model::Atom;
 
-/// The number of an atom, which is put behind the others where it is new. Fails only where memory is
-/// wanting, or where there are 2^32 other atoms.
-fn number_of(numbered: &mut IndexSet<Atom>, atom: &Atom) -> Result<u32, AllocError>
+/// The place of an atom among those that have numbers, behind which it is put where it is new.
+fn place_of(numbered: &mut IndexSet<Atom>, atom: &Atom) -> Result<usize, AllocError>
+    requires { AreDistinct numbered.old.keys }
+    ensures place { IfOk result (λ place. slice_get numbered.new.keys place ≡ Some atom.now) }
+    ensures grows { Grows numbered.old.keys numbered.new.keys }
+    ensures distinct { AreDistinct numbered.new.keys }
+{
+    if let Some(place) = numbered.get_index_of(atom) {
+        return Ok(place);
+    }
+    let (place, _) = numbered.insert_full(atom.copy()?)?;
+    Ok(place)
+}
+
+/// The number of an atom, which is put behind the others where it is new. Fails only where memory
+/// is wanting, or where there are 2^32 other atoms.
+pub(crate) fn number_of(numbered: &mut IndexSet<Atom>, atom: &Atom) -> Result<u32, AllocError>
     requires { AreDistinct numbered.old.keys }
     ensures number { IfOk result (λ number. slice_get numbered.new.keys number ≡ Some atom.now) }
     ensures grows { Grows numbered.old.keys numbered.new.keys }
     ensures distinct { AreDistinct numbered.new.keys }
 {
-    let (place, _) = numbered.insert_full(atom.copy()?)?;
-    match u32::try_from(place) {
+    match u32::try_from(place_of(numbered, atom)?) {
         Ok(number) => Ok(number),
         Err(_) => Err(AllocError),
     }
 }
 
-/// The numbers of atoms, in their order; those that are new are put behind the others. Fails only where
-/// memory is wanting, or where there are 2^32 other atoms.
+/// The numbers of atoms, in their order; those that are new are put behind the others. Fails only
+/// where memory is wanting, or where there are 2^32 other atoms.
 pub(crate) fn numbers_of(
     alloc: Global,
     numbered: &mut IndexSet<Atom>,

@@ -1,8 +1,7 @@
 -- Looking names up, and sums of workers.
-use Rattle.std.proofs.Common.{◌≡◌, ℕ, zero, suc, ◌+◌, ◌<◌, ◌≤◌, arith, Bool, true, false, cond, ◌||◌, List, [], ◌∷◌, ◌++◌, length, get_or, take, drop, map, sum_by, refl, sym, ap, ◌∙◌, Option, Some, None, slice_get, All}
-use Rattle.std.proofs.lemmas.List.{at_drop_more, length-map, take_more}
+use Rattle.std.proofs.Common.{◌≡◌, ℕ, zero, suc, ◌+◌, ◌<◌, ◌≤◌, arith, Bool, true, false, cond, ◌||◌, List, [], ◌∷◌, ◌++◌, length, get_or, take, map, refl, sym, ap, ◌∙◌, Option, Some, None, slice_get, All}
+use Rattle.std.proofs.lemmas.List.{length-map, take_more}
 use Rattle.std.proofs.lemmas.List.Elements.{All-append}
-use Rattle.std.proofs.lemmas.List.Sums.{sum_by-cons}
 use Rattle.std.proofs.lemmas.Option.{get_or_from_slice_get, same_Some, slice_get_within}
 use Rattle.std.proofs.lemmas.Slice.Eq.{bytes_eq-Decides}
 use Rattle.std.specs.List.{cons_option, filter_map, flat_map, list_any}
@@ -19,8 +18,7 @@ use Rattle.stream_map.specs.declared.fault.MapFault.{MapFault}
 use Rattle.stream_map.specs.declared.fault.MapFault.TheVariants.{Json, Shape, Workers, Unknown, Doubled, Unserved, Memory}
 use Rattle.stream_map.specs.Form.{each_of, all_stream_names}
 use Rattle.stream_map.specs.Served.{streams_in}
-use Rattle.stream_map.specs.Spelled.{Spelled, shown}
-use Rattle.stream_map.specs.declared.pool_text.PoolText.{PoolText}
+use Rattle.stream_map.specs.Spelled.{Spelled}
 use Rattle.lemmas.proofs.ListTests.{all_cons}
 use Rattle.lemmas.proofs.MappedTests.{any_mapped}
 use Rattle.task_model.proofs.FitLemmas.{few_streams}
@@ -149,16 +147,6 @@ module _ (names : List (List ℕ)) where
       flat_plain pools ∙ ap (flat_map (λ (p : PlainPool). p.streams)) are ∙ flat_numbered next texts
 
 -- ---- sums of workers
-
-abbrev own_sum : List PoolText → ℕ
-own_sum pools = sum_by own_workers (map shown pools)
-
-pub own_left : (pools : List PoolText) (i : ℕ) (x : PoolText) → i < length pools
-    → x ≡ get_or pools i x
-    → sum_by own_workers (map shown (drop i pools)) ≡ own_workers (shown x) + sum_by own_workers (map shown (drop (i + 1) pools))
-own_left pools i x within is =
-    at_drop_more own_sum pools i x within ∙ ap (λ v. own_sum (v ∷ drop (i + 1) pools)) (sym is)
-    ∙ sum_by-cons own_workers (shown x) (map shown (drop (i + 1) pools))
 
 -- the name of the stream at a place
 pub name_at : (names : List (List ℕ)) (streams : List Stream) (i : ℕ) (stream : Stream)

@@ -1,6 +1,6 @@
 -- The grid's text in the place of its file.
-use Rattle.std.proofs.Common.{◌≡◌, ℕ, ◌+◌, ◌<◌, ◌≤◌, Bool, true, false, cond, List, [], ◌∷◌, ◌++◌, length, get_or, take, drop, map, string_bytes, refl, sym, ap, ◌∙◌, add-one, append_assoc}
-use Rattle.std.proofs.lemmas.List.{at_drop_all, drop_more, take_more, map-append, append-nil, take_all, get_or_default}
+use Rattle.std.proofs.Common.{◌≡◌, ℕ, ◌+◌, ◌<◌, Bool, true, cond, List, ◌∷◌, ◌++◌, length, get_or, take, drop, map, string_bytes, refl, sym, ap, ◌∙◌, add-one}
+use Rattle.std.proofs.lemmas.List.{drop_more, map-append, get_or_default}
 use Rattle.transcript_model.specs.declared.head.Pool.{Pool}
 use Rattle.stream_map.specs.Spelled.{begins_grid}
 use Rattle.stream_map.specs.Children.{plain, with_second, with_text, IsGridPlace}
@@ -21,20 +21,6 @@ module _ (pools : List Pool) (i : ℕ) (pool : Pool) (within : i < length pools)
   rest_is : drop i pools ≡ pool ∷ drop (i + 1) pools
   rest_is = drop_more pools i pool within ∙ ap (λ p. p ∷ drop (i + 1) pools) (sym is)
 
-  taken_is : take (i + 1) pools ≡ take i pools ++ pool ∷ []
-  taken_is = take_more pools i pool within ∙ ap (λ p. take i pools ++ p ∷ []) (sym is)
-
-  pub passed_more : begins pool ≡ false → ArePassed pools i → ArePassed pools (i + 1)
-  passed_more other passed text =
-      passed text
-      ∙ ap (λ ps. map plain (take i pools) ++ with_text text (map plain ps)) rest_is
-      ∙ ap (λ b. map plain (take i pools)
-      ++ cond b ((record (plain pool) { words = with_second text (plain pool).words }) ∷ map plain (drop (i + 1) pools))
-      (plain pool ∷ with_text text (map plain (drop (i + 1) pools)))) other
-      ∙ sym (append_assoc (map plain (take i pools)) (plain pool ∷ []) (with_text text (map plain (drop (i + 1) pools))))
-      ∙ ap (λ ps. ps ++ with_text text (map plain (drop (i + 1) pools)))
-      (sym (map-append plain (take i pools) (pool ∷ [])) ∙ ap (map plain) (sym taken_is))
-
   pub grid_found : begins pool ≡ true → ArePassed pools i → IsGridPlace pools i
   grid_found begun passed = record {
     within = within;
@@ -50,9 +36,3 @@ module _ (pools : List Pool) (i : ℕ) (pool : Pool) (within : i < length pools)
         ∙ sym (map-append plain (take i pools) (other ∷ drop (i + 1) pools))
         ∙ ap (λ n. map plain (take i pools ++ other ∷ drop n pools)) (add-one i);
   }
-
-pub all_passed : (pools : List Pool) (i : ℕ) → length pools ≤ i → ArePassed pools i
-    → (text : List ℕ) → with_text text (map plain pools) ≡ map plain pools
-all_passed pools i past passed text =
-    passed text ∙ at_drop_all (λ ps. map plain (take i pools) ++ with_text text (map plain ps)) pools i past
-    ∙ append-nil (map plain (take i pools)) ∙ ap (map plain) (take_all i pools past)

@@ -221,14 +221,6 @@ repeat_more before ks i k within is fresh =
     ∙ ap (λ ns. has_repeat ns (drop (i + 1) ks))
     (append_assoc before (take i ks) (get_or ks i 0 ∷ []) ∙ ap (λ ns. before ++ ns) (sym (take_more ks i 0 within)))
 
-pub repeat_here : (before ks : List ℕ) (i k : ℕ) → i < length ks → k ≡ get_or ks i 0
-    → is_stream_among k (before ++ take i ks) ≡ true
-    → has_repeat (before ++ take i ks) (drop i ks) ≡ true
-repeat_here before ks i k within is old =
-    at_drop_more (has_repeat (before ++ take i ks)) ks i 0 within
-    ∙ ap (λ b. b || has_repeat (before ++ take i ks ++ get_or ks i 0 ∷ []) (drop (i + 1) ks))
-    (ap (λ n. is_stream_among n (before ++ take i ks)) (sym is) ∙ old)
-
 -- ---- pools one after another
 
 all_left : (P : ℕ → Type 0) (xs ys : List ℕ) → All P (xs ++ ys) → All P xs

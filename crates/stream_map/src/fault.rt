@@ -8,15 +8,16 @@ use thiserror::Error;
 /// Why a map is refused, in the order of testing. The form and the kinds are this project's.
 #[derive(Clone, Copy, Debug, PartialEq, Eq, Error)]
 pub enum MapFault {
-    /// The bytes aren't UTF-8, or not one JSON value (RFC 8259) of at most 127 levels whose numbers fit 64 bits or are finite floats.
+    /// The bytes aren't UTF-8, or not one JSON value (RFC 8259) of at most 127 levels whose numbers
+    /// fit 64 bits or are finite floats.
     #[error("the map is no JSON")]
     Json,
-    /// The value isn't of a map's form: another key, a wrong kind of value, not 1 to 64 words, no streams, or `@grid`
-    /// with another number of words than one behind it.
+    /// The value isn't of a map's form: another key, a wrong kind of value, not 1 to 64 words, no
+    /// streams, or `@grid` with another number of words than one behind it.
     #[error("the map has another form")]
     Shape,
-    /// A number of workers outside 1 to 16, more than 16 workers beside the grid, or `@grid` with another number than 1
-    /// or in two pools.
+    /// A number of workers outside 1 to 16, more than 16 workers beside the grid, or `@grid` with
+    /// another number than 1 or in two pools.
     #[error("the numbers of workers are wrong")]
     Workers,
     /// A stream that the task hasn't.

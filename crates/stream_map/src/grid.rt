@@ -53,7 +53,8 @@ fn grid_place(pools: &[Pool]) -> Option<usize>
     None
 }
 
-/// The same pools with the grid's text in the place of its path, so that they can be started. It takes no memory.
+/// The same pools with the grid's text in the place of its path, so that they can be started. It
+/// takes no memory.
 pub fn with_grid(pools: Seq<Pool>, text: String) -> Seq<Pool>
     ensures { map plain result ≡ with_text (string_bytes text) (map plain pools) }
 {

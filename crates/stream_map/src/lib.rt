@@ -1,8 +1,9 @@
 //! The map of generators: which program answers which stream, with how many workers.
 //!
-//! A map is a JSON text, `{"pools":[{"run":["prog","word"],"workers":2,"streams":["place","grasp"]}]}`; without one, a
-//! program's words stand for a pool of all streams. What is accepted gives the pools of a run with the numbers of their
-//! children, and what is refused the first fault.
+//! A map is a JSON text,
+//! `{"pools":[{"run":["prog","word"],"workers":2,"streams":["place","grasp"]}]}`; without one, a
+//! program's words stand for a pool of all streams. What is accepted gives the pools of a run with
+//! the numbers of their children, and what is refused the first fault.
 #![tactic(auto)]
 
 mod fault;

@@ -15,9 +15,10 @@ use std::alloc::{AllocError, Global};
 use task_model::{Seq, Task};
 use transcript_model::Pool;
 
-/// The pools that a map's text spells, in the map's order, or its first fault in the order of `MapFault`. Names of
-/// streams are read in lower case, a number of workers that isn't given is 1, and of a key that stands twice the last
-/// value counts. The pool of the words `["@grid", FILE]` has the child 16; the others have those from 0 on.
+/// The pools that a map's text spells, in the map's order, or its first fault in the order of
+/// `MapFault`. Names of streams are read in lower case, a number of workers that isn't given is 1,
+/// and of a key that stands twice the last value counts. The pool of the words `["@grid", FILE]`
+/// has the child 16; the others have those from 0 on.
 pub fn read_map(alloc: Global, bytes: &[u8], task: &Task) -> Result<Seq<Pool>, MapFault>
     requires fit { IsFit task.now }
     ensures pools { IfOk result (λ pools. AcceptedMap task.now bytes.now pools) }
@@ -62,8 +63,9 @@ fn pool_of_all(
     })
 }
 
-/// The pools where a program's words stand for a map: none for a task without streams, and then nothing is tested;
-/// none without words; and else one pool of all streams, in the task's order, by the tests of `read_map`.
+/// The pools where a program's words stand for a map: none for a task without streams, and then
+/// nothing is tested; none without words; and else one pool of all streams, in the task's order, by
+/// the tests of `read_map`.
 pub fn one_pool(
     alloc: Global,
     task: &Task,

@@ -36,7 +36,8 @@ fn places_of(alloc: Global, names: &StreamNames, wanted: &[Name]) -> Result<Seq<
     Ok(Seq::from_vec(places))
 }
 
-/// The pools, whose streams are looked up among these names; the first child that isn't the grid has the number 0.
+/// The pools, whose streams are looked up among these names; the first child that isn't the grid
+/// has the number 0.
 fn placed_pools(
     alloc: Global,
     names: &StreamNames,

@@ -34,7 +34,8 @@ fn are_all_marked(marks: &[bool]) -> bool
     marks.iter().all(|marked| *marked)
 }
 
-/// The fault of pools that don't serve each of so many streams once. Fails only where memory is wanting.
+/// The fault of pools that don't serve each of so many streams once. Fails only where memory is
+/// wanting.
 pub(crate) fn served_fault(
     alloc: Global,
     count: usize,

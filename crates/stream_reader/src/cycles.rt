@@ -86,8 +86,8 @@ fn candidates_of(alloc: Global, items: &[Tree]) -> Result<Vec<Candidate>, AllocE
     }
 }
 
-/// The answered one of the faults of streams that lead to themselves, of these streams in this text. Fails only where
-/// memory is wanting.
+/// The answered one of the faults of streams that lead to themselves, of these streams in this
+/// text. Fails only where memory is wanting.
 pub(crate) fn check_acyclic(
     alloc: Global,
     domain: &Domain,

@@ -240,7 +240,8 @@ fn check_second_streams(
     }
 }
 
-/// The name fault that is answered, but for streams that lead to themselves. Fails only where memory is wanting.
+/// The name fault that is answered, but for streams that lead to themselves. Fails only where
+/// memory is wanting.
 pub(crate) fn check_plain(
     alloc: Global,
     names: &Vocabulary,

@@ -51,14 +51,15 @@ fn read(alloc: Global, domain: &Domain, text: &Tree) -> Result<Seq<Stream>, Inpu
 
 /// Reads the streams of a domain from the tree of their text.
 ///
-/// The forms are those of this project's profile of PDDLStream (2020), with cost streams. Names are looked up among the
-/// domain's: its types, predicates, functions and constants.
+/// The forms are those of this project's profile of PDDLStream (2020), with cost streams. Names are
+/// looked up among the domain's: its types, predicates, functions and constants.
 ///
 /// # Errors
 ///
-/// - `At`: the text has a fault. Of its form faults the one with the least place is answered, and at one place `Shape`
-///   last; where it has none, of its name faults the one with the least place, and at one place the one of the smallest
-///   number. `StreamCycle` is answered only where there is no other fault.
+/// - `At`: the text has a fault. Of its form faults the one with the least place is answered, and
+///   at one place `Shape` last; where it has none, of its name faults the one with the least place,
+///   and at one place the one of the smallest number. `StreamCycle` is answered only where there is
+///   no other fault.
 /// - `Memory`: memory ran out, which says nothing of the text.
 pub fn read_streams(alloc: Global, domain: &Domain, text: &Tree) -> Result<Seq<Stream>, InputFault>
     ensures reads { specs.StreamsRead domain.now (tree text.now) result }

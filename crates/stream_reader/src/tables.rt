@@ -18,8 +18,8 @@ pub(crate) struct Scopes {
     pub(crate) all: Scope,
 }
 
-/// The names that streams use: those of the domain, and the total cost, declared or not. Fails only where memory is
-/// wanting.
+/// The names that streams use: those of the domain, and the total cost, declared or not. Fails only
+/// where memory is wanting.
 pub(crate) fn stream_vocabulary(alloc: Global, domain: &Domain) -> Result<Vocabulary, AllocError>
     ensures { IfOk result (λ names. names ≡ specs.stream_vocabulary domain.now) }
 {

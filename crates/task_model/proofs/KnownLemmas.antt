@@ -109,6 +109,13 @@ with_facts-is facts (fact ∷ more) =
       distinct = λ d. rest.distinct (one.distinct d);
     }
 
+-- a fact stays one where more are known
+pub facts_kept : (facts more : List Fact) (fact : Fact) → is_fact facts fact ≡ true
+    → is_fact (with_facts facts more) fact ≡ true
+facts_kept facts more fact e =
+    (fact_member (with_facts facts more) fact).1
+    (((with_facts-is facts more).members fact).1 (Contains-append_left facts more fact ((fact_member facts fact).0 e)))
+
 pub facts_then : (facts first second : List Fact)
     → with_facts facts (first ++ second) ≡ with_facts (with_facts facts first) second
 facts_then facts [] second = refl

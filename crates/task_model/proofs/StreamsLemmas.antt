@@ -1,9 +1,13 @@
 -- Instances: that a test tells them apart, their order, which are due, and that what is due is one list.
-use Rattle.std.proofs.Common.{◌≡◌, ℕ, Bool, true, false, not, List, [], refl, sym, ap, ◌∙◌, subst, Option, Some, None, slice_get, Contains, arith, ◌==◌, map, IsSome, unwrap_or, eqb-true, eq-eqb}
+use Rattle.std.proofs.Common.{◌≡◌, ℕ, Bool, true, false, not, List, [], refl, sym, ap, ◌∙◌, subst, Option, Some, None, slice_get, Contains, arith, ◌==◌, map, IsSome, unwrap_or, eqb-true, eq-eqb, ◌∷◌}
 use Rattle.std.proofs.lemmas.Bool.{and_from}
+use Rattle.std.specs.List.{list_all}
 use Rattle.std.specs.Cmp.{first_so, second_so, IsTotalOrder, then_total, on_total, nat_cmp_total}
-use Rattle.task_model.specs.Known.{Known, IsIn, same_numbers}
-use Rattle.task_model.specs.Streams.{Note, IsDue, AreDue, NothingIsDue, is_due, is_due_at, is_finished, is_reachable, instance_cmp, name_at, same_instance}
+use Rattle.task_model.specs.Known.{Known, IsIn, is_fact, same_numbers, type_fact}
+use Rattle.task_model.specs.Streams.{Note, IsDue, AreDue, NothingIsDue, is_due, is_due_at, is_finished, fact_of, is_reachable, instance_cmp, name_at, same_instance}
+use Rattle.task_model.specs.Truth.{has_type, have_types, slots_of}
+use Rattle.task_model.specs.declared.domain.Pattern.{Pattern}
+use Rattle.task_model.specs.declared.fact.Fact.{Fact}
 use Rattle.task_model.specs.declared.stream.Instance.{Instance}
 use Rattle.task_model.specs.declared.stream.Stream.{Stream}
 use Rattle.task_model.specs.declared.task.Task.{Task}
@@ -91,3 +95,29 @@ module _ (task : Task) (known : Known) (notes : List Note) where
   nothing_due instances due empty i d =
       let there : Contains [] i = subst (λ xs. Contains xs i) empty ((due.each i).1 d) in
       absurd (omega (arith, there.1))
+
+-- ---- what is known stays known
+
+module _ (known after : Known) (kept : (fact : Fact) → is_fact known.facts fact ≡ true → is_fact after.facts fact ≡ true) where
+  types_kept : (objects sorts : List ℕ) → have_types known objects sorts ≡ true
+      → have_types after objects sorts ≡ true
+  types_kept [] [] e = refl
+  types_kept [] (s ∷ ss) e = e
+  types_kept (o ∷ os) [] e = e
+  types_kept (o ∷ os) (s ∷ ss) e =
+      and_from _ _ (kept (type_fact s o) (first_so (has_type known o s) (have_types known os ss) e))
+      (types_kept os ss (second_so (has_type known o s) (have_types known os ss) e))
+
+  patterns_kept : (slots : List ℕ) (ps : List Pattern)
+      → list_all (λ p. is_fact known.facts (fact_of slots p)) ps ≡ true
+      → list_all (λ p. is_fact after.facts (fact_of slots p)) ps ≡ true
+  patterns_kept slots [] e = refl
+  patterns_kept slots (p ∷ ps) e =
+      and_from _ _ (kept (fact_of slots p) (first_so (is_fact known.facts (fact_of slots p)) _ e))
+      (patterns_kept slots ps (second_so (is_fact known.facts (fact_of slots p)) _ e))
+
+  pub reachable_kept : (s : Stream) (i : Instance) → is_reachable s known i ≡ true
+      → is_reachable s after i ≡ true
+  reachable_kept s i e =
+      and_from _ _ (types_kept i.inputs s.inputs (first_so (have_types known i.inputs s.inputs) _ e))
+      (patterns_kept (slots_of i.inputs) s.domain (second_so (have_types known i.inputs s.inputs) _ e))

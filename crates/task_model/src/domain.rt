@@ -21,8 +21,8 @@ pub struct Signature {
     pub arity: u8,
 }
 
-/// What changes a predicate's atoms: a derived predicate is headed by a `:derived` item (PDDL 2.2), a
-/// fluent occurs in an action's effect, and all others are static.
+/// What changes a predicate's atoms: a derived predicate is headed by a `:derived` item (PDDL 2.2),
+/// a fluent occurs in an action's effect, and all others are static.
 #[derive(Clone, Copy, PartialEq, Eq, Debug)]
 pub enum Role {
     /// Its atoms are initial or certified, and stay.

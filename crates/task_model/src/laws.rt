@@ -7,7 +7,8 @@ pub fn truth_ignores_other_slots()
     ensures { TruthIgnoresOtherSlots }
 {}
 
-/// An atom is there after an action exactly where it is added, or was there and isn't deleted (PDDL 2.1).
+/// An atom is there after an action exactly where it is added, or was there and isn't deleted (PDDL
+/// 2.1).
 pub fn effects_are_exact()
     ensures { EffectsAreExact }
 {}

@@ -23,8 +23,8 @@ pub trait Look {
         requires { place < length (objects_of (known self.now).facts sort) }
         ensures { slice_get (objects_of (known self.now).facts sort) place ≡ Some result };
 
-    /// The value of a function's term, given by the function's place in the domain: the least that is
-    /// known, at most 1,000,000, or None where none is.
+    /// The value of a function's term, given by the function's place in the domain: the least that
+    /// is known, at most 1,000,000, or None where none is.
     fn value(&self, func: u32, args: &[Obj]) -> Option<u32>
         ensures { result ≡ value_of (known self.now).values func args.now };
 

@@ -32,8 +32,8 @@ impl Name {
         }
     }
 
-    /// The name with these bytes. Fails only where memory is wanting, and never for 23 bytes or fewer,
-    /// which take none.
+    /// The name with these bytes. Fails only where memory is wanting, and never for 23 bytes or
+    /// fewer, which take none.
     pub fn from_slice(alloc: Global, bytes: &[u8]) -> Result<Name, AllocError>
         ensures name { IfOk result (λ name. name ≡ bytes.now) }
         ensures inline { length bytes.now ≤ 23 → IsOk result }

@@ -84,7 +84,8 @@ impl<const N: usize> Objects<N> {
         }
     }
 
-    /// Puts an object behind the others. Fails only where memory is wanting, and leaves the list as it was then.
+    /// Puts an object behind the others. Fails only where memory is wanting, and leaves the list as
+    /// it was then.
     pub fn push(&mut self, object: Obj) -> Result<(), AllocError>
         ensures ok { OnOk result (self.new ≡ self.old ++ object ∷ []) }
         ensures err { OnErr result (self.new ≡ self.old) }

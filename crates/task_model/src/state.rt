@@ -8,8 +8,8 @@ use std::marker::Model;
 
 /// A state: the set of the atoms of fluents that are true (PDDL 2.1).
 ///
-/// The atoms are kept ascending, each once, so that `has` looks at few of them, and a copy takes one
-/// allocation.
+/// The atoms are kept ascending, each once, so that `has` looks at few of them, and a copy takes
+/// one allocation.
 #[derive(Drop)]
 pub struct State {
     atoms: Vec<Atom>,
@@ -39,7 +39,8 @@ impl State {
         }
     }
 
-    /// The state of these atoms, whose order doesn't matter, nor that one stands twice. It takes no memory.
+    /// The state of these atoms, whose order doesn't matter, nor that one stands twice. It takes no
+    /// memory.
     pub fn from_atoms(atoms: Vec<Atom>) -> State
         ensures { result ≡ set.from_list atoms.items }
     {
@@ -94,7 +95,8 @@ impl State {
         &self.atoms[place]
     }
 
-    /// Puts the atom in, and answers whether it is new. Where memory is wanting the state stays as it was.
+    /// Puts the atom in, and answers whether it is new. Where memory is wanting the state stays as
+    /// it was.
     pub fn add(&mut self, atom: Atom) -> Result<bool, AllocError>
         ensures state { OnOk result (self.new ≡ set.insert self.old atom) }
         ensures fresh { IfOk result (λ fresh. fresh ≡ not (set.contains self.old atom)) }

@@ -17,7 +17,8 @@ pub struct Worth {
     pub args: Seq<Term>,
 }
 
-/// A conditional generator (PDDLStream 2020). Inputs have the slots from 0, and outputs those after them.
+/// A conditional generator (PDDLStream 2020). Inputs have the slots from 0, and outputs those after
+/// them.
 #[derive(Drop)]
 pub struct Stream {
     /// Its name in lower case.
@@ -30,7 +31,8 @@ pub struct Stream {
     pub domain: Seq<Pattern>,
     /// The facts of inputs and outputs that each yield certifies.
     pub certified: Seq<Pattern>,
-    /// Of a cost stream the term that it gives a value; then it has no outputs and certifies nothing else.
+    /// Of a cost stream the term that it gives a value; then it has no outputs and certifies
+    /// nothing else.
     pub worth: Option<Worth>,
 }
 

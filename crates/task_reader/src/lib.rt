@@ -1,7 +1,7 @@
 //! The three texts of a task, from bytes to a domain, a problem and streams.
 //!
-//! A text that is refused has one fault with its place: a fault of its tree, which bytes alone show, or else a fault of
-//! its form or its names.
+//! A text that is refused has one fault with its place: a fault of its tree, which bytes alone
+//! show, or else a fault of its form or its names.
 #![tactic(auto)]
 
 pub mod laws;

@@ -59,7 +59,8 @@ fn word_of(kind: InputKind) -> &'static [u8]
 /// Why a text was not read.
 #[derive(Clone, Copy, Debug, PartialEq, Eq, Error)]
 pub enum InputRefusal {
-    /// The text has this fault, and no other comes before it. The place is in bytes from the text's beginning.
+    /// The text has this fault, and no other comes before it. The place is in bytes from the text's
+    /// beginning.
     #[error("fault {kind:?} at byte {place}")]
     At { kind: FaultKind, place: usize },
     /// Memory ran out, which says nothing of the text.

@@ -20,13 +20,13 @@ pub const TEXT_BYTES: usize = 4_194_304;
 
 /// The domain of a text.
 ///
-/// The text is one list of this project's profile of PDDL 2.1, with derived predicates (PDDL 2.2) and the total cost
-/// (IPC 2008).
+/// The text is one list of this project's profile of PDDL 2.1, with derived predicates (PDDL 2.2)
+/// and the total cost (IPC 2008).
 ///
 /// # Errors
 ///
-/// - `At`: the text is no list, and this is its first fault; or it is one, and this is the fault of its form that comes
-///   first, or where its form has none, that of its names.
+/// - `At`: the text is no list, and this is its first fault; or it is one, and this is the fault of
+///   its form that comes first, or where its form has none, that of its names.
 /// - `Memory`: memory ran out, which says nothing of the text.
 pub fn domain_in(alloc: Global, bytes: &[u8]) -> Result<Domain, InputRefusal>
     ensures read { IfOk result (specs.SpellsDomain bytes.now) }
@@ -41,12 +41,13 @@ pub fn domain_in(alloc: Global, bytes: &[u8]) -> Result<Domain, InputRefusal>
 
 /// The problem of a text, over this domain, which is one that [`domain_in`] gave.
 ///
-/// The text is one list of this project's profile of PDDL 2.1, with the total cost as the metric (IPC 2008).
+/// The text is one list of this project's profile of PDDL 2.1, with the total cost as the metric
+/// (IPC 2008).
 ///
 /// # Errors
 ///
-/// - `At`: the text is no list, and this is its first fault; or it is one, and this is the fault of its form that comes
-///   first, or where its form has none, that of its names.
+/// - `At`: the text is no list, and this is its first fault; or it is one, and this is the fault of
+///   its form that comes first, or where its form has none, that of its names.
 /// - `Memory`: memory ran out, which says nothing of the text.
 pub fn problem_in(alloc: Global, bytes: &[u8], domain: &Domain) -> Result<Problem, InputRefusal>
     ensures read { IfOk result (specs.SpellsProblem domain.now bytes.now) }
@@ -66,9 +67,9 @@ pub fn problem_in(alloc: Global, bytes: &[u8], domain: &Domain) -> Result<Proble
 ///
 /// # Errors
 ///
-/// - `At`: the text is no list, and this is its first fault; or it is one, and this is the fault of its form that comes
-///   first, or where its form has none, that of its names; a stream that leads to itself is told only where nothing else
-///   is wrong.
+/// - `At`: the text is no list, and this is its first fault; or it is one, and this is the fault of
+///   its form that comes first, or where its form has none, that of its names; a stream that leads
+///   to itself is told only where nothing else is wrong.
 /// - `Memory`: memory ran out, which says nothing of the text.
 pub fn streams_in(alloc: Global, bytes: &[u8], domain: &Domain) -> Result<Seq<Stream>, InputRefusal>
     ensures read { IfOk result (specs.SpellsStreams domain.now bytes.now) }

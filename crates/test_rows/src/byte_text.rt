@@ -2,7 +2,8 @@
 use std::alloc::{AllocError, Global};
 use std::fmt::Write;
 
-/// Writes bytes. Those that are neither printable nor line feeds are shown by their numbers in `<>`.
+/// Writes bytes. Those that are neither printable nor line feeds are shown by their numbers in
+/// `<>`.
 fn write_bytes(out: &mut String, bytes: &[u8]) -> Result<(), AllocError> {
     for byte in bytes {
         match byte {

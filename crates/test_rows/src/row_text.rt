@@ -32,8 +32,8 @@ fn part_of(alloc: Global, line: &[u8]) -> Result<Part, AllocError> {
     })
 }
 
-/// Adds a text for each number from one to before another: `FIRST END TEXT`, where `%` in the text stands for the number
-/// and `~` for a line feed.
+/// Adds a text for each number from one to before another: `FIRST END TEXT`, where `%` in the text
+/// stands for the number and `~` for a line feed.
 fn add_numbered(alloc: Global, text: &mut Vec<u8>, line: &[u8]) -> Result<(), AllocError> {
     let (first, rest) = first_word(line);
     let (end, pattern) = first_word(rest);
@@ -89,11 +89,13 @@ impl Row {
     }
 }
 
-/// The rows of a text. The first has no name: its lines stand before all rows, and say what holds for each of them.
+/// The rows of a text. The first has no name: its lines stand before all rows, and say what holds
+/// for each of them.
 ///
-/// A row begins with `== ` and its name. A line of it is a part, with a key and what stands behind it; or one of the part's
-/// text: it begins with `|`, with `\` where it has no line feed, with `.` where it gives numbers of bytes, and with `*`
-/// where it gives a text for each of some numbers. Lines that begin with `;`, and empty ones, are passed over.
+/// A row begins with `== ` and its name. A line of it is a part, with a key and what stands behind
+/// it; or one of the part's text: it begins with `|`, with `\` where it has no line feed, with `.`
+/// where it gives numbers of bytes, and with `*` where it gives a text for each of some numbers.
+/// Lines that begin with `;`, and empty ones, are passed over.
 pub fn read_rows(alloc: Global, text: &[u8]) -> Result<Vec<Row>, AllocError> {
     let mut rows = Vec::new(alloc);
     let mut row = Row::new(alloc, b"")?;

@@ -1,4 +1,3 @@
 pub mod TalksAnswerLemmas
 pub mod TalksAskLemmas
 pub mod LedgersLemmas
-pub mod NamedPlaceLemmas

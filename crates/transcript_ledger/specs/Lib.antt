@@ -1,4 +1,3 @@
 pub mod Ledgers
 pub mod Numbers
-pub mod Steps
 pub mod Talks

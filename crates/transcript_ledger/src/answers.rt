@@ -54,7 +54,8 @@ fn is_given(task: &Task, ledger: &Ledger, number: u32, entry: &Entry) -> bool
     may_give(stream, entry)
 }
 
-/// Whether the answer to the request of this number may follow the entries so far. It has the form of an answer in a report.
+/// Whether the answer to the request of this number may follow the entries so far. It has the form
+/// of an answer in a report.
 pub fn may_answer(task: &Task, ledger: &Ledger, number: u32, entry: &Entry) -> bool
     requires { IsFit task.now }
     ensures { (version : ℕ) (before : List AnyEntry) → IsLedger version task.now before ledger.now

@@ -12,8 +12,8 @@ use std::alloc::{AllocError, Global};
 use task_model::{Instance, Task};
 use transcript_model::Call;
 
-/// Whether the request may be made of this instance: it has the next number, the instance is due, none of its requests is
-/// open, and the turn is how many tuples it has given.
+/// Whether the request may be made of this instance: it has the next number, the instance is due,
+/// none of its requests is open, and the turn is how many tuples it has given.
 fn may_ask(task: &Task, ledger: &Ledger, number: u32, turn: u32, instance: &Instance) -> bool
     requires { IsFit task.now }
     ensures { result ≡ passes task.now ledger.now number turn instance.now }
@@ -24,7 +24,8 @@ fn may_ask(task: &Task, ledger: &Ledger, number: u32, turn: u32, instance: &Inst
         && !ledger.is_waiting(instance)
 }
 
-/// The instance that the request asks, if it may be made after the entries so far, and its number is at most `calls`.
+/// The instance that the request asks, if it may be made after the entries so far, and its number
+/// is at most `calls`.
 pub fn asked_by(
     alloc: Global,
     task: &Task,

@@ -11,8 +11,8 @@ use std::alloc::{AllocError, Global};
 use task_model::{Instance, Task};
 use transcript_model::Entry;
 
-/// What is known and noted after the entries so far, the instances that they asked, and the numbers of the requests that have
-/// no answer yet.
+/// What is known and noted after the entries so far, the instances that they asked, and the numbers
+/// of the requests that have no answer yet.
 #[derive(Drop)]
 pub struct Ledger {
     /// What is known.
@@ -103,7 +103,8 @@ impl Ledger {
         Ok(())
     }
 
-    /// Takes the entry at this place, which may follow those before it and answers the request of this number.
+    /// Takes the entry at this place, which may follow those before it and answers the request of
+    /// this number.
     pub fn answer(
         &mut self,
         alloc: Global,

@@ -1,4 +1,5 @@
-//! What the entries of a transcript certify and tell, and whether one more may follow: judged entry by entry.
+//! What the entries of a transcript certify and tell, and whether one more may follow: judged entry
+//! by entry.
 #![tactic(auto)]
 
 pub mod answers;
@@ -12,5 +13,5 @@ pub use answers::{answered, may_answer};
 pub use asks::asked_by;
 pub use ledger::Ledger;
 pub use levels::dues_of;
-pub use naming::{step_of, stream_named};
+pub use naming::{instance_of, stream_named};
 pub use requests::is_request;

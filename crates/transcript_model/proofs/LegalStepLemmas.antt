@@ -46,6 +46,11 @@ no_call (x ∷ xs) n e = no_call xs n e
 no_true_false : {A : Type 0} (b : Bool) → b ≡ true → b ≡ false → A
 no_true_false b t f = absurd (cc)
 
+-- a mark is no request
+pub mark_no_ask : (e : Entry) → is_mark e ≡ true → is_ask e ≡ false
+mark_no_ask (entry.Ask number turn call) m = absurd (cc)
+mark_no_ask e m = refl
+
 module _ (version : ℕ) (task : Task) (before : List Entry)
     (distinct : AreDistinct (declared_names task)) (legal : IsLegal version task before) where
   -- ---- marks
@@ -117,10 +122,6 @@ module _ (version : ℕ) (task : Task) (before : List Entry)
       mark_notes (entry.Value n value) m = absurd (cc)
       mark_notes (entry.End n) m = absurd (cc)
       mark_notes e m = refl
-
-      mark_no_ask : (e : Entry) → is_mark e ≡ true → is_ask e ≡ false
-      mark_no_ask (entry.Ask n turn call) m = absurd (cc)
-      mark_no_ask e m = refl
 
       mark_call : (e : Entry) (n : ℕ) → is_mark e ≡ true → call_in n e ≡ None
       mark_call (entry.Ask number turn call) n m = absurd (cc)

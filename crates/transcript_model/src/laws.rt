@@ -12,12 +12,14 @@ pub fn calls_name_instances()
     ensures { CallsNameInstances }
 {}
 
-/// A longer transcript keeps the numbers of names, the requests, the facts, the values and the notes.
+/// A longer transcript keeps the numbers of names, the requests, the facts, the values and the
+/// notes.
 pub fn longer_keeps()
     ensures { LongerKeeps }
 {}
 
-/// The front of a legal transcript is legal, and so is a legal transcript with one entry more that may follow.
+/// The front of a legal transcript is legal, and so is a legal transcript with one entry more that
+/// may follow.
 pub fn legal_grows()
     ensures { LegalGrows }
 {}
@@ -27,7 +29,8 @@ pub fn requests_add_requests()
     ensures { RequestsAddRequests }
 {}
 
-/// Behind what was known and noted an answer puts what it certifies and tells, and closes its request.
+/// Behind what was known and noted an answer puts what it certifies and tells, and closes its
+/// request.
 pub fn answers_add_answers()
     ensures { AnswersAddAnswers }
 {}
@@ -62,8 +65,8 @@ pub fn certified_objects_have_names()
     ensures { CertifiedObjectsHaveNames }
 {}
 
-/// What is known after a legal transcript has each name, each fact and each value once, and its facts are of objects with
-/// names.
+/// What is known after a legal transcript has each name, each fact and each value once, and its
+/// facts are of objects with names.
 pub fn what_is_known_is_coherent()
     ensures { WhatIsKnownIsCoherent }
 {}

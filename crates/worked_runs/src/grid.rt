@@ -46,7 +46,8 @@ fn task_files(alloc: Global, map: &str) -> Result<MemFiles, AllocError> {
     Ok(MemFiles::new(alloc, files, Vec::new(alloc)))
 }
 
-/// How often requests begin in the report behind a line that is none: a round's requests stand together.
+/// How often requests begin in the report behind a line that is none: a round's requests stand
+/// together.
 fn rounds_in(report: &[u8]) -> usize {
     let mut rounds: usize = 0;
     let mut asks = false;

@@ -1,5 +1,6 @@
-//! Worked runs with real children, one after another in one output: two processes of one program, a map of two pools,
-//! and the grid's generator, which is this very program, by one, two and three workers.
+//! Worked runs with real children, one after another in one output: two processes of one program, a
+//! map of two pools, and the grid's generator, which is this very program, by one, two and three
+//! workers.
 #![tactic(auto)]
 
 mod grid;
@@ -22,7 +23,8 @@ fn words(rt: &HostRuntime) -> io::Result<Vec<String>> {
     Ok(words)
 }
 
-/// The words behind `serve`, if that is the first: the program then answers as the grid's generator.
+/// The words behind `serve`, if that is the first: the program then answers as the grid's
+/// generator.
 fn grid_words(words: &[String]) -> Option<&[String]> {
     match words.split_first() {
         Some((first, rest)) if first.as_str() == "serve" => Some(rest),

@@ -6,7 +6,8 @@ use pddlstream_app::run;
 use std::alloc::{AllocError, Global};
 use std::io;
 
-/// Two cups are lifted at once: two processes of one shell program are asked for their grips in one round.
+/// Two cups are lifted at once: two processes of one shell program are asked for their grips in one
+/// round.
 const LIFT: &[&str] = &[
     "solve",
     "lift/domain.pddl",
@@ -30,7 +31,8 @@ const SHELF: &[&str] = &[
     "shelf/map.json",
 ];
 
-/// The task of three blocks on a grid is made and solved, by the generator of the grid that the host has.
+/// The task of three blocks on a grid is made and solved, by the generator of the grid that the
+/// host has.
 const MADE: &[&str] = &["generate", "3"];
 
 /// The words as strings.

@@ -62,8 +62,8 @@ unreachable-requires g c =
     c.in_default.not-Some c.requires.can.1
     (c.cost.ensures.value ∙ (λ i. cost_of task known (found i) (c.as_slice-args.ensures i)) ∙ is.costs)
 
-pub after-requires-clause-few : goal.after-requires-clause-few
-after-requires-clause-few g c =
+pub changes_of-requires-clause-few : goal.changes_of-requires-clause-few
+changes_of-requires-clause-few g c =
     let known = g.L.Look.known c.args.scene.now.look.now in
     subst (λ xs. length xs ≤ 16) (sym c.as_slice-args.ensures)
     (few_args c.args.scene.now.task.now known c.args.state.now c.requires.can.0 c.args.step.now c.requires.can.1 c.requires.fit.domain
@@ -77,14 +77,14 @@ readable task known before after step cost listed found fit is same at =
     subst (IsReadableAction task.domain fit) (sym (named_is task.domain.actions listed step.action found is.action same at is.named))
     (readable_step task known before after step cost fit is)
 
-pub after-requires-clause-adds : goal.after-requires-clause-adds
-after-requires-clause-adds g c =
+pub changes_of-requires-clause-adds : goal.changes_of-requires-clause-adds
+changes_of-requires-clause-adds g c =
     let known = g.L.Look.known c.args.scene.now.look.now in
     (readable c.args.scene.now.task.now known c.args.state.now c.requires.can.0 c.args.step.now c.requires.can.1 c.as_slice.result.now
     c.index-as_slice-step.result c.requires.fit.domain c.requires.can.2 c.as_slice.ensures c.index-as_slice-step.is).adds
 
-pub after-requires-clause-deletes : goal.after-requires-clause-deletes
-after-requires-clause-deletes g c =
+pub changes_of-requires-clause-deletes : goal.changes_of-requires-clause-deletes
+changes_of-requires-clause-deletes g c =
     let known = g.L.Look.known c.args.scene.now.look.now in
     (readable c.args.scene.now.task.now known c.args.state.now c.requires.can.0 c.args.step.now c.requires.can.1 c.as_slice.result.now
     c.index-as_slice-step.result c.requires.fit.domain c.requires.can.2 c.as_slice.ensures c.index-as_slice-step.is).deletes
@@ -107,6 +107,6 @@ returns-clause-step g c =
           sym (λ i. cost_of task known (found i) (c.as_slice-args.ensures i))
           ∙ sym c.cost.ensures.value ∙ c.in-Some.is;
       leads =
-          c.in_ok-state.ensures
+          c.in_ok-changes.ensures c.args.state.now
           ∙ (λ i. effect_of (found i) (c.as_slice-args.ensures i) c.args.state.now);
     }

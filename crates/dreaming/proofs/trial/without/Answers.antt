@@ -1,16 +1,30 @@
-use Rattle.std.proofs.Common.{ℕ, ◌<◌, ◌∙◌, List, length, drop, refl, sym, ap, subst, arith, Option}
+use Rattle.std.proofs.Common.{ℕ, ◌-◌, ◌<◌, ◌∙◌, List, length, take, drop, refl, sym, ap, subst, arith, Option, Contains}
 use Rattle.std.specs.Prelude.{IfSome, IfNone}
 use Rattle.task_model.specs.Plans.{IsValid}
-use Rattle.dreaming.proofs.KeptLemmas.{kept_is, without_fewer}
+use Rattle.dreaming.proofs.KeptLemmas.{kept_is, without_fewer, essential_needed}
 use Rattle.dreaming.proofs.PartLemmas.{part_valid, part_not_valid}
-use Rattle.dreaming.proofs.PlacesLemmas.{rest_whole}
+use Rattle.dreaming.proofs.PlacesLemmas.{AreBelow, below_rest, rest_whole}
 use Rattle.dreaming.specs.Thinning.{IsPartAt, IsValidWith, supported_places, places_without}
 use Rattle.dreaming.proofs.trial.without.Goals as goal
 
+pub returns-then-wants_some-clause-needed : goal.returns-then-wants_some-clause-needed
+returns-then-wants_some-clause-needed c =
+    let t = c.args.trial.now in
+    let some = c.wants_some.ensures c.if-wants_some.true in
+    essential_needed t.listing.task.now t.listing.supposed.now t.plan.now.steps c.args.kept.now c.args.from c.args.to some.0 c.requires.kept
+    (subst (λ (ps : List ℕ). Contains (take (c.args.to - c.args.from) (drop c.args.from ps)) some.0) c.as_slice-places.ensures.value some.1)
+    (c.requires.trial.essential some.2.2 some.2.4 some.0 some.2.0 some.2.1 some.2.3)
+
+pub take_supported-requires-clause-below : goal.take_supported-requires-clause-below
+take_supported-requires-clause-below c =
+    let list = c.args.trial.now.listing.supposed.now.list in
+    subst (AreBelow list) (sym (rest_whole c.as_slice-places.result.now c.args.to))
+    (below_rest list c.as_slice-places.result.now c.args.to (subst (AreBelow list) (sym c.as_slice-places.ensures.value) c.requires.kept.below))
+
 pub returns-in-Some-clause-kept : goal.returns-in-Some-clause-kept
 returns-in-Some-clause-kept c =
-    let task = c.args.trial.now.task.now in
-    let d = c.args.trial.now.supposed.now in
+    let task = c.args.trial.now.listing.task.now in
+    let d = c.args.trial.now.listing.supposed.now in
     let steps = c.args.trial.now.plan.now.steps in
     let p = c.take_supported.new.part in
     let h = c.in_ok-take_supported.ensures in
@@ -27,8 +41,8 @@ returns-in-Some-clause-kept c =
 
 pub returns-in-Some-clause-fewer : goal.returns-in-Some-clause-fewer
 returns-in-Some-clause-fewer c =
-    let task = c.args.trial.now.task.now in
-    let d = c.args.trial.now.supposed.now in
+    let task = c.args.trial.now.listing.task.now in
+    let d = c.args.trial.now.listing.supposed.now in
     let are = c.into_places.ensures ∙ c.in_ok-take_supported.ensures.places_are
     ∙ ap (supported_places task d.base d.list c.in_ok-part.part.places) (rest_whole c.as_slice-places.result.now c.args.to)
     ∙ ap (λ ps. supported_places task d.base d.list ps (drop c.args.to c.as_slice-places.result.now)) c.in_ok-part.ensures.places_are
@@ -38,8 +52,8 @@ returns-in-Some-clause-fewer c =
 
 pub returns-in-None-clause-needed : goal.returns-in-None-clause-needed
 returns-in-None-clause-needed c =
-    let task = c.args.trial.now.task.now in
-    let d = c.args.trial.now.supposed.now in
+    let task = c.args.trial.now.listing.task.now in
+    let d = c.args.trial.now.listing.supposed.now in
     let steps = c.args.trial.now.plan.now.steps in
     let p = c.take_supported.new.part in
     let h = c.in_ok-take_supported.ensures in

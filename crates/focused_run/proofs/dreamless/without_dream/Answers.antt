@@ -1,7 +1,7 @@
 use Rattle.std.proofs.Common.{◌≡◌, ◌⊎◌, ◌++◌, ◌∷◌, [], List, length, not, sym, subst, refl}
 use Rattle.focused_run.proofs.DreamlessLemmas.{dreamless_marked, ran_dreamless, some_tried}
 use Rattle.focused_run.proofs.FocusingLemmas.{empty_front}
-use Rattle.focused_run.specs.Focusing.{RanFocused, carried}
+use Rattle.focused_run.specs.Focusing.{RanDreaming, carrying}
 use Rattle.level_run.proofs.AdvancingLemmas.{marked_advances, marked_turn_breaks, quiet_turn, turn_breaks_as}
 use Rattle.level_run.proofs.TurnsLevelLemmas.{rests_marked, turn_marked}
 use Rattle.level_run.specs.Advancing.{IsFrontOfTurn, TurnBreaks}
@@ -19,6 +19,7 @@ use Rattle.focused_run.proofs.dreamless.without_dream.Goals as goal
 
 pub returns-in_err-mark-clause-stopped : goal.returns-in_err-mark-clause-stopped
 returns-in_err-mark-clause-stopped g c =
+    handed c.from_residual.result c.in_err-mark.field-0.0 _ c.from_residual.ensures.1 (λ skeletons may.
     let s = c.args.session.now in
     let head = c.args.head.now in
     let task = c.args.task.now in
@@ -31,14 +32,13 @@ returns-in_err-mark-clause-stopped g c =
     c.in_err-mark.ensures.stopped task (g.H.Host.running c.args.host.now) (held_of c.args.lines.now) spoken h
     rests.works.listens.told rests.started in
     let at = (λ (es : List Entry). (es ≡ s.entries) ⊎ (es ≡ s.entries ++ entry.Nothing ∷ [])) in
-    let turn = IsFrontOfTurn task head (carried c.args.tried.now) s.entries in
+    let turn = IsFrontOfTurn task head (carrying skeletons c.args.tried.now) s.entries in
     let marked = λ (Front : List Entry → Type 0) (more : List Entry). (more ≡ []) ⊎ (more ≡ entry.Nothing ∷ []) in
     let was = g.H.Host.log c.args.host.now in
-    handed c.from_residual.result fault _ c.from_residual.ensures.1
-    (stopped_as head.version task (workers_in head) spoken turn at s.entries fault
+    stopped_as head.version task (workers_in head) spoken turn at s.entries fault
     (g.O.Sink.taken c.args.out.now) (g.O.Sink.taken c.mark.new.out) marked (TurnBreaks task head s.entries fault was was)
-    (λ es _ there. dreamless_marked head task c.requires.runnable.is h.fit c.args.tried.now c.args.dues.now s legal c.requires.begins
-    (all_work head.pools c.requires.runnable.runnable.fit.pools.some) c.requires.none es there)
+    (λ es _ there. dreamless_marked head task skeletons may h.fit c.args.tried.now c.args.dues.now s legal c.requires.begins
+    (all_work head.pools c.requires.runnable.fit.pools.some) c.requires.none es there)
     (λ more told there. quiet_turn task head turn entry.Nothing refl s.entries fault was
     (tells_written (HasNoneOpen s.entries) fault h.none_open c.in_err-mark.ensures.only) more)
     (subst (λ v. Stopped v task (workers_in head) at s.entries fault (g.O.Sink.taken c.args.out.now)
@@ -67,6 +67,7 @@ fall_back-requires-clause-turn g c =
 
 pub returns-in_err-ended-clause-stopped : goal.returns-in_err-ended-clause-stopped
 returns-in_err-ended-clause-stopped g c =
+    handed c.from_residual-in_err-ended.result c.in_err-ended.field-0.0 _ c.from_residual-in_err-ended.ensures.1 (λ skeletons may.
     let s = c.args.session.now in
     let mid = c.mark.new.session in
     let head = c.args.head.now in
@@ -76,7 +77,7 @@ returns-in_err-ended-clause-stopped g c =
     let is_tried = not c.is_empty-is_tried.result in
     let even = some_tried c.args.tried.now c.is_empty-is_tried.result c.is_empty-is_tried.ensures in
     let spoken = g.H.Host.spoken c.fall_back.new.host in
-    let turn = IsFrontOfTurn task head (carried c.args.tried.now) s.entries in
+    let turn = IsFrontOfTurn task head (carrying skeletons c.args.tried.now) s.entries in
     let fallback = IsFrontOfFallback head task is_tried mid.entries in
     let was = g.H.Host.log c.args.host.now in
     let log = g.H.Host.log c.fall_back.new.host in
@@ -84,10 +85,9 @@ returns-in_err-ended-clause-stopped g c =
     subst (λ es. Goes s.entries es (g.O.Sink.taken c.args.out.now) (g.O.Sink.taken c.mark.new.out)) (sym marked.entries)
     c.in_ok-mark.ensures.goes in
     let wider : (es : List Entry) → IsLegal head.version task es → fallback es → turn es =
-    λ es legal f. empty_front head task c.requires.runnable.is c.args.tried.now is_tried s.entries mid.entries es c.requires.none even
+    λ es legal f. empty_front head task skeletons may c.args.tried.now is_tried s.entries mid.entries es c.requires.none even
     marked.entries f in
-    handed c.from_residual-in_err-ended.result fault _ c.from_residual-in_err-ended.ensures.1
-    (stopped_then head.version task (workers_in head) spoken turn s.entries mid.entries fault
+    stopped_then head.version task (workers_in head) spoken turn s.entries mid.entries fault
     (g.O.Sink.taken c.args.out.now) (g.O.Sink.taken c.mark.new.out) (g.O.Sink.taken c.fall_back.new.out)
     (TurnBreaks task head s.entries fault was log) (TurnBreaks task head mid.entries fault was log) first
     (marked_turn_breaks task head turn entry.Nothing refl s.entries mid.entries first.more fault was log marked.entries first.pushed)
@@ -98,14 +98,14 @@ returns-in_err-ended-clause-stopped g c =
     c.in_err-ended.ensures.stopped))
 
 pub returns-clause-ran : goal.returns-clause-ran
-returns-clause-ran g c =
+returns-clause-ran g c = λ skeletons may.
     let s = c.args.session.now in
     let new = c.fall_back.new.session in
     let head = c.args.head.now in
     let task = c.args.task.now in
     let e = c.in_ok-ended.ensures in
-    subst (λ next. RanFocused task head c.args.tried.now next s new c.turned.result) (sym c.clear.ensures)
-    (ran_dreamless head task c.requires.runnable.is c.args.tried.now c.args.dues.now s c.mark.new.session new
+    subst (λ next. RanDreaming task head skeletons c.args.tried.now next s new c.turned.result) (sym c.clear.ensures)
+    (ran_dreamless head task skeletons may c.args.tried.now c.args.dues.now s c.mark.new.session new
     c.in_ok-mark.ensures.marked c.requires.none c.requires.begins (not c.is_empty-is_tried.result)
     (some_tried c.args.tried.now c.is_empty-is_tried.result c.is_empty-is_tried.ensures) c.in_ok-ended.ended e.ran
     c.fall_back.new.lines (g.H.Host.running c.fall_back.new.host) (g.H.Host.spoken c.fall_back.new.host) e.rests c.turned.result

@@ -126,7 +126,7 @@ pub some_tuple-returns-then-some_tuple-clause-same : goal.some_tuple-returns-the
 some_tuple-returns-then-some_tuple-clause-same g t c =
     c.set-then-some_tuple.ensures ∙ ap (λ s. slice_set s c.args.first c.get-kept.result) (c.some_tuple.ensures.same ∙ c.set.ensures)
     ∙ set_twice c.loop-place.env c.args.first c.object.result c.get-kept.result ∙ c.loop-place.invariant.1 c.get-kept.result
-    ∙ ap (slice_set c.args.env.now c.args.first) c.get-kept.ensures ∙ set_back c.args.env.now c.args.first
+    ∙ ap (slice_set c.args.env.now c.args.first) c.get-kept.ensures.object ∙ set_back c.args.env.now c.args.first
 
 pub some_tuple-loop-place-preserved : goal.some_tuple-loop-place-preserved
 some_tuple-loop-place-preserved g t c =

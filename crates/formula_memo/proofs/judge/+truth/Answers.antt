@@ -1,5 +1,4 @@
 use Rattle.std.proofs.Common.{rules, tests, ◌≡◌, ◌+◌, length, true, false, ℕ, suc, List, IfOk, slice_set, sym, ap, ◌∙◌, subst, arith, get_or, eq-eqb}
-use Rattle.std.specs.List.{list_any}
 use Rattle.task_model.proofs.TruthLemmas.{have_types-length}
 use Rattle.task_model.specs.Condition.{Atom, All as every, Any, Not, Exists, parts_of}
 use Rattle.task_model.specs.Known.{objects_of}
@@ -172,7 +171,7 @@ some_tuple-returns-clause-value g t c =
 pub some_tuple-returns-clause-same : goal.some_tuple-returns-clause-same
 some_tuple-returns-clause-same g t c =
     c.set.ensures ∙ c.some_object-found.ensures.same c.get-kept.result
-    ∙ ap (slice_set c.args.env.now c.args.first) c.get-kept.ensures ∙ set_back c.args.env.now c.args.first
+    ∙ ap (slice_set c.args.env.now c.args.first) c.get-kept.ensures.object ∙ set_back c.args.env.now c.args.first
 
 pub some_object-passes-requires : goal.some_object-passes-requires
 some_object-passes-requires g t c κs within =
@@ -181,7 +180,7 @@ some_object-passes-requires g t c κs within =
 
 pub some_object-tried_object-tried-requires-clause-placed : goal.some_object-tried_object-tried-requires-clause-placed
 some_object-tried_object-tried-requires-clause-placed g t c =
-    placed_lead c.args.scene.now.task.now.domain c.args.body.now c.args.first c.lead_for-lead.result c.lead_for-lead.ensures.lead
+    placed_lead c.args.scene.now.task.now.domain c.args.body.now c.args.first c.args.env.now c.lead_for-lead.result c.lead_for-lead.ensures
 
 pub some_object-returns-then-found-clause-value : goal.some_object-returns-then-found-clause-value
 some_object-returns-then-found-clause-value g t c =
@@ -194,17 +193,17 @@ some_object-returns-then-found-clause-value g t c =
     let test = λ (o : ℕ). passes (slice_set c.args.env.now c.args.first o) in
     let passed : is_passed test c.tried_object-tried.result ≡ true =
     ap (λ f. is_passed f c.tried_object-tried.result)
-    (λ i o. passes (sym (c.loop-place.invariant.1 o ∙ c.lead_for-lead.ensures.same o) i))
+    (λ i o. passes (sym (c.loop-place.invariant.1 o) i))
     ∙ sym c.in_ok-found.ensures.value ∙ c.if-found.true in
     sym (passed_there test objects c.tried_object-tried.result c.tried_object-tried.ensures.typed passed)
 
 pub some_object-returns-then-found-clause-same : goal.some_object-returns-then-found-clause-same
 some_object-returns-then-found-clause-same g t c o =
-    c.in_ok-found.ensures.same o ∙ c.loop-place.invariant.1 o ∙ c.lead_for-lead.ensures.same o
+    c.in_ok-found.ensures.same o ∙ c.loop-place.invariant.1 o
 
 pub some_object-returns-in_err-found-clause-same : goal.some_object-returns-in_err-found-clause-same
 some_object-returns-in_err-found-clause-same g t c o =
-    c.in_err-found.ensures.same o ∙ c.loop-place.invariant.1 o ∙ c.lead_for-lead.ensures.same o
+    c.in_err-found.ensures.same o ∙ c.loop-place.invariant.1 o
 
 pub some_object-loop-place-preserved : goal.some_object-loop-place-preserved
 some_object-loop-place-preserved g t c =
@@ -212,7 +211,7 @@ some_object-loop-place-preserved g t c =
     let known = g.L.Look.known c.args.scene.now.look.now in
     let state = c.args.scene.now.state.now in
     let depth = length domain.derived in
-    let slots = c.lead_for-lead.new.env in
+    let slots = c.args.env.now in
     let passes = λ (slots : List ℕ). some_at domain known state depth (c.args.first + 1) c.args.rest.now c.args.body.now slots in
     let test = λ (o : ℕ). passes (slice_set slots c.args.first o) in
     let untrue : is_passed test c.tried_object-tried.result ≡ false =
@@ -236,12 +235,12 @@ some_object-returns-clause-value g t c =
     let objects = objects_of known.facts c.args.sort in
     let passes = λ (slots : List ℕ). some_at domain known state depth (c.args.first + 1) c.args.rest.now c.args.body.now slots in
     let none = none_passes domain known state depth c.args.sort c.args.first c.args.rest.now c.args.body.now
-    c.lead_for-lead.new.env c.lead_for-lead.result c.loop-place.place c.lead_for-lead.ensures.lead
-    c.lead_for-lead.ensures.inside (omega arith) c.loop-place.invariant.0 in
-    sym none ∙ ap (λ f. list_any f objects) (λ i o. passes (c.lead_for-lead.ensures.same o i))
+    c.args.env.now c.lead_for-lead.result c.loop-place.place c.lead_for-lead.ensures
+    c.requires.inside (omega arith) c.loop-place.invariant.0 in
+    sym none
 
 pub some_object-returns-clause-same : goal.some_object-returns-clause-same
-some_object-returns-clause-same g t c o = c.loop-place.invariant.1 o ∙ c.lead_for-lead.ensures.same o
+some_object-returns-clause-same g t c o = c.loop-place.invariant.1 o
 
 pub passes-returns-clause-value : goal.passes-returns-clause-value
 passes-returns-clause-value g t c = search rules

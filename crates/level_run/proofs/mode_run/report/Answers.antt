@@ -1,7 +1,7 @@
 use Rattle.std.proofs.Common.{ap, arith, count_by, refl, sym, ◌∙◌}
 use Rattle.io_world.specs.Faults.{last_count}
 use Rattle.transcript_model.specs.Legal.{is_level}
-use Rattle.round_run.proofs.CallsRunLemmas.{ran_of}
+use Rattle.round_run.proofs.CallsStopLemmas.{ran_of}
 use Rattle.level_run.proofs.ReportsLemmas.{broken_behind, broken_end, broken_head, broken_turns, reported, run_calls, told_so_far}
 use Rattle.round_run.proofs.StoppedLemmas.{cause_handed, handed, handed_err, no_cause, written_cause, written_no_generator}
 use Rattle.round_run.specs.declared.fault.RunFault.TheVariants.{Generator, Memory, Write}

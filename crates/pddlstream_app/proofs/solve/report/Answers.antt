@@ -1,4 +1,4 @@
-use Rattle.std.proofs.Common.{◌∙◌, inl, inr, refl, subst, sym}
+use Rattle.std.proofs.Common.{◌∙◌, inl, inr, refl}
 use Rattle.round_run.proofs.CallsRunLemmas.{stops_none}
 use Rattle.round_run.proofs.StoppedLemmas.{handed}
 use Rattle.pddlstream_app.proofs.HeadsLemmas.{head_runs}
@@ -7,7 +7,6 @@ use Rattle.round_run.specs.declared.fault.RunFault.TheVariants as fault
 use Rattle.pddlstream_app.specs.declared.stop.Stop.TheVariants as stop
 use Rattle.pddlstream_app.proofs.PoolsLemmas.{asks_all, ends_at_grid, ends_at_pools, ends_in, ends_named, means_in, pools_served, read_in, reads_more, spelled_in}
 use Rattle.command_line.specs.Held.{held_solve}
-use Rattle.command_line.specs.Ranges.{IsBuilt}
 use Rattle.pddlstream_app.specs.Inputs.{file_at, task_files}
 use Rattle.pddlstream_app.specs.declared.stop.FileRole.TheVariants as role
 use Rattle.pddlstream_app.proofs.solve.report.Goals as goal
@@ -58,13 +57,6 @@ run_in_mode-requires-clause-runnable g c =
     c.in_ok-pools.ensures.text in
     head_runs c.in_ok-task.task (g.F.Files.told c.args.files.now) (held_solve c.args.words.now) c.head_of-head.result
     (c.head_of-head.ensures _ _ served) c.requires.within
-
-pub run_in_mode-requires-clause-built : goal.run_in_mode-requires-clause-built
-run_in_mode-requires-clause-built g c =
-    let served = pools_served (g.F.Files.told c.args.files.now) _ _ c.read_task.ensures.same c.meant_pools.ensures.same
-    (held_solve c.args.words.now) c.in_ok-task.task c.in_ok-meant.meant c.in_ok-pools.pools c.in_ok-meant.ensures.pools
-    c.in_ok-pools.ensures.text in
-    subst IsBuilt (sym (c.head_of-head.ensures _ _ served).mode) c.requires.within.built
 
 pub returns-in-Ok-clause-solved : goal.returns-in-Ok-clause-solved
 returns-in-Ok-clause-solved g c =

@@ -1,5 +1,4 @@
 use Rattle.std.proofs.Common.{◌≡◌, ◌<◌, length, take, true, rules, tests, subst, slice_get, IfSome, List, false}
-use Rattle.transcript_model.specs.declared.head.Mode.TheVariants.{Incremental}
 use Rattle.transcript_model.specs.declared.head.PoolLine.{PoolLine}
 use Rattle.replay_check.specs.Heads.{AreFitPoolLines, are_fit_limits, is_fit_pool}
 use Rattle.replay_check.proofs.HeadsLemmas.{first_wrong}
@@ -10,7 +9,7 @@ returns-in-Err c =
     let task = c.args.task.now in
     let r = c.args.report.now in
     let place = c.in-Err.place in
-    let mode : r.mode ≡ Incremental = search (rules, tests) in
+    let mode = c.is_followed.ensures.0 c.if-not-is_followed.false in
     let limits : are_fit_limits r ≡ true = search (rules, tests) in
     let wrong = rw c.in-Err.is at c.in_ok-workers.ensures.wrong in
     let there = rw c.in-Err.is at c.in_ok-workers.ensures.there in

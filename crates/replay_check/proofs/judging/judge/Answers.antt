@@ -1,6 +1,7 @@
 use Rattle.std.proofs.Common.{◌∙◌, sym, ap, subst}
 use Rattle.pools.specs.Pools.{HaveWorkers, shares_of}
-use Rattle.replay_check.proofs.VerdictsLemmas.{head_found, limits_fit, pools_work}
+use Rattle.replay_check.proofs.HeadsBindLemmas.{limits_fit, pools_work}
+use Rattle.replay_check.proofs.VerdictsHeadLemmas.{head_found}
 use Rattle.replay_check.specs.Headed.{IsHeaded}
 use Rattle.replay_check.specs.Verdicts.{IsReportVerdict}
 use Rattle.replay_check.proofs.judging.judge.Goals as goal
@@ -20,8 +21,11 @@ judge_rest-requires-clause-bounds c =
     let limits = limits_fit r headed.0.limits in
     record {
       fit = c.requires.fit;
+      mode = headed.0.mode;
       workers = subst HaveWorkers (sym (ap shares_of c.as_slice.ensures.value ∙ headed.1)) (pools_work task r.pools headed.0.pools);
       calls = limits.0;
       some_states = limits.1;
       few_states = limits.2;
+      some_limit = c.requires.some;
+      few_limit = c.requires.few;
     }

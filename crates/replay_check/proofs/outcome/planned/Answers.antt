@@ -1,6 +1,6 @@
 use Rattle.std.proofs.Common.{◌<◌, ◌^◌, arith, subst}
 use Rattle.replay_check.proofs.FindingsLemmas.{no_goal_found, stuck_found, wrong_cost_found, wrong_origin_found}
-use Rattle.replay_check.specs.Runs.{IsNear, IsPlanned}
+use Rattle.replay_check.specs.Plans.{IsNear, IsPlanned}
 use Rattle.replay_check.proofs.outcome.planned.Goals as goal
 
 pub overflow_add-result : goal.overflow_add-result

@@ -1,7 +1,7 @@
 use Rattle.std.proofs.Common.{◌∙◌, sym, ap}
 use Rattle.report_text.proofs.LineTextLemmas.{read_lines, lines_read}
 use Rattle.report_text.proofs.FormsLemmas.{report_lines, report_text, report_clear}
-use Rattle.report_text.proofs.TextsReadBack.{lines_determine}
+use Rattle.report_text.proofs.ReportsReadBack.{lines_determine}
 use Rattle.report_text.proofs.laws.texts_determine_reports.Goals as goal
 
 pub returns : goal.returns

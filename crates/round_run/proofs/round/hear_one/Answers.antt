@@ -13,7 +13,8 @@ use Rattle.round_run.proofs.CallsLemmas.{calls_one}
 use Rattle.round_run.proofs.RollingPrintLemmas.{answers_legal, front_answers, round_legal}
 use Rattle.round_run.proofs.RollingLemmas.{awaited_there, heard_more, printed_there, rolling_same, started_within}
 use Rattle.round_run.proofs.StoppedLemmas.{blamed_listens, goes_one, handed, ok_map, on_ok, stopped_at, stopped_blamed}
-use Rattle.round_run.proofs.TalkingRoundLemmas.{dialogue_answered, dialogue_hearing, may_blame, talking_heard}
+use Rattle.round_run.proofs.TalkingEndLemmas.{dialogue_answered}
+use Rattle.round_run.proofs.TalkingHeardLemmas.{dialogue_hearing, may_blame, talking_heard}
 use Rattle.round_run.proofs.PiecesLemmas.{printed_all, printed_part}
 use Rattle.round_run.specs.Calls.{LogFollows}
 use Rattle.round_run.specs.Resting.{Rolled}

@@ -12,9 +12,10 @@ use Rattle.round_run.proofs.CallsRoundLemmas.{round_order}
 use Rattle.transcript_model.specs.Rounds.{IsRound}
 use Rattle.round_run.proofs.RollingFrontLemmas.{front_first, front_whole}
 use Rattle.transcript_model.proofs.RoundsFrontLemmas.{round_exists}
-use Rattle.round_run.proofs.RollingLemmas.{all_heard, count_is, rolling_begun, round_end}
+use Rattle.round_run.proofs.RollingEndLemmas.{all_heard, count_is, rolling_begun, round_end}
 use Rattle.round_run.proofs.StoppedLemmas.{handed, stopped_memory, stopped_then}
-use Rattle.round_run.proofs.TalkingRoundLemmas.{round_told, talking_begun}
+use Rattle.round_run.proofs.TalkingRoundLemmas.{talking_begun}
+use Rattle.round_run.proofs.TalkingEndLemmas.{round_told}
 use Rattle.round_run.proofs.TalkingLemmas.{dialogue_run}
 use Rattle.round_run.specs.Calls.{Calls}
 use Rattle.round_run.specs.Rolling.{Goes, IsFrontPart, IsRolling, Stopped}

@@ -6,6 +6,9 @@ use Rattle.transcript_model.specs.Transcript.{names_of}
 use Rattle.transcript_ledger.proofs.TalksAskLemmas.{passes, must_pass}
 use Rattle.transcript_ledger.proofs.asks.asked_by.Goals as goal
 
+pub instance_of-requires-clause-distinct : goal.instance_of-requires-clause-distinct
+instance_of-requires-clause-distinct c = c.args.ledger.now.facts.coherent.names
+
 pub returns-then-may_ask : goal.returns-then-may_ask
 returns-then-may_ask c = λ version before h.
     let task = c.args.task.now in

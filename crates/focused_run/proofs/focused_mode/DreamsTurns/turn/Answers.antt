@@ -1,10 +1,12 @@
 use Rattle.std.proofs.Common.{◌≡◌, ◌<◌, [], ap, ◌∙◌, length, sym, subst, refl}
+use Rattle.std.proofs.lemmas.Result.{IfErr-weaker, IfOk-weaker}
 use Rattle.std.proofs.lemmas.Bool.{eqb-false, eqb-true}
 use Rattle.std.proofs.lemmas.List.{nil_from_length}
 use Rattle.dreaming.specs.Answers.{IsDreamed, IsKnownPlan, IsSureNone}
 use Rattle.focused_run.proofs.DreamtLemmas.{memory_stops}
-use Rattle.focused_run.proofs.FocusingLemmas.{some_from, surely_none}
-use Rattle.focused_run.specs.Focusing.{carried}
+use Rattle.dreaming.proofs.DreamlessLemmas.{surely_none}
+use Rattle.focused_run.proofs.FocusingLemmas.{some_from}
+use Rattle.focused_run.specs.Focusing.{MayFallBack, carried}
 use Rattle.round_run.proofs.StoppedLemmas.{handed}
 use Rattle.round_run.specs.declared.fault.RunFault.TheVariants.{Memory}
 use Rattle.transcript_model.specs.Dreaming.{IsDreamAfter}
@@ -51,3 +53,13 @@ with_dream-requires-clause-dream g c =
     (sym c.is_empty.ensures ∙ c.if-is_empty.false) (ap length c.as_slice.ensures ∙ none)) in
     subst (IsDreamAfter limits task s.entries tried c.in-Dream.uses c.in-Dream.steps) (sym c.as_slice-needs.ensures.value)
     (subst (IsDreamed limits task s.entries tried) c.in-Dream.is (c.in_ok-dreamt.ensures.dream limits refl) some)
+
+pub returns-in-Empty-clause-ran : goal.returns-in-Empty-clause-ran
+returns-in-Empty-clause-ran g c =
+    IfOk-weaker c.without_dream.result _ _
+    (λ t ran. ran [] (subst (λ m. MayFallBack m []) (sym c.requires.runnable.is) tt)) c.without_dream.ensures.ran
+
+pub returns-in-Empty-clause-stopped : goal.returns-in-Empty-clause-stopped
+returns-in-Empty-clause-stopped g c =
+    IfErr-weaker c.without_dream.result _ _
+    (λ fault stopped. stopped [] (subst (λ m. MayFallBack m []) (sym c.requires.runnable.is) tt)) c.without_dream.ensures.stopped

@@ -1,5 +1,5 @@
 use Rattle.std.proofs.Common.{sym, subst, rules, drop}
-use Rattle.session_core.proofs.RoundCloseLemmas.{close_kept}
+use Rattle.session_core.proofs.RoundWholeLemmas.{close_kept}
 use Rattle.session_core.proofs.ReadyLemmas.{rest_ready}
 use Rattle.session_core.specs.Ready.{AreReady}
 use Rattle.session_core.specs.Session.{IsSession}

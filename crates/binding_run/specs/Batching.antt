@@ -1,0 +1,115 @@
+-- The batches of a dream, one after another.
+use Rattle.std.specs.Prelude.{◌≡◌, ℕ, ◌+◌, ◌<◌, ◌≤◌, List, [], ◌∷◌, ◌++◌, length, Bool, true, Option, None, Some}
+use Rattle.dream_asks.specs.Progress.{IsProgress, Progress}
+use Rattle.io_world.specs.Talks.{Event}
+use Rattle.level_run.specs.Turns.{IsSure, cut_by, opens_requests}
+use Rattle.round_run.specs.Calls.{Runs}
+use Rattle.round_run.specs.Rolling.{IsFrontPart}
+use Rattle.round_run.specs.declared.ending.Batch.{Batch}
+use Rattle.round_run.specs.declared.ending.Batch.TheVariants.{CallsSpent, Done}
+use Rattle.session_core.specs.State.{State}
+use Rattle.task_model.specs.Dreams as dreams
+use Rattle.task_model.specs.declared.stream.Instance.{Instance}
+use Rattle.task_model.specs.declared.task.Task.{Task}
+use Rattle.transcript_model.specs.Dreaming.{Sent, next_sent, sent_instances}
+use Rattle.transcript_model.specs.Legal.{asks_of, is_mark}
+use Rattle.transcript_model.specs.Rounds.{IsBatch, limits_of}
+use Rattle.transcript_model.specs.Turns.{AreBatches, is_cut}
+use Rattle.transcript_model.specs.declared.entry.Entry.{Entry}
+use Rattle.transcript_model.specs.declared.head.Head.{Head}
+use Rattle.transcript_model.specs.declared.outcome.LimitKind.TheVariants.{Calls}
+use Rattle.transcript_model.specs.declared.outcome.Outcome.TheVariants as outcome
+
+-- The transcript has requests that this progress tells of, and each that was tried since stands behind the others.
+abbrev pub HasProgress : Task → List Entry → Progress → Type 0
+HasProgress task entries p = (sent : List Sent) × IsProgress task entries p sent
+
+-- the entries that a dream's next batch asks, where these were asked of it
+abbrev pub nexts : Task → List Entry → ℕ → List dreams.Entry → List Sent → List Sent
+nexts task before real entries sent =
+    next_sent task before real sent (asks_of before + 1) (sent_instances sent) entries
+
+-- the first entries of what would be the rest of a dream's batches, where these were asked of it
+abbrev pub IsFrontOfBatches : Head → Task → ℕ → List dreams.Entry → List Sent → List Entry → List Entry → Type 0
+IsFrontOfBatches head task real entries sent before =
+    IsFrontPart before (λ now. (after : List Sent) × (cut : Bool)
+    × AreBatches (limits_of head) task real entries sent before now after cut)
+
+-- ---- one batch
+
+-- A batch was run, and ended so. Where it is whole the asks joined the dream's requests and those that were tried.
+pub record RanSome (head : Head) (task : Task) (real : ℕ) (entries : List dreams.Entry) (old new : State)
+    (later : Progress) (tried joined : List Instance) (sent : List Sent) (b : Batch) : Type 0 where
+  pub some : 0 < length (nexts task old.entries real entries sent)
+  pub now : List Entry
+  pub pushed : new.entries ≡ old.entries ++ now
+  pub batch : IsBatch (limits_of head) task old.entries (sent_instances (nexts task old.entries real entries sent)) now
+  pub cut : cut_by b ≡ is_cut (limits_of head) old.entries (nexts task old.entries real entries sent)
+  pub noted : b ≡ Done → IsProgress task new.entries later (sent ++ nexts task old.entries real entries sent)
+  pub joins : b ≡ Done → joined ≡ tried ++ sent_instances (nexts task old.entries real entries sent)
+
+-- Nothing was left to ask, and nothing has changed; or a batch was run.
+abbrev pub RanNext : Head → Task → ℕ → List dreams.Entry → (old new : State) → Progress
+    → (tried joined : List Instance) → List Sent → Option Batch → Type 0
+RanNext head task real entries old new later tried joined sent None =
+    (nexts task old.entries real entries sent ≡ []) × (new ≡ old) × (joined ≡ tried)
+RanNext head task real entries old new later tried joined sent (Some b) =
+    RanSome head task real entries old new later tried joined sent b
+
+-- How many requests were made: some, where a call was left, and all, where none was wanting. Where calls were wanting
+-- the limit of calls is sure.
+abbrev pub Asks : Head → Task → (old new : State) → Option Batch → Type 0
+Asks head task old new None = new ≡ old
+Asks head task old new (Some Done) = (length old.asked < length new.asked) × (length new.asked ≤ head.calls)
+Asks head task old new (Some CallsSpent) =
+    (length old.asked ≤ length new.asked) × (length old.asked < head.calls → length old.asked < length new.asked)
+    × IsSure head task new.entries (outcome.Limit Calls)
+
+-- ---- all batches
+
+-- All batches of a dream were run, nothing of which was asked before, as far as calls were left. What was asked joined
+-- those that were tried, where no calls were wanting.
+pub record RanBatches (head : Head) (task : Task) (real : ℕ) (entries : List dreams.Entry) (old new : State)
+    (tried joined : List Instance) (b : Batch) : Type 0 where
+  pub now : List Entry
+  pub pushed : new.entries ≡ old.entries ++ now
+  pub after : List Sent
+  pub batches : AreBatches (limits_of head) task real entries [] old.entries now after (cut_by b)
+  pub joins : b ≡ Done → joined ≡ tried ++ sent_instances after
+  pub sure : b ≡ CallsSpent → IsSure head task new.entries (outcome.Limit Calls)
+
+-- Entries came by the calls that came to the log. Where no request came no call was made.
+pub record RunsOn (task : Task) (head : Head) (before after : List Entry) (was now : Option (List Event)) : Type 0 where
+  pub runs : Runs task head before after was now
+  pub still : asks_of after ≡ asks_of before → now ≡ was
+
+-- ---- behind a line
+
+-- Batches may stand behind this entry, which is neither a request nor an answer nor a level; and a call is left.
+pub record MayRunBehind (head : Head) (line : Entry) (s : State) : Type 0 where
+  pub mark : is_mark line ≡ true
+  pub opens : opens_requests head.mode line ≡ true
+  pub left : length s.asked < head.calls
+
+-- this entry, and behind it all batches of a dream
+pub record AreBatchesBehind (head : Head) (task : Task) (real : ℕ) (entries : List dreams.Entry) (before : List Entry)
+    (line : Entry) (now : List Entry) (after : List Sent) (cut : Bool) : Type 0 where
+  pub rest : List Entry
+  pub is : now ≡ line ∷ rest
+  pub batches : AreBatches (limits_of head) task real entries [] (before ++ line ∷ []) rest after cut
+
+-- the first entries of what would be that
+abbrev pub IsFrontBehindLine : Head → Task → ℕ → List dreams.Entry → List Entry → Entry → List Entry → Type 0
+IsFrontBehindLine head task real entries before line =
+    IsFrontPart before (λ now. (after : List Sent) × (cut : Bool)
+    × AreBatchesBehind head task real entries before line now after cut)
+
+-- The entry was put behind the transcript, and all batches behind it, as far as calls were left.
+pub record RanBehindLine (head : Head) (task : Task) (real : ℕ) (entries : List dreams.Entry) (line : Entry)
+    (old new : State) (tried joined : List Instance) (b : Batch) : Type 0 where
+  pub now : List Entry
+  pub pushed : new.entries ≡ old.entries ++ now
+  pub after : List Sent
+  pub batches : AreBatchesBehind head task real entries old.entries line now after (cut_by b)
+  pub joins : b ≡ Done → joined ≡ tried ++ sent_instances after
+  pub sure : b ≡ CallsSpent → IsSure head task new.entries (outcome.Limit Calls)

@@ -1,0 +1,3 @@
+pub mod Adaptive
+pub mod Batching
+pub mod Skeletons

@@ -1,0 +1,10 @@
+mod AfterLedgerLemmas
+mod CallsLemmas
+pub mod DreamLinesLemmas
+mod JudgedLemmas
+mod LinesLemmas
+mod ListedLemmas
+mod NeededLemmas
+mod NoneLemmas
+mod TableLemmas
+mod UsesLemmas

@@ -1,0 +1,102 @@
+//! Whether no plan rests on what may be supposed.
+ghost use Rattle.std.specs.Prelude.{◌≡◌, ℕ, ◌≤◌, List, IfOk};
+ghost use Rattle.dream_check.specs.Judged.{IsNoneJudged, IsNoneOver, IsSolvableWithin};
+ghost use Rattle.task_model.specs.Fit.{IsFit};
+ghost use Rattle.task_model.specs.declared.limits.TheConstants.{MOST_STATES};
+ghost use Rattle.transcript_ledger.specs.Ledgers.{IsLedger};
+ghost use Rattle.transcript_model.specs.Rounds.{Limits};
+ghost use Rattle.transcript_model.specs.declared.entry.Entry.{Entry as AnyEntry};
+
+use best_first::{Additive, Found, exceeds, search};
+use optimistic_set::{OptimisticFault, Tried, optimistic};
+use std::alloc::{AllocError, Global};
+use task_model::{Look, Task};
+use transcript_ledger::Ledger;
+
+/// Whether there is a plan, or None where more than so many states are reached. Fails only where
+/// memory is wanting.
+fn is_solvable_within<L: Look>(
+    alloc: Global,
+    task: &Task,
+    look: &L,
+    most: u32,
+) -> Result<Option<bool>, AllocError>
+    requires fit { IsFit task.now }
+    requires some { 1 ≤ most }
+    requires few { most ≤ MOST_STATES }
+    ensures { IfOk result (IsSolvableWithin task.now (L.known look.now) most) }
+{
+    let mut estimate = Additive::new(alloc, task, look)?;
+    match search(alloc, task, look, most, &mut estimate)? {
+        Found::Nothing => Ok(Some(false)),
+        Found::Limit => Ok(None),
+        Found::Plan(_, _) => {
+            if exceeds(alloc, task, look, most)? {
+                Ok(None)
+            } else {
+                Ok(Some(true))
+            }
+        }
+    }
+}
+
+/// Whether no plan rests on a list, over which `look` looks up what is known, where `states` states
+/// may be searched; None where more than `limit` states are reached, and `states` is more.
+fn judge_list<L: Look>(
+    alloc: Global,
+    task: &Task,
+    look: &L,
+    states: u32,
+    limit: u32,
+) -> Result<Option<bool>, AllocError>
+    requires fit { IsFit task.now }
+    requires some_states { 1 ≤ states }
+    requires few_states { states ≤ MOST_STATES }
+    requires some { 1 ≤ limit }
+    requires few { limit ≤ MOST_STATES }
+    ensures { IfOk result (IsNoneOver task.now (L.known look.now) states limit) }
+{
+    let most = limit.min(states);
+    match is_solvable_within(alloc, task, look, most)? {
+        Some(solvable) => Ok(Some(!solvable)),
+        None => {
+            if limit < states {
+                Ok(None)
+            } else {
+                Ok(Some(true))
+            }
+        }
+    }
+}
+
+/// Whether no plan rests on what may be supposed after the entries of the ledger, where these
+/// instances were tried: because more than 20,000 entries may be supposed, because no plan is valid
+/// over the list, or because more than `states` states are reached over it. None exactly where
+/// `limit` is less than `states` and more than `limit` states are reached over a list that isn't
+/// too long; both are from 1 to 200,000. Fails only where memory is wanting.
+pub fn judge_none(
+    alloc: Global,
+    task: &Task,
+    ledger: &Ledger,
+    tried: &Tried,
+    depth: u8,
+    states: u32,
+    limit: u32,
+) -> Result<Option<bool>, AllocError>
+    requires ledger { (version : ℕ) × (before : List AnyEntry)
+        × IsLedger version task.now before ledger.now }
+    requires some_states { 1 ≤ states }
+    requires few_states { states ≤ MOST_STATES }
+    requires some { 1 ≤ limit }
+    requires few { limit ≤ MOST_STATES }
+    ensures { (limits : Limits) (before : List AnyEntry) → limits.depth ≡ depth
+        → limits.states ≡ states → IsLedger limits.version task.now before ledger.now
+        → IfOk result (IsNoneJudged limits task.now before tried.now limit) }
+{
+    let depth = u32::from(depth);
+    match optimistic(alloc, task, &ledger.facts, &ledger.queue, tried, depth) {
+        Ok(supposed) => judge_list(alloc, task, &supposed.look(), states, limit),
+        Err(OptimisticFault::TooManyEntries) => Ok(Some(true)),
+        Err(OptimisticFault::Memory) => Err(AllocError),
+    }
+}

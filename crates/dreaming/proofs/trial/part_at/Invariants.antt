@@ -1,6 +1,0 @@
-use Rattle.std.proofs.Common.{take}
-use Rattle.dreaming.specs.Thinning.{IsPartAt}
-use Rattle.dreaming.proofs.trial.part_at.Given as goal
-
-abbrev pub invariant-loop-place : goal.invariant-loop-place
-invariant-loop-place l = IsPartAt l.trial.task.now l.trial.supposed.now (take l.place-index l.places) l.part

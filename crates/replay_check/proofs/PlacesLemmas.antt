@@ -1,0 +1,179 @@
+-- Where entries lead, and what may come behind them.
+use Rattle.std.proofs.Common.{◌≡◌, ℕ, zero, suc, ◌+◌, inl, inr, Bool, true, false, List, [], ◌∷◌, ◌++◌, length, refl, sym, ap, subst, ◌∙◌, Some, slice_get, arith}
+use Rattle.std.proofs.lemmas.Bool.{true≢false}
+use Rattle.level_course.proofs.CoursesLemmas.{nothing_left}
+use Rattle.level_course.specs.Courses.{Course, IsBehind, Opens}
+use Rattle.mode_course.proofs.StepsLemmas.{leads_on_once, leads_on_then}
+use Rattle.mode_course.proofs.TurnedLemmas.{turned}
+use Rattle.mode_course.proofs.TurnsLemmas.{turns_lead}
+use Rattle.mode_course.proofs.WholeLemmas.{at_first_rest, between_alone, step_of}
+use Rattle.mode_course.specs.Laws.{IsAt, IsFollowed}
+use Rattle.mode_course.specs.Places.{Awaits, IsBatchStep, IsStep, LeadsOn, MayDream, Place, at_start, begins_level, falls_back, goes_on, resets, resting, tells_dream, tells_none}
+use Rattle.mode_turns.proofs.ModesLemmas.{as_family, of_mode}
+use Rattle.mode_turns.specs.Modes.{nothing_kept}
+use Rattle.pools.specs.Pools.{HaveWorkers}
+use Rattle.task_model.specs.Streams.{yields_of}
+use Rattle.task_model.specs.declared.stream.Instance.{Instance}
+use Rattle.task_model.specs.declared.task.Task.{Task}
+use Rattle.transcript_model.specs.Legal.{asks_of, is_answer_to, is_mark}
+use Rattle.transcript_model.specs.Names.{call_of_instance}
+use Rattle.transcript_model.specs.Rounds.{Limits, requests_from}
+use Rattle.transcript_model.specs.Transcript.{names_of, notes_of}
+use Rattle.transcript_model.specs.Turns.{AreTurnsOf, Stage, between, inside}
+use Rattle.transcript_model.specs.declared.entry.Entry.{Entry}
+use Rattle.transcript_model.specs.declared.entry.Entry.TheVariants as entry
+use Rattle.transcript_model.specs.declared.head.Mode.{Mode}
+use Rattle.transcript_model.specs.declared.head.Mode.TheVariants.{Adaptive, Binding, Focused, Incremental}
+use Rattle.replay_check.specs.Breaches.{AreBegun, BeginsTurn}
+
+-- ---- requests of a round
+
+-- where this request is the first to come, it is that of the first instance
+pub first_request : (task : Task) (es : List Entry) (number : ℕ) (is : List Instance) (e : Entry) (rest : List Entry)
+    → requests_from task es number is ≡ e ∷ rest
+    → (i : Instance) × (slice_get is 0 ≡ Some i)
+    × (e ≡ entry.Ask number (yields_of (notes_of task es) i) (call_of_instance task (names_of task es) i))
+first_request task es number [] e rest asks = absurd (nothing_left e rest asks)
+first_request task es number (i ∷ is) e rest asks =
+    (i, refl, let same : e ≡ entry.Ask number (yields_of (notes_of task es) i) (call_of_instance task (names_of task es) i) = cc in same)
+
+-- these are requests for instances
+abbrev pub AreRequests : Task → List Entry → Type 0
+AreRequests task asks =
+    (before : List Entry) × (number : ℕ) × (round : List Instance) × (asks ≡ requests_from task before number round)
+
+rest_requested : (task : Task) (before : List Entry) (number : ℕ) (round : List Instance) (e : Entry) (rest : List Entry)
+    → requests_from task before number round ≡ e ∷ rest → AreRequests task rest
+rest_requested task before number [] e rest asks = absurd (nothing_left e rest asks)
+rest_requested task before number (i ∷ is) e rest asks =
+    let more : requests_from task before (number + 1) is ≡ rest = cc in (before, number + 1, is, sym more)
+
+answers_no_mark : (n : ℕ) (e : Entry) → is_answer_to n e ≡ true → is_mark e ≡ false
+answers_no_mark n (entry.Got m tuples values) to = refl
+answers_no_mark n (entry.Value m value) to = refl
+answers_no_mark n (entry.End m) to = refl
+answers_no_mark n (entry.Ask m turn call) to = absurd (cc)
+answers_no_mark n entry.Level to = absurd (cc)
+answers_no_mark n (entry.Dream uses steps) to = absurd (cc)
+answers_no_mark n entry.Nothing to = absurd (cc)
+answers_no_mark n entry.Reset to = absurd (cc)
+answers_no_mark n (entry.Pick m) to = absurd (cc)
+answers_no_mark n (entry.Retire m) to = absurd (cc)
+
+module _ (limits : Limits) (task : Task) where
+  opened_requests : (before : List Entry) (list : List Instance) (cut : Bool) (c : Course)
+      → Opens limits task before list cut c → AreRequests task c.asks
+  opened_requests before list cut c o = (before, asks_of before + 1, o.round, ap (λ (d : Course). d.asks) o.is)
+
+  batch_requests : (before : List Entry) (c : Course) (e : Entry) (d : Course) → IsBatchStep limits task before c e d
+      → AreRequests task c.asks → AreRequests task d.asks
+  batch_requests before c e d (inl m) (xs, number, round, are) =
+      subst (AreRequests task) (sym (ap (λ (x : Course). x.asks) m.is))
+      (rest_requested task xs number round e m.rest (sym are ∙ m.asks))
+  batch_requests before c e d (inr g) are = by g.left g.behind
+    where
+      by : (left : ℕ) → IsBehind limits task (before ++ e ∷ []) c left d → AreRequests task d.asks
+      by zero opens = opened_requests (before ++ e ∷ []) c.later c.is_cut d opens
+      by (suc left) is = (before, 0, [], ap (λ (x : Course). x.asks) is)
+
+  step_requests : (before : List Entry) (p : Place) (e : Entry) (q : Place) → IsStep limits task before p e q
+      → AreRequests task p.batch.asks → AreRequests task q.batch.asks
+  step_requests before p e q (goes_on c s is) are =
+      subst (λ (x : Place). AreRequests task x.batch.asks) (sym is) (batch_requests before p.batch e c s are)
+  step_requests before p e q (begins_level s) are =
+      subst (λ (x : Place). AreRequests task x.batch.asks) (sym s.after_is) (opened_requests _ _ _ s.batch s.begins.opens)
+  step_requests before p e q (tells_dream s) are =
+      subst (λ (x : Place). AreRequests task x.batch.asks) (sym s.after_is) (opened_requests _ _ _ s.batch s.opens)
+  step_requests before p e q (tells_none s) are = subst (λ (x : Place). AreRequests task x.batch.asks) (sym s.after_is) are
+  step_requests before p e q (resets s) are = subst (λ (x : Place). AreRequests task x.batch.asks) (sym s.after_is) are
+  step_requests before p e q (falls_back s) are =
+      subst (λ (x : Place). AreRequests task x.batch.asks) (sym s.after_is) (opened_requests _ _ _ s.batch s.opens)
+
+  leads_requests : (p : Place) (before es : List Entry) (q : Place) → LeadsOn limits task p before es q
+      → AreRequests task p.batch.asks → AreRequests task q.batch.asks
+  leads_requests p before [] q same are = subst (λ (x : Place). AreRequests task x.batch.asks) same are
+  leads_requests p before (e ∷ es) q (m, step, more) are =
+      leads_requests m (before ++ e ∷ []) es q more (step_requests before p e m step are)
+
+  -- what goes on with a batch is a request or an answer
+  pub batch_no_mark : (entries : List Entry) (p : Place) (e : Entry) (d : Course) → LeadsOn limits task at_start [] entries p
+      → IsBatchStep limits task entries p.batch e d → is_mark e ≡ false
+  batch_no_mark entries p e d leads (inl m) =
+      let are = leads_requests at_start [] entries p leads ([], 0, [], refl) in
+      let first = first_request task are.0 are.1 are.2 e m.rest (sym are.3 ∙ m.asks) in
+      ap is_mark first.2
+  batch_no_mark entries p e d leads (inr g) = answers_no_mark p.batch.next e g.to
+
+  -- a request, or an answer, goes on with a batch
+  pub batch_of : (before : List Entry) (p : Place) (e : Entry) (q : Place) → is_mark e ≡ false → IsStep limits task before p e q
+      → (d : Course) × IsBatchStep limits task before p.batch e d
+  batch_of before p e q other (goes_on d s is) = (d, s)
+  batch_of before p e q other (begins_level s) = absurd (true≢false (sym (ap is_mark s.begins.is) ∙ other))
+  batch_of before p e q other (tells_dream s) = absurd (true≢false (sym (ap is_mark s.is) ∙ other))
+  batch_of before p e q other (tells_none s) = absurd (true≢false (sym (ap is_mark s.is) ∙ other))
+  batch_of before p e q other (resets s) = absurd (true≢false (sym (ap is_mark s.is) ∙ other))
+  batch_of before p e q other (falls_back s) = absurd (true≢false (sym (ap is_mark s.is) ∙ other))
+
+-- ---- turns
+
+focused_of : (m : Mode) → IsFollowed m → ¬ (m ≡ Incremental) → m ≡ Focused
+focused_of Incremental followed other = absurd (other refl)
+focused_of Focused followed other = refl
+focused_of Binding followed other = absurd followed
+focused_of Adaptive followed other = absurd followed
+
+pub between_inside : ¬ (between ≡ inside)
+between_inside e = absurd (cc)
+
+module _ (limits : Limits) (task : Task) (entries : List Entry) (p : Place) (leads : LeadsOn limits task at_start [] entries p) where
+  module _ (followed : IsFollowed limits.mode) where
+    -- an entry with which a turn goes on is a step from here
+    pub next_step : (e : Entry) → AreBegun limits task (entries ++ e ∷ [])
+        → (after : Place) × IsStep limits task entries p e after
+    next_step e begun = step_of limits task entries p followed leads e begun.0 begun.1
+
+    -- turns lead to where they stop, unless that is inside one
+    pub stage_at : (stage : Stage) → ¬ (stage ≡ inside) → AreTurnsOf limits.mode limits task entries stage → IsAt p stage
+    stage_at stage other turns =
+        let to = turns_lead limits task followed nothing_kept [] entries stage at_start
+        (as_family limits.mode limits task entries stage turns) refl at_first_rest in
+        let same : to.last ≡ p = leads_on_once limits task at_start [] entries to.last p to.leads leads in
+        subst (λ (x : Place). IsAt x stage) same (to.at other)
+
+    -- where a turn of a mode that dreams begins
+    pub may_here : BeginsTurn limits task entries → MayDream limits task entries p
+    may_here (other, may, turns) = record {
+      mode = focused_of limits.mode followed other;
+      awaits = stage_at between between_inside turns;
+      may = may;
+    }
+
+  module _ (workers : HaveWorkers limits.pools) where
+    -- the entries are turns that stop there
+    pub record Stops : Type 0 where
+      pub stage : Stage
+      pub at : IsAt p stage
+      pub turns : AreTurnsOf limits.mode limits task entries stage
+
+    pub stops : Stops
+    stops =
+        let t = turned limits task workers (length entries) [] entries at_start p (omega arith) at_first_rest leads in
+        record { stage = t.stage; at = t.at; turns = of_mode limits.mode limits task entries t.stage t.turns }
+
+    pub rests_between : Awaits p resting → AreTurnsOf limits.mode limits task entries between
+    rests_between awaits =
+        let s = stops in
+        subst (λ (x : Stage). AreTurnsOf limits.mode limits task entries x) (between_alone p s.stage awaits s.at) s.turns
+
+    pub begins_here : MayDream limits task entries p → BeginsTurn limits task entries
+    begins_here may =
+        (λ is. absurd (let both : Focused ≡ Incremental = sym may.mode ∙ is in cc), may.may, rests_between may.awaits)
+
+-- a step goes on with a turn
+pub step_begun : (limits : Limits) (task : Task) (entries : List Entry) (p : Place) → LeadsOn limits task at_start [] entries p
+    → HaveWorkers limits.pools → (e : Entry) (after : Place) → IsStep limits task entries p e after
+    → AreBegun limits task (entries ++ e ∷ [])
+step_begun limits task entries p leads workers e after step =
+    let s = stops limits task (entries ++ e ∷ []) after
+    (leads_on_then limits task at_start [] entries (e ∷ []) p after leads (after, step, refl)) workers in
+    (s.stage, s.turns)

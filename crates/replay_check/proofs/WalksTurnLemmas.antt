@@ -1,0 +1,235 @@
+-- A line of a turn is taken, or is wrong.
+use Rattle.std.proofs.Common.{◌≡◌, ℕ, ◌+◌, ◌-◌, ◌<◌, ◌&&◌, not, inl, inr, true, List, [], ◌∷◌, ◌++◌, take, length, refl, sym, ap, subst, ◌∙◌, Some, slice_get, arith}
+use Rattle.dream_asks.proofs.EntriesLemmas.{dream_distinct}
+use Rattle.dream_asks.proofs.FirstLemmas.{first_sent}
+use Rattle.dream_asks.specs.First.{first_instances}
+use Rattle.dream_check.specs.Judged.{IsUndecidedNone}
+use Rattle.dream_check.specs.Lines.{IsFirstWrongLine}
+use Rattle.instance_queue.specs.Level.{instances_of}
+use Rattle.instance_queue.specs.declared.due.Due.{Due}
+use Rattle.mode_course.proofs.MadeLemmas.{between_awaits, dream_made, fallback_made, level_made, none_made, reset_made, undreamt_awaits}
+use Rattle.mode_course.proofs.StepsLemmas.{phases_differ}
+use Rattle.mode_course.proofs.WholeLemmas.{kept_left, left_kept}
+use Rattle.mode_course.specs.Agendas.{Begins, ModeAgenda, is_over, is_resting, mode_place_in}
+use Rattle.mode_course.specs.Places.{Awaits, MayDream, Place, begins_level, falls_back, forgetting, joining, resets, resting, sent_first, tells_dream, tells_none, undreamt}
+use Rattle.mode_turns.specs.Modes.{Leaves}
+use Rattle.task_model.specs.Dreams as dreams
+use Rattle.task_model.specs.Known.{Known}
+use Rattle.task_model.specs.Streams.{AreDue}
+use Rattle.task_model.specs.declared.task.Task.{Task}
+use Rattle.transcript_ledger.specs.declared.ledger.Ledger.{Ledger}
+use Rattle.transcript_model.specs.Dreaming.{HasNoDreamAfter, IsDreamAfter, sent_instances}
+use Rattle.transcript_model.specs.Legal.{asks_of}
+use Rattle.transcript_model.specs.Rounds.{Limits}
+use Rattle.transcript_model.specs.Transcript.{known_of, names_of, notes_of}
+use Rattle.transcript_model.specs.Turns.{Kept, MayBegin}
+use Rattle.transcript_model.specs.declared.entry.Call.{Call}
+use Rattle.transcript_model.specs.declared.entry.DreamUse.{DreamUse}
+use Rattle.transcript_model.specs.declared.entry.Entry.{Entry}
+use Rattle.transcript_model.specs.declared.entry.Entry.TheVariants as entry
+use Rattle.replay_check.proofs.NextLemmas.{next_level, next_reset}
+use Rattle.replay_check.proofs.PlacesLemmas.{may_here}
+use Rattle.replay_check.proofs.StandingsMarkLemmas.{adds, batch_onward, idle_asks, mark_onward, may_behind}
+use Rattle.replay_check.proofs.WalksLemmas.{is_taken, is_wrong}
+use Rattle.replay_check.proofs.WrongLemmas.{mark_order, open_none, wrong_dream, wrong_none}
+use Rattle.replay_check.specs.Breaches.{BeginsTurn}
+use Rattle.replay_check.specs.Standings.{IsStanding, StandsBehind, limits_by}
+use Rattle.replay_check.specs.Turns.{AreDueFor, AsksLevel, HasDreamt}
+use Rattle.replay_check.specs.Verdicts.{IsOpenNone}
+use Rattle.replay_check.specs.Walks.{CanTake, IsOpenAt, IsWrongAt}
+use Rattle.replay_check.specs.declared.bounds.Bounds.{Bounds}
+use Rattle.replay_check.specs.declared.standing.Standing.{Standing}
+use Rattle.replay_check.specs.declared.verdict.BreachKind.TheVariants as kind
+
+pub some_in : {A : Type 0} (xs : List A) → ¬ (xs ≡ []) → 0 < length xs
+some_in [] some = absurd (some refl)
+some_in (x ∷ xs) some = omega arith
+
+module _ (b : Bounds) (entries : List Entry) (place : ℕ) (s : Standing) (can : CanTake b entries place s) where
+  abbrev task : Task
+  task = b.task.now
+
+  abbrev before : List Entry
+  before = take place entries
+
+  abbrev limits : Limits
+  limits = limits_by b
+
+  abbrev stands : StandsBehind limits task before s.ledger s.course
+  stands = can.standing.stands
+
+  abbrev here : Place
+  here = mode_place_in task before s.course
+
+  -- the batch begins behind so many requests
+  pub begins_counted : (dues : List Due) (n : ℕ) (new : ModeAgenda) (kept : ℕ → Kept) → n ≡ length s.ledger.asked.items
+      → Begins limits.pools dues n b.calls (kept n) new
+      → Begins limits.pools dues (asks_of before) limits.calls (kept (asks_of before)) new
+  begins_counted dues n new kept is begins =
+      subst (λ m. Begins limits.pools dues m b.calls (kept m) new) (is ∙ stands.ledger.counted) begins
+
+  -- ---- levels
+
+  module _ (there : slice_get entries place ≡ Some entry.Level) where
+    pub level_refused : ¬ (AsksLevel b.mode s.course) → IsWrongAt b entries place 0 kind.Order
+    level_refused bad =
+        is_wrong b entries place s can entry.Level there 0 kind.Order
+        (mark_order b.limit limits task before entry.Level refl
+        (λ begun. bad (next_level limits task before s.ledger s.course can.bounds.mode stands begun).0))
+
+    pub level_not_due : ¬ (MayBegin limits task before) → IsWrongAt b entries place 0 kind.Order
+    level_not_due bad =
+        is_wrong b entries place s can entry.Level there 0 kind.Order
+        (mark_order b.limit limits task before entry.Level refl
+        (λ begun. bad (next_level limits task before s.ledger s.course can.bounds.mode stands begun).1))
+
+    module _ (new : Standing) (dues : List Due) (ledger : new.ledger ≡ s.ledger) (due : AreDueFor limits task before dues)
+        (begins : Begins limits.pools dues (asks_of before) limits.calls s.course.kept new.course) where
+      level_stands : AsksLevel b.mode s.course
+          → StandsBehind limits task (before ++ entry.Level ∷ []) s.ledger new.course
+      level_stands (inl (mode, between)) =
+          let awaits = between_awaits task before s.course between in
+          batch_onward limits task before s.ledger s.course stands entry.Level refl new.course awaits.answered
+          (begins_level (level_made limits task before s.course new.course can.bounds.workers dues mode awaits due.0 due.1 begins))
+          dues s.course.kept begins
+      level_stands (inr (dreamless, untried)) =
+          let awaits = undreamt_awaits task before s.course dreamless in
+          let all : AreDue task (known_of task before) (notes_of task before) (instances_of dues) =
+          subst (AreDue task (known_of task before) (notes_of task before)) (sym due.1) due.0.due in
+          batch_onward limits task before s.ledger s.course stands entry.Level refl new.course awaits.answered
+          (falls_back (fallback_made limits task before s.course new.course can.bounds.workers dues awaits untried all begins))
+          dues s.course.kept begins
+
+      pub level_taken : AsksLevel b.mode s.course → IsStanding b (take (place + 1) entries) new
+      level_taken asks =
+          is_taken b entries place s can entry.Level there new
+          (subst (λ (l : Ledger). StandsBehind limits task (before ++ entry.Level ∷ []) l new.course) (sym ledger) (level_stands asks))
+          (λ is. absurd (cc))
+
+  -- ---- resets
+
+  module _ (there : slice_get entries place ≡ Some entry.Reset) where
+    pub reset_refused : ¬ (((is_over s.course.batch && not (is_resting s.course.phase)) ≡ true) × (0 < length s.course.kept.tried))
+        → IsWrongAt b entries place 0 kind.Order
+    reset_refused bad =
+        is_wrong b entries place s can entry.Reset there 0 kind.Order
+        (mark_order b.limit limits task before entry.Reset refl
+        (λ begun. bad (next_reset limits task before s.ledger s.course can.bounds.mode stands begun)))
+
+    pub reset_taken : (new : Standing) → (is_over s.course.batch && not (is_resting s.course.phase)) ≡ true
+        → 0 < length s.course.kept.tried → new.ledger ≡ s.ledger → new.course.batch ≡ s.course.batch
+        → new.course.phase ≡ resting → new.course.kept ≡ forgetting s.course.kept
+        → IsStanding b (take (place + 1) entries) new
+    reset_taken new dreamless some ledger batch phase kept =
+        let awaits = undreamt_awaits task before s.course dreamless in
+        let idle = idle_asks limits task before s.ledger s.course stands entry.Reset refl awaits.answered in
+        is_taken b entries place s can entry.Reset there new
+        (subst (λ (l : Ledger). StandsBehind limits task (before ++ entry.Reset ∷ []) l new.course) (sym ledger)
+        (mark_onward limits task before s.ledger s.course stands entry.Reset refl new.course awaits.answered
+        (resets (reset_made limits task before s.course new.course idle awaits some batch phase kept)) batch
+        (λ is. absurd (phases_differ (sym phase ∙ is))))) (λ is. absurd (cc))
+
+  -- ---- turns that begin
+
+  module _ (begins : BeginsTurn limits task before) where
+    may : MayDream limits task before here
+    may = may_here limits task before here stands.leads can.bounds.mode begins
+
+    left : Leaves limits task before s.course.kept
+    left = kept_left limits task before here can.bounds.mode stands.leads s.course.kept can.bounds.workers may.awaits refl
+
+    alone : (k : Kept) → Leaves limits task before k → k ≡ s.course.kept
+    alone k there = (left_kept limits task before here can.bounds.mode stands.leads k there).1
+
+    idle : s.course.batch.to_ask ≡ []
+    idle = idle_asks limits task before s.ledger s.course stands entry.Nothing refl may.awaits.answered
+
+    -- ---- dreams
+
+    module _ (uses : List DreamUse) (steps : List Call) (there : slice_get entries place ≡ Some (entry.Dream uses steps)) where
+      pub dream_wrong : (offset : ℕ) → 0 < length uses
+          → IsFirstWrongLine limits task before s.course.kept.tried uses steps offset
+          → IsWrongAt b entries place offset kind.Dream
+      dream_wrong offset some wrong =
+          is_wrong b entries place s can (entry.Dream uses steps) there offset kind.Dream
+          (wrong_dream b.limit limits task before begins s.course.kept left alone uses steps offset some wrong)
+
+      module _ (needs : List dreams.Entry) (dream : IsDreamAfter limits task before s.course.kept.tried uses steps needs)
+          (new : Standing) (h : HasDreamt b needs s new) where
+        abbrev marked : List Entry
+        marked = before ++ entry.Dream uses steps ∷ []
+
+        -- what is asked of it is what the definition of turns asks first
+        asked_first : instances_of h.dues ≡ sent_instances (sent_first task (length (names_of task before)) marked needs)
+        asked_first =
+            let a = adds limits task before s.ledger s.course stands (entry.Dream uses steps) refl in
+            let known : s.ledger.facts.known ≡ known_of task marked = stands.ledger.known ∙ sym a.same.known in
+            let notes : s.ledger.queue ≡ notes_of task marked = stands.ledger.notes ∙ sym a.same.notes in
+            let real : length s.ledger.facts.known.names ≡ length (names_of task before) =
+            ap (λ (k : Known). length k.names) stands.ledger.known in
+            h.asks.instances ∙ (λ i. first_instances task (known i) (notes i) (real i) needs)
+            ∙ sym (first_sent task marked (length (names_of task before)) (asks_of marked + 1) needs
+            (dream_distinct limits task before s.course.kept.tried uses steps needs dream))
+
+        pub dream_taken : IsStanding b (take (place + 1) entries) new
+        dream_taken =
+            let kept = λ (n : ℕ). joining s.course.kept (take (b.calls - n) (instances_of h.dues)) in
+            let begun = begins_counted h.dues (length s.ledger.asked.items) new.course kept refl h.begins in
+            is_taken b entries place s can (entry.Dream uses steps) there new
+            (subst (λ (l : Ledger). StandsBehind limits task marked l new.course) (sym h.ledger_is)
+            (batch_onward limits task before s.ledger s.course stands (entry.Dream uses steps) refl new.course may.awaits.answered
+            (tells_dream (dream_made limits task before s.course new.course can.bounds.workers h.dues uses steps needs may dream
+            asked_first begun)) h.dues (kept (asks_of before)) begun)) (λ is. absurd (cc))
+
+    -- ---- the want of a dream
+
+    module _ (there : slice_get entries place ≡ Some entry.Nothing) where
+      closed : ¬ (IsUndecidedNone limits task before s.course.kept.tried b.limit) → ¬ (IsOpenNone b.limit limits task before)
+      closed decided (k, leaves, unsure) =
+          decided (subst (λ (x : Kept). IsUndecidedNone limits task before x.tried b.limit) (alone k leaves) unsure)
+
+      pub none_false : ¬ (HasNoDreamAfter limits task before s.course.kept.tried)
+          → ¬ (IsUndecidedNone limits task before s.course.kept.tried b.limit) → IsWrongAt b entries place 0 kind.Outcome
+      none_false bad decided =
+          is_wrong b entries place s can entry.Nothing there 0 kind.Outcome
+          (wrong_none b.limit limits task before begins s.course.kept left alone bad (closed decided))
+
+      pub none_open : IsUndecidedNone limits task before s.course.kept.tried b.limit → IsOpenAt b entries place
+      none_open unsure = record {
+        before = s;
+        standing = can.standing;
+        e = entry.Nothing;
+        there = there;
+        is = open_none b.limit limits task before begins s.course.kept left alone (s.course.kept, left, unsure);
+      }
+
+      pub none_taken : (new : Standing) → HasNoDreamAfter limits task before s.course.kept.tried
+          → ¬ (IsUndecidedNone limits task before s.course.kept.tried b.limit) → new.ledger ≡ s.ledger
+          → new.course.batch ≡ s.course.batch → new.course.phase ≡ undreamt → new.course.kept ≡ s.course.kept
+          → IsStanding b (take (place + 1) entries) new
+      none_taken new no_dream decided ledger batch phase kept =
+          let awaits : Awaits (mode_place_in task (before ++ entry.Nothing ∷ []) new.course) undreamt = record {
+            phase_is = phase;
+            answered = ap (λ x. x.answers) batch ∙ may.awaits.answered;
+            uncut = ap (λ x. x.is_cut) batch ∙ may.awaits.uncut;
+          } in
+          is_taken b entries place s can entry.Nothing there new
+          (subst (λ (l : Ledger). StandsBehind limits task (before ++ entry.Nothing ∷ []) l new.course) (sym ledger)
+          (mark_onward limits task before s.ledger s.course stands entry.Nothing refl new.course may.awaits.answered
+          (tells_none (none_made limits task before s.course new.course idle may no_dream batch phase kept)) batch
+          (λ is. (awaits, may_behind limits task before s.ledger s.course stands entry.Nothing refl may.may))))
+          (λ is. closed decided)
+
+  -- ---- turns that may not begin
+
+  pub dream_refused : (uses : List DreamUse) (steps : List Call) → slice_get entries place ≡ Some (entry.Dream uses steps)
+      → ¬ (BeginsTurn limits task before × (0 < length uses)) → IsWrongAt b entries place 0 kind.Order
+  dream_refused uses steps there bad =
+      is_wrong b entries place s can (entry.Dream uses steps) there 0 kind.Order
+      (mark_order b.limit limits task before (entry.Dream uses steps) refl bad)
+
+  pub none_refused : slice_get entries place ≡ Some entry.Nothing → ¬ (BeginsTurn limits task before)
+      → IsWrongAt b entries place 0 kind.Order
+  none_refused there bad =
+      is_wrong b entries place s can entry.Nothing there 0 kind.Order
+      (mark_order b.limit limits task before entry.Nothing refl bad)

@@ -1,0 +1,110 @@
+//! Requests and answers.
+ghost use Rattle.std.specs.Prelude.{◌≡◌, ◌≤◌, Some, length, slice_get, IfOk, IfSome, IsTrue};
+ghost use Rattle.replay_check.specs.Standings.{IsNextRequest};
+ghost use Rattle.replay_check.specs.Walks.{CanTake, IsEntryTaken};
+ghost use Rattle.transcript_model.specs.Legal.{answered_number as number_in};
+ghost use Rattle.transcript_model.specs.declared.entry.Entry.TheVariants as entry;
+ghost use Rattle.transcript_model.specs.declared.limits.TheConstants.{MOST_CALLS};
+
+use crate::bounds::Bounds;
+use crate::finding::Finding;
+use crate::standing::Standing;
+use crate::verdict::BreachKind;
+use std::alloc::AllocError;
+use transcript_ledger::{asked_by, is_request, may_answer};
+use transcript_model::{Call, Entry};
+
+impl Standing {
+    /// Whether the request is the next of the open round.
+    fn is_next(&self, bounds: &Bounds<'_>, number: u32, turn: u32, call: &Call) -> bool
+        requires { length self.now.ledger.asked.items ≤ MOST_CALLS }
+        ensures yes { IsTrue result
+            → IsNextRequest bounds.now.task.now self.now.ledger self.now.course.batch number turn
+            call.now }
+        ensures no { IsNextRequest bounds.now.task.now self.now.ledger self.now.course.batch number
+            turn call.now → IsTrue result }
+    {
+        let ledger = &self.ledger;
+        let due = ledger.asked.len() as u32 + 1;
+        let names = ledger.facts.names();
+        match self.course.next_asked() {
+            Some(next) => is_request(
+                bounds.task,
+                names,
+                &ledger.queue,
+                due,
+                next,
+                number,
+                turn,
+                call,
+            ),
+            None => false,
+        }
+    }
+
+    /// Takes the request at this place.
+    pub(crate) fn take_ask(
+        &mut self,
+        bounds: &Bounds<'_>,
+        number: u32,
+        turn: u32,
+        call: &Call,
+        entries: &[Entry],
+        place: usize,
+    ) -> Result<Finding, AllocError>
+        requires can { CanTake bounds.now entries.now place self.old }
+        requires here { slice_get entries.now place ≡ Some (entry.Ask number turn call.now) }
+        ensures { IfOk result (IsEntryTaken bounds.now entries.now place self.new) }
+    {
+        let ledger = &self.ledger;
+        let asked = asked_by(
+            bounds.alloc,
+            bounds.task,
+            ledger,
+            bounds.calls,
+            number,
+            turn,
+            call,
+        )?;
+        let Some(instance) = asked else {
+            return Ok(Finding::Breaks(0, BreachKind::Ask));
+        };
+        if !self.is_next(bounds, number, turn, call) {
+            return Ok(Finding::Breaks(0, BreachKind::Order));
+        }
+        self.ledger.ask(instance)?;
+        self.course.ask();
+        Ok(Finding::Holds)
+    }
+
+    /// Takes the answer at this place, to the request of this number.
+    pub(crate) fn take_answer(
+        &mut self,
+        bounds: &Bounds<'_>,
+        number: u32,
+        entries: &[Entry],
+        place: usize,
+    ) -> Result<Finding, AllocError>
+        requires can { CanTake bounds.now entries.now place self.old }
+        requires here { IfSome (slice_get entries.now place) (λ e. number_in e ≡ Some number) }
+        ensures { IfOk result (IsEntryTaken bounds.now entries.now place self.new) }
+    {
+        if !may_answer(bounds.task, &self.ledger, number, &entries[place]) {
+            return Ok(Finding::Breaks(0, BreachKind::Answer));
+        }
+        match self.course.next_answered() {
+            Some(next) if next == number => {}
+            _ => return Ok(Finding::Breaks(0, BreachKind::Order)),
+        }
+        self.ledger.answer(
+            bounds.alloc,
+            bounds.task,
+            bounds.version,
+            number,
+            entries,
+            place,
+        )?;
+        self.course.answer(bounds.pools);
+        Ok(Finding::Holds)
+    }
+}

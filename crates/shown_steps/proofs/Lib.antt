@@ -1,0 +1,3 @@
+pub mod NamedPlaceLemmas
+pub mod PlansLemmas
+pub mod RunsLemmas

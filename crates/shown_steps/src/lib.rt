@@ -1,0 +1,13 @@
+//! Steps as they are shown, read back by their names and taken one after another over what is
+//! known.
+#![tactic(auto)]
+
+mod names;
+mod naming;
+mod plan;
+mod steps;
+
+pub use names::Named;
+pub use naming::{objects_of, step_of};
+pub use plan::is_plan;
+pub use steps::{Ran, Run, run_steps};

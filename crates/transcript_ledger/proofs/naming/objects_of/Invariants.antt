@@ -1,7 +1,0 @@
-use Rattle.std.proofs.Common.{◌≡◌, map, take, Some, slice_get}
-use Rattle.transcript_ledger.proofs.naming.objects_of.Given as goal
-
--- the objects so far have their names
-abbrev pub invariant-loop-name : goal.invariant-loop-name
-invariant-loop-name g l =
-    map (slice_get l.fn.facts.known.names) l.row ≡ map Some (take l.name-index l.fn.names)
